@@ -1,0 +1,10 @@
+//! Entries and completions of the rings, and the rows that entries become.
+#![tactic(auto)]
+
+pub mod completion;
+pub mod entry;
+pub mod row;
+
+pub use completion::Cqe;
+pub use entry::Sqe;
+pub use row::{Phase, Row};

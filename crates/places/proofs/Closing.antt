@@ -1,0 +1,74 @@
+-- What is left of notes once those that say what stands there now are dropped.
+use Rattle.std.proofs.Common.{◌≡◌, ◌≢◌, Bool, true, false, cond, refl, sym, ◌∙◌, ap, subst, List, [], ◌∷◌, ◌⊎◌, inl, inr, length, arith}
+use Rattle.std.specs.Prelude.{Option, Some, None, unwrap_or, MatchBool}
+use Rattle.std.specs.List.Retain.{ReturnsInTurn, IsFiltered}
+use Rattle.std.specs.List.{items_where_true}
+use Rattle.places.specs.declared.place.Place.{Place}
+use Rattle.places.specs.declared.value.Value.{Value}
+use Rattle.places.specs.declared.value.Change.{Change}
+use Rattle.places.specs.Places.{same_place}
+use Rattle.places.specs.View.{View, named, LeadsBack, Exact, NamesOnce}
+use Rattle.places.proofs.SamePlace.{same_place_is}
+
+-- what is left of a note, by what stands there now
+abbrev pub RestAt : Option Value → Option (Option Value) → Option (Option Value) → Type 0
+RestAt x None m = m ≡ None
+RestAt x (Some y) m = ((m ≡ Some y) × (y ≢ x)) ⊎ ((m ≡ None) × (y ≡ x))
+
+abbrev pub Leaves : View → List Change → List Change → Type 0
+Leaves v cs ds = (p : Place) → RestAt (v p) (named cs p) (named ds p)
+
+-- a note that stays, before the others
+stays : (v : View) (c : Change) (cs ds : List Change) → c.old ≢ v c.place → Leaves v cs ds → NamesOnce ds → named cs c.place ≡ None → Leaves v (c ∷ cs) (c ∷ ds) × NamesOnce (c ∷ ds)
+unfolding named
+stays v c cs ds m r o n = (λ p. at p (same_place c.place p) refl, (none c.place n, o))
+  where
+    none : (p : Place) → named cs p ≡ None → named ds p ≡ None
+    none p e = let P : Option (Option Value) → Type 0 = λ a. RestAt (v p) a (named ds p) in subst P e (r p)
+
+    at : (p : Place) (b : Bool) → same_place c.place p ≡ b → RestAt (v p) (cond b (Some c.old) (named cs p)) (cond b (Some c.old) (named ds p))
+    at p true e = inl (refl, λ k. m (k ∙ ap v (sym (same_place_is c.place p e))))
+    at p false e = r p
+
+-- a note that goes
+goes : (v : View) (c : Change) (cs ds : List Change) → c.old ≡ v c.place → Leaves v cs ds → named cs c.place ≡ None → Leaves v (c ∷ cs) ds
+unfolding named
+goes v c cs ds m r n p = at (same_place c.place p) refl
+  where
+    none : named cs p ≡ None → named ds p ≡ None
+    none e = let P : Option (Option Value) → Type 0 = λ a. RestAt (v p) a (named ds p) in subst P e (r p)
+
+    at : (b : Bool) → same_place c.place p ≡ b → RestAt (v p) (cond b (Some c.old) (named cs p)) (named ds p)
+    at true e = let i = same_place_is c.place p e in inr (none (ap (named cs) (sym i) ∙ n), m ∙ ap v i)
+    at false e = r p
+
+module _ {F : Type 0} (R : F → Change → Bool → F → Type 0) (v : View) (f : F) (h : (c : Change) (b : Bool) (f' : F) → R f c b f' → MatchBool b (c.old ≢ v c.place) (c.old ≡ v c.place) × (f' ≡ f)) where
+  rest_told : (bs : List Bool) (cs : List Change) (g q : F) → g ≡ f → length bs ≡ length cs → ReturnsInTurn R g bs cs q → NamesOnce cs → ((p : Place) → RestAt (v p) (named cs p) (named (items_where_true bs cs) p)) × NamesOnce (items_where_true bs cs)
+  unfolding named
+  rest_told [] [] g q e l t o = (λ p. refl, tt)
+  rest_told [] (c ∷ cs) g q e l t o = absurd cc
+  rest_told (b ∷ bs) [] g q e l t o = absurd t
+  rest_told (true ∷ bs) (c ∷ cs) g q e l t o =
+      let one = h c true t.0 (subst (λ (x : F). R x c true t.0) e t.1) in
+      let later = rest_told bs cs t.0 q one.1 (let k : length bs ≡ length cs = omega arith in k) t.2 o.1 in
+      stays v c cs (items_where_true bs cs) one.0 later.0 later.1 o.0
+  rest_told (false ∷ bs) (c ∷ cs) g q e l t o =
+      let one = h c false t.0 (subst (λ (x : F). R x c false t.0) e t.1) in
+      let later = rest_told bs cs t.0 q one.1 (let k : length bs ≡ length cs = omega arith in k) t.2 o.1 in
+      (goes v c cs (items_where_true bs cs) one.0 later.0 o.0, later.1)
+
+  pub rest_filtered : (cs ds : List Change) → NamesOnce cs → IsFiltered R f cs ds → ((p : Place) → RestAt (v p) (named cs p) (named ds p)) × NamesOnce ds
+  rest_filtered cs ds o k = subst (λ (es : List Change). ((p : Place) → RestAt (v p) (named cs p) (named es p)) × NamesOnce es) (sym k.4) (rest_told k.0 cs f k.1 refl k.2 k.3 o)
+
+pub exact_rest : (old v : View) (cs ds : List Change) → LeadsBack old v cs → ((p : Place) → RestAt (v p) (named cs p) (named ds p)) → Exact old v ds
+exact_rest old v cs ds b r = record { differs = λ p x e. told p x (named cs p) (r p) (b p) e; same = λ p e. untold p (named cs p) (r p) (b p) e }
+  where
+    told : (p : Place) (x : Option Value) (n : Option (Option Value)) → RestAt (v p) n (named ds p) → unwrap_or n (v p) ≡ old p → named ds p ≡ Some x → (x ≡ old p) × (old p ≢ v p)
+    told p x None r b e = absurd cc
+    told p x (Some y) (inl k) b e = let i : x ≡ y = cc in (i ∙ b, λ d. k.1 (b ∙ d))
+    told p x (Some y) (inr k) b e = absurd cc
+
+    untold : (p : Place) (n : Option (Option Value)) → RestAt (v p) n (named ds p) → unwrap_or n (v p) ≡ old p → named ds p ≡ None → old p ≡ v p
+    untold p None r b e = sym b
+    untold p (Some y) (inl k) b e = absurd cc
+    untold p (Some y) (inr k) b e = sym b ∙ k.1

@@ -1,0 +1,80 @@
+-- What a list of notes names.
+use Rattle.std.proofs.Common.{◌≡◌, Bool, true, false, cond, refl, sym, ◌∙◌, ap, subst, List, [], ◌∷◌, ◌++◌}
+use Rattle.std.specs.Prelude.{Option, Some, None, is_some, ◌||◌}
+use Rattle.std.specs.List.{list_any}
+use Rattle.places.specs.declared.place.Place.{Place}
+use Rattle.places.specs.declared.value.Value.{Value}
+use Rattle.places.specs.declared.value.Change.{Change}
+use Rattle.places.specs.Places.{same_place}
+use Rattle.places.specs.View.{named, first_note, NamesOnce, Noted}
+use Rattle.places.proofs.SamePlace.{same_place_is, same_place-sym}
+
+pub named-append : (cs ds : List Change) (p : Place) → named (cs ++ ds) p ≡ first_note (named cs p) (named ds p)
+unfolding named
+named-append [] ds p = refl
+named-append (c ∷ cs) ds p = elim (same_place c.place p) as (λ b. cond b (Some c.old) (named (cs ++ ds) p) ≡ first_note (cond b (Some c.old) (named cs p)) (named ds p)) [ true ↦ refl | false ↦ named-append cs ds p ]
+
+pub named-one : (c : Change) (p : Place) → named (c ∷ []) p ≡ cond (same_place c.place p) (Some c.old) None
+unfolding named
+named-one c p = refl
+
+-- one more note, at the end
+pub named-more : (cs : List Change) (c : Change) (p : Place) → named (cs ++ c ∷ []) p ≡ first_note (named cs p) (cond (same_place c.place p) (Some c.old) None)
+named-more cs c p = named-append cs (c ∷ []) p ∙ ap (first_note (named cs p)) (named-one c p)
+
+some_is_none : {X : Type 0} (x : X) → Some x ≡ None → ⊥
+some_is_none x h = cc
+
+-- a place that was not named is named once, at the end
+pub once_more : (cs : List Change) (c : Change) → NamesOnce cs → named cs c.place ≡ None → NamesOnce (cs ++ c ∷ [])
+unfolding named
+once_more [] c h n = (refl, tt)
+once_more (d ∷ cs) c h n =
+    let apart = unnamed (same_place d.place c.place) refl n in
+    (named-more cs c d.place ∙ ap (λ a. first_note a (cond (same_place c.place d.place) (Some c.old) None)) h.0 ∙ ap (λ b. cond b (Some c.old) None) apart.0, once_more cs c h.1 apart.1)
+  where
+    unnamed : (b : Bool) → same_place d.place c.place ≡ b → cond b (Some d.old) (named cs c.place) ≡ None → (same_place c.place d.place ≡ false) × (named cs c.place ≡ None)
+    unnamed true e k = absurd (some_is_none d.old k)
+    unnamed false e k = (same_place-sym c.place d.place ∙ e, k)
+
+-- a place is named where one of the notes is of it
+pub list_any-named : (cs : List Change) (p : Place) → list_any (λ c. same_place c.place p) cs ≡ is_some (named cs p)
+unfolding named
+list_any-named [] p = refl
+list_any-named (c ∷ cs) p = elim (same_place c.place p) as (λ b. (b || list_any (λ (d : Change). same_place d.place p) cs) ≡ is_some (cond b (Some c.old) (named cs p))) [ true ↦ refl | false ↦ list_any-named cs p ]
+
+pub none_named : (cs : List Change) (p : Place) → list_any (λ c. same_place c.place p) cs ≡ false → named cs p ≡ None
+none_named cs p h = by (named cs p) (sym (list_any-named cs p) ∙ h)
+  where
+    by : (n : Option (Option Value)) → is_some n ≡ false → n ≡ None
+    by None e = refl
+    by (Some x) e = absurd cc
+
+pub some_named : (cs : List Change) (p : Place) → list_any (λ c. same_place c.place p) cs ≡ true → (x : Option Value) × (named cs p ≡ Some x)
+some_named cs p h = by (named cs p) (sym (list_any-named cs p) ∙ h)
+  where
+    by : (n : Option (Option Value)) → is_some n ≡ true → (x : Option Value) × (n ≡ Some x)
+    by None e = absurd cc
+    by (Some x) e = (x, refl)
+
+-- a place that was noted before stays as it was noted
+pub noted_before : (cs : List Change) (p : Place) (x : Option Value) → list_any (λ c. same_place c.place p) cs ≡ true → Noted cs cs p x
+noted_before cs p x h q = by (named cs q) refl
+  where
+    at : (b : Bool) → same_place p q ≡ b → named cs q ≡ None → None ≡ cond b (Some x) None
+    at true e n = let s = some_named cs p h in let k = ap (named cs) (same_place_is p q e) in cc
+    at false e n = refl
+
+    by : (n : Option (Option Value)) → named cs q ≡ n → n ≡ first_note n (cond (same_place p q) (Some x) None)
+    by None e = at (same_place p q) refl e
+    by (Some y) e = refl
+
+pub noted_at_end : (cs : List Change) (p : Place) (x : Option Value) → Noted cs (cs ++ record { place = p; old = x } ∷ []) p x
+noted_at_end cs p x q = named-more cs (record { place = p; old = x }) q
+
+-- a note behind others that do not name its place
+pub noted_behind : (before mid after : List Change) (p : Place) (x : Option Value) → mid ≡ before → after ≡ mid ++ record { place = p; old = x } ∷ [] → Noted before after p x
+noted_behind before mid after p x e k q = ap (λ cs. named cs q) (k ∙ ap (λ cs. cs ++ record { place = p; old = x } ∷ []) e) ∙ noted_at_end before p x q
+
+pub once_behind : (before mid after : List Change) (p : Place) (x : Option Value) → mid ≡ before → after ≡ mid ++ record { place = p; old = x } ∷ [] → NamesOnce mid → named before p ≡ None → NamesOnce after
+once_behind before mid after p x e k o n = subst NamesOnce (sym k) (once_more mid (record { place = p; old = x }) o (ap (λ cs. named cs p) e ∙ n))

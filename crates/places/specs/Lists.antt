@@ -1,0 +1,8 @@
+-- Lists with one element changed.
+use Rattle.std.specs.Prelude.{ℕ, zero, suc, List, [], ◌∷◌}
+
+-- the list with f of the element at an index, where there is one
+abbrev pub updated : {X : Type 0} → (X → X) → List X → ℕ → List X
+updated f [] i = []
+updated f (x ∷ xs) zero = f x ∷ xs
+updated f (x ∷ xs) (suc i) = x ∷ updated f xs i

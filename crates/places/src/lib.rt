@@ -1,0 +1,18 @@
+//! The places of a state, what stands in them, and records of what stood there before.
+#![tactic(auto)]
+
+pub mod items;
+pub mod object;
+pub mod part;
+pub mod place;
+pub mod record;
+pub mod recorder;
+pub mod value;
+
+pub use items::Items;
+pub use object::{Contents, Descriptor, End, Object};
+pub use part::{At, Part};
+pub use place::Place;
+pub use record::{Changes, Record};
+pub use recorder::{Marks, Recorder};
+pub use value::{Change, Stage, Value};

@@ -1,0 +1,31 @@
+//! Parts of a state.
+ghost use Rattle.std.specs.Prelude.{◌≡◌, Bool, Option};
+ghost use Rattle.places.specs.declared.place.Place.{Place};
+ghost use Rattle.places.specs.declared.value.Value.{Value};
+ghost use Rattle.places.specs.View.{View, put_at};
+
+use crate::place::Place;
+use crate::value::Value;
+
+/// What stands in places.
+pub trait At {
+    /// What stands in each place.
+    ghost seen: { Self → View };
+
+    fn at(&self, place: Place) -> Option<Value>
+        ensures { result ≡ seen self.now place };
+}
+
+/// A part of a state, whose places can be set one at a time, without memory.
+pub trait Part: At {
+    /// Its places.
+    ghost owns: { Place → Bool };
+
+    /// Whether the value may be put into the place.
+    ghost can_put: { Self → Place → Option Value → Type 0 };
+
+    /// Sets the named place alone.
+    fn put(&mut self, place: Place, value: Option<Value>)
+        requires { can_put self.old place value }
+        ensures { (q : Place) → Self.seen self.new q ≡ put_at (Self.seen self.old) place value q };
+}
