@@ -1,0 +1,3 @@
+mod ByteLemmas
+pub mod OneToOne
+mod Writing

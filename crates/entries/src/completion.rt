@@ -1,6 +1,8 @@
 //! Completions (io_uring_enter(2)).
 ghost use Rattle.std.specs.Prelude.{◌≡◌, ◌↔◌, IsTrue};
 
+use crate::fields::{i32_at, put_i32, put_u32, put_u64, u32_at, u64_at};
+
 /// One completion.
 #[derive(Clone, Copy, Debug, PartialEq, Eq)]
 pub struct Cqe {
@@ -11,10 +13,34 @@ pub struct Cqe {
 }
 
 impl Cqe {
+    ghost use Rattle.entries.specs.Layout.{CompletionLayout};
+
     /// Whether two completions are one and the same.
     pub fn is(&self, other: &Cqe) -> bool
         ensures { IsTrue result ↔ (self.now ≡ other.now) }
     {
         self == other
+    }
+
+    /// The completion that 16 bytes of memory hold.
+    pub fn read(bytes: &[u8; 16]) -> Cqe
+        ensures { CompletionLayout result bytes.now }
+    {
+        Cqe {
+            user_data: u64_at(bytes, 0),
+            res: i32_at(bytes, 8),
+            flags: u32_at(bytes, 12),
+        }
+    }
+
+    /// The 16 bytes of the completion.
+    pub fn write(&self) -> [u8; 16]
+        ensures { CompletionLayout self.now result }
+    {
+        let mut bytes = [0; 16];
+        put_u64(&mut bytes, 0, self.user_data);
+        put_i32(&mut bytes, 8, self.res);
+        put_u32(&mut bytes, 12, self.flags);
+        bytes
     }
 }

@@ -3,8 +3,13 @@
 
 pub mod completion;
 pub mod entry;
+mod fields;
+pub mod laws;
 pub mod row;
 
 pub use completion::Cqe;
 pub use entry::Sqe;
 pub use row::{Phase, Row};
+
+#[cfg(test)]
+mod tests;
