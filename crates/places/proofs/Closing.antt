@@ -19,7 +19,7 @@ abbrev pub Leaves : View → List Change → List Change → Type 0
 Leaves v cs ds = (p : Place) → RestAt (v p) (named cs p) (named ds p)
 
 -- a note that stays, before the others
-stays : (v : View) (c : Change) (cs ds : List Change) → c.old ≢ v c.place → Leaves v cs ds → NamesOnce ds → named cs c.place ≡ None → Leaves v (c ∷ cs) (c ∷ ds) × NamesOnce (c ∷ ds)
+pub stays : (v : View) (c : Change) (cs ds : List Change) → c.old ≢ v c.place → Leaves v cs ds → NamesOnce ds → named cs c.place ≡ None → Leaves v (c ∷ cs) (c ∷ ds) × NamesOnce (c ∷ ds)
 unfolding named
 stays v c cs ds m r o n = (λ p. at p (same_place c.place p) refl, (none c.place n, o))
   where
@@ -31,7 +31,7 @@ stays v c cs ds m r o n = (λ p. at p (same_place c.place p) refl, (none c.place
     at p false e = r p
 
 -- a note that goes
-goes : (v : View) (c : Change) (cs ds : List Change) → c.old ≡ v c.place → Leaves v cs ds → named cs c.place ≡ None → Leaves v (c ∷ cs) ds
+pub goes : (v : View) (c : Change) (cs ds : List Change) → c.old ≡ v c.place → Leaves v cs ds → named cs c.place ≡ None → Leaves v (c ∷ cs) ds
 unfolding named
 goes v c cs ds m r n p = at (same_place c.place p) refl
   where

@@ -3,3 +3,10 @@ pub mod Naming
 pub mod Keeping
 pub mod Closing
 pub mod ListLemmas
+pub mod Marking
+pub mod ByteLemmas
+pub mod Kept
+pub mod Joining
+pub mod Sorts
+pub mod Sound
+pub mod RowsLeft

@@ -1,6 +1,6 @@
 -- What a list of notes names.
 use Rattle.std.proofs.Common.{◌≡◌, Bool, true, false, cond, refl, sym, ◌∙◌, ap, subst, List, [], ◌∷◌, ◌++◌}
-use Rattle.std.specs.Prelude.{Option, Some, None, is_some, ◌||◌}
+use Rattle.std.specs.Prelude.{Option, Some, None, is_some, map, ◌||◌}
 use Rattle.std.specs.List.{list_any}
 use Rattle.places.specs.declared.place.Place.{Place}
 use Rattle.places.specs.declared.value.Value.{Value}
@@ -42,6 +42,11 @@ pub list_any-named : (cs : List Change) (p : Place) → list_any (λ c. same_pla
 unfolding named
 list_any-named [] p = refl
 list_any-named (c ∷ cs) p = elim (same_place c.place p) as (λ b. (b || list_any (λ (d : Change). same_place d.place p) cs) ≡ is_some (cond b (Some c.old) (named cs p))) [ true ↦ refl | false ↦ list_any-named cs p ]
+
+pub list_any-named_by : {X : Type 0} (change : X → Change) (xs : List X) (p : Place) → list_any (λ n. same_place (change n).place p) xs ≡ is_some (named (map change xs) p)
+unfolding named
+list_any-named_by change [] p = refl
+list_any-named_by change (x ∷ xs) p = elim (same_place (change x).place p) as (λ b. (b || list_any (λ n. same_place (change n).place p) xs) ≡ is_some (cond b (Some (change x).old) (named (map change xs) p))) [ true ↦ refl | false ↦ list_any-named_by change xs p ]
 
 pub none_named : (cs : List Change) (p : Place) → list_any (λ c. same_place c.place p) cs ≡ false → named cs p ≡ None
 none_named cs p h = by (named cs p) (sym (list_any-named cs p) ∙ h)

@@ -1,4 +1,15 @@
 pub mod Places
+pub mod PlaceNumbers
 pub mod View
 pub mod Notes
 pub mod Lists
+pub mod Marks
+pub mod Closed
+pub mod Slots
+pub mod Runs
+pub mod Turns
+pub mod RestList
+pub mod RestOf
+pub mod All
+pub mod SlotLaws
+pub mod Text

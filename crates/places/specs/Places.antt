@@ -144,6 +144,16 @@ abbrev pub is_completion : Place → Bool
 is_completion (Completion i) = true
 is_completion _ = false
 
+-- whether neither a number, a byte, a row nor a completion of the ring stands there
+abbrev pub is_other : Place → Bool
+is_other (Slot i) = true
+is_other (Backlog i) = true
+is_other PollerStage = true
+is_other (ThreadStage t) = true
+is_other (Last t) = true
+is_other (Got t) = true
+is_other _ = false
+
 -- A place that some setup has.
 abbrev pub InLimits : Place → Type 0
 InLimits (Array i) = i < 4096

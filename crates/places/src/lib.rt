@@ -2,14 +2,19 @@
 #![tactic(auto)]
 
 pub mod items;
+pub mod notes;
 pub mod object;
 pub mod part;
 pub mod place;
 pub mod record;
 pub mod recorder;
+#[cfg(test)]
+mod tests;
+pub mod text;
 pub mod value;
 
 pub use items::Items;
+pub use notes::runs::Region;
 pub use object::{Contents, Descriptor, End, Object};
 pub use part::{At, Part};
 pub use place::Place;

@@ -1,6 +1,6 @@
 //! The places that a state can have.
 ghost use Rattle.std.specs.Prelude.{◌≡◌};
-ghost use Rattle.places.specs.Places.{kind_of, index_of, second_of, same_place, is_number};
+ghost use Rattle.places.specs.Places.{kind_of, index_of, second_of, same_place, is_number, is_other};
 
 /// A place of a state. Objects and threads are numbered from 0 in the setup's order, descriptors by
 /// their own numbers.
@@ -68,7 +68,7 @@ impl Place {
             && (self.index() == other.index() && self.second() == other.second())
     }
 
-    fn kind(&self) -> u8
+    pub(crate) fn kind(&self) -> u8
         ensures { result ≡ kind_of self.now }
     {
         match self {
@@ -105,7 +105,7 @@ impl Place {
         }
     }
 
-    fn index(&self) -> u32
+    pub(crate) fn index(&self) -> u32
         ensures { result ≡ index_of self.now }
     {
         match self {
@@ -131,7 +131,7 @@ impl Place {
         }
     }
 
-    fn second(&self) -> u32
+    pub(crate) fn second(&self) -> u32
         ensures { result ≡ second_of self.now }
     {
         match self {
@@ -153,6 +153,21 @@ impl Place {
                 | Place::DurableByte(_, _)
                 | Place::PipeByte(_, _)
                 | Place::Request(_)
+                | Place::Backlog(_)
+                | Place::PollerStage
+                | Place::ThreadStage(_)
+                | Place::Last(_)
+                | Place::Got(_)
+        )
+    }
+
+    /// Whether neither a number, a byte, a row nor a completion of the ring stands there.
+    pub fn is_other(&self) -> bool
+        ensures { result ≡ is_other self.now }
+    {
+        matches!(
+            self,
+            Place::Slot(_)
                 | Place::Backlog(_)
                 | Place::PollerStage
                 | Place::ThreadStage(_)

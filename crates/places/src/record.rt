@@ -1,8 +1,16 @@
 //! Records: the places that differ, with what stood there.
-ghost use Rattle.std.specs.Prelude.{◌≡◌, ◌∷◌, [], MatchOption};
+ghost use Rattle.std.specs.Prelude.{◌≡◌, ◌∷◌, [], map, MatchOption};
 ghost use Rattle.places.specs.View.{NamesOnce};
 ghost use Rattle.places.specs.Notes.{rows_left, rows_after};
+ghost use Rattle.places.specs.Slots.{row_change};
+ghost use Rattle.places.specs.All.{all_changes};
 
+use crate::notes::completions::CompletionNote;
+use crate::notes::numbers::NumberNote;
+use crate::notes::rest::Rest;
+use crate::notes::rows::RowNote;
+use crate::notes::slots::Slotted;
+use crate::notes::telling::ByteChanges;
 use crate::place::Place;
 use crate::value::Change;
 use std::marker::Model;
@@ -10,33 +18,43 @@ use std::marker::Model;
 /// The places where two states differ, each once, with what stood there in the earlier one.
 #[derive(Drop)]
 pub struct Record {
-    changes: Vec<Change>,
+    numbers: Vec<NumberNote>,
+    completions: Vec<CompletionNote>,
+    rows: Vec<RowNote>,
+    rest: Rest,
 }
 
 impl Model for Record {
     ghost use Rattle.std.specs.Prelude.{List};
     ghost use Rattle.places.specs.declared.value.Change.{Change};
     ghost use Rattle.places.specs.View.{NamesOnce};
+    ghost use Rattle.places.specs.All.{all_changes};
 
     ghost Value = { List Change };
 
-    ghost view = { λ a. a.changes.items };
+    ghost view = { λ a. all_changes a.numbers.items a.completions.items a.rows.items a.rest };
 
-    ghost invariant = { λ a. NamesOnce a.changes.items };
+    ghost invariant = { λ a. NamesOnce (all_changes a.numbers.items a.completions.items a.rows.items a.rest) };
 }
 
 /// The changes of a record that are left, one after the other.
+#[derive(Drop)]
 pub struct Changes<'a> {
-    rest: &'a [Change],
+    numbers: &'a [NumberNote],
+    completions: &'a [CompletionNote],
+    rows: &'a [RowNote],
+    bytes: ByteChanges<'a>,
+    odd: &'a [Change],
 }
 
 impl<'a> Model for Changes<'a> {
-    ghost use Rattle.std.specs.Prelude.{List};
+    ghost use Rattle.std.specs.Prelude.{List, ◌++◌};
     ghost use Rattle.places.specs.declared.value.Change.{Change};
+    ghost use Rattle.places.specs.All.{kind_changes};
 
     ghost Value = { List Change };
 
-    ghost view = { λ a. a.rest.now };
+    ghost view = { λ a. kind_changes a.numbers.now a.completions.now a.rows.now a.bytes.left ++ a.odd.now };
 }
 
 impl<'a> Changes<'a> {
@@ -44,10 +62,25 @@ impl<'a> Changes<'a> {
     pub fn next(&mut self) -> Option<Change>
         ensures { MatchOption result (self.old ≡ []) (λ c. self.old ≡ c ∷ self.new) }
     {
-        match self.rest {
+        if let [first, rest @ ..] = self.numbers {
+            self.numbers = rest;
+            return Some(first.change());
+        }
+        if let [first, rest @ ..] = self.completions {
+            self.completions = rest;
+            return Some(first.change());
+        }
+        if let [first, rest @ ..] = self.rows {
+            self.rows = rest;
+            return Some(first.change());
+        }
+        if let Some(change) = self.bytes.next() {
+            return Some(change);
+        }
+        match self.odd {
             [] => None,
             [first, rest @ ..] => {
-                self.rest = rest;
+                self.odd = rest;
                 Some(*first)
             }
         }
@@ -55,11 +88,21 @@ impl<'a> Changes<'a> {
 }
 
 impl Record {
-    pub(crate) fn of(changes: Vec<Change>) -> Record
-        requires { NamesOnce changes.items }
-        ensures { result ≡ changes.items }
+    pub(crate) fn of(
+        numbers: Vec<NumberNote>,
+        completions: Vec<CompletionNote>,
+        rows: Vec<RowNote>,
+        rest: Rest,
+    ) -> Record
+        requires { NamesOnce (all_changes numbers.items completions.items rows.items rest) }
+        ensures { result ≡ all_changes numbers.items completions.items rows.items rest }
     {
-        Record { changes }
+        Record {
+            numbers,
+            completions,
+            rows,
+            rest,
+        }
     }
 
     /// The changes, each of another place.
@@ -68,20 +111,54 @@ impl Record {
         ensures once { NamesOnce self.now }
     {
         Changes {
-            rest: &self.changes,
+            numbers: &self.numbers,
+            completions: &self.completions,
+            rows: &self.rows,
+            bytes: self.rest.bytes(),
+            odd: self.rest.odd(),
         }
+    }
+
+    /// Lets the record go.
+    pub fn discard(self) {
+        drop(self);
     }
 
     /// How many of n rows stay once the rows go that are named as absent.
     pub fn rows_left(&self, n: usize) -> usize
         ensures { result ≡ rows_left self.now n }
     {
-        let mut left = n;
-        for change in &self.changes {
-            left = rows_after(*change, left);
-        }
-        left
+        rows_left_by(self.rest.odd(), rows_left_of(&self.rows, n))
     }
+
+    /// What the record keeps in memory, itself included, in bytes.
+    pub fn kept_bytes(&self) -> usize {
+        size_of::<Record>()
+            .saturating_add(size_of::<NumberNote>().saturating_mul(self.numbers.capacity()))
+            .saturating_add(size_of::<CompletionNote>().saturating_mul(self.completions.capacity()))
+            .saturating_add(size_of::<RowNote>().saturating_mul(self.rows.capacity()))
+            .saturating_add(self.rest.kept_bytes())
+    }
+}
+
+fn rows_left_of(rows: &[RowNote], n: usize) -> usize
+    ensures { result ≡ rows_left (map row_change rows.now) n }
+{
+    let mut left = n;
+    for note in rows {
+        left = rows_after(note.change(), left);
+    }
+    left
+}
+
+fn rows_left_by(changes: &[Change], n: usize) -> usize
+    ensures { result ≡ rows_left changes.now n }
+{
+    let mut left = n;
+    for change in changes {
+        left = rows_after(*change, left);
+    }
+    left
 }
 
 fn rows_after(change: Change, left: usize) -> usize

@@ -1,53 +1,75 @@
 //! Notes of old values, made while a state changes.
-ghost use Rattle.std.specs.Prelude.{◌≡◌, ◌≢◌, ◌+◌, ◌<◌, ◌≤◌, ◌∷◌, ◌++◌, [], Some, IsOk, IsTrue, OnOk, OnErr, MatchBool, option_map, true};
-ghost use Rattle.std.specs.List.{list_any};
-ghost use Rattle.std.specs.Prelude.{vec_len, vec_capacity};
-ghost use Rattle.places.specs.Places.{same_place, is_number, InLimits, is_completion as is_completion_place};
-ghost use Rattle.places.specs.View.{View, Noted, Exact, LeadsBack, NamesOnce};
+ghost use Rattle.std.specs.Prelude.{◌≡◌, ◌+◌, ◌<◌, ◌≤◌, ◌^◌, ◌++◌, [], ℕ, length, None, Some, IsOk, OnOk, OnErr, option_map, true, is_some, ◌||◌};
+ghost use Rattle.places.specs.Places.{is_number, is_other, InLimits};
+ghost use Rattle.places.specs.Slots.{value_of};
+ghost use Rattle.places.specs.View.{View, Noted, Exact, LeadsBack, named};
 ghost use Rattle.places.specs.Notes.{Notes, room_for, Spends, HasAsMuch};
+ghost use Rattle.places.specs.Runs.{place_in, NotedBytes};
 ghost use Rattle.places.specs.declared.value.Value.TheVariants.{Number, Completed, Requested};
 ghost use Rattle.places.specs.declared.place.Place.TheVariants.{Completion, Request};
 
+use crate::notes::completions::CompletionNote;
+use crate::notes::numbers::NumberNote;
+use crate::notes::rest::Rest;
+use crate::notes::room::Room;
+use crate::notes::rows::{RowNote, Small};
+use crate::notes::runs::Region;
+use crate::notes::slots::Slots;
 use crate::part::At;
 use crate::place::Place;
 use crate::record::Record;
-use crate::value::{Change, Value, is_same};
+use crate::value::Value;
 use entries::{Cqe, Row};
 use std::alloc::{AllocError, Global};
 use std::marker::Model;
 
-/// What a recorder leaves for the next one.
+/// The slots of the numbers, the completions, and the rows and other places that a setup can have.
+const NUMBER_SLOTS: usize = 8192;
+
+const COMPLETION_SLOTS: usize = 8192;
+
+const ROW_SLOTS: usize = 262144;
+
+/// What a recorder leaves for the next one: with it the next one notes places in constant time from
+/// the start.
 #[derive(Drop)]
 pub struct Marks {
-    left: (),
+    numbers: Vec<usize>,
+    completions: Vec<usize>,
+    rows: Vec<usize>,
 }
 
 impl Marks {
     /// None are left. It takes no memory.
-    pub fn new(_alloc: Global) -> Marks {
-        Marks { left: () }
+    pub fn new(alloc: Global) -> Marks {
+        Marks {
+            numbers: Vec::new(alloc),
+            completions: Vec::new(alloc),
+            rows: Vec::new(alloc),
+        }
     }
 }
 
 /// Notes of what stood in places before they were changed.
 #[derive(Drop)]
 pub struct Recorder {
-    notes: Vec<Change>,
-    numbers: usize,
-    completions: usize,
-    others: usize,
+    numbers: Slots<NumberNote>,
+    completions: Slots<CompletionNote>,
+    rows: Slots<RowNote>,
+    rest: Rest,
+    room: Room,
+    alloc: Global,
 }
 
 impl Model for Recorder {
-    ghost use Rattle.std.specs.Prelude.{◌+◌, ◌≤◌, vec_len, vec_capacity};
     ghost use Rattle.places.specs.Notes.{Notes};
-    ghost use Rattle.places.specs.View.{NamesOnce};
+    ghost use Rattle.places.specs.All.{all_changes, IsSound};
 
     ghost Value = { Notes };
 
-    ghost view = { λ a. record { made = a.notes.items; numbers = a.numbers; completions = a.completions; others = a.others } };
+    ghost view = { λ a. record { made = all_changes a.numbers.notes a.completions.notes a.rows.notes a.rest; numbers = a.room.numbers; completions = a.room.completions; others = a.room.others } };
 
-    ghost invariant = { λ a. NamesOnce a.notes.items × (vec_len a.notes + (a.numbers + (a.completions + a.others)) ≤ vec_capacity a.notes) };
+    ghost invariant = { λ a. IsSound a.numbers a.completions a.rows a.rest a.room };
 }
 
 impl Recorder {
@@ -55,19 +77,21 @@ impl Recorder {
     pub fn new(alloc: Global) -> Recorder
         ensures { result.made ≡ [] }
     {
-        Recorder {
-            notes: Vec::new(alloc),
-            numbers: 0,
-            completions: 0,
-            others: 0,
-        }
+        Recorder::over(alloc, Marks::new(alloc))
     }
 
     /// No notes, over what an earlier recorder left. It takes no memory.
-    pub fn over(alloc: Global, _marks: Marks) -> Recorder
+    pub fn over(alloc: Global, marks: Marks) -> Recorder
         ensures { result.made ≡ [] }
     {
-        Recorder::new(alloc)
+        Recorder {
+            numbers: Slots::over(alloc, marks.numbers),
+            completions: Slots::over(alloc, marks.completions),
+            rows: Slots::over(alloc, marks.rows),
+            rest: Rest::new(),
+            room: Room::new(),
+            alloc,
+        }
     }
 
     /// The next n notes take no memory, of whatever places.
@@ -89,10 +113,14 @@ impl Recorder {
         ensures kept { HasAsMuch self.old self.new }
         ensures there { n ≤ self.old.others → IsOk result }
     {
-        if n > self.others {
-            let held = self.numbers + self.completions + self.others;
-            reserve_behind(&mut self.notes, held, n - self.others)?;
-            self.others = n;
+        if n > self.room.others {
+            let Some(held) = self.room.held.checked_add(n - self.room.others) else {
+                return Err(AllocError);
+            };
+            self.rows.room(n, ROW_SLOTS)?;
+            self.rest.room(self.alloc, held)?;
+            self.room.others = n;
+            self.room.held = held;
         }
         Ok(())
     }
@@ -104,10 +132,14 @@ impl Recorder {
         ensures kept { HasAsMuch self.old self.new }
         ensures there { n ≤ self.old.numbers → IsOk result }
     {
-        if n > self.numbers {
-            let held = self.numbers + self.completions + self.others;
-            reserve_behind(&mut self.notes, held, n - self.numbers)?;
-            self.numbers = n;
+        if n > self.room.numbers {
+            let Some(held) = self.room.held.checked_add(n - self.room.numbers) else {
+                return Err(AllocError);
+            };
+            self.numbers.room(n, NUMBER_SLOTS)?;
+            self.rest.room(self.alloc, held)?;
+            self.room.numbers = n;
+            self.room.held = held;
         }
         Ok(())
     }
@@ -119,39 +151,75 @@ impl Recorder {
         ensures kept { HasAsMuch self.old self.new }
         ensures there { n ≤ self.old.completions → IsOk result }
     {
-        if n > self.completions {
-            let held = self.numbers + self.completions + self.others;
-            reserve_behind(&mut self.notes, held, n - self.completions)?;
-            self.completions = n;
+        if n > self.room.completions {
+            let Some(held) = self.room.held.checked_add(n - self.room.completions) else {
+                return Err(AllocError);
+            };
+            self.completions.room(n, COMPLETION_SLOTS)?;
+            self.rest.room(self.alloc, held)?;
+            self.room.completions = n;
+            self.room.held = held;
         }
         Ok(())
     }
 
     /// Notes what stands in a place, unless the place is noted. It takes no memory where there is room.
+    /// A value that cannot stand in the place is noted as well, in time that grows with the notes.
     pub fn note(&mut self, place: Place, old: Option<Value>) -> Result<(), AllocError>
         ensures ok { OnOk result (Noted self.old.made self.new.made place old) }
         ensures err { OnErr result (self.new.made ≡ self.old.made) }
         ensures there { 0 < room_for self.old place → InLimits place → IsOk result }
         ensures spends { Spends self.old self.new place }
     {
-        if is_named(&self.notes, place) {
+        if let Some(Value::Number(number)) = old {
+            if place.is_number() {
+                return self.note_number(place, number);
+            }
+        }
+        match (place, old) {
+            (Place::Completion(slot), Some(Value::Completed(completion))) => self.note_completion(
+                slot, completion,
+            ),
+            (Place::Request(row), Some(Value::Requested(before))) => self.note_row(
+                row,
+                Some(before),
+            ),
+            (Place::Request(row), None) => self.note_row(row, None),
+            _ => self.note_rare(place, old),
+        }
+    }
+
+    fn note_rare(&mut self, place: Place, old: Option<Value>) -> Result<(), AllocError>
+        ensures ok { OnOk result (Noted self.old.made self.new.made place old) }
+        ensures err { OnErr result (self.new.made ≡ self.old.made) }
+        ensures there { 0 < room_for self.old place → InLimits place → IsOk result }
+        ensures spends { Spends self.old self.new place }
+    {
+        if !place.is_other() {
+            return self.note_other(place, old);
+        }
+        match old {
+            None => self.note_small(place, None),
+            Some(value) => match Small::of(value) {
+                Some(small) => self.note_small(place, Some(small)),
+                None => self.note_other(place, old),
+            },
+        }
+    }
+
+    /// Notes the value of a place of none of the other kinds, or that there is none.
+    fn note_small(&mut self, place: Place, old: Option<Small>) -> Result<(), AllocError>
+        requires { is_other place ≡ true }
+        ensures ok { OnOk result (Noted self.old.made self.new.made place (option_map value_of old)) }
+        ensures err { OnErr result (self.new.made ≡ self.old.made) }
+        ensures there { 0 < self.old.others → InLimits place → IsOk result }
+        ensures spends { Spends self.old self.new place }
+    {
+        if self.rest.names(place) {
             return Ok(());
         }
-        if place.is_number() {
-            self.room_for_numbers(1)?;
-            self.numbers -= 1;
-            push(&mut self.notes, place, old);
-            return Ok(());
-        }
-        if is_completion(place) {
-            self.room_for_completions(1)?;
-            self.completions -= 1;
-            push(&mut self.notes, place, old);
-            return Ok(());
-        }
-        self.room_for_others(1)?;
-        self.others -= 1;
-        push(&mut self.notes, place, old);
+        self.room.spend_other();
+        self.rows.note(RowNote::of_other(place, old))?;
         Ok(())
     }
 
@@ -163,7 +231,12 @@ impl Recorder {
         ensures there { 0 < self.old.numbers → InLimits place → IsOk result }
         ensures spends { Spends self.old self.new place }
     {
-        self.note(place, Some(Value::Number(old)))
+        if self.rest.names(place) {
+            return Ok(());
+        }
+        self.room.spend_number();
+        self.numbers.note(NumberNote::of(place, old))?;
+        Ok(())
     }
 
     /// Notes the completion in a slot of the ring.
@@ -173,19 +246,68 @@ impl Recorder {
         ensures there { 0 < self.old.completions → slot < 8192 → IsOk result }
         ensures spends { Spends self.old self.new (Completion slot) }
     {
-        self.note(Place::Completion(slot), Some(Value::Completed(old)))
+        if self.rest.names(Place::Completion(slot)) {
+            return Ok(());
+        }
+        self.room.spend_completion();
+        self.completions.note(CompletionNote { slot, old })?;
+        Ok(())
     }
 
     /// Notes a row, or that there is none yet.
     pub fn note_row(&mut self, row: u32, old: Option<Row>) -> Result<(), AllocError>
         ensures ok { OnOk result (Noted self.old.made self.new.made (Request row) (option_map Requested old)) }
         ensures err { OnErr result (self.new.made ≡ self.old.made) }
+        ensures there { 0 < self.old.others → row < 65536 → IsOk result }
         ensures spends { Spends self.old self.new (Request row) }
     {
-        match old {
-            Some(row_before) => self.note(Place::Request(row), Some(Value::Requested(row_before))),
-            None => self.note(Place::Request(row), None),
+        if self.rest.names(Place::Request(row)) {
+            return Ok(());
         }
+        self.room.spend_other();
+        self.rows.note(RowNote::of(row, old))?;
+        Ok(())
+    }
+
+    /// Notes the old bytes of a region from an index on, none of which is noted.
+    pub fn note_bytes(&mut self, region: Region, start: u32, old: &[u8]) -> Result<(), AllocError>
+        requires fresh { (i : ℕ) → i < length old.now → named self.old.made (place_in region (start + i)) ≡ None }
+        requires within { start + length old.now ≤ 2 ^ 32 }
+        ensures ok { OnOk result (NotedBytes self.old.made self.new.made region start old.now) }
+        ensures err { OnErr result (self.new.made ≡ self.old.made) }
+        ensures room { HasAsMuch self.old self.new }
+    {
+        self.rest.note_bytes(self.alloc, region, start, old)?;
+        Ok(())
+    }
+
+    fn note_other(&mut self, place: Place, old: Option<Value>) -> Result<(), AllocError>
+        ensures ok { OnOk result (Noted self.old.made self.new.made place old) }
+        ensures err { OnErr result (self.new.made ≡ self.old.made) }
+        ensures there { 0 < room_for self.old place → IsOk result }
+        ensures spends { Spends self.old self.new place }
+    {
+        if self.is_noted(place) {
+            return Ok(());
+        }
+        self.room.spend(place);
+        let Some(held) = self.room.held.checked_add(1) else {
+            return Err(AllocError);
+        };
+        self.rest.room(self.alloc, held)?;
+        self.rest.push(place, old);
+        Ok(())
+    }
+
+    fn is_noted(&self, place: Place) -> bool
+        ensures { result ≡ is_some (named self.now.made place) }
+    {
+        let by_slot = either(self.completions.names(place), self.rows.names(place));
+        let by_kind = either(
+            self.rest.covers(place),
+            either(self.numbers.names(place), by_slot),
+        );
+        either(self.rest.names(place), by_kind)
     }
 
     /// Drops the notes whose place has its old value, and keeps the others. It takes no memory.
@@ -200,67 +322,29 @@ impl Recorder {
         ensures { (old : View) → LeadsBack old (A.seen whole.now) self.made → Exact old (A.seen whole.now) result.0 }
     {
         let Recorder {
-            mut notes,
-            numbers: _,
-            completions: _,
-            others: _,
+            numbers,
+            completions,
+            rows,
+            mut rest,
+            room: _,
+            alloc: _,
         } = self;
-        drop_same(&mut notes, whole);
-        (Record::of(notes), Marks { left: () })
+        let (numbers, number_marks) = numbers.close(whole);
+        let (completions, completion_marks) = completions.close(whole);
+        let (rows, row_marks) = rows.close(whole);
+        rest.close(whole);
+        let record = Record::of(numbers, completions, rows, rest);
+        let marks = Marks {
+            numbers: number_marks,
+            completions: completion_marks,
+            rows: row_marks,
+        };
+        (record, marks)
     }
 }
 
-/// Makes room for n more behind those that are held.
-fn reserve_behind(notes: &mut Vec<Change>, held: usize, n: usize) -> Result<(), AllocError>
-    ensures items { notes.new.items ≡ notes.old.items }
-    ensures len { vec_len notes.new ≡ vec_len notes.old }
-    ensures ok { OnOk result (vec_len notes.new + (held + n) ≤ vec_capacity notes.new) }
-    ensures capacity { vec_capacity notes.old ≤ vec_capacity notes.new }
+fn either(a: bool, b: bool) -> bool
+    ensures { result ≡ (a || b) }
 {
-    match held.checked_add(n) {
-        Some(total) => notes.reserve(total),
-        None => Err(AllocError),
-    }
-}
-
-/// Adds a note where there is room.
-fn push(notes: &mut Vec<Change>, place: Place, old: Option<Value>)
-    requires { vec_len notes.old < vec_capacity notes.old }
-    ensures items { notes.new.items ≡ notes.old.items ++ record { place = place; old = old } ∷ [] }
-    ensures len { vec_len notes.new ≡ vec_len notes.old + 1 }
-    ensures capacity { vec_capacity notes.old ≤ vec_capacity notes.new }
-{
-    match notes.push(Change { place, old }) {
-        Ok(()) => {}
-        Err(_) => unreachable!(),
-    }
-}
-
-fn is_completion(place: Place) -> bool
-    ensures { result ≡ is_completion_place place }
-{
-    matches!(place, Place::Completion(_))
-}
-
-fn is_named(notes: &[Change], place: Place) -> bool
-    ensures { result ≡ list_any (λ c. same_place c.place place) notes.now }
-{
-    notes.iter().any(|c| is_same_place(c.place, place))
-}
-
-fn is_same_place(a: Place, b: Place) -> bool
-    ensures { result ≡ same_place a b }
-{
-    a.is(&b)
-}
-
-fn drop_same<A: At>(notes: &mut Vec<Change>, whole: &A)
-    ensures exact { (old : View) → NamesOnce notes.old.items → LeadsBack old (A.seen whole.now) notes.old.items → Exact old (A.seen whole.now) notes.new.items }
-    ensures once { NamesOnce notes.old.items → NamesOnce notes.new.items }
-{
-    notes.retain(
-        |c: &Change| -> bool
-            ensures { MatchBool result (c.now.old ≢ A.seen whole.entry.now c.now.place) (c.now.old ≡ A.seen whole.entry.now c.now.place) }
-        { !is_same(c.old, whole.at(c.place)) },
-    );
+    a || b
 }

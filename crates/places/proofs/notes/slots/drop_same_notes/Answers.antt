@@ -1,0 +1,6 @@
+use Rattle.std.proofs.Common.{rules}
+use Rattle.places.proofs.Kept.{kept_filtered}
+use Rattle.places.proofs.notes.slots.drop_same_notes.Goals as goal
+
+pub returns : goal.returns
+returns g c = rw (c.shrink_to_fit.ensures.items) (kept_filtered g.N.Slotted.change _ _ _ (λ x b f' k. search rules) _ _ c.retain.ensures.filtered)

@@ -1,0 +1,23 @@
+use Rattle.std.proofs.Common.{◌≡◌, ◌∙◌, ap, sym, subst, true, false}
+use Rattle.std.specs.Prelude.{None, Some, map, is_some, option_map}
+use Rattle.places.specs.View.{named, Noted}
+use Rattle.places.specs.declared.value.Value.TheVariants.{Completed}
+use Rattle.places.specs.declared.place.Place.TheVariants.{Completion}
+use Rattle.places.proofs.Joining.{not_some}
+use Rattle.places.proofs.Sound.{odd_noted, completion_noted, completion_sound, completion_apart}
+use Rattle.places.proofs.recorder.Recorder.note_completion.Goals as goal
+
+pub returns-then-names-clause-ok : goal.returns-then-names-clause-ok
+returns-then-names-clause-ok c = rw (← c.self.view_is) (odd_noted c.self.inside.numbers.notes c.self.inside.completions.notes c.self.inside.rows.notes c.self.inside.rest (Completion c.args.slot) (Some (Completed c.args.old)) (sym c.names.ensures ∙ c.if-names.true))
+
+pub invariant_of-self-2 : goal.invariant_of-self-2
+invariant_of-self-2 c =
+    let none : named c.self.inside.rest.odd (Completion c.args.slot) ≡ None = not_some _ (sym c.names.ensures ∙ c.if-names.false) in
+    completion_sound c.self.inside.numbers c.self.inside.completions c.self.inside.rows c.self.inside.rest c.self.inside.room c.spend_completion.new.self c.note.new.self c.self.invariant
+    (completion_apart c.self.inside.numbers c.self.inside.completions c.self.inside.rows c.self.inside.rest c.self.inside.room c.self.invariant c.note.new.self c.args.slot (Some (Completed c.args.old)) c.in_ok-note.ensures.ok none)
+    c.note.ensures.spare c.note.ensures.reached c.spend_completion.ensures.numbers c.spend_completion.ensures.completions c.spend_completion.ensures.others c.spend_completion.ensures.held
+
+pub returns-clause-ok : goal.returns-clause-ok
+returns-clause-ok c =
+    let none : named c.self.inside.rest.odd (Completion c.args.slot) ≡ None = not_some _ (sym c.names.ensures ∙ c.if-names.false) in
+    rw (← c.self.view_is) (completion_noted c.self.inside.numbers.notes c.self.inside.completions.notes c.self.inside.rows.notes c.self.inside.rest c.note.new.self.notes c.args.slot (Some (Completed c.args.old)) c.in_ok-note.ensures.ok none)

@@ -1,0 +1,36 @@
+-- The notes of all kinds as one list of changes.
+use Rattle.std.specs.Prelude.{◌≡◌, ℕ, List, ◌++◌, None, map, true, is_some, ◌+◌, ◌<◌, ◌≤◌}
+use Rattle.places.specs.declared.place.Place.{Place}
+use Rattle.places.specs.declared.value.Change.{Change}
+use Rattle.places.specs.declared.notes.numbers.NumberNote.{NumberNote}
+use Rattle.places.specs.declared.notes.completions.CompletionNote.{CompletionNote}
+use Rattle.places.specs.declared.notes.rows.RowNote.{RowNote}
+use Rattle.places.specs.declared.notes.room.Room.{Room}
+use Rattle.places.specs.Slots.{number_change, completion_change, row_change}
+use Rattle.places.specs.Runs.{run_changes, AllKept}
+use Rattle.places.specs.Marks.{SlotList}
+use Rattle.places.specs.RestList.{RestList}
+use Rattle.places.specs.View.{named}
+
+-- the notes of numbers, completions and rows, and then those of bytes
+abbrev pub kind_changes : List NumberNote → List CompletionNote → List RowNote → List Change → List Change
+kind_changes ns cs rs bs = map number_change ns ++ (map completion_change cs ++ (map row_change rs ++ bs))
+
+-- and behind them the others
+abbrev pub all_changes : List NumberNote → List CompletionNote → List RowNote → RestList → List Change
+all_changes ns cs rs x = kind_changes ns cs rs (run_changes x.runs x.olds) ++ x.odd
+
+-- There is memory for n more notes of slots below a limit.
+pub record HasRoom {X : Type 0} (n limit : ℕ) (s : SlotList X) : Type 0 where
+  pub spare : n ≤ s.spare
+  pub reached : 0 < n → limit ≤ s.reached
+
+-- The notes of a recorder name no place in two kinds, and there is the memory that it promises.
+pub record IsSound (ns : SlotList NumberNote) (cs : SlotList CompletionNote) (rs : SlotList RowNote) (x : RestList) (r : Room) : Type 0 where
+  pub apart : (p : Place) → is_some (named x.odd p) ≡ true → named (kind_changes ns.notes cs.notes rs.notes (run_changes x.runs x.olds)) p ≡ None
+  pub kept : AllKept x.olds
+  pub numbers : HasRoom r.numbers 8192 ns
+  pub completions : HasRoom r.completions 8192 cs
+  pub rows : HasRoom r.others 262144 rs
+  pub held : r.held ≡ r.numbers + (r.completions + r.others)
+  pub spare : r.held ≤ x.spare

@@ -1,0 +1,10 @@
+-- What a turn over changes that are left to tell found.
+use Rattle.std.specs.Prelude.{◌≡◌, List, [], ◌∷◌}
+use Rattle.places.specs.declared.value.Change.{Change}
+use Rattle.places.specs.declared.notes.telling.Turn.{Turn}
+use Rattle.places.specs.declared.notes.telling.Turn.TheVariants.{End, Nothing, Found}
+
+abbrev pub MatchTurn : Turn → List Change → List Change → Type 0
+MatchTurn End before after = (before ≡ []) × (after ≡ [])
+MatchTurn Nothing before after = before ≡ after
+MatchTurn (Found c) before after = before ≡ c ∷ after

@@ -1,0 +1,12 @@
+//! Notes of old values, compact and of one kind each.
+
+pub mod clearing;
+pub mod completions;
+pub mod numbers;
+pub mod odd;
+pub mod rest;
+pub mod room;
+pub mod rows;
+pub mod runs;
+pub mod slots;
+pub mod telling;

@@ -1,0 +1,37 @@
+//! Notes of completions in the ring.
+
+use crate::notes::slots::Slotted;
+use crate::place::Place;
+use crate::value::{Change, Value};
+use entries::Cqe;
+
+/// A slot of the completion ring, and what stood there.
+#[derive(Clone, Copy, Debug)]
+pub struct CompletionNote {
+    pub slot: u32,
+    pub old: Cqe,
+}
+
+impl Slotted for CompletionNote {
+    ghost use Rattle.places.specs.Slots.{completion_slot_of, completion_change};
+    ghost use Rattle.places.specs.SlotLaws.{one_completion, one_completion_slot};
+
+    ghost slot = { completion_slot_of };
+
+    ghost change = { completion_change };
+
+    ghost one_place = { one_completion };
+
+    ghost one_slot = { one_completion_slot };
+
+    fn slot(&self) -> usize {
+        self.slot as usize
+    }
+
+    fn change(&self) -> Change {
+        Change {
+            place: Place::Completion(self.slot),
+            old: Some(Value::Completed(self.old)),
+        }
+    }
+}

@@ -1,0 +1,96 @@
+//! Notes of numbers.
+ghost use Rattle.std.specs.Prelude.{◌≡◌, Some, true};
+ghost use Rattle.places.specs.declared.value.Value.TheVariants.{Number};
+ghost use Rattle.places.specs.Places.{is_number};
+ghost use Rattle.places.specs.Slots.{number_place, number_slot, number_change};
+
+use crate::notes::slots::Slotted;
+use crate::place::Place;
+use crate::value::{Change, Value};
+
+/// The place of a number by its kind and its index, and what stood there.
+#[derive(Clone, Copy, Debug)]
+pub struct NumberNote {
+    pub kind: u8,
+    pub index: u32,
+    pub old: u64,
+}
+
+impl NumberNote {
+    /// The note of a number's place.
+    pub fn of(place: Place, old: u64) -> NumberNote
+        requires { is_number place ≡ true }
+        ensures { number_change result ≡ record { place = place; old = Some (Number old) } }
+    {
+        NumberNote {
+            kind: place.kind(),
+            index: place.index(),
+            old,
+        }
+    }
+
+    #[tactic(auto, unfolding(crate::specs::Slots::number_place))]
+    fn place(&self) -> Place
+        ensures { result ≡ number_place self.now.kind self.now.index }
+    {
+        let i = self.index;
+        match self.kind {
+            0 => Place::SubmissionHead,
+            1 => Place::SubmissionTail,
+            2 => Place::SubmissionFlags,
+            3 => Place::SubmissionDropped,
+            4 => Place::CompletionHead,
+            5 => Place::CompletionTail,
+            6 => Place::Array(i),
+            12 => Place::FileLength(i),
+            13 => Place::DurableLength(i),
+            14 => Place::Position(i),
+            15 => Place::OpenMark(i),
+            17 => Place::PutCount(i),
+            18 => Place::TakenCount(i),
+            19 => Place::EventCount(i),
+            22 => Place::BacklogFront,
+            23 => Place::Clock,
+            24 => Place::Counted,
+            _ => Place::ProgramCounter(i),
+        }
+    }
+}
+
+/// The slot of a number's place.
+#[tactic(auto, unfolding(crate::specs::Slots::number_slot))]
+fn slot_of(place: Place) -> usize
+    ensures { result ≡ number_slot place }
+{
+    let kind = place.kind() as usize;
+    let index = place.index() as usize;
+    if kind == 6 {
+        2 * index + 1
+    } else {
+        2 * (30 * index + kind)
+    }
+}
+
+impl Slotted for NumberNote {
+    ghost use Rattle.places.specs.Slots.{number_slot_of, number_change};
+    ghost use Rattle.places.specs.SlotLaws.{one_number, one_number_slot};
+
+    ghost slot = { number_slot_of };
+
+    ghost change = { number_change };
+
+    ghost one_place = { one_number };
+
+    ghost one_slot = { one_number_slot };
+
+    fn slot(&self) -> usize {
+        slot_of(self.place())
+    }
+
+    fn change(&self) -> Change {
+        Change {
+            place: self.place(),
+            old: Some(Value::Number(self.old)),
+        }
+    }
+}

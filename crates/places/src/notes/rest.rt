@@ -1,0 +1,180 @@
+//! Notes that few steps make: of bytes, and of the other places.
+ghost use Rattle.std.specs.Prelude.{◌≡◌, ◌+◌, ◌<◌, ◌≤◌, ◌^◌, ◌∷◌, ◌++◌, [], ℕ, length, None, OnOk, OnErr, IsOk, is_some};
+ghost use Rattle.places.specs.View.{View, named, NamesOnce};
+ghost use Rattle.places.specs.Closed.{KeptOf};
+ghost use Rattle.places.specs.Runs.{place_in, run_changes, NotedBytes, AllKept};
+
+use crate::notes::odd::Odd;
+use crate::notes::runs::{ByteNotes, Region};
+use crate::notes::telling::ByteChanges;
+use crate::part::At;
+use crate::place::Place;
+use crate::value::{Change, Value};
+use std::alloc::{AllocError, Global};
+use std::marker::Model;
+
+/// Notes of bytes, and of places one at a time.
+#[derive(Drop)]
+pub struct Inner {
+    bytes: ByteNotes,
+    odd: Odd,
+}
+
+/// The notes of bytes and of the other places, which take a word while there are none.
+#[derive(Drop)]
+pub struct Rest {
+    inner: Option<Box<Inner>>,
+}
+
+impl Model for Rest {
+    ghost use Rattle.places.specs.RestList.{RestList};
+
+    ghost Value = { RestList };
+
+    ghost use Rattle.places.specs.RestOf.{rest_of};
+
+    ghost view = { λ a. rest_of a.inner };
+}
+
+impl Rest {
+    /// No notes. It takes no memory.
+    pub fn new() -> Rest
+        ensures runs { result.runs ≡ [] }
+        ensures olds { result.olds ≡ [] }
+        ensures odd { result.odd ≡ [] }
+    {
+        Rest { inner: None }
+    }
+
+    /// The next n notes that are pushed take no memory.
+    pub fn room(&mut self, alloc: Global, n: usize) -> Result<(), AllocError>
+        ensures runs { self.new.runs ≡ self.old.runs }
+        ensures olds { self.new.olds ≡ self.old.olds }
+        ensures odd { self.new.odd ≡ self.old.odd }
+        ensures room { OnOk result (n ≤ self.new.spare) }
+        ensures there { n ≤ self.old.spare → IsOk result }
+        ensures spare { self.old.spare ≤ self.new.spare }
+    {
+        match &mut self.inner {
+            Some(inner) => inner.odd.room(n),
+            None => {
+                if n > 0 {
+                    let mut odd = Odd::new(alloc);
+                    odd.room(n)?;
+                    let bytes = ByteNotes::new(alloc);
+                    self.inner = Some(Box::new(alloc, Inner { bytes, odd })?);
+                }
+                Ok(())
+            }
+        }
+    }
+
+    /// Notes what stands in a place that is not noted here, where there is room.
+    pub fn push(&mut self, place: Place, old: Option<Value>)
+        requires room { 0 < self.old.spare }
+        requires fresh { named self.old.odd place ≡ None }
+        ensures runs { self.new.runs ≡ self.old.runs }
+        ensures olds { self.new.olds ≡ self.old.olds }
+        ensures odd { self.new.odd ≡ self.old.odd ++ record { place = place; old = old } ∷ [] }
+        ensures spare { self.old.spare ≤ self.new.spare + 1 }
+    {
+        if let Some(inner) = &mut self.inner {
+            inner.odd.push(place, old);
+        }
+    }
+
+    /// Notes the old bytes from an index on, none of which is noted.
+    pub fn note_bytes(
+        &mut self,
+        alloc: Global,
+        region: Region,
+        start: u32,
+        old: &[u8],
+    ) -> Result<(), AllocError>
+        requires fresh { (i : ℕ) → i < length old.now → named (run_changes self.old.runs self.old.olds) (place_in region (start + i)) ≡ None }
+        requires within { start + length old.now ≤ 2 ^ 32 }
+        ensures ok { OnOk result (NotedBytes (run_changes self.old.runs self.old.olds) (run_changes self.new.runs self.new.olds) region start old.now) }
+        ensures runs { OnErr result (self.new.runs ≡ self.old.runs) }
+        ensures olds { OnErr result (self.new.olds ≡ self.old.olds) }
+        ensures odd { self.new.odd ≡ self.old.odd }
+        ensures kept { AllKept self.old.olds → AllKept self.new.olds }
+        ensures spare { self.old.spare ≤ self.new.spare }
+    {
+        match &mut self.inner {
+            Some(inner) => inner.bytes.note(region, start, old),
+            None => {
+                let mut bytes = ByteNotes::new(alloc);
+                bytes.note(region, start, old)?;
+                let odd = Odd::new(alloc);
+                self.inner = Some(Box::new(alloc, Inner { bytes, odd })?);
+                Ok(())
+            }
+        }
+    }
+
+    /// Whether a place was pushed.
+    pub fn names(&self, place: Place) -> bool
+        ensures { result ≡ is_some (named self.now.odd place) }
+    {
+        match &self.inner {
+            None => false,
+            Some(inner) => inner.odd.names(place),
+        }
+    }
+
+    /// Whether a byte is noted in a run.
+    pub fn covers(&self, place: Place) -> bool
+        ensures { AllKept self.now.olds → result ≡ is_some (named (run_changes self.now.runs self.now.olds) place) }
+    {
+        match &self.inner {
+            None => false,
+            Some(inner) => inner.bytes.covers(place),
+        }
+    }
+
+    /// Drops the notes whose place has its old value.
+    pub fn close<A: At>(&mut self, whole: &A)
+        ensures bytes { KeptOf (A.seen whole.now) (run_changes self.old.runs self.old.olds) (run_changes self.new.runs self.new.olds) }
+        ensures odd { KeptOf (A.seen whole.now) self.old.odd self.new.odd }
+        ensures bytes_once { NamesOnce (run_changes self.old.runs self.old.olds) }
+        ensures odd_once { NamesOnce self.old.odd }
+    {
+        if let Some(inner) = &mut self.inner {
+            inner.bytes.close(whole);
+            inner.odd.close(whole);
+            if inner.bytes.is_empty() && inner.odd.is_empty() {
+                self.inner = None;
+            }
+        }
+    }
+
+    /// The old bytes, one after the other.
+    pub fn bytes(&self) -> ByteChanges<'_>
+        ensures { result.left ≡ run_changes self.now.runs self.now.olds }
+    {
+        match &self.inner {
+            None => ByteChanges::of(&[], &[]),
+            Some(inner) => inner.bytes.changes(),
+        }
+    }
+
+    /// The notes that were pushed.
+    pub fn odd(&self) -> &[Change]
+        ensures { result.now ≡ self.now.odd }
+    {
+        match &self.inner {
+            None => &[],
+            Some(inner) => inner.odd.as_slice(),
+        }
+    }
+
+    /// What the notes keep in memory besides themselves, in bytes.
+    pub fn kept_bytes(&self) -> usize {
+        match &self.inner {
+            None => 0,
+            Some(inner) => size_of::<Inner>()
+                .saturating_add(inner.bytes.kept_bytes())
+                .saturating_add(inner.odd.kept_bytes()),
+        }
+    }
+}

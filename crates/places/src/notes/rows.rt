@@ -1,0 +1,168 @@
+//! Notes of rows, and of the places that are neither numbers, bytes nor completions of the ring.
+ghost use Rattle.std.specs.Prelude.{◌≡◌, option_map, true, MatchOption};
+ghost use Rattle.places.specs.declared.value.Value.TheVariants.{Requested};
+ghost use Rattle.places.specs.declared.place.Place.TheVariants.{Request};
+ghost use Rattle.places.specs.Slots.{row_change, value_of, other_place, slot_at};
+ghost use Rattle.places.specs.Places.{is_other};
+
+use crate::notes::slots::Slotted;
+use crate::place::Place;
+use crate::value::{Change, Stage, Value};
+use entries::{Cqe, Row, Sqe};
+
+/// A value that is no row.
+#[derive(Clone, Copy, Debug)]
+pub enum Small {
+    Amount(u64),
+    Answer(i64),
+    Octet(u8),
+    Submitted(Sqe),
+    Posted(Cqe),
+    Next(Stage),
+    Taken(Option<Cqe>),
+    Up(bool),
+}
+
+/// A row by its number, and what stood there, if anything did; or another place, by its kind and its
+/// index.
+#[derive(Clone, Copy, Debug)]
+pub enum RowNote {
+    Absent(u32),
+    Was(u32, Row),
+    Other(u8, u32, Option<Small>),
+}
+
+impl Small {
+    /// The value, if it is no row.
+    pub fn of(value: Value) -> Option<Small>
+        ensures { MatchOption result (Unit {0}) (λ s. value_of s ≡ value) }
+    {
+        match value {
+            Value::Number(n) => Some(Small::Amount(n)),
+            Value::Signed(n) => Some(Small::Answer(n)),
+            Value::Byte(b) => Some(Small::Octet(b)),
+            Value::Entry(entry) => Some(Small::Submitted(entry)),
+            Value::Completed(completion) => Some(Small::Posted(completion)),
+            Value::Requested(_) => None,
+            Value::Staged(stage) => Some(Small::Next(stage)),
+            Value::Reaped(completion) => Some(Small::Taken(completion)),
+            Value::Awake(awake) => Some(Small::Up(awake)),
+        }
+    }
+
+    fn value(&self) -> Value
+        ensures { result ≡ value_of self.now }
+    {
+        match self {
+            Small::Amount(n) => Value::Number(*n),
+            Small::Answer(n) => Value::Signed(*n),
+            Small::Octet(b) => Value::Byte(*b),
+            Small::Submitted(entry) => Value::Entry(*entry),
+            Small::Posted(completion) => Value::Completed(*completion),
+            Small::Next(stage) => Value::Staged(*stage),
+            Small::Taken(completion) => Value::Reaped(*completion),
+            Small::Up(awake) => Value::Awake(*awake),
+        }
+    }
+}
+
+impl RowNote {
+    /// The note of a row.
+    pub fn of(row: u32, old: Option<Row>) -> RowNote
+        ensures { row_change result ≡ record { place = Request row; old = option_map Requested old } }
+    {
+        match old {
+            None => RowNote::Absent(row),
+            Some(before) => RowNote::Was(row, before),
+        }
+    }
+
+    /// The note of another place.
+    pub fn of_other(place: Place, old: Option<Small>) -> RowNote
+        requires { is_other place ≡ true }
+        ensures { row_change result ≡ record { place = place; old = option_map value_of old } }
+    {
+        RowNote::Other(place.kind(), place.index(), old)
+    }
+
+    fn place(&self) -> Place
+        ensures { result ≡ (row_change self.now).place }
+    {
+        match self {
+            RowNote::Absent(row) | RowNote::Was(row, _) => Place::Request(*row),
+            RowNote::Other(kind, index, _) => place_of_other(*kind, *index),
+        }
+    }
+}
+
+#[tactic(auto, unfolding(crate::specs::Slots::other_place))]
+fn place_of_other(kind: u8, index: u32) -> Place
+    ensures { result ≡ other_place kind index }
+{
+    match kind {
+        7 => Place::Slot(index),
+        21 => Place::Backlog(index),
+        25 => Place::PollerStage,
+        27 => Place::ThreadStage(index),
+        28 => Place::Last(index),
+        _ => Place::Got(index),
+    }
+}
+
+/// The slot of a place: rows, backlog, entries and the rest in turn.
+#[tactic(auto, unfolding(crate::specs::Slots::slot_at))]
+fn slot_of(place: Place) -> usize
+    ensures { result ≡ slot_at place }
+{
+    let kind = place.kind() as usize;
+    let index = place.index() as usize;
+    match kind {
+        20 => 4 * index,
+        21 => 4 * index + 1,
+        7 => 4 * index + 2,
+        _ => 4 * (30 * index + kind) + 3,
+    }
+}
+
+fn small_value(old: Option<Small>) -> Option<Value>
+    ensures { result ≡ option_map value_of old }
+{
+    match old {
+        None => None,
+        Some(small) => Some(small.value()),
+    }
+}
+
+impl Slotted for RowNote {
+    ghost use Rattle.places.specs.Slots.{row_slot_of, row_change};
+    ghost use Rattle.places.specs.SlotLaws.{one_row, one_row_slot};
+
+    ghost slot = { row_slot_of };
+
+    ghost change = { row_change };
+
+    ghost one_place = { one_row };
+
+    ghost one_slot = { one_row_slot };
+
+    fn slot(&self) -> usize {
+        slot_of(self.place())
+    }
+
+    fn change(&self) -> Change {
+        match self {
+            RowNote::Absent(row) => Change {
+                place: Place::Request(*row),
+                old: None,
+            },
+            RowNote::Was(row, old) => Change {
+                place: Place::Request(*row),
+                old: Some(Value::Requested(*old)),
+            },
+            RowNote::Other(kind, index, old) => Change {
+                place: place_of_other(*kind, *index),
+                old: small_value(*old),
+            },
+        }
+    }
+}

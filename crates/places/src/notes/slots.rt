@@ -1,0 +1,204 @@
+//! Notes of places that have slots, each place once, in constant time.
+ghost use Rattle.std.specs.Prelude.{◌≡◌, ◌≢◌, ◌+◌, ◌-◌, ◌<◌, ◌≤◌, ◌∷◌, ◌++◌, [], ℕ, length, map, slice_get, IsOk, OnOk, OnErr, MatchBool, is_some, vec_len, vec_capacity};
+ghost use Rattle.places.specs.declared.value.Change.{Change};
+ghost use Rattle.std.specs.List.{list_any};
+ghost use Rattle.places.specs.Places.{same_place};
+ghost use Rattle.places.specs.View.{View, Noted, NamesOnce, named};
+ghost use Rattle.places.specs.Closed.{KeptOf};
+ghost use Rattle.places.specs.Marks.{Marked, IsMarked};
+
+use crate::part::At;
+use crate::place::Place;
+use crate::value::{Change, is_same};
+use std::alloc::{AllocError, Global};
+use std::marker::Model;
+
+/// A note of a place that has a slot: a number that no other place has.
+pub trait Slotted {
+    /// The slot of its place.
+    ghost slot: { Self → ℕ };
+
+    /// Its place, and what stood there.
+    ghost change: { Self → Change };
+
+    fn slot(&self) -> usize
+        ensures { result ≡ slot self.now };
+
+    fn change(&self) -> Change
+        ensures { result ≡ change self.now };
+
+    /// A slot is of one place.
+    ghost one_place: { (x y : Self) → slot x ≡ slot y → (change x).place ≡ (change y).place };
+
+    /// A place has one slot.
+    ghost one_slot: { (x y : Self) → (change x).place ≡ (change y).place → slot x ≡ slot y };
+}
+
+/// Notes, and for each slot where its note stands, if it has one. A mark is right only where it leads
+/// to a note of its slot, so marks of earlier notes may stay.
+#[derive(Drop)]
+pub struct Slots<N: Slotted> {
+    notes: Vec<N>,
+    marks: Vec<usize>,
+}
+
+impl<N: Slotted> Model for Slots<N> {
+    ghost use Rattle.std.specs.Prelude.{vec_len, vec_capacity, length, ◌-◌};
+    ghost use Rattle.places.specs.Marks.{SlotList, SlotsOnce};
+
+    ghost Value = { SlotList N };
+
+    ghost view = { λ a. record { notes = a.notes.items; spare = vec_capacity a.notes - vec_len a.notes; reached = length a.marks.items } };
+
+    ghost invariant = { λ a. SlotsOnce N.slot N.change a.notes.items a.marks.items };
+}
+
+impl<N: Slotted + Copy> Slots<N> {
+    /// No notes, with the marks that earlier notes left. It takes no memory.
+    pub fn over(alloc: Global, marks: Vec<usize>) -> Slots<N>
+        ensures { result.notes ≡ [] }
+    {
+        Slots {
+            notes: Vec::new(alloc),
+            marks,
+        }
+    }
+
+    /// Adds a note, unless its place has one. It takes no memory where there is room and a mark.
+    pub fn note(&mut self, note: N) -> Result<(), AllocError>
+        ensures ok { OnOk result (Noted (map N.change self.old.notes) (map N.change self.new.notes) (N.change note).place (N.change note).old) }
+        ensures err { OnErr result (self.new.notes ≡ self.old.notes) }
+        ensures there { 0 < self.old.spare → N.slot note < self.old.reached → IsOk result }
+        ensures spare { self.old.spare ≤ self.new.spare + 1 }
+        ensures reached { self.old.reached ≤ self.new.reached }
+    {
+        let slot = note.slot();
+        if is_marked(&self.notes, &self.marks, slot) {
+            return Ok(());
+        }
+        let at = self.notes.len();
+        reach(&mut self.marks, slot)?;
+        grow(&mut self.notes)?;
+        self.notes.push(note)?;
+        self.marks[slot] = at;
+        Ok(())
+    }
+
+    /// The next n notes of slots below a limit take no memory.
+    pub fn room(&mut self, n: usize, limit: usize) -> Result<(), AllocError>
+        ensures notes { self.new.notes ≡ self.old.notes }
+        ensures room { OnOk result (n ≤ self.new.spare) }
+        ensures marks { OnOk result (limit ≤ self.new.reached) }
+        ensures there { n ≤ self.old.spare → limit ≤ self.old.reached → IsOk result }
+        ensures spare { self.old.spare ≤ self.new.spare }
+        ensures reached { self.old.reached ≤ self.new.reached }
+    {
+        if limit > 0 {
+            reach(&mut self.marks, limit - 1)?;
+        }
+        self.notes.reserve_exact(n)?;
+        Ok(())
+    }
+}
+
+impl<N: Slotted + Copy> Slots<N> {
+    /// Whether a place is noted.
+    pub fn names(&self, place: Place) -> bool
+        ensures { result ≡ is_some (named (map N.change self.now.notes) place) }
+    {
+        has_note(&self.notes, place)
+    }
+
+    /// The notes whose place has another value now, and the marks.
+    pub fn close<A: At>(self, whole: &A) -> (Vec<N>, Vec<usize>)
+        ensures kept { KeptOf (A.seen whole.now) (map N.change self.notes) (map N.change result.0.items) }
+        ensures once { NamesOnce (map N.change self.notes) }
+    {
+        let Slots { mut notes, marks } = self;
+        drop_same_notes(&mut notes, whole);
+        (notes, marks)
+    }
+}
+
+fn has_note<N: Slotted>(notes: &[N], place: Place) -> bool
+    ensures { result ≡ list_any (λ n. same_place (N.change n).place place) notes.now }
+{
+    notes.iter().any(|n| is_same_place(n.change().place, place))
+}
+
+/// Whether two places are one and the same.
+pub fn is_same_place(a: Place, b: Place) -> bool
+    ensures { result ≡ same_place a b }
+{
+    a.is(&b)
+}
+
+fn drop_same_notes<N: Slotted + Copy, A: At>(notes: &mut Vec<N>, whole: &A)
+    ensures { KeptOf (A.seen whole.now) (map N.change notes.old.items) (map N.change notes.new.items) }
+{
+    notes.retain(
+        |n: &N| -> bool
+            ensures { MatchBool result ((N.change n.now).old ≢ A.seen whole.entry.now (N.change n.now).place) ((N.change n.now).old ≡ A.seen whole.entry.now (N.change n.now).place) }
+        { differs(n.change(), whole) },
+    );
+    notes.shrink_to_fit();
+}
+
+/// Drops the notes whose place has its old value.
+pub fn drop_same<A: At>(notes: &mut Vec<Change>, whole: &A)
+    ensures kept { KeptOf (A.seen whole.now) notes.old.items notes.new.items }
+    ensures once { NamesOnce notes.old.items → NamesOnce notes.new.items }
+{
+    notes.retain(
+        |c: &Change| -> bool
+            ensures { MatchBool result (c.now.old ≢ A.seen whole.entry.now c.now.place) (c.now.old ≡ A.seen whole.entry.now c.now.place) }
+        { differs(*c, whole) },
+    );
+    notes.shrink_to_fit();
+}
+
+fn differs<A: At>(change: Change, whole: &A) -> bool
+    ensures { MatchBool result (change.old ≢ A.seen whole.now change.place) (change.old ≡ A.seen whole.now change.place) }
+{
+    !is_same(change.old, whole.at(change.place))
+}
+
+/// Makes room for one more, and for as many more as there are once it is full.
+fn grow<N>(notes: &mut Vec<N>) -> Result<(), AllocError>
+    ensures items { notes.new.items ≡ notes.old.items }
+    ensures len { vec_len notes.new ≡ vec_len notes.old }
+    ensures ok { OnOk result (vec_len notes.new < vec_capacity notes.new) }
+    ensures capacity { vec_capacity notes.old ≤ vec_capacity notes.new }
+    ensures there { vec_len notes.old < vec_capacity notes.old → IsOk result }
+{
+    if notes.len() == notes.capacity() {
+        notes.reserve_exact(notes.len().max(1))?;
+    }
+    Ok(())
+}
+
+/// Makes the marks reach a slot.
+fn reach(marks: &mut Vec<usize>, slot: usize) -> Result<(), AllocError>
+    ensures reached { OnOk result (slot < length marks.new.items) }
+    ensures there { slot < length marks.old.items → IsOk result }
+    ensures longer { length marks.old.items ≤ length marks.new.items }
+    ensures kept { (i : ℕ) → i < length marks.old.items → slice_get marks.new.items i ≡ slice_get marks.old.items i }
+{
+    while marks.len() <= slot {
+        marks.push(0)?;
+    }
+    Ok(())
+}
+
+/// Whether a slot has a note.
+fn is_marked<N: Slotted>(notes: &[N], marks: &[usize], slot: usize) -> bool
+    ensures { MatchBool result (IsMarked N.slot notes.now marks.now slot) (¬ (IsMarked N.slot notes.now marks.now slot)) }
+{
+    if slot < marks.len() {
+        let at = marks[slot];
+        if at < notes.len() {
+            return notes[at].slot() == slot;
+        }
+    }
+    false
+}
