@@ -1,0 +1,4 @@
+pub mod Batching
+pub mod Counting
+pub mod RowsKept
+pub mod Seen

@@ -1,0 +1,39 @@
+-- The table of all requests, and what is seen of it.
+use Rattle.std.specs.Prelude.{◌≡◌, ℕ, ◌+◌, ◌<◌, Bool, true, false, Option, Some, None, option_map, slice_get, List, length}
+use Rattle.entries.specs.declared.entry.Sqe.{Sqe}
+use Rattle.entries.specs.declared.row.Row.{Row}
+use Rattle.entries.specs.declared.row.Phase.TheVariants.{Queued}
+use Rattle.places.specs.declared.place.Place.{Place}
+use Rattle.places.specs.declared.place.Place.TheVariants.{Request}
+use Rattle.places.specs.declared.value.Value.{Value}
+use Rattle.places.specs.declared.value.Value.TheVariants.{Requested}
+use Rattle.places.specs.View.{View}
+
+-- the table's places
+abbrev pub table_owns : Place → Bool
+table_owns (Request i) = true
+table_owns _ = false
+
+-- what stands in each of them
+abbrev pub table_seen : List Row → View
+table_seen rows (Request i) = option_map Requested (slice_get rows i)
+table_seen rows _ = None
+
+-- A row can be written over, and the last one taken out.
+abbrev pub table_can_put : List Row → Place → Option Value → Type 0
+table_can_put rows (Request i) (Some (Requested row)) = i < length rows
+table_can_put rows (Request i) None = i + 1 ≡ length rows
+table_can_put rows place value = ⊥
+
+-- the row that an entry becomes, in the unit of a number
+abbrev pub new_row : Sqe → ℕ → Row
+new_row entry unit = record {
+  deadline = None;
+  time = None;
+  entry = entry;
+  base = 0;
+  unit = unit;
+  target = None;
+  held = None;
+  phase = Queued;
+}

@@ -1,0 +1,235 @@
+//! The table of all rows that were ever submitted.
+ghost use Rattle.std.specs.Prelude.{◌≡◌, ◌+◌, ◌<◌, ◌≤◌, ◌^◌, ◌++◌, ◌∷◌, [], take, None, IfOk, OnOk, OnErr, OnSome, length, option_map, slice_get};
+ghost use Rattle.entries.specs.declared.row.Row.{Row};
+ghost use Rattle.places.specs.Lists.{updated};
+ghost use Rattle.places.specs.View.{Keeps, named, put_at};
+ghost use Rattle.places.specs.declared.place.Place.{Place};
+ghost use Rattle.links_drains.specs.Rows.{table_owns, table_seen, table_can_put, new_row as new_row_of};
+
+use entries::{Phase, Row, Sqe};
+use places::{At, Part, Place, Recorder, Value};
+use std::alloc::{AllocError, Global};
+use std::marker::Model;
+
+/// All rows that were ever submitted, in order.
+#[derive(Drop)]
+pub struct Table {
+    rows: Vec<Row>,
+}
+
+impl Model for Table {
+    ghost use Rattle.std.specs.Prelude.{List};
+    ghost use Rattle.entries.specs.declared.row.Row.{Row};
+
+    ghost Value = { List Row };
+
+    ghost view = { λ a. a.rows.items };
+}
+
+impl At for Table {
+    ghost seen = { table_seen };
+
+    fn at(&self, place: Place) -> Option<Value> {
+        match place {
+            Place::Request(i) => match self.rows.get(i as usize) {
+                Some(row) => Some(Value::Requested(*row)),
+                None => None,
+            },
+            _ => None,
+        }
+    }
+}
+
+impl Part for Table {
+    ghost owns = { table_owns };
+
+    ghost can_put = { table_can_put };
+
+    fn put(&mut self, place: Place, value: Option<Value>)
+        requires { table_can_put self.old place value }
+        ensures put { (q : Place) → table_seen self.new q ≡ put_at (table_seen self.old) place value q }
+        ensures len { OnSome value (length self.new ≡ length self.old) }
+    {
+        match (place, value) {
+            (Place::Request(i), Some(Value::Requested(row))) => self.rows[i as usize] = row,
+            (Place::Request(i), None) => self.rows.truncate(i as usize),
+            _ => unreachable!(),
+        }
+    }
+}
+
+impl Table {
+    /// No rows. It takes no memory.
+    pub fn new(alloc: Global) -> Table
+        ensures { result ≡ [] }
+    {
+        Table {
+            rows: Vec::new(alloc),
+        }
+    }
+
+    /// How many rows there are.
+    pub fn len(&self) -> usize
+        ensures len { result ≡ length self.now }
+        ensures small { result < 2 ^ 63 }
+    {
+        self.rows.len()
+    }
+
+    /// The row of a number.
+    pub fn get(&self, r: u32) -> Option<Row>
+        ensures { result ≡ slice_get self.now r }
+    {
+        self.rows.get(r as usize).copied()
+    }
+
+    /// The phase of a row.
+    pub fn phase(&self, r: u32) -> Option<Phase>
+        ensures { result ≡ option_map (λ row. row.phase) (slice_get self.now r) }
+    {
+        match self.rows.get(r as usize) {
+            Some(row) => Some(row.phase),
+            None => None,
+        }
+    }
+
+    /// What the completion of a row names it by.
+    pub fn user_data(&self, r: u32) -> Option<u64>
+        ensures { result ≡ option_map (λ row. row.entry.user_data) (slice_get self.now r) }
+    {
+        match self.rows.get(r as usize) {
+            Some(row) => Some(row.entry.user_data),
+            None => None,
+        }
+    }
+
+    /// The opcode of a row.
+    pub fn opcode(&self, r: u32) -> Option<u8>
+        ensures { result ≡ option_map (λ row. row.entry.opcode) (slice_get self.now r) }
+    {
+        match self.rows.get(r as usize) {
+            Some(row) => Some(row.entry.opcode),
+            None => None,
+        }
+    }
+
+    /// Adds a row behind the others.
+    pub fn push(&mut self, row: Row, notes: &mut Recorder) -> Result<(), AllocError>
+        requires { length self.old < 65536 }
+        ensures ok { OnOk result (self.new ≡ self.old ++ row ∷ []) }
+        ensures err { OnErr result (self.new ≡ self.old) }
+        ensures len { OnOk result (length self.new ≡ length self.old + 1) }
+        ensures keeps { Keeps table_owns (table_seen self.old) (table_seen self.new) notes.old.made notes.new.made }
+        ensures named { (p : Place) → named notes.new.made p ≡ None → named notes.old.made p ≡ None }
+        ensures numbers { notes.old.numbers ≤ notes.new.numbers }
+        ensures completions { notes.old.completions ≤ notes.new.completions }
+        ensures others { notes.old.others ≤ notes.new.others + 1 }
+    {
+        self.rows.reserve(1)?;
+        notes.note_row(self.rows.len() as u32, None)?;
+        self.rows.push(row)?;
+        Ok(())
+    }
+
+    /// Moves a row to a phase.
+    pub fn set_phase(
+        &mut self,
+        r: u32,
+        phase: Phase,
+        notes: &mut Recorder,
+    ) -> Result<(), AllocError>
+        requires { r < length self.old }
+        ensures ok { OnOk result (self.new ≡ updated (λ row. record row { phase = phase }) self.old r) }
+        ensures err { OnErr result (self.new ≡ self.old) }
+        ensures len { length self.new ≡ length self.old }
+        ensures keeps { Keeps table_owns (table_seen self.old) (table_seen self.new) notes.old.made notes.new.made }
+        ensures numbers { notes.old.numbers ≤ notes.new.numbers }
+        ensures completions { notes.old.completions ≤ notes.new.completions }
+        ensures others { notes.old.others ≤ notes.new.others + 1 }
+    {
+        let row = self.rows[r as usize];
+        notes.note_row(r, Some(row))?;
+        self.rows[r as usize].phase = phase;
+        Ok(())
+    }
+
+    /// Drops the rows from a number on. It takes no memory.
+    pub fn truncate(&mut self, n: usize)
+        ensures { self.new ≡ take n self.old }
+    {
+        self.rows.truncate(n);
+    }
+
+    /// A table of the same rows.
+    pub fn copy(&self, alloc: Global) -> Result<Table, AllocError>
+        ensures { IfOk result (λ table. table ≡ self.now) }
+    {
+        Ok(Table {
+            rows: Vec::from_slice(alloc, &self.rows)?,
+        })
+    }
+}
+
+/// The row that an entry becomes as it is submitted, in the unit of a number.
+pub fn new_row(entry: Sqe, unit: u32) -> Row
+    ensures { result ≡ new_row_of entry unit }
+{
+    Row {
+        deadline: None,
+        time: None,
+        entry,
+        base: 0,
+        unit,
+        target: None,
+        held: None,
+        phase: Phase::Queued,
+    }
+}
+
+#[cfg(test)]
+mod tests {
+    use super::*;
+
+    fn nop(user_data: u64) -> Sqe {
+        Sqe {
+            opcode: 0,
+            flags: 0,
+            ioprio: 0,
+            fd: 0,
+            off: 0,
+            addr: 0,
+            len: 0,
+            operation_flags: 0,
+            user_data,
+            buf_index: 0,
+            personality: 0,
+            splice_fd_in: 0,
+            rest: [0; 16],
+        }
+    }
+
+    #[test]
+    fn two_rows(rt: HostRuntime) -> Result<(), AllocError> {
+        let alloc = rt.alloc();
+        let mut table = Table::new(alloc);
+        let mut notes = Recorder::new(alloc);
+        table.push(new_row(nop(7), 0), &mut notes)?;
+        table.push(new_row(nop(8), 1), &mut notes)?;
+        table.set_phase(1, Phase::Ended(-22), &mut notes)?;
+        assert_eq!(rt; table.len(), 2);
+        assert_eq!(rt; table.phase(0), Some(Phase::Queued));
+        assert_eq!(rt; table.phase(1), Some(Phase::Ended(-22)));
+        assert_eq!(rt; table.phase(2), None);
+        assert_eq!(rt; table.user_data(1), Some(8));
+        assert_eq!(rt; table.opcode(0), Some(0));
+        assert_eq!(rt; table.get(0), Some(new_row(nop(7), 0)));
+        let copied = table.copy(alloc)?;
+        let record = notes.close(&table);
+        assert_eq!(rt; record.rows_left(2), 0);
+        table.truncate(1);
+        assert_eq!(rt; table.len(), 1);
+        assert_eq!(rt; copied.len(), 2);
+        assert_eq!(rt; copied.user_data(1), Some(8));
+        Ok(())
+    }
+}

@@ -1,0 +1,28 @@
+-- What an entry is tested for as it is submitted (io_uring_enter(2)). The tests run in this order: its flags, its opcode, the row
+-- of the opcode; the first that fails gives the error.
+use Rattle.std.specs.Prelude.{ℕ, ℤ, negsuc, ◌==◌, Option, Some, None, Result, Ok, Err, if◌then◌else◌, bit_and}
+use Rattle.entries.specs.declared.entry.Sqe.{Sqe}
+use Rattle.opcodes.specs.declared.op.Op.{Op}
+use Rattle.opcodes.specs.declared.op.Op.TheVariants.{Nop}
+
+-- the invalid argument of errno(3), negated
+abbrev pub invalid : Result Op ℤ
+invalid = Err (negsuc 21)
+
+-- every entry flag but IOSQE_ASYNC, which is 16
+abbrev pub refused_flags : ℕ
+refused_flags = 239
+
+-- the opcodes that are supported
+abbrev pub op_of : ℕ → Option Op
+op_of opcode =
+    if opcode == 0 then Some Nop else
+    None
+
+-- what each opcode is tested for: an entry of it, and what stands before that in its chain
+abbrev pub row_of : Sqe → Option Op → Option Op → Result Op ℤ
+row_of entry behind None = invalid
+row_of entry behind (Some op) = Ok op
+
+abbrev pub check_of : Sqe → Option Op → Result Op ℤ
+check_of entry behind = if bit_and entry.flags refused_flags == 0 then row_of entry behind (op_of entry.opcode) else invalid

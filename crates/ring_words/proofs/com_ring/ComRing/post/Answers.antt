@@ -1,0 +1,28 @@
+use Rattle.std.proofs.Common.{◌≡◌, refl, ◌∙◌, length, ◌<◌, ◌%◌, arith}
+use Rattle.std.proofs.lemmas.Option.{slice_get_read}
+use Rattle.places.proofs.Keeping.{keeps_noted, keeps_then}
+use Rattle.ring_words.proofs.Order.{list_back}
+use Rattle.ring_words.proofs.Sizes.{size_most, size_divides}
+use Rattle.ring_words.proofs.Seen.{com_seen_tail, com_seen_slot}
+use Rattle.ring_words.specs.Rings.{com_list}
+use Rattle.ring_words.proofs.com_ring.ComRing.post.Goals as goal
+
+-- the slot was noted and then written, and after it the tail
+pub returns-clause-keeps : goal.returns-clause-keeps
+returns-clause-keeps c =
+    let same : c.len.result ≡ length c.self.inside.slots.items = c.len.ensures ∙ c.self.inside.slots.ok.0 in
+    let within : c.self.inside.tail % c.len.result < c.len.result = omega (arith, c.self.invariant.size.some, same) in
+    let inside : c.self.inside.tail % c.len.result < length c.self.inside.slots.items = omega (arith, same, within) in
+    let before = slice_get_read _ _ _ _ same within c.index.ensures in
+    rw (← c.self.view_is)
+    (keeps_then _ _ _ _ _ _ _
+    (keeps_noted _ _ _ _ _ _ _ refl (rw before c.note_slot.ensures.noted) (com_seen_slot _ _ _ inside))
+    (keeps_noted _ _ _ _ _ _ _ refl c.note_word.ensures.noted (com_seen_tail _ _)))
+
+pub returns-clause-list : goal.returns-clause-list
+unfolding com_list
+returns-clause-list c =
+    let same : c.len.result ≡ length c.self.inside.slots.items = c.len.ensures ∙ c.self.inside.slots.ok.0 in
+    let free = rw (← c.self.view_is) at c.requires.free in
+    let list = list_back c.self.inside.slots.items c.self.inside.head c.self.inside.tail c.args.completion c.self.invariant.size.some (size_most 8192 _ (omega arith) c.self.invariant.size) (size_divides 8192 _ refl c.self.invariant.size) (omega arith) (omega arith) free in
+    rw (← c.self.view_is, same) list

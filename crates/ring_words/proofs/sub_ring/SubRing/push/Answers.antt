@@ -1,0 +1,29 @@
+use Rattle.std.proofs.Common.{◌≡◌, refl, ◌∙◌, length, ◌<◌, ◌%◌, arith}
+use Rattle.std.proofs.lemmas.Option.{slice_get_read}
+use Rattle.places.proofs.Keeping.{keeps_noted, keeps_then}
+use Rattle.ring_words.proofs.Order.{list_back}
+use Rattle.ring_words.proofs.Sizes.{size_most, size_divides}
+use Rattle.ring_words.proofs.Seen.{sub_seen_tail, sub_seen_word}
+use Rattle.ring_words.specs.Rings.{sub_list}
+use Rattle.ring_words.proofs.sub_ring.SubRing.push.Goals as goal
+
+-- the word was noted and then written, and after it the tail
+pub returns-clause-keeps : goal.returns-clause-keeps
+returns-clause-keeps c =
+    let same : c.len.result ≡ length c.self.inside.array.items = c.len.ensures ∙ c.self.inside.array.ok.0 in
+    let within : c.self.inside.tail % c.len.result < c.len.result = omega (arith, c.self.invariant.size.some, same) in
+    let inside : c.self.inside.tail % c.len.result < length c.self.inside.array.items = omega (arith, same, within) in
+    let before = slice_get_read _ _ _ _ same within c.index.ensures in
+    rw (← c.self.view_is)
+    (keeps_then _ _ _ _ _ _ _
+    (keeps_noted _ _ _ _ _ _ _ refl (rw before c.note_word.ensures.noted) (sub_seen_word _ _ _ inside))
+    (keeps_noted _ _ _ _ _ _ _ refl c.note_word-2.ensures.noted (sub_seen_tail _ _)))
+
+pub returns-clause-list : goal.returns-clause-list
+unfolding sub_list
+returns-clause-list c =
+    let same : c.len.result ≡ length c.self.inside.array.items = c.len.ensures ∙ c.self.inside.array.ok.0 in
+    let free = rw (← c.self.view_is) at c.requires.free in
+    let most = size_most 4096 _ (omega arith) c.self.invariant.size in
+    let list = list_back c.self.inside.array.items c.self.inside.head c.self.inside.tail c.args.index c.self.invariant.size.some (omega (arith, most)) (size_divides 4096 _ refl c.self.invariant.size) (omega arith) (omega arith) free in
+    rw (← c.self.view_is, same) list

@@ -1,0 +1,22 @@
+use Rattle.std.proofs.Common.{refl, ◌≤◌, arith}
+use Rattle.places.proofs.Keeping.{keeps_noted, keeps_then}
+use Rattle.ring_words.proofs.Order.{list_behind}
+use Rattle.ring_words.proofs.Sizes.{size_divides}
+use Rattle.ring_words.proofs.Seen.{sub_seen_head, sub_seen_dropped}
+use Rattle.ring_words.proofs.Laws.{sub_length}
+use Rattle.ring_words.specs.Rings.{sub_list, waiting}
+use Rattle.ring_words.proofs.sub_ring.SubRing.take_first.Goals as goal
+
+pub returns-clause-keeps : goal.returns-clause-keeps
+returns-clause-keeps c =
+    rw (← c.self.view_is)
+    (keeps_then _ _ _ _ _ _ _
+    (keeps_noted _ _ _ _ _ _ _ refl c.note_word.ensures.noted (sub_seen_head _ _))
+    (keeps_noted _ _ _ _ _ _ _ refl c.note_word-2.ensures.noted (sub_seen_dropped _ _)))
+
+pub returns-clause-list : goal.returns-clause-list
+unfolding sub_list
+returns-clause-list c =
+    let listed = rw (← c.self.view_is) at c.requires.some in
+    let some : c.args.count ≤ waiting c.self.inside.head c.self.inside.tail = omega (arith, listed, sub_length _ c.self.invariant) in
+    rw (← c.self.view_is) (list_behind _ _ _ _ c.self.invariant.size.some (size_divides 4096 _ refl c.self.invariant.size) (omega arith) (omega arith) some)

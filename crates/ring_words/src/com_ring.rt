@@ -1,0 +1,193 @@
+//! The completion ring.
+ghost use Rattle.std.specs.Prelude.{◌≡◌, ◌==◌, ◌↔◌, ◌+◌, ◌%◌, ◌^◌, ◌<◌, ◌≤◌, ◌⊎◌, ◌∷◌, ◌++◌, [], nat_lt, length, slice_get, slice_set, IfOk};
+ghost use Rattle.std.specs.Int.{IsNextPowerOfTwo};
+ghost use Rattle.places.specs.View.{Keeps};
+ghost use Rattle.ring_words.specs.Rings.{waiting, com_list, com_owns, com_seen, com_start, ComFormed};
+
+use crate::noting::{note_slot, note_word};
+use crate::refusal::RingRefusal;
+use crate::size::size_for;
+use entries::Cqe;
+use places::{At, Part, Place, Recorder, Value};
+use std::alloc::{AllocError, Global};
+use std::marker::Model;
+
+/// The completion ring: the kernel posts at the tail, the application reaps at the head.
+#[derive(Drop)]
+pub struct ComRing {
+    head: u32,
+    tail: u32,
+    slots: Vec<Cqe>,
+}
+
+impl Model for ComRing {
+    ghost use Rattle.ring_words.specs.Rings.{ComWords, ComFormed};
+
+    ghost Value = { ComWords };
+
+    ghost view = { λ a. record { head = a.head; tail = a.tail; slots = a.slots.items } };
+
+    ghost invariant = { λ a. ComFormed (record { head = a.head; tail = a.tail; slots = a.slots.items }) };
+}
+
+impl At for ComRing {
+    ghost seen = { com_seen };
+
+    fn at(&self, place: Place) -> Option<Value> {
+        match place {
+            Place::CompletionHead => Some(Value::Number(self.head as u64)),
+            Place::CompletionTail => Some(Value::Number(self.tail as u64)),
+            Place::Completion(i) => match self.slots.get(i as usize) {
+                Some(c) => Some(Value::Completed(*c)),
+                None => None,
+            },
+            _ => None,
+        }
+    }
+}
+
+impl Part for ComRing {
+    ghost use Rattle.ring_words.specs.Rings.{com_can_put};
+    ghost use Rattle.places.specs.View.{put_at};
+
+    ghost owns = { com_owns };
+
+    ghost can_put = { com_can_put };
+
+    fn put(&mut self, place: Place, value: Option<Value>)
+        requires { com_can_put self.old place value }
+        ensures put { (q : Place) → com_seen self.new q ≡ put_at (com_seen self.old) place value q }
+        ensures size { length self.new.slots ≡ length self.old.slots }
+    {
+        match (place, value) {
+            (Place::CompletionHead, Some(Value::Number(n))) => self.head = n as u32,
+            (Place::CompletionTail, Some(Value::Number(n))) => self.tail = n as u32,
+            (Place::Completion(i), Some(Value::Completed(c))) => self.slots[i as usize] = c,
+            _ => unreachable!(),
+        }
+    }
+}
+
+impl ComRing {
+    /// An empty ring of at least so many slots, both of its words at the base.
+    pub fn new(alloc: Global, entries: u32, base: u32) -> Result<ComRing, RingRefusal>
+        ensures ok { IfOk result (λ r. r ≡ com_start entries base) }
+        ensures power { IfOk result (λ r. IsNextPowerOfTwo entries (length r.slots)) }
+        ensures size { result ≡ Err RingRefusal.Size ↔ ((entries ≡ 0) ⊎ (8192 < entries)) }
+    {
+        if entries == 0 || entries > 8192 {
+            return Err(RingRefusal::Size);
+        }
+        let empty = Cqe {
+            user_data: 0,
+            res: 0,
+            flags: 0,
+        };
+        match vec![in alloc; empty; size_for(entries)] {
+            Ok(slots) => Ok(ComRing {
+                head: base,
+                tail: base,
+                slots,
+            }),
+            Err(_) => Err(RingRefusal::Memory),
+        }
+    }
+
+    /// The same ring again.
+    pub fn copy(&self, alloc: Global) -> Result<ComRing, AllocError>
+        ensures { IfOk result (λ r. r ≡ self.now) }
+    {
+        Ok(ComRing {
+            head: self.head,
+            tail: self.tail,
+            slots: Vec::from_slice(alloc, &self.slots)?,
+        })
+    }
+
+    /// How many slots it has.
+    pub fn size(&self) -> u32
+        ensures value { result ≡ length self.now.slots }
+        ensures formed { ComFormed self.now }
+    {
+        self.slots.len() as u32
+    }
+
+    /// The word where the application reaps.
+    pub fn head(&self) -> u32
+        ensures { result ≡ self.now.head }
+    {
+        self.head
+    }
+
+    /// The word where the kernel posts.
+    pub fn tail(&self) -> u32
+        ensures { result ≡ self.now.tail }
+    {
+        self.tail
+    }
+
+    /// How many completions wait.
+    pub fn waiting(&self) -> u32
+        ensures { result ≡ waiting self.now.head self.now.tail }
+    {
+        self.tail.wrapping_sub(self.head)
+    }
+
+    /// Whether no completion waits.
+    pub fn is_empty(&self) -> bool
+        ensures { result ≡ (waiting self.now.head self.now.tail == 0) }
+    {
+        self.waiting() == 0
+    }
+
+    /// Whether each slot waits to be reaped.
+    pub fn is_full(&self) -> bool
+        ensures { result ≡ (waiting self.now.head self.now.tail == length self.now.slots) }
+    {
+        self.waiting() == self.size()
+    }
+
+    /// Whether a completion can be posted.
+    pub fn has_room(&self) -> bool
+        ensures { result ≡ nat_lt (waiting self.now.head self.now.tail) (length self.now.slots) }
+    {
+        self.waiting() < self.size()
+    }
+
+    /// Adds a completion behind the others.
+    pub fn post(&mut self, completion: Cqe, notes: &mut Recorder)
+        requires free { waiting self.old.head self.old.tail < length self.old.slots }
+        requires numbers { 0 < notes.old.numbers }
+        requires completions { 0 < notes.old.completions }
+        ensures next { self.new ≡ record self.old { tail = (self.old.tail + 1) % 2 ^ 32; slots = slice_set self.old.slots (self.old.tail % length self.old.slots) completion } }
+        ensures list { com_list self.new ≡ com_list self.old ++ completion ∷ [] }
+        ensures keeps { Keeps com_owns (com_seen self.old) (com_seen self.new) notes.old.made notes.new.made }
+        ensures spends_numbers { notes.old.numbers ≤ notes.new.numbers + 1 }
+        ensures spends_completions { notes.old.completions ≤ notes.new.completions + 1 }
+        ensures spends_others { notes.old.others ≤ notes.new.others }
+    {
+        let at = self.tail as usize % self.slots.len();
+        note_slot(notes, at as u32, self.slots[at]);
+        self.slots[at] = completion;
+        note_word(notes, Place::CompletionTail, self.tail);
+        self.tail = self.tail.wrapping_add(1);
+    }
+
+    /// Takes the oldest completion.
+    pub fn reap(&mut self, notes: &mut Recorder) -> Cqe
+        requires some { 0 < waiting self.old.head self.old.tail }
+        requires numbers { 0 < notes.old.numbers }
+        ensures next { self.new ≡ record self.old { head = (self.old.head + 1) % 2 ^ 32 } }
+        ensures value { slice_get self.old.slots (self.old.head % length self.old.slots) ≡ Some result }
+        ensures list { com_list self.old ≡ result ∷ com_list self.new }
+        ensures keeps { Keeps com_owns (com_seen self.old) (com_seen self.new) notes.old.made notes.new.made }
+        ensures spends_numbers { notes.old.numbers ≤ notes.new.numbers + 1 }
+        ensures spends_completions { notes.old.completions ≤ notes.new.completions }
+        ensures spends_others { notes.old.others ≤ notes.new.others }
+    {
+        let completion = self.slots[self.head as usize % self.slots.len()];
+        note_word(notes, Place::CompletionHead, self.head);
+        self.head = self.head.wrapping_add(1);
+        completion
+    }
+}

@@ -1,0 +1,20 @@
+//! The submission ring and the completion ring: free-running words, and lists of what waits
+//! between them (io_uring(7)).
+#![tactic(auto)]
+
+pub mod com_ring;
+pub mod flag;
+mod noting;
+pub mod refusal;
+mod size;
+pub mod sub_ring;
+pub mod taken;
+
+pub use com_ring::ComRing;
+pub use flag::RingFlag;
+pub use refusal::RingRefusal;
+pub use sub_ring::SubRing;
+pub use taken::Taken;
+
+#[cfg(test)]
+mod tests;

@@ -1,0 +1,9 @@
+//! Why a ring can't be made.
+
+/// Why a ring can't be made.
+#[derive(Clone, Copy, Debug, PartialEq, Eq)]
+pub enum RingRefusal {
+    /// No entries, or more than a ring can have.
+    Size = 1,
+    Memory = 2,
+}

@@ -1,0 +1,14 @@
+//! Sizes of rings (io_uring_setup(2)).
+ghost use Rattle.std.specs.Prelude.{◌≡◌, ◌<◌, ◌≤◌};
+ghost use Rattle.std.specs.Int.{IsNextPowerOfTwo};
+ghost use Rattle.ring_words.specs.Rings.{rounded};
+
+/// The least power of two that is not below the number of entries.
+pub(crate) fn size_for(entries: u32) -> usize
+    requires some { 0 < entries }
+    requires most { entries ≤ 8192 }
+    ensures value { result ≡ rounded entries }
+    ensures power { IsNextPowerOfTwo entries result }
+{
+    entries.next_power_of_two() as usize
+}

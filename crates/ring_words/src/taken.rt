@@ -1,0 +1,10 @@
+//! What taking a word of the submission ring comes to.
+
+/// What the taken word names.
+#[derive(Clone, Copy, Debug, PartialEq, Eq)]
+pub enum Taken {
+    /// An entry slot.
+    Entry(u32),
+    /// No slot: the word is skipped.
+    Dropped,
+}
