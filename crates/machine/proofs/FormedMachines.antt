@@ -1,0 +1,243 @@
+-- What each change of the machine keeps.
+use Rattle.std.proofs.Common.{◌≡◌, ◌≢◌, ℕ, ℤ, zero, suc, pos, Bool, true, false, cond, refl, sym, ◌∙◌, ap, subst, List, [], ◌∷◌, ◌++◌, length, take, ◌+◌, ◌-◌, ◌%◌, ◌<◌, ◌≤◌, ◌^◌, ◌⊎◌, inl, inr, append_assoc, length-append, length-take, length-set, arith}
+use Rattle.std.specs.Prelude.{Option, Some, None, slice_get, slice_set, not}
+use Rattle.std.specs.List.{list_any}
+use Rattle.entries.specs.declared.completion.Cqe.{Cqe}
+use Rattle.entries.specs.declared.entry.Sqe.{Sqe}
+use Rattle.entries.specs.declared.row.Row.{Row}
+use Rattle.entries.specs.declared.row.Phase.{Phase}
+use Rattle.entries.specs.declared.row.Phase.TheVariants.{Queued, Issued, Ended}
+use Rattle.places.specs.Lists.{updated}
+use Rattle.places.proofs.ListLemmas.{length-updated}
+use Rattle.ring_words.specs.Rings.{SubWords, SubFormed, ComWords, ComFormed, waiting, sub_list}
+use Rattle.ring_words.proofs.Laws.{formed_pushed, formed_taken, formed_entry, formed_posted, formed_reaped, sub_length}
+use Rattle.ring_words.proofs.Order.{waiting_less, waiting_more, waiting_behind}
+use Rattle.ring_words.proofs.Sizes.{size_most}
+use Rattle.links_drains.specs.Batches.{rows_of}
+use Rattle.links_drains.specs.Rows.{new_row}
+use Rattle.links_drains.specs.Phases.{is_ended, is_unfinished, counts, counted_of}
+use Rattle.links_drains.proofs.Batching.{length-rows_of, rows_of-more}
+use Rattle.links_drains.proofs.Counting.{counted-append, counted-ended, counted-issued}
+use Rattle.links_drains.proofs.RowsKept.{get-pushed, length-push}
+use Rattle.machine.specs.Submission.{offered, some_fails, passes_at, batch_of, entries_at, taken_words, taken_entries, einval}
+use Rattle.machine.specs.Steps.{ended, posted, completion_of, count_of, taken_by, taken, submitted}
+use Rattle.machine.specs.Threads.{ThreadState}
+use Rattle.machine.specs.Whole.{WellFormed, Stands}
+use Rattle.machine.specs.declared.whole.Machine.{Machine}
+use Rattle.machine.proofs.FormedRows.{AllNops, LastFails, NopRows, all_pass, one_fails, length-batch_of, length-entries_at, counted-rows_of, nop_rows_of, nop_rows-append, updated-last}
+use Rattle.machine.proofs.FormedThreads.{updated_get}
+
+-- What holds of a well formed machine, but for the opcodes of its rows.
+pub record Mostly (m : Machine) : Type 0 where
+  pub submissions : SubFormed m.submissions
+  pub completions : ComFormed m.completions
+  pub entries_wait : waiting m.submissions.head m.submissions.tail ≤ length m.submissions.array
+  pub completions_wait : waiting m.completions.head m.completions.tail ≤ length m.completions.slots
+  pub flags : m.submissions.flags ≡ 0
+  pub rows : length m.table ≤ 65536
+  pub counted : m.counted ≡ counted_of m.table
+  pub clock : m.clock < 2 ^ 64
+  pub threads : (t : ℕ) (x : ThreadState) → slice_get m.threads t ≡ Some x → Stands (length m.submissions.slots) x
+
+pub mostly : (m : Machine) → WellFormed m → Mostly m
+mostly m h = record { submissions = h.submissions; completions = h.completions; entries_wait = h.entries_wait; completions_wait = h.completions_wait; flags = h.flags; rows = h.rows; counted = h.counted; clock = h.clock; threads = h.threads }
+
+pub formed_of : (m : Machine) → Mostly m → NopRows m.table → WellFormed m
+formed_of m h k = record { submissions = h.submissions; completions = h.completions; entries_wait = h.entries_wait; completions_wait = h.completions_wait; flags = h.flags; rows = h.rows; opcodes = k.each; counted = h.counted; clock = h.clock; threads = h.threads }
+
+-- ---- a row ends
+
+pub posted_waits : (w : ComWords) (c : Cqe) → ComFormed w → waiting w.head w.tail < length w.slots → waiting w.head ((w.tail + 1) % 2 ^ 32) ≤ length (slice_set w.slots (w.tail % length w.slots) c)
+posted_waits w c f l =
+    let a = waiting_more w.head w.tail (length w.slots) f.head f.tail (size_most 8192 (length w.slots) (omega arith) f.size) l in
+    let b = length-set w.slots (w.tail % length w.slots) c in
+    rw (b, a) (omega (arith, l))
+
+count_one : (n : ℕ) (b : Bool) → cond b (n + 1) n ≡ n + cond b 1 0
+count_one n true = refl
+count_one n false = omega arith
+
+pub mostly_ended : (m : Machine) (r : ℕ) (x : Row) (res : ℤ) → Mostly m → slice_get m.table r ≡ Some x → is_ended x.phase ≡ false → waiting m.completions.head m.completions.tail < length m.completions.slots → Mostly (ended m r res)
+mostly_ended m r x res h e u l =
+    rw e (record {
+      submissions = h.submissions;
+      completions = formed_posted m.completions (record { user_data = x.entry.user_data; res = res; flags = 0 }) h.completions;
+      entries_wait = h.entries_wait;
+      completions_wait = posted_waits m.completions (record { user_data = x.entry.user_data; res = res; flags = 0 }) h.completions l;
+      flags = h.flags;
+      rows = let a = length-updated (λ (row : Row). record row { phase = Ended res }) m.table r in let b = h.rows in omega (arith, a, b);
+      counted = ap (λ n. n + cond (counts x) 1 0) h.counted ∙ sym (count_one (counted_of m.table) (counts x)) ∙ sym (counted-ended m.table r x res e u);
+      clock = h.clock;
+      threads = h.threads;
+    })
+
+-- an ended row and the others
+pub nop_rows-ended : (rows : List Row) (r : ℕ) (res : ℤ) → NopRows rows → NopRows (updated (λ (row : Row). record row { phase = Ended res }) rows r)
+nop_rows-ended rows r res h = record { each = λ j y e u. by j y u (updated_get (λ (row : Row). record row { phase = Ended res }) rows r j y e) }
+  where
+    by : (j : ℕ) (y : Row) → is_unfinished y.phase ≡ true → (slice_get rows j ≡ Some y) ⊎ ((z : Row) × (r ≡ j) × (slice_get rows j ≡ Some z) × (y ≡ record z { phase = Ended res })) → y.entry.opcode ≡ 0
+    by j y u (inl k) = h.each j y k u
+    by j y u (inr k) = absurd (let o = ap (λ (z : Row). is_unfinished z.phase) (sym k.3) ∙ u in cc)
+
+pub formed_ended : (m : Machine) (r : ℕ) (x : Row) (res : ℤ) → WellFormed m → slice_get m.table r ≡ Some x → is_ended x.phase ≡ false → waiting m.completions.head m.completions.tail < length m.completions.slots → WellFormed (ended m r res)
+formed_ended m r x res h e u l = formed_of (ended m r res) (mostly_ended m r x res (mostly m h) e u l) (nop_rows-ended m.table r res (record { each = h.opcodes }))
+
+-- ---- a row is issued
+
+pub nop_rows-issued : (rows : List Row) (r : ℕ) (x : Row) → slice_get rows r ≡ Some x → is_ended x.phase ≡ false → NopRows rows → NopRows (updated (λ (row : Row). record row { phase = Issued }) rows r)
+nop_rows-issued rows r x g q h = record { each = λ j y e u. by j y u (updated_get (λ (row : Row). record row { phase = Issued }) rows r j y e) }
+  where
+    by : (j : ℕ) (y : Row) → is_unfinished y.phase ≡ true → (slice_get rows j ≡ Some y) ⊎ ((z : Row) × (r ≡ j) × (slice_get rows j ≡ Some z) × (y ≡ record z { phase = Issued })) → y.entry.opcode ≡ 0
+    by j y u (inl k) = h.each j y k u
+    by j y u (inr k) =
+        let same : x ≡ k.0 = let o = sym g ∙ ap (slice_get rows) k.1 ∙ k.2 in cc in
+        let open_still : is_unfinished k.0.phase ≡ true = ap (λ (z : Row). is_unfinished z.phase) (sym same) ∙ ap not q in
+        ap (λ (z : Row). z.entry.opcode) k.3 ∙ h.each j k.0 k.2 open_still
+
+pub formed_issued : (m : Machine) (r : ℕ) (x : Row) → WellFormed m → slice_get m.table r ≡ Some x → is_ended x.phase ≡ false → WellFormed (record m { table = updated (λ row. record row { phase = Issued }) m.table r })
+formed_issued m r x h e q = record {
+  submissions = h.submissions;
+  completions = h.completions;
+  entries_wait = h.entries_wait;
+  completions_wait = h.completions_wait;
+  flags = h.flags;
+  rows = let a = length-updated (λ (row : Row). record row { phase = Issued }) m.table r in let b = h.rows in omega (arith, a, b);
+  opcodes = (nop_rows-issued m.table r x e q (record { each = h.opcodes })).each;
+  counted = h.counted ∙ sym (counted-issued m.table r x e q);
+  clock = h.clock;
+  threads = h.threads;
+}
+
+-- ---- a submission
+
+pub length-offered : (w : SubWords) (k : ℕ) → SubFormed w → length (offered w k) ≤ waiting w.head w.tail
+length-offered w k f = let a = length-take k (sub_list w) in let b = sub_length w f in omega (arith, a, b)
+
+pub length-taken_words : (w : SubWords) (k : ℕ) → length (taken_words w k) ≤ length (offered w k)
+length-taken_words w k = length-batch_of w.slots (offered w k)
+
+pub length-taken_entries : (w : SubWords) (k : ℕ) → length (taken_entries w k) ≤ length (offered w k)
+length-taken_entries w k =
+    let a = length-entries_at w.slots (taken_words w k) in
+    let b = length-taken_words w k in
+    omega (arith, a, b)
+
+pub waits_behind : (h t k n : ℕ) → h < 2 ^ 32 → t < 2 ^ 32 → k ≤ waiting h t → waiting h t ≤ n → waiting ((h + k) % 2 ^ 32) t ≤ n
+waits_behind h t k n a b c d = let e = waiting_behind h t k a b c in omega (arith, e, d)
+
+pub below_wrap : (n : ℕ) → n % 2 ^ 32 < 2 ^ 32
+below_wrap n = omega arith
+
+pub mostly_taken : (m : Machine) (k : ℕ) → Mostly m → length m.table + length (offered m.submissions k) ≤ 65536 → Mostly (taken m k)
+mostly_taken m k h l = record {
+  submissions = formed_taken m.submissions _ _ h.submissions (below_wrap _) (below_wrap _);
+  completions = h.completions;
+  entries_wait = waits_behind m.submissions.head m.submissions.tail (length (taken_words m.submissions k)) (length m.submissions.array) h.submissions.head h.submissions.tail (within (length-taken_words m.submissions k) (length-offered m.submissions k h.submissions)) h.entries_wait;
+  completions_wait = h.completions_wait;
+  flags = h.flags;
+  rows = count (length-append m.table (rows_of (length m.table) (taken_entries m.submissions k))) (length-rows_of (length m.table) (taken_entries m.submissions k)) (length-taken_entries m.submissions k);
+  counted = h.counted ∙ more (counted-append m.table (rows_of (length m.table) (taken_entries m.submissions k))) (counted-rows_of (length m.table) (taken_entries m.submissions k));
+  clock = h.clock;
+  threads = h.threads;
+}
+  where
+    within : {a b c : ℕ} → a ≤ b → b ≤ c → a ≤ c
+    within x y = omega arith
+
+    count : {a b c : ℕ} → a ≡ length m.table + b → b ≡ c → c ≤ length (offered m.submissions k) → a ≤ 65536
+    count x y z = omega (arith, x, y, z, l)
+
+    more : {a b c : ℕ} → a ≡ b + c → c ≡ 0 → b ≡ a
+    more x y = omega arith
+
+-- where no entry fails
+pub formed_taken_all : (m : Machine) (k : ℕ) → WellFormed m → length m.table + length (offered m.submissions k) ≤ 65536 → some_fails m.submissions k ≡ false → WellFormed (taken m k)
+formed_taken_all m k h l e =
+    formed_of (taken m k) (mostly_taken m k (mostly m h) l)
+    (nop_rows-append m.table (rows_of (length m.table) (taken_entries m.submissions k)) (record { each = h.opcodes }) (nop_rows_of (length m.table) (taken_entries m.submissions k) (all_pass m.submissions.slots (offered m.submissions k) e)))
+
+-- where one does, it is the last row
+pub table_last : (m : Machine) (k : ℕ) (f : LastFails (taken_entries m.submissions k)) → (taken m k).table ≡ (m.table ++ rows_of (length m.table) f.before) ++ new_row f.last (length m.table + length f.before) ∷ []
+table_last m k f =
+    ap (λ es. m.table ++ rows_of (length m.table) es) f.is
+    ∙ ap (λ rs. m.table ++ rs) (rows_of-more (length m.table) f.before f.last)
+    ∙ sym (append_assoc m.table (rows_of (length m.table) f.before) (new_row f.last (length m.table + length f.before) ∷ []))
+
+last_row : (rows : List Row) (others : List Row) (x : Row) → rows ≡ others ++ x ∷ [] → slice_get rows (length rows - 1) ≡ Some x
+last_row rows others x e =
+    let n : length rows - 1 ≡ length others = let a = ap length e in let b = length-push others x in omega (arith, a, b) in
+    ap (slice_get rows) n ∙ ap (λ rs. slice_get rs (length others)) e ∙ get-pushed others x
+
+last_ended : (rows : List Row) (others : List Row) (x : Row) (res : ℤ) → rows ≡ others ++ x ∷ [] → NopRows others → NopRows (updated (λ (row : Row). record row { phase = Ended res }) rows (length rows - 1))
+last_ended rows others x res e h =
+    let n : length rows - 1 ≡ length others = let a = ap length e in let b = length-push others x in omega (arith, a, b) in
+    let f : Row → Row = λ (row : Row). record row { phase = Ended res } in
+    let s : updated f rows (length rows - 1) ≡ others ++ f x ∷ [] = ap (updated f rows) n ∙ ap (λ rs. updated f rs (length others)) e ∙ updated-last f others x in
+    subst NopRows (sym s) (nop_rows-append others (f x ∷ []) h (record { each = one }))
+  where
+    one : (r : ℕ) (y : Row) → slice_get (record x { phase = Ended res } ∷ []) r ≡ Some y → is_unfinished y.phase ≡ true → y.entry.opcode ≡ 0
+    one zero y g u = absurd (let o = let same : record x { phase = Ended res } ≡ y = cc in ap (λ (z : Row). is_unfinished z.phase) same ∙ u in cc)
+    one (suc r) y g u = absurd cc
+
+pub formed_taken_last : (m : Machine) (k : ℕ) → WellFormed m → length m.table + length (offered m.submissions k) ≤ 65536 → waiting m.completions.head m.completions.tail < length m.completions.slots → some_fails m.submissions k ≡ true
+    → WellFormed (ended (taken m k) (length (taken m k).table - 1) einval)
+formed_taken_last m k h l r e =
+    let f : LastFails (taken_entries m.submissions k) = one_fails m.submissions.slots (offered m.submissions k) e in
+    let others : List Row = m.table ++ rows_of (length m.table) f.before in
+    let x : Row = new_row f.last (length m.table + length f.before) in
+    let t = table_last m k f in
+    formed_of (ended (taken m k) (length (taken m k).table - 1) einval)
+    (mostly_ended (taken m k) (length (taken m k).table - 1) x einval (mostly_taken m k (mostly m h) l) (last_row (taken m k).table others x t) refl r)
+    (last_ended (taken m k).table others x einval t (nop_rows-append m.table (rows_of (length m.table) f.before) (record { each = h.opcodes }) (nop_rows_of (length m.table) f.before f.nops)))
+
+-- ---- words of the rings
+
+pub formed_put : (m : Machine) (slot : ℕ) (entry : Sqe) → WellFormed m → WellFormed (record m { submissions = record m.submissions { slots = slice_set m.submissions.slots slot entry } })
+formed_put m slot entry h = record {
+  submissions = formed_entry m.submissions slot entry h.submissions;
+  completions = h.completions;
+  entries_wait = h.entries_wait;
+  completions_wait = h.completions_wait;
+  flags = h.flags;
+  rows = h.rows;
+  opcodes = h.opcodes;
+  counted = h.counted;
+  clock = h.clock;
+  threads = λ t x e. subst (λ n. Stands n x) (sym (length-set m.submissions.slots slot entry)) (h.threads t x e);
+}
+
+pub formed_push : (m : Machine) (x : ℕ) → WellFormed m → x < 2 ^ 32 → waiting m.submissions.head m.submissions.tail < length m.submissions.array
+    → WellFormed (record m { submissions = record m.submissions { tail = (m.submissions.tail + 1) % 2 ^ 32; array = slice_set m.submissions.array (m.submissions.tail % length m.submissions.array) x } })
+formed_push m x h b l = record {
+  submissions = formed_pushed m.submissions x h.submissions b;
+  completions = h.completions;
+  entries_wait =
+      let most = size_most 4096 (length m.submissions.array) (omega arith) h.submissions.size in
+      let a = waiting_more m.submissions.head m.submissions.tail (length m.submissions.array) h.submissions.head h.submissions.tail (omega (arith, most)) l in
+      let n = length-set m.submissions.array (m.submissions.tail % length m.submissions.array) x in
+      rw (n, a) (omega (arith, l));
+  completions_wait = h.completions_wait;
+  flags = h.flags;
+  rows = h.rows;
+  opcodes = h.opcodes;
+  counted = h.counted;
+  clock = h.clock;
+  threads = h.threads;
+}
+
+pub formed_taken_out : (m : Machine) → WellFormed m → 0 < waiting m.completions.head m.completions.tail → WellFormed (record m { completions = record m.completions { head = (m.completions.head + 1) % 2 ^ 32 } })
+formed_taken_out m h l = record {
+  submissions = h.submissions;
+  completions = formed_reaped m.completions h.completions;
+  entries_wait = h.entries_wait;
+  completions_wait =
+      let a = waiting_less m.completions.head m.completions.tail h.completions.head h.completions.tail l in
+      let b = h.completions_wait in
+      omega (arith, a, b);
+  flags = h.flags;
+  rows = h.rows;
+  opcodes = h.opcodes;
+  counted = h.counted;
+  clock = h.clock;
+  threads = h.threads;
+}

@@ -1,0 +1,63 @@
+-- Threads that go on stand within their programs, and setups stay.
+use Rattle.std.proofs.Common.{◌≡◌, ◌≢◌, ℕ, ℤ, zero, suc, pos, negsuc, refl, sym, ◌∙◌, ap, subst, List, [], ◌∷◌, length, map, ◌+◌, ◌<◌, ◌≤◌, ◌⊎◌, inl, inr, arith, FitsSigned}
+use Rattle.std.specs.Prelude.{Option, Some, None, slice_get}
+use Rattle.std.specs.Int.{w64}
+use Rattle.std.proofs.lemmas.Option.{slice_get_within}
+use Rattle.entries.specs.declared.completion.Cqe.{Cqe}
+use Rattle.places.specs.Lists.{updated}
+use Rattle.machine.specs.Threads.{ThreadState}
+use Rattle.machine.specs.Whole.{WellFormed, Stands}
+use Rattle.machine.specs.declared.setup.Instruction.{Instruction}
+use Rattle.machine.specs.declared.whole.Machine.{Machine}
+
+-- an element of a changed list
+pub updated_get : {X : Type 0} (f : X → X) (xs : List X) (i j : ℕ) (y : X) → slice_get (updated f xs i) j ≡ Some y → (slice_get xs j ≡ Some y) ⊎ ((x : X) × (i ≡ j) × (slice_get xs j ≡ Some x) × (y ≡ f x))
+updated_get f [] i j y h = absurd cc
+updated_get f (x ∷ xs) zero zero y h = inr (x, refl, refl, cc)
+updated_get f (x ∷ xs) zero (suc j) y h = inl h
+updated_get f (x ∷ xs) (suc i) zero y h = inl h
+updated_get f (x ∷ xs) (suc i) (suc j) y h = elim (updated_get f xs i j y h) [ inl k ↦ inl k | inr k ↦ inr (k.0, ap suc k.1, k.2, k.3) ]
+
+-- a field that no change reaches
+pub map_updated : {X V : Type 0} (g : X → V) (f : X → X) (xs : List X) (i : ℕ) → ((x : X) → g (f x) ≡ g x) → map g xs ≡ map g (updated f xs i)
+map_updated g f [] i h = refl
+map_updated g f (x ∷ xs) zero h = ap (λ v. v ∷ map g xs) (sym (h x))
+map_updated g f (x ∷ xs) (suc i) h = ap (λ vs. g x ∷ vs) (map_updated g f xs i h)
+
+-- an answer fits
+pub fits_count : (n : ℕ) → n ≤ 65536 → FitsSigned w64 (pos n)
+fits_count n h = omega arith
+
+-- a thread that has an instruction goes on
+pub stands_on : (size : ℕ) (x : ThreadState) (i : Instruction) (n : ℤ) (got : Option Cqe) → Stands size x → slice_get x.program x.counter ≡ Some i → FitsSigned w64 n → Stands size (record x { counter = x.counter + 1; last = n; got = got })
+stands_on size x i n got s h l = record {
+  within = let k = slice_get_within x.program x.counter i h in omega (arith, k);
+  program = s.program;
+  last = l;
+  stage = s.stage;
+}
+
+-- one thread changes
+pub stands_updated : (size : ℕ) (ts : List ThreadState) (f : ThreadState → ThreadState) (t : ℕ) (x : ThreadState) → ((j : ℕ) (y : ThreadState) → slice_get ts j ≡ Some y → Stands size y) → slice_get ts t ≡ Some x → Stands size (f x)
+    → (j : ℕ) (y : ThreadState) → slice_get (updated f ts t) j ≡ Some y → Stands size y
+stands_updated size ts f t x h e s j y g = by (updated_get f ts t j y g)
+  where
+    by : (slice_get ts j ≡ Some y) ⊎ ((z : ThreadState) × (t ≡ j) × (slice_get ts j ≡ Some z) × (y ≡ f z)) → Stands size y
+    by (inl k) = h j y k
+    by (inr k) =
+        let same : x ≡ k.0 = let o = sym e ∙ ap (slice_get ts) k.1 ∙ k.2 in cc in
+        subst (Stands size) (ap f same ∙ sym k.3) s
+
+pub formed_thread : (m : Machine) (f : ThreadState → ThreadState) (t : ℕ) (x : ThreadState) → WellFormed m → slice_get m.threads t ≡ Some x → Stands (length m.submissions.slots) (f x) → WellFormed (record m { threads = updated f m.threads t })
+formed_thread m f t x h e s = record {
+  submissions = h.submissions;
+  completions = h.completions;
+  entries_wait = h.entries_wait;
+  completions_wait = h.completions_wait;
+  flags = h.flags;
+  rows = h.rows;
+  opcodes = h.opcodes;
+  counted = h.counted;
+  clock = h.clock;
+  threads = stands_updated (length m.submissions.slots) m.threads f t x h.threads e s;
+}

@@ -1,0 +1,32 @@
+-- What well-formedness says of a thread's next instruction.
+use Rattle.std.proofs.Common.{◌≡◌, ℕ, refl, sym, ◌∙◌, ap, subst, List, length, ◌+◌, ◌<◌, ◌^◌, arith}
+use Rattle.std.specs.Prelude.{Option, Some, None, slice_get}
+use Rattle.std.proofs.lemmas.Option.{slice_get_within}
+use Rattle.entries.specs.declared.entry.Sqe.{Sqe}
+use Rattle.machine.specs.Programs.{IsDone}
+use Rattle.machine.specs.Threads.{ThreadState}
+use Rattle.machine.specs.Steps.{next_of}
+use Rattle.machine.specs.Whole.{WellFormed}
+use Rattle.machine.specs.declared.setup.Instruction.{Instruction}
+use Rattle.machine.specs.declared.whole.Machine.{Machine}
+
+-- the thread whose instruction comes next
+pub thread_of : (m : Machine) (t : ℕ) (i : Instruction) → next_of (slice_get m.threads t) ≡ Some i → (x : ThreadState) × (slice_get m.threads t ≡ Some x) × (slice_get x.program x.counter ≡ Some i)
+thread_of m t i h = by (slice_get m.threads t) refl h
+  where
+    by : (o : Option ThreadState) → slice_get m.threads t ≡ o → next_of o ≡ Some i → (x : ThreadState) × (slice_get m.threads t ≡ Some x) × (slice_get x.program x.counter ≡ Some i)
+    by None e k = absurd cc
+    by (Some x) e k = (x, e, k)
+
+pub thread_there : (m : Machine) (t : ℕ) (i : Instruction) → next_of (slice_get m.threads t) ≡ Some i → t < length m.threads
+thread_there m t i h = let x = thread_of m t i h in slice_get_within m.threads t x.0 x.1
+
+pub goes_on : (m : Machine) (t : ℕ) → WellFormed m → (x : ThreadState) → slice_get m.threads t ≡ Some x → x.counter + 1 < 2 ^ 32
+goes_on m t f x h = let s = f.threads t x h in omega (arith, s.within, s.program.short)
+
+pub is_done : (m : Machine) (t : ℕ) (i : Instruction) → WellFormed m → next_of (slice_get m.threads t) ≡ Some i → IsDone (length m.submissions.slots) i
+is_done m t i f h = let x = thread_of m t i h in (f.threads t x.0 x.1).program.done x.0.counter i x.2
+
+-- what comes next, told by what was read
+pub comes_next : (m : Machine) (t : ℕ) (x : ThreadState) (i : Instruction) → Some x ≡ slice_get m.threads t → Some i ≡ slice_get x.program x.counter → next_of (slice_get m.threads t) ≡ Some i
+comes_next m t x i h k = ap next_of (sym h) ∙ sym k

@@ -1,0 +1,15 @@
+pub mod ThreadLemmas
+pub mod Lifting
+pub mod Staying
+pub mod PuttingBack
+pub mod Restored
+pub mod TakingWords
+pub mod SubmissionLemmas
+pub mod InstructionLemmas
+pub mod FormedRows
+pub mod FormedThreads
+pub mod FormedMachines
+pub mod Formed
+pub mod Linking
+pub mod StartLemmas
+pub mod Numbers

@@ -1,0 +1,139 @@
+-- What a part keeps, the whole machine keeps.
+use Rattle.std.proofs.Common.{◌≡◌, ℕ, Bool, true, false, refl, sym, ◌∙◌, ap, List}
+use Rattle.std.specs.Prelude.{Option, Some, None, unwrap_or, if◌then◌else◌}
+use Rattle.entries.specs.declared.row.Row.{Row}
+use Rattle.places.specs.declared.place.Place.{Place}
+use Rattle.places.specs.declared.place.Place.TheVariants.{SubmissionHead, SubmissionTail, SubmissionFlags, SubmissionDropped, CompletionHead, CompletionTail, Array, Slot, Completion, Request, Clock, Counted, ProgramCounter, ThreadStage, Last, Got}
+use Rattle.places.specs.declared.value.Value.{Value}
+use Rattle.places.specs.declared.value.Value.TheVariants.{Number}
+use Rattle.places.specs.declared.value.Change.{Change}
+use Rattle.places.specs.Places.{same_place}
+use Rattle.places.specs.View.{View, named, undo, put_at, Keeps, Noted}
+use Rattle.places.proofs.SamePlace.{same_place_is}
+use Rattle.places.proofs.Keeping.{keeps_noted}
+use Rattle.ring_words.specs.Rings.{SubWords, sub_owns, sub_seen, sub_can_put, ComWords, com_owns, com_seen, com_can_put}
+use Rattle.links_drains.specs.Rows.{table_owns, table_seen, table_can_put}
+use Rattle.machine.specs.Threads.{ThreadState, threads_owns, threads_seen, threads_can_put}
+use Rattle.machine.specs.Whole.{view, everywhere, can_put}
+use Rattle.machine.specs.declared.whole.Machine.{Machine}
+
+pub keeps_whole : (u v : View) (cs ds : List Change) → ((p : Place) → undo v ds p ≡ undo u cs p) → Keeps everywhere u v cs ds
+keeps_whole u v cs ds h = record { back = λ p _. h p; others = λ p o. absurd cc }
+
+pub lift_submissions : (m : Machine) (w : SubWords) (cs ds : List Change) → Keeps sub_owns (sub_seen m.submissions) (sub_seen w) cs ds → Keeps everywhere (view m) (view (record m { submissions = w })) cs ds
+lift_submissions m w cs ds h = keeps_whole _ _ _ _ at
+  where
+    at : (p : Place) → undo (view (record m { submissions = w })) ds p ≡ undo (view m) cs p
+    at SubmissionHead = h.back SubmissionHead refl
+    at SubmissionTail = h.back SubmissionTail refl
+    at SubmissionFlags = h.back SubmissionFlags refl
+    at SubmissionDropped = h.back SubmissionDropped refl
+    at (Array i) = h.back (Array i) refl
+    at (Slot i) = h.back (Slot i) refl
+    at p = ap (λ n. unwrap_or n (view m p)) (h.others p refl)
+
+pub lift_completions : (m : Machine) (w : ComWords) (cs ds : List Change) → Keeps com_owns (com_seen m.completions) (com_seen w) cs ds → Keeps everywhere (view m) (view (record m { completions = w })) cs ds
+lift_completions m w cs ds h = keeps_whole _ _ _ _ at
+  where
+    at : (p : Place) → undo (view (record m { completions = w })) ds p ≡ undo (view m) cs p
+    at CompletionHead = h.back CompletionHead refl
+    at CompletionTail = h.back CompletionTail refl
+    at (Completion i) = h.back (Completion i) refl
+    at p = ap (λ n. unwrap_or n (view m p)) (h.others p refl)
+
+pub lift_table : (m : Machine) (w : List Row) (cs ds : List Change) → Keeps table_owns (table_seen m.table) (table_seen w) cs ds → Keeps everywhere (view m) (view (record m { table = w })) cs ds
+lift_table m w cs ds h = keeps_whole _ _ _ _ at
+  where
+    at : (p : Place) → undo (view (record m { table = w })) ds p ≡ undo (view m) cs p
+    at (Request i) = h.back (Request i) refl
+    at p = ap (λ n. unwrap_or n (view m p)) (h.others p refl)
+
+pub lift_threads : (m : Machine) (w : List ThreadState) (cs ds : List Change) → Keeps threads_owns (threads_seen m.threads) (threads_seen w) cs ds → Keeps everywhere (view m) (view (record m { threads = w })) cs ds
+lift_threads m w cs ds h = keeps_whole _ _ _ _ at
+  where
+    at : (p : Place) → undo (view (record m { threads = w })) ds p ≡ undo (view m) cs p
+    at (ProgramCounter t) = h.back (ProgramCounter t) refl
+    at (ThreadStage t) = h.back (ThreadStage t) refl
+    at (Last t) = h.back (Last t) refl
+    at (Got t) = h.back (Got t) refl
+    at p = ap (λ n. unwrap_or n (view m p)) (h.others p refl)
+
+-- ---- what a write shows
+
+pub seen_clock : (m : Machine) (n : ℕ) (q : Place) → view (record m { clock = n }) q ≡ put_at (view m) Clock (Some (Number n)) q
+unfolding same_place
+seen_clock m n Clock = refl
+seen_clock m n _ = refl
+
+pub seen_counted : (m : Machine) (n : ℕ) (q : Place) → view (record m { counted = n }) q ≡ put_at (view m) Counted (Some (Number n)) q
+unfolding same_place
+seen_counted m n Counted = refl
+seen_counted m n _ = refl
+
+pub keeps_clock : (m : Machine) (n : ℕ) (cs ds : List Change) → Noted cs ds Clock (Some (Number m.clock)) → Keeps everywhere (view m) (view (record m { clock = n })) cs ds
+keeps_clock m n cs ds h = keeps_noted everywhere (view m) (view (record m { clock = n })) cs ds Clock (Some (Number n)) refl h (seen_clock m n)
+
+pub keeps_counted : (m : Machine) (n : ℕ) (cs ds : List Change) → Noted cs ds Counted (Some (Number m.counted)) → Keeps everywhere (view m) (view (record m { counted = n })) cs ds
+keeps_counted m n cs ds h = keeps_noted everywhere (view m) (view (record m { counted = n })) cs ds Counted (Some (Number n)) refl h (seen_counted m n)
+
+-- a place that a part owns is none of another's
+apart : {X : Type 0} (owns : Place → Bool) (p q : Place) (v x : X) → owns p ≡ true → owns q ≡ false → x ≡ (if same_place p q then v else x)
+apart {X} owns p q v x h k = by (same_place p q) refl
+  where
+    by : (b : Bool) → same_place p q ≡ b → x ≡ (if b then v else x)
+    by true e = let o = ap owns (same_place_is p q e) in absurd cc
+    by false e = refl
+
+pub seen_submissions : (m : Machine) (w : SubWords) (p : Place) (v : Option Value) → sub_owns p ≡ true → ((q : Place) → sub_seen w q ≡ put_at (sub_seen m.submissions) p v q) → (q : Place) → view (record m { submissions = w }) q ≡ put_at (view m) p v q
+seen_submissions m w p v o h SubmissionHead = h SubmissionHead
+seen_submissions m w p v o h SubmissionTail = h SubmissionTail
+seen_submissions m w p v o h SubmissionFlags = h SubmissionFlags
+seen_submissions m w p v o h SubmissionDropped = h SubmissionDropped
+seen_submissions m w p v o h (Array i) = h (Array i)
+seen_submissions m w p v o h (Slot i) = h (Slot i)
+seen_submissions m w p v o h q = apart sub_owns p q v (view m q) o refl
+
+pub seen_completions : (m : Machine) (w : ComWords) (p : Place) (v : Option Value) → com_owns p ≡ true → ((q : Place) → com_seen w q ≡ put_at (com_seen m.completions) p v q) → (q : Place) → view (record m { completions = w }) q ≡ put_at (view m) p v q
+seen_completions m w p v o h CompletionHead = h CompletionHead
+seen_completions m w p v o h CompletionTail = h CompletionTail
+seen_completions m w p v o h (Completion i) = h (Completion i)
+seen_completions m w p v o h q = apart com_owns p q v (view m q) o refl
+
+pub seen_table : (m : Machine) (w : List Row) (p : Place) (v : Option Value) → table_owns p ≡ true → ((q : Place) → table_seen w q ≡ put_at (table_seen m.table) p v q) → (q : Place) → view (record m { table = w }) q ≡ put_at (view m) p v q
+seen_table m w p v o h (Request i) = h (Request i)
+seen_table m w p v o h q = apart table_owns p q v (view m q) o refl
+
+pub seen_threads : (m : Machine) (w : List ThreadState) (p : Place) (v : Option Value) → threads_owns p ≡ true → ((q : Place) → threads_seen w q ≡ put_at (threads_seen m.threads) p v q) → (q : Place) → view (record m { threads = w }) q ≡ put_at (view m) p v q
+seen_threads m w p v o h (ProgramCounter t) = h (ProgramCounter t)
+seen_threads m w p v o h (ThreadStage t) = h (ThreadStage t)
+seen_threads m w p v o h (Last t) = h (Last t)
+seen_threads m w p v o h (Got t) = h (Got t)
+seen_threads m w p v o h q = apart threads_owns p q v (view m q) o refl
+
+-- ---- what may be put into a part's place
+
+pub can_put_submissions : (m : Machine) (p : Place) (v : Option Value) → sub_owns p ≡ true → can_put m p v → sub_can_put m.submissions p v
+can_put_submissions m SubmissionHead v o h = h
+can_put_submissions m SubmissionTail v o h = h
+can_put_submissions m SubmissionFlags v o h = h
+can_put_submissions m SubmissionDropped v o h = h
+can_put_submissions m (Array i) v o h = h
+can_put_submissions m (Slot i) v o h = h
+can_put_submissions m p v o h = absurd cc
+
+pub can_put_completions : (m : Machine) (p : Place) (v : Option Value) → com_owns p ≡ true → can_put m p v → com_can_put m.completions p v
+can_put_completions m CompletionHead v o h = h
+can_put_completions m CompletionTail v o h = h
+can_put_completions m (Completion i) v o h = h
+can_put_completions m p v o h = absurd cc
+
+pub can_put_table : (m : Machine) (p : Place) (v : Option Value) → table_owns p ≡ true → can_put m p v → table_can_put m.table p v
+can_put_table m (Request i) v o h = h
+can_put_table m p v o h = absurd cc
+
+pub can_put_threads : (m : Machine) (p : Place) (v : Option Value) → threads_owns p ≡ true → can_put m p v → threads_can_put m.threads p v
+can_put_threads m (ProgramCounter t) v o h = h
+can_put_threads m (ThreadStage t) v o h = h
+can_put_threads m (Last t) v o h = h
+can_put_threads m (Got t) v o h = h
+can_put_threads m p v o h = absurd cc

@@ -1,0 +1,109 @@
+-- Links of a run, and going back over them.
+use Rattle.std.proofs.Common.{◌≡◌, ℕ, Bool, true, false, refl, sym, ◌∙◌, ap, subst, List, [], ◌∷◌, ◌++◌, length, take, ◌+◌, ◌≤◌, ◌<◌, arith}
+use Rattle.std.proofs.lemmas.List.{take_more}
+use Rattle.std.proofs.Math.Seq.{take-length}
+use Rattle.std.proofs.lemmas.Option.{slice_get_within, get_or_from_slice_get}
+use Rattle.std.specs.Prelude.{Option, Some, None, unwrap_or, slice_get}
+use Rattle.places.specs.declared.place.Place.{Place}
+use Rattle.places.specs.declared.value.Change.{Change}
+use Rattle.places.specs.View.{View, named, undo, undo_all, Keeps, LeadsBack}
+use Rattle.machine.specs.Whole.{view, everywhere, OneSetup, WellFormed, GoesBack}
+use Rattle.machine.specs.Steps.{refusal, after, Next}
+use Rattle.machine.specs.Runs.{Link, Linked}
+use Rattle.machine.specs.declared.whole.Machine.{Machine}
+use Rattle.machine.specs.declared.event.Event.{Event}
+use Rattle.machine.proofs.Formed.{setup_after, formed_after}
+
+-- a link goes back
+pub goes_back : (s : Machine) (e : Event) (r : List Change) (m : Machine) → Link s e r m → GoesBack s m r
+goes_back s e r m h =
+    let o = setup_after s e in
+    record {
+      formed = h.formed;
+      setup = subst (OneSetup s) (sym h.next.changed) o.0;
+      rows = subst (λ (n : Machine). length s.table ≤ length n.table) (sym h.next.changed) o.1;
+      back = h.back;
+    }
+
+-- notes from none
+pub back_from_keeps : (u v : View) (cs ds : List Change) → cs ≡ [] → Keeps everywhere u v cs ds → LeadsBack u v ds
+unfolding named
+back_from_keeps u v cs ds e h p = h.back p refl ∙ ap (λ xs. unwrap_or (named xs p) (u p)) e
+
+-- ---- a list of records
+
+undo_all-more : (v : View) (rs : List (List Change)) (r : List Change) → undo_all v (rs ++ r ∷ []) ≡ undo_all (undo v r) rs
+undo_all-more v [] r = refl
+undo_all-more v (x ∷ xs) r = ap (λ w. undo w x) (undo_all-more v xs r)
+
+undo_all_same : (v w : View) (rs : List (List Change)) → ((p : Place) → v p ≡ w p) → (p : Place) → undo_all v rs p ≡ undo_all w rs p
+undo_all_same v w [] h p = h p
+undo_all_same v w (r ∷ rs) h p = ap (unwrap_or (named r p)) (undo_all_same v w rs h p)
+
+-- the last link of a run
+pub record LastLink (s : Machine) (rs : List (List Change)) (r : List Change) (m : Machine) : Type 0 where
+  pub before : Machine
+  pub event : Event
+  pub events : List Event
+  pub linked : Linked s events rs before
+  pub link : Link before event r m
+
+pub last_link : (s : Machine) (es : List Event) (rs : List (List Change)) (r : List Change) (m : Machine) → Linked s es (rs ++ r ∷ []) m → LastLink s rs r m
+last_link s [] [] r m h = absurd h
+last_link s [] (x ∷ xs) r m h = absurd h
+last_link s (e ∷ []) [] r m h = record { before = s; event = e; events = []; linked = refl; link = subst (Link s e r) (sym h.2) h.1 }
+last_link s (e ∷ f ∷ es) [] r m h = absurd h.2
+last_link s (e ∷ es) (x ∷ xs) r m h =
+    let l = last_link h.0 es xs r m h.2 in
+    record { before = l.before; event = l.event; events = e ∷ l.events; linked = (h.0, h.1, l.linked); link = l.link }
+
+-- how far a run has been unwound
+pub record Unwinding (before : Machine) (rs : List (List Change)) (now : Machine) (i : ℕ) : Type 0 where
+  pub within : i ≤ length rs
+  pub linked : (s : Machine) (es : List Event) → Linked s es rs before → (fs : List Event) × Linked s fs (take i rs) now
+  pub undone : (p : Place) → undo_all (view now) (take i rs) p ≡ undo_all (view before) rs p
+
+pub unwinding_from : (m : Machine) (rs : List (List Change)) → Unwinding m rs m (length rs)
+unwinding_from m rs = record {
+  within = omega arith;
+  linked = λ s es h. (es, rw take-length h);
+  undone = λ p. rw take-length refl;
+}
+
+split_at_last : (rs : List (List Change)) (j : ℕ) (r : List Change) → slice_get rs j ≡ Some r → take (j + 1) rs ≡ take j rs ++ r ∷ []
+split_at_last rs j r h = take_more rs j r (slice_get_within rs j r h) ∙ ap (λ x. take j rs ++ x ∷ []) (get_or_from_slice_get rs j r r h)
+
+-- the link that leads to where the unwinding stands
+pub next_link : (s before now : Machine) (es : List Event) (rs : List (List Change)) (j : ℕ) (r : List Change) → slice_get rs j ≡ Some r → Linked s es rs before → Unwinding before rs now (j + 1) → LastLink s (take j rs) r now
+next_link s before now es rs j r h l u = let k = u.linked s es l in last_link s k.0 (take j rs) r now (subst (λ (xs : List (List Change)). Linked s k.0 xs now) (split_at_last rs j r h) k.1)
+
+pub unwinding_on : (before now next : Machine) (rs : List (List Change)) (j : ℕ) (r : List Change) → slice_get rs j ≡ Some r → ((s : Machine) (e : Event) → Link s e r now → next ≡ s) → ((p : Place) → view next p ≡ undo (view now) r p) → Unwinding before rs now (j + 1) → Unwinding before rs next j
+unwinding_on before now next rs j r h back undone u = record {
+  within = let w = slice_get_within rs j r h in omega arith;
+  linked = λ s es l. let k = next_link s before now es rs j r h l u in (k.events, subst (Linked s k.events (take j rs)) (sym (back k.before k.event k.link)) k.linked);
+  undone = λ p. undo_all_same (view next) (undo (view now) r) (take j rs) undone p ∙ ap (λ (w : View). w p) (sym (undo_all-more (view now) (take j rs) r)) ∙ ap (λ xs. undo_all (view now) xs p) (sym (split_at_last rs j r h)) ∙ u.undone p;
+}
+
+pub unwound : (s before now : Machine) (es : List Event) (rs : List (List Change)) → Linked s es rs before → Unwinding before rs now 0 → now ≡ s
+unwound s before now es rs l u = by (u.linked s es l)
+  where
+    by : ((fs : List Event) × Linked s fs [] now) → now ≡ s
+    by ([], h) = h
+    by (f ∷ fs, h) = absurd h
+
+-- undoing a run gives what its start shows
+pub undone_run : (s m : Machine) (es : List Event) (rs : List (List Change)) → Linked s es rs m → (p : Place) → undo_all (view m) rs p ≡ view s p
+undone_run s m [] [] h p = ap (λ (x : Machine). view x p) h
+undone_run s m [] (r ∷ rs) h p = absurd h
+undone_run s m (e ∷ es) [] h p = absurd h
+undone_run s m (e ∷ es) (r ∷ rs) h p = undone_under (undo_all (view m) rs) (view h.0) r (undone_run h.0 m es rs h.2) p ∙ h.1.back p
+  where
+    undone_under : (v w : View) (cs : List Change) → ((q : Place) → v q ≡ w q) → (q : Place) → undo v cs q ≡ undo w cs q
+    undone_under v w cs k q = ap (unwrap_or (named cs q)) (k q)
+
+-- a run goes on by one event
+pub linked_more : (s m n : Machine) (es : List Event) (rs : List (List Change)) (e : Event) (r : List Change) → Linked s es rs m → Link m e r n → Linked s (es ++ e ∷ []) (rs ++ r ∷ []) n
+linked_more s m n [] [] e r h k = (n, subst (λ (x : Machine). Link x e r n) h k, refl)
+linked_more s m n [] (x ∷ xs) e r h k = absurd h
+linked_more s m n (f ∷ fs) [] e r h k = absurd h
+linked_more s m n (f ∷ fs) (x ∷ xs) e r h k = (h.0, h.1, linked_more h.0 m n fs xs e r h.2 k)

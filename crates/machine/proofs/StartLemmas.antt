@@ -1,0 +1,183 @@
+-- The machine that a setup starts with is well formed.
+use Rattle.std.proofs.Common.{◌≡◌, ℕ, Bool, true, false, cond, refl, sym, ◌∙◌, ap, subst, List, [], ◌∷◌, length, map, ◌+◌, ◌*◌, ◌<◌, ◌≤◌, ◌^◌, ◌⊎◌, inl, inr, arith}
+use Rattle.std.specs.Prelude.{Option, Some, None, slice_get, nat_lt, ◌&&◌, ◌||◌, not, nat_le}
+use Rattle.std.specs.List.{list_all, list_any}
+use Rattle.std.proofs.Math.Dec.{leb, ltb}
+use Rattle.std.proofs.lemmas.Bool.Decides.{nat_tests, leb_tells}
+use Rattle.std.proofs.lemmas.Option.{slice_get_within, slice_get-map}
+use Rattle.std.proofs.lemmas.List.{length-replicate, take_more, map-append}
+use Rattle.std.proofs.lemmas.Option.{get_or_from_slice_get}
+use Rattle.std.proofs.Common.{take, ◌++◌}
+use Rattle.std.specs.Prelude.{option_map}
+use Rattle.std.proofs.Common.{zero, suc, rules}
+use Rattle.entries.specs.declared.row.Row.{Row}
+use Rattle.ring_words.specs.Rings.{rounded, first_not_below, sizes, zero_entry, waiting}
+use Rattle.ring_words.proofs.Order.{waiting_none}
+use Rattle.ring_words.proofs.Sizes.{rounded_size, size_most}
+use Rattle.ring_words.proofs.Laws.{formed_sub_start, formed_com_start}
+use Rattle.machine.specs.Programs.{HasWidths, HaveWidths, IsDone, IsProgram}
+use Rattle.machine.specs.Threads.{ThreadState, thread_start}
+use Rattle.machine.specs.Setups.{setup_refusal, has_ring_sizes, is_between, is_completion_size, has_programs, is_program, has_slot, is_unbuilt, asks_for_unbuilt, is_some_list}
+use Rattle.machine.specs.Whole.{WellFormed, Stands}
+use Rattle.machine.specs.Runs.{start, completion_entries}
+use Rattle.machine.specs.declared.setup.Instruction.{Instruction}
+use Rattle.machine.specs.declared.setup.Instruction.TheVariants.{Put, Push, Store, Enter, Reap, Close}
+use Rattle.machine.specs.declared.setup.Setup.{Setup}
+use Rattle.machine.specs.declared.setup.SetupRefusal.TheVariants.{RingSize, Limit}
+
+both_true : (a b : Bool) → (a && b) ≡ true → (a ≡ true) × (b ≡ true)
+both_true true b h = (refl, h)
+both_true false b h = absurd cc
+
+both_false : (a b : Bool) → (a || b) ≡ false → (a ≡ false) × (b ≡ false)
+both_false true b h = absurd cc
+both_false false b h = (refl, h)
+
+-- ---- facts of each element up to an index
+
+order : (a b : ℕ) → (a ≤ b) ⊎ (b < a)
+order a b = elim (leb_tells a b) [ inl k ↦ inl k.1 | inr k ↦ inr k.1 ]
+
+pub below_on : {X : Type 0} (P : X → Type 0) (xs : List X) (i : ℕ) (y : X) → slice_get xs i ≡ Some y → P y → ((j : ℕ) (x : X) → j < i → slice_get xs j ≡ Some x → P x) → (j : ℕ) (x : X) → j < i + 1 → slice_get xs j ≡ Some x → P x
+below_on {X} P xs i y at p below j x l h = by (order i j)
+  where
+    by : (i ≤ j) ⊎ (j < i) → P x
+    by (inl k) = let e : i ≡ j = omega (arith, k, l) in let s : Some y ≡ Some x = sym at ∙ ap (slice_get xs) e ∙ h in let same : y ≡ x = cc in subst P same p
+    by (inr k) = below j x k h
+
+pub all_below : {X : Type 0} (P : X → Type 0) (xs : List X) (i : ℕ) → length xs ≤ i → ((j : ℕ) (x : X) → j < i → slice_get xs j ≡ Some x → P x) → (j : ℕ) (x : X) → slice_get xs j ≡ Some x → P x
+all_below P xs i l below j x h = let w = slice_get_within xs j x h in below j x (omega (arith, w, l)) h
+
+-- ---- sizes
+
+first_most : (n : ℕ) (xs : List ℕ) → list_all (λ x. leb x 8192) xs ≡ true → first_not_below n xs ≤ 8192
+first_most n [] h = omega arith
+first_most n (x ∷ xs) h = by (ltb x n) (leb x 8192) refl h (λ k. first_most n xs k)
+  where
+    by : (b c : Bool) → leb x 8192 ≡ c → (c && list_all (λ y. leb y 8192) xs) ≡ true → (list_all (λ y. leb y 8192) xs ≡ true → first_not_below n xs ≤ 8192) → cond b (first_not_below n xs) x ≤ 8192
+    by b false e k f = absurd cc
+    by true true e k f = f k
+    by false true e k f = grind (arith, nat_tests)
+
+pub rounded_most : (n : ℕ) → rounded n ≤ 8192
+unfolding rounded
+rounded_most n = first_most n sizes refl
+
+-- ---- elements of lists that pass a test
+
+list_all_get : {X : Type 0} (q : X → Bool) (xs : List X) (i : ℕ) (x : X) → list_all q xs ≡ true → slice_get xs i ≡ Some x → q x ≡ true
+list_all_get q [] i x h g = absurd cc
+list_all_get q (y ∷ ys) zero x h g = let e : y ≡ x = cc in ap q (sym e) ∙ (both_true (q y) (list_all q ys) h).0
+list_all_get q (y ∷ ys) (suc i) x h g = list_all_get q ys i x (both_true (q y) (list_all q ys) h).1 g
+
+list_any_get : {X : Type 0} (q : X → Bool) (xs : List X) (i : ℕ) (x : X) → list_any q xs ≡ false → slice_get xs i ≡ Some x → q x ≡ false
+list_any_get q [] i x h g = absurd cc
+list_any_get q (y ∷ ys) zero x h g = let e : y ≡ x = cc in ap q (sym e) ∙ (both_false (q y) (list_any q ys) h).0
+list_any_get q (y ∷ ys) (suc i) x h g = list_any_get q ys i x (both_false (q y) (list_any q ys) h).1 g
+
+-- ---- instructions and programs
+
+done : (size : ℕ) (x : Instruction) → has_slot size x ≡ true → is_unbuilt x ≡ false → HasWidths x → IsDone size x
+done size (Put slot entry) h u w = grind (arith, nat_tests)
+done size (Push index) h u w = w
+done size (Store address bytes) h u w = absurd cc
+done size (Enter to_submit min_complete flags) h u w = tt
+done size Reap h u w = tt
+done size (Close fd) h u w = absurd cc
+
+program : (size : ℕ) (p : List Instruction) → is_program size p ≡ true → list_any is_unbuilt p ≡ false → ((i : ℕ) (x : Instruction) → slice_get p i ≡ Some x → HasWidths x) → IsProgram size p
+program size p h u w =
+    let b = both_true (leb (length p) 4096) (list_all (has_slot size) p) h in
+    record {
+      short = grind (arith, nat_tests, b.0);
+      done = λ i x g. done size x (list_all_get (has_slot size) p i x b.1 g) (list_any_get is_unbuilt p i x u g) (w i x g);
+    }
+
+-- ---- the setup's fields
+
+record Accepted (s : Setup) : Type 0 where
+  pub sizes : has_ring_sizes s ≡ true
+  pub programs : has_programs s ≡ true
+  pub built : asks_for_unbuilt s ≡ false
+
+accepted : (s : Setup) → setup_refusal s ≡ None → Accepted s
+accepted s h = by (has_ring_sizes s) (has_programs s) (asks_for_unbuilt s) refl refl refl h
+  where
+    by : (a b c : Bool) → has_ring_sizes s ≡ a → has_programs s ≡ b → asks_for_unbuilt s ≡ c → cond (not a) (Some RingSize) (cond (b && not c) None (Some Limit)) ≡ None → Accepted s
+    by true true false d e f k = record { sizes = d; programs = e; built = f }
+    by true true true d e f k = absurd cc
+    by true false c d e f k = absurd cc
+    by false b c d e f k = absurd cc
+
+entries_between : (s : Setup) → has_ring_sizes s ≡ true → (0 < s.entries) × (s.entries ≤ 4096)
+entries_between s h =
+    let b = both_true (is_between 1 4096 s.entries) (is_completion_size s.entries s.cq) h in
+    let c = both_true (leb 1 s.entries) (leb s.entries 4096) b.0 in
+    (grind (arith, nat_tests, c.0), grind (arith, nat_tests, c.1))
+
+completions_between : (entries : ℕ) (cq : Option ℕ) → 0 < entries → entries ≤ 4096 → is_completion_size entries cq ≡ true → (0 < completion_entries entries cq) × (completion_entries entries cq ≤ 8192)
+completions_between entries None l m h =
+    let size = rounded_size entries 12 l m (omega (arith, m)) in
+    let most = size_most 4096 (rounded entries) (omega arith) size in
+    (omega (arith, size.some), omega (arith, most))
+completions_between entries (Some n) l m h =
+    let b = both_true (is_between 1 8192 n) (leb (rounded entries) (rounded n)) h in
+    let c = both_true (leb 1 n) (leb n 8192) b.0 in
+    (grind (arith, nat_tests, c.0), grind (arith, nat_tests, c.1))
+
+-- ---- the whole
+
+threads_stand : (s : Setup) → Accepted s → HaveWidths s.threads → (t : ℕ) (x : ThreadState) → slice_get (map thread_start s.threads) t ≡ Some x → Stands (rounded s.entries) x
+threads_stand s a w t x h = by (slice_get s.threads t) refl (sym (slice_get-map thread_start s.threads t) ∙ h)
+  where
+    all : list_all (is_program (rounded s.entries)) s.threads ≡ true
+    all = (both_true (leb (length s.threads) 16) (list_all (is_program (rounded s.entries)) s.threads) a.programs).1
+
+    built : list_any (list_any is_unbuilt) s.threads ≡ false
+    built = (both_false (s.sqpoll || s.submit_all || is_some_list s.memory || is_some_list s.objects || is_some_list s.fds) (list_any (list_any is_unbuilt) s.threads) a.built).1
+
+    by : (o : Option (List Instruction)) → slice_get s.threads t ≡ o → option_map thread_start o ≡ Some x → Stands (rounded s.entries) x
+    by None g k = absurd cc
+    by (Some p) g k =
+        let e : thread_start p ≡ x = cc in
+        subst (Stands (rounded s.entries)) e (record {
+          within = omega arith;
+          program = program (rounded s.entries) p (list_all_get (is_program (rounded s.entries)) s.threads t p all g) (list_any_get (list_any is_unbuilt) s.threads t p built g) (w t p g);
+          last = search rules;
+          stage = refl;
+        })
+
+pub formed_start : (s : Setup) → setup_refusal s ≡ None → s.base < 2 ^ 32 → HaveWidths s.threads → WellFormed (start s)
+formed_start s h b w =
+    let a = accepted s h in
+    let n = entries_between s a.sizes in
+    let c = completions_between s.entries s.cq n.0 n.1 (both_true (is_between 1 4096 s.entries) (is_completion_size s.entries s.cq) a.sizes).1 in
+    let none = waiting_none s.base b in
+    let size : length (start s).submissions.slots ≡ rounded s.entries = length-replicate (rounded s.entries) zero_entry in
+    record {
+      submissions = formed_sub_start s.entries s.base n.0 n.1 b;
+      completions = formed_com_start (completion_entries s.entries s.cq) s.base c.0 c.1 b;
+      entries_wait = omega (arith, none);
+      completions_wait = omega (arith, none);
+      flags = refl;
+      rows = omega arith;
+      opcodes = λ r x k u. absurd (none_there x k);
+      counted = refl;
+      clock = omega arith;
+      threads = λ t x k. subst (λ (i : ℕ). Stands i x) (sym size) (threads_stand s a w t x k);
+    }
+  where
+    none_there : (x : Row) → None ≡ Some x → ⊥
+    none_there x k = cc
+
+-- ---- lists that grow by what f makes of each element
+
+pub mapped_on : {X Y : Type 0} (f : X → Y) (xs : List X) (ys zs : List Y) (i : ℕ) (x : X) (y : Y) → ys ≡ map f (take i xs) → zs ≡ ys ++ y ∷ [] → y ≡ f x → slice_get xs i ≡ Some x → zs ≡ map f (take (i + 1) xs)
+mapped_on f xs ys zs i x y h k e g =
+    k ∙ ap (λ (vs : List _). vs ++ y ∷ []) h ∙ ap (λ v. map f (take i xs) ++ v ∷ []) e
+    ∙ sym (ap (map f) (take_more xs i x (slice_get_within xs i x g) ∙ ap (λ v. take i xs ++ v ∷ []) (get_or_from_slice_get xs i x x g)) ∙ map-append f (take i xs) (x ∷ []))
+
+pub copied_on : {X : Type 0} (xs ys zs : List X) (i : ℕ) (x y : X) → ys ≡ take i xs → zs ≡ ys ++ y ∷ [] → y ≡ x → slice_get xs i ≡ Some x → zs ≡ take (i + 1) xs
+copied_on xs ys zs i x y h k e g =
+    k ∙ ap (λ (vs : List _). vs ++ y ∷ []) h ∙ ap (λ v. take i xs ++ v ∷ []) e
+    ∙ sym (take_more xs i x (slice_get_within xs i x g) ∙ ap (λ v. take i xs ++ v ∷ []) (get_or_from_slice_get xs i x x g))

@@ -1,0 +1,8 @@
+use Rattle.std.proofs.Common.{◌≡◌, ℕ, ◌<◌, take}
+use Rattle.std.specs.Prelude.{Some, slice_get}
+use Rattle.machine.specs.Programs.{HasWidths}
+use Rattle.machine.specs.declared.setup.Instruction.{Instruction}
+use Rattle.machine.proofs.starting.start_thread.Given as goal
+
+abbrev pub invariant-loop-instruction : goal.invariant-loop-instruction
+invariant-loop-instruction l = (l.copies.items ≡ take l.instruction-index l.program) × ((i : ℕ) (x : Instruction) → i < l.instruction-index → slice_get l.program i ≡ Some x → HasWidths x)

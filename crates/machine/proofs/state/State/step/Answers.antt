@@ -1,0 +1,43 @@
+use Rattle.std.proofs.Common.{◌≡◌, sym, subst, ◌∙◌}
+use Rattle.std.specs.Prelude.{None}
+use Rattle.machine.specs.Whole.{view, WellFormed, GoesBack}
+use Rattle.machine.specs.Steps.{refusal}
+use Rattle.machine.proofs.Formed.{formed_after}
+use Rattle.machine.proofs.PuttingBack.{back_from_exact}
+use Rattle.machine.proofs.Linking.{back_from_keeps}
+use Rattle.machine.proofs.state.State.step.Goals as goal
+
+pub invariant_of-self : goal.invariant_of-self
+invariant_of-self c =
+    let accepted : refusal c.self.inside.machine c.args.event ≡ None = sym c.refuses.ensures ∙ c.in_default.is in
+    subst WellFormed (sym c.in-Ok.ensures.ok) (formed_after _ _ c.self.invariant accepted)
+
+pub restore-requires : goal.restore-requires
+restore-requires c =
+    let led = back_from_keeps _ _ _ _ c.over-notes.ensures c.perform-done.ensures.keeps in
+    let back = back_from_exact _ _ _ (c.close_with_marks-past.ensures _ led) in
+    (c.self.inside.machine, record { formed = c.self.invariant; setup = c.perform-done.ensures.setup; rows = c.perform-done.ensures.rows; back = back })
+
+pub invariant_of-self-in-Err : goal.invariant_of-self-in-Err
+invariant_of-self-in-Err c =
+    let led = back_from_keeps _ _ _ _ c.over-notes.ensures c.perform-done.ensures.keeps in
+    let back = back_from_exact _ _ _ (c.close_with_marks-past.ensures _ led) in
+    let restored = c.restore.ensures.back in
+    subst WellFormed (sym (restored c.self.inside.machine (record { formed = c.self.invariant; setup = c.perform-done.ensures.setup; rows = c.perform-done.ensures.rows; back = back }))) c.self.invariant
+
+pub returns-in-Ok-clause-exact : goal.returns-in-Ok-clause-exact
+returns-in-Ok-clause-exact c =
+    let led = back_from_keeps _ _ _ _ c.over-notes.ensures c.perform-done.ensures.keeps in
+    rw (← c.self.view_is) (c.close_with_marks-past.ensures _ led)
+
+pub returns-in-Ok-clause-leads_back : goal.returns-in-Ok-clause-leads_back
+returns-in-Ok-clause-leads_back c =
+    let led = back_from_keeps _ _ _ _ c.over-notes.ensures c.perform-done.ensures.keeps in
+    rw (← c.self.view_is) (back_from_exact _ _ _ (c.close_with_marks-past.ensures _ led))
+
+pub returns-in-Err-clause-err : goal.returns-in-Err-clause-err
+returns-in-Err-clause-err c =
+    let led = back_from_keeps _ _ _ _ c.over-notes.ensures c.perform-done.ensures.keeps in
+    let back = back_from_exact _ _ _ (c.close_with_marks-past.ensures _ led) in
+    let restored = c.restore.ensures.back in
+    rw (← c.self.view_is) (restored c.self.inside.machine (record { formed = c.self.invariant; setup = c.perform-done.ensures.setup; rows = c.perform-done.ensures.rows; back = back }))

@@ -1,0 +1,30 @@
+use Rattle.std.proofs.Common.{sym, subst, ◌∙◌, rules}
+use Rattle.machine.proofs.Restored.{Restored, restored_from, next_can_put, restored_on, restored_skip, restored_all, went_back, some_of, none_of}
+use Rattle.machine.proofs.whole.Machine.overwrite.Goals as goal
+
+pub loop-change-init : goal.loop-change-init
+loop-change-init c = restored_from _ _ c.requires.once
+
+pub put-requires : goal.put-requires
+put-requires c =
+    let at = subst (Restored c.args.self.now c.args.rest.now c.loop-change.self) c.in-Some.ensures c.loop-change.invariant in
+    let k = some_of _ (sym c.is_some.ensures ∙ c.if-is_some.true) in
+    next_can_put c.requires.back.0 _ _ _ _ _ k.0 k.1 c.requires.back.1 at
+
+pub loop-change-preserved-then-is_some : goal.loop-change-preserved-then-is_some
+loop-change-preserved-then-is_some c =
+    let at = subst (Restored c.args.self.now c.args.rest.now c.loop-change.self) c.in-Some.ensures c.loop-change.invariant in
+    let k = some_of _ (sym c.is_some.ensures ∙ c.if-is_some.true) in
+    let rows = rw k.1 at c.put.ensures.rows in
+    restored_on _ _ _ _ _ _ c.put.ensures.setup (sym rows) c.put.ensures.put at
+
+pub loop-change-preserved : goal.loop-change-preserved
+loop-change-preserved c =
+    let at = subst (Restored c.args.self.now c.args.rest.now c.loop-change.self) c.in-Some.ensures c.loop-change.invariant in
+    restored_skip c.requires.back.0 _ _ _ _ _ (none_of _ (sym c.is_some.ensures ∙ c.if-is_some.false)) c.requires.back.1 at
+
+pub returns-clause-undone : goal.returns-clause-undone
+returns-clause-undone c = restored_all _ _ _ _ (search rules) c.loop-change.invariant
+
+pub returns-clause-back : goal.returns-clause-back
+returns-clause-back c s g = went_back _ _ _ _ g c.loop-change.invariant.setup (restored_all _ _ _ _ (search rules) c.loop-change.invariant)

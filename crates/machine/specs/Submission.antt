@@ -1,0 +1,39 @@
+-- What a submission takes from the ring (io_uring_enter(2)).
+use Rattle.std.specs.Prelude.{ℕ, ℤ, negsuc, ◌+◌, Bool, not, true, slice_get, List, take}
+use Rattle.std.specs.Option.{option_map_or}
+use Rattle.std.specs.List.{filter_map, prefix_len, list_any}
+use Rattle.entries.specs.declared.entry.Sqe.{Sqe}
+use Rattle.links_drains.specs.Batches.{passes}
+use Rattle.ring_words.specs.Rings.{SubWords, sub_list}
+
+-- whether a word of the submission array names an entry that passes its tests, or none at all
+abbrev pub passes_at : List Sqe → ℕ → Bool
+passes_at slots word = option_map_or passes (slice_get slots word) true
+
+-- the words that a submission takes of those that it is offered: up to and with the first that names an entry that fails
+abbrev pub batch_of : List Sqe → List ℕ → List ℕ
+batch_of slots words = take (prefix_len (passes_at slots) words + 1) words
+
+-- the entries that words name; a word outside the slots names none
+abbrev pub entries_at : List Sqe → List ℕ → List Sqe
+entries_at slots words = filter_map (slice_get slots) words
+
+-- the words that a submission of at most k entries is offered
+abbrev pub offered : SubWords → ℕ → List ℕ
+offered w k = take k (sub_list w)
+
+-- whether one of them names an entry that fails
+abbrev pub some_fails : SubWords → ℕ → Bool
+some_fails w k = list_any (λ word. not (passes_at w.slots word)) (offered w k)
+
+-- the words that it takes
+abbrev pub taken_words : SubWords → ℕ → List ℕ
+taken_words w k = batch_of w.slots (offered w k)
+
+-- the entries that become rows
+abbrev pub taken_entries : SubWords → ℕ → List Sqe
+taken_entries w k = entries_at w.slots (taken_words w k)
+
+-- the result of a row that fails submitting: EINVAL (errno(3))
+abbrev pub einval : ℤ
+einval = negsuc 21

@@ -1,0 +1,109 @@
+//! What accepted events do.
+ghost use Rattle.std.specs.Prelude.{◌≡◌, ◌≤◌, OnOk, None, length};
+ghost use Rattle.places.specs.View.{Keeps};
+ghost use Rattle.machine.specs.Steps.{after, refusal};
+ghost use Rattle.machine.specs.Whole.{view, everywhere, OneSetup, WellFormed};
+ghost use Rattle.machine.specs.declared.event.Event.TheVariants.{Tick, Issue, Finish, Step};
+
+use crate::event::Event;
+use crate::setup::Instruction;
+use crate::whole::Machine;
+use entries::Phase;
+use opcodes::Choice;
+use places::{Place, Recorder};
+use std::alloc::AllocError;
+
+impl Machine {
+    /// Does what an accepted event asks for. Where it stops for want of memory, undoing the notes
+    /// still gives what was.
+    pub fn perform(&mut self, event: Event, notes: &mut Recorder) -> Result<(), AllocError>
+        requires accepted { refusal self.old event ≡ None }
+        requires formed { WellFormed self.old }
+        ensures ok { OnOk result (self.new ≡ after self.old event) }
+        ensures setup { OneSetup self.old self.new }
+        ensures rows { length self.old.table ≤ length self.new.table }
+        ensures keeps { Keeps everywhere (view self.old) (view self.new) notes.old.made notes.new.made }
+    {
+        match event {
+            Event::Step(t) => self.step_thread(t, notes),
+            Event::Issue(r) => self.issue(r, notes),
+            Event::Finish(r, choice) => self.finish(r, choice, notes),
+            Event::Tick(d) => self.tick(d, notes),
+            _ => unreachable!(),
+        }
+    }
+
+    // The clock goes on.
+    fn tick(&mut self, d: u64, notes: &mut Recorder) -> Result<(), AllocError>
+        requires { refusal self.old (Tick d) ≡ None }
+        ensures ok { OnOk result (self.new ≡ after self.old (Tick d)) }
+        ensures setup { OneSetup self.old self.new }
+        ensures rows { length self.old.table ≤ length self.new.table }
+        ensures keeps { Keeps everywhere (view self.old) (view self.new) notes.old.made notes.new.made }
+    {
+        notes.note_number(Place::Clock, self.clock)?;
+        self.clock += d;
+        Ok(())
+    }
+
+    // A queued row is issued.
+    fn issue(&mut self, r: u32, notes: &mut Recorder) -> Result<(), AllocError>
+        requires { refusal self.old (Issue r) ≡ None }
+        ensures ok { OnOk result (self.new ≡ after self.old (Issue r)) }
+        ensures setup { OneSetup self.old self.new }
+        ensures rows { length self.old.table ≤ length self.new.table }
+        ensures keeps { Keeps everywhere (view self.old) (view self.new) notes.old.made notes.new.made }
+    {
+        self.table.set_phase(r, Phase::Issued, notes)
+    }
+
+    // An issued row ends.
+    fn finish(&mut self, r: u32, choice: Choice, notes: &mut Recorder) -> Result<(), AllocError>
+        requires accepted { refusal self.old (Finish r choice) ≡ None }
+        requires formed { WellFormed self.old }
+        ensures ok { OnOk result (self.new ≡ after self.old (Finish r choice)) }
+        ensures setup { OneSetup self.old self.new }
+        ensures rows { length self.old.table ≤ length self.new.table }
+        ensures keeps { Keeps everywhere (view self.old) (view self.new) notes.old.made notes.new.made }
+    {
+        self.end(r, 0, notes)
+    }
+
+    // A thread does its next instruction.
+    fn step_thread(&mut self, t: u32, notes: &mut Recorder) -> Result<(), AllocError>
+        requires accepted { refusal self.old (Step t) ≡ None }
+        requires formed { WellFormed self.old }
+        ensures ok { OnOk result (self.new ≡ after self.old (Step t)) }
+        ensures setup { OneSetup self.old self.new }
+        ensures rows { length self.old.table ≤ length self.new.table }
+        ensures keeps { Keeps everywhere (view self.old) (view self.new) notes.old.made notes.new.made }
+    {
+        let Some(thread) = self.threads.get(t) else {
+            unreachable!()
+        };
+        let Some(instruction) = thread.next() else {
+            unreachable!()
+        };
+        match instruction {
+            Instruction::Put(slot, entry) => {
+                let (slot, entry) = (*slot, *entry);
+                self.put_entry(t, slot, entry, notes)
+            }
+            Instruction::Push(index) => {
+                let index = *index;
+                self.push(t, index, notes)
+            }
+            Instruction::Enter {
+                to_submit,
+                min_complete,
+                flags,
+            } => {
+                let (to_submit, min_complete, flags) = (*to_submit, *min_complete, *flags);
+                self.enter(t, to_submit, min_complete, flags, notes)
+            }
+            Instruction::Reap => self.reap(t, notes),
+            Instruction::Store(_, _) => unreachable!(),
+            Instruction::Close(_) => unreachable!(),
+        }
+    }
+}

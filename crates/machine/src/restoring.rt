@@ -1,0 +1,38 @@
+//! Going back by a record.
+ghost use Rattle.std.specs.Prelude.{◌≡◌};
+ghost use Rattle.places.specs.View.{undo, NamesOnce};
+ghost use Rattle.places.specs.declared.place.Place.{Place};
+ghost use Rattle.machine.specs.Whole.{view, OneSetup, GoesBack, Overwrites};
+ghost use Rattle.machine.specs.declared.whole.Machine.{Machine};
+
+use crate::whole::Machine;
+use places::{Changes, Part, Record};
+
+impl Machine {
+    /// Puts back what stood in the places that a record names. It takes no memory.
+    pub fn restore(&mut self, past: &Record)
+        requires { (s : Machine) × GoesBack s self.old past.now }
+        ensures undone { (p : Place) → view self.new p ≡ undo (view self.old) past.now p }
+        ensures back { (s : Machine) → GoesBack s self.old past.now → self.new ≡ s }
+    {
+        let mut rest = past.changes();
+        let left = past.rows_left(self.table.len());
+        self.table.truncate(left);
+        self.overwrite(&mut rest);
+    }
+
+    // Puts back what stood in places, where no row has to go.
+    fn overwrite(&mut self, rest: &mut Changes<'_>)
+        requires back { (s : Machine) × Overwrites s self.old rest.old }
+        requires once { NamesOnce rest.old }
+        ensures undone { (p : Place) → view self.new p ≡ undo (view self.old) rest.old p }
+        ensures setup { OneSetup self.old self.new }
+        ensures back { (s : Machine) → Overwrites s self.old rest.old → self.new ≡ s }
+    {
+        while let Some(change) = rest.next() {
+            if change.old.is_some() {
+                self.put(change.place, change.old);
+            }
+        }
+    }
+}

@@ -1,0 +1,96 @@
+//! The machine that a setup starts with.
+ghost use Rattle.std.specs.Prelude.{◌≡◌, ℕ, IfOk, Some, map, slice_get};
+ghost use Rattle.machine.specs.Programs.{HasWidths, HaveWidths};
+ghost use Rattle.machine.specs.Threads.{thread_start};
+ghost use Rattle.machine.specs.declared.setup.Instruction.{Instruction};
+ghost use Rattle.machine.specs.Runs.{start, completion_entries as entries_for};
+
+use crate::limits::ring_size;
+use crate::setup::{Instruction, Setup};
+use crate::threads::{Thread, Threads};
+use crate::whole::Machine;
+use links_drains::Table;
+use places::Items;
+use ring_words::{ComRing, SubRing};
+use std::alloc::{AllocError, Global};
+
+impl Machine {
+    /// The start of a setup that has sizes for its rings.
+    pub fn new(alloc: Global, setup: &Setup) -> Result<Machine, AllocError>
+        ensures start { IfOk result (λ m. m ≡ start setup.now) }
+        ensures widths { IfOk result (λ m. HaveWidths setup.now.threads) }
+    {
+        let completions = completion_entries(setup.entries, setup.cq);
+        let Ok(submissions) = SubRing::new(alloc, setup.entries, setup.base) else {
+            return Err(AllocError);
+        };
+        let Ok(completions) = ComRing::new(alloc, completions, setup.base) else {
+            return Err(AllocError);
+        };
+        Ok(Machine {
+            submissions,
+            completions,
+            table: Table::new(alloc),
+            threads: start_threads(alloc, setup.threads.as_slice())?,
+            clock: 0,
+            counted: 0,
+        })
+    }
+
+    /// The same machine again.
+    pub fn copy(&self, alloc: Global) -> Result<Machine, AllocError>
+        ensures { IfOk result (λ m. m ≡ self.now) }
+    {
+        Ok(Machine {
+            submissions: self.submissions.copy(alloc)?,
+            completions: self.completions.copy(alloc)?,
+            table: self.table.copy(alloc)?,
+            threads: self.threads.copy(alloc)?,
+            clock: self.clock,
+            counted: self.counted,
+        })
+    }
+}
+
+fn completion_entries(entries: u32, cq: Option<u32>) -> u32
+    ensures { result ≡ entries_for entries cq }
+{
+    match cq {
+        Some(n) => n,
+        None => 2 * ring_size(entries),
+    }
+}
+
+fn start_threads(alloc: Global, programs: &[Items<Instruction>]) -> Result<Threads, AllocError>
+    ensures start { IfOk result (λ threads. threads ≡ map thread_start programs.now) }
+    ensures widths { IfOk result (λ threads. HaveWidths programs.now) }
+{
+    let mut threads = Vec::new(alloc);
+    for program in programs {
+        threads.push(start_thread(alloc, program.as_slice())?)?;
+    }
+    Ok(Threads::of(threads))
+}
+
+fn start_thread(alloc: Global, program: &[Instruction]) -> Result<Thread, AllocError>
+    ensures start { IfOk result (λ thread. thread ≡ thread_start program.now) }
+    ensures widths { IfOk result (λ thread. (i : ℕ) (x : Instruction) → slice_get program.now i ≡ Some x → HasWidths x) }
+{
+    let mut copies = Vec::new(alloc);
+    for instruction in program {
+        copies.push(measured_copy(alloc, instruction)?)?;
+    }
+    Ok(Thread::new(Items::of(copies)))
+}
+
+// A copy of an instruction, whose numbers have their widths.
+fn measured_copy(alloc: Global, instruction: &Instruction) -> Result<Instruction, AllocError>
+    ensures same { IfOk result (λ copy. copy ≡ instruction.now) }
+    ensures widths { IfOk result (λ copy. HasWidths instruction.now) }
+{
+    if let Instruction::Push(index) = instruction {
+        return Ok(Instruction::Push(*index));
+    }
+    let copy = instruction.copy(alloc)?;
+    Ok(copy)
+}

@@ -1,0 +1,143 @@
+//! The state of a run.
+
+use crate::event::{Event, Refusal};
+use crate::limits;
+use crate::setup::{Setup, SetupRefusal};
+use crate::whole::Machine;
+use places::{At, Marks, Place, Record, Recorder, Value};
+use std::alloc::{AllocError, Global};
+use std::marker::Model;
+use std::mem;
+
+/// A state.
+#[derive(Drop)]
+pub struct State {
+    machine: Machine,
+    marks: Marks,
+    alloc: Global,
+}
+
+impl Model for State {
+    ghost use Rattle.machine.specs.declared.whole.Machine.{Machine};
+    ghost use Rattle.machine.specs.Whole.{WellFormed};
+
+    ghost Value = { Machine };
+
+    ghost view = { λ a. a.machine };
+
+    ghost invariant = { λ a. WellFormed a.machine };
+}
+
+impl State {
+    ghost use Rattle.std.specs.Prelude.{◌≡◌, List, Some, None, IfOk, OnOk, OnErr, IfErr};
+    ghost use Rattle.places.specs.declared.place.Place.{Place};
+    ghost use Rattle.places.specs.View.{Exact, LeadsBack, undo, undo_all};
+    ghost use Rattle.machine.specs.Whole.{view, WellFormed};
+    ghost use Rattle.machine.specs.Steps.{Next, refusal};
+    ghost use Rattle.machine.specs.Runs.{start, Link, Linked};
+    ghost use Rattle.machine.specs.Setups.{setup_refusal};
+    ghost use Rattle.machine.specs.declared.setup.SetupRefusal.{SetupRefusal};
+    ghost use Rattle.machine.specs.declared.setup.SetupRefusal.TheVariants.{Memory as OutOfMemory};
+    ghost use Rattle.machine.specs.declared.event.Event.{Event};
+    ghost use Rattle.machine.specs.declared.event.Refusal.{Refusal};
+    ghost use Rattle.machine.specs.declared.event.Refusal.TheVariants.{Memory};
+    ghost use Rattle.machine.specs.declared.whole.Machine.{Machine};
+
+    /// The start of a setup. A setup that has none is refused by its first fault, whether or not there is
+    /// memory.
+    pub fn new(alloc: Global, setup: &Setup) -> Result<State, SetupRefusal>
+        ensures start { IfOk result (λ s. s ≡ start setup.now) }
+        ensures refused { (r : SetupRefusal) → setup_refusal setup.now ≡ Some r → result ≡ Err r }
+        ensures only_memory { IfErr result (λ r. setup_refusal setup.now ≡ None → r ≡ OutOfMemory) }
+    {
+        if let Some(r) = limits::setup_refusal(setup) {
+            return Err(r);
+        }
+        match Machine::new(alloc, setup) {
+            Ok(machine) => Ok(State {
+                machine,
+                marks: Marks::new(alloc),
+                alloc,
+            }),
+            Err(_) => Err(SetupRefusal::Memory),
+        }
+    }
+
+    /// The same state again.
+    pub fn copy(&self, alloc: Global) -> Result<State, AllocError>
+        ensures { IfOk result (λ s. s ≡ self.now) }
+    {
+        Ok(State {
+            machine: self.machine.copy(alloc)?,
+            marks: Marks::new(alloc),
+            alloc,
+        })
+    }
+
+    /// What stands in a place. It takes no memory.
+    pub fn value(&self, place: Place) -> Option<Value>
+        ensures value { result ≡ view self.now place }
+        ensures formed { WellFormed self.now }
+    {
+        self.machine.at(place)
+    }
+
+    /// Why an event is refused, if it is. It takes no memory.
+    pub fn refuses(&self, event: Event) -> Option<Refusal>
+        ensures { result ≡ refusal self.now event }
+    {
+        self.machine.refuses(event)
+    }
+
+    /// One atomic step. Its record names the places that differ, with what stood there.
+    pub fn step(&mut self, event: Event) -> Result<Record, Refusal>
+        ensures next { OnOk result (Next self.old event self.new) }
+        ensures exact { IfOk result (λ r. Exact (view self.old) (view self.new) r) }
+        ensures leads_back { IfOk result (λ r. LeadsBack (view self.old) (view self.new) r) }
+
+        // A refusal is answered, whether or not there is memory; else memory alone is refused.
+        ensures refused { (n : Refusal) → refusal self.old event ≡ Some n → result ≡ Err n }
+        ensures only_memory { IfErr result (λ n. refusal self.old event ≡ None → n ≡ Memory) }
+        ensures err { OnErr result (self.new ≡ self.old) }
+        ensures formed { WellFormed self.old }
+    {
+        if let Some(n) = self.machine.refuses(event) {
+            return Err(n);
+        }
+        let marks = mem::replace(&mut self.marks, Marks::new(self.alloc));
+        let mut notes = Recorder::over(self.alloc, marks);
+        let done = self.machine.perform(event, &mut notes);
+        let (past, marks) = notes.close_with_marks(&self.machine);
+        self.marks = marks;
+        match done {
+            Ok(()) => Ok(past),
+            Err(_) => {
+                self.machine.restore(&past);
+                past.discard();
+                Err(Refusal::Memory)
+            }
+        }
+    }
+
+    /// Puts back what the record of the last step names. It takes no memory.
+    pub fn put_back(&mut self, past: &Record)
+        requires { (s : Machine) × (e : Event) × Link s e past.now self.old }
+        ensures undone { (p : Place) → view self.new p ≡ undo (view self.old) past.now p }
+        ensures back { (s : Machine) (e : Event) → Link s e past.now self.old → self.new ≡ s }
+    {
+        self.machine.restore(past);
+    }
+
+    /// Puts back the records of a list of steps that led here, the last first. It takes no memory.
+    pub fn unwind(&mut self, records: &[Record])
+        requires { (s : Machine) × (es : List Event) × Linked s es records.now self.old }
+        ensures undone { (p : Place) → view self.new p ≡ undo_all (view self.old) records.now p }
+        ensures back { (s : Machine) (es : List Event) → Linked s es records.now self.old → self.new ≡ s }
+    {
+        let mut i = records.len();
+        while i > 0 {
+            i -= 1;
+            self.put_back(&records[i]);
+        }
+    }
+}

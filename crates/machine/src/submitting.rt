@@ -1,0 +1,132 @@
+//! Entries of the submission ring become rows (io_uring_enter(2)).
+ghost use Rattle.std.specs.Prelude.{◌≡◌, ◌+◌, ◌-◌, ◌<◌, ◌≤◌, ◌^◌, ◌++◌, IfOk, OnOk, None, true, length, slice_get};
+ghost use Rattle.std.specs.List.{prefix_len};
+ghost use Rattle.places.specs.View.{Keeps};
+ghost use Rattle.ring_words.specs.Rings.{sub_list};
+ghost use Rattle.links_drains.specs.Batches.{rows_of};
+ghost use Rattle.machine.specs.Submission.{offered, passes_at, some_fails, entries_at, taken_entries};
+ghost use Rattle.machine.specs.Steps.{submission_refusal, has_room, ended, submitted, taken_by};
+ghost use Rattle.machine.specs.Whole.{view, everywhere, OneSetup, WellFormed};
+
+use crate::whole::Machine;
+use entries::{Cqe, Phase};
+use links_drains::new_row;
+use opcodes::{Context, EINVAL, check, is_timer};
+use places::{Place, Recorder};
+use std::alloc::AllocError;
+
+impl Machine {
+    /// How many of the first words that wait stand before one that names an entry that fails.
+    pub(crate) fn passing(&self, count: u32) -> u32
+        requires { count ≤ length (sub_list self.now.submissions) }
+        ensures passing { result ≡ prefix_len (passes_at self.now.submissions.slots) (offered self.now.submissions count) }
+        ensures within { result ≤ count }
+    {
+        for i in 0..count {
+            if !self.passes(self.submissions.word(i)) {
+                return i;
+            }
+        }
+        count
+    }
+
+    fn passes(&self, word: u32) -> bool
+        ensures { result ≡ passes_at self.now.submissions.slots word }
+    {
+        match self.submissions.entry(word) {
+            Some(entry) => check(&entry, Context { behind: None }).is_ok(),
+            None => true,
+        }
+    }
+
+    // The entries that the first words name become rows. Says how many words name none.
+    fn add_rows(&mut self, count: u32, notes: &mut Recorder) -> Result<u32, AllocError>
+        requires waits { count ≤ length (sub_list self.old.submissions) }
+        requires room { length self.old.table + count ≤ 65536 }
+        ensures ok { OnOk result (self.new ≡ record self.old { table = self.old.table ++ rows_of (length self.old.table) (entries_at self.old.submissions.slots (offered self.old.submissions count)) }) }
+        ensures dropped { IfOk result (λ d. d + length (entries_at self.old.submissions.slots (offered self.old.submissions count)) ≡ count) }
+        ensures setup { OneSetup self.old self.new }
+        ensures rows { length self.old.table ≤ length self.new.table }
+        ensures keeps { Keeps everywhere (view self.old) (view self.new) notes.old.made notes.new.made }
+    {
+        let mut dropped = 0;
+        for i in 0..count {
+            match self.submissions.entry(self.submissions.word(i)) {
+                Some(entry) => {
+                    let row = new_row(entry, self.table.len() as u32);
+                    self.table.push(row, notes)?;
+                }
+                None => dropped += 1,
+            }
+        }
+        Ok(dropped)
+    }
+
+    /// A row ends with a result: its completion is posted, and it is counted unless it is a timer.
+    pub(crate) fn end(&mut self, r: u32, res: i32, notes: &mut Recorder) -> Result<(), AllocError>
+        requires there { r < length self.old.table }
+        requires room { has_room self.old.completions ≡ true }
+        requires counts { self.old.counted + 1 < 2 ^ 32 }
+        ensures ok { OnOk result (self.new ≡ ended self.old r res) }
+        ensures setup { OneSetup self.old self.new }
+        ensures rows { length self.old.table ≤ length self.new.table }
+        ensures keeps { Keeps everywhere (view self.old) (view self.new) notes.old.made notes.new.made }
+    {
+        let Some(row) = self.table.get(r) else {
+            unreachable!()
+        };
+        self.table.set_phase(r, Phase::Ended(res), notes)?;
+        notes.room_for_completions(1)?;
+        notes.room_for_numbers(1)?;
+        let completion = Cqe {
+            user_data: row.entry.user_data,
+            res,
+            flags: 0,
+        };
+        self.completions.post(completion, notes);
+        if is_timer(row.entry.opcode) {
+            return Ok(());
+        }
+        notes.note_number(Place::Counted, self.counted as u64)?;
+        self.counted += 1;
+        Ok(())
+    }
+
+    /// A submission of at most so many entries. Says how many became rows.
+    pub(crate) fn submit(&mut self, to_submit: u32, notes: &mut Recorder) -> Result<u32, AllocError>
+        requires accepted { submission_refusal self.old to_submit ≡ None }
+        requires formed { WellFormed self.old }
+        ensures ok { OnOk result (self.new ≡ submitted self.old to_submit) }
+        ensures count { IfOk result (λ n. n ≡ length (taken_entries self.old.submissions to_submit)) }
+        ensures setup { OneSetup self.old self.new }
+        ensures rows { length self.old.table ≤ length self.new.table }
+        ensures keeps { Keeps everywhere (view self.old) (view self.new) notes.old.made notes.new.made }
+    {
+        let offered = self.offered(to_submit);
+        let passing = self.passing(offered);
+        if passing == offered {
+            let taken = self.take(offered, notes)?;
+            return Ok(taken);
+        }
+        let taken = self.take(passing + 1, notes)?;
+        let last = self.table.len() as u32 - 1;
+        self.end(last, -EINVAL, notes)?;
+        Ok(taken)
+    }
+
+    // The first words are taken. Says how many of them became rows.
+    fn take(&mut self, count: u32, notes: &mut Recorder) -> Result<u32, AllocError>
+        requires waits { count ≤ length (sub_list self.old.submissions) }
+        requires room { length self.old.table + count ≤ 65536 }
+        ensures ok { OnOk result (self.new ≡ taken_by self.old (offered self.old.submissions count)) }
+        ensures count { IfOk result (λ n. n ≡ length (entries_at self.old.submissions.slots (offered self.old.submissions count))) }
+        ensures setup { OneSetup self.old self.new }
+        ensures rows { length self.old.table ≤ length self.new.table }
+        ensures keeps { Keeps everywhere (view self.old) (view self.new) notes.old.made notes.new.made }
+    {
+        let dropped = self.add_rows(count, notes)?;
+        notes.room_for_numbers(2)?;
+        self.submissions.take_first(count, dropped, notes);
+        Ok(count - dropped)
+    }
+}

@@ -1,0 +1,225 @@
+//! Threads: programs, and how far they have come.
+ghost use Rattle.std.specs.Prelude.{◌≡◌, ◌<◌, ◌≤◌, ◌+◌, ◌^◌, IfOk, OnOk, OnErr, Some, None, length, slice_get, map, pos};
+ghost use Rattle.std.specs.Option.{option_copied};
+ghost use Rattle.places.specs.Lists.{updated};
+ghost use Rattle.places.specs.View.{Keeps, put_at};
+ghost use Rattle.places.specs.declared.place.Place.{Place};
+
+use crate::setup::{Instruction, copy_program};
+use entries::Cqe;
+use places::{At, Items, Part, Place, Recorder, Stage, Value};
+use std::alloc::{AllocError, Global};
+use std::marker::Model;
+
+/// A thread.
+#[derive(Drop)]
+pub struct Thread {
+    program: Items<Instruction>,
+    counter: u32,
+    stage: Stage,
+    last: i64,
+    got: Option<Cqe>,
+}
+
+impl Model for Thread {
+    ghost use Rattle.machine.specs.Threads.{ThreadState};
+
+    ghost Value = { ThreadState };
+
+    ghost view = { λ a. record { program = a.program; counter = a.counter; stage = a.stage; last = a.last; got = a.got } };
+}
+
+impl Thread {
+    ghost use Rattle.machine.specs.Threads.{thread_start};
+
+    /// It stands at the start of its program.
+    pub fn new(program: Items<Instruction>) -> Thread
+        ensures { result ≡ thread_start program }
+    {
+        Thread {
+            program,
+            counter: 0,
+            stage: Stage::Ready,
+            last: 0,
+            got: None,
+        }
+    }
+
+    /// The same thread again.
+    pub fn copy(&self, alloc: Global) -> Result<Thread, AllocError>
+        ensures { IfOk result (λ thread. thread ≡ self.now) }
+    {
+        Ok(Thread {
+            program: copy_program(alloc, self.program.as_slice())?,
+            counter: self.counter,
+            stage: self.stage,
+            last: self.last,
+            got: self.got,
+        })
+    }
+
+    /// Its next instruction, if it isn't done.
+    pub fn next(&self) -> Option<&Instruction>
+        ensures { option_copied result ≡ slice_get self.now.program self.now.counter }
+    {
+        self.program.as_slice().get(self.counter as usize)
+    }
+}
+
+/// All threads.
+#[derive(Drop)]
+pub struct Threads {
+    threads: Vec<Thread>,
+}
+
+impl Model for Threads {
+    ghost use Rattle.std.specs.Prelude.{List};
+    ghost use Rattle.machine.specs.Threads.{ThreadState};
+
+    ghost Value = { List ThreadState };
+
+    ghost view = { λ a. a.threads.items };
+}
+
+impl At for Threads {
+    ghost use Rattle.machine.specs.Threads.{threads_seen};
+
+    ghost seen = { threads_seen };
+
+    fn at(&self, place: Place) -> Option<Value> {
+        match place {
+            Place::ProgramCounter(t) => match self.threads.get(t as usize) {
+                Some(thread) => Some(Value::Number(thread.counter as u64)),
+                None => None,
+            },
+            Place::ThreadStage(t) => match self.threads.get(t as usize) {
+                Some(thread) => Some(Value::Staged(thread.stage)),
+                None => None,
+            },
+            Place::Last(t) => match self.threads.get(t as usize) {
+                Some(thread) => Some(Value::Signed(thread.last)),
+                None => None,
+            },
+            Place::Got(t) => match self.threads.get(t as usize) {
+                Some(thread) => Some(Value::Reaped(thread.got)),
+                None => None,
+            },
+            _ => None,
+        }
+    }
+}
+
+impl Part for Threads {
+    ghost use Rattle.machine.specs.Threads.{program_of, threads_owns, threads_seen, threads_can_put};
+
+    ghost owns = { threads_owns };
+
+    ghost can_put = { threads_can_put };
+
+    fn put(&mut self, place: Place, value: Option<Value>)
+        requires { threads_can_put self.old place value }
+        ensures put { (q : Place) → threads_seen self.new q ≡ put_at (threads_seen self.old) place value q }
+        ensures programs { map program_of self.new ≡ map program_of self.old }
+    {
+        match (place, value) {
+            (Place::ProgramCounter(t), Some(Value::Number(n))) => {
+                let thread = &mut self.threads[t as usize];
+                thread.counter = n as u32;
+            }
+            (Place::ThreadStage(t), Some(Value::Staged(stage))) => {
+                let thread = &mut self.threads[t as usize];
+                thread.stage = stage;
+            }
+            (Place::Last(t), Some(Value::Signed(n))) => {
+                let thread = &mut self.threads[t as usize];
+                thread.last = n;
+            }
+            (Place::Got(t), Some(Value::Reaped(got))) => {
+                let thread = &mut self.threads[t as usize];
+                thread.got = got;
+            }
+            _ => unreachable!(),
+        }
+    }
+}
+
+impl Threads {
+    ghost use Rattle.machine.specs.Threads.{ThreadState, program_of, threads_owns, threads_seen};
+    ghost use Rattle.std.specs.Prelude.{FitsSigned};
+
+    /// The threads, in order.
+    pub fn of(threads: Vec<Thread>) -> Threads
+        ensures { result ≡ threads.items }
+    {
+        Threads { threads }
+    }
+
+    /// The same threads again.
+    pub fn copy(&self, alloc: Global) -> Result<Threads, AllocError>
+        ensures { IfOk result (λ threads. threads ≡ self.now) }
+    {
+        let mut copies = Vec::new(alloc);
+        for thread in &self.threads {
+            copies.push(thread.copy(alloc)?)?;
+        }
+        Ok(Threads { threads: copies })
+    }
+
+    /// A thread, if there is one of this number.
+    pub fn get(&self, t: u32) -> Option<&Thread>
+        ensures { option_copied result ≡ slice_get self.now t }
+    {
+        self.threads.get(t as usize)
+    }
+
+    /// A thread goes on.
+    pub fn go_on(&mut self, t: u32, notes: &mut Recorder) -> Result<(), AllocError>
+        requires there { t < length self.old }
+        requires goes_on { (x : ThreadState) → slice_get self.old t ≡ Some x → x.counter + 1 < 2 ^ 32 }
+        ensures ok { OnOk result (self.new ≡ updated (λ x. record x { counter = x.counter + 1 }) self.old t) }
+        ensures programs { map program_of self.new ≡ map program_of self.old }
+        ensures keeps { Keeps threads_owns (threads_seen self.old) (threads_seen self.new) notes.old.made notes.new.made }
+    {
+        let thread = &mut self.threads[t as usize];
+        notes.note_number(Place::ProgramCounter(t), thread.counter as u64)?;
+        thread.counter += 1;
+        Ok(())
+    }
+
+    /// A thread has an answer, and goes on.
+    pub fn answer(&mut self, t: u32, n: i64, notes: &mut Recorder) -> Result<(), AllocError>
+        requires there { t < length self.old }
+        requires goes_on { (x : ThreadState) → slice_get self.old t ≡ Some x → x.counter + 1 < 2 ^ 32 }
+        ensures ok { OnOk result (self.new ≡ updated (λ x. record x { counter = x.counter + 1; last = n }) self.old t) }
+        ensures programs { map program_of self.new ≡ map program_of self.old }
+        ensures keeps { Keeps threads_owns (threads_seen self.old) (threads_seen self.new) notes.old.made notes.new.made }
+    {
+        let thread = &mut self.threads[t as usize];
+        notes.note_number(Place::ProgramCounter(t), thread.counter as u64)?;
+        thread.counter += 1;
+        notes.note(Place::Last(t), Some(Value::Signed(thread.last)))?;
+        thread.last = n;
+        Ok(())
+    }
+
+    /// A thread has got a completion, and goes on.
+    pub fn deliver(
+        &mut self,
+        t: u32,
+        completion: Cqe,
+        notes: &mut Recorder,
+    ) -> Result<(), AllocError>
+        requires there { t < length self.old }
+        requires goes_on { (x : ThreadState) → slice_get self.old t ≡ Some x → x.counter + 1 < 2 ^ 32 }
+        ensures ok { OnOk result (self.new ≡ updated (λ x. record x { counter = x.counter + 1; got = Some completion }) self.old t) }
+        ensures programs { map program_of self.new ≡ map program_of self.old }
+        ensures keeps { Keeps threads_owns (threads_seen self.old) (threads_seen self.new) notes.old.made notes.new.made }
+    {
+        let thread = &mut self.threads[t as usize];
+        notes.note_number(Place::ProgramCounter(t), thread.counter as u64)?;
+        thread.counter += 1;
+        notes.note(Place::Got(t), Some(Value::Reaped(thread.got)))?;
+        thread.got = Some(completion);
+        Ok(())
+    }
+}

@@ -1,0 +1,143 @@
+//! The parts of the machine together.
+ghost use Rattle.std.specs.Prelude.{◌≡◌, OnSome, length, false};
+ghost use Rattle.ring_words.specs.Rings.{sub_owns, com_owns};
+ghost use Rattle.links_drains.specs.Rows.{table_owns};
+ghost use Rattle.machine.specs.Threads.{threads_owns};
+ghost use Rattle.places.specs.View.{put_at};
+ghost use Rattle.places.specs.declared.place.Place.{Place};
+
+use crate::threads::Threads;
+use links_drains::Table;
+use places::{At, Part, Place, Value};
+use ring_words::{ComRing, SubRing};
+
+/// The machine, part by part.
+#[derive(Drop)]
+pub struct Machine {
+    pub submissions: SubRing,
+    pub completions: ComRing,
+    pub table: Table,
+    pub threads: Threads,
+    pub clock: u64,
+    pub counted: u32,
+}
+
+impl At for Machine {
+    ghost use Rattle.machine.specs.Whole.{view};
+
+    ghost seen = { view };
+
+    fn at(&self, place: Place) -> Option<Value> {
+        match place {
+            Place::SubmissionHead
+            | Place::SubmissionTail
+            | Place::SubmissionFlags
+            | Place::SubmissionDropped
+            | Place::Array(_)
+            | Place::Slot(_) => self.submissions.at(place),
+            Place::CompletionHead | Place::CompletionTail | Place::Completion(_) => {
+                self.completions.at(place)
+            }
+            Place::Request(_) => self.table.at(place),
+            Place::ProgramCounter(_) | Place::ThreadStage(_) | Place::Last(_) | Place::Got(_) => {
+                self.threads.at(place)
+            }
+            Place::Clock => Some(Value::Number(self.clock)),
+            Place::Counted => Some(Value::Number(self.counted as u64)),
+            _ => None,
+        }
+    }
+}
+
+impl Part for Machine {
+    ghost use Rattle.machine.specs.Whole.{view, everywhere, can_put, OneSetup};
+
+    ghost owns = { everywhere };
+
+    ghost can_put = { can_put };
+
+    fn put(&mut self, place: Place, value: Option<Value>)
+        requires { can_put self.old place value }
+        ensures put { (q : Place) → view self.new q ≡ put_at (view self.old) place value q }
+        ensures setup { OneSetup self.old self.new }
+        ensures rows { OnSome value (length self.new.table ≡ length self.old.table) }
+    {
+        if is_of_submissions(place) {
+            self.submissions.put(place, value);
+            return;
+        }
+        if is_of_completions(place) {
+            self.completions.put(place, value);
+            return;
+        }
+        if is_of_table(place) {
+            self.table.put(place, value);
+            return;
+        }
+        if is_of_threads(place) {
+            self.threads.put(place, value);
+            return;
+        }
+        self.put_number(place, value);
+    }
+}
+
+impl Machine {
+    ghost use Rattle.machine.specs.Whole.{view, can_put, OneSetup};
+
+    // Sets a number that no part owns.
+    fn put_number(&mut self, place: Place, value: Option<Value>)
+        requires can { can_put self.old place value }
+        requires submissions { sub_owns place ≡ false }
+        requires completions { com_owns place ≡ false }
+        requires table { table_owns place ≡ false }
+        requires threads { threads_owns place ≡ false }
+        ensures put { (q : Place) → view self.new q ≡ put_at (view self.old) place value q }
+        ensures setup { OneSetup self.old self.new }
+        ensures rows { length self.new.table ≡ length self.old.table }
+    {
+        match (place, value) {
+            (Place::Clock, Some(Value::Number(n))) => self.clock = n,
+            (Place::Counted, Some(Value::Number(n))) => self.counted = n as u32,
+            _ => unreachable!(),
+        }
+    }
+}
+
+fn is_of_submissions(place: Place) -> bool
+    ensures { result ≡ sub_owns place }
+{
+    matches!(
+        place,
+        Place::SubmissionHead
+            | Place::SubmissionTail
+            | Place::SubmissionFlags
+            | Place::SubmissionDropped
+            | Place::Array(_)
+            | Place::Slot(_)
+    )
+}
+
+fn is_of_completions(place: Place) -> bool
+    ensures { result ≡ com_owns place }
+{
+    matches!(
+        place,
+        Place::CompletionHead | Place::CompletionTail | Place::Completion(_)
+    )
+}
+
+fn is_of_table(place: Place) -> bool
+    ensures { result ≡ table_owns place }
+{
+    matches!(place, Place::Request(_))
+}
+
+fn is_of_threads(place: Place) -> bool
+    ensures { result ≡ threads_owns place }
+{
+    matches!(
+        place,
+        Place::ProgramCounter(_) | Place::ThreadStage(_) | Place::Last(_) | Place::Got(_)
+    )
+}
