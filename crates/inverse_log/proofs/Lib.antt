@@ -1,0 +1,4 @@
+pub mod Runs
+pub mod Keeping
+pub mod Pushing
+pub mod Walking

@@ -1,0 +1,115 @@
+-- Runs, their prefixes, and records that lead back.
+use Rattle.std.proofs.Common.{◌≡◌, ℕ, zero, suc, ◌+◌, ◌<◌, List, [], ◌∷◌, ◌++◌, ◌⊎◌, inl, inr, length, take, get_or, refl, sym, ap, ◌∙◌, subst, arith, add-one}
+use Rattle.std.specs.Prelude.{Option, Some, None}
+use Rattle.places.specs.declared.value.Change.{Change}
+use Rattle.machine.specs.declared.whole.Machine.{Machine}
+use Rattle.machine.specs.declared.setup.Setup.{Setup}
+use Rattle.machine.specs.declared.event.Event.{Event}
+use Rattle.machine.specs.declared.event.Refusal.{Refusal}
+use Rattle.machine.specs.declared.event.Refusal.TheVariants.{Memory}
+use Rattle.machine.specs.Steps.{refusal, after}
+use Rattle.machine.specs.Runs.{run, Accepts, Link, Linked, IsRefused, start}
+use Rattle.inverse_log.specs.Walks.{Stops}
+
+-- ---- runs
+
+pub run-take_suc : (s : Machine) (es : List Event) (i : ℕ) (e : Event) → i < length es → e ≡ get_or es i e → run s (take (suc i) es) ≡ after (run s (take i es)) e
+run-take_suc s [] i e h g = absurd (omega arith)
+run-take_suc s (x ∷ es) zero e h g = ap (λ y. after s y) (sym g)
+run-take_suc s (x ∷ es) (suc i) e h g = run-take_suc (after s x) es i e (omega arith) g
+
+pub run-take_more : (s : Machine) (es : List Event) (i : ℕ) (e : Event) → i < length es → e ≡ get_or es i e → run s (take (i + 1) es) ≡ after (run s (take i es)) e
+run-take_more s es i e h g = rw add-one (run-take_suc s es i e h g)
+
+pub run-push : (s : Machine) (es : List Event) (e : Event) → run s (es ++ e ∷ []) ≡ after (run s es) e
+run-push s [] e = refl
+run-push s (x ∷ es) e = run-push (after s x) es e
+
+pub run-append : (s : Machine) (es fs : List Event) → run s (es ++ fs) ≡ run (run s es) fs
+run-append s [] fs = refl
+run-append s (x ∷ es) fs = run-append (after s x) es fs
+
+pub run_all : (s : Machine) (es : List Event) (n : ℕ) → n ≡ length es → run s (take n es) ≡ run s es
+run_all s [] zero h = refl
+run_all s [] (suc n) h = refl
+run_all s (x ∷ es) zero h = absurd (omega arith)
+run_all s (x ∷ es) (suc n) h = run_all (after s x) es n (omega arith)
+
+-- ---- accepted events
+
+pub accepts-append : (s : Machine) (es fs : List Event) → Accepts s es → Accepts (run s es) fs → Accepts s (es ++ fs)
+accepts-append s [] fs a b = b
+accepts-append s (e ∷ es) fs a b = (a.0, accepts-append (after s e) es fs a.1 b)
+
+pub accepts-push : (s : Machine) (es : List Event) (e : Event) → Accepts s es → refusal (run s es) e ≡ None → Accepts s (es ++ e ∷ [])
+accepts-push s es e a b = accepts-append s es (e ∷ []) a (b, tt)
+
+-- the events behind those that are accepted
+pub accepts-behind : (s : Machine) (es fs : List Event) → Accepts s (es ++ fs) → Accepts (run s es) fs
+accepts-behind s [] fs a = a
+accepts-behind s (e ∷ es) fs a = accepts-behind (after s e) es fs a.1
+
+-- ---- links
+
+pub linked_runs : (s m : Machine) (es : List Event) (rs : List (List Change)) → Linked s es rs m → m ≡ run s es
+linked_runs s m [] [] l = l
+linked_runs s m [] (r ∷ rs) l = absurd l
+linked_runs s m (e ∷ es) [] l = absurd l
+linked_runs s m (e ∷ es) (r ∷ rs) l = linked_runs l.0 m es rs l.2 ∙ ap (λ x. run x es) l.1.next.changed
+
+pub linked_accepts : (s m : Machine) (es : List Event) (rs : List (List Change)) → Linked s es rs m → Accepts s es
+linked_accepts s m [] [] l = tt
+linked_accepts s m [] (r ∷ rs) l = absurd l
+linked_accepts s m (e ∷ es) [] l = absurd l
+linked_accepts s m (e ∷ es) (r ∷ rs) l = (l.1.next.accepted, subst (λ (x : Machine). Accepts x es) l.1.next.changed (linked_accepts l.0 m es rs l.2))
+
+pub length_linked : (s m : Machine) (es : List Event) (rs : List (List Change)) → Linked s es rs m → length rs ≡ length es
+length_linked s m [] [] l = refl
+length_linked s m [] (r ∷ rs) l = absurd l
+length_linked s m (e ∷ es) [] l = absurd l
+length_linked s m (e ∷ es) (r ∷ rs) l = ap suc (length_linked l.0 m es rs l.2)
+
+-- the links behind the first
+linked_rest : (s m : Machine) (e : Event) (es : List Event) (r : List Change) (rs : List (List Change)) → Linked s (e ∷ es) (r ∷ rs) m → Linked (after s e) es rs m
+linked_rest s m e es r rs l = subst (λ (x : Machine). Linked x es rs m) l.1.next.changed l.2
+
+-- the first link
+linked_first : (s m : Machine) (e : Event) (es : List Event) (r : List Change) (rs : List (List Change)) → Linked s (e ∷ es) (r ∷ rs) m → Link s e r (after s e)
+linked_first s m e es r rs l = subst (λ (x : Machine). Link s e r x) l.1.next.changed l.1
+
+-- each record leads from the moment behind its event to the one before
+pub linked_at : (s m : Machine) (es : List Event) (rs : List (List Change)) (i : ℕ) (r : List Change) → Linked s es rs m → i < length es → r ≡ get_or rs i r → (e : Event) × Link (run s (take i es)) e r (run s (take (suc i) es))
+linked_at s m [] rs i r l h g = absurd (omega arith)
+linked_at s m (e ∷ es) [] i r l h g = absurd l
+linked_at s m (e ∷ es) (x ∷ rs) zero r l h g = (e, subst (λ (y : List Change). Link s e y (after s e)) (sym g) (linked_first s m e es x rs l))
+linked_at s m (e ∷ es) (x ∷ rs) (suc i) r l h g = linked_at (after s e) m es rs i r (linked_rest s m e es x rs l) (omega arith) g
+
+-- a run goes on by one event
+pub linked_more : (s m n : Machine) (es : List Event) (rs : List (List Change)) (e : Event) (r : List Change) → Linked s es rs m → Link m e r n → Linked s (es ++ e ∷ []) (rs ++ r ∷ []) n
+linked_more s m n [] [] e r h k = (n, subst (λ (x : Machine). Link x e r n) h k, refl)
+linked_more s m n [] (x ∷ xs) e r h k = absurd h
+linked_more s m n (f ∷ fs) [] e r h k = absurd h
+linked_more s m n (f ∷ fs) (x ∷ xs) e r h k = (h.0, h.1, linked_more h.0 m n fs xs e r h.2 k)
+
+-- the first links alone
+pub linked_take : (s m : Machine) (es : List Event) (rs : List (List Change)) (n : ℕ) → Linked s es rs m → Linked s (take n es) (take n rs) (run s (take n es))
+linked_take s m es rs zero l = refl
+linked_take s m [] [] (suc n) l = refl
+linked_take s m [] (r ∷ rs) (suc n) l = absurd l
+linked_take s m (e ∷ es) [] (suc n) l = absurd l
+linked_take s m (e ∷ es) (r ∷ rs) (suc n) l = (after s e, linked_first s m e es r rs l, linked_take (after s e) m es rs n (linked_rest s m e es r rs l))
+
+-- ---- refusals
+
+-- why a step was refused, by what it promises
+pub why_refused : (o : Option Refusal) (n : Refusal) → ((k : Refusal) → o ≡ Some k → n ≡ k) → (o ≡ None → n ≡ Memory) → (o ≡ Some n) ⊎ (n ≡ Memory)
+why_refused None n f g = inr (g refl)
+why_refused (Some k) n f g = inl (ap Some (sym (f k refl)))
+
+-- an event that stops a run from its start is refused there, or wants memory
+pub is_refused : (setup : Setup) (es : List Event) (i : ℕ) (n : Refusal) → Stops (start setup) es i n → (IsRefused setup es i n) ⊎ (n ≡ Memory)
+is_refused setup es i n h = by h.refused
+  where
+    by : (refusal (run (start setup) (take i es)) h.event ≡ Some n) ⊎ (n ≡ Memory) → (IsRefused setup es i n) ⊎ (n ≡ Memory)
+    by (inl e) = inl (record { event = h.event; there = h.there; runs = h.runs; refused = e })
+    by (inr e) = inr e

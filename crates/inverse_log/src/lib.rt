@@ -1,0 +1,8 @@
+//! A run with its records, and the walker that goes to any moment of it.
+#![tactic(auto)]
+
+pub mod refusal;
+pub mod walker;
+
+pub use refusal::{ExtendRefusal, WalkRefusal};
+pub use walker::Walker;
