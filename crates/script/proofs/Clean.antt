@@ -1,0 +1,145 @@
+-- A JSON value that was read is never told as no JSON.
+use Rattle.std.proofs.Common.{◌≡◌, ◌≢◌, ℕ, ◌+◌, Bool, true, false, cond, nat_le, nat_lt, List, [], ◌∷◌, length, Option, Some, None, Result, Ok, Err}
+use Rattle.std.specs.Prelude.{codes, IsUtf8}
+use Rattle.serde_json.specs.Data.{Data, null, boolean, number, string, array, object}
+use Rattle.serde_json.specs.Find.{get}
+use Rattle.serde_json.specs.Read.{read}
+use Rattle.ring_words.specs.Rings.{rounded}
+use Rattle.machine.specs.declared.event.Event.{Event}
+use Rattle.machine.specs.declared.setup.Instruction.{Instruction}
+use Rattle.script.specs.declared.fault.Key.{Key}
+use Rattle.script.specs.declared.fault.Key.TheVariants as key
+use Rattle.script.specs.declared.fault.Path.{Path}
+use Rattle.script.specs.declared.fault.ScriptFault.{ScriptFault}
+use Rattle.script.specs.declared.fault.ScriptFault.TheVariants.{NotJson, Shape, Range, Limit, Memory}
+use Rattle.script.specs.Faults.{◌>>=◌, ranged, form_then_ranges, at_key, at_item, at_inner, Gives}
+use Rattle.script.specs.Lists.{has_keys, keyed, listed, each, at_most, required}
+use Rattle.script.specs.Numbers.{whole_of, between, number_between}
+use Rattle.script.specs.Instructions.{instruction_form, instruction_in_range, instruction_at, thread_at}
+use Rattle.script.specs.Events.{event_form, event_in_range, event_at}
+use Rattle.script.specs.Scripts.{Plan, is_script_key, entries_of, large_enough, cq_of, base_of, threads_of, schedule_of, setup_with, script_of, IsNoJson}
+
+abbrev Clean : {A : Type 0} → Result A ScriptFault → Type 0
+Clean (Ok x) = Unit {0}
+Clean (Err NotJson) = ⊥
+Clean (Err (Shape p)) = Unit {0}
+Clean (Err (Range p)) = Unit {0}
+Clean (Err (Limit p)) = Unit {0}
+Clean (Err Memory) = Unit {0}
+
+bind_clean : {A B : Type 0} → (r : Result A ScriptFault) (f : A → Result B ScriptFault) → Clean r → ((x : A) → Clean (f x)) → Clean (r >>= f)
+bind_clean (Ok x) f h k = k x
+bind_clean (Err NotJson) f h k = absurd h
+bind_clean (Err (Shape p)) f h k = tt
+bind_clean (Err (Range p)) f h k = tt
+bind_clean (Err (Limit p)) f h k = tt
+bind_clean (Err Memory) f h k = tt
+
+ranged_clean : {A : Type 0} → (p : Path) (o : Option A) → Clean (ranged p o)
+ranged_clean p None = tt
+ranged_clean p (Some x) = tt
+
+formed_clean : {F A : Type 0} → (p : Path) (o : Option F) (f : F → Option A) → Clean (form_then_ranges p o f)
+formed_clean p None f = tt
+formed_clean p (Some w) f = ranged_clean p (f w)
+
+required_clean : (k : Key) (o : Option Data) → Clean (required k o)
+required_clean k None = tt
+required_clean k (Some d) = tt
+
+listed_clean : (p : Path) (d : Data) → Clean (listed p d)
+listed_clean p null = tt
+listed_clean p (boolean b) = tt
+listed_clean p (number n) = tt
+listed_clean p (string s) = tt
+listed_clean p (array ds) = tt
+listed_clean p (object ms) = tt
+
+chosen_clean : {A : Type 0} → (b : Bool) (r s : Result A ScriptFault) → Clean r → Clean s → Clean (cond b r s)
+chosen_clean true r s h k = h
+chosen_clean false r s h k = k
+
+each_clean : {A : Type 0} → (f : ℕ → Data → Result A ScriptFault) (i : ℕ) (ds : List Data) → ((j : ℕ) (d : Data) → Clean (f j d)) → Clean (each f i ds)
+each_clean f i [] k = tt
+each_clean f i (d ∷ ds) k =
+    bind_clean (f i d) (λ x. each f (i + 1) ds >>= λ xs. Ok (x ∷ xs)) (k i d) (λ x. bind_clean (each f (i + 1) ds) (λ xs. Ok (x ∷ xs)) (each_clean f (i + 1) ds k) (λ xs. tt))
+
+at_most_clean : {A : Type 0} → (most : ℕ) (p : Path) (f : ℕ → Data → Result A ScriptFault) (ds : List Data) → ((j : ℕ) (d : Data) → Clean (f j d)) → Clean (at_most most p f ds)
+at_most_clean most p f ds k = chosen_clean (nat_lt most (length ds)) (Err (Limit p)) (each f 0 ds) tt (each_clean f 0 ds k)
+
+entries_clean : (d : Option Data) → Clean (entries_of d)
+entries_clean None = tt
+entries_clean (Some d) = formed_clean (at_key key.Entries) (whole_of d) (between 1 4096)
+
+cq_clean : (entries : ℕ) (d : Option Data) → Clean (cq_of entries d)
+cq_clean entries None = tt
+cq_clean entries (Some d) =
+    bind_clean (number_between (at_key key.Cq) 1 8192 d) (large_enough entries) (formed_clean (at_key key.Cq) (whole_of d) (between 1 8192)) (λ n. chosen_clean (nat_le (rounded entries) (rounded n)) (Ok (Some n)) (Err (Range (at_key key.Cq))) tt tt)
+
+base_clean : (d : Option Data) → Clean (base_of d)
+base_clean None = tt
+base_clean (Some d) = formed_clean (at_key key.Base) (whole_of d) (between 0 4294967295)
+
+thread_clean : (size t : ℕ) (d : Data) → Clean (thread_at size t d)
+thread_clean size t d =
+    bind_clean (listed (at_item key.Threads t) d) (at_most 4096 (at_item key.Threads t) (instruction_at size t)) (listed_clean (at_item key.Threads t) d) (λ ds. at_most_clean 4096 (at_item key.Threads t) (instruction_at size t) ds (λ i e. formed_clean (at_inner key.Threads t i) (instruction_form e) (instruction_in_range size)))
+
+threads_clean : (size : ℕ) (d : Option Data) → Clean (threads_of size d)
+threads_clean size d =
+    let r = required key.Threads d in
+    bind_clean (r >>= listed (at_key key.Threads)) (at_most 16 (at_key key.Threads) (thread_at size)) (bind_clean r (listed (at_key key.Threads)) (required_clean key.Threads d) (listed_clean (at_key key.Threads))) (λ ds. at_most_clean 16 (at_key key.Threads) (thread_at size) ds (thread_clean size))
+
+schedule_clean : (d : Option Data) → Clean (schedule_of d)
+schedule_clean d =
+    let r = required key.Schedule d in
+    bind_clean (r >>= listed (at_key key.Schedule)) (at_most 65536 (at_key key.Schedule) event_at) (bind_clean r (listed (at_key key.Schedule)) (required_clean key.Schedule d) (listed_clean (at_key key.Schedule))) (λ ds. at_most_clean 65536 (at_key key.Schedule) event_at ds (λ i e. formed_clean (at_item key.Schedule i) (event_form e) event_in_range))
+
+abbrev with_schedule : Data → ℕ → Option ℕ → ℕ → List (List Instruction) → List Event → Result Plan ScriptFault
+with_schedule d entries cq base threads schedule = Ok (record { setup = setup_with entries cq base threads; schedule = schedule })
+
+abbrev with_threads : Data → ℕ → Option ℕ → ℕ → List (List Instruction) → Result Plan ScriptFault
+with_threads d entries cq base threads = schedule_of (get (codes "schedule") d) >>= with_schedule d entries cq base threads
+
+abbrev with_base : Data → ℕ → Option ℕ → ℕ → Result Plan ScriptFault
+with_base d entries cq base = threads_of (rounded entries) (get (codes "threads") d) >>= with_threads d entries cq base
+
+abbrev with_cq : Data → ℕ → Option ℕ → Result Plan ScriptFault
+with_cq d entries cq = base_of (get (codes "base") d) >>= with_base d entries cq
+
+abbrev with_entries : Data → ℕ → Result Plan ScriptFault
+with_entries d entries = cq_of entries (get (codes "cq") d) >>= with_cq d entries
+
+abbrev with_keys : Data → Unit {0} → Result Plan ScriptFault
+with_keys d u = entries_of (get (codes "entries") d) >>= with_entries d
+
+script_clean : (d : Data) → Clean (script_of d)
+script_clean d =
+    bind_clean (keyed is_script_key (at_key key.Document) d) (with_keys d) (chosen_clean (has_keys is_script_key d) (Ok tt) (Err (Shape (at_key key.Document))) tt tt) (λ u.
+    bind_clean (entries_of (get (codes "entries") d)) (with_entries d) (entries_clean (get (codes "entries") d)) (λ entries.
+    bind_clean (cq_of entries (get (codes "cq") d)) (with_cq d entries) (cq_clean entries (get (codes "cq") d)) (λ cq.
+    bind_clean (base_of (get (codes "base") d)) (with_base d entries cq) (base_clean (get (codes "base") d)) (λ base.
+    bind_clean (threads_of (rounded entries) (get (codes "threads") d)) (with_threads d entries cq base) (threads_clean (rounded entries) (get (codes "threads") d)) (λ threads.
+    bind_clean (schedule_of (get (codes "schedule") d)) (with_schedule d entries cq base threads) (schedule_clean (get (codes "schedule") d)) (λ schedule. tt))))))
+
+clean_is : {A : Type 0} → (r : Result A ScriptFault) → Clean r → r ≢ Err NotJson
+clean_is (Ok x) h e = absurd (cc)
+clean_is (Err NotJson) h e = h
+clean_is (Err (Shape p)) h e = absurd (cc)
+clean_is (Err (Range p)) h e = absurd (cc)
+clean_is (Err (Limit p)) h e = absurd (cc)
+clean_is (Err Memory) h e = absurd (cc)
+
+pub script_is_json : (d : Data) → script_of d ≢ Err NotJson
+script_is_json d = clean_is (script_of d) (script_clean d)
+
+-- what was answered for a value that was read is no NotJson
+pub answered : (text : List ℕ) (told : Result Plan ScriptFault) (d : Data) → Gives (λ s. s) told (script_of d) → told ≡ Err NotJson → IsNoJson text
+answered text (Ok s) d g e = absurd (cc)
+answered text (Err NotJson) d g e = absurd (script_is_json d g)
+answered text (Err (Shape p)) d g e = absurd (cc)
+answered text (Err (Range p)) d g e = absurd (cc)
+answered text (Err (Limit p)) d g e = absurd (cc)
+answered text (Err Memory) d g e = absurd (cc)
+
+pub no_json_read : {A : Type 0} → (text : List ℕ) (d : Data) → IsUtf8 text → read text ≡ Some d → IsNoJson text → A
+no_json_read text d u r n = let e = n.1 u in absurd (cc)

@@ -1,0 +1,7 @@
+use Rattle.std.proofs.Common.{option_map}
+use Rattle.serde_json.specs.View.{view}
+use Rattle.script.proofs.Starts.{startable}
+use Rattle.script.proofs.reading.script_from.Goals as goal
+
+pub of-requires : goal.of-requires
+of-requires c = rw (c.new.ensures, c.new-2.ensures, c.new-3.ensures) (startable c.in_ok-entries.entries c.ring_size.result c.in_ok-cq.cq c.in_ok-base.base c.in_ok-threads.threads c.in_ok-schedule.schedule (option_map (λ v. view v.now) c.get.result) (option_map (λ v. view v.now) c.get-2.result) (option_map (λ v. view v.now) c.get-4.result) (option_map (λ v. view v.now) c.get-5.result) c.in_ok-entries.ensures c.in_ok-cq.ensures c.ring_size.ensures c.in_ok-threads.ensures c.in_ok-schedule.ensures)

@@ -1,0 +1,115 @@
+-- Entries of the submission ring, as a script writes them (io_uring_enter(2)).
+use Rattle.std.specs.Prelude.{ℕ, ℤ, pos, replicate, take, drop, ◌||◌, List, codes, Bool, if◌then◌else◌, Option, Some, None, option_map}
+use Rattle.std.specs.Int.{w32, cast_signed}
+use Rattle.std.specs.Result.{result_ok}
+use Rattle.std.specs.Str.{bytes_eq}
+use Rattle.byteorder.specs.Endian.{little_number}
+use Rattle.hex.specs.Hex.{decode_sized}
+use Rattle.serde_json.specs.Data.{Data, string}
+use Rattle.serde_json.specs.Find.{get}
+use Rattle.entries.specs.declared.entry.Sqe.{Sqe}
+use Rattle.script.specs.declared.number.Whole.{Whole}
+use Rattle.script.specs.declared.entry.EntryNumbers.{EntryNumbers}
+use Rattle.script.specs.declared.entry.EntryForm.{EntryForm}
+use Rattle.script.specs.declared.entry.EntryForm.TheVariants.{Written, Numbers}
+use Rattle.script.specs.Numbers.{whole_or_zero, between, signed_word}
+use Rattle.script.specs.Lists.{has_keys}
+
+infixl 10 ◌>>=◌
+abbrev pub ◌>>=◌ : {A B : Type 0} → Option A → (A → Option B) → Option B
+(Some x) >>= f = f x
+None >>= f = None
+
+abbrev pub is_entry_key : List ℕ → Bool
+is_entry_key k =
+    bytes_eq k (codes "op") || bytes_eq k (codes "flags") || bytes_eq k (codes "ioprio") || bytes_eq k (codes "fd") || bytes_eq k (codes "off")
+    || bytes_eq k (codes "addr") || bytes_eq k (codes "len") || bytes_eq k (codes "opflags") || bytes_eq k (codes "ud")
+
+-- the whole number at a key, 0 where it is missing
+abbrev pub whole_at : List ℕ → Data → Option Whole
+whole_at k d = whole_or_zero (get k d)
+
+abbrev pub entry_numbers : Data → Option EntryNumbers
+entry_numbers d = do
+  op ← whole_at (codes "op") d
+  flags ← whole_at (codes "flags") d
+  ioprio ← whole_at (codes "ioprio") d
+  fd ← whole_at (codes "fd") d
+  off ← whole_at (codes "off") d
+  addr ← whole_at (codes "addr") d
+  len ← whole_at (codes "len") d
+  opflags ← whole_at (codes "opflags") d
+  ud ← whole_at (codes "ud") d
+  Some (record { op = op; flags = flags; ioprio = ioprio; fd = fd; off = off; addr = addr; len = len; opflags = opflags; ud = ud })
+
+-- an object with no other key than these
+abbrev pub object_form : Data → Option EntryForm
+object_form d = if has_keys is_entry_key d then option_map Numbers (entry_numbers d) else None
+
+-- the number of so many bytes from an offset on, the lowest byte first
+abbrev pub number_at : ℕ → ℕ → List ℕ → ℕ
+number_at offset width bytes = little_number width (take width (drop offset bytes))
+
+-- a number of four bytes in two's complement
+abbrev pub signed_at : ℕ → List ℕ → ℤ
+signed_at offset bytes = cast_signed w32 (number_at offset 4 bytes)
+
+-- the entry that 64 bytes hold
+unfoldable pub entry_of_bytes : List ℕ → Sqe
+entry_of_bytes bytes = record {
+  opcode = number_at 0 1 bytes;
+  flags = number_at 1 1 bytes;
+  ioprio = number_at 2 2 bytes;
+  fd = signed_at 4 bytes;
+  off = number_at 8 8 bytes;
+  addr = number_at 16 8 bytes;
+  len = number_at 24 4 bytes;
+  operation_flags = number_at 28 4 bytes;
+  user_data = number_at 32 8 bytes;
+  buf_index = number_at 40 2 bytes;
+  personality = number_at 42 2 bytes;
+  splice_fd_in = signed_at 44 bytes;
+  rest = take 16 (drop 48 bytes);
+}
+
+-- 128 hex digits, of either case
+abbrev pub entry_of_text : List ℕ → Option Sqe
+entry_of_text text = option_map entry_of_bytes (result_ok (decode_sized text 64))
+
+-- a text, or an object
+abbrev pub entry_form : Data → Option EntryForm
+entry_form (string text) = option_map Written (entry_of_text text)
+entry_form d = object_form d
+
+-- all other bytes are 0
+abbrev pub entry_of_numbers : EntryNumbers → Option Sqe
+entry_of_numbers n = do
+  opcode ← between 0 255 n.op
+  flags ← between 0 255 n.flags
+  ioprio ← between 0 65535 n.ioprio
+  fd ← signed_word n.fd
+  off ← between 0 18446744073709551615 n.off
+  addr ← between 0 18446744073709551615 n.addr
+  len ← between 0 4294967295 n.len
+  operation_flags ← between 0 4294967295 n.opflags
+  user_data ← between 0 18446744073709551615 n.ud
+  Some (record {
+    opcode = opcode;
+    flags = flags;
+    ioprio = ioprio;
+    fd = fd;
+    off = off;
+    addr = addr;
+    len = len;
+    operation_flags = operation_flags;
+    user_data = user_data;
+    buf_index = 0;
+    personality = 0;
+    splice_fd_in = pos 0;
+    rest = replicate 16 0;
+  })
+
+-- an entry whose numbers keep their ranges
+abbrev pub entry_in_range : EntryForm → Option Sqe
+entry_in_range (Written e) = Some e
+entry_in_range (Numbers n) = entry_of_numbers n

@@ -1,0 +1,100 @@
+-- Which script a text is, or its first fault.
+use Rattle.std.specs.Prelude.{◌≡◌, ℕ, zero, ◌<◌, ◌≤◌, ◌||◌, nat_le, List, length, codes, Bool, if◌then◌else◌, Option, Some, None, Result, Ok, Err, IsUtf8, [], true, false}
+use Rattle.std.specs.List.{list_any}
+use Rattle.std.specs.Str.{bytes_eq}
+use Rattle.serde_json.specs.Data.{Data}
+use Rattle.serde_json.specs.Find.{get}
+use Rattle.serde_json.specs.Read.{read}
+use Rattle.opcodes.specs.declared.choice.Choice.TheVariants.{Short}
+use Rattle.machine.specs.Setups.{setup_refusal}
+use Rattle.ring_words.specs.Rings.{rounded}
+use Rattle.machine.specs.declared.event.Event.{Event}
+use Rattle.machine.specs.declared.event.Event.TheVariants.{Finish}
+use Rattle.machine.specs.declared.setup.Instruction.{Instruction}
+use Rattle.machine.specs.declared.setup.Setup.{Setup}
+use Rattle.script.specs.declared.fault.Key.TheVariants as key
+use Rattle.script.specs.declared.fault.ScriptFault.{ScriptFault}
+use Rattle.script.specs.declared.fault.ScriptFault.TheVariants.{NotJson, Range, Limit}
+use Rattle.script.specs.Faults.{◌>>=◌, at_key}
+use Rattle.script.specs.Lists.{listed, at_most, keyed, required}
+use Rattle.script.specs.Numbers.{number_between}
+use Rattle.script.specs.Instructions.{thread_at}
+use Rattle.script.specs.Events.{event_at}
+
+-- what a script gives: a setup, and the events to run from it
+pub record Plan : Type 0 where
+  pub setup : Setup
+  pub schedule : List Event
+
+abbrev pub is_script_key : List ℕ → Bool
+is_script_key k =
+    bytes_eq k (codes "entries") || bytes_eq k (codes "cq") || bytes_eq k (codes "base") || bytes_eq k (codes "threads")
+    || bytes_eq k (codes "schedule")
+
+abbrev pub entries_of : Option Data → Result ℕ ScriptFault
+entries_of d = required key.Entries d >>= number_between (at_key key.Entries) 1 4096
+
+-- rounded up, at least as many as the rounded entries
+abbrev pub large_enough : ℕ → ℕ → Result (Option ℕ) ScriptFault
+large_enough entries cq = if nat_le (rounded entries) (rounded cq) then Ok (Some cq) else Err (Range (at_key key.Cq))
+
+abbrev pub cq_of : ℕ → Option Data → Result (Option ℕ) ScriptFault
+cq_of entries None = Ok None
+cq_of entries (Some d) = number_between (at_key key.Cq) 1 8192 d >>= large_enough entries
+
+abbrev pub base_of : Option Data → Result ℕ ScriptFault
+base_of None = Ok 0
+base_of (Some d) = number_between (at_key key.Base) 0 4294967295 d
+
+abbrev pub threads_of : ℕ → Option Data → Result (List (List Instruction)) ScriptFault
+threads_of size d = required key.Threads d >>= listed (at_key key.Threads) >>= at_most 16 (at_key key.Threads) (thread_at size)
+
+abbrev pub schedule_of : Option Data → Result (List Event) ScriptFault
+schedule_of d = required key.Schedule d >>= listed (at_key key.Schedule) >>= at_most 65536 (at_key key.Schedule) event_at
+
+abbrev pub setup_with : ℕ → Option ℕ → ℕ → List (List Instruction) → Setup
+setup_with entries cq base threads = record {
+  entries = entries;
+  cq = cq;
+  sqpoll = false;
+  submit_all = false;
+  base = base;
+  memory = [];
+  objects = [];
+  fds = [];
+  threads = threads;
+}
+
+-- The script that a JSON value is, or its first fault: an unknown key first, then the keys in this order.
+abbrev pub script_of : Data → Result Plan ScriptFault
+script_of d = do
+  _ ← keyed is_script_key (at_key key.Document) d
+  entries ← entries_of (get (codes "entries") d)
+  cq ← cq_of entries (get (codes "cq") d)
+  base ← base_of (get (codes "base") d)
+  threads ← threads_of (rounded entries) (get (codes "threads") d)
+  schedule ← schedule_of (get (codes "schedule") d)
+  Ok (record { setup = setup_with entries cq base threads; schedule = schedule })
+
+abbrev pub limit : ℕ
+limit = 8388608
+
+-- a text that keeps its limit, and is no JSON value
+abbrev pub IsNoJson : List ℕ → Type 0
+IsNoJson text = (length text ≤ limit) × (IsUtf8 text → read text ≡ None)
+
+-- What a text is: too long, no JSON, or a JSON value that is a script or has a fault.
+pub data Reads (text : List ℕ) : Result Plan ScriptFault → Type 0 where
+  long : limit < length text → Reads text (Err (Limit (at_key key.Document)))
+  unread : IsNoJson text → Reads text (Err NotJson)
+  value : (d : Data) → length text ≤ limit → IsUtf8 text → read text ≡ Some d → Reads text (script_of d)
+
+abbrev pub is_short_of_nothing : Event → Bool
+is_short_of_nothing (Finish row (Short zero)) = true
+is_short_of_nothing _ = false
+
+-- What each script keeps: a run can start from its setup, it has at most 65,536 events, and no transfer of 0 bytes.
+pub record Startable (p : Plan) : Type 0 where
+  pub setup : setup_refusal p.setup ≡ None
+  pub events : length p.schedule ≤ 65536
+  pub transfers : list_any is_short_of_nothing p.schedule ≡ false

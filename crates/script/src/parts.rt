@@ -1,0 +1,49 @@
+//! A script: a setup and a schedule.
+ghost use Rattle.std.specs.Prelude.{◌≡◌};
+ghost use Rattle.script.specs.Scripts.{Startable};
+
+use machine::{Event, Setup};
+use places::Items;
+use std::marker::Model;
+
+/// A setup from which a run can start, and at most 65,536 events to run.
+#[derive(Debug, Drop)]
+pub struct Script {
+    setup: Setup,
+    schedule: Items<Event>,
+}
+
+impl Model for Script {
+    ghost use Rattle.script.specs.Scripts.{Plan, Startable};
+
+    ghost Value = { Plan };
+
+    ghost view = { λ s. record { setup = s.setup; schedule = s.schedule } };
+
+    ghost invariant = { λ s. Startable (record { setup = s.setup; schedule = s.schedule }) };
+}
+
+impl Script {
+    pub(crate) fn of(setup: Setup, schedule: Items<Event>) -> Script
+        requires { Startable (record { setup = setup; schedule = schedule }) }
+        ensures { result ≡ record { setup = setup; schedule = schedule } }
+    {
+        Script { setup, schedule }
+    }
+
+    /// What its run starts from.
+    pub fn setup(&self) -> &Setup
+        ensures value { result.now ≡ self.now.setup }
+        ensures kept { Startable self.now }
+    {
+        &self.setup
+    }
+
+    /// The events that it runs at first.
+    pub fn schedule(&self) -> &[Event]
+        ensures value { result.now ≡ self.now.schedule }
+        ensures kept { Startable self.now }
+    {
+        self.schedule.as_slice()
+    }
+}

@@ -1,0 +1,136 @@
+//! Reading a script, key by key.
+ghost use Rattle.std.specs.Prelude.{◌≡◌, ◌≢◌, ◌≤◌, ◌<◌, ◌⊎◌, option_map, map, IfOk, IfErr};
+ghost use Rattle.serde_json.specs.View.{view};
+ghost use Rattle.script.specs.Faults.{Gives};
+ghost use Rattle.script.specs.Scripts.{entries_of, large_enough, cq_of, base_of, threads_of, schedule_of, script_of, Reads, IsNoJson};
+ghost use Rattle.ring_words.specs.Rings.{rounded};
+
+use crate::event::read_events;
+use crate::fault::{Key, ScriptFault};
+use crate::keys::{items_of, key_path, script_object};
+use crate::number::number_between;
+use crate::parts::Script;
+use crate::threads::read_thread_list;
+use machine::{Event, Instruction, Setup, ring_size};
+use places::Items;
+use serde_json::Value;
+use std::alloc::Global;
+
+const LIMIT: usize = 8388608;
+
+fn read_entries(found: Option<&Value>) -> Result<u32, ScriptFault>
+    ensures { result ≡ entries_of (option_map (λ v. view v.now) found.entry) }
+{
+    let path = key_path(Key::Entries);
+    let Some(value) = found else {
+        return Err(ScriptFault::Shape(path));
+    };
+    let n = number_between(path, 1, 4096, value)?;
+    Ok(n as u32)
+}
+
+fn read_cq(entries: u32, found: Option<&Value>) -> Result<Option<u32>, ScriptFault>
+    ensures { result ≡ cq_of entries (option_map (λ v. view v.now) found.entry) }
+{
+    let path = key_path(Key::Cq);
+    let Some(value) = found else {
+        return Ok(None);
+    };
+    let cq = number_between(path, 1, 8192, value)? as u32;
+    if ring_size(entries) <= ring_size(cq) {
+        Ok(Some(cq))
+    } else {
+        Err(ScriptFault::Range(path))
+    }
+}
+
+fn read_base(found: Option<&Value>) -> Result<u32, ScriptFault>
+    ensures { result ≡ base_of (option_map (λ v. view v.now) found.entry) }
+{
+    let Some(value) = found else {
+        return Ok(0);
+    };
+    let n = number_between(key_path(Key::Base), 0, 4294967295, value)?;
+    Ok(n as u32)
+}
+
+fn read_threads(
+    alloc: Global,
+    size: u32,
+    found: Option<&Value>,
+) -> Result<Items<Items<Instruction>>, ScriptFault>
+    ensures { Gives (λ v. v) result (threads_of size (option_map (λ v. view v.now) found.entry)) }
+{
+    let path = key_path(Key::Threads);
+    let Some(value) = found else {
+        return Err(ScriptFault::Shape(path));
+    };
+    let items = items_of(value, path)?;
+    if items.len() > 16 {
+        return Err(ScriptFault::Limit(path));
+    }
+    let threads = read_thread_list(alloc, size, items)?;
+    Ok(Items::of(threads))
+}
+
+fn read_schedule(alloc: Global, found: Option<&Value>) -> Result<Items<Event>, ScriptFault>
+    ensures { Gives (λ v. v) result (schedule_of (option_map (λ v. view v.now) found.entry)) }
+{
+    let path = key_path(Key::Schedule);
+    let Some(value) = found else {
+        return Err(ScriptFault::Shape(path));
+    };
+    let items = items_of(value, path)?;
+    if items.len() > 65536 {
+        return Err(ScriptFault::Limit(path));
+    }
+    let events = read_events(alloc, items)?;
+    Ok(Items::of(events))
+}
+
+// The script that a JSON value is.
+fn script_from(alloc: Global, value: &Value) -> Result<Script, ScriptFault>
+    ensures { Gives (λ s. s) result (script_of (view value.now)) }
+{
+    script_object(value, key_path(Key::Document))?;
+    let entries = read_entries(value.get("entries"))?;
+    let cq = read_cq(entries, value.get("cq"))?;
+    let base = read_base(value.get("base"))?;
+    let threads = read_threads(alloc, ring_size(entries), value.get("threads"))?;
+    let schedule = read_schedule(alloc, value.get("schedule"))?;
+    let setup = Setup {
+        entries,
+        cq,
+        sqpoll: false,
+        submit_all: false,
+        base,
+        memory: Items::new(alloc),
+        objects: Items::new(alloc),
+        fds: Items::new(alloc),
+        threads,
+    };
+    Ok(Script::of(setup, schedule))
+}
+
+/// The script that a text is, or its first fault. A text has at most 8,388,608 bytes.
+pub fn read_script(alloc: Global, text: &[u8]) -> Result<Script, ScriptFault>
+    ensures ok { IfOk result (λ s. Reads text.now (Ok s)) }
+    ensures fault { IfErr result (λ e. e ≢ ScriptFault.Memory → Reads text.now (Err e)) }
+    ensures not_json { result ≡ Err ScriptFault.NotJson → IsNoJson text.now }
+    ensures no_json { IsNoJson text.now
+        → (result ≡ Err ScriptFault.NotJson) ⊎ (result ≡ Err ScriptFault.Memory) }
+{
+    if text.len() > LIMIT {
+        return Err(ScriptFault::Limit(key_path(Key::Document)));
+    }
+    let value = match Value::from_slice(alloc, text) {
+        Ok(value) => value,
+        Err(e) => {
+            if e.is_memory() {
+                return Err(ScriptFault::Memory);
+            }
+            return Err(ScriptFault::NotJson);
+        }
+    };
+    script_from(alloc, &value)
+}
