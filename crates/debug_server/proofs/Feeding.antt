@@ -1,0 +1,159 @@
+-- How what was written and what is left to say move on with each byte.
+use Rattle.std.proofs.lemmas.List.{take_more}
+use Rattle.std.proofs.Common.{◌≡◌, ℕ, ◌+◌, take, drop, get_or, take-append-drop, ◌==◌, ◌<◌, List, [], ◌∷◌, ◌++◌, length, Bool, true, false, Option, refl, sym, ap, ◌∙◌, subst, append_assoc, append-nil}
+use Rattle.std.proofs.KnownBytes.{Appends-nil, Appends-trans}
+use Rattle.std.specs.Io.KnownBytes.{Appends}
+use Rattle.inverse_log.specs.Walks.{Walk}
+use Rattle.debug_server.specs.Replies.{Told}
+use Rattle.debug_server.specs.Lines.{lines_of}
+use Rattle.debug_server.specs.Talks.{asks, Talk, talk, said, output}
+use Rattle.debug_server.specs.Pending.{IsPending, grown, rest_of, Fed, Fills, Breaks, WritesFront}
+use Rattle.debug_server.proofs.Bytes.{lines_of-ended}
+use Rattle.debug_server.proofs.Turns.{Fits, turn, talk_line, said_said, grown_alike}
+
+pub fed_start : (w : Walk) (line : List ℕ) → Fed w line [] [] false w line
+fed_start w line = record { law = λ more others. refl }
+
+-- a byte that ends no line
+pub fed_byte : (w w' : Walk) (bytes : List ℕ) (ts : List Told) (written line : List ℕ) (b : ℕ) → Fed w bytes ts written false w' line → IsPending line → (b == 10) ≡ false → Fed w (bytes ++ b ∷ []) ts written false w' (grown line b)
+fed_byte w w' bytes ts written line b f p e = record {
+  law = λ more others. ap (λ l. talk w (lines_of l) (ts ++ others)) (append_assoc bytes (b ∷ []) more) ∙ f.law (b ∷ more) others ∙ ap (said written) (grown_alike w' line b more others p e);
+}
+
+-- a newline
+pub fed_ended : (w w' : Walk) (bytes : List ℕ) (ts given : List Told) (written line : List ℕ) → Fed w bytes ts written false w' line → IsPending line → Fits (asks line) given → Fed w (bytes ++ 10 ∷ []) (ts ++ given) (written ++ (turn w' line given).text) (turn w' line given).quits (turn w' line given).next []
+fed_ended w w' bytes ts given written line f p fits = record {
+  law = λ more others.
+      ap (λ l. talk w (lines_of l) ((ts ++ given) ++ others)) (append_assoc bytes (10 ∷ []) more)
+      ∙ ap (λ l. talk w (lines_of (bytes ++ 10 ∷ more)) l) (append_assoc ts given others)
+      ∙ f.law (10 ∷ more) (given ++ others)
+      ∙ ap (λ ls. said written (talk w' ls (given ++ others))) (lines_of-ended line more p.plain)
+      ∙ ap (said written) (talk_line w' line (lines_of more) given others fits)
+      ∙ said_said written (turn w' line given).text (rest_of (turn w' line given).quits (turn w' line given).next more others);
+}
+
+-- bytes behind a line that quits
+pub fed_past : (w w' : Walk) (bytes rest : List ℕ) (ts : List Told) (written line line' : List ℕ) → Fed w bytes ts written true w' line → Fed w (bytes ++ rest) ts written true w' line'
+fed_past w w' bytes rest ts written line line' f = record {
+  law = λ more others. ap (λ l. talk w (lines_of l) (ts ++ others)) (append_assoc bytes rest more) ∙ f.law (rest ++ more) others;
+}
+
+-- one run after another
+pub fed_trans : (w v u : Walk) (bytes line bytes' line' : List ℕ) (ts ts' : List Told) (written written' : List ℕ) (q : Bool) → Fed w bytes ts written false v line → Fed v (line ++ bytes') ts' written' q u line' → Fed w (bytes ++ bytes') (ts ++ ts') (written ++ written') q u line'
+fed_trans w v u bytes line bytes' line' ts ts' written written' q f g = record {
+  law = λ more others.
+      ap (λ l. talk w (lines_of l) ((ts ++ ts') ++ others)) (append_assoc bytes bytes' more)
+      ∙ ap (λ l. talk w (lines_of (bytes ++ (bytes' ++ more))) l) (append_assoc ts ts' others)
+      ∙ f.law (bytes' ++ more) (ts' ++ others)
+      ∙ ap (λ l. said written (talk v (lines_of l) (ts' ++ others))) (sym (append_assoc line bytes' more))
+      ∙ ap (said written) (g.law more others)
+      ∙ said_said written written' (rest_of q u (line' ++ more) others);
+}
+
+-- the bytes alone, with nothing behind them
+pub fed_whole : (w w' : Walk) (bytes : List ℕ) (ts : List Told) (written : List ℕ) (q : Bool) (line : List ℕ) → Fed w bytes ts written q w' line → talk w (lines_of bytes) ts ≡ said written (rest_of q w' line [])
+fed_whole w w' bytes ts written q line f =
+    ap (λ l. talk w (lines_of l) ts) (sym (append-nil bytes))
+    ∙ ap (talk w (lines_of (bytes ++ []))) (sym (append-nil ts))
+    ∙ f.law [] []
+    ∙ ap (λ l. said written (rest_of q w' l [])) (append-nil line)
+
+-- ---- the same, with what the writer holds
+
+pub fills_start : (w : Walk) (line : List ℕ) (h : Option (List ℕ)) → Fills w line [] h h false w line
+fills_start w line h = record { written = []; appended = Appends-nil h; fed = fed_start w line }
+
+pub fills_byte : (w : Walk) (line : List ℕ) (b : ℕ) (h : Option (List ℕ)) → IsPending line → (b == 10) ≡ false → Fills w (line ++ b ∷ []) [] h h false w (grown line b)
+fills_byte w line b h p e = record { written = []; appended = Appends-nil h; fed = fed_byte w w line [] [] line b (fed_start w line) p e }
+
+pub fills_ended : (w : Walk) (line : List ℕ) (given : List Told) (h h' : Option (List ℕ)) → IsPending line → Fits (asks line) given → Appends h h' (turn w line given).text → Fills w (line ++ 10 ∷ []) given h h' (turn w line given).quits (turn w line given).next []
+fills_ended w line given h h' p fits a = record { written = (turn w line given).text; appended = a; fed = fed_ended w w line [] given [] line (fed_start w line) p fits }
+
+pub fills_trans : (w v u : Walk) (bytes line bytes' line' : List ℕ) (ts ts' : List Told) (h h' h'' : Option (List ℕ)) (q : Bool) → Fills w bytes ts h h' false v line → Fills v (line ++ bytes') ts' h' h'' q u line' → Fills w (bytes ++ bytes') (ts ++ ts') h h'' q u line'
+fills_trans w v u bytes line bytes' line' ts ts' h h' h'' q f g = record {
+  written = f.written ++ g.written;
+  appended = Appends-trans h h' h'' f.written g.written f.appended g.appended;
+  fed = fed_trans w v u bytes line bytes' line' ts ts' f.written g.written q f.fed g.fed;
+}
+
+pub fills_past : (w w' : Walk) (bytes rest : List ℕ) (ts : List Told) (line line' : List ℕ) (h h' : Option (List ℕ)) → Fills w bytes ts h h' true w' line → Fills w (bytes ++ rest) ts h h' true w' line'
+fills_past w w' bytes rest ts line line' h h' f = record { written = f.written; appended = f.appended; fed = fed_past w w' bytes rest ts f.written line line' f.fed }
+
+-- the reply to the line was cut short
+pub breaks_ended : (w : Walk) (line : List ℕ) (given : List Told) (h h' : Option (List ℕ)) → IsPending line → Fits (asks line) given → WritesFront h h' (turn w line given).text → Breaks w (line ++ 10 ∷ []) given h h'
+breaks_ended w line given h h' p fits f = record {
+  front = f.front;
+  appended = f.appended;
+  begins = λ more others. let t = (fed_ended w w line [] given [] line (fed_start w line) p fits).law more others in (
+    f.rest ++ (rest_of (turn w line given).quits (turn w line given).next more others).text,
+    ap (λ (x : Talk). x.text) t ∙ ap (λ l. l ++ (rest_of (turn w line given).quits (turn w line given).next more others).text) f.whole ∙ append_assoc f.front f.rest (rest_of (turn w line given).quits (turn w line given).next more others).text,
+  );
+}
+
+pub breaks_more : (w : Walk) (bytes rest : List ℕ) (ts : List Told) (h h' : Option (List ℕ)) → Breaks w bytes ts h h' → Breaks w (bytes ++ rest) ts h h'
+breaks_more w bytes rest ts h h' b = record {
+  front = b.front;
+  appended = b.appended;
+  begins = λ more others. ((b.begins (rest ++ more) others).0, ap (λ l. output w (lines_of l) (ts ++ others)) (append_assoc bytes rest more) ∙ (b.begins (rest ++ more) others).1);
+}
+
+pub breaks_later : (w v : Walk) (bytes line bytes' : List ℕ) (ts ts' : List Told) (h h' h'' : Option (List ℕ)) → Fills w bytes ts h h' false v line → Breaks v (line ++ bytes') ts' h' h'' → Breaks w (bytes ++ bytes') (ts ++ ts') h h''
+breaks_later w v bytes line bytes' ts ts' h h' h'' f b = record {
+  front = f.written ++ b.front;
+  appended = Appends-trans h h' h'' f.written b.front f.appended b.appended;
+  begins = λ more others. (
+    (b.begins more others).0,
+    ap (λ l. output w (lines_of l) ((ts ++ ts') ++ others)) (append_assoc bytes bytes' more)
+        ∙ ap (λ l. output w (lines_of (bytes ++ (bytes' ++ more))) l) (append_assoc ts ts' others)
+        ∙ ap (λ (x : Talk). x.text) (f.fed.law (bytes' ++ more) (ts' ++ others))
+        ∙ ap (λ l. f.written ++ output v (lines_of l) (ts' ++ others)) (sym (append_assoc line bytes' more))
+        ∙ ap (λ l. f.written ++ l) (b.begins more others).1
+        ∙ sym (append_assoc f.written b.front (b.begins more others).0),
+  );
+}
+
+-- ---- as the code has them
+
+pub byte_at : (w : Walk) (line line' : List ℕ) (b : ℕ) (h : Option (List ℕ)) → IsPending line → (b == 10) ≡ false → line' ≡ grown line b → Fills w (line ++ b ∷ []) [] h h false w line'
+byte_at w line line' b h p e g = let P : List ℕ → Type 0 = λ l. Fills w (line ++ b ∷ []) [] h h false w l in subst P (sym g) (fills_byte w line b h p e)
+
+pub ended_at : (w w' : Walk) (line text line' : List ℕ) (given : List Told) (b : ℕ) (q : Bool) (h h' : Option (List ℕ)) → IsPending line → Fits (asks text) given → b ≡ 10 → text ≡ line → Appends h h' (turn w text given).text → w' ≡ (turn w text given).next → q ≡ (turn w text given).quits → line' ≡ [] → Fills w (line ++ b ∷ []) given h h' q w' line'
+ended_at w w' line text line' given b q h h' p fits e t a n s l =
+    let here : Fills w (text ++ 10 ∷ []) given h h' (turn w text given).quits (turn w text given).next [] =
+    let P : List ℕ → Type 0 = λ x. IsPending x in fills_ended w text given h h' (subst P (sym t) p) fits a in
+    let P1 : List ℕ → Type 0 = λ x. Fills w (x ++ 10 ∷ []) given h h' (turn w text given).quits (turn w text given).next [] in
+    let P2 : ℕ → Type 0 = λ x. Fills w (line ++ x ∷ []) given h h' (turn w text given).quits (turn w text given).next [] in
+    let P3 : Bool → Type 0 = λ x. Fills w (line ++ b ∷ []) given h h' x (turn w text given).next [] in
+    let P4 : Walk → Type 0 = λ x. Fills w (line ++ b ∷ []) given h h' q x [] in
+    let P5 : List ℕ → Type 0 = λ x. Fills w (line ++ b ∷ []) given h h' q w' x in
+    subst P5 (sym l) (subst P4 (sym n) (subst P3 (sym s) (subst P2 (sym e) (subst P1 t here))))
+
+pub cut_at : (w : Walk) (line text : List ℕ) (given : List Told) (b : ℕ) (h h' : Option (List ℕ)) → IsPending line → Fits (asks text) given → b ≡ 10 → text ≡ line → WritesFront h h' (turn w text given).text → Breaks w (line ++ b ∷ []) given h h'
+cut_at w line text given b h h' p fits e t f =
+    let P : ℕ → Type 0 = λ x. Breaks w (line ++ x ∷ []) given h h' in
+    let Q : List ℕ → Type 0 = λ x. WritesFront h h' (turn w x given).text in
+    let F : List ℕ → Type 0 = λ x. Fits (asks x) given in
+    subst P (sym e) (breaks_ended w line given h h' p (subst F t fits) (subst Q t f))
+
+-- one more byte of a slice, and the bytes behind it
+seam : (line bytes : List ℕ) (i : ℕ) → i < length bytes → (line ++ take i bytes) ++ get_or bytes i 0 ∷ [] ≡ line ++ take (i + 1) bytes
+seam line bytes i h = append_assoc line (take i bytes) (get_or bytes i 0 ∷ []) ∙ ap (λ l. line ++ l) (sym (take_more bytes i 0 h))
+
+behind : (line bytes : List ℕ) (i : ℕ) → (line ++ take (i + 1) bytes) ++ drop (i + 1) bytes ≡ line ++ bytes
+behind line bytes i = append_assoc line (take (i + 1) bytes) (drop (i + 1) bytes) ∙ ap (λ l. line ++ l) (take-append-drop (i + 1) bytes)
+
+pub fed_on : (w v u : Walk) (line bytes now line' : List ℕ) (ts ts' : List Told) (i : ℕ) (h h' h'' : Option (List ℕ)) (q : Bool) → i < length bytes → Fills w (line ++ take i bytes) ts h h' false v now → Fills v (now ++ get_or bytes i 0 ∷ []) ts' h' h'' q u line' → Fills w (line ++ take (i + 1) bytes) (ts ++ ts') h h'' q u line'
+fed_on w v u line bytes now line' ts ts' i h h' h'' q lt f g =
+    let P : List ℕ → Type 0 = λ l. Fills w l (ts ++ ts') h h'' q u line' in
+    subst P (seam line bytes i lt) (fills_trans w v u (line ++ take i bytes) now (get_or bytes i 0 ∷ []) line' ts ts' h h' h'' q f g)
+
+pub fed_quit : (w v u : Walk) (line bytes now line' : List ℕ) (ts ts' : List Told) (i : ℕ) (h h' h'' : Option (List ℕ)) → i < length bytes → Fills w (line ++ take i bytes) ts h h' false v now → Fills v (now ++ get_or bytes i 0 ∷ []) ts' h' h'' true u line' → Fills w (line ++ bytes) (ts ++ ts') h h'' true u line'
+fed_quit w v u line bytes now line' ts ts' i h h' h'' lt f g =
+    let P : List ℕ → Type 0 = λ l. Fills w l (ts ++ ts') h h'' true u line' in
+    subst P (behind line bytes i) (fills_past w u (line ++ take (i + 1) bytes) (drop (i + 1) bytes) (ts ++ ts') line' line' h h'' (fed_on w v u line bytes now line' ts ts' i h h' h'' true lt f g))
+
+pub cut_on : (w v : Walk) (line bytes now : List ℕ) (ts ts' : List Told) (i : ℕ) (h h' h'' : Option (List ℕ)) → i < length bytes → Fills w (line ++ take i bytes) ts h h' false v now → Breaks v (now ++ get_or bytes i 0 ∷ []) ts' h' h'' → Breaks w (line ++ bytes) (ts ++ ts') h h''
+cut_on w v line bytes now ts ts' i h h' h'' lt f b =
+    let P : List ℕ → Type 0 = λ l. Breaks w l (ts ++ ts') h h'' in
+    subst P (behind line bytes i) (breaks_more w (line ++ take (i + 1) bytes) (drop (i + 1) bytes) (ts ++ ts') h h''
+    (subst P (seam line bytes i lt) (breaks_later w v (line ++ take i bytes) now (get_or bytes i 0 ∷ []) ts ts' h h' h'' f b)))

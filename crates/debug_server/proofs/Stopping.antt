@@ -1,0 +1,36 @@
+-- What a schedule that stops says.
+use Rattle.std.proofs.Common.{◌≡◌, inl, inr, ℕ, List, refl, sym, subst}
+use Rattle.machine.specs.declared.setup.Setup.{Setup}
+use Rattle.machine.specs.declared.event.Event.{Event}
+use Rattle.machine.specs.declared.event.Refusal.{Refusal}
+use Rattle.machine.specs.declared.event.Refusal.TheVariants.{Memory}
+use Rattle.machine.specs.Runs.{start, IsRefused}
+use Rattle.inverse_log.specs.declared.refusal.ExtendRefusal.{ExtendRefusal}
+use Rattle.inverse_log.specs.declared.refusal.ExtendRefusal.TheVariants.{TraceFull, Refused}
+use Rattle.inverse_log.specs.Walks.{Stops}
+use Rattle.debug_server.specs.declared.faults.RunFault.{RunFault}
+use Rattle.debug_server.specs.declared.faults.RunFault.TheVariants.{Script, Schedule, Serve, Memory as OutOfMemory, Net, Trace}
+use Rattle.debug_server.specs.Schedules.{StopsBy, IsOfSchedule, fault_by, fault_of}
+
+pub stops_by_number : (setup : Setup) (es : List Event) (i : ℕ) (n : Refusal) → Stops (start setup) es i n → StopsBy setup es (fault_by i n)
+stops_by_number setup es i Memory s = tt
+stops_by_number setup es i n s = record { event = s.event; there = s.there; runs = s.runs; refused = elim s.refused [ inl e ↦ e | inr m ↦ absurd (cc) ] }
+
+pub stops_by : (setup : Setup) (es : List Event) (e : ExtendRefusal) → ((i : ℕ) (n : Refusal) → e ≡ Refused i n → Stops (start setup) es i n) → StopsBy setup es (fault_of e)
+stops_by setup es TraceFull h = tt
+stops_by setup es (Refused i n) h = stops_by_number setup es i n (h i n refl)
+
+pub refused_at : (setup : Setup) (es : List Event) (f : RunFault) → StopsBy setup es f → (i : ℕ) (n : Refusal) → f ≡ Schedule i n → IsRefused setup es i n
+refused_at setup es f s i n e = let P : RunFault → Type 0 = λ x. StopsBy setup es x in subst P e s
+
+pub of_schedule : (setup : Setup) (es : List Event) (f : RunFault) → StopsBy setup es f → IsOfSchedule f
+of_schedule setup es (Script f) s = s
+of_schedule setup es (Schedule i n) s = tt
+of_schedule setup es (Serve f) s = s
+of_schedule setup es OutOfMemory s = tt
+of_schedule setup es Net s = s
+of_schedule setup es (Trace f) s = s
+
+-- what refuses a trace's events stops the schedule
+pub stops_for : (setup : Setup) (es : List Event) (e : ExtendRefusal) (f : RunFault) → f ≡ fault_of e → ((i : ℕ) (n : Refusal) → e ≡ Refused i n → Stops (start setup) es i n) → StopsBy setup es f
+stops_for setup es e f q h = let P : RunFault → Type 0 = λ x. StopsBy setup es x in subst P (sym q) (stops_by setup es e h)

@@ -1,0 +1,43 @@
+-- A schedule that runs from the start, where it stops, and what a walk can fail by.
+use Rattle.std.specs.Prelude.{ℕ, List, length}
+use Rattle.machine.specs.declared.setup.Setup.{Setup}
+use Rattle.machine.specs.declared.event.Event.{Event}
+use Rattle.machine.specs.declared.event.Refusal.{Refusal}
+use Rattle.machine.specs.declared.event.Refusal.TheVariants as refusal
+use Rattle.machine.specs.Runs.{IsRefused}
+use Rattle.inverse_log.specs.declared.refusal.ExtendRefusal.{ExtendRefusal}
+use Rattle.inverse_log.specs.declared.refusal.ExtendRefusal.TheVariants.{TraceFull, Refused}
+use Rattle.inverse_log.specs.Walks.{Walk, fresh, extended, jumped}
+use Rattle.debug_server.specs.declared.faults.RunFault.{RunFault}
+use Rattle.debug_server.specs.declared.faults.RunFault.TheVariants.{Script, Schedule, Serve, Memory, Net, Trace}
+
+-- the walk over some events, at their end
+abbrev pub walk_over : Setup → List Event → Walk
+walk_over setup es = jumped (extended (fresh setup) es) (length es)
+
+-- What a fault says of a schedule: the first event that was refused, or want of memory.
+abbrev pub StopsBy : Setup → List Event → RunFault → Type 0
+StopsBy setup es (Schedule i n) = IsRefused setup es i n
+StopsBy setup es Memory = Unit {0}
+StopsBy setup es (Script f) = ⊥
+StopsBy setup es (Serve f) = ⊥
+StopsBy setup es Net = ⊥
+StopsBy setup es (Trace f) = ⊥
+
+-- a fault of running a schedule
+abbrev pub IsOfSchedule : RunFault → Type 0
+IsOfSchedule (Schedule i n) = Unit {0}
+IsOfSchedule Memory = Unit {0}
+IsOfSchedule (Script f) = ⊥
+IsOfSchedule (Serve f) = ⊥
+IsOfSchedule Net = ⊥
+IsOfSchedule (Trace f) = ⊥
+
+abbrev pub fault_by : ℕ → Refusal → RunFault
+fault_by i refusal.Memory = Memory
+fault_by i n = Schedule i n
+
+-- what a schedule that can't be added to a trace fails by
+abbrev pub fault_of : ExtendRefusal → RunFault
+fault_of TraceFull = Memory
+fault_of (Refused i n) = fault_by i n

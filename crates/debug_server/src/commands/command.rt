@@ -1,0 +1,84 @@
+//! Commands, and what can be wrong with a line.
+ghost use Rattle.std.specs.Prelude.{◌≡◌, map, IfOk};
+ghost use Rattle.machine.specs.Names.{place_named};
+ghost use Rattle.debug_server.specs.Commands.{showing, command_of_words, command_of};
+
+use super::verb::{Verb, parse_verb};
+use super::words::words;
+use machine::{PlaceFault, Setup, place_of, read_number};
+use places::Place;
+use std::alloc::{AllocError, Global};
+
+/// The most bytes of a line that is answered.
+pub(crate) const LIMIT: usize = 256;
+
+/// What a line asks for.
+#[derive(Clone, Copy, Debug)]
+pub(crate) enum Command {
+    Where,
+    Show(Place),
+    Goto(u32),
+    Back(u32),
+    Quit,
+}
+
+/// What is wrong with a line, by its number.
+#[derive(Clone, Copy, Debug, PartialEq, Eq)]
+pub(crate) enum CommandFault {
+    /// There is no such command, or not with so many words.
+    Command = 1,
+    /// A word in a number's place is no number.
+    Number = 2,
+    /// There is no such place.
+    Place = 3,
+    /// The line is too long.
+    Long = 4,
+    /// There is no such value of the place.
+    Value = 5,
+    /// There are as many watches or breaks as can be.
+    Many = 6,
+}
+
+// The command that some words show a place by.
+fn parse_show(setup: &Setup, name: &[&[u8]]) -> Result<Command, CommandFault>
+    ensures { result ≡ showing (place_named setup.now (map (λ w. w.now) name.now)) }
+{
+    match place_of(setup, name) {
+        Ok(place) => Ok(Command::Show(place)),
+        Err(PlaceFault::Place) => Err(CommandFault::Place),
+        Err(PlaceFault::Number) => Err(CommandFault::Number),
+    }
+}
+
+// The command that some words are.
+fn parse_command(setup: &Setup, words: &[&[u8]]) -> Result<Command, CommandFault>
+    ensures { result ≡ command_of_words setup.now (map (λ w. w.now) words.now) }
+{
+    let Some((first, rest)) = words.split_first() else {
+        return Err(CommandFault::Command);
+    };
+    match (parse_verb(first), rest) {
+        (Verb::Where, []) => Ok(Command::Where),
+        (Verb::Quit, []) => Ok(Command::Quit),
+        (Verb::Show, name) => parse_show(setup, name),
+        (Verb::Goto, [n]) => Ok(Command::Goto(read_number(n).ok_or(CommandFault::Number)?)),
+        (Verb::Back, [n]) => Ok(Command::Back(read_number(n).ok_or(CommandFault::Number)?)),
+        _ => Err(CommandFault::Command),
+    }
+}
+
+// The command of a line, over a setup.
+#[tactic(auto, unfolding(crate::specs::Commands::command_of))]
+pub(crate) fn parse_line(
+    alloc: Global,
+    setup: &Setup,
+    line: &[u8],
+) -> Result<Result<Command, CommandFault>, AllocError>
+    ensures { IfOk result (λ command. command ≡ command_of setup.now line.now) }
+{
+    if line.len() > LIMIT {
+        return Ok(Err(CommandFault::Long));
+    }
+    let words = words(alloc, line)?;
+    Ok(parse_command(setup, &words))
+}

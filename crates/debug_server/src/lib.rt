@@ -1,0 +1,23 @@
+//! The debugger's sessions: lines of commands in, replies out.
+#![tactic(auto)]
+
+mod answering;
+mod commands;
+mod faults;
+mod lines;
+mod memory;
+mod serving;
+mod session;
+mod source;
+mod task;
+mod walking;
+mod words;
+
+pub use faults::{Fault, PathText, RunFault, ServeFault, TraceFault};
+pub use memory::replies;
+pub use serving::serve;
+pub use session::Session;
+pub use source::{NoSource, Source};
+pub use task::Job;
+pub use walking::walk;
+pub use words::job;

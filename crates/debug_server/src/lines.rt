@@ -1,0 +1,61 @@
+//! The line that is being read.
+ghost use Rattle.std.specs.Prelude.{◌≡◌, ◌==◌, [], false};
+
+use crate::commands::command::LIMIT;
+use std::marker::Model;
+
+// The line that has not ended yet: of a longer one, the first bytes past the limit.
+#[derive(Drop)]
+pub(crate) struct Line {
+    bytes: [u8; 257],
+    len: usize,
+}
+
+impl Model for Line {
+    ghost use Rattle.std.specs.Prelude.{List, ℕ, take, ◌≤◌};
+    ghost use Rattle.debug_server.specs.Pending.{IsPending};
+
+    ghost Value = { List ℕ };
+
+    ghost view = { λ l. take l.len l.bytes };
+
+    ghost invariant = { λ l. (l.len ≤ 257) × IsPending (take l.len l.bytes) };
+}
+
+impl Line {
+    ghost use Rattle.debug_server.specs.Pending.{IsPending, grown};
+
+    pub(crate) fn new() -> Line
+        ensures { result ≡ [] }
+    {
+        Line {
+            bytes: [0; 257],
+            len: 0,
+        }
+    }
+
+    pub(crate) fn as_slice(&self) -> &[u8]
+        ensures value { result.now ≡ self.now }
+        ensures pending { IsPending self.now }
+    {
+        &self.bytes[..self.len]
+    }
+
+    pub(crate) fn clear(&mut self)
+        ensures { self.new ≡ [] }
+    {
+        self.len = 0;
+    }
+
+    // Adds a byte, while there is room.
+    pub(crate) fn push(&mut self, byte: u8)
+        requires { (byte == 10) ≡ false }
+        ensures grown { self.new ≡ grown self.old byte }
+        ensures pending { IsPending self.old }
+    {
+        if self.len <= LIMIT {
+            self.bytes[self.len] = byte;
+            self.len += 1;
+        }
+    }
+}

@@ -1,0 +1,23 @@
+//! A walk over memory.
+ghost use Rattle.std.specs.Prelude.{◌≡◌, ◌⊎◌, ◌++◌, List, ℕ, [], true, Ok, IfOk};
+ghost use Rattle.script.specs.Scripts.{Plan, Reads};
+ghost use Rattle.debug_server.specs.Lines.{lines_of};
+ghost use Rattle.debug_server.specs.Talks.{talk, output};
+ghost use Rattle.debug_server.specs.Schedules.{walk_over};
+
+use crate::faults::RunFault;
+use crate::walking::walk;
+use std::alloc::Global;
+
+/// What the session of a script replies to its input.
+pub fn replies(alloc: Global, script: &[u8], input: &[u8]) -> Result<Vec<u8>, RunFault>
+    // It read a beginning of the input, the whole of it or past a line that quits, and wrote just the replies to that.
+    ensures { IfOk result (λ out. (p : Plan) × Reads script.now (Ok p) × (taken : List ℕ) × (rest : List ℕ) × (input.now ≡ taken ++ rest)
+        × (out.items ≡ output (walk_over p.setup p.schedule) (lines_of taken) [])
+        × (((talk (walk_over p.setup p.schedule) (lines_of taken) []).quits ≡ true) ⊎ (rest ≡ []))) }
+{
+    let mut reader = input;
+    let mut out = Vec::new(alloc);
+    walk(alloc, script, &mut reader, &mut out)?;
+    Ok(out)
+}

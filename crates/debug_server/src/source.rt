@@ -1,0 +1,28 @@
+//! Where the events of a live run come from.
+ghost use Rattle.std.specs.Prelude.{◌≡◌, IfOk, Option, List, None, option_map};
+ghost use Rattle.machine.specs.declared.event.Event.{Event as Happening};
+
+use machine::Event;
+use std::alloc::AllocError;
+
+/// A live trace, which may grow.
+pub trait Source {
+    /// What a call may answer, and what the source is after it.
+    ghost gives: { Self → Option (List Happening) → Self → Type 0 };
+
+    /// The trace so far, or none where there is no live run.
+    fn trace(&mut self) -> Result<Option<Vec<Event>>, AllocError>
+        ensures { IfOk result (λ answer. gives self.old (option_map (λ v. v.items) answer) self.new) };
+}
+
+/// No live run.
+#[derive(Clone, Copy, Debug)]
+pub struct NoSource;
+
+impl Source for NoSource {
+    ghost gives = { λ _ answer _. answer ≡ None };
+
+    fn trace(&mut self) -> Result<Option<Vec<Event>>, AllocError> {
+        Ok(None)
+    }
+}

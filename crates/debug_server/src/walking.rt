@@ -1,0 +1,77 @@
+//! Walking a script.
+ghost use Rattle.std.specs.Prelude.{◌≡◌, ◌≢◌, ℕ, Bool, [], Ok, Err, OnOk, IfErr};
+ghost use Rattle.std.specs.Io.KnownBytes.{Keeps};
+ghost use Rattle.machine.specs.Runs.{IsRefused};
+ghost use Rattle.machine.specs.declared.event.Refusal.{Refusal as Denial};
+ghost use Rattle.inverse_log.specs.Walks.{Walk};
+ghost use Rattle.script.specs.Scripts.{Plan, Reads};
+ghost use Rattle.script.specs.declared.fault.ScriptFault.{ScriptFault as Misread};
+ghost use Rattle.debug_server.specs.declared.faults.ServeFault.{ServeFault as Serving};
+ghost use Rattle.debug_server.specs.declared.faults.ServeFault.TheVariants.{Closed};
+ghost use Rattle.debug_server.specs.Talks.{Served, Broke};
+ghost use Rattle.debug_server.specs.Schedules.{walk_over};
+
+use crate::faults::RunFault;
+use crate::serving::serve_lines;
+use crate::session::Session;
+use script::{Script, ScriptFault, read_script};
+use std::alloc::Global;
+use std::io::{Read, Write};
+
+/// Reads a script, runs its schedule, and replies to the lines that the reader gives.
+pub fn walk<R: Read, W: Write>(
+    alloc: Global,
+    text: &[u8],
+    reader: &mut R,
+    writer: &mut W,
+) -> Result<(), RunFault>
+    // What is written is the output of the session of the script.
+    ensures ok { OnOk result ((p : Plan) × Reads text.now (Ok p) × (w : Walk) × (q : Bool)
+        × Served (walk_over p.setup p.schedule) (R.remaining reader.old) (R.remaining reader.new) (W.contents writer.old) (W.contents writer.new) [] w q) }
+    // A fault of the script is its first one, a fault of the schedule its first refused event. Nothing was written then.
+    ensures script { IfErr result (λ e. (f : Misread) → e ≡ RunFault.Script f → Reads text.now (Err f) × Keeps (W.contents writer.old) (W.contents writer.new)) }
+    ensures schedule { IfErr result (λ e. (i : ℕ) → (n : Denial) → e ≡ RunFault.Schedule i n
+        → (p : Plan) × Reads text.now (Ok p) × IsRefused p.setup p.schedule i n × Keeps (W.contents writer.old) (W.contents writer.new)) }
+    ensures memory { IfErr result (λ e. e ≡ RunFault.Memory → Keeps (W.contents writer.old) (W.contents writer.new)) }
+    // At a fault of serving a beginning of that output was written.
+    ensures begins { IfErr result (λ e. (f : Serving) → e ≡ RunFault.Serve f → (p : Plan) × Reads text.now (Ok p)
+        × Broke (walk_over p.setup p.schedule) (R.remaining reader.old) (R.remaining reader.new) (W.contents writer.old) (W.contents writer.new) []) }
+    ensures open { result ≢ Err (RunFault.Serve Closed) }
+{
+    let script = match read_script(alloc, text) {
+        Ok(script) => script,
+        Err(ScriptFault::Memory) => return Err(RunFault::Memory),
+        Err(fault) => return Err(RunFault::Script(fault)),
+    };
+    match walk_script(alloc, &script, reader, writer) {
+        Ok(()) => Ok(()),
+        Err(fault) => Err(fault),
+    }
+}
+
+// Runs a script's schedule, and replies to the lines that the reader gives.
+fn walk_script<R: Read, W: Write>(
+    alloc: Global,
+    script: &Script,
+    reader: &mut R,
+    writer: &mut W,
+) -> Result<(), RunFault>
+    ensures ok { OnOk result ((w : Walk) × (q : Bool)
+        × Served (walk_over script.now.setup script.now.schedule) (R.remaining reader.old) (R.remaining reader.new) (W.contents writer.old) (W.contents writer.new) [] w q) }
+    ensures script { IfErr result (λ e. (f : Misread) → e ≢ RunFault.Script f) }
+    ensures schedule { IfErr result (λ e. (i : ℕ) → (n : Denial) → e ≡ RunFault.Schedule i n
+        → IsRefused script.now.setup script.now.schedule i n × Keeps (W.contents writer.old) (W.contents writer.new)) }
+    ensures memory { IfErr result (λ e. e ≡ RunFault.Memory → Keeps (W.contents writer.old) (W.contents writer.new)) }
+    ensures begins { IfErr result (λ e. (f : Serving) → e ≡ RunFault.Serve f
+        → Broke (walk_over script.now.setup script.now.schedule) (R.remaining reader.old) (R.remaining reader.new) (W.contents writer.old) (W.contents writer.new) []) }
+    ensures open { result ≢ Err (RunFault.Serve Closed) }
+{
+    let mut session = match Session::new(alloc, script) {
+        Ok(session) => session,
+        Err(fault) => return Err(fault),
+    };
+    match serve_lines(&mut session, reader, writer) {
+        Ok(()) => Ok(()),
+        Err(fault) => Err(RunFault::Serve(fault)),
+    }
+}
