@@ -1,6 +1,6 @@
 -- How far a batch of entries has been taken.
 use Rattle.std.proofs.Common.{◌≡◌, ℕ, ℤ, zero, suc, Bool, true, false, cond, refl, sym, ◌∙◌, ap, List, [], ◌∷◌, ◌++◌, take, length, ◌<◌, ◌≤◌, ◌+◌, append_assoc, length-append, get_or, arith}
-use Rattle.std.specs.Prelude.{Option, Some, None, option_map, unwrap_or, is_ok, Result, Ok, Err, slice_get}
+use Rattle.std.specs.Prelude.{Option, Some, None, option_map, is_ok, Result, Ok, Err, slice_get}
 use Rattle.std.specs.Option.{option_and_then}
 use Rattle.std.specs.Result.{result_err}
 use Rattle.std.specs.List.{prefix_len}
@@ -9,10 +9,8 @@ use Rattle.std.proofs.lemmas.Option.{gets, slice_get_past, slice_get_within, sli
 use Rattle.entries.specs.declared.entry.Sqe.{Sqe}
 use Rattle.entries.specs.declared.row.Row.{Row}
 use Rattle.places.specs.declared.place.Place.{Place}
-use Rattle.places.specs.declared.value.Change.{Change}
-use Rattle.places.specs.declared.value.Value.{Value}
 use Rattle.places.specs.Notes.{Notes}
-use Rattle.places.specs.View.{View, Keeps, named, undo}
+use Rattle.places.specs.View.{Keeps, named}
 use Rattle.places.proofs.Keeping.{keeps_then}
 use Rattle.links_drains.specs.Batches.{error_of, passes, taken_of, rows_of, failed_of}
 use Rattle.links_drains.specs.declared.submission.Failure.{Failure}
@@ -76,14 +74,6 @@ pub record Taking (before now : List Row) (old new : Notes) (entries : List Sqe)
   pub names : (p : Place) → named new.made p ≡ None → named old.made p ≡ None
   pub numbers : old.numbers ≤ new.numbers
   pub completions : old.completions ≤ new.completions
-
--- with the notes that were made, what was there before is as it was
-pub keeps_back : (owns : Place → Bool) (u v : View) (cs ds : List Change) → Keeps owns u v cs ds → ((p : Place) → named ds p ≡ None → named cs p ≡ None) → Keeps owns u u cs ds
-keeps_back owns u v cs ds k h = record { back = λ p o. by p (named ds p) refl (k.back p o); others = k.others }
-  where
-    by : (p : Place) (n : Option (Option Value)) → named ds p ≡ n → undo v ds p ≡ undo u cs p → undo u ds p ≡ undo u cs p
-    by p (Some x) e b = ap (λ m. unwrap_or m (u p)) e ∙ sym (ap (λ m. unwrap_or m (v p)) e) ∙ b
-    by p None e b = ap (λ m. unwrap_or m (u p)) (e ∙ sym (h p e))
 
 failing : {T E : Type 0} (r : Result T E) (x : E) → result_err r ≡ Some x → is_ok r ≡ false
 failing (Ok y) x h = absurd cc

@@ -1,30 +1,52 @@
 -- How many rows that count have ended, once the table is changed.
-use Rattle.std.proofs.Common.{◌≡◌, ℕ, ℤ, zero, suc, Bool, true, false, cond, refl, ◌∙◌, ap, List, [], ◌∷◌, ◌++◌, length, ◌+◌, ◌≤◌, arith}
+use Rattle.std.proofs.Common.{◌≡◌, ℕ, ℤ, zero, suc, Bool, true, false, cond, refl, ◌∙◌, ap, List, [], ◌∷◌, ◌++◌, length, ◌+◌, ◌<◌, ◌≤◌, arith}
 use Rattle.std.specs.Prelude.{Some, slice_get, ◌&&◌}
 use Rattle.std.specs.List.{filter}
 use Rattle.std.proofs.lemmas.List.Sums.{length-filter, count_by-le-length}
 use Rattle.entries.specs.declared.row.Phase.TheVariants.{Issued, Ended}
 use Rattle.entries.specs.declared.row.Row.{Row}
 use Rattle.places.specs.Lists.{updated}
-use Rattle.links_drains.specs.Phases.{is_ended, counts, counted_of}
+use Rattle.links_drains.specs.Phases.{is_ended, counts, counted_of, ended_of}
 
--- a row that has ended and counts
-abbrev ended_counted : Row → Bool
-ended_counted row = is_ended row.phase && counts row
+-- ---- rows of a kind
 
--- a row more
-pub counted-more : (row : Row) (rows : List Row) → counted_of (row ∷ rows) ≡ cond (is_ended row.phase && counts row) 1 0 + counted_of rows
-counted-more row rows = by (is_ended row.phase && counts row)
+matching-more : (p : Row → Bool) (row : Row) (rows : List Row) → length (filter p (row ∷ rows)) ≡ cond (p row) 1 0 + length (filter p rows)
+matching-more p row rows = by (p row)
   where
-    by : (b : Bool) → length (cond b (row ∷ filter (λ r. is_ended r.phase && counts r) rows) (filter (λ r. is_ended r.phase && counts r) rows)) ≡ cond b 1 0 + counted_of rows
+    by : (b : Bool) → length (cond b (row ∷ filter p rows) (filter p rows)) ≡ cond b 1 0 + length (filter p rows)
     by true = omega arith
     by false = omega arith
 
+matching-append : (p : Row → Bool) (rows others : List Row) → length (filter p (rows ++ others)) ≡ length (filter p rows) + length (filter p others)
+matching-append p [] others = omega arith
+matching-append p (row ∷ rows) others =
+    matching-more p row (rows ++ others) ∙ ap (λ n. cond (p row) 1 0 + n) (matching-append p rows others)
+    ∙ omega (arith, matching-more p row rows)
+
+matching-updated : (p : Row → Bool) (f : Row → Row) (rows : List Row) (i : ℕ) (row : Row) → slice_get rows i ≡ Some row →
+    length (filter p (updated f rows i)) + cond (p row) 1 0 ≡ length (filter p rows) + cond (p (f row)) 1 0
+matching-updated p f [] i row h = absurd cc
+matching-updated p f (x ∷ rows) zero row h =
+    let e : x ≡ row = cc in
+    let a = matching-more p (f x) rows in
+    let b = matching-more p x rows in
+    rw (← e) (omega (arith, a, b))
+matching-updated p f (x ∷ rows) (suc i) row h =
+    let a = matching-more p x (updated f rows i) in
+    let b = matching-more p x rows in
+    let k = matching-updated p f rows i row h in
+    omega (arith, a, b, k)
+
+matching-le-length : (p : Row → Bool) (rows : List Row) → length (filter p rows) ≤ length rows
+matching-le-length p rows = omega (arith, length-filter p rows, count_by-le-length p rows)
+
+-- ---- rows that have ended and count
+
+pub counted-more : (row : Row) (rows : List Row) → counted_of (row ∷ rows) ≡ cond (is_ended row.phase && counts row) 1 0 + counted_of rows
+counted-more row rows = matching-more (λ r. is_ended r.phase && counts r) row rows
+
 pub counted-append : (rows others : List Row) → counted_of (rows ++ others) ≡ counted_of rows + counted_of others
-counted-append [] others = omega arith
-counted-append (row ∷ rows) others =
-    counted-more row (rows ++ others) ∙ ap (λ n. cond (is_ended row.phase && counts row) 1 0 + n) (counted-append rows others)
-    ∙ omega (arith, counted-more row rows)
+counted-append rows others = matching-append (λ r. is_ended r.phase && counts r) rows others
 
 pub counted-none : (row : Row) → is_ended row.phase ≡ false → counted_of (row ∷ []) ≡ 0
 counted-none row h = counted-more row [] ∙ ap (λ b. cond (b && counts row) 1 0 + counted_of []) h
@@ -36,21 +58,11 @@ counted-push rows row h = counted-append rows (row ∷ []) ∙ omega (arith, cou
 -- one row is changed
 pub counted-updated : (f : Row → Row) (rows : List Row) (i : ℕ) (row : Row) → slice_get rows i ≡ Some row →
     counted_of (updated f rows i) + cond (is_ended row.phase && counts row) 1 0 ≡ counted_of rows + cond (is_ended (f row).phase && counts (f row)) 1 0
-counted-updated f [] i row h = absurd cc
-counted-updated f (x ∷ rows) zero row h =
-    let e : x ≡ row = cc in
-    let a = counted-more (f x) rows in
-    let b = counted-more x rows in
-    rw (← e) (omega (arith, a, b))
-counted-updated f (x ∷ rows) (suc i) row h =
-    let a = counted-more x (updated f rows i) in
-    let b = counted-more x rows in
-    let k = counted-updated f rows i row h in
-    omega (arith, a, b, k)
+counted-updated f rows i row h = matching-updated (λ r. is_ended r.phase && counts r) f rows i row h
 
 -- no more than there are rows
 pub counted-le-length : (rows : List Row) → counted_of rows ≤ length rows
-counted-le-length rows = omega (arith, length-filter ended_counted rows, count_by-le-length ended_counted rows)
+counted-le-length rows = matching-le-length (λ r. is_ended r.phase && counts r) rows
 
 -- an unfinished row ends
 pub counted-ended : (rows : List Row) (r : ℕ) (row : Row) (res : ℤ) → slice_get rows r ≡ Some row → is_ended row.phase ≡ false →
@@ -80,3 +92,42 @@ counted-unfinished f rows r row h u v = let k = rw (u, v) at (counted-updated f 
 pub counted-issued : (rows : List Row) (r : ℕ) (row : Row) → slice_get rows r ≡ Some row → is_ended row.phase ≡ false →
     counted_of (updated (λ row. record row { phase = Issued }) rows r) ≡ counted_of rows
 counted-issued rows r row h u = counted-unfinished (λ row. record row { phase = Issued }) rows r row h u refl
+
+-- ---- rows that have ended
+
+pub ended-append : (rows others : List Row) → ended_of (rows ++ others) ≡ ended_of rows + ended_of others
+ended-append rows others = matching-append (λ r. is_ended r.phase) rows others
+
+pub ended-more : (row : Row) (rows : List Row) → ended_of (row ∷ rows) ≡ cond (is_ended row.phase) 1 0 + ended_of rows
+ended-more row rows = matching-more (λ r. is_ended r.phase) row rows
+
+-- an unfinished row ends
+pub ended-ended : (rows : List Row) (r : ℕ) (row : Row) (res : ℤ) → slice_get rows r ≡ Some row → is_ended row.phase ≡ false →
+    ended_of (updated (λ row. record row { phase = Ended res }) rows r) ≡ ended_of rows + 1
+ended-ended rows r row res h u = let k = rw u at (matching-updated (λ x. is_ended x.phase) (λ row. record row { phase = Ended res }) rows r row h) in omega (arith, k)
+
+-- an unfinished row changes and stays unfinished
+pub ended-unfinished : (f : Row → Row) (rows : List Row) (r : ℕ) (row : Row) → slice_get rows r ≡ Some row → is_ended row.phase ≡ false → is_ended (f row).phase ≡ false →
+    ended_of (updated f rows r) ≡ ended_of rows
+ended-unfinished f rows r row h u v = let k = rw (u, v) at (matching-updated (λ x. is_ended x.phase) f rows r row h) in omega (arith, k)
+
+-- no more than there are rows; where one is unfinished, fewer
+pub ended-le-length : (rows : List Row) → ended_of rows ≤ length rows
+ended-le-length rows = matching-le-length (λ r. is_ended r.phase) rows
+
+pub ended-lt-length : (rows : List Row) (r : ℕ) (row : Row) → slice_get rows r ≡ Some row → is_ended row.phase ≡ false → ended_of rows < length rows
+ended-lt-length [] r row h u = absurd cc
+ended-lt-length (x ∷ rows) zero row h u =
+    let e : x ≡ row = cc in
+    let a = ended-more x rows in
+    let b = ended-le-length rows in
+    let none = a ∙ ap (λ (y : Row). cond (is_ended y.phase) 1 0 + ended_of rows) e ∙ ap (λ c. cond c 1 0 + ended_of rows) u in
+    omega (arith, none, b)
+ended-lt-length (x ∷ rows) (suc i) row h u =
+    let a = ended-more x rows in
+    let k = ended-lt-length rows i row h u in
+    by (is_ended x.phase) a k
+  where
+    by : (b : Bool) → ended_of (x ∷ rows) ≡ cond b 1 0 + ended_of rows → ended_of rows < length rows → ended_of (x ∷ rows) < suc (length rows)
+    by true a k = omega (arith, a, k)
+    by false a k = omega (arith, a, k)

@@ -31,3 +31,7 @@ counts row = not (is_timer row.entry.opcode)
 -- how many rows that count have ended
 abbrev pub counted_of : List Row → ℕ
 counted_of rows = length (filter (λ row. is_ended row.phase && counts row) rows)
+
+-- how many rows have ended
+abbrev pub ended_of : List Row → ℕ
+ended_of rows = length (filter (λ row. is_ended row.phase) rows)

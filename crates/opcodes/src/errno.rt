@@ -2,3 +2,6 @@
 
 /// Invalid argument.
 pub const EINVAL: i32 = 22;
+
+/// The device or resource is busy.
+pub const EBUSY: i32 = 16;

@@ -8,5 +8,5 @@ pub mod op;
 
 pub use checks::{Context, check};
 pub use choice::Choice;
-pub use errno::EINVAL;
+pub use errno::{EBUSY, EINVAL};
 pub use op::{Op, is_timer};

@@ -78,3 +78,19 @@ keeps_noted_bytes owns v w cs ds g s bs n there elsewhere = record {
     other q (Some x) b e o = refl
     other q None (Some x) e o = let t = (there q x e).1 in absurd (let f : true ≡ false = sym t ∙ o in cc)
     other q None None e o = refl
+
+-- a note un-notes no place
+pub noted_keeps : (cs ds : List Change) (p : Place) (x : Option Value) → Noted cs ds p x → (q : Place) → named ds q ≡ None → named cs q ≡ None
+noted_keeps cs ds p x n q h = by (named cs q) (sym (n q) ∙ h)
+  where
+    by : (m : Option (Option Value)) → first_note m (cond (same_place p q) (Some x) None) ≡ None → m ≡ None
+    by None k = refl
+    by (Some y) k = absurd cc
+
+-- with the notes that were made, what was there before is as it was
+pub keeps_back : (owns : Place → Bool) (u v : View) (cs ds : List Change) → Keeps owns u v cs ds → ((p : Place) → named ds p ≡ None → named cs p ≡ None) → Keeps owns u u cs ds
+keeps_back owns u v cs ds k h = record { back = λ p o. by p (named ds p) refl (k.back p o); others = k.others }
+  where
+    by : (p : Place) (n : Option (Option Value)) → named ds p ≡ n → undo v ds p ≡ undo u cs p → undo u ds p ≡ undo u cs p
+    by p (Some x) e b = ap (λ m. unwrap_or m (u p)) e ∙ sym (ap (λ m. unwrap_or m (v p)) e) ∙ b
+    by p None e b = ap (λ m. unwrap_or m (u p)) (e ∙ sym (h p e))

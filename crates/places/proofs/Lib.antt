@@ -9,4 +9,5 @@ pub mod Kept
 pub mod Joining
 pub mod Sorts
 pub mod Sound
-pub mod RowsLeft
+pub mod Left
+pub mod Restored

@@ -1,7 +1,9 @@
 -- What a recorder has.
-use Rattle.std.specs.Prelude.{ℕ, ◌+◌, ◌≤◌, Bool, true, false, Option, None, List, [], ◌∷◌, min, if◌then◌else◌}
+use Rattle.std.specs.Prelude.{ℕ, ◌+◌, ◌≤◌, Bool, true, false, Option, Some, None, List, [], ◌∷◌, min, if◌then◌else◌}
+use Rattle.places.specs.declared.listed.Listed.{Listed}
+use Rattle.places.specs.declared.listed.Listed.TheVariants.{Requests, Overflowed}
 use Rattle.places.specs.declared.place.Place.{Place}
-use Rattle.places.specs.declared.place.Place.TheVariants.{Request}
+use Rattle.places.specs.declared.place.Place.TheVariants.{Request, Backlog}
 use Rattle.places.specs.declared.value.Value.{Value}
 use Rattle.places.specs.declared.value.Change.{Change}
 use Rattle.places.specs.Places.{is_number, is_completion}
@@ -37,12 +39,38 @@ pub record HasAsMuch (old new : Notes) : Type 0 where
   pub completions : old.completions ≤ new.completions
   pub others : old.others ≤ new.others
 
--- how many of n rows stay once a change takes one back, with all behind it
-abbrev pub rows_after : Place → Option Value → ℕ → ℕ
-rows_after (Request i) None n = min n i
-rows_after p x n = n
+-- the number of an element, of a place of one
+abbrev pub number_in : Listed → Place → Option ℕ
+number_in Requests (Request i) = Some i
+number_in Overflowed (Backlog i) = Some i
+number_in l p = None
 
--- how many of n rows stay once a record takes the rows back that it names as absent
+-- the place of an element
+abbrev pub element : Listed → ℕ → Place
+element Requests i = Request i
+element Overflowed i = Backlog i
+
+-- how many of n elements stay once one of a number is absent, with all behind it
+abbrev pub cut_off : Option ℕ → Option Value → ℕ → ℕ
+cut_off (Some i) None n = min n i
+cut_off i x n = n
+
+-- how many of n elements of a list stay once a change takes one back, with all behind it
+abbrev pub after_change : Listed → Place → Option Value → ℕ → ℕ
+after_change l p x n = cut_off (number_in l p) x n
+
+-- how many of n elements of a list stay once a record takes those back that it names as absent
+abbrev pub left : Listed → List Change → ℕ → ℕ
+left l [] n = n
+left l (c ∷ cs) n = left l cs (after_change l c.place c.old n)
+
+-- the same of rows
+abbrev pub rows_after : Place → Option Value → ℕ → ℕ
+rows_after p x n = after_change Requests p x n
+
 abbrev pub rows_left : List Change → ℕ → ℕ
-rows_left [] n = n
-rows_left (c ∷ cs) n = rows_left cs (rows_after c.place c.old n)
+rows_left cs n = left Requests cs n
+
+-- the same of the completions that did not fit into the ring
+abbrev pub backlog_left : List Change → ℕ → ℕ
+backlog_left cs n = left Overflowed cs n

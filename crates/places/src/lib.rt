@@ -2,6 +2,7 @@
 #![tactic(auto)]
 
 pub mod items;
+pub mod listed;
 pub mod notes;
 pub mod object;
 pub mod part;
@@ -14,6 +15,7 @@ pub mod text;
 pub mod value;
 
 pub use items::Items;
+pub use listed::Listed;
 pub use notes::runs::Region;
 pub use object::{Contents, Descriptor, End, Object};
 pub use part::{At, Part};

@@ -1,10 +1,11 @@
 //! Records: the places that differ, with what stood there.
 ghost use Rattle.std.specs.Prelude.{◌≡◌, ◌∷◌, [], map, MatchOption};
 ghost use Rattle.places.specs.View.{NamesOnce};
-ghost use Rattle.places.specs.Notes.{rows_left, rows_after};
+ghost use Rattle.places.specs.Notes.{rows_left, backlog_left, left, after_change, number_in};
 ghost use Rattle.places.specs.Slots.{row_change};
 ghost use Rattle.places.specs.All.{all_changes};
 
+use crate::listed::Listed;
 use crate::notes::completions::CompletionNote;
 use crate::notes::numbers::NumberNote;
 use crate::notes::rest::Rest;
@@ -128,7 +129,21 @@ impl Record {
     pub fn rows_left(&self, n: usize) -> usize
         ensures { result ≡ rows_left self.now n }
     {
-        rows_left_by(self.rest.odd(), rows_left_of(&self.rows, n))
+        self.left(Listed::Requests, n)
+    }
+
+    /// How many of n completions that did not fit into the ring stay once those go that are named as
+    /// absent.
+    pub fn backlog_left(&self, n: usize) -> usize
+        ensures { result ≡ backlog_left self.now n }
+    {
+        self.left(Listed::Overflowed, n)
+    }
+
+    fn left(&self, list: Listed, n: usize) -> usize
+        ensures { result ≡ left list self.now n }
+    {
+        left_by(list, self.rest.odd(), left_of(list, &self.rows, n))
     }
 
     /// What the record keeps in memory, itself included, in bytes.
@@ -141,31 +156,41 @@ impl Record {
     }
 }
 
-fn rows_left_of(rows: &[RowNote], n: usize) -> usize
-    ensures { result ≡ rows_left (map row_change rows.now) n }
+fn left_of(list: Listed, rows: &[RowNote], n: usize) -> usize
+    ensures { result ≡ left list (map row_change rows.now) n }
 {
     let mut left = n;
     for note in rows {
-        left = rows_after(note.change(), left);
+        left = after_change(list, note.change(), left);
     }
     left
 }
 
-fn rows_left_by(changes: &[Change], n: usize) -> usize
-    ensures { result ≡ rows_left changes.now n }
+fn left_by(list: Listed, changes: &[Change], n: usize) -> usize
+    ensures { result ≡ left list changes.now n }
 {
     let mut left = n;
     for change in changes {
-        left = rows_after(*change, left);
+        left = after_change(list, *change, left);
     }
     left
 }
 
-fn rows_after(change: Change, left: usize) -> usize
-    ensures { result ≡ rows_after change.place change.old left }
+fn after_change(list: Listed, change: Change, left: usize) -> usize
+    ensures { result ≡ after_change list change.place change.old left }
 {
-    match (change.place, change.old) {
-        (Place::Request(i), None) => left.min(i as usize),
+    match (number_in(list, change.place), change.old) {
+        (Some(i), None) => left.min(i as usize),
         _ => left,
+    }
+}
+
+fn number_in(list: Listed, place: Place) -> Option<u32>
+    ensures { result ≡ number_in list place }
+{
+    match (list, place) {
+        (Listed::Requests, Place::Request(i)) => Some(i),
+        (Listed::Overflowed, Place::Backlog(i)) => Some(i),
+        _ => None,
     }
 }

@@ -107,7 +107,8 @@ impl Recorder {
         self.room_for_others(n)
     }
 
-    fn room_for_others(&mut self, n: usize) -> Result<(), AllocError>
+    /// The next n notes of places that hold neither numbers nor completion slots take no memory.
+    pub fn room_for_others(&mut self, n: usize) -> Result<(), AllocError>
         ensures made { self.new.made ≡ self.old.made }
         ensures room { OnOk result (n ≤ self.new.others) }
         ensures kept { HasAsMuch self.old self.new }

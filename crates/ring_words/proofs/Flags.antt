@@ -1,8 +1,10 @@
 -- The flags word.
-use Rattle.std.proofs.Common.{◌≡◌, ℕ, Bool, true, false, refl, ◌∙◌, ap, ◌-◌, ◌<◌, ◌^◌, arith}
+use Rattle.std.proofs.Common.{◌≡◌, ℕ, zero, suc, Bool, true, false, refl, sym, ◌∙◌, ap, ◌*◌, ◌%◌, ◌-◌, ◌<◌, ◌^◌, ◌⊎◌, inl, inr, arith}
 use Rattle.std.specs.Prelude.{not, ◌==◌}
-use Rattle.std.proofs.lemmas.Nat.{or_lt, and_le_l, and_or_self, and_or_apart, and_assoc}
-use Rattle.std.specs.Int.Bits.{and_zero_r}
+use Rattle.std.proofs.lemmas.Nat.{or_lt, and_le_l, and_or_self, and_or_apart, and_assoc, and_comm, and_mask}
+use Rattle.std.proofs.lemmas.Nat.Bits.{bit_at-lt, and_pow}
+use Rattle.std.specs.Int.{bit_at}
+use Rattle.std.specs.Int.Bits.{bit_and, bit_or, and_zero_r, or_add_and}
 use Rattle.ring_words.specs.declared.flag.RingFlag.{RingFlag}
 use Rattle.ring_words.specs.declared.flag.RingFlag.TheVariants.{NeedWakeup, CqOverflow}
 use Rattle.ring_words.specs.Rings.{bit_of, has_flag, with_flag}
@@ -28,3 +30,45 @@ wakeup_kept n false = ap (λ a. not (a == 0)) (and_assoc 1 n 4294967293)
 pub overflow_kept : (n : ℕ) (on : Bool) → has_flag (with_flag n NeedWakeup on) CqOverflow ≡ has_flag n CqOverflow
 overflow_kept n true = ap (λ a. not (a == 0)) (and_or_apart 2 n 1 refl)
 overflow_kept n false = ap (λ a. not (a == 0)) (and_assoc 2 n 4294967294)
+
+-- a bit that is there already
+set_again : (n m : ℕ) → bit_and n m ≡ m → bit_or n m ≡ n
+set_again n m e = let k = or_add_and n m in omega (arith, k, e)
+
+-- a bit that is not there
+cleared_again : (n m a : ℕ) → bit_or a m ≡ 2 ^ 32 - 1 → bit_and n m ≡ 0 → n < 2 ^ 32 → bit_and n a ≡ n
+cleared_again n m a all e l =
+    let whole : n % 2 ^ 32 ≡ n = omega arith in
+    and_comm n a ∙ sym (and_or_apart n a m (and_comm m n ∙ e)) ∙ ap (λ x. bit_and x n) all ∙ and_comm (2 ^ 32 - 1) n ∙ and_mask n 32 ∙ whole
+
+-- a bit is not there, or it is there whole
+bit_cases : (n k : ℕ) → (bit_and n (2 ^ k) ≡ 0) ⊎ (bit_and n (2 ^ k) ≡ 2 ^ k)
+bit_cases n k = by (bit_at n k) (bit_at-lt n k) (and_pow n k)
+  where
+    by : (b : ℕ) → b < 2 → bit_and n (2 ^ k) ≡ b * 2 ^ k → (bit_and n (2 ^ k) ≡ 0) ⊎ (bit_and n (2 ^ k) ≡ 2 ^ k)
+    by zero l e = inl (omega arith)
+    by (suc zero) l e = inr (omega arith)
+    by (suc (suc b)) l e = absurd (omega arith)
+
+-- a flag that stands so already changes nothing
+pub with_flag_same : (n : ℕ) (f : RingFlag) (on : Bool) → n < 2 ^ 32 → has_flag n f ≡ on → with_flag n f on ≡ n
+with_flag_same n NeedWakeup true h e = by (bit_cases n 0)
+  where
+    by : (bit_and n 1 ≡ 0) ⊎ (bit_and n 1 ≡ 1) → bit_or n 1 ≡ n
+    by (inl k) = let o : false ≡ true = ap (λ a. not (a == 0)) (sym k) ∙ e in absurd cc
+    by (inr k) = set_again n 1 k
+with_flag_same n CqOverflow true h e = by (bit_cases n 1)
+  where
+    by : (bit_and n 2 ≡ 0) ⊎ (bit_and n 2 ≡ 2) → bit_or n 2 ≡ n
+    by (inl k) = let o : false ≡ true = ap (λ a. not (a == 0)) (sym k) ∙ e in absurd cc
+    by (inr k) = set_again n 2 k
+with_flag_same n NeedWakeup false h e = by (bit_cases n 0)
+  where
+    by : (bit_and n 1 ≡ 0) ⊎ (bit_and n 1 ≡ 1) → bit_and n 4294967294 ≡ n
+    by (inl k) = cleared_again n 1 4294967294 refl k h
+    by (inr k) = let o : true ≡ false = ap (λ a. not (a == 0)) (sym k) ∙ e in absurd cc
+with_flag_same n CqOverflow false h e = by (bit_cases n 1)
+  where
+    by : (bit_and n 2 ≡ 0) ⊎ (bit_and n 2 ≡ 2) → bit_and n 4294967293 ≡ n
+    by (inl k) = cleared_again n 2 4294967293 refl k h
+    by (inr k) = let o : true ≡ false = ap (λ a. not (a == 0)) (sym k) ∙ e in absurd cc

@@ -1,7 +1,8 @@
 //! The completion ring.
-ghost use Rattle.std.specs.Prelude.{◌≡◌, ◌==◌, ◌↔◌, ◌+◌, ◌%◌, ◌^◌, ◌<◌, ◌≤◌, ◌⊎◌, ◌∷◌, ◌++◌, [], nat_lt, length, slice_get, slice_set, IfOk};
+ghost use Rattle.std.specs.Prelude.{◌≡◌, ◌==◌, ◌↔◌, ◌+◌, ◌%◌, ◌^◌, ◌<◌, ◌≤◌, ◌⊎◌, ◌∷◌, ◌++◌, [], nat_lt, length, slice_get, slice_set, IfOk, None};
 ghost use Rattle.std.specs.Int.{IsNextPowerOfTwo};
-ghost use Rattle.places.specs.View.{Keeps};
+ghost use Rattle.places.specs.declared.place.Place.{Place};
+ghost use Rattle.places.specs.View.{Keeps, named};
 ghost use Rattle.ring_words.specs.Rings.{waiting, com_list, com_owns, com_seen, com_start, ComFormed};
 
 use crate::noting::{note_slot, note_word};
@@ -162,6 +163,7 @@ impl ComRing {
         ensures next { self.new ≡ record self.old { tail = (self.old.tail + 1) % 2 ^ 32; slots = slice_set self.old.slots (self.old.tail % length self.old.slots) completion } }
         ensures list { com_list self.new ≡ com_list self.old ++ completion ∷ [] }
         ensures keeps { Keeps com_owns (com_seen self.old) (com_seen self.new) notes.old.made notes.new.made }
+        ensures named { (p : Place) → named notes.new.made p ≡ None → named notes.old.made p ≡ None }
         ensures spends_numbers { notes.old.numbers ≤ notes.new.numbers + 1 }
         ensures spends_completions { notes.old.completions ≤ notes.new.completions + 1 }
         ensures spends_others { notes.old.others ≤ notes.new.others }

@@ -1,8 +1,9 @@
 //! The submission ring.
-ghost use Rattle.std.specs.Prelude.{◌≡◌, ◌==◌, ◌↔◌, ◌+◌, ◌%◌, ◌^◌, ◌<◌, ◌≤◌, ◌⊎◌, ◌∷◌, ◌++◌, [], nat_lt, length, drop, slice_get, slice_set, IfOk, OnOk, OnErr};
+ghost use Rattle.std.specs.Prelude.{◌≡◌, ◌==◌, ◌↔◌, ◌+◌, ◌%◌, ◌^◌, ◌<◌, ◌≤◌, ◌⊎◌, ◌∷◌, ◌++◌, [], nat_lt, length, drop, slice_get, slice_set, IfOk, OnOk, OnErr, None};
 ghost use Rattle.std.proofs.Math.ListN.{replicate};
 ghost use Rattle.std.specs.Int.{IsNextPowerOfTwo};
-ghost use Rattle.places.specs.View.{Keeps};
+ghost use Rattle.places.specs.declared.place.Place.{Place};
+ghost use Rattle.places.specs.View.{Keeps, named};
 ghost use Rattle.ring_words.specs.Rings.{waiting, sub_list, sub_owns, sub_seen, sub_start, front_word, is_index, taken_of, dropped_after, has_flag, with_flag, zero_entry, IsSize, SubFormed};
 
 use crate::flag::RingFlag;
@@ -310,10 +311,14 @@ impl SubRing {
         requires { 0 < notes.old.numbers }
         ensures next { self.new ≡ record self.old { flags = with_flag self.old.flags flag on } }
         ensures keeps { Keeps sub_owns (sub_seen self.old) (sub_seen self.new) notes.old.made notes.new.made }
+        ensures named { (p : Place) → named notes.new.made p ≡ None → named notes.old.made p ≡ None }
         ensures spends_numbers { notes.old.numbers ≤ notes.new.numbers + 1 }
         ensures spends_completions { notes.old.completions ≤ notes.new.completions }
         ensures spends_others { notes.old.others ≤ notes.new.others }
     {
+        if self.has_flag(flag) == on {
+            return;
+        }
         note_word(notes, Place::SubmissionFlags, self.flags);
         if on {
             self.flags |= flag.bit();

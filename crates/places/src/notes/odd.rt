@@ -1,5 +1,5 @@
 //! Notes of places one at a time, which are searched one by one.
-ghost use Rattle.std.specs.Prelude.{◌≡◌, ◌+◌, ◌<◌, ◌≤◌, ◌∷◌, ◌++◌, [], None, OnOk, IsOk, is_some, MatchBool};
+ghost use Rattle.std.specs.Prelude.{◌≡◌, ◌≢◌, ◌+◌, ◌<◌, ◌≤◌, ◌∷◌, ◌++◌, [], None, OnOk, IsOk, is_some, MatchBool};
 ghost use Rattle.std.specs.List.{list_any};
 ghost use Rattle.places.specs.Places.{same_place};
 ghost use Rattle.places.specs.View.{View, named, NamesOnce};
@@ -80,7 +80,7 @@ impl Odd {
 
     /// Whether there are none.
     pub fn is_empty(&self) -> bool
-        ensures { MatchBool result (self.now.notes ≡ []) (Unit {0}) }
+        ensures { MatchBool result (self.now.notes ≡ []) (self.now.notes ≢ []) }
     {
         self.notes.is_empty()
     }

@@ -1,5 +1,6 @@
 //! Notes of rows, and of the places that are neither numbers, bytes nor completions of the ring.
 ghost use Rattle.std.specs.Prelude.{◌≡◌, option_map, true, MatchOption};
+ghost use Rattle.entries.specs.declared.row.Row.{Row};
 ghost use Rattle.places.specs.declared.value.Value.TheVariants.{Requested};
 ghost use Rattle.places.specs.declared.place.Place.TheVariants.{Request};
 ghost use Rattle.places.specs.Slots.{row_change, value_of, other_place, slot_at};
@@ -35,7 +36,7 @@ pub enum RowNote {
 impl Small {
     /// The value, if it is no row.
     pub fn of(value: Value) -> Option<Small>
-        ensures { MatchOption result (Unit {0}) (λ s. value_of s ≡ value) }
+        ensures { MatchOption result ((row : Row) × (value ≡ Requested row)) (λ s. value_of s ≡ value) }
     {
         match value {
             Value::Number(n) => Some(Small::Amount(n)),

@@ -1,5 +1,5 @@
 //! Notes of bytes, a slice at a time.
-ghost use Rattle.std.specs.Prelude.{◌≡◌, ◌+◌, ◌<◌, ◌≤◌, ◌^◌, ◌∷◌, ◌++◌, [], ℕ, length, map, Some, None, OnOk, OnErr, MatchBool, is_some};
+ghost use Rattle.std.specs.Prelude.{◌≡◌, ◌≢◌, ◌+◌, ◌<◌, ◌≤◌, ◌^◌, ◌∷◌, ◌++◌, [], ℕ, length, map, Some, None, OnOk, OnErr, MatchBool, is_some};
 ghost use Rattle.std.specs.List.{list_any};
 ghost use Rattle.places.specs.View.{View, named, NamesOnce};
 ghost use Rattle.places.specs.Closed.{KeptOf};
@@ -133,7 +133,7 @@ impl ByteNotes {
 
     /// Whether there is no run.
     pub fn is_empty(&self) -> bool
-        ensures { MatchBool result (self.now.runs ≡ []) (Unit {0}) }
+        ensures { MatchBool result (self.now.runs ≡ []) (self.now.runs ≢ []) }
     {
         self.runs.is_empty()
     }

@@ -1,5 +1,5 @@
 use Rattle.std.proofs.Common.{◌≡◌, ◌∙◌, ap, take}
-use Rattle.links_drains.proofs.Batching.{keeps_back}
+use Rattle.places.proofs.Keeping.{keeps_back}
 use Rattle.links_drains.proofs.table.Table.take_batch.Goals as goal
 
 pub returns-in-Err-clause-keeps : goal.returns-in-Err-clause-keeps
