@@ -1,0 +1,6 @@
+pub mod Seen
+pub mod Delivered
+pub mod Posting
+pub mod Adding
+pub mod KeptInOrder
+pub mod Restoring

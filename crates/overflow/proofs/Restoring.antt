@@ -1,0 +1,34 @@
+-- What a backlog shows, put into a backlog as long.
+use Rattle.std.proofs.Common.{◌≡◌, refl, sym, subst, length}
+use Rattle.std.specs.Prelude.{Some, None}
+use Rattle.places.specs.declared.place.Place.{Place}
+use Rattle.places.specs.declared.place.Place.TheVariants.{Backlog, BacklogFront}
+use Rattle.places.specs.declared.value.Value.{Value}
+use Rattle.places.specs.declared.value.Value.TheVariants.{Completed}
+use Rattle.places.proofs.ListLemmas.{same_list}
+use Rattle.ring_words.proofs.Restoring.{none_here, some_here, same_through}
+use Rattle.overflow.specs.Backlogs.{BacklogState, BacklogFormed, backlog_seen, backlog_can_put}
+
+-- it can be put there
+pub backlog_seen_can_put : (s m : BacklogState) → BacklogFormed s → length s.items ≡ length m.items → (p : Place) (v : Value) → backlog_seen s p ≡ Some v → backlog_can_put m p (Some v)
+backlog_seen_can_put s m f h (Backlog i) v e =
+    let k = some_here Completed s.items m.items i v h e in
+    subst (λ (w : Value). backlog_can_put m (Backlog i) (Some w)) (sym k.1.2) k.0
+backlog_seen_can_put s m f h BacklogFront v e = subst (backlog_can_put m BacklogFront) e f.front
+backlog_seen_can_put s m f h _ v e = absurd cc
+
+-- where nothing stands, nothing stands in a backlog as long
+pub backlog_absent_same : (s m : BacklogState) → length s.items ≡ length m.items → (p : Place) → backlog_seen s p ≡ None → backlog_seen m p ≡ None
+backlog_absent_same s m h (Backlog i) e = none_here Completed s.items m.items i h e
+backlog_absent_same s m h BacklogFront e = absurd cc
+backlog_absent_same s m h _ e = refl
+
+-- backlogs that show the same are one
+pub same_backlog : (s m : BacklogState) → ((p : Place) → backlog_seen s p ≡ backlog_seen m p) → s ≡ m
+same_backlog s m e = λ i. record { items = items i; front = front i }
+  where
+    items : s.items ≡ m.items
+    items = same_list _ _ (λ i. same_through Completed (λ x y k. cc) _ _ (e (Backlog i)))
+
+    front : s.front ≡ m.front
+    front = let k = e BacklogFront in cc
