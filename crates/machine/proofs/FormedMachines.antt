@@ -1,5 +1,6 @@
 -- What each change of the machine keeps.
-use Rattle.std.proofs.Common.{◌≡◌, ◌≢◌, ℕ, ℤ, zero, suc, pos, Bool, true, false, cond, refl, sym, ◌∙◌, ap, subst, List, [], ◌∷◌, ◌++◌, length, take, ◌+◌, ◌-◌, ◌%◌, ◌<◌, ◌≤◌, ◌^◌, ◌⊎◌, inl, inr, append_assoc, length-append, length-take, length-set, arith}
+use Rattle.std.proofs.Common.{◌≡◌, ◌≢◌, ℕ, ℤ, zero, suc, pos, Bool, true, false, cond, refl, sym, ◌∙◌, ap, subst, List, [], ◌∷◌, ◌++◌, length, take, drop, ◌+◌, ◌-◌, ◌%◌, ◌<◌, ◌≤◌, ◌^◌, ◌⊎◌, inl, inr, append_assoc, length-append, length-take, length-set, arith}
+use Rattle.std.proofs.lemmas.List.{length-drop}
 use Rattle.std.specs.Prelude.{Option, Some, None, slice_get, slice_set, not}
 use Rattle.std.specs.List.{list_any}
 use Rattle.entries.specs.declared.completion.Cqe.{Cqe}
@@ -9,20 +10,23 @@ use Rattle.entries.specs.declared.row.Phase.{Phase}
 use Rattle.entries.specs.declared.row.Phase.TheVariants.{Queued, Issued, Ended}
 use Rattle.places.specs.Lists.{updated}
 use Rattle.places.proofs.ListLemmas.{length-updated}
-use Rattle.ring_words.specs.Rings.{SubWords, SubFormed, ComWords, ComFormed, waiting, sub_list}
-use Rattle.ring_words.proofs.Laws.{formed_pushed, formed_taken, formed_entry, formed_posted, formed_reaped, sub_length}
+use Rattle.ring_words.specs.Rings.{SubWords, SubFormed, ComWords, ComFormed, waiting, sub_list, with_flag}
+use Rattle.ring_words.specs.declared.flag.RingFlag.TheVariants.{NeedWakeup, CqOverflow}
+use Rattle.ring_words.proofs.Laws.{formed_pushed, formed_taken, formed_entry, formed_flag, formed_reaped, sub_length}
 use Rattle.ring_words.proofs.Order.{waiting_less, waiting_more, waiting_behind}
 use Rattle.ring_words.proofs.Sizes.{size_most}
 use Rattle.links_drains.specs.Batches.{rows_of}
 use Rattle.links_drains.specs.Rows.{new_row}
-use Rattle.links_drains.specs.Phases.{is_ended, is_unfinished, counts, counted_of}
+use Rattle.links_drains.specs.Phases.{is_ended, is_unfinished, counts, counted_of, ended_of}
 use Rattle.links_drains.proofs.Batching.{length-rows_of, rows_of-more}
-use Rattle.links_drains.proofs.Counting.{counted-append, counted-ended, counted-issued}
+use Rattle.links_drains.proofs.Counting.{counted-append, counted-ended, counted-issued, ended-ended, ended-unfinished, ended-append}
+use Rattle.overflow.specs.Backlogs.{BacklogState, is_clear, fits, Delivery, DeliveryFormed, all_posted, flushed as flushed_delivery}
+use Rattle.overflow.proofs.KeptInOrder.{posted_formed, flushed_formed}
 use Rattle.links_drains.proofs.RowsKept.{get-pushed, length-push}
 use Rattle.machine.specs.Submission.{offered, some_fails, passes_at, batch_of, entries_at, taken_words, taken_entries, einval}
-use Rattle.machine.specs.Steps.{ended, posted, completion_of, count_of, taken_by, taken, submitted}
+use Rattle.machine.specs.Steps.{delivery, flushed, ended, posted, count_of, taken_by, taken, submitted}
 use Rattle.machine.specs.Threads.{ThreadState}
-use Rattle.machine.specs.Whole.{WellFormed, Stands}
+use Rattle.machine.specs.Whole.{is_asleep, flag_word, WellFormed, Stands}
 use Rattle.machine.specs.declared.whole.Machine.{Machine}
 use Rattle.machine.proofs.FormedRows.{AllNops, LastFails, NopRows, all_pass, one_fails, length-batch_of, length-entries_at, counted-rows_of, nop_rows_of, nop_rows-append, updated-last}
 use Rattle.machine.proofs.FormedThreads.{updated_get}
@@ -33,38 +37,99 @@ pub record Mostly (m : Machine) : Type 0 where
   pub completions : ComFormed m.completions
   pub entries_wait : waiting m.submissions.head m.submissions.tail ≤ length m.submissions.array
   pub completions_wait : waiting m.completions.head m.completions.tail ≤ length m.completions.slots
-  pub flags : m.submissions.flags ≡ 0
+  pub flags : m.submissions.flags ≡ flag_word (is_asleep m.poller) (not (is_clear m.backlog))
+  pub front : m.backlog.front ≤ length m.backlog.items
+  pub overflowed : length m.backlog.items ≤ ended_of m.table
   pub rows : length m.table ≤ 65536
   pub counted : m.counted ≡ counted_of m.table
   pub clock : m.clock < 2 ^ 64
   pub threads : (t : ℕ) (x : ThreadState) → slice_get m.threads t ≡ Some x → Stands (length m.submissions.slots) x
 
 pub mostly : (m : Machine) → WellFormed m → Mostly m
-mostly m h = record { submissions = h.submissions; completions = h.completions; entries_wait = h.entries_wait; completions_wait = h.completions_wait; flags = h.flags; rows = h.rows; counted = h.counted; clock = h.clock; threads = h.threads }
+mostly m h = record { submissions = h.submissions; completions = h.completions; entries_wait = h.entries_wait; completions_wait = h.completions_wait; flags = h.flags; front = h.front; overflowed = h.overflowed; rows = h.rows; counted = h.counted; clock = h.clock; threads = h.threads }
 
 pub formed_of : (m : Machine) → Mostly m → NopRows m.table → WellFormed m
-formed_of m h k = record { submissions = h.submissions; completions = h.completions; entries_wait = h.entries_wait; completions_wait = h.completions_wait; flags = h.flags; rows = h.rows; opcodes = k.each; counted = h.counted; clock = h.clock; threads = h.threads }
+formed_of m h k = record { submissions = h.submissions; completions = h.completions; entries_wait = h.entries_wait; completions_wait = h.completions_wait; flags = h.flags; front = h.front; overflowed = h.overflowed; rows = h.rows; opcodes = k.each; counted = h.counted; clock = h.clock; threads = h.threads }
+
+-- ---- completions
+
+-- the flags word, with one flag set or cleared
+pub overflow_flag : (a b c : Bool) → with_flag (flag_word a b) CqOverflow c ≡ flag_word a c
+overflow_flag true true true = refl
+overflow_flag true true false = refl
+overflow_flag true false true = refl
+overflow_flag true false false = refl
+overflow_flag false true true = refl
+overflow_flag false true false = refl
+overflow_flag false false true = refl
+overflow_flag false false false = refl
+
+pub wakeup_flag : (a b c : Bool) → with_flag (flag_word a b) NeedWakeup c ≡ flag_word c b
+wakeup_flag true true true = refl
+wakeup_flag true true false = refl
+wakeup_flag true false true = refl
+wakeup_flag true false false = refl
+wakeup_flag false true true = refl
+wakeup_flag false true false = refl
+wakeup_flag false false true = refl
+wakeup_flag false false false = refl
+
+-- where completions go
+pub delivers : (m : Machine) → Mostly m → DeliveryFormed (delivery m)
+delivers m h = record { completions = h.completions; waits = h.completions_wait; front = h.front }
+
+-- completions are posted or flushed: the flags word tells whether some are kept
+pub told_kept : (m : Machine) (b : BacklogState) → Mostly m → with_flag m.submissions.flags CqOverflow (not (is_clear b)) ≡ flag_word (is_asleep m.poller) (not (is_clear b))
+told_kept m b h = ap (λ f. with_flag f CqOverflow (not (is_clear b))) h.flags ∙ overflow_flag (is_asleep m.poller) (not (is_clear m.backlog)) (not (is_clear b))
+
+pub mostly_flushed : (m : Machine) → Mostly m → Mostly (flushed m)
+mostly_flushed m h =
+    let d : DeliveryFormed (flushed_delivery (delivery m)) = flushed_formed (delivery m) (delivers m h) in
+    let f = told_kept m (flushed m).backlog h in
+    record {
+      submissions = formed_flag m.submissions CqOverflow _ h.submissions;
+      completions = d.completions;
+      entries_wait = h.entries_wait;
+      completions_wait = d.waits;
+      flags = f;
+      front = d.front;
+      overflowed = h.overflowed;
+      rows = h.rows;
+      counted = h.counted;
+      clock = h.clock;
+      threads = h.threads;
+    }
+
+pub formed_flushed : (m : Machine) → WellFormed m → WellFormed (flushed m)
+formed_flushed m h = formed_of (flushed m) (mostly_flushed m (mostly m h)) (record { each = h.opcodes })
 
 -- ---- a row ends
-
-pub posted_waits : (w : ComWords) (c : Cqe) → ComFormed w → waiting w.head w.tail < length w.slots → waiting w.head ((w.tail + 1) % 2 ^ 32) ≤ length (slice_set w.slots (w.tail % length w.slots) c)
-posted_waits w c f l =
-    let a = waiting_more w.head w.tail (length w.slots) f.head f.tail (size_most 8192 (length w.slots) (omega arith) f.size) l in
-    let b = length-set w.slots (w.tail % length w.slots) c in
-    rw (b, a) (omega (arith, l))
 
 count_one : (n : ℕ) (b : Bool) → cond b (n + 1) n ≡ n + cond b 1 0
 count_one n true = refl
 count_one n false = omega arith
 
-pub mostly_ended : (m : Machine) (r : ℕ) (x : Row) (res : ℤ) → Mostly m → slice_get m.table r ≡ Some x → is_ended x.phase ≡ false → waiting m.completions.head m.completions.tail < length m.completions.slots → Mostly (ended m r res)
-mostly_ended m r x res h e u l =
+-- one completion adds one item at most
+pub items_one : (d : Delivery) (c : Cqe) → length (all_posted d (c ∷ [])).backlog.items ≤ length d.backlog.items + 1
+items_one d c =
+    let n = fits d.completions d.backlog 1 in
+    let a = length-append d.backlog.items (drop n (c ∷ [])) in
+    let b = length-drop n (c ∷ []) in
+    omega (arith, a, b)
+
+pub mostly_ended : (m : Machine) (r : ℕ) (x : Row) (res : ℤ) → Mostly m → slice_get m.table r ≡ Some x → is_ended x.phase ≡ false → Mostly (ended m r res)
+mostly_ended m r x res h e u =
+    let c : Cqe = record { user_data = x.entry.user_data; res = res; flags = 0 } in
+    let d : DeliveryFormed (all_posted (delivery m) (c ∷ [])) = posted_formed (delivery m) (c ∷ []) (delivers m h) in
+    let f = told_kept m (all_posted (delivery m) (c ∷ [])).backlog h in
     rw e (record {
-      submissions = h.submissions;
-      completions = formed_posted m.completions (record { user_data = x.entry.user_data; res = res; flags = 0 }) h.completions;
+      submissions = formed_flag m.submissions CqOverflow _ h.submissions;
+      completions = d.completions;
       entries_wait = h.entries_wait;
-      completions_wait = posted_waits m.completions (record { user_data = x.entry.user_data; res = res; flags = 0 }) h.completions l;
-      flags = h.flags;
+      completions_wait = d.waits;
+      flags = f;
+      front = d.front;
+      overflowed = let a = items_one (delivery m) c in let b = ended-ended m.table r x res e u in let k = h.overflowed in omega (arith, a, b, k);
       rows = let a = length-updated (λ (row : Row). record row { phase = Ended res }) m.table r in let b = h.rows in omega (arith, a, b);
       counted = ap (λ n. n + cond (counts x) 1 0) h.counted ∙ sym (count_one (counted_of m.table) (counts x)) ∙ sym (counted-ended m.table r x res e u);
       clock = h.clock;
@@ -79,8 +144,8 @@ nop_rows-ended rows r res h = record { each = λ j y e u. by j y u (updated_get 
     by j y u (inl k) = h.each j y k u
     by j y u (inr k) = absurd (let o = ap (λ (z : Row). is_unfinished z.phase) (sym k.3) ∙ u in cc)
 
-pub formed_ended : (m : Machine) (r : ℕ) (x : Row) (res : ℤ) → WellFormed m → slice_get m.table r ≡ Some x → is_ended x.phase ≡ false → waiting m.completions.head m.completions.tail < length m.completions.slots → WellFormed (ended m r res)
-formed_ended m r x res h e u l = formed_of (ended m r res) (mostly_ended m r x res (mostly m h) e u l) (nop_rows-ended m.table r res (record { each = h.opcodes }))
+pub formed_ended : (m : Machine) (r : ℕ) (x : Row) (res : ℤ) → WellFormed m → slice_get m.table r ≡ Some x → is_ended x.phase ≡ false → WellFormed (ended m r res)
+formed_ended m r x res h e u = formed_of (ended m r res) (mostly_ended m r x res (mostly m h) e u) (nop_rows-ended m.table r res (record { each = h.opcodes }))
 
 -- ---- a row is issued
 
@@ -101,6 +166,8 @@ formed_issued m r x h e q = record {
   entries_wait = h.entries_wait;
   completions_wait = h.completions_wait;
   flags = h.flags;
+  front = h.front;
+  overflowed = let a = ended-unfinished (λ (row : Row). record row { phase = Issued }) m.table r x e q refl in let b = h.overflowed in omega (arith, a, b);
   rows = let a = length-updated (λ (row : Row). record row { phase = Issued }) m.table r in let b = h.rows in omega (arith, a, b);
   opcodes = (nop_rows-issued m.table r x e q (record { each = h.opcodes })).each;
   counted = h.counted ∙ sym (counted-issued m.table r x e q);
@@ -135,6 +202,8 @@ mostly_taken m k h l = record {
   entries_wait = waits_behind m.submissions.head m.submissions.tail (length (taken_words m.submissions k)) (length m.submissions.array) h.submissions.head h.submissions.tail (within (length-taken_words m.submissions k) (length-offered m.submissions k h.submissions)) h.entries_wait;
   completions_wait = h.completions_wait;
   flags = h.flags;
+  front = h.front;
+  overflowed = let a = ended-append m.table (rows_of (length m.table) (taken_entries m.submissions k)) in let b = h.overflowed in omega (arith, a, b);
   rows = count (length-append m.table (rows_of (length m.table) (taken_entries m.submissions k))) (length-rows_of (length m.table) (taken_entries m.submissions k)) (length-taken_entries m.submissions k);
   counted = h.counted ∙ more (counted-append m.table (rows_of (length m.table) (taken_entries m.submissions k))) (counted-rows_of (length m.table) (taken_entries m.submissions k));
   clock = h.clock;
@@ -179,15 +248,15 @@ last_ended rows others x res e h =
     one zero y g u = absurd (let o = let same : record x { phase = Ended res } ≡ y = cc in ap (λ (z : Row). is_unfinished z.phase) same ∙ u in cc)
     one (suc r) y g u = absurd cc
 
-pub formed_taken_last : (m : Machine) (k : ℕ) → WellFormed m → length m.table + length (offered m.submissions k) ≤ 65536 → waiting m.completions.head m.completions.tail < length m.completions.slots → some_fails m.submissions k ≡ true
+pub formed_taken_last : (m : Machine) (k : ℕ) → WellFormed m → length m.table + length (offered m.submissions k) ≤ 65536 → some_fails m.submissions k ≡ true
     → WellFormed (ended (taken m k) (length (taken m k).table - 1) einval)
-formed_taken_last m k h l r e =
+formed_taken_last m k h l e =
     let f : LastFails (taken_entries m.submissions k) = one_fails m.submissions.slots (offered m.submissions k) e in
     let others : List Row = m.table ++ rows_of (length m.table) f.before in
     let x : Row = new_row f.last (length m.table + length f.before) in
     let t = table_last m k f in
     formed_of (ended (taken m k) (length (taken m k).table - 1) einval)
-    (mostly_ended (taken m k) (length (taken m k).table - 1) x einval (mostly_taken m k (mostly m h) l) (last_row (taken m k).table others x t) refl r)
+    (mostly_ended (taken m k) (length (taken m k).table - 1) x einval (mostly_taken m k (mostly m h) l) (last_row (taken m k).table others x t) refl)
     (last_ended (taken m k).table others x einval t (nop_rows-append m.table (rows_of (length m.table) f.before) (record { each = h.opcodes }) (nop_rows_of (length m.table) f.before f.nops)))
 
 -- ---- words of the rings
@@ -199,6 +268,8 @@ formed_put m slot entry h = record {
   entries_wait = h.entries_wait;
   completions_wait = h.completions_wait;
   flags = h.flags;
+  front = h.front;
+  overflowed = h.overflowed;
   rows = h.rows;
   opcodes = h.opcodes;
   counted = h.counted;
@@ -218,6 +289,8 @@ formed_push m x h b l = record {
       rw (n, a) (omega (arith, l));
   completions_wait = h.completions_wait;
   flags = h.flags;
+  front = h.front;
+  overflowed = h.overflowed;
   rows = h.rows;
   opcodes = h.opcodes;
   counted = h.counted;
@@ -235,6 +308,8 @@ formed_taken_out m h l = record {
       let b = h.completions_wait in
       omega (arith, a, b);
   flags = h.flags;
+  front = h.front;
+  overflowed = h.overflowed;
   rows = h.rows;
   opcodes = h.opcodes;
   counted = h.counted;

@@ -1,13 +1,16 @@
 -- Threads that go on stand within their programs, and setups stay.
-use Rattle.std.proofs.Common.{◌≡◌, ◌≢◌, ℕ, ℤ, zero, suc, pos, negsuc, refl, sym, ◌∙◌, ap, subst, List, [], ◌∷◌, length, map, ◌+◌, ◌<◌, ◌≤◌, ◌⊎◌, inl, inr, arith, FitsSigned}
+use Rattle.std.proofs.Common.{◌≡◌, ◌≢◌, ℕ, ℤ, zero, suc, pos, negsuc, refl, sym, ◌∙◌, ap, subst, List, [], ◌∷◌, length, map, ◌+◌, ◌<◌, ◌≤◌, ◌^◌, ◌⊎◌, inl, inr, arith, FitsSigned}
 use Rattle.std.specs.Prelude.{Option, Some, None, slice_get}
 use Rattle.std.specs.Int.{w64}
 use Rattle.std.proofs.lemmas.Option.{slice_get_within}
 use Rattle.entries.specs.declared.completion.Cqe.{Cqe}
 use Rattle.places.specs.Lists.{updated}
+use Rattle.places.specs.declared.value.Stage.{Stage}
+use Rattle.places.specs.declared.value.Stage.TheVariants.{Ready, Waiting}
 use Rattle.machine.specs.Threads.{ThreadState}
-use Rattle.machine.specs.Whole.{WellFormed, Stands}
+use Rattle.machine.specs.Whole.{WellFormed, Stands, Waits}
 use Rattle.machine.specs.declared.setup.Instruction.{Instruction}
+use Rattle.machine.specs.declared.setup.Instruction.TheVariants.{Enter}
 use Rattle.machine.specs.declared.whole.Machine.{Machine}
 
 -- an element of a changed list
@@ -28,14 +31,32 @@ map_updated g f (x ∷ xs) (suc i) h = ap (λ vs. g x ∷ vs) (map_updated g f x
 pub fits_count : (n : ℕ) → n ≤ 65536 → FitsSigned w64 (pos n)
 fits_count n h = omega arith
 
+-- a ready thread waits for nothing
+waits_not : (x : ThreadState) → x.stage ≡ Ready → (n w : ℕ) → x.stage ≡ Waiting n w → Waits x n w
+waits_not x r n w e = absurd (let k = sym r ∙ e in cc)
+
 -- a thread that has an instruction goes on
-pub stands_on : (size : ℕ) (x : ThreadState) (i : Instruction) (n : ℤ) (got : Option Cqe) → Stands size x → slice_get x.program x.counter ≡ Some i → FitsSigned w64 n → Stands size (record x { counter = x.counter + 1; last = n; got = got })
-stands_on size x i n got s h l = record {
+pub stands_on : (size : ℕ) (x : ThreadState) (i : Instruction) (stage : Stage) (n : ℤ) (got : Option Cqe) → Stands size x → slice_get x.program x.counter ≡ Some i → stage ≡ Ready → FitsSigned w64 n → Stands size (record x { counter = x.counter + 1; stage = stage; last = n; got = got })
+stands_on size x i stage n got s h r l = record {
   within = let k = slice_get_within x.program x.counter i h in omega (arith, k);
   program = s.program;
   last = l;
-  stage = s.stage;
+  waits = waits_not (record x { counter = x.counter + 1; stage = stage; last = n; got = got }) r;
 }
+
+-- one that stands at an Enter waits there
+pub stands_held : (size : ℕ) (x : ThreadState) (n w to_submit min_complete flags : ℕ) → Stands size x → slice_get x.program x.counter ≡ Some (Enter to_submit min_complete flags) → n < 2 ^ 32 → w < 2 ^ 32 → Stands size (record x { stage = Waiting n w })
+stands_held size x n w to_submit min_complete flags s g a b = record { within = s.within; program = s.program; last = s.last; waits = held }
+  where
+    held : (m v : ℕ) → Waiting n w ≡ Waiting m v → Waits (record x { stage = Waiting n w }) m v
+    held m v e = record {
+      submitted = let k : n ≡ m = cc in omega (arith, k, a);
+      wanted = let k : w ≡ v = cc in omega (arith, k, b);
+      to_submit = to_submit;
+      min_complete = min_complete;
+      flags = flags;
+      enter = g;
+    }
 
 -- one thread changes
 pub stands_updated : (size : ℕ) (ts : List ThreadState) (f : ThreadState → ThreadState) (t : ℕ) (x : ThreadState) → ((j : ℕ) (y : ThreadState) → slice_get ts j ≡ Some y → Stands size y) → slice_get ts t ≡ Some x → Stands size (f x)
@@ -55,6 +76,8 @@ formed_thread m f t x h e s = record {
   entries_wait = h.entries_wait;
   completions_wait = h.completions_wait;
   flags = h.flags;
+  front = h.front;
+  overflowed = h.overflowed;
   rows = h.rows;
   opcodes = h.opcodes;
   counted = h.counted;

@@ -30,3 +30,10 @@ is_done m t i f h = let x = thread_of m t i h in (f.threads t x.0 x.1).program.d
 -- what comes next, told by what was read
 pub comes_next : (m : Machine) (t : ℕ) (x : ThreadState) (i : Instruction) → Some x ≡ slice_get m.threads t → Some i ≡ slice_get x.program x.counter → next_of (slice_get m.threads t) ≡ Some i
 comes_next m t x i h k = ap next_of (sym h) ∙ sym k
+
+-- the same once the machine has changed, and its threads have not
+pub there_still : (m n : Machine) (t : ℕ) (i : Instruction) → n.threads ≡ m.threads → next_of (slice_get m.threads t) ≡ Some i → t < length n.threads
+there_still m n t i e h = subst (λ (ts : List ThreadState). t < length ts) (sym e) (thread_there m t i h)
+
+pub goes_on_still : (m n : Machine) (t : ℕ) → n.threads ≡ m.threads → WellFormed m → (x : ThreadState) → slice_get n.threads t ≡ Some x → x.counter + 1 < 2 ^ 32
+goes_on_still m n t e f x h = goes_on m t f x (ap (λ ts. slice_get ts t) (sym e) ∙ h)

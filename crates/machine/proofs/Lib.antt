@@ -6,9 +6,11 @@ pub mod Restored
 pub mod TakingWords
 pub mod SubmissionLemmas
 pub mod InstructionLemmas
+pub mod EnterLemmas
 pub mod FormedRows
 pub mod FormedThreads
 pub mod FormedMachines
+pub mod Growing
 pub mod Formed
 pub mod Linking
 pub mod StartLemmas

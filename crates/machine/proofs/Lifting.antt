@@ -3,7 +3,7 @@ use Rattle.std.proofs.Common.{◌≡◌, ℕ, Bool, true, false, refl, sym, ◌�
 use Rattle.std.specs.Prelude.{Option, Some, None, unwrap_or, if◌then◌else◌}
 use Rattle.entries.specs.declared.row.Row.{Row}
 use Rattle.places.specs.declared.place.Place.{Place}
-use Rattle.places.specs.declared.place.Place.TheVariants.{SubmissionHead, SubmissionTail, SubmissionFlags, SubmissionDropped, CompletionHead, CompletionTail, Array, Slot, Completion, Request, Clock, Counted, ProgramCounter, ThreadStage, Last, Got}
+use Rattle.places.specs.declared.place.Place.TheVariants.{SubmissionHead, SubmissionTail, SubmissionFlags, SubmissionDropped, CompletionHead, CompletionTail, Array, Slot, Completion, Request, Backlog, BacklogFront, Clock, Counted, PollerStage, ProgramCounter, ThreadStage, Last, Got}
 use Rattle.places.specs.declared.value.Value.{Value}
 use Rattle.places.specs.declared.value.Value.TheVariants.{Number}
 use Rattle.places.specs.declared.value.Change.{Change}
@@ -13,8 +13,12 @@ use Rattle.places.proofs.SamePlace.{same_place_is}
 use Rattle.places.proofs.Keeping.{keeps_noted}
 use Rattle.ring_words.specs.Rings.{SubWords, sub_owns, sub_seen, sub_can_put, ComWords, com_owns, com_seen, com_can_put}
 use Rattle.links_drains.specs.Rows.{table_owns, table_seen, table_can_put}
+use Rattle.overflow.specs.Backlogs.{BacklogState, Delivery, backlog_owns, backlog_seen, backlog_can_put, delivery_owns, delivery_seen}
+use Rattle.sqpoll.specs.declared.poller.Poller.{Poller}
+use Rattle.sqpoll.specs.Pollers.{Polling, polling_of, polling_owns, polling_seen}
 use Rattle.machine.specs.Threads.{ThreadState, threads_owns, threads_seen, threads_can_put}
-use Rattle.machine.specs.Whole.{view, everywhere, can_put}
+use Rattle.machine.specs.Whole.{view, everywhere, can_put, stage_of}
+use Rattle.machine.specs.Steps.{delivery, with_delivery}
 use Rattle.machine.specs.declared.whole.Machine.{Machine}
 
 pub keeps_whole : (u v : View) (cs ds : List Change) → ((p : Place) → undo v ds p ≡ undo u cs p) → Keeps everywhere u v cs ds
@@ -56,6 +60,39 @@ lift_threads m w cs ds h = keeps_whole _ _ _ _ at
     at (ThreadStage t) = h.back (ThreadStage t) refl
     at (Last t) = h.back (Last t) refl
     at (Got t) = h.back (Got t) refl
+    at p = ap (λ n. unwrap_or n (view m p)) (h.others p refl)
+
+-- where completions go
+pub lift_delivery : (m : Machine) (d : Delivery) (cs ds : List Change) → Keeps delivery_owns (delivery_seen (delivery m)) (delivery_seen d) cs ds → Keeps everywhere (view m) (view (with_delivery m d)) cs ds
+lift_delivery m d cs ds h = keeps_whole _ _ _ _ at
+  where
+    at : (p : Place) → undo (view (with_delivery m d)) ds p ≡ undo (view m) cs p
+    at SubmissionHead = h.back SubmissionHead refl
+    at SubmissionTail = h.back SubmissionTail refl
+    at SubmissionFlags = h.back SubmissionFlags refl
+    at SubmissionDropped = h.back SubmissionDropped refl
+    at (Array i) = h.back (Array i) refl
+    at (Slot i) = h.back (Slot i) refl
+    at CompletionHead = h.back CompletionHead refl
+    at CompletionTail = h.back CompletionTail refl
+    at (Completion i) = h.back (Completion i) refl
+    at (Backlog i) = h.back (Backlog i) refl
+    at BacklogFront = h.back BacklogFront refl
+    at p = ap (λ n. unwrap_or n (view m p)) (h.others p refl)
+
+-- the poller and the ring whose flag tells of it
+pub lift_polling : (m : Machine) (x : Poller) (y : Polling) (cs ds : List Change) → m.poller ≡ Some x → Keeps polling_owns (polling_seen (polling_of x m.submissions)) (polling_seen y) cs ds
+    → Keeps everywhere (view m) (view (record m { poller = Some y.poller; submissions = y.submissions })) cs ds
+lift_polling m x y cs ds e h = keeps_whole _ _ _ _ at
+  where
+    at : (p : Place) → undo (view (record m { poller = Some y.poller; submissions = y.submissions })) ds p ≡ undo (view m) cs p
+    at SubmissionHead = h.back SubmissionHead refl
+    at SubmissionTail = h.back SubmissionTail refl
+    at SubmissionFlags = h.back SubmissionFlags refl
+    at SubmissionDropped = h.back SubmissionDropped refl
+    at (Array i) = h.back (Array i) refl
+    at (Slot i) = h.back (Slot i) refl
+    at PollerStage = h.back PollerStage refl ∙ ap (λ o. unwrap_or (named cs PollerStage) (stage_of o)) (sym e)
     at p = ap (λ n. unwrap_or n (view m p)) (h.others p refl)
 
 -- ---- what a write shows
@@ -110,6 +147,16 @@ seen_threads m w p v o h (Last t) = h (Last t)
 seen_threads m w p v o h (Got t) = h (Got t)
 seen_threads m w p v o h q = apart threads_owns p q v (view m q) o refl
 
+pub seen_backlog : (m : Machine) (w : BacklogState) (p : Place) (v : Option Value) → backlog_owns p ≡ true → ((q : Place) → backlog_seen w q ≡ put_at (backlog_seen m.backlog) p v q) → (q : Place) → view (record m { backlog = w }) q ≡ put_at (view m) p v q
+seen_backlog m w p v o h (Backlog i) = h (Backlog i)
+seen_backlog m w p v o h BacklogFront = h BacklogFront
+seen_backlog m w p v o h q = apart backlog_owns p q v (view m q) o refl
+
+pub seen_poller : (m : Machine) (x : Option Poller) (v : Option Value) → stage_of x ≡ v → (q : Place) → view (record m { poller = x }) q ≡ put_at (view m) PollerStage v q
+unfolding same_place
+seen_poller m x v h PollerStage = h
+seen_poller m x v h _ = refl
+
 -- ---- what may be put into a part's place
 
 pub can_put_submissions : (m : Machine) (p : Place) (v : Option Value) → sub_owns p ≡ true → can_put m p v → sub_can_put m.submissions p v
@@ -137,3 +184,8 @@ can_put_threads m (ThreadStage t) v o h = h
 can_put_threads m (Last t) v o h = h
 can_put_threads m (Got t) v o h = h
 can_put_threads m p v o h = absurd cc
+
+pub can_put_backlog : (m : Machine) (p : Place) (v : Option Value) → backlog_owns p ≡ true → can_put m p v → backlog_can_put m.backlog p v
+can_put_backlog m (Backlog i) v o h = h
+can_put_backlog m BacklogFront v o h = h
+can_put_backlog m p v o h = absurd cc

@@ -7,21 +7,19 @@ use Rattle.std.specs.Prelude.{Option, Some, None, unwrap_or, slice_get}
 use Rattle.places.specs.declared.place.Place.{Place}
 use Rattle.places.specs.declared.value.Change.{Change}
 use Rattle.places.specs.View.{View, named, undo, undo_all, Keeps, LeadsBack}
-use Rattle.machine.specs.Whole.{view, everywhere, OneSetup, WellFormed, GoesBack}
+use Rattle.machine.specs.Whole.{view, everywhere, Grows, WellFormed, GoesBack}
 use Rattle.machine.specs.Steps.{refusal, after, Next}
 use Rattle.machine.specs.Runs.{Link, Linked}
 use Rattle.machine.specs.declared.whole.Machine.{Machine}
 use Rattle.machine.specs.declared.event.Event.{Event}
-use Rattle.machine.proofs.Formed.{setup_after, formed_after}
+use Rattle.machine.proofs.Growing.{grows_after}
 
 -- a link goes back
 pub goes_back : (s : Machine) (e : Event) (r : List Change) (m : Machine) → Link s e r m → GoesBack s m r
 goes_back s e r m h =
-    let o = setup_after s e in
     record {
       formed = h.formed;
-      setup = subst (OneSetup s) (sym h.next.changed) o.0;
-      rows = subst (λ (n : Machine). length s.table ≤ length n.table) (sym h.next.changed) o.1;
+      grows = subst (Grows s) (sym h.next.changed) (grows_after s e h.next.accepted);
       back = h.back;
     }
 

@@ -1,23 +1,27 @@
 -- What a list of changes puts back.
 use Rattle.std.proofs.Common.{◌≡◌, ◌≢◌, ℕ, Bool, true, false, cond, refl, sym, ◌∙◌, ap, subst, List, [], ◌∷◌, length, map, ◌<◌, ◌≤◌, ◌^◌, arith}
-use Rattle.std.specs.Prelude.{Option, Some, None, option_map, slice_get, unwrap_or}
+use Rattle.std.specs.Prelude.{Option, Some, None, is_some, option_map, slice_get, unwrap_or}
 use Rattle.std.proofs.lemmas.Option.{slice_get_within, slice_get_past, slice_get-map}
 use Rattle.std.proofs.lemmas.List.{length-map}
 use Rattle.entries.specs.declared.completion.Cqe.{Cqe}
 use Rattle.entries.specs.declared.row.Row.{Row}
 use Rattle.places.specs.declared.place.Place.{Place}
-use Rattle.places.specs.declared.place.Place.TheVariants.{SubmissionHead, SubmissionTail, SubmissionFlags, SubmissionDropped, CompletionHead, CompletionTail, Array, Slot, Completion, Request, Clock, Counted, ProgramCounter, ThreadStage, Last, Got}
+use Rattle.places.specs.declared.place.Place.TheVariants.{SubmissionHead, SubmissionTail, SubmissionFlags, SubmissionDropped, CompletionHead, CompletionTail, Array, Slot, Completion, Request, Backlog, BacklogFront, Clock, Counted, PollerStage, ProgramCounter, ThreadStage, Last, Got}
 use Rattle.places.specs.declared.value.Value.{Value}
-use Rattle.places.specs.declared.value.Value.TheVariants.{Number, Signed, Entry, Completed, Requested, Staged, Reaped}
+use Rattle.places.specs.declared.value.Value.TheVariants.{Number, Signed, Entry, Completed, Requested, Staged, Reaped, Awake as StandsAwake}
 use Rattle.places.specs.declared.value.Change.{Change}
 use Rattle.places.specs.Places.{same_place}
 use Rattle.places.specs.View.{View, named, undo, put_at, LeadsBack, Exact}
 use Rattle.places.proofs.SamePlace.{same_place_is, same_place_self}
 use Rattle.places.proofs.ListLemmas.{same_list, slice_get_none}
-use Rattle.links_drains.specs.Phases.{counted_of}
-use Rattle.links_drains.proofs.Counting.{counted-le-length}
+use Rattle.links_drains.specs.Phases.{counted_of, ended_of}
+use Rattle.links_drains.proofs.Counting.{counted-le-length, ended-le-length}
+use Rattle.overflow.specs.Backlogs.{BacklogState}
+use Rattle.sqpoll.specs.declared.poller.Poller.{Poller}
+use Rattle.sqpoll.specs.declared.poller.Poller.TheVariants.{Awake, Asleep}
+use Rattle.sqpoll.specs.Pollers.{is_awake}
 use Rattle.machine.specs.Threads.{ThreadState, program_of}
-use Rattle.machine.specs.Whole.{view, can_put, OneSetup, WellFormed, Stands}
+use Rattle.machine.specs.Whole.{view, can_put, stage_of, OneSetup, WellFormed, Stands}
 use Rattle.machine.specs.declared.whole.Machine.{Machine}
 
 -- an exact record leads back
@@ -59,45 +63,70 @@ here {X} {V} f xs ys i v h e = by (slice_get xs i) refl e
 same_count : (s m : Machine) → OneSetup s m → length s.threads ≡ length m.threads
 same_count s m h = simp length-map at (ap length h.programs)
 
+-- the poller's place
+shown_awake : (o o' : Option Poller) (v : Value) → is_some o ≡ is_some o' → stage_of o ≡ Some v → (is_some o' ≡ true) × ((b : Bool) × (v ≡ StandsAwake b))
+shown_awake None o' v h e = absurd cc
+shown_awake (Some p) o' v h e = (sym h, (is_awake p, cc))
+
+hidden_poller : (o o' : Option Poller) → is_some o ≡ is_some o' → stage_of o ≡ None → stage_of o' ≡ None
+hidden_poller None None h e = refl
+hidden_poller None (Some p) h e = absurd cc
+hidden_poller (Some p) o' h e = absurd cc
+
+same_poller : (o o' : Option Poller) → stage_of o ≡ stage_of o' → o ≡ o'
+same_poller None None e = refl
+same_poller None (Some p) e = absurd cc
+same_poller (Some p) None e = absurd cc
+same_poller (Some Awake) (Some Awake) e = refl
+same_poller (Some Asleep) (Some Asleep) e = refl
+same_poller (Some Awake) (Some Asleep) e = absurd cc
+same_poller (Some Asleep) (Some Awake) e = absurd cc
+
 -- what a machine shows can be put into each machine of its setup
-pub seen_can_put : (s m : Machine) → WellFormed s → OneSetup s m → length s.table ≡ length m.table → (p : Place) (v : Value) → view s p ≡ Some v → can_put m p (Some v)
-seen_can_put s m f h r SubmissionHead v e = subst (can_put m SubmissionHead) e f.submissions.head
-seen_can_put s m f h r SubmissionTail v e = subst (can_put m SubmissionTail) e f.submissions.tail
-seen_can_put s m f h r SubmissionFlags v e = subst (can_put m SubmissionFlags) e f.submissions.flags
-seen_can_put s m f h r SubmissionDropped v e = subst (can_put m SubmissionDropped) e f.submissions.dropped
-seen_can_put s m f h r (Array i) v e = let k = here Number s.submissions.array m.submissions.array i v h.array e in subst (λ (w : Value). can_put m (Array i) (Some w)) (sym k.1.2) (k.0, f.submissions.words i k.1.0 k.1.1)
-seen_can_put s m f h r (Slot i) v e = let k = here Entry s.submissions.slots m.submissions.slots i v h.slots e in subst (λ (w : Value). can_put m (Slot i) (Some w)) (sym k.1.2) k.0
-seen_can_put s m f h r CompletionHead v e = subst (can_put m CompletionHead) e f.completions.head
-seen_can_put s m f h r CompletionTail v e = subst (can_put m CompletionTail) e f.completions.tail
-seen_can_put s m f h r (Completion i) v e = let k = here Completed s.completions.slots m.completions.slots i v h.completions e in subst (λ (w : Value). can_put m (Completion i) (Some w)) (sym k.1.2) k.0
-seen_can_put s m f h r (Request i) v e = let k = here Requested s.table m.table i v r e in subst (λ (w : Value). can_put m (Request i) (Some w)) (sym k.1.2) k.0
-seen_can_put s m f h r Clock v e = subst (can_put m Clock) e tt
-seen_can_put s m f h r Counted v e = subst (can_put m Counted) e (let k = counted-le-length s.table in omega (arith, f.counted, f.rows, k))
-seen_can_put s m f h r (ProgramCounter t) v e = let k = here (λ (x : ThreadState). Number x.counter) s.threads m.threads t v (same_count s m h) e in let st = f.threads t k.1.0 k.1.1 in subst (λ (w : Value). can_put m (ProgramCounter t) (Some w)) (sym k.1.2) (k.0, omega (arith, st.within, st.program.short))
-seen_can_put s m f h r (ThreadStage t) v e = let k = here (λ (x : ThreadState). Staged x.stage) s.threads m.threads t v (same_count s m h) e in subst (λ (w : Value). can_put m (ThreadStage t) (Some w)) (sym k.1.2) k.0
-seen_can_put s m f h r (Last t) v e = let k = here (λ (x : ThreadState). Signed x.last) s.threads m.threads t v (same_count s m h) e in subst (λ (w : Value). can_put m (Last t) (Some w)) (sym k.1.2) (k.0, (f.threads t k.1.0 k.1.1).last)
-seen_can_put s m f h r (Got t) v e = let k = here (λ (x : ThreadState). Reaped x.got) s.threads m.threads t v (same_count s m h) e in subst (λ (w : Value). can_put m (Got t) (Some w)) (sym k.1.2) k.0
-seen_can_put s m f h r _ v e = absurd cc
+pub seen_can_put : (s m : Machine) → WellFormed s → OneSetup s m → length s.table ≡ length m.table → length s.backlog.items ≡ length m.backlog.items → (p : Place) (v : Value) → view s p ≡ Some v → can_put m p (Some v)
+seen_can_put s m f h r b SubmissionHead v e = subst (can_put m SubmissionHead) e f.submissions.head
+seen_can_put s m f h r b SubmissionTail v e = subst (can_put m SubmissionTail) e f.submissions.tail
+seen_can_put s m f h r b SubmissionFlags v e = subst (can_put m SubmissionFlags) e f.submissions.flags
+seen_can_put s m f h r b SubmissionDropped v e = subst (can_put m SubmissionDropped) e f.submissions.dropped
+seen_can_put s m f h r b (Array i) v e = let k = here Number s.submissions.array m.submissions.array i v h.array e in subst (λ (w : Value). can_put m (Array i) (Some w)) (sym k.1.2) (k.0, f.submissions.words i k.1.0 k.1.1)
+seen_can_put s m f h r b (Slot i) v e = let k = here Entry s.submissions.slots m.submissions.slots i v h.slots e in subst (λ (w : Value). can_put m (Slot i) (Some w)) (sym k.1.2) k.0
+seen_can_put s m f h r b CompletionHead v e = subst (can_put m CompletionHead) e f.completions.head
+seen_can_put s m f h r b CompletionTail v e = subst (can_put m CompletionTail) e f.completions.tail
+seen_can_put s m f h r b (Completion i) v e = let k = here Completed s.completions.slots m.completions.slots i v h.completions e in subst (λ (w : Value). can_put m (Completion i) (Some w)) (sym k.1.2) k.0
+seen_can_put s m f h r b (Request i) v e = let k = here Requested s.table m.table i v r e in subst (λ (w : Value). can_put m (Request i) (Some w)) (sym k.1.2) k.0
+seen_can_put s m f h r b (Backlog i) v e = let k = here Completed s.backlog.items m.backlog.items i v b e in subst (λ (w : Value). can_put m (Backlog i) (Some w)) (sym k.1.2) k.0
+seen_can_put s m f h r b BacklogFront v e = subst (can_put m BacklogFront) e (let k = ended-le-length s.table in omega (arith, f.front, f.overflowed, f.rows, k))
+seen_can_put s m f h r b PollerStage v e = let k = shown_awake s.poller m.poller v h.poller e in subst (λ (w : Value). can_put m PollerStage (Some w)) (sym k.1.1) k.0
+seen_can_put s m f h r b Clock v e = subst (can_put m Clock) e tt
+seen_can_put s m f h r b Counted v e = subst (can_put m Counted) e (let k = counted-le-length s.table in omega (arith, f.counted, f.rows, k))
+seen_can_put s m f h r b (ProgramCounter t) v e = let k = here (λ (x : ThreadState). Number x.counter) s.threads m.threads t v (same_count s m h) e in let st = f.threads t k.1.0 k.1.1 in subst (λ (w : Value). can_put m (ProgramCounter t) (Some w)) (sym k.1.2) (k.0, omega (arith, st.within, st.program.short))
+seen_can_put s m f h r b (ThreadStage t) v e = let k = here (λ (x : ThreadState). Staged x.stage) s.threads m.threads t v (same_count s m h) e in subst (λ (w : Value). can_put m (ThreadStage t) (Some w)) (sym k.1.2) k.0
+seen_can_put s m f h r b (Last t) v e = let k = here (λ (x : ThreadState). Signed x.last) s.threads m.threads t v (same_count s m h) e in subst (λ (w : Value). can_put m (Last t) (Some w)) (sym k.1.2) (k.0, (f.threads t k.1.0 k.1.1).last)
+seen_can_put s m f h r b (Got t) v e = let k = here (λ (x : ThreadState). Reaped x.got) s.threads m.threads t v (same_count s m h) e in subst (λ (w : Value). can_put m (Got t) (Some w)) (sym k.1.2) k.0
+seen_can_put s m f h r b _ v e = absurd cc
 
 -- where nothing stands, nothing stands in each machine of the setup with as many rows
-pub absent_same : (s m : Machine) → OneSetup s m → length s.table ≡ length m.table → (p : Place) → view s p ≡ None → view m p ≡ None
-absent_same s m h r SubmissionHead e = absurd cc
-absent_same s m h r SubmissionTail e = absurd cc
-absent_same s m h r SubmissionFlags e = absurd cc
-absent_same s m h r SubmissionDropped e = absurd cc
-absent_same s m h r (Array i) e = none_here Number s.submissions.array m.submissions.array i h.array e
-absent_same s m h r (Slot i) e = none_here Entry s.submissions.slots m.submissions.slots i h.slots e
-absent_same s m h r CompletionHead e = absurd cc
-absent_same s m h r CompletionTail e = absurd cc
-absent_same s m h r (Completion i) e = none_here Completed s.completions.slots m.completions.slots i h.completions e
-absent_same s m h r (Request i) e = none_here Requested s.table m.table i r e
-absent_same s m h r Clock e = absurd cc
-absent_same s m h r Counted e = absurd cc
-absent_same s m h r (ProgramCounter t) e = none_here (λ (x : ThreadState). Number x.counter) s.threads m.threads t (same_count s m h) e
-absent_same s m h r (ThreadStage t) e = none_here (λ (x : ThreadState). Staged x.stage) s.threads m.threads t (same_count s m h) e
-absent_same s m h r (Last t) e = none_here (λ (x : ThreadState). Signed x.last) s.threads m.threads t (same_count s m h) e
-absent_same s m h r (Got t) e = none_here (λ (x : ThreadState). Reaped x.got) s.threads m.threads t (same_count s m h) e
-absent_same s m h r _ e = refl
+pub absent_same : (s m : Machine) → OneSetup s m → length s.table ≡ length m.table → length s.backlog.items ≡ length m.backlog.items → (p : Place) → view s p ≡ None → view m p ≡ None
+absent_same s m h r b SubmissionHead e = absurd cc
+absent_same s m h r b SubmissionTail e = absurd cc
+absent_same s m h r b SubmissionFlags e = absurd cc
+absent_same s m h r b SubmissionDropped e = absurd cc
+absent_same s m h r b (Array i) e = none_here Number s.submissions.array m.submissions.array i h.array e
+absent_same s m h r b (Slot i) e = none_here Entry s.submissions.slots m.submissions.slots i h.slots e
+absent_same s m h r b CompletionHead e = absurd cc
+absent_same s m h r b CompletionTail e = absurd cc
+absent_same s m h r b (Completion i) e = none_here Completed s.completions.slots m.completions.slots i h.completions e
+absent_same s m h r b (Request i) e = none_here Requested s.table m.table i r e
+absent_same s m h r b (Backlog i) e = none_here Completed s.backlog.items m.backlog.items i b e
+absent_same s m h r b BacklogFront e = absurd cc
+absent_same s m h r b PollerStage e = hidden_poller s.poller m.poller h.poller e
+absent_same s m h r b Clock e = absurd cc
+absent_same s m h r b Counted e = absurd cc
+absent_same s m h r b (ProgramCounter t) e = none_here (λ (x : ThreadState). Number x.counter) s.threads m.threads t (same_count s m h) e
+absent_same s m h r b (ThreadStage t) e = none_here (λ (x : ThreadState). Staged x.stage) s.threads m.threads t (same_count s m h) e
+absent_same s m h r b (Last t) e = none_here (λ (x : ThreadState). Signed x.last) s.threads m.threads t (same_count s m h) e
+absent_same s m h r b (Got t) e = none_here (λ (x : ThreadState). Reaped x.got) s.threads m.threads t (same_count s m h) e
+absent_same s m h r b _ e = refl
 
 -- machines of one setup that show the same are one
 same_through : {X V : Type 0} (f : X → V) → ((x y : X) → f x ≡ f y → x ≡ y) → (a b : Option X) → option_map f a ≡ option_map f b → a ≡ b
@@ -120,7 +149,7 @@ same_thread (Some x) (Some y) p c s l g = ap Some (five (cc) (cc) (cc) (cc) (cc)
     five a b c' d e = λ i. record { program = a i; counter = b i; stage = c' i; last = d i; got = e i }
 
 pub same_machine : (m n : Machine) → OneSetup m n → ((p : Place) → view m p ≡ view n p) → m ≡ n
-same_machine m n h e = λ i. record { submissions = subs i; completions = coms i; table = rows i; threads = threads i; clock = clock i; counted = counted i }
+same_machine m n h e = λ i. record { submissions = subs i; completions = coms i; backlog = kept i; table = rows i; poller = polled i; threads = threads i; clock = clock i; counted = counted i }
   where
     sub_head : m.submissions.head ≡ n.submissions.head
     sub_head = let k = e SubmissionHead in cc
@@ -157,6 +186,18 @@ same_machine m n h e = λ i. record { submissions = subs i; completions = coms i
 
     rows : m.table ≡ n.table
     rows = same_list _ _ (λ i. same_through Requested (λ x y k. cc) _ _ (e (Request i)))
+
+    items : m.backlog.items ≡ n.backlog.items
+    items = same_list _ _ (λ i. same_through Completed (λ x y k. cc) _ _ (e (Backlog i)))
+
+    front : m.backlog.front ≡ n.backlog.front
+    front = let k = e BacklogFront in cc
+
+    kept : m.backlog ≡ n.backlog
+    kept = λ i. record { items = items i; front = front i }
+
+    polled : m.poller ≡ n.poller
+    polled = same_poller m.poller n.poller (e PollerStage)
 
     clock : m.clock ≡ n.clock
     clock = let k = e Clock in cc

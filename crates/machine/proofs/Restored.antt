@@ -15,17 +15,18 @@ use Rattle.machine.proofs.PuttingBack.{undo-cons, undo-cons_at, seen_can_put, ab
 pub record Restored (before : Machine) (cs : List Change) (now : Machine) (left : List Change) : Type 0 where
   pub setup : OneSetup before now
   pub rows : length before.table ≡ length now.table
+  pub backlog : length before.backlog.items ≡ length now.backlog.items
   pub once : NamesOnce left
   pub same : (p : Place) → undo (view now) left p ≡ undo (view before) cs p
 
 pub setup_then : (a b c : Machine) → OneSetup a b → OneSetup b c → OneSetup a c
-setup_then a b c h k = record { array = h.array ∙ k.array; slots = h.slots ∙ k.slots; completions = h.completions ∙ k.completions; programs = h.programs ∙ k.programs }
+setup_then a b c h k = record { array = h.array ∙ k.array; slots = h.slots ∙ k.slots; completions = h.completions ∙ k.completions; programs = h.programs ∙ k.programs; poller = h.poller ∙ k.poller }
 
 pub setup_self : (m : Machine) → OneSetup m m
-setup_self m = record { array = refl; slots = refl; completions = refl; programs = refl }
+setup_self m = record { array = refl; slots = refl; completions = refl; programs = refl; poller = refl }
 
 pub restored_from : (m : Machine) (cs : List Change) → NamesOnce cs → Restored m cs m cs
-restored_from m cs o = record { setup = setup_self m; rows = refl; once = o; same = λ p. refl }
+restored_from m cs o = record { setup = setup_self m; rows = refl; backlog = refl; once = o; same = λ p. refl }
 
 -- the change that comes next is what stands in the machine gone back to
 next_is : (s before now : Machine) (cs : List Change) (c : Change) (left : List Change) → Overwrites s before cs → Restored before cs now (c ∷ left) → c.old ≡ view s c.place
@@ -34,23 +35,24 @@ next_is s before now cs c left g r = sym (undo-cons_at (view now) c left) ∙ r.
 pub next_can_put : (s before now : Machine) (cs : List Change) (c : Change) (left : List Change) (v : Value) → c.old ≡ Some v → Overwrites s before cs → Restored before cs now (c ∷ left) → can_put now c.place c.old
 next_can_put s before now cs c left v e g r =
     subst (can_put now c.place) (sym e)
-    (seen_can_put s now g.formed (setup_then s before now g.setup r.setup) (g.rows ∙ r.rows) c.place v (sym (next_is s before now cs c left g r) ∙ e))
+    (seen_can_put s now g.formed (setup_then s before now g.setup r.setup) (g.rows ∙ r.rows) (g.backlog ∙ r.backlog) c.place v (sym (next_is s before now cs c left g r) ∙ e))
 
-pub restored_on : (before now next : Machine) (cs : List Change) (c : Change) (left : List Change) → OneSetup now next → length now.table ≡ length next.table → ((q : Place) → view next q ≡ put_at (view now) c.place c.old q)
+pub restored_on : (before now next : Machine) (cs : List Change) (c : Change) (left : List Change) → OneSetup now next → length now.table ≡ length next.table → length now.backlog.items ≡ length next.backlog.items → ((q : Place) → view next q ≡ put_at (view now) c.place c.old q)
     → Restored before cs now (c ∷ left) → Restored before cs next left
-restored_on before now next cs c left o l e r = record {
+restored_on before now next cs c left o l b e r = record {
   setup = setup_then before now next r.setup o;
   rows = r.rows ∙ l;
+  backlog = r.backlog ∙ b;
   once = r.once.1;
   same = λ p. undo-cons (view now) (view next) c left r.once.0 e p ∙ r.same p;
 }
 
 -- a change that takes nothing back
 pub restored_skip : (s before now : Machine) (cs : List Change) (c : Change) (left : List Change) → c.old ≡ None → Overwrites s before cs → Restored before cs now (c ∷ left) → Restored before cs now left
-restored_skip s before now cs c left e g r = restored_on before now now cs c left (setup_self now) refl stays r
+restored_skip s before now cs c left e g r = restored_on before now now cs c left (setup_self now) refl refl stays r
   where
     gone : view now c.place ≡ None
-    gone = absent_same s now (setup_then s before now g.setup r.setup) (g.rows ∙ r.rows) c.place (sym (next_is s before now cs c left g r) ∙ e)
+    gone = absent_same s now (setup_then s before now g.setup r.setup) (g.rows ∙ r.rows) (g.backlog ∙ r.backlog) c.place (sym (next_is s before now cs c left g r) ∙ e)
 
     at : (q : Place) (b : Bool) → same_place c.place q ≡ b → view now q ≡ cond b c.old (view now q)
     at q true k = ap (view now) (sym (same_place_is c.place q k)) ∙ gone ∙ sym e

@@ -18,8 +18,9 @@ use Rattle.ring_words.proofs.Laws.{formed_sub_start, formed_com_start}
 use Rattle.machine.specs.Programs.{HasWidths, HaveWidths, IsDone, IsProgram}
 use Rattle.machine.specs.Threads.{ThreadState, thread_start}
 use Rattle.machine.specs.Setups.{setup_refusal, has_ring_sizes, is_between, is_completion_size, has_programs, is_program, has_slot, is_unbuilt, asks_for_unbuilt, is_some_list}
-use Rattle.machine.specs.Whole.{WellFormed, Stands}
-use Rattle.machine.specs.Runs.{start, completion_entries}
+use Rattle.places.specs.declared.value.Stage.TheVariants.{Ready, Waiting}
+use Rattle.machine.specs.Whole.{is_asleep, flag_word, WellFormed, Stands}
+use Rattle.machine.specs.Runs.{first_poller, start, completion_entries}
 use Rattle.machine.specs.declared.setup.Instruction.{Instruction}
 use Rattle.machine.specs.declared.setup.Instruction.TheVariants.{Put, Push, Store, Enter, Reap, Close}
 use Rattle.machine.specs.declared.setup.Setup.{Setup}
@@ -81,7 +82,7 @@ done : (size : ℕ) (x : Instruction) → has_slot size x ≡ true → is_unbuil
 done size (Put slot entry) h u w = grind (arith, nat_tests)
 done size (Push index) h u w = w
 done size (Store address bytes) h u w = absurd cc
-done size (Enter to_submit min_complete flags) h u w = tt
+done size (Enter to_submit min_complete flags) h u w = w
 done size Reap h u w = tt
 done size (Close fd) h u w = absurd cc
 
@@ -130,11 +131,14 @@ completions_between entries (Some n) l m h =
 threads_stand : (s : Setup) → Accepted s → HaveWidths s.threads → (t : ℕ) (x : ThreadState) → slice_get (map thread_start s.threads) t ≡ Some x → Stands (rounded s.entries) x
 threads_stand s a w t x h = by (slice_get s.threads t) refl (sym (slice_get-map thread_start s.threads t) ∙ h)
   where
+    ready : (n v : ℕ) → Ready ≡ Waiting n v → ⊥
+    ready n v q = cc
+
     all : list_all (is_program (rounded s.entries)) s.threads ≡ true
     all = (both_true (leb (length s.threads) 16) (list_all (is_program (rounded s.entries)) s.threads) a.programs).1
 
     built : list_any (list_any is_unbuilt) s.threads ≡ false
-    built = (both_false (s.sqpoll || s.submit_all || is_some_list s.memory || is_some_list s.objects || is_some_list s.fds) (list_any (list_any is_unbuilt) s.threads) a.built).1
+    built = (both_false (s.submit_all || is_some_list s.memory || is_some_list s.objects || is_some_list s.fds) (list_any (list_any is_unbuilt) s.threads) a.built).1
 
     by : (o : Option (List Instruction)) → slice_get s.threads t ≡ o → option_map thread_start o ≡ Some x → Stands (rounded s.entries) x
     by None g k = absurd cc
@@ -144,8 +148,12 @@ threads_stand s a w t x h = by (slice_get s.threads t) refl (sym (slice_get-map 
           within = omega arith;
           program = program (rounded s.entries) p (list_all_get (is_program (rounded s.entries)) s.threads t p all g) (list_any_get (list_any is_unbuilt) s.threads t p built g) (w t p g);
           last = search rules;
-          stage = refl;
+          waits = λ n v q. absurd (ready n v q);
         })
+
+awake_first : (b : Bool) → is_asleep (first_poller b) ≡ false
+awake_first true = refl
+awake_first false = refl
 
 pub formed_start : (s : Setup) → setup_refusal s ≡ None → s.base < 2 ^ 32 → HaveWidths s.threads → WellFormed (start s)
 formed_start s h b w =
@@ -159,7 +167,9 @@ formed_start s h b w =
       completions = formed_com_start (completion_entries s.entries s.cq) s.base c.0 c.1 b;
       entries_wait = omega (arith, none);
       completions_wait = omega (arith, none);
-      flags = refl;
+      flags = sym (ap (λ b. flag_word b false) (awake_first s.sqpoll));
+      front = omega arith;
+      overflowed = omega arith;
       rows = omega arith;
       opcodes = λ r x k u. absurd (none_there x k);
       counted = refl;

@@ -15,11 +15,11 @@ use Rattle.links_drains.proofs.Batching.{length-rows_of}
 use Rattle.links_drains.specs.Phases.{counted_of}
 use Rattle.links_drains.proofs.Counting.{counted-le-length}
 use Rattle.machine.specs.Submission.{offered, passes_at, some_fails, taken_words, entries_at, batch_of, einval}
-use Rattle.machine.specs.Steps.{submission_refusal, has_room, taken_by, taken, submitted, ended}
+use Rattle.machine.specs.Steps.{submission_refusal, taken_by, taken, submitted, ended}
 use Rattle.machine.specs.Whole.{WellFormed}
 use Rattle.machine.specs.declared.whole.Machine.{Machine}
 use Rattle.machine.specs.declared.event.Refusal.{Refusal}
-use Rattle.machine.specs.declared.event.Refusal.TheVariants.{RequestsFull, NoRoom}
+use Rattle.machine.specs.declared.event.Refusal.TheVariants.{RequestsFull}
 use Rattle.machine.proofs.TakingWords.{prefix_most, fails_told, take_least, one_more, entries-named}
 
 pub ltb_not : (a b : ℕ) → b ≤ a → ltb a b ≡ false
@@ -30,30 +30,12 @@ ltb_lt a b h = grind (arith, nat_tests)
 
 -- ---- refusals
 
-pub refused_room : (m : Machine) (k n r : ℕ) → n ≡ length m.table → r ≡ length (offered m.submissions k) → n + r ≤ 65536 → has_room m.completions ≡ false → some_fails m.submissions k ≡ true → Some NoRoom ≡ submission_refusal m k
-refused_room m k n r e f h o s =
-    let l : ltb 65536 (length m.table + length (offered m.submissions k)) ≡ false = ltb_not _ _ (omega (arith, e, f, h)) in
-    sym (ap (λ b. cond b (Some RequestsFull) (cond (has_room m.completions) None (cond (some_fails m.submissions k) (Some NoRoom) None))) l ∙ ap (λ b. cond b None (cond (some_fails m.submissions k) (Some NoRoom) None)) o ∙ ap (λ b. cond b (Some NoRoom) None) s)
-
-pub accepted_all : (m : Machine) (k n r : ℕ) → n ≡ length m.table → r ≡ length (offered m.submissions k) → n + r ≤ 65536 → has_room m.completions ≡ false → some_fails m.submissions k ≡ false → None ≡ submission_refusal m k
-accepted_all m k n r e f h o s =
-    let l : ltb 65536 (length m.table + length (offered m.submissions k)) ≡ false = ltb_not _ _ (omega (arith, e, f, h)) in
-    sym (ap (λ b. cond b (Some RequestsFull) (cond (has_room m.completions) None (cond (some_fails m.submissions k) (Some NoRoom) None))) l ∙ ap (λ b. cond b None (cond (some_fails m.submissions k) (Some NoRoom) None)) o ∙ ap (λ b. cond b (Some NoRoom) None) s)
-
 pub accepted_fits : (m : Machine) (k : ℕ) → submission_refusal m k ≡ None → length m.table + length (offered m.submissions k) ≤ 65536
 accepted_fits m k h = by (ltb 65536 (length m.table + length (offered m.submissions k))) refl h
   where
-    by : (b : Bool) → ltb 65536 (length m.table + length (offered m.submissions k)) ≡ b → cond b (Some RequestsFull) (cond (has_room m.completions) None (cond (some_fails m.submissions k) (Some NoRoom) None)) ≡ None → length m.table + length (offered m.submissions k) ≤ 65536
+    by : (b : Bool) → ltb 65536 (length m.table + length (offered m.submissions k)) ≡ b → cond b (Some RequestsFull) None ≡ None → length m.table + length (offered m.submissions k) ≤ 65536
     by true e k' = absurd cc
     by false e k' = grind (arith, nat_tests)
-
-pub accepted_room : (m : Machine) (k : ℕ) → submission_refusal m k ≡ None → some_fails m.submissions k ≡ true → has_room m.completions ≡ true
-accepted_room m k h s = by (ltb 65536 (length m.table + length (offered m.submissions k))) (has_room m.completions) refl (ap (λ b. cond (ltb 65536 (length m.table + length (offered m.submissions k))) (Some RequestsFull) (cond (has_room m.completions) None (cond b (Some NoRoom) None))) (sym s) ∙ h)
-  where
-    by : (b c : Bool) → has_room m.completions ≡ c → cond b (Some RequestsFull) (cond c None (Some NoRoom)) ≡ None → has_room m.completions ≡ true
-    by true c e k' = absurd cc
-    by false true e k' = e
-    by false false e k' = absurd cc
 
 -- ---- words
 

@@ -5,7 +5,7 @@ use Rattle.std.specs.List.{list_all}
 use Rattle.std.specs.Str.{bytes_eq}
 use Rattle.std.specs.Str.Parse.{digits_value}
 use Rattle.places.specs.declared.place.Place.{Place}
-use Rattle.places.specs.declared.place.Place.TheVariants.{SubmissionHead, SubmissionTail, SubmissionFlags, SubmissionDropped, CompletionHead, CompletionTail, Array, Slot, Completion, Request, Clock, Counted, ProgramCounter, ThreadStage, Last, Got}
+use Rattle.places.specs.declared.place.Place.TheVariants.{SubmissionHead, SubmissionTail, SubmissionFlags, SubmissionDropped, CompletionHead, CompletionTail, Array, Slot, Completion, Request, Backlog, BacklogFront, Clock, Counted, PollerStage, ProgramCounter, ThreadStage, Last, Got}
 use Rattle.ring_words.specs.Rings.{rounded}
 use Rattle.machine.specs.declared.setup.Setup.{Setup}
 use Rattle.machine.specs.declared.names.PlaceFault.{PlaceFault}
@@ -22,8 +22,8 @@ abbrev pub number_of : List ℕ → Option ℕ
 number_of word = if is_numeral word then (if nat_lt (digits_value 10 word) (2 ^ 32) then Some (digits_value 10 word) else None) else None
 
 -- the place that one word names
-abbrev pub single_named : List ℕ → Option Place
-single_named w =
+abbrev pub single_named : Setup → List ℕ → Option Place
+single_named s w =
     if bytes_eq w (codes "sq.head") then Some SubmissionHead
     else if bytes_eq w (codes "sq.tail") then Some SubmissionTail
     else if bytes_eq w (codes "sq.flags") then Some SubmissionFlags
@@ -32,6 +32,8 @@ single_named w =
     else if bytes_eq w (codes "cq.tail") then Some CompletionTail
     else if bytes_eq w (codes "clock") then Some Clock
     else if bytes_eq w (codes "counted") then Some Counted
+    else if bytes_eq w (codes "bfront") then Some BacklogFront
+    else if bytes_eq w (codes "poller") then (if s.sqpoll then Some PollerStage else None)
     else None
 
 -- the places that one word and a number name
@@ -41,6 +43,7 @@ kind_named w =
     else if bytes_eq w (codes "slot") then Some kind.Slots
     else if bytes_eq w (codes "cqe") then Some kind.Completions
     else if bytes_eq w (codes "row") then Some kind.Requests
+    else if bytes_eq w (codes "backlog") then Some kind.Backlogs
     else if bytes_eq w (codes "pc") then Some kind.ProgramCounters
     else if bytes_eq w (codes "stage") then Some kind.Stages
     else if bytes_eq w (codes "last") then Some kind.Lasts
@@ -64,6 +67,7 @@ count_in s kind.Array = submission_size s
 count_in s kind.Slots = submission_size s
 count_in s kind.Completions = completion_size s
 count_in s kind.Requests = 65536
+count_in s kind.Backlogs = 65536
 count_in s kind.ProgramCounters = length s.threads
 count_in s kind.Stages = length s.threads
 count_in s kind.Lasts = length s.threads
@@ -74,6 +78,7 @@ place_in kind.Array i = Array i
 place_in kind.Slots i = Slot i
 place_in kind.Completions i = Completion i
 place_in kind.Requests i = Request i
+place_in kind.Backlogs i = Backlog i
 place_in kind.ProgramCounters i = ProgramCounter i
 place_in kind.Stages i = ThreadStage i
 place_in kind.Lasts i = Last i
@@ -91,6 +96,6 @@ member_named s (Some f) word = member_of s f (number_of word)
 -- the place that some words name
 abbrev pub place_named : Setup → List (List ℕ) → Result Place PlaceFault
 place_named s [] = Err fault.Place
-place_named s (w ∷ []) = ok_or (single_named w) fault.Place
+place_named s (w ∷ []) = ok_or (single_named s w) fault.Place
 place_named s (w ∷ i ∷ []) = member_named s (kind_named w) i
 place_named s (w ∷ i ∷ x ∷ more) = Err fault.Place

@@ -6,6 +6,7 @@ use Rattle.machine.specs.declared.setup.Instruction.TheVariants.{Put, Push, Stor
 -- An instruction's numbers have their widths.
 abbrev pub HasWidths : Instruction → Type 0
 HasWidths (Push index) = index < 2 ^ 32
+HasWidths (Enter to_submit min_complete flags) = (to_submit < 2 ^ 32) × (min_complete < 2 ^ 32) × (flags < 2 ^ 32)
 HasWidths _ = Unit {0}
 
 -- Those of each instruction of each program do.
@@ -17,7 +18,7 @@ abbrev pub IsDone : ℕ → Instruction → Type 0
 IsDone size (Put slot entry) = slot < size
 IsDone size (Push index) = index < 2 ^ 32
 IsDone size (Store address bytes) = ⊥
-IsDone size (Enter to_submit min_complete flags) = Unit {0}
+IsDone size (Enter to_submit min_complete flags) = (to_submit < 2 ^ 32) × (min_complete < 2 ^ 32) × (flags < 2 ^ 32)
 IsDone size Reap = Unit {0}
 IsDone size (Close fd) = ⊥
 

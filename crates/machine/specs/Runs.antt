@@ -1,8 +1,11 @@
 -- Starts, runs with their records, and moments.
-use Rattle.std.specs.Prelude.{◌≡◌, ◌*◌, ℕ, Option, Some, None, List, [], ◌∷◌, length, map, take, slice_get}
+use Rattle.std.specs.Prelude.{◌≡◌, ◌*◌, ℕ, Bool, true, false, Option, Some, None, List, [], ◌∷◌, length, map, take, slice_get}
 use Rattle.places.specs.declared.value.Change.{Change}
 use Rattle.places.specs.View.{LeadsBack}
 use Rattle.ring_words.specs.Rings.{rounded, sub_start, com_start}
+use Rattle.overflow.specs.Backlogs.{backlog_start}
+use Rattle.sqpoll.specs.declared.poller.Poller.{Poller}
+use Rattle.sqpoll.specs.declared.poller.Poller.TheVariants.{Awake}
 pub use Rattle.machine.specs.Setups.{setup_refusal}
 use Rattle.machine.specs.Threads.{ThreadState, thread_start}
 use Rattle.machine.specs.Whole.{view, WellFormed}
@@ -19,12 +22,19 @@ abbrev pub completion_entries : ℕ → Option ℕ → ℕ
 completion_entries entries None = 2 * rounded entries
 completion_entries entries (Some n) = n
 
--- the machine that a setup starts with: empty rings whose words are the base, no rows, threads ready, all numbers 0
+-- the poller that a setup starts with, if it has one (IORING_SETUP_SQPOLL)
+abbrev pub first_poller : Bool → Option Poller
+first_poller true = Some Awake
+first_poller false = None
+
+-- the machine that a setup starts with: empty rings whose words are the base, nothing kept, no rows, the poller awake, threads ready, all numbers 0
 abbrev pub start : Setup → Machine
 start s = record {
   submissions = sub_start s.entries s.base;
   completions = com_start (completion_entries s.entries s.cq) s.base;
+  backlog = backlog_start;
   table = [];
+  poller = first_poller s.sqpoll;
   threads = map thread_start s.threads;
   clock = 0;
   counted = 0;

@@ -39,9 +39,9 @@ is_unbuilt _ = false
 abbrev pub is_some_list : {A : Type 0} → List A → Bool
 is_some_list xs = not (length xs == 0)
 
--- Parts that aren't built yet: the poller, submission past a failing entry, memory, objects and descriptors.
+-- Parts that aren't built yet: submission past a failing entry, memory, objects and descriptors.
 abbrev pub asks_for_unbuilt : Setup → Bool
-asks_for_unbuilt s = s.sqpoll || s.submit_all || is_some_list s.memory || is_some_list s.objects || is_some_list s.fds || list_any (list_any is_unbuilt) s.threads
+asks_for_unbuilt s = s.submit_all || is_some_list s.memory || is_some_list s.objects || is_some_list s.fds || list_any (list_any is_unbuilt) s.threads
 
 -- why there is no start, but for want of memory
 abbrev pub setup_refusal : Setup → Option SetupRefusal

@@ -1,5 +1,6 @@
 -- Which events are refused, and what the others change.
-use Rattle.std.specs.Prelude.{◌≡◌, ℤ, pos, ℕ, ◌+◌, ◌-◌, ◌%◌, ◌<◌, ◌^◌, ◌==◌, Bool, true, false, nat_lt, if◌then◌else◌, Option, Some, None, slice_get, slice_set, List, [], ◌∷◌, ◌++◌, length}
+use Rattle.std.specs.Prelude.{◌≡◌, ℤ, pos, ℕ, ◌+◌, ◌-◌, ◌%◌, ◌<◌, ◌^◌, ◌==◌, Bool, true, false, not, ◌&&◌, ◌||◌, nat_lt, min, if◌then◌else◌, Option, Some, None, slice_get, slice_set, List, [], ◌∷◌, ◌++◌, length}
+use Rattle.std.specs.Int.Bits.{bit_and}
 use Rattle.entries.specs.declared.completion.Cqe.{Cqe}
 use Rattle.entries.specs.declared.row.Row.{Row}
 use Rattle.entries.specs.declared.row.Phase.{Phase}
@@ -7,10 +8,17 @@ use Rattle.entries.specs.declared.row.Phase.TheVariants.{Queued, Issued, Ended}
 use Rattle.opcodes.specs.declared.choice.Choice.{Choice}
 use Rattle.opcodes.specs.declared.choice.Choice.TheVariants.{Full, Short, Eio}
 use Rattle.places.specs.Lists.{updated}
-use Rattle.ring_words.specs.Rings.{SubWords, ComWords, waiting}
+use Rattle.places.specs.declared.value.Stage.{Stage}
+use Rattle.places.specs.declared.value.Stage.TheVariants.{Ready, Waiting}
+use Rattle.ring_words.specs.Rings.{waiting, with_flag}
+use Rattle.ring_words.specs.declared.flag.RingFlag.TheVariants.{NeedWakeup}
+use Rattle.overflow.specs.Backlogs.{Delivery, delivery_of, is_clear, all_posted, flushed as flushed_delivery}
+use Rattle.sqpoll.specs.declared.poller.Poller.{Poller}
+use Rattle.sqpoll.specs.declared.poller.Poller.TheVariants.{Awake, Asleep}
+use Rattle.sqpoll.specs.Pollers.{is_awake}
 use Rattle.links_drains.specs.Batches.{rows_of}
 use Rattle.links_drains.specs.Phases.{counts}
-use Rattle.machine.specs.Submission.{offered, some_fails, entries_at, taken_words, taken_entries, einval}
+use Rattle.machine.specs.Submission.{offered, some_fails, entries_at, taken_words, taken_entries, einval, ebusy}
 use Rattle.machine.specs.Threads.{ThreadState}
 use Rattle.machine.specs.declared.setup.Instruction.{Instruction}
 use Rattle.machine.specs.declared.setup.Instruction.TheVariants.{Put, Push, Store, Enter, Reap, Close}
@@ -18,56 +26,114 @@ use Rattle.machine.specs.declared.whole.Machine.{Machine}
 use Rattle.machine.specs.declared.event.Event.{Event}
 use Rattle.machine.specs.declared.event.Event.TheVariants.{Step, Take, Sleep, Issue, Finish, Expire, Tick}
 use Rattle.machine.specs.declared.event.Refusal.{Refusal}
-use Rattle.machine.specs.declared.event.Refusal.TheVariants.{NoSuchThread, ThreadDone, SqFull, NothingToReap, NoSuchRequest, WrongPhase, BadChoice, NoPoller, ClockFull, RequestsFull, NoRoom}
+use Rattle.machine.specs.declared.event.Refusal.TheVariants.{NoSuchThread, ThreadDone, SqFull, NothingToReap, StillWaiting, NoSuchRequest, WrongPhase, BadChoice, NoPoller, Asleep as IsAsleep, NotIdle, ClockFull, RequestsFull}
+
+-- ---- flags of Enter (io_uring_enter(2))
+
+-- IORING_ENTER_GETEVENTS
+abbrev pub gets_events : ℕ → Bool
+gets_events flags = not (bit_and flags 1 == 0)
+
+-- IORING_ENTER_SQ_WAKEUP
+abbrev pub wakes : ℕ → Bool
+wakes flags = not (bit_and flags 2 == 0)
+
+-- whether a bit other than these two is set
+abbrev pub is_unknown : ℕ → Bool
+is_unknown flags = nat_lt 3 flags
+
+-- ---- completions
+
+-- where completions go
+abbrev pub delivery : Machine → Delivery
+delivery m = delivery_of m.submissions m.completions m.backlog
+
+abbrev pub with_delivery : Machine → Delivery → Machine
+with_delivery m d = record m { submissions = d.submissions; completions = d.completions; backlog = d.backlog }
+
+-- the machine once completions are posted
+abbrev pub posted : Machine → List Cqe → Machine
+posted m new = with_delivery m (all_posted (delivery m) new)
+
+-- the machine once kept completions have moved into the ring, as many as there is room for
+abbrev pub flushed : Machine → Machine
+flushed m = with_delivery m (flushed_delivery (delivery m))
+
+-- how many completions wait in the ring
+abbrev pub ready_count : Machine → ℕ
+ready_count m = waiting m.completions.head m.completions.tail
 
 -- ---- refusals
 
--- whether the completion ring has room for one more
-abbrev pub has_room : ComWords → Bool
-has_room w = nat_lt (waiting w.head w.tail) (length w.slots)
-
 -- why a submission of at most k entries is refused
 abbrev pub submission_refusal : Machine → ℕ → Option Refusal
-submission_refusal m k =
-    if nat_lt 65536 (length m.table + length (offered m.submissions k)) then Some RequestsFull
-    else (if has_room m.completions then None else (if some_fails m.submissions k then Some NoRoom else None))
+submission_refusal m k = if nat_lt 65536 (length m.table + length (offered m.submissions k)) then Some RequestsFull else None
+
+-- the machine as a submission finds it: kept completions move into the ring where completions are asked for, or entries are to be submitted
+abbrev pub before_submission : Machine → ℕ → ℕ → Machine
+before_submission m k flags = if gets_events flags || nat_lt 0 k then flushed m else m
+
+-- whether completions that are still kept stand in the way of a submission
+abbrev pub is_busy : Machine → ℕ → Bool
+is_busy m k = nat_lt 0 k && not (is_clear m.backlog)
+
+-- why an Enter is refused that submits, unless completions are kept
+abbrev pub alone_refusal : Machine → ℕ → ℕ → Option Refusal
+alone_refusal m k flags = if is_busy (before_submission m k flags) k then None else submission_refusal (before_submission m k flags) k
+
+-- why an Enter is refused: where there is a poller, it submits nothing
+abbrev pub enter_refusal : Machine → Option Poller → ℕ → ℕ → Option Refusal
+enter_refusal m (Some p) k flags = None
+enter_refusal m None k flags = if is_unknown flags then None else alone_refusal m k flags
 
 -- why an instruction is refused
 abbrev pub instruction_refusal : Machine → Instruction → Option Refusal
 instruction_refusal m (Put slot entry) = None
 instruction_refusal m (Push index) = if waiting m.submissions.head m.submissions.tail == length m.submissions.array then Some SqFull else None
 instruction_refusal m (Store address bytes) = None
-instruction_refusal m (Enter to_submit min_complete flags) = if flags == 0 then submission_refusal m to_submit else None
-instruction_refusal m Reap = if waiting m.completions.head m.completions.tail == 0 then Some NothingToReap else None
+instruction_refusal m (Enter to_submit min_complete flags) = enter_refusal m m.poller to_submit flags
+instruction_refusal m Reap = if ready_count m == 0 then Some NothingToReap else None
 instruction_refusal m (Close fd) = None
 
-abbrev pub next_refusal : Machine → Option Instruction → Option Refusal
-next_refusal m None = Some ThreadDone
-next_refusal m (Some i) = instruction_refusal m i
+-- a thread that waits goes on only once as many completions wait in the ring
+abbrev pub next_refusal : Machine → Stage → Option Instruction → Option Refusal
+next_refusal m stage None = Some ThreadDone
+next_refusal m Ready (Some i) = instruction_refusal m i
+next_refusal m (Waiting n w) (Some i) = if nat_lt (ready_count m) w then Some StillWaiting else None
 
 abbrev pub thread_refusal : Machine → Option ThreadState → Option Refusal
 thread_refusal m None = Some NoSuchThread
-thread_refusal m (Some x) = next_refusal m (slice_get x.program x.counter)
+thread_refusal m (Some x) = next_refusal m x.stage (slice_get x.program x.counter)
+
+abbrev pub take_refusal : Machine → Option Poller → ℕ → Option Refusal
+take_refusal m None n = Some NoPoller
+take_refusal m (Some Asleep) n = Some IsAsleep
+take_refusal m (Some Awake) n = submission_refusal m n
+
+abbrev pub sleep_refusal : Machine → Option Poller → Option Refusal
+sleep_refusal m None = Some NoPoller
+sleep_refusal m (Some Asleep) = Some IsAsleep
+sleep_refusal m (Some Awake) = if waiting m.submissions.head m.submissions.tail == 0 then None else Some NotIdle
 
 abbrev pub issue_refusal : Option Row → Option Refusal
 issue_refusal None = Some NoSuchRequest
 issue_refusal (Some row) = elim row.phase [ Queued ↦ None | Issued ↦ Some WrongPhase | Ended res ↦ Some WrongPhase ]
 
 -- what a kernel can choose for a NOP that ends
-abbrev pub choice_refusal : Machine → Choice → Option Refusal
-choice_refusal m Full = if has_room m.completions then None else Some NoRoom
-choice_refusal m (Short n) = Some BadChoice
-choice_refusal m Eio = Some BadChoice
+abbrev pub choice_refusal : Choice → Option Refusal
+choice_refusal Full = None
+choice_refusal (Short n) = Some BadChoice
+choice_refusal Eio = Some BadChoice
 
-abbrev pub phase_refusal : Machine → Phase → Choice → Option Refusal
-phase_refusal m Queued c = Some WrongPhase
-phase_refusal m Issued c = choice_refusal m c
-phase_refusal m (Ended res) c = Some WrongPhase
+abbrev pub phase_refusal : Phase → Choice → Option Refusal
+phase_refusal Queued c = Some WrongPhase
+phase_refusal Issued c = choice_refusal c
+phase_refusal (Ended res) c = Some WrongPhase
 
 -- timeouts and guards don't finish, they expire
-abbrev pub finish_refusal : Machine → Option Row → Choice → Option Refusal
-finish_refusal m None c = Some NoSuchRequest
-finish_refusal m (Some row) c = if counts row then phase_refusal m row.phase c else Some WrongPhase
+abbrev pub finish_refusal : Option Row → Choice → Option Refusal
+finish_refusal None c = Some NoSuchRequest
+finish_refusal (Some row) c = if counts row then phase_refusal row.phase c else Some WrongPhase
 
 abbrev pub expire_refusal : Option Row → Option Refusal
 expire_refusal None = Some NoSuchRequest
@@ -76,24 +142,19 @@ expire_refusal (Some row) = Some WrongPhase
 -- why an event is refused, if it is: the least number whose condition holds
 abbrev pub refusal : Machine → Event → Option Refusal
 refusal m (Step t) = thread_refusal m (slice_get m.threads t)
-refusal m (Take n) = Some NoPoller
-refusal m Sleep = Some NoPoller
+refusal m (Take n) = take_refusal m m.poller n
+refusal m Sleep = sleep_refusal m m.poller
 refusal m (Issue r) = issue_refusal (slice_get m.table r)
-refusal m (Finish r c) = finish_refusal m (slice_get m.table r) c
+refusal m (Finish r c) = finish_refusal (slice_get m.table r) c
 refusal m (Expire r) = expire_refusal (slice_get m.table r)
 refusal m (Tick d) = if nat_lt (m.clock + d) (2 ^ 64) then None else Some ClockFull
 
 -- ---- changes
 
--- the ring with a completion behind the others
-abbrev pub posted : ComWords → Option Cqe → ComWords
-posted w None = w
-posted w (Some c) = record w { tail = (w.tail + 1) % 2 ^ 32; slots = slice_set w.slots (w.tail % length w.slots) c }
-
 -- the completion of a row that ends with a result
-abbrev pub completion_of : Option Row → ℤ → Option Cqe
-completion_of None res = None
-completion_of (Some row) res = Some (record { user_data = row.entry.user_data; res = res; flags = 0 })
+abbrev pub completions_of : Option Row → ℤ → List Cqe
+completions_of None res = []
+completions_of (Some row) res = record { user_data = row.entry.user_data; res = res; flags = 0 } ∷ []
 
 -- by how much a row that ends is counted
 abbrev pub count_of : Option Row → ℕ
@@ -102,9 +163,8 @@ count_of (Some row) = if counts row then 1 else 0
 
 -- the machine once a row has ended with a result
 abbrev pub ended : Machine → ℕ → ℤ → Machine
-ended m r res = record m {
+ended m r res = record (posted m (completions_of (slice_get m.table r) res)) {
   table = updated (λ row. record row { phase = Ended res }) m.table r;
-  completions = posted m.completions (completion_of (slice_get m.table r) res);
   counted = m.counted + count_of (slice_get m.table r);
 }
 
@@ -128,10 +188,48 @@ submitted m k = if some_fails m.submissions k then ended (taken m k) (length (ta
 
 -- the machine once a thread has an answer, and goes on
 abbrev pub answered : Machine → ℕ → ℤ → Machine
-answered m t n = record m { threads = updated (λ x. record x { counter = x.counter + 1; last = n }) m.threads t }
+answered m t n = record m { threads = updated (λ x. record x { counter = x.counter + 1; last = n; stage = Ready }) m.threads t }
 
 abbrev pub gone_on : Machine → ℕ → Machine
 gone_on m t = record m { threads = updated (λ x. record x { counter = x.counter + 1 }) m.threads t }
+
+-- the machine once a thread waits in its Enter, which submitted n, for w completions
+abbrev pub held_back : Machine → ℕ → ℕ → ℕ → Machine
+held_back m t n w = record m { threads = updated (λ x. record x { stage = Waiting n w }) m.threads t }
+
+-- the machine once the poller is asleep, or awake
+abbrev pub with_poller : Machine → Poller → Machine
+with_poller m p = record m { poller = Some p; submissions = record m.submissions { flags = with_flag m.submissions.flags NeedWakeup (not (is_awake p)) } }
+
+-- What a thread does that entered the kernel, submitted n of k entries and asks for w completions: no more than the ring has room for.
+-- It waits while there are fewer.
+abbrev pub awaited : Machine → ℕ → ℕ → ℕ → ℕ → ℕ → Machine
+awaited m t n k w flags =
+    if gets_events flags && ((n == k) && nat_lt (ready_count m) (min w (length m.completions.slots))) then held_back m t n (min w (length m.completions.slots)) else answered m t (pos n)
+
+-- the machine once the poller is woken, if it is asked to
+abbrev pub woken : Machine → ℕ → Machine
+woken m flags = if wakes flags then with_poller m Awake else m
+
+-- the machine once kept completions have moved into the ring, if completions are asked for
+abbrev pub shown : Machine → ℕ → Machine
+shown m flags = if gets_events flags then flushed m else m
+
+-- an Enter where the poller submits: it wakes the poller and moves kept completions into the ring, if it is asked to
+abbrev pub entered_beside : Machine → ℕ → ℕ → ℕ → ℕ → Machine
+entered_beside m t k w flags = awaited (shown (woken m flags) flags) t k k w flags
+
+-- what a thread does that is to submit k entries
+abbrev pub submitting : Machine → ℕ → ℕ → ℕ → ℕ → Machine
+submitting m t k w flags = if is_busy m k then answered m t ebusy else awaited (submitted m k) t (length (taken_entries m.submissions k)) k w flags
+
+-- an Enter without a poller
+abbrev pub entered_alone : Machine → ℕ → ℕ → ℕ → ℕ → Machine
+entered_alone m t k w flags = submitting (before_submission m k flags) t k w flags
+
+abbrev pub entered : Machine → Option Poller → ℕ → ℕ → ℕ → ℕ → Machine
+entered m None t k w flags = if is_unknown flags then answered m t einval else entered_alone m t k w flags
+entered m (Some p) t k w flags = if is_unknown flags then answered m t einval else entered_beside m t k w flags
 
 -- what an instruction changes
 abbrev pub executed : Machine → ℕ → Option Instruction → Machine
@@ -139,8 +237,7 @@ executed m t None = m
 executed m t (Some (Put slot entry)) = gone_on (record m { submissions = record m.submissions { slots = slice_set m.submissions.slots slot entry } }) t
 executed m t (Some (Push index)) = gone_on (record m { submissions = record m.submissions { tail = (m.submissions.tail + 1) % 2 ^ 32; array = slice_set m.submissions.array (m.submissions.tail % length m.submissions.array) index } }) t
 executed m t (Some (Store address bytes)) = m
-executed m t (Some (Enter to_submit min_complete flags)) =
-    if flags == 0 then answered (submitted m to_submit) t (pos (length (taken_entries m.submissions to_submit))) else answered m t einval
+executed m t (Some (Enter to_submit min_complete flags)) = entered m m.poller t to_submit min_complete flags
 executed m t (Some Reap) = record m {
   completions = record m.completions { head = (m.completions.head + 1) % 2 ^ 32 };
   threads = updated (λ x. record x { counter = x.counter + 1; got = slice_get m.completions.slots (m.completions.head % length m.completions.slots) }) m.threads t;
@@ -151,11 +248,16 @@ abbrev pub next_of : Option ThreadState → Option Instruction
 next_of None = None
 next_of (Some x) = slice_get x.program x.counter
 
+-- what the next step of a thread changes: one that waited has its answer
+abbrev pub stepped : Machine → ℕ → Option ThreadState → Machine
+stepped m t None = m
+stepped m t (Some x) = elim x.stage [ Ready ↦ executed m t (slice_get x.program x.counter) | Waiting n w ↦ answered m t (pos n) ]
+
 -- the machine after an event
 abbrev pub after : Machine → Event → Machine
-after m (Step t) = executed m t (next_of (slice_get m.threads t))
-after m (Take n) = m
-after m Sleep = m
+after m (Step t) = stepped m t (slice_get m.threads t)
+after m (Take n) = submitted m n
+after m Sleep = with_poller m Asleep
 after m (Issue r) = record m { table = updated (λ row. record row { phase = Issued }) m.table r }
 after m (Finish r c) = ended m r (pos 0)
 after m (Expire r) = m

@@ -37,3 +37,7 @@ taken_entries w k = entries_at w.slots (taken_words w k)
 -- the result of a row that fails submitting: EINVAL (errno(3))
 abbrev pub einval : ℤ
 einval = negsuc 21
+
+-- the answer of an Enter that finds completions kept: EBUSY
+abbrev pub ebusy : ℤ
+ebusy = negsuc 15

@@ -1,20 +1,29 @@
 -- The whole machine: what stands in each place, and which machines are well formed.
-use Rattle.std.specs.Prelude.{◌≡◌, ℕ, ℤ, ◌+◌, ◌<◌, ◌≤◌, ◌^◌, Bool, true, false, Option, Some, None, slice_get, map, List, length, FitsSigned}
+use Rattle.std.specs.Prelude.{◌≡◌, ℕ, ℤ, ◌+◌, ◌<◌, ◌≤◌, ◌^◌, Bool, true, false, not, if◌then◌else◌, Option, Some, None, is_some, slice_get, map, List, length, FitsSigned}
 use Rattle.std.specs.Int.{w64}
 use Rattle.entries.specs.declared.row.Row.{Row}
 use Rattle.places.specs.declared.place.Place.{Place}
-use Rattle.places.specs.declared.place.Place.TheVariants.{SubmissionHead, SubmissionTail, SubmissionFlags, SubmissionDropped, CompletionHead, CompletionTail, Array, Slot, Completion, Request, Clock, Counted, ProgramCounter, ThreadStage, Last, Got}
+use Rattle.places.specs.declared.place.Place.TheVariants.{SubmissionHead, SubmissionTail, SubmissionFlags, SubmissionDropped, CompletionHead, CompletionTail, Array, Slot, Completion, Request, Backlog, BacklogFront, Clock, Counted, PollerStage, ProgramCounter, ThreadStage, Last, Got}
 use Rattle.places.specs.declared.value.Value.{Value}
-use Rattle.places.specs.declared.value.Value.TheVariants.{Number}
-use Rattle.places.specs.declared.value.Stage.TheVariants.{Ready}
+use Rattle.places.specs.declared.value.Value.TheVariants.{Number, Awake as IsAwake}
+use Rattle.places.specs.declared.value.Stage.TheVariants.{Waiting}
 use Rattle.places.specs.declared.value.Change.{Change}
 use Rattle.places.specs.View.{View, LeadsBack}
 use Rattle.ring_words.specs.Rings.{waiting, sub_seen, sub_can_put, SubFormed, com_seen, com_can_put, ComFormed}
 use Rattle.links_drains.specs.Rows.{table_seen, table_can_put}
-use Rattle.links_drains.specs.Phases.{is_unfinished, counted_of}
+use Rattle.links_drains.specs.Phases.{is_unfinished, counted_of, ended_of}
+use Rattle.overflow.specs.Backlogs.{BacklogState, is_clear, backlog_seen, backlog_can_put}
+use Rattle.sqpoll.specs.declared.poller.Poller.{Poller}
+use Rattle.sqpoll.specs.Pollers.{is_awake, poller_seen}
 use Rattle.machine.specs.Programs.{IsProgram}
+use Rattle.machine.specs.declared.setup.Instruction.TheVariants.{Enter}
 use Rattle.machine.specs.Threads.{ThreadState, program_of, threads_seen, threads_can_put}
 use Rattle.machine.specs.declared.whole.Machine.{Machine}
+
+-- what stands in the poller's place, if there is one
+abbrev pub stage_of : Option Poller → Option Value
+stage_of None = None
+stage_of (Some p) = poller_seen p PollerStage
 
 -- what stands in each place: each case asks the part that owns it
 abbrev pub view : Machine → View
@@ -28,8 +37,11 @@ view m CompletionHead = com_seen m.completions CompletionHead
 view m CompletionTail = com_seen m.completions CompletionTail
 view m (Completion i) = com_seen m.completions (Completion i)
 view m (Request i) = table_seen m.table (Request i)
+view m (Backlog i) = backlog_seen m.backlog (Backlog i)
+view m BacklogFront = backlog_seen m.backlog BacklogFront
 view m Clock = Some (Number m.clock)
 view m Counted = Some (Number m.counted)
+view m PollerStage = stage_of m.poller
 view m (ProgramCounter t) = threads_seen m.threads (ProgramCounter t)
 view m (ThreadStage t) = threads_seen m.threads (ThreadStage t)
 view m (Last t) = threads_seen m.threads (Last t)
@@ -48,27 +60,55 @@ can_put m CompletionHead v = com_can_put m.completions CompletionHead v
 can_put m CompletionTail v = com_can_put m.completions CompletionTail v
 can_put m (Completion i) v = com_can_put m.completions (Completion i) v
 can_put m (Request i) v = table_can_put m.table (Request i) v
+can_put m (Backlog i) v = backlog_can_put m.backlog (Backlog i) v
+can_put m BacklogFront v = backlog_can_put m.backlog BacklogFront v
 can_put m Clock (Some (Number n)) = Unit {0}
 can_put m Counted (Some (Number n)) = n < 2 ^ 32
+can_put m PollerStage (Some (IsAwake b)) = is_some m.poller ≡ true
 can_put m (ProgramCounter t) v = threads_can_put m.threads (ProgramCounter t) v
 can_put m (ThreadStage t) v = threads_can_put m.threads (ThreadStage t) v
 can_put m (Last t) v = threads_can_put m.threads (Last t) v
 can_put m (Got t) v = threads_can_put m.threads (Got t) v
 can_put m p v = ⊥
 
--- Two machines have what a setup fixes in common: sizes and programs.
+-- Two machines have what a setup fixes in common: sizes, programs, and whether there is a poller.
 pub record OneSetup (m n : Machine) : Type 0 where
   pub array : length m.submissions.array ≡ length n.submissions.array
   pub slots : length m.submissions.slots ≡ length n.submissions.slots
   pub completions : length m.completions.slots ≡ length n.completions.slots
   pub programs : map program_of m.threads ≡ map program_of n.threads
+  pub poller : is_some m.poller ≡ is_some n.poller
 
--- A thread stands within its program, which the machine can do, and waits for nothing.
+-- Two machines of one setup, the second of which has no fewer rows and no fewer items of the backlog.
+pub record Grows (m n : Machine) : Type 0 where
+  pub setup : OneSetup m n
+  pub rows : length m.table ≤ length n.table
+  pub backlog : length m.backlog.items ≤ length n.backlog.items
+
+-- whether the poller is asleep
+abbrev pub is_asleep : Option Poller → Bool
+is_asleep None = false
+is_asleep (Some p) = not (is_awake p)
+
+-- the flags word: NEED_WAKEUP while the poller is asleep, CQ_OVERFLOW while completions are kept (io_uring_setup(2))
+abbrev pub flag_word : Bool → Bool → ℕ
+flag_word asleep keeps = (if asleep then 1 else 0) + (if keeps then 2 else 0)
+
+-- A thread that waits stands at an Enter, and its numbers have their widths.
+pub record Waits (x : ThreadState) (n w : ℕ) : Type 0 where
+  pub submitted : n < 2 ^ 32
+  pub wanted : w < 2 ^ 32
+  pub to_submit : ℕ
+  pub min_complete : ℕ
+  pub flags : ℕ
+  pub enter : slice_get x.program x.counter ≡ Some (Enter to_submit min_complete flags)
+
+-- A thread stands within its program, which the machine can do.
 pub record Stands (size : ℕ) (x : ThreadState) : Type 0 where
   pub within : x.counter ≤ length x.program
   pub program : IsProgram size x.program
   pub last : FitsSigned w64 x.last
-  pub stage : x.stage ≡ Ready
+  pub waits : (n w : ℕ) → x.stage ≡ Waiting n w → Waits x n w
 
 -- What holds of every machine between steps, with the range of each number.
 pub record WellFormed (m : Machine) : Type 0 where
@@ -76,7 +116,9 @@ pub record WellFormed (m : Machine) : Type 0 where
   pub completions : ComFormed m.completions
   pub entries_wait : waiting m.submissions.head m.submissions.tail ≤ length m.submissions.array
   pub completions_wait : waiting m.completions.head m.completions.tail ≤ length m.completions.slots
-  pub flags : m.submissions.flags ≡ 0
+  pub flags : m.submissions.flags ≡ flag_word (is_asleep m.poller) (not (is_clear m.backlog))
+  pub front : m.backlog.front ≤ length m.backlog.items
+  pub overflowed : length m.backlog.items ≤ ended_of m.table
   pub rows : length m.table ≤ 65536
   pub opcodes : (r : ℕ) (x : Row) → slice_get m.table r ≡ Some x → is_unfinished x.phase ≡ true → x.entry.opcode ≡ 0
   pub counted : m.counted ≡ counted_of m.table
@@ -87,16 +129,16 @@ pub record WellFormed (m : Machine) : Type 0 where
 abbrev pub everywhere : Place → Bool
 everywhere p = true
 
--- Undoing the changes on the second machine gives the first, which is of the same setup, well formed, and has no more rows.
+-- Undoing the changes on the second machine gives the first, which is well formed and has no more rows or items of the backlog.
 pub record GoesBack (s m : Machine) (cs : List Change) : Type 0 where
   pub formed : WellFormed s
-  pub setup : OneSetup s m
-  pub rows : length s.table ≤ length m.table
+  pub grows : Grows s m
   pub back : LeadsBack (view s) (view m) cs
 
--- The same where no row has to go.
+-- The same where no row and no item has to go.
 pub record Overwrites (s m : Machine) (cs : List Change) : Type 0 where
   pub formed : WellFormed s
   pub setup : OneSetup s m
   pub rows : length s.table ≡ length m.table
+  pub backlog : length s.backlog.items ≡ length m.backlog.items
   pub back : LeadsBack (view s) (view m) cs

@@ -54,6 +54,4 @@ pub enum Refusal {
     RequestsFull = 16,
     /// Memory was refused, and nothing has changed.
     Memory = 17,
-    /// A completion would be posted into a full ring.
-    NoRoom = 18,
 }

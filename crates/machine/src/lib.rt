@@ -1,6 +1,7 @@
 //! The machine: rings, rows, threads, and the events that change them.
 #![tactic(auto)]
 
+mod entering;
 pub mod event;
 pub mod laws;
 pub mod limits;

@@ -96,8 +96,7 @@ fn has_slot(size: u32, instruction: &Instruction) -> bool
 fn asks_for_unbuilt(setup: &Setup) -> bool
     ensures { result ≡ asks_for_unbuilt setup.now }
 {
-    setup.sqpoll
-        || setup.submit_all
+    setup.submit_all
         || !setup.memory.is_empty()
         || !setup.objects.is_empty()
         || !setup.fds.is_empty()

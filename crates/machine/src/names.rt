@@ -24,6 +24,7 @@ enum PlaceKind {
     Slots,
     Completions,
     Requests,
+    Backlogs,
     ProgramCounters,
     Stages,
     Lasts,
@@ -36,7 +37,7 @@ pub fn place_of(setup: &Setup, words: &[&[u8]]) -> Result<Place, PlaceFault>
     ensures { result ≡ place_named setup.now (map (λ w. w.now) words.now) }
 {
     match words {
-        [name] => single(name).ok_or(PlaceFault::Place),
+        [name] => single(setup, name).ok_or(PlaceFault::Place),
         [name, index] => match kind_of_name(name) {
             Some(kind) => member(setup, kind, index),
             None => Err(PlaceFault::Place),
@@ -80,8 +81,8 @@ fn read_digits(word: &[u8]) -> Option<u32>
 }
 
 // The place that one word names.
-fn single(name: &[u8]) -> Option<Place>
-    ensures { result ≡ single_named name.now }
+fn single(setup: &Setup, name: &[u8]) -> Option<Place>
+    ensures { result ≡ single_named setup.now name.now }
 {
     if name == b"sq.head".as_slice() {
         Some(Place::SubmissionHead)
@@ -99,6 +100,14 @@ fn single(name: &[u8]) -> Option<Place>
         Some(Place::Clock)
     } else if name == b"counted".as_slice() {
         Some(Place::Counted)
+    } else if name == b"bfront".as_slice() {
+        Some(Place::BacklogFront)
+    } else if name == b"poller".as_slice() {
+        if setup.sqpoll {
+            Some(Place::PollerStage)
+        } else {
+            None
+        }
     } else {
         None
     }
@@ -108,16 +117,26 @@ fn single(name: &[u8]) -> Option<Place>
 fn kind_of_name(name: &[u8]) -> Option<PlaceKind>
     ensures { result ≡ kind_named name.now }
 {
-    match name {
-        b"array" => Some(PlaceKind::Array),
-        b"slot" => Some(PlaceKind::Slots),
-        b"cqe" => Some(PlaceKind::Completions),
-        b"row" => Some(PlaceKind::Requests),
-        b"pc" => Some(PlaceKind::ProgramCounters),
-        b"stage" => Some(PlaceKind::Stages),
-        b"last" => Some(PlaceKind::Lasts),
-        b"got" => Some(PlaceKind::Gots),
-        _ => None,
+    if name == b"array".as_slice() {
+        Some(PlaceKind::Array)
+    } else if name == b"slot".as_slice() {
+        Some(PlaceKind::Slots)
+    } else if name == b"cqe".as_slice() {
+        Some(PlaceKind::Completions)
+    } else if name == b"row".as_slice() {
+        Some(PlaceKind::Requests)
+    } else if name == b"backlog".as_slice() {
+        Some(PlaceKind::Backlogs)
+    } else if name == b"pc".as_slice() {
+        Some(PlaceKind::ProgramCounters)
+    } else if name == b"stage".as_slice() {
+        Some(PlaceKind::Stages)
+    } else if name == b"last".as_slice() {
+        Some(PlaceKind::Lasts)
+    } else if name == b"got".as_slice() {
+        Some(PlaceKind::Gots)
+    } else {
+        None
     }
 }
 
@@ -144,7 +163,7 @@ impl PlaceKind {
         match self {
             PlaceKind::Array | PlaceKind::Slots => u64::from(ring_size(setup.entries)),
             PlaceKind::Completions => completion_size(setup),
-            PlaceKind::Requests => 65536,
+            PlaceKind::Requests | PlaceKind::Backlogs => 65536,
             PlaceKind::ProgramCounters | PlaceKind::Stages | PlaceKind::Lasts | PlaceKind::Gots => {
                 setup.threads.len() as u64
             }
@@ -159,6 +178,7 @@ impl PlaceKind {
             PlaceKind::Slots => Place::Slot(index),
             PlaceKind::Completions => Place::Completion(index),
             PlaceKind::Requests => Place::Request(index),
+            PlaceKind::Backlogs => Place::Backlog(index),
             PlaceKind::ProgramCounters => Place::ProgramCounter(index),
             PlaceKind::Stages => Place::ThreadStage(index),
             PlaceKind::Lasts => Place::Last(index),

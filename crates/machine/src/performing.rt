@@ -1,8 +1,8 @@
 //! What accepted events do.
 ghost use Rattle.std.specs.Prelude.{◌≡◌, ◌≤◌, OnOk, None, length};
 ghost use Rattle.places.specs.View.{Keeps};
-ghost use Rattle.machine.specs.Steps.{after, refusal};
-ghost use Rattle.machine.specs.Whole.{view, everywhere, OneSetup, WellFormed};
+ghost use Rattle.machine.specs.Steps.{after, refusal, submission_refusal, submitted};
+ghost use Rattle.machine.specs.Whole.{view, everywhere, Grows, WellFormed};
 ghost use Rattle.machine.specs.declared.event.Event.TheVariants.{Tick, Issue, Finish, Step};
 
 use crate::event::Event;
@@ -10,7 +10,8 @@ use crate::setup::Instruction;
 use crate::whole::Machine;
 use entries::Phase;
 use opcodes::Choice;
-use places::{Place, Recorder};
+use places::{Place, Recorder, Stage};
+use sqpoll::Poller;
 use std::alloc::AllocError;
 
 impl Machine {
@@ -20,8 +21,7 @@ impl Machine {
         requires accepted { refusal self.old event ≡ None }
         requires formed { WellFormed self.old }
         ensures ok { OnOk result (self.new ≡ after self.old event) }
-        ensures setup { OneSetup self.old self.new }
-        ensures rows { length self.old.table ≤ length self.new.table }
+        ensures grows { Grows self.old self.new }
         ensures keeps { Keeps everywhere (view self.old) (view self.new) notes.old.made notes.new.made }
     {
         match event {
@@ -29,7 +29,9 @@ impl Machine {
             Event::Issue(r) => self.issue(r, notes),
             Event::Finish(r, choice) => self.finish(r, choice, notes),
             Event::Tick(d) => self.tick(d, notes),
-            _ => unreachable!(),
+            Event::Take(n) => self.submit_for_poller(n, notes),
+            Event::Sleep => self.set_poller(Poller::Asleep, notes),
+            Event::Expire(_) => unreachable!(),
         }
     }
 
@@ -37,8 +39,7 @@ impl Machine {
     fn tick(&mut self, d: u64, notes: &mut Recorder) -> Result<(), AllocError>
         requires { refusal self.old (Tick d) ≡ None }
         ensures ok { OnOk result (self.new ≡ after self.old (Tick d)) }
-        ensures setup { OneSetup self.old self.new }
-        ensures rows { length self.old.table ≤ length self.new.table }
+        ensures grows { Grows self.old self.new }
         ensures keeps { Keeps everywhere (view self.old) (view self.new) notes.old.made notes.new.made }
     {
         notes.note_number(Place::Clock, self.clock)?;
@@ -50,8 +51,7 @@ impl Machine {
     fn issue(&mut self, r: u32, notes: &mut Recorder) -> Result<(), AllocError>
         requires { refusal self.old (Issue r) ≡ None }
         ensures ok { OnOk result (self.new ≡ after self.old (Issue r)) }
-        ensures setup { OneSetup self.old self.new }
-        ensures rows { length self.old.table ≤ length self.new.table }
+        ensures grows { Grows self.old self.new }
         ensures keeps { Keeps everywhere (view self.old) (view self.new) notes.old.made notes.new.made }
     {
         self.table.set_phase(r, Phase::Issued, notes)
@@ -62,25 +62,38 @@ impl Machine {
         requires accepted { refusal self.old (Finish r choice) ≡ None }
         requires formed { WellFormed self.old }
         ensures ok { OnOk result (self.new ≡ after self.old (Finish r choice)) }
-        ensures setup { OneSetup self.old self.new }
-        ensures rows { length self.old.table ≤ length self.new.table }
+        ensures grows { Grows self.old self.new }
         ensures keeps { Keeps everywhere (view self.old) (view self.new) notes.old.made notes.new.made }
     {
         self.end(r, 0, notes)
     }
 
-    // A thread does its next instruction.
+    // The poller submits so many entries.
+    fn submit_for_poller(&mut self, n: u32, notes: &mut Recorder) -> Result<(), AllocError>
+        requires accepted { submission_refusal self.old n ≡ None }
+        requires formed { WellFormed self.old }
+        ensures ok { OnOk result (self.new ≡ submitted self.old n) }
+        ensures grows { Grows self.old self.new }
+        ensures keeps { Keeps everywhere (view self.old) (view self.new) notes.old.made notes.new.made }
+    {
+        self.submit(n, notes)?;
+        Ok(())
+    }
+
+    // A thread does its next instruction, or has the answer that it waited for.
     fn step_thread(&mut self, t: u32, notes: &mut Recorder) -> Result<(), AllocError>
         requires accepted { refusal self.old (Step t) ≡ None }
         requires formed { WellFormed self.old }
         ensures ok { OnOk result (self.new ≡ after self.old (Step t)) }
-        ensures setup { OneSetup self.old self.new }
-        ensures rows { length self.old.table ≤ length self.new.table }
+        ensures grows { Grows self.old self.new }
         ensures keeps { Keeps everywhere (view self.old) (view self.new) notes.old.made notes.new.made }
     {
         let Some(thread) = self.threads.get(t) else {
             unreachable!()
         };
+        if let Stage::Waiting(n, _) = thread.stage() {
+            return self.threads.answer(t, i64::from(n), notes);
+        }
         let Some(instruction) = thread.next() else {
             unreachable!()
         };

@@ -1,7 +1,7 @@
 //! Which events are refused.
-ghost use Rattle.std.specs.Prelude.{◌≡◌, slice_get, length, min};
+ghost use Rattle.std.specs.Prelude.{◌≡◌, ℕ, Some, slice_get, length, min};
 ghost use Rattle.ring_words.specs.Rings.{sub_list};
-ghost use Rattle.machine.specs.Steps.{refusal, instruction_refusal, submission_refusal, finish_refusal, choice_refusal};
+ghost use Rattle.machine.specs.Steps.{refusal, next_refusal, instruction_refusal, enter_refusal, alone_refusal, submission_refusal, take_refusal, sleep_refusal, finish_refusal, choice_refusal, is_busy, flushed};
 ghost use Rattle.machine.specs.Submission.{offered};
 
 use crate::event::{Event, Refusal};
@@ -9,6 +9,8 @@ use crate::setup::Instruction;
 use crate::whole::Machine;
 use entries::Phase;
 use opcodes::{Choice, is_timer};
+use places::Stage;
+use sqpoll::Poller;
 
 impl Machine {
     /// Why an event is refused, if it is. It takes no memory.
@@ -20,10 +22,11 @@ impl Machine {
                 None => Some(Refusal::NoSuchThread),
                 Some(thread) => match thread.next() {
                     None => Some(Refusal::ThreadDone),
-                    Some(instruction) => self.refuses_instruction(instruction),
+                    Some(instruction) => self.refuses_next(thread.stage(), instruction),
                 },
             },
-            Event::Take(_) | Event::Sleep => Some(Refusal::NoPoller),
+            Event::Take(n) => self.refuses_take(n),
+            Event::Sleep => self.refuses_sleep(),
             Event::Issue(r) => match self.table.phase(r) {
                 None => Some(Refusal::NoSuchRequest),
                 Some(Phase::Queued) => None,
@@ -44,6 +47,47 @@ impl Machine {
         }
     }
 
+    fn refuses_next(&self, stage: Stage, instruction: &Instruction) -> Option<Refusal>
+        ensures { result ≡ next_refusal self.now stage (Some instruction.now) }
+    {
+        match stage {
+            Stage::Ready => self.refuses_instruction(instruction),
+            Stage::Waiting(_, wanted) => {
+                if self.completions.waiting() < wanted {
+                    Some(Refusal::StillWaiting)
+                } else {
+                    None
+                }
+            }
+        }
+    }
+
+    fn refuses_take(&self, n: u32) -> Option<Refusal>
+        ensures { result ≡ take_refusal self.now self.now.poller n }
+    {
+        match self.poller {
+            None => Some(Refusal::NoPoller),
+            Some(Poller::Asleep) => Some(Refusal::Asleep),
+            Some(Poller::Awake) => self.refuses_submission(n),
+        }
+    }
+
+    fn refuses_sleep(&self) -> Option<Refusal>
+        ensures { result ≡ sleep_refusal self.now self.now.poller }
+    {
+        match self.poller {
+            None => Some(Refusal::NoPoller),
+            Some(Poller::Asleep) => Some(Refusal::Asleep),
+            Some(Poller::Awake) => {
+                if self.submissions.is_empty() {
+                    None
+                } else {
+                    Some(Refusal::NotIdle)
+                }
+            }
+        }
+    }
+
     fn refuses_instruction(&self, instruction: &Instruction) -> Option<Refusal>
         ensures { result ≡ instruction_refusal self.now instruction.now }
     {
@@ -59,13 +103,7 @@ impl Machine {
                 to_submit,
                 min_complete: _,
                 flags,
-            } => {
-                if *flags == 0 {
-                    self.refuses_submission(*to_submit)
-                } else {
-                    None
-                }
-            }
+            } => self.refuses_enter(*to_submit, *flags),
             Instruction::Reap => {
                 if self.completions.is_empty() {
                     Some(Refusal::NothingToReap)
@@ -82,16 +120,42 @@ impl Machine {
     {
         let count = self.offered(to_submit);
         if self.table.len() + count as usize > 65536 {
-            return Some(Refusal::RequestsFull);
-        }
-        if self.completions.has_room() {
-            return None;
-        }
-        if self.passing(count) < count {
-            Some(Refusal::NoRoom)
+            Some(Refusal::RequestsFull)
         } else {
             None
         }
+    }
+
+    // Where there is a poller, an Enter submits nothing.
+    fn refuses_enter(&self, to_submit: u32, flags: u32) -> Option<Refusal>
+        ensures { result ≡ enter_refusal self.now self.now.poller to_submit flags }
+    {
+        match self.poller {
+            None if flags <= 3 => self.refuses_alone(to_submit),
+            _ => None,
+        }
+    }
+
+    // Without one it does, unless completions are still kept.
+    fn refuses_alone(&self, to_submit: u32) -> Option<Refusal>
+        ensures { (flags : ℕ) → result ≡ alone_refusal self.now to_submit flags }
+    {
+        if self.stays_busy(to_submit) {
+            None
+        } else {
+            self.refuses_submission(to_submit)
+        }
+    }
+
+    // Whether completions would still be kept once as many have moved into the ring as there is room for.
+    fn stays_busy(&self, to_submit: u32) -> bool
+        ensures { result ≡ is_busy (flushed self.now) to_submit }
+    {
+        let free = self
+            .completions
+            .size()
+            .saturating_sub(self.completions.waiting());
+        to_submit > 0 && self.backlog.kept() > free as usize
     }
 
     /// How many entries a submission is offered.
@@ -103,7 +167,7 @@ impl Machine {
     }
 
     fn refuses_finish(&self, r: u32, choice: Choice) -> Option<Refusal>
-        ensures { result ≡ finish_refusal self.now (slice_get self.now.table r) choice }
+        ensures { result ≡ finish_refusal (slice_get self.now.table r) choice }
     {
         match (self.table.opcode(r), self.table.phase(r)) {
             (Some(opcode), Some(phase)) => {
@@ -111,26 +175,20 @@ impl Machine {
                     return Some(Refusal::WrongPhase);
                 }
                 match phase {
-                    Phase::Issued => self.refuses_choice(choice),
+                    Phase::Issued => refuses_choice(choice),
                     _ => Some(Refusal::WrongPhase),
                 }
             }
             _ => Some(Refusal::NoSuchRequest),
         }
     }
+}
 
-    fn refuses_choice(&self, choice: Choice) -> Option<Refusal>
-        ensures { result ≡ choice_refusal self.now choice }
-    {
-        match choice {
-            Choice::Full => {
-                if self.completions.has_room() {
-                    None
-                } else {
-                    Some(Refusal::NoRoom)
-                }
-            }
-            _ => Some(Refusal::BadChoice),
-        }
+fn refuses_choice(choice: Choice) -> Option<Refusal>
+    ensures { result ≡ choice_refusal choice }
+{
+    match choice {
+        Choice::Full => None,
+        _ => Some(Refusal::BadChoice),
     }
 }

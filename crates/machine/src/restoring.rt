@@ -16,12 +16,12 @@ impl Machine {
         ensures back { (s : Machine) → GoesBack s self.old past.now → self.new ≡ s }
     {
         let mut rest = past.changes();
-        let left = past.rows_left(self.table.len());
-        self.table.truncate(left);
+        self.table.truncate(past.rows_left(self.table.len()));
+        self.backlog.truncate(past.backlog_left(self.backlog.len()));
         self.overwrite(&mut rest);
     }
 
-    // Puts back what stood in places, where no row has to go.
+    // Puts back what stood in places, where no row and no item of the backlog has to go.
     fn overwrite(&mut self, rest: &mut Changes<'_>)
         requires back { (s : Machine) × Overwrites s self.old rest.old }
         requires once { NamesOnce rest.old }

@@ -1,5 +1,6 @@
 //! What a run starts from.
 ghost use Rattle.std.specs.Prelude.{◌≡◌, IfOk};
+ghost use Rattle.machine.specs.Programs.{HasWidths};
 
 use entries::Sqe;
 use places::{Contents, Descriptor, Items, Object};
@@ -81,7 +82,8 @@ impl Setup {
 impl Instruction {
     /// The same instruction again.
     pub fn copy(&self, alloc: Global) -> Result<Instruction, AllocError>
-        ensures { IfOk result (λ copy. copy ≡ self.now) }
+        ensures same { IfOk result (λ copy. copy ≡ self.now) }
+        ensures widths { HasWidths self.now }
     {
         Ok(match self {
             Instruction::Put(slot, entry) => Instruction::Put(*slot, *entry),

@@ -10,8 +10,10 @@ use crate::setup::{Instruction, Setup};
 use crate::threads::{Thread, Threads};
 use crate::whole::Machine;
 use links_drains::Table;
+use overflow::Backlog;
 use places::Items;
 use ring_words::{ComRing, SubRing};
+use sqpoll::Poller;
 use std::alloc::{AllocError, Global};
 
 impl Machine {
@@ -30,7 +32,13 @@ impl Machine {
         Ok(Machine {
             submissions,
             completions,
+            backlog: Backlog::new(alloc),
             table: Table::new(alloc),
+            poller: if setup.sqpoll {
+                Some(Poller::Awake)
+            } else {
+                None
+            },
             threads: start_threads(alloc, setup.threads.as_slice())?,
             clock: 0,
             counted: 0,
@@ -44,7 +52,9 @@ impl Machine {
         Ok(Machine {
             submissions: self.submissions.copy(alloc)?,
             completions: self.completions.copy(alloc)?,
+            backlog: self.backlog.copy(alloc)?,
             table: self.table.copy(alloc)?,
+            poller: self.poller,
             threads: self.threads.copy(alloc)?,
             clock: self.clock,
             counted: self.counted,
@@ -78,19 +88,7 @@ fn start_thread(alloc: Global, program: &[Instruction]) -> Result<Thread, AllocE
 {
     let mut copies = Vec::new(alloc);
     for instruction in program {
-        copies.push(measured_copy(alloc, instruction)?)?;
+        copies.push(instruction.copy(alloc)?)?;
     }
     Ok(Thread::new(Items::of(copies)))
-}
-
-// A copy of an instruction, whose numbers have their widths.
-fn measured_copy(alloc: Global, instruction: &Instruction) -> Result<Instruction, AllocError>
-    ensures same { IfOk result (λ copy. copy ≡ instruction.now) }
-    ensures widths { IfOk result (λ copy. HasWidths instruction.now) }
-{
-    if let Instruction::Push(index) = instruction {
-        return Ok(Instruction::Push(*index));
-    }
-    let copy = instruction.copy(alloc)?;
-    Ok(copy)
 }

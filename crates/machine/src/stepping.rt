@@ -1,13 +1,12 @@
-//! What the instructions of threads do (io_uring(7), io_uring_enter(2)).
+//! What the instructions of threads do but for Enter (io_uring(7)).
 ghost use Rattle.std.specs.Prelude.{◌≡◌, ◌≤◌, OnOk, None, Some, length, slice_get};
 ghost use Rattle.places.specs.View.{Keeps};
-ghost use Rattle.machine.specs.Steps.{executed, refusal, instruction_refusal, next_of};
-ghost use Rattle.machine.specs.Whole.{view, everywhere, OneSetup, WellFormed};
-ghost use Rattle.machine.specs.declared.setup.Instruction.TheVariants.{Put, Push, Enter, Reap};
+ghost use Rattle.machine.specs.Steps.{executed, instruction_refusal, next_of};
+ghost use Rattle.machine.specs.Whole.{view, everywhere, Grows, WellFormed};
+ghost use Rattle.machine.specs.declared.setup.Instruction.TheVariants.{Put, Push, Reap};
 
 use crate::whole::Machine;
 use entries::Sqe;
-use opcodes::EINVAL;
 use places::Recorder;
 use std::alloc::AllocError;
 
@@ -23,8 +22,7 @@ impl Machine {
         requires next { next_of (slice_get self.old.threads t) ≡ Some (Put slot entry) }
         requires formed { WellFormed self.old }
         ensures ok { OnOk result (self.new ≡ executed self.old t (Some (Put slot entry))) }
-        ensures setup { OneSetup self.old self.new }
-        ensures rows { length self.old.table ≤ length self.new.table }
+        ensures grows { Grows self.old self.new }
         ensures keeps { Keeps everywhere (view self.old) (view self.new) notes.old.made notes.new.made }
     {
         self.submissions.put_entry(slot, entry, notes)?;
@@ -42,37 +40,12 @@ impl Machine {
         requires accepted { instruction_refusal self.old (Push index) ≡ None }
         requires formed { WellFormed self.old }
         ensures ok { OnOk result (self.new ≡ executed self.old t (Some (Push index))) }
-        ensures setup { OneSetup self.old self.new }
-        ensures rows { length self.old.table ≤ length self.new.table }
+        ensures grows { Grows self.old self.new }
         ensures keeps { Keeps everywhere (view self.old) (view self.new) notes.old.made notes.new.made }
     {
         notes.room_for_numbers(3)?;
         self.submissions.push(index, notes);
         self.threads.go_on(t, notes)
-    }
-
-    /// A thread enters the kernel.
-    pub(crate) fn enter(
-        &mut self,
-        t: u32,
-        to_submit: u32,
-        min_complete: u32,
-        flags: u32,
-        notes: &mut Recorder,
-    ) -> Result<(), AllocError>
-        requires next { next_of (slice_get self.old.threads t) ≡ Some (Enter to_submit min_complete flags) }
-        requires accepted { instruction_refusal self.old (Enter to_submit min_complete flags) ≡ None }
-        requires formed { WellFormed self.old }
-        ensures ok { OnOk result (self.new ≡ executed self.old t (Some (Enter to_submit min_complete flags))) }
-        ensures setup { OneSetup self.old self.new }
-        ensures rows { length self.old.table ≤ length self.new.table }
-        ensures keeps { Keeps everywhere (view self.old) (view self.new) notes.old.made notes.new.made }
-    {
-        if flags != 0 {
-            return self.threads.answer(t, -i64::from(EINVAL), notes);
-        }
-        let taken = self.submit(to_submit, notes)?;
-        self.threads.answer(t, i64::from(taken), notes)
     }
 
     /// A thread takes the oldest completion.
@@ -81,8 +54,7 @@ impl Machine {
         requires accepted { instruction_refusal self.old Reap ≡ None }
         requires formed { WellFormed self.old }
         ensures ok { OnOk result (self.new ≡ executed self.old t (Some Reap)) }
-        ensures setup { OneSetup self.old self.new }
-        ensures rows { length self.old.table ≤ length self.new.table }
+        ensures grows { Grows self.old self.new }
         ensures keeps { Keeps everywhere (view self.old) (view self.new) notes.old.made notes.new.made }
     {
         notes.room_for_numbers(2)?;

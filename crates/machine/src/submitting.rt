@@ -5,13 +5,15 @@ ghost use Rattle.places.specs.View.{Keeps};
 ghost use Rattle.ring_words.specs.Rings.{sub_list};
 ghost use Rattle.links_drains.specs.Batches.{rows_of};
 ghost use Rattle.machine.specs.Submission.{offered, passes_at, some_fails, entries_at, taken_entries};
-ghost use Rattle.machine.specs.Steps.{submission_refusal, has_room, ended, submitted, taken_by};
-ghost use Rattle.machine.specs.Whole.{view, everywhere, OneSetup, WellFormed};
+ghost use Rattle.machine.specs.Steps.{submission_refusal, delivery, ended, submitted, taken_by};
+ghost use Rattle.overflow.specs.Backlogs.{DeliveryFormed};
+ghost use Rattle.machine.specs.Whole.{view, everywhere, Grows, WellFormed};
 
 use crate::whole::Machine;
 use entries::{Cqe, Phase};
 use links_drains::new_row;
 use opcodes::{Context, EINVAL, check, is_timer};
+use overflow::post_all;
 use places::{Place, Recorder};
 use std::alloc::AllocError;
 
@@ -45,8 +47,7 @@ impl Machine {
         requires room { length self.old.table + count ≤ 65536 }
         ensures ok { OnOk result (self.new ≡ record self.old { table = self.old.table ++ rows_of (length self.old.table) (entries_at self.old.submissions.slots (offered self.old.submissions count)) }) }
         ensures dropped { IfOk result (λ d. d + length (entries_at self.old.submissions.slots (offered self.old.submissions count)) ≡ count) }
-        ensures setup { OneSetup self.old self.new }
-        ensures rows { length self.old.table ≤ length self.new.table }
+        ensures grows { Grows self.old self.new }
         ensures keeps { Keeps everywhere (view self.old) (view self.new) notes.old.made notes.new.made }
     {
         let mut dropped = 0;
@@ -65,25 +66,29 @@ impl Machine {
     /// A row ends with a result: its completion is posted, and it is counted unless it is a timer.
     pub(crate) fn end(&mut self, r: u32, res: i32, notes: &mut Recorder) -> Result<(), AllocError>
         requires there { r < length self.old.table }
-        requires room { has_room self.old.completions ≡ true }
+        requires room { length self.old.backlog.items < 65536 }
+        requires delivery { DeliveryFormed (delivery self.old) }
         requires counts { self.old.counted + 1 < 2 ^ 32 }
         ensures ok { OnOk result (self.new ≡ ended self.old r res) }
-        ensures setup { OneSetup self.old self.new }
-        ensures rows { length self.old.table ≤ length self.new.table }
+        ensures grows { Grows self.old self.new }
         ensures keeps { Keeps everywhere (view self.old) (view self.new) notes.old.made notes.new.made }
     {
         let Some(row) = self.table.get(r) else {
             unreachable!()
         };
         self.table.set_phase(r, Phase::Ended(res), notes)?;
-        notes.room_for_completions(1)?;
-        notes.room_for_numbers(1)?;
         let completion = Cqe {
             user_data: row.entry.user_data,
             res,
             flags: 0,
         };
-        self.completions.post(completion, notes);
+        post_all(
+            &mut self.submissions,
+            &mut self.completions,
+            &mut self.backlog,
+            &[completion],
+            notes,
+        )?;
         if is_timer(row.entry.opcode) {
             return Ok(());
         }
@@ -98,8 +103,7 @@ impl Machine {
         requires formed { WellFormed self.old }
         ensures ok { OnOk result (self.new ≡ submitted self.old to_submit) }
         ensures count { IfOk result (λ n. n ≡ length (taken_entries self.old.submissions to_submit)) }
-        ensures setup { OneSetup self.old self.new }
-        ensures rows { length self.old.table ≤ length self.new.table }
+        ensures grows { Grows self.old self.new }
         ensures keeps { Keeps everywhere (view self.old) (view self.new) notes.old.made notes.new.made }
     {
         let offered = self.offered(to_submit);
@@ -120,8 +124,7 @@ impl Machine {
         requires room { length self.old.table + count ≤ 65536 }
         ensures ok { OnOk result (self.new ≡ taken_by self.old (offered self.old.submissions count)) }
         ensures count { IfOk result (λ n. n ≡ length (entries_at self.old.submissions.slots (offered self.old.submissions count))) }
-        ensures setup { OneSetup self.old self.new }
-        ensures rows { length self.old.table ≤ length self.new.table }
+        ensures grows { Grows self.old self.new }
         ensures keeps { Keeps everywhere (view self.old) (view self.new) notes.old.made notes.new.made }
     {
         let dropped = self.add_rows(count, notes)?;

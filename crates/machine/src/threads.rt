@@ -4,6 +4,7 @@ ghost use Rattle.std.specs.Option.{option_copied};
 ghost use Rattle.places.specs.Lists.{updated};
 ghost use Rattle.places.specs.View.{Keeps, put_at};
 ghost use Rattle.places.specs.declared.place.Place.{Place};
+ghost use Rattle.places.specs.declared.value.Stage.TheVariants.{Ready};
 
 use crate::setup::{Instruction, copy_program};
 use entries::Cqe;
@@ -56,6 +57,13 @@ impl Thread {
             last: self.last,
             got: self.got,
         })
+    }
+
+    /// What it does next.
+    pub fn stage(&self) -> Stage
+        ensures { result ≡ self.now.stage }
+    {
+        self.stage
     }
 
     /// Its next instruction, if it isn't done.
@@ -186,20 +194,74 @@ impl Threads {
         Ok(())
     }
 
-    /// A thread has an answer, and goes on.
-    pub fn answer(&mut self, t: u32, n: i64, notes: &mut Recorder) -> Result<(), AllocError>
+    // What a thread's last Enter or Close answered.
+    fn set_last(&mut self, t: u32, n: i64, notes: &mut Recorder) -> Result<(), AllocError>
         requires there { t < length self.old }
-        requires goes_on { (x : ThreadState) → slice_get self.old t ≡ Some x → x.counter + 1 < 2 ^ 32 }
-        ensures ok { OnOk result (self.new ≡ updated (λ x. record x { counter = x.counter + 1; last = n }) self.old t) }
+        ensures ok { OnOk result (self.new ≡ updated (λ x. record x { last = n }) self.old t) }
         ensures programs { map program_of self.new ≡ map program_of self.old }
         ensures keeps { Keeps threads_owns (threads_seen self.old) (threads_seen self.new) notes.old.made notes.new.made }
     {
         let thread = &mut self.threads[t as usize];
-        notes.note_number(Place::ProgramCounter(t), thread.counter as u64)?;
-        thread.counter += 1;
         notes.note(Place::Last(t), Some(Value::Signed(thread.last)))?;
         thread.last = n;
         Ok(())
+    }
+
+    // The completion that a thread reaped last.
+    fn set_got(&mut self, t: u32, completion: Cqe, notes: &mut Recorder) -> Result<(), AllocError>
+        requires there { t < length self.old }
+        ensures ok { OnOk result (self.new ≡ updated (λ x. record x { got = Some completion }) self.old t) }
+        ensures programs { map program_of self.new ≡ map program_of self.old }
+        ensures keeps { Keeps threads_owns (threads_seen self.old) (threads_seen self.new) notes.old.made notes.new.made }
+    {
+        let thread = &mut self.threads[t as usize];
+        notes.note(Place::Got(t), Some(Value::Reaped(thread.got)))?;
+        thread.got = Some(completion);
+        Ok(())
+    }
+
+    /// A thread waits, or is ready.
+    pub fn set_stage(
+        &mut self,
+        t: u32,
+        stage: Stage,
+        notes: &mut Recorder,
+    ) -> Result<(), AllocError>
+        requires there { t < length self.old }
+        ensures ok { OnOk result (self.new ≡ updated (λ x. record x { stage = stage }) self.old t) }
+        ensures programs { map program_of self.new ≡ map program_of self.old }
+        ensures keeps { Keeps threads_owns (threads_seen self.old) (threads_seen self.new) notes.old.made notes.new.made }
+    {
+        let thread = &mut self.threads[t as usize];
+        notes.note(Place::ThreadStage(t), Some(Value::Staged(thread.stage)))?;
+        thread.stage = stage;
+        Ok(())
+    }
+
+    /// A thread has an answer, and goes on.
+    pub fn answer(&mut self, t: u32, n: i64, notes: &mut Recorder) -> Result<(), AllocError>
+        requires there { t < length self.old }
+        requires goes_on { (x : ThreadState) → slice_get self.old t ≡ Some x → x.counter + 1 < 2 ^ 32 }
+        ensures ok { OnOk result (self.new ≡ updated (λ x. record x { counter = x.counter + 1; last = n; stage = Ready }) self.old t) }
+        ensures programs { map program_of self.new ≡ map program_of self.old }
+        ensures keeps { Keeps threads_owns (threads_seen self.old) (threads_seen self.new) notes.old.made notes.new.made }
+    {
+        self.go_on(t, notes)?;
+        self.set_last(t, n, notes)?;
+        self.be_ready(t, notes)
+    }
+
+    // A thread that waited is ready.
+    fn be_ready(&mut self, t: u32, notes: &mut Recorder) -> Result<(), AllocError>
+        requires there { t < length self.old }
+        ensures ok { OnOk result (self.new ≡ updated (λ x. record x { stage = Ready }) self.old t) }
+        ensures programs { map program_of self.new ≡ map program_of self.old }
+        ensures keeps { Keeps threads_owns (threads_seen self.old) (threads_seen self.new) notes.old.made notes.new.made }
+    {
+        match self.threads[t as usize].stage {
+            Stage::Ready => Ok(()),
+            Stage::Waiting(_, _) => self.set_stage(t, Stage::Ready, notes),
+        }
     }
 
     /// A thread has got a completion, and goes on.
@@ -215,11 +277,7 @@ impl Threads {
         ensures programs { map program_of self.new ≡ map program_of self.old }
         ensures keeps { Keeps threads_owns (threads_seen self.old) (threads_seen self.new) notes.old.made notes.new.made }
     {
-        let thread = &mut self.threads[t as usize];
-        notes.note_number(Place::ProgramCounter(t), thread.counter as u64)?;
-        thread.counter += 1;
-        notes.note(Place::Got(t), Some(Value::Reaped(thread.got)))?;
-        thread.got = Some(completion);
-        Ok(())
+        self.go_on(t, notes)?;
+        self.set_got(t, completion, notes)
     }
 }

@@ -2,21 +2,26 @@
 ghost use Rattle.std.specs.Prelude.{◌≡◌, OnSome, length, false};
 ghost use Rattle.ring_words.specs.Rings.{sub_owns, com_owns};
 ghost use Rattle.links_drains.specs.Rows.{table_owns};
+ghost use Rattle.overflow.specs.Backlogs.{backlog_owns};
 ghost use Rattle.machine.specs.Threads.{threads_owns};
 ghost use Rattle.places.specs.View.{put_at};
 ghost use Rattle.places.specs.declared.place.Place.{Place};
 
 use crate::threads::Threads;
 use links_drains::Table;
+use overflow::Backlog;
 use places::{At, Part, Place, Value};
 use ring_words::{ComRing, SubRing};
+use sqpoll::Poller;
 
 /// The machine, part by part.
 #[derive(Drop)]
 pub struct Machine {
     pub submissions: SubRing,
     pub completions: ComRing,
+    pub backlog: Backlog,
     pub table: Table,
+    pub poller: Option<Poller>,
     pub threads: Threads,
     pub clock: u64,
     pub counted: u32,
@@ -39,6 +44,11 @@ impl At for Machine {
                 self.completions.at(place)
             }
             Place::Request(_) => self.table.at(place),
+            Place::Backlog(_) | Place::BacklogFront => self.backlog.at(place),
+            Place::PollerStage => match &self.poller {
+                Some(poller) => poller.at(place),
+                None => None,
+            },
             Place::ProgramCounter(_) | Place::ThreadStage(_) | Place::Last(_) | Place::Got(_) => {
                 self.threads.at(place)
             }
@@ -61,6 +71,7 @@ impl Part for Machine {
         ensures put { (q : Place) → view self.new q ≡ put_at (view self.old) place value q }
         ensures setup { OneSetup self.old self.new }
         ensures rows { OnSome value (length self.new.table ≡ length self.old.table) }
+        ensures backlog { OnSome value (length self.new.backlog.items ≡ length self.old.backlog.items) }
     {
         if is_of_submissions(place) {
             self.submissions.put(place, value);
@@ -74,31 +85,42 @@ impl Part for Machine {
             self.table.put(place, value);
             return;
         }
+        if is_of_backlog(place) {
+            self.backlog.put(place, value);
+            return;
+        }
         if is_of_threads(place) {
             self.threads.put(place, value);
             return;
         }
-        self.put_number(place, value);
+        self.put_other(place, value);
     }
 }
 
 impl Machine {
     ghost use Rattle.machine.specs.Whole.{view, can_put, OneSetup};
 
-    // Sets a number that no part owns.
-    fn put_number(&mut self, place: Place, value: Option<Value>)
+    // Sets a number that no part owns, or what the poller does.
+    fn put_other(&mut self, place: Place, value: Option<Value>)
         requires can { can_put self.old place value }
         requires submissions { sub_owns place ≡ false }
         requires completions { com_owns place ≡ false }
         requires table { table_owns place ≡ false }
+        requires backlog { backlog_owns place ≡ false }
         requires threads { threads_owns place ≡ false }
         ensures put { (q : Place) → view self.new q ≡ put_at (view self.old) place value q }
         ensures setup { OneSetup self.old self.new }
         ensures rows { length self.new.table ≡ length self.old.table }
+        ensures backlog { length self.new.backlog.items ≡ length self.old.backlog.items }
     {
         match (place, value) {
             (Place::Clock, Some(Value::Number(n))) => self.clock = n,
             (Place::Counted, Some(Value::Number(n))) => self.counted = n as u32,
+            (Place::PollerStage, Some(Value::Awake(_))) => {
+                if let Some(poller) = &mut self.poller {
+                    poller.put(place, value);
+                }
+            }
             _ => unreachable!(),
         }
     }
@@ -131,6 +153,12 @@ fn is_of_table(place: Place) -> bool
     ensures { result ≡ table_owns place }
 {
     matches!(place, Place::Request(_))
+}
+
+fn is_of_backlog(place: Place) -> bool
+    ensures { result ≡ backlog_owns place }
+{
+    matches!(place, Place::Backlog(_) | Place::BacklogFront)
 }
 
 fn is_of_threads(place: Place) -> bool

@@ -16,14 +16,14 @@ pub restore-requires : goal.restore-requires
 restore-requires c =
     let led = back_from_keeps _ _ _ _ c.over-notes.ensures c.perform-done.ensures.keeps in
     let back = back_from_exact _ _ _ (c.close_with_marks-past.ensures _ led) in
-    (c.self.inside.machine, record { formed = c.self.invariant; setup = c.perform-done.ensures.setup; rows = c.perform-done.ensures.rows; back = back })
+    (c.self.inside.machine, record { formed = c.self.invariant; grows = c.perform-done.ensures.grows; back = back })
 
 pub invariant_of-self-in-Err : goal.invariant_of-self-in-Err
 invariant_of-self-in-Err c =
     let led = back_from_keeps _ _ _ _ c.over-notes.ensures c.perform-done.ensures.keeps in
     let back = back_from_exact _ _ _ (c.close_with_marks-past.ensures _ led) in
     let restored = c.restore.ensures.back in
-    subst WellFormed (sym (restored c.self.inside.machine (record { formed = c.self.invariant; setup = c.perform-done.ensures.setup; rows = c.perform-done.ensures.rows; back = back }))) c.self.invariant
+    subst WellFormed (sym (restored c.self.inside.machine (record { formed = c.self.invariant; grows = c.perform-done.ensures.grows; back = back }))) c.self.invariant
 
 pub returns-in-Ok-clause-exact : goal.returns-in-Ok-clause-exact
 returns-in-Ok-clause-exact c =
@@ -40,4 +40,4 @@ returns-in-Err-clause-err c =
     let led = back_from_keeps _ _ _ _ c.over-notes.ensures c.perform-done.ensures.keeps in
     let back = back_from_exact _ _ _ (c.close_with_marks-past.ensures _ led) in
     let restored = c.restore.ensures.back in
-    rw (← c.self.view_is) (restored c.self.inside.machine (record { formed = c.self.invariant; setup = c.perform-done.ensures.setup; rows = c.perform-done.ensures.rows; back = back }))
+    rw (← c.self.view_is) (restored c.self.inside.machine (record { formed = c.self.invariant; grows = c.perform-done.ensures.grows; back = back }))

@@ -16,7 +16,8 @@ loop-change-preserved-then-is_some c =
     let at = subst (Restored c.args.self.now c.args.rest.now c.loop-change.self) c.in-Some.ensures c.loop-change.invariant in
     let k = some_of _ (sym c.is_some.ensures ∙ c.if-is_some.true) in
     let rows = rw k.1 at c.put.ensures.rows in
-    restored_on _ _ _ _ _ _ c.put.ensures.setup (sym rows) c.put.ensures.put at
+    let items = rw k.1 at c.put.ensures.backlog in
+    restored_on _ _ _ _ _ _ c.put.ensures.setup (sym rows) (sym items) c.put.ensures.put at
 
 pub loop-change-preserved : goal.loop-change-preserved
 loop-change-preserved c =

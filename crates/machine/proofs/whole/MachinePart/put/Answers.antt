@@ -1,6 +1,9 @@
 use Rattle.std.proofs.Common.{sym, ◌∙◌}
-use Rattle.machine.proofs.Lifting.{seen_submissions, seen_completions, seen_table, seen_threads, can_put_submissions, can_put_completions, can_put_table, can_put_threads}
+use Rattle.machine.proofs.Lifting.{seen_submissions, seen_completions, seen_table, seen_backlog, seen_threads, can_put_submissions, can_put_completions, can_put_table, can_put_backlog, can_put_threads}
 use Rattle.machine.proofs.whole.MachinePart.put.Goals as goal
 
 pub returns-then-is_of_table-clause-put : goal.returns-then-is_of_table-clause-put
 returns-then-is_of_table-clause-put c = seen_table _ _ _ _ (sym c.is_of_table.ensures ∙ c.if-is_of_table.true) c.put-then-is_of_table.ensures.put
+
+pub returns-then-is_of_backlog-clause-put : goal.returns-then-is_of_backlog-clause-put
+returns-then-is_of_backlog-clause-put c = seen_backlog _ _ _ _ (sym c.is_of_backlog.ensures ∙ c.if-is_of_backlog.true) c.put-then-is_of_backlog.ensures.put

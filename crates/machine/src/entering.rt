@@ -1,0 +1,199 @@
+//! What Enter does (io_uring_enter(2)).
+ghost use Rattle.std.specs.Prelude.{◌≡◌, ◌<◌, ◌+◌, ◌^◌, OnOk, None, Some, true, is_some, slice_get, length};
+ghost use Rattle.places.specs.View.{Keeps};
+ghost use Rattle.machine.specs.Steps.{executed, instruction_refusal, alone_refusal, next_of, flushed, before_submission, woken, shown, awaited, entered_beside, entered_alone, with_poller};
+ghost use Rattle.machine.specs.Threads.{ThreadState};
+ghost use Rattle.machine.specs.Whole.{view, everywhere, Grows, WellFormed};
+ghost use Rattle.machine.specs.declared.setup.Instruction.TheVariants.{Enter};
+
+use crate::whole::Machine;
+use opcodes::{EBUSY, EINVAL};
+use overflow::flush;
+use places::{Recorder, Stage};
+use sqpoll::Poller;
+use std::alloc::AllocError;
+
+/// The caller asks for completions (IORING_ENTER_GETEVENTS).
+const GETEVENTS: u32 = 1;
+
+/// The caller wakes the poller (IORING_ENTER_SQ_WAKEUP).
+const SQ_WAKEUP: u32 = 2;
+
+impl Machine {
+    /// A thread enters the kernel.
+    pub(crate) fn enter(
+        &mut self,
+        t: u32,
+        to_submit: u32,
+        min_complete: u32,
+        flags: u32,
+        notes: &mut Recorder,
+    ) -> Result<(), AllocError>
+        requires next { next_of (slice_get self.old.threads t) ≡ Some (Enter to_submit min_complete flags) }
+        requires accepted { instruction_refusal self.old (Enter to_submit min_complete flags) ≡ None }
+        requires formed { WellFormed self.old }
+        ensures ok { OnOk result (self.new ≡ executed self.old t (Some (Enter to_submit min_complete flags))) }
+        ensures grows { Grows self.old self.new }
+        ensures keeps { Keeps everywhere (view self.old) (view self.new) notes.old.made notes.new.made }
+    {
+        if flags > GETEVENTS | SQ_WAKEUP {
+            return self.threads.answer(t, -i64::from(EINVAL), notes);
+        }
+        if self.poller.is_some() {
+            self.enter_beside(t, to_submit, min_complete, flags, notes)
+        } else {
+            self.enter_alone(t, to_submit, min_complete, flags, notes)
+        }
+    }
+
+    // Where there is no poller, the thread submits, unless completions are kept.
+    fn enter_alone(
+        &mut self,
+        t: u32,
+        to_submit: u32,
+        min_complete: u32,
+        flags: u32,
+        notes: &mut Recorder,
+    ) -> Result<(), AllocError>
+        requires next { next_of (slice_get self.old.threads t) ≡ Some (Enter to_submit min_complete flags) }
+        requires accepted { alone_refusal self.old to_submit flags ≡ None }
+        requires formed { WellFormed self.old }
+        ensures ok { OnOk result (self.new ≡ entered_alone self.old t to_submit min_complete flags) }
+        ensures grows { Grows self.old self.new }
+        ensures keeps { Keeps everywhere (view self.old) (view self.new) notes.old.made notes.new.made }
+    {
+        self.make_way(to_submit, flags, notes)?;
+        if to_submit > 0 && !self.backlog.is_empty() {
+            return self.threads.answer(t, -i64::from(EBUSY), notes);
+        }
+        let taken = self.submit(to_submit, notes)?;
+        self.answer_or_wait(t, taken, to_submit, min_complete, flags, notes)
+    }
+
+    // Kept completions move into the ring, where completions are asked for or entries are to be submitted.
+    fn make_way(
+        &mut self,
+        to_submit: u32,
+        flags: u32,
+        notes: &mut Recorder,
+    ) -> Result<(), AllocError>
+        requires formed { WellFormed self.old }
+        ensures ok { OnOk result (self.new ≡ before_submission self.old to_submit flags) }
+        ensures grows { Grows self.old self.new }
+        ensures keeps { Keeps everywhere (view self.old) (view self.new) notes.old.made notes.new.made }
+    {
+        if flags & GETEVENTS == 0 && to_submit == 0 {
+            return Ok(());
+        }
+        self.flush(notes)
+    }
+
+    // Where there is a poller, it submits; the thread wakes it, if it is asked to.
+    fn enter_beside(
+        &mut self,
+        t: u32,
+        to_submit: u32,
+        min_complete: u32,
+        flags: u32,
+        notes: &mut Recorder,
+    ) -> Result<(), AllocError>
+        requires next { next_of (slice_get self.old.threads t) ≡ Some (Enter to_submit min_complete flags) }
+        requires poller { is_some self.old.poller ≡ true }
+        requires formed { WellFormed self.old }
+        ensures ok { OnOk result (self.new ≡ entered_beside self.old t to_submit min_complete flags) }
+        ensures grows { Grows self.old self.new }
+        ensures keeps { Keeps everywhere (view self.old) (view self.new) notes.old.made notes.new.made }
+    {
+        self.wake(flags, notes)?;
+        self.show_kept(flags, notes)?;
+        self.answer_or_wait(t, to_submit, to_submit, min_complete, flags, notes)
+    }
+
+    // The poller is awake, where it is to be woken.
+    fn wake(&mut self, flags: u32, notes: &mut Recorder) -> Result<(), AllocError>
+        requires poller { is_some self.old.poller ≡ true }
+        ensures ok { OnOk result (self.new ≡ woken self.old flags) }
+        ensures grows { Grows self.old self.new }
+        ensures keeps { Keeps everywhere (view self.old) (view self.new) notes.old.made notes.new.made }
+    {
+        if flags & SQ_WAKEUP == 0 {
+            return Ok(());
+        }
+        self.set_poller(Poller::Awake, notes)
+    }
+
+    // Kept completions move into the ring, where completions are asked for.
+    fn show_kept(&mut self, flags: u32, notes: &mut Recorder) -> Result<(), AllocError>
+        requires formed { WellFormed self.old }
+        ensures ok { OnOk result (self.new ≡ shown self.old flags) }
+        ensures grows { Grows self.old self.new }
+        ensures keeps { Keeps everywhere (view self.old) (view self.new) notes.old.made notes.new.made }
+    {
+        if flags & GETEVENTS == 0 {
+            return Ok(());
+        }
+        self.flush(notes)
+    }
+
+    // A thread that submitted so many entries waits for completions, or has its answer.
+    fn answer_or_wait(
+        &mut self,
+        t: u32,
+        taken: u32,
+        to_submit: u32,
+        min_complete: u32,
+        flags: u32,
+        notes: &mut Recorder,
+    ) -> Result<(), AllocError>
+        requires there { t < length self.old.threads }
+        requires goes_on { (x : ThreadState) → slice_get self.old.threads t ≡ Some x → x.counter + 1 < 2 ^ 32 }
+        ensures ok { OnOk result (self.new ≡ awaited self.old t taken to_submit min_complete flags) }
+        ensures grows { Grows self.old self.new }
+        ensures keeps { Keeps everywhere (view self.old) (view self.new) notes.old.made notes.new.made }
+    {
+        let wanted = min_complete.min(self.completions.size());
+        if flags & GETEVENTS != 0 && taken == to_submit && self.completions.waiting() < wanted {
+            return self
+                .threads
+                .set_stage(t, Stage::Waiting(taken, wanted), notes);
+        }
+        self.threads.answer(t, i64::from(taken), notes)
+    }
+
+    // Kept completions move into the ring, as many as there is room for.
+    fn flush(&mut self, notes: &mut Recorder) -> Result<(), AllocError>
+        requires formed { WellFormed self.old }
+        ensures ok { OnOk result (self.new ≡ flushed self.old) }
+        ensures grows { Grows self.old self.new }
+        ensures keeps { Keeps everywhere (view self.old) (view self.new) notes.old.made notes.new.made }
+    {
+        flush(
+            &mut self.submissions,
+            &mut self.completions,
+            &mut self.backlog,
+            notes,
+        )
+    }
+
+    /// The poller falls asleep, or is woken.
+    pub(crate) fn set_poller(
+        &mut self,
+        stage: Poller,
+        notes: &mut Recorder,
+    ) -> Result<(), AllocError>
+        requires poller { is_some self.old.poller ≡ true }
+        ensures ok { OnOk result (self.new ≡ with_poller self.old stage) }
+        ensures grows { Grows self.old self.new }
+        ensures keeps { Keeps everywhere (view self.old) (view self.new) notes.old.made notes.new.made }
+    {
+        notes.room(1)?;
+        let Some(poller) = &mut self.poller else {
+            unreachable!()
+        };
+        match stage {
+            Poller::Asleep => poller.sleep(&mut self.submissions, notes),
+            Poller::Awake => poller.wake(&mut self.submissions, notes),
+        }
+        Ok(())
+    }
+}
