@@ -1,5 +1,5 @@
 -- Events pushed one after the other behind a trace.
-use Rattle.std.proofs.Common.{◌≡◌, ℕ, ◌+◌, ◌<◌, ◌≤◌, List, [], ◌∷◌, ◌++◌, ◌⊎◌, inr, length, take, get_or, refl, sym, ap, ◌∙◌, subst, arith, append_assoc, length-append}
+use Rattle.std.proofs.Common.{◌≡◌, ℕ, ◌+◌, ◌<◌, ◌≤◌, List, [], ◌∷◌, ◌++◌, ◌⊎◌, inl, inr, length, take, get_or, refl, sym, ap, ◌∙◌, subst, arith, append_assoc, length-append}
 use Rattle.std.specs.Prelude.{Some, None}
 use Rattle.std.proofs.lemmas.List.{length-take, take_more, append-nil}
 use Rattle.std.proofs.lemmas.Option.{slice_get-get_or}
@@ -50,18 +50,18 @@ pushed_more w v v' es i e d last h p a k g =
       accepts = subst (Accepts (ending w)) (sym (one_more es i e d h g)) run_on;
     }
 
-pub pushed_stops : (w v : Walk) (es : List Event) (i : ℕ) (e d : Event) (n : Refusal) → w.at ≡ length w.events → i < length es → Pushed w es i v → (refusal (here v) e ≡ Some n) ⊎ (n ≡ Memory) → e ≡ get_or es i d → Stops (ending w) es i n
+pub pushed_stops : (w v : Walk) (es : List Event) (i : ℕ) (e d : Event) (n : Refusal) → w.at ≡ length w.events → i < length es → Pushed w es i v → (refusal (here v) e ≡ Some n) ⊎ ((n ≡ Memory) × (refusal (here v) e ≡ None)) → e ≡ get_or es i d → Stops (ending w) es i n
 pushed_stops w v es i e d n last h p r g =
     let below : i ≤ length es = omega arith in
-    let P : Machine → Type 0 = λ m. (refusal m e ≡ Some n) ⊎ (n ≡ Memory) in
+    let P : Machine → Type 0 = λ m. (refusal m e ≡ Some n) ⊎ ((n ≡ Memory) × ((i ≡ 0) ⊎ (refusal m e ≡ None))) in
     record {
       event = e;
       there = slice_get-get_or es i d h ∙ ap Some (sym g);
       runs = p.accepts;
-      refused = subst P (pushed_here w v es i last below p) r;
+      refused = subst P (pushed_here w v es i last below p) (elim r [ inl k ↦ inl k | inr k ↦ inr (k.0, inr k.1) ]);
     }
 
 -- a growth before the first event
 pub no_memory : (m : Machine) (es : List Event) → 0 < length es → Stops m es 0 Memory
 no_memory m [] h = absurd (omega arith)
-no_memory m (e ∷ es) h = record { event = e; there = slice_get-get_or (e ∷ es) 0 e h; runs = tt; refused = inr refl }
+no_memory m (e ∷ es) h = record { event = e; there = slice_get-get_or (e ∷ es) 0 e h; runs = tt; refused = inr (refl, inl refl) }

@@ -1,6 +1,6 @@
 -- Runs, their prefixes, and records that lead back.
 use Rattle.std.proofs.Common.{◌≡◌, ℕ, zero, suc, ◌+◌, ◌<◌, List, [], ◌∷◌, ◌++◌, ◌⊎◌, inl, inr, length, take, get_or, refl, sym, ap, ◌∙◌, subst, arith, add-one}
-use Rattle.std.specs.Prelude.{Option, Some, None}
+use Rattle.std.specs.Prelude.{Option, Some, None, unwrap_or}
 use Rattle.places.specs.declared.value.Change.{Change}
 use Rattle.machine.specs.declared.whole.Machine.{Machine}
 use Rattle.machine.specs.declared.setup.Setup.{Setup}
@@ -102,14 +102,19 @@ linked_take s m (e ∷ es) (r ∷ rs) (suc n) l = (after s e, linked_first s m e
 -- ---- refusals
 
 -- why a step was refused, by what it promises
-pub why_refused : (o : Option Refusal) (n : Refusal) → ((k : Refusal) → o ≡ Some k → n ≡ k) → (o ≡ None → n ≡ Memory) → (o ≡ Some n) ⊎ (n ≡ Memory)
-why_refused None n f g = inr (g refl)
+pub why_refused : (o : Option Refusal) (n : Refusal) → ((k : Refusal) → o ≡ Some k → n ≡ k) → (o ≡ None → n ≡ Memory) → (o ≡ Some n) ⊎ ((n ≡ Memory) × (o ≡ None))
+why_refused None n f g = inr (g refl, refl)
 why_refused (Some k) n f g = inl (ap Some (sym (f k refl)))
+
+-- what is told where there is no room
+pub told_refusal : (o : Option Refusal) → (o ≡ Some (unwrap_or o Memory)) ⊎ ((unwrap_or o Memory ≡ Memory) × (o ≡ None))
+told_refusal None = inr (refl, refl)
+told_refusal (Some n) = inl refl
 
 -- an event that stops a run from its start is refused there, or wants memory
 pub is_refused : (setup : Setup) (es : List Event) (i : ℕ) (n : Refusal) → Stops (start setup) es i n → (IsRefused setup es i n) ⊎ (n ≡ Memory)
 is_refused setup es i n h = by h.refused
   where
-    by : (refusal (run (start setup) (take i es)) h.event ≡ Some n) ⊎ (n ≡ Memory) → (IsRefused setup es i n) ⊎ (n ≡ Memory)
+    by : (refusal (run (start setup) (take i es)) h.event ≡ Some n) ⊎ ((n ≡ Memory) × ((i ≡ 0) ⊎ (refusal (run (start setup) (take i es)) h.event ≡ None))) → (IsRefused setup es i n) ⊎ (n ≡ Memory)
     by (inl e) = inl (record { event = h.event; there = h.there; runs = h.runs; refused = e })
-    by (inr e) = inr e
+    by (inr e) = inr e.0

@@ -1,5 +1,5 @@
 -- Walks through a run: its events, how many of them lie behind, and how far jumps have gone.
-use Rattle.std.specs.Prelude.{◌≡◌, ℕ, ◌+◌, ◌-◌, ◌^◌, ◌<◌, ◌≤◌, ◌⊎◌, min, List, [], ◌++◌, length, take, slice_get, Some}
+use Rattle.std.specs.Prelude.{◌≡◌, ℕ, ◌+◌, ◌-◌, ◌^◌, ◌<◌, ◌≤◌, ◌⊎◌, min, List, [], ◌++◌, length, take, slice_get, Some, None}
 use Rattle.places.specs.declared.value.Change.{Change}
 use Rattle.machine.specs.declared.whole.Machine.{Machine}
 use Rattle.machine.specs.declared.setup.Setup.{Setup}
@@ -54,12 +54,12 @@ jumped w m = record { setup = w.setup; events = w.events; at = m; walked = min (
 abbrev pub extended : Walk → List Event → Walk
 extended w es = record { setup = w.setup; events = w.events ++ es; at = w.at; walked = w.walked }
 
--- From a machine, the events run up to one that is refused for n, or for want of memory.
+-- From a machine, the events run up to one that is refused for n. Want of memory is told where no rule refuses it, or before the first.
 pub record Stops (m : Machine) (es : List Event) (i : ℕ) (n : Refusal) : Type 0 where
   pub event : Event
   pub there : slice_get es i ≡ Some event
   pub runs : Accepts m (take i es)
-  pub refused : (refusal (run m (take i es)) event ≡ Some n) ⊎ (n ≡ Memory)
+  pub refused : (refusal (run m (take i es)) event ≡ Some n) ⊎ ((n ≡ Memory) × ((i ≡ 0) ⊎ (refusal (run m (take i es)) event ≡ None)))
 
 -- What a walker keeps: the records lead back from the end to the start, and the state is that of the position.
 pub record Keeps (setup : Setup) (events : List Event) (records : List (List Change)) (at : ℕ) (state : Machine) (walked : ℕ) : Type 0 where

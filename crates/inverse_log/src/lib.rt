@@ -6,3 +6,6 @@ pub mod walker;
 
 pub use refusal::{ExtendRefusal, WalkRefusal};
 pub use walker::Walker;
+
+#[cfg(test)]
+mod tests;

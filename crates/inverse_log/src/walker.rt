@@ -248,11 +248,12 @@ impl Walker {
         requires room { length self.old.events < 1048576 }
         ensures ok { OnOk result (self.new ≡ moved (extended self.old (event ∷ [])) (self.old.at + 1)) }
         ensures accepts { OnOk result (refusal (here self.old) event ≡ None) }
-        ensures refuses { IfErr result (λ n. (refusal (here self.old) event ≡ Some n) ⊎ (n ≡ Refusal.Memory)) }
+        ensures refuses { IfErr result (λ n. (refusal (here self.old) event ≡ Some n) ⊎ ((n ≡ Refusal.Memory) × (refusal (here self.old) event ≡ None))) }
         ensures err { OnErr result (self.new ≡ self.old) }
     {
-        self.records.reserve(1).map_err(|_| Refusal::Memory)?;
-        self.events.reserve(1).map_err(|_| Refusal::Memory)?;
+        if self.records.reserve(1).is_err() || self.events.reserve(1).is_err() {
+            return Err(self.state.refuses(event).unwrap_or(Refusal::Memory));
+        }
         let past = self.state.step(event)?;
         self.records.push(past).unwrap();
         self.events.push(event).unwrap();

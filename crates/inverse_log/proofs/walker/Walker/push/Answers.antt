@@ -18,6 +18,6 @@ invariant_of-self-2 c =
 
 pub returns-in_err-past-clause-refuses : goal.returns-in_err-past-clause-refuses
 returns-in_err-past-clause-refuses c =
-    let p = err_from_is_err_and c.from_residual-in_err-past.result c.from_residual-in_err-past.ensures.1 in
+    let p = err_from_is_err_and c.from_residual.result c.from_residual.ensures.1 in
     let same : here c.args.self.now ≡ c.self.inside.state = ap here (sym c.self.view_is) ∙ sym c.self.invariant.here in
     rw (p.1, p.2) (rw same (why_refused (refusal c.self.inside.state c.args.event) _ (λ k e. let q = c.in_err-past.ensures.refused k e in cc) (λ e. c.in_err-past.ensures.only_memory e)))
