@@ -1,8 +1,8 @@
 -- A JSON value that was read is never told as no JSON.
 use Rattle.std.proofs.Common.{◌≡◌, ◌≢◌, ℕ, ◌+◌, Bool, true, false, cond, nat_le, nat_lt, List, [], ◌∷◌, length, Option, Some, None, Result, Ok, Err}
-use Rattle.std.specs.Prelude.{codes, IsUtf8}
+use Rattle.std.specs.Prelude.{codes, ok_or, IsUtf8}
 use Rattle.serde_json.specs.Data.{Data, null, boolean, number, string, array, object}
-use Rattle.serde_json.specs.Find.{get}
+use Rattle.serde_json.specs.Find.{get, as_bool}
 use Rattle.serde_json.specs.Read.{read}
 use Rattle.ring_words.specs.Rings.{rounded}
 use Rattle.machine.specs.declared.event.Event.{Event}
@@ -17,7 +17,7 @@ use Rattle.script.specs.Lists.{has_keys, keyed, listed, each, at_most, required}
 use Rattle.script.specs.Numbers.{whole_of, between, number_between}
 use Rattle.script.specs.Instructions.{instruction_form, instruction_in_range, instruction_at, thread_at}
 use Rattle.script.specs.Events.{event_form, event_in_range, event_at}
-use Rattle.script.specs.Scripts.{Plan, is_script_key, entries_of, large_enough, cq_of, base_of, threads_of, schedule_of, setup_with, script_of, IsNoJson}
+use Rattle.script.specs.Scripts.{Plan, is_script_key, entries_of, large_enough, cq_of, flag_of, base_of, threads_of, schedule_of, setup_with, script_of, IsNoJson}
 
 abbrev Clean : {A : Type 0} → Result A ScriptFault → Type 0
 Clean (Ok x) = Unit {0}
@@ -76,6 +76,14 @@ cq_clean entries None = tt
 cq_clean entries (Some d) =
     bind_clean (number_between (at_key key.Cq) 1 8192 d) (large_enough entries) (formed_clean (at_key key.Cq) (whole_of d) (between 1 8192)) (λ n. chosen_clean (nat_le (rounded entries) (rounded n)) (Ok (Some n)) (Err (Range (at_key key.Cq))) tt tt)
 
+flag_clean : (k : Key) (d : Option Data) → Clean (flag_of k d)
+flag_clean k None = tt
+flag_clean k (Some d) = by (as_bool d)
+  where
+    by : (b : Option Bool) → Clean (ok_or b (Shape (at_key k)))
+    by None = tt
+    by (Some b) = tt
+
 base_clean : (d : Option Data) → Clean (base_of d)
 base_clean None = tt
 base_clean (Some d) = formed_clean (at_key key.Base) (whole_of d) (between 0 4294967295)
@@ -94,17 +102,20 @@ schedule_clean d =
     let r = required key.Schedule d in
     bind_clean (r >>= listed (at_key key.Schedule)) (at_most 65536 (at_key key.Schedule) event_at) (bind_clean r (listed (at_key key.Schedule)) (required_clean key.Schedule d) (listed_clean (at_key key.Schedule))) (λ ds. at_most_clean 65536 (at_key key.Schedule) event_at ds (λ i e. formed_clean (at_item key.Schedule i) (event_form e) event_in_range))
 
-abbrev with_schedule : Data → ℕ → Option ℕ → ℕ → List (List Instruction) → List Event → Result Plan ScriptFault
-with_schedule d entries cq base threads schedule = Ok (record { setup = setup_with entries cq base threads; schedule = schedule })
+abbrev with_schedule : Data → ℕ → Option ℕ → Bool → ℕ → List (List Instruction) → List Event → Result Plan ScriptFault
+with_schedule d entries cq sqpoll base threads schedule = Ok (record { setup = setup_with entries cq sqpoll base threads; schedule = schedule })
 
-abbrev with_threads : Data → ℕ → Option ℕ → ℕ → List (List Instruction) → Result Plan ScriptFault
-with_threads d entries cq base threads = schedule_of (get (codes "schedule") d) >>= with_schedule d entries cq base threads
+abbrev with_threads : Data → ℕ → Option ℕ → Bool → ℕ → List (List Instruction) → Result Plan ScriptFault
+with_threads d entries cq sqpoll base threads = schedule_of (get (codes "schedule") d) >>= with_schedule d entries cq sqpoll base threads
 
-abbrev with_base : Data → ℕ → Option ℕ → ℕ → Result Plan ScriptFault
-with_base d entries cq base = threads_of (rounded entries) (get (codes "threads") d) >>= with_threads d entries cq base
+abbrev with_base : Data → ℕ → Option ℕ → Bool → ℕ → Result Plan ScriptFault
+with_base d entries cq sqpoll base = threads_of (rounded entries) (get (codes "threads") d) >>= with_threads d entries cq sqpoll base
+
+abbrev with_sqpoll : Data → ℕ → Option ℕ → Bool → Result Plan ScriptFault
+with_sqpoll d entries cq sqpoll = base_of (get (codes "base") d) >>= with_base d entries cq sqpoll
 
 abbrev with_cq : Data → ℕ → Option ℕ → Result Plan ScriptFault
-with_cq d entries cq = base_of (get (codes "base") d) >>= with_base d entries cq
+with_cq d entries cq = flag_of key.Sqpoll (get (codes "sqpoll") d) >>= with_sqpoll d entries cq
 
 abbrev with_entries : Data → ℕ → Result Plan ScriptFault
 with_entries d entries = cq_of entries (get (codes "cq") d) >>= with_cq d entries
@@ -117,9 +128,10 @@ script_clean d =
     bind_clean (keyed is_script_key (at_key key.Document) d) (with_keys d) (chosen_clean (has_keys is_script_key d) (Ok tt) (Err (Shape (at_key key.Document))) tt tt) (λ u.
     bind_clean (entries_of (get (codes "entries") d)) (with_entries d) (entries_clean (get (codes "entries") d)) (λ entries.
     bind_clean (cq_of entries (get (codes "cq") d)) (with_cq d entries) (cq_clean entries (get (codes "cq") d)) (λ cq.
-    bind_clean (base_of (get (codes "base") d)) (with_base d entries cq) (base_clean (get (codes "base") d)) (λ base.
-    bind_clean (threads_of (rounded entries) (get (codes "threads") d)) (with_threads d entries cq base) (threads_clean (rounded entries) (get (codes "threads") d)) (λ threads.
-    bind_clean (schedule_of (get (codes "schedule") d)) (with_schedule d entries cq base threads) (schedule_clean (get (codes "schedule") d)) (λ schedule. tt))))))
+    bind_clean (flag_of key.Sqpoll (get (codes "sqpoll") d)) (with_sqpoll d entries cq) (flag_clean key.Sqpoll (get (codes "sqpoll") d)) (λ sqpoll.
+    bind_clean (base_of (get (codes "base") d)) (with_base d entries cq sqpoll) (base_clean (get (codes "base") d)) (λ base.
+    bind_clean (threads_of (rounded entries) (get (codes "threads") d)) (with_threads d entries cq sqpoll base) (threads_clean (rounded entries) (get (codes "threads") d)) (λ threads.
+    bind_clean (schedule_of (get (codes "schedule") d)) (with_schedule d entries cq sqpoll base threads) (schedule_clean (get (codes "schedule") d)) (λ schedule. tt)))))))
 
 clean_is : {A : Type 0} → (r : Result A ScriptFault) → Clean r → r ≢ Err NotJson
 clean_is (Ok x) h e = absurd (cc)

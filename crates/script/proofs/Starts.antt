@@ -224,18 +224,18 @@ schedule_ok d es h =
 
 -- ---- the whole
 
-starts : (entries : ℕ) (cq : Option ℕ) (base : ℕ) (ts : List (List Instruction)) → is_between 1 4096 entries ≡ true → is_completion_size entries cq ≡ true → AreBuilt (rounded entries) ts → setup_refusal (setup_with entries cq base ts) ≡ None
-starts entries cq base ts e q b =
+starts : (entries : ℕ) (cq : Option ℕ) (sqpoll : Bool) (base : ℕ) (ts : List (List Instruction)) → is_between 1 4096 entries ≡ true → is_completion_size entries cq ≡ true → AreBuilt (rounded entries) ts → setup_refusal (setup_with entries cq sqpoll base ts) ≡ None
+starts entries cq sqpoll base ts e q b =
     let few = le_true (length ts) 16 b.few in
     rw (e, q, few, b.programs, b.built) refl
 
-pub startable : (entries size : ℕ) (cq : Option ℕ) (base : ℕ) (ts : List (List Instruction)) (es : List Event) (d1 d2 d4 d5 : Option Data) → Ok entries ≡ entries_of d1 → Ok cq ≡ cq_of entries d2 → size ≡ rounded entries → threads_of size d4 ≡ Ok ts → schedule_of d5 ≡ Ok es
-    → Startable (record { setup = setup_with entries cq base ts; schedule = es })
-startable entries size cq base ts es d1 d2 d4 d5 e q s t h =
+pub startable : (entries size : ℕ) (cq : Option ℕ) (sqpoll : Bool) (base : ℕ) (ts : List (List Instruction)) (es : List Event) (d1 d2 d4 d5 : Option Data) → Ok entries ≡ entries_of d1 → Ok cq ≡ cq_of entries d2 → size ≡ rounded entries → threads_of size d4 ≡ Ok ts → schedule_of d5 ≡ Ok es
+    → Startable (record { setup = setup_with entries cq sqpoll base ts; schedule = es })
+startable entries size cq sqpoll base ts es d1 d2 d4 d5 e q s t h =
     let built = threads_built (rounded entries) d4 ts (ap (λ n. threads_of n d4) (sym s) ∙ t) in
     let events = schedule_ok d5 es h in
     record {
-      setup = starts entries cq base ts (entries_ok d1 entries (sym e)) (cq_ok entries d2 cq (sym q)) built;
+      setup = starts entries cq sqpoll base ts (entries_ok d1 entries (sym e)) (cq_ok entries d2 cq (sym q)) built;
       events = events.0;
       transfers = events.1;
     }

@@ -1,9 +1,9 @@
 -- Which script a text is, or its first fault.
-use Rattle.std.specs.Prelude.{◌≡◌, ℕ, zero, ◌<◌, ◌≤◌, ◌||◌, nat_le, List, length, codes, Bool, if◌then◌else◌, Option, Some, None, Result, Ok, Err, IsUtf8, [], true, false}
+use Rattle.std.specs.Prelude.{◌≡◌, ℕ, zero, ◌<◌, ◌≤◌, ◌||◌, nat_le, List, length, codes, Bool, if◌then◌else◌, Option, Some, None, ok_or, Result, Ok, Err, IsUtf8, [], true, false}
 use Rattle.std.specs.List.{list_any}
 use Rattle.std.specs.Str.{bytes_eq}
 use Rattle.serde_json.specs.Data.{Data}
-use Rattle.serde_json.specs.Find.{get}
+use Rattle.serde_json.specs.Find.{get, as_bool}
 use Rattle.serde_json.specs.Read.{read}
 use Rattle.opcodes.specs.declared.choice.Choice.TheVariants.{Short}
 use Rattle.machine.specs.Setups.{setup_refusal}
@@ -12,9 +12,10 @@ use Rattle.machine.specs.declared.event.Event.{Event}
 use Rattle.machine.specs.declared.event.Event.TheVariants.{Finish}
 use Rattle.machine.specs.declared.setup.Instruction.{Instruction}
 use Rattle.machine.specs.declared.setup.Setup.{Setup}
+use Rattle.script.specs.declared.fault.Key.{Key}
 use Rattle.script.specs.declared.fault.Key.TheVariants as key
 use Rattle.script.specs.declared.fault.ScriptFault.{ScriptFault}
-use Rattle.script.specs.declared.fault.ScriptFault.TheVariants.{NotJson, Range, Limit}
+use Rattle.script.specs.declared.fault.ScriptFault.TheVariants.{NotJson, Shape, Range, Limit}
 use Rattle.script.specs.Faults.{◌>>=◌, at_key}
 use Rattle.script.specs.Lists.{listed, at_most, keyed, required}
 use Rattle.script.specs.Numbers.{number_between}
@@ -28,7 +29,7 @@ pub record Plan : Type 0 where
 
 abbrev pub is_script_key : List ℕ → Bool
 is_script_key k =
-    bytes_eq k (codes "entries") || bytes_eq k (codes "cq") || bytes_eq k (codes "base") || bytes_eq k (codes "threads")
+    bytes_eq k (codes "entries") || bytes_eq k (codes "cq") || bytes_eq k (codes "sqpoll") || bytes_eq k (codes "base") || bytes_eq k (codes "threads")
     || bytes_eq k (codes "schedule")
 
 abbrev pub entries_of : Option Data → Result ℕ ScriptFault
@@ -42,6 +43,11 @@ abbrev pub cq_of : ℕ → Option Data → Result (Option ℕ) ScriptFault
 cq_of entries None = Ok None
 cq_of entries (Some d) = number_between (at_key key.Cq) 1 8192 d >>= large_enough entries
 
+-- true or false; false where the key is missing
+abbrev pub flag_of : Key → Option Data → Result Bool ScriptFault
+flag_of k None = Ok false
+flag_of k (Some d) = ok_or (as_bool d) (Shape (at_key k))
+
 abbrev pub base_of : Option Data → Result ℕ ScriptFault
 base_of None = Ok 0
 base_of (Some d) = number_between (at_key key.Base) 0 4294967295 d
@@ -52,11 +58,11 @@ threads_of size d = required key.Threads d >>= listed (at_key key.Threads) >>= a
 abbrev pub schedule_of : Option Data → Result (List Event) ScriptFault
 schedule_of d = required key.Schedule d >>= listed (at_key key.Schedule) >>= at_most 65536 (at_key key.Schedule) event_at
 
-abbrev pub setup_with : ℕ → Option ℕ → ℕ → List (List Instruction) → Setup
-setup_with entries cq base threads = record {
+abbrev pub setup_with : ℕ → Option ℕ → Bool → ℕ → List (List Instruction) → Setup
+setup_with entries cq sqpoll base threads = record {
   entries = entries;
   cq = cq;
-  sqpoll = false;
+  sqpoll = sqpoll;
   submit_all = false;
   base = base;
   memory = [];
@@ -71,10 +77,11 @@ script_of d = do
   _ ← keyed is_script_key (at_key key.Document) d
   entries ← entries_of (get (codes "entries") d)
   cq ← cq_of entries (get (codes "cq") d)
+  sqpoll ← flag_of key.Sqpoll (get (codes "sqpoll") d)
   base ← base_of (get (codes "base") d)
   threads ← threads_of (rounded entries) (get (codes "threads") d)
   schedule ← schedule_of (get (codes "schedule") d)
-  Ok (record { setup = setup_with entries cq base threads; schedule = schedule })
+  Ok (record { setup = setup_with entries cq sqpoll base threads; schedule = schedule })
 
 abbrev pub limit : ℕ
 limit = 8388608

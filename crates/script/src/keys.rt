@@ -54,7 +54,10 @@ pub fn items_of(value: &Value, path: Path) -> Result<&[Value], ScriptFault>
 fn is_script_key(key: &str) -> bool
     ensures { result ≡ is_script_key key.now }
 {
-    matches!(key, "entries" | "cq" | "base" | "threads" | "schedule")
+    matches!(
+        key,
+        "entries" | "cq" | "sqpoll" | "base" | "threads" | "schedule"
+    )
 }
 
 fn is_entry_key(key: &str) -> bool

@@ -2,7 +2,7 @@
 ghost use Rattle.std.specs.Prelude.{◌≡◌, ◌≢◌, ◌≤◌, ◌<◌, ◌⊎◌, option_map, map, IfOk, IfErr};
 ghost use Rattle.serde_json.specs.View.{view};
 ghost use Rattle.script.specs.Faults.{Gives};
-ghost use Rattle.script.specs.Scripts.{entries_of, large_enough, cq_of, base_of, threads_of, schedule_of, script_of, Reads, IsNoJson};
+ghost use Rattle.script.specs.Scripts.{entries_of, large_enough, cq_of, flag_of, base_of, threads_of, schedule_of, script_of, Reads, IsNoJson};
 ghost use Rattle.ring_words.specs.Rings.{rounded};
 
 use crate::event::read_events;
@@ -42,6 +42,15 @@ fn read_cq(entries: u32, found: Option<&Value>) -> Result<Option<u32>, ScriptFau
     } else {
         Err(ScriptFault::Range(path))
     }
+}
+
+fn read_flag(key: Key, found: Option<&Value>) -> Result<bool, ScriptFault>
+    ensures { result ≡ flag_of key (option_map (λ v. view v.now) found.entry) }
+{
+    let Some(value) = found else {
+        return Ok(false);
+    };
+    value.as_bool().ok_or(ScriptFault::Shape(key_path(key)))
 }
 
 fn read_base(found: Option<&Value>) -> Result<u32, ScriptFault>
@@ -95,13 +104,14 @@ fn script_from(alloc: Global, value: &Value) -> Result<Script, ScriptFault>
     script_object(value, key_path(Key::Document))?;
     let entries = read_entries(value.get("entries"))?;
     let cq = read_cq(entries, value.get("cq"))?;
+    let sqpoll = read_flag(Key::Sqpoll, value.get("sqpoll"))?;
     let base = read_base(value.get("base"))?;
     let threads = read_threads(alloc, ring_size(entries), value.get("threads"))?;
     let schedule = read_schedule(alloc, value.get("schedule"))?;
     let setup = Setup {
         entries,
         cq,
-        sqpoll: false,
+        sqpoll,
         submit_all: false,
         base,
         memory: Items::new(alloc),
