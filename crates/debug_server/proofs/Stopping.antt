@@ -14,7 +14,7 @@ use Rattle.debug_server.specs.Schedules.{StopsBy, IsOfSchedule, fault_by, fault_
 
 pub stops_by_number : (setup : Setup) (es : List Event) (i : ℕ) (n : Refusal) → Stops (start setup) es i n → StopsBy setup es (fault_by i n)
 stops_by_number setup es i Memory s = tt
-stops_by_number setup es i n s = record { event = s.event; there = s.there; runs = s.runs; refused = elim s.refused [ inl e ↦ e | inr m ↦ absurd (cc) ] }
+stops_by_number setup es i n s = record { event = s.event; there = s.there; runs = s.runs; refused = elim s.refused [ inl e ↦ e | inr m ↦ absurd (let e = m.0 in cc) ] }
 
 pub stops_by : (setup : Setup) (es : List Event) (e : ExtendRefusal) → ((i : ℕ) (n : Refusal) → e ≡ Refused i n → Stops (start setup) es i n) → StopsBy setup es (fault_of e)
 stops_by setup es TraceFull h = tt

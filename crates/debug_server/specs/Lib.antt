@@ -5,3 +5,4 @@ pub mod Talks
 pub mod Pending
 pub mod Schedules
 pub mod Closing
+pub mod Faults

@@ -33,6 +33,15 @@ IsOfSchedule (Serve f) = ⊥
 IsOfSchedule Net = ⊥
 IsOfSchedule (Trace f) = ⊥
 
+-- a fault of walking a script: nothing listens there, and no trace is read
+abbrev pub IsOfWalk : RunFault → Type 0
+IsOfWalk (Script f) = Unit {0}
+IsOfWalk (Schedule i n) = Unit {0}
+IsOfWalk (Serve f) = Unit {0}
+IsOfWalk Memory = Unit {0}
+IsOfWalk Net = ⊥
+IsOfWalk (Trace f) = ⊥
+
 abbrev pub fault_by : ℕ → Refusal → RunFault
 fault_by i refusal.Memory = Memory
 fault_by i n = Schedule i n

@@ -126,8 +126,13 @@ impl fmt::Display for RunFault {
 }
 
 impl TraceFault {
+    ghost use Rattle.std.specs.Prelude.{◌≡◌};
+    ghost use Rattle.debug_server.specs.Faults.{number_of};
+
     /// Its number, 1 to 8.
-    pub fn number(&self) -> u32 {
+    pub fn number(&self) -> u32
+        ensures { result ≡ number_of self.now }
+    {
         match self {
             TraceFault::Magic => 1,
             TraceFault::Truncated => 2,

@@ -9,7 +9,7 @@ ghost use Rattle.script.specs.declared.fault.ScriptFault.{ScriptFault as Misread
 ghost use Rattle.debug_server.specs.declared.faults.ServeFault.{ServeFault as Serving};
 ghost use Rattle.debug_server.specs.declared.faults.ServeFault.TheVariants.{Closed};
 ghost use Rattle.debug_server.specs.Talks.{Served, Broke};
-ghost use Rattle.debug_server.specs.Schedules.{walk_over};
+ghost use Rattle.debug_server.specs.Schedules.{walk_over, IsOfWalk};
 
 use crate::faults::RunFault;
 use crate::serving::serve_lines;
@@ -37,6 +37,7 @@ pub fn walk<R: Read, W: Write>(
     ensures begins { IfErr result (λ e. (f : Serving) → e ≡ RunFault.Serve f → (p : Plan) × Reads text.now (Ok p)
         × Broke (walk_over p.setup p.schedule) (R.remaining reader.old) (R.remaining reader.new) (W.contents writer.old) (W.contents writer.new) []) }
     ensures open { result ≢ Err (RunFault.Serve Closed) }
+    ensures other { IfErr result IsOfWalk }
 {
     let script = match read_script(alloc, text) {
         Ok(script) => script,
@@ -65,6 +66,7 @@ fn walk_script<R: Read, W: Write>(
     ensures begins { IfErr result (λ e. (f : Serving) → e ≡ RunFault.Serve f
         → Broke (walk_over script.now.setup script.now.schedule) (R.remaining reader.old) (R.remaining reader.new) (W.contents writer.old) (W.contents writer.new) []) }
     ensures open { result ≢ Err (RunFault.Serve Closed) }
+    ensures other { IfErr result IsOfWalk }
 {
     let mut session = match Session::new(alloc, script) {
         Ok(session) => session,
