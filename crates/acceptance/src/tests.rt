@@ -1,0 +1,22 @@
+//! The run of one NOP through all layers.
+
+mod calls;
+mod devices;
+mod entering;
+mod failures;
+mod notes;
+mod records;
+mod sessions;
+mod shown;
+mod texts;
+
+/// One NOP with user_data 7: put, pushed, entered, issued, finished and reaped.
+const ONE_NOP: &str =
+    r#"{"entries":1,"threads":[[["put",0,{"op":0,"ud":7}],["push",0],["enter",1,0,0],["reap"]]],"schedule":[["step",0],["step",0],["step",0],["issue",0],["finish",0],["step",0]]}"#;
+
+/// Commands over it.
+const INPUT: &str = "where\nshow got 0\nshow last 0\ngoto 4\nshow cq.tail\nback 1\nshow row 0\n";
+
+/// What they are replied.
+const OUTPUT: &str =
+    "at 6 of 6\n07000000000000000000000000000000\n1\nat 4 of 6\n0\nat 3 of 6\nop 0 user 7 unit 0 queued\n";

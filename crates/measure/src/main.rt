@@ -1,0 +1,108 @@
+//! Large runs, built in process, walked both ways and timed: counts on standard output, times on standard error.
+#![tactic(auto)]
+
+mod fault;
+mod load;
+mod plan;
+
+use fault::Fault;
+use inverse_log::Walker;
+use load::{Load, load_of};
+use places::{Place, Record, Value};
+use plan::plan_of;
+use std::process::ExitCode;
+use std::rt::Clock;
+use std::time::Instant;
+use std::{env, io};
+
+// So many events in so many microseconds, on standard error.
+fn report(rt: &impl Eprint, what: &str, events: usize, micros: u128) -> io::Result<()> {
+    let rate = events as u128 * 1000000 / micros.max(1);
+    eprintln!(rt; "{what}: {events} events in {micros} us, {rate} a second")
+}
+
+// Adds the events: each is done once, its record kept, and undone once.
+fn add(rt: &(impl Eprint + Clock), walker: &mut Walker, load: &Load) -> Result<(), Fault> {
+    let start = Instant::now(rt)?;
+    walker.extend(&load.events)?;
+    let micros = start.elapsed(rt)?.as_micros();
+    report(rt, "extend, there and back", load.events.len(), micros)?;
+    Ok(())
+}
+
+// Goes to a moment, by single steps.
+fn go(
+    rt: &(impl Eprint + Clock),
+    walker: &mut Walker,
+    what: &str,
+    moment: usize,
+) -> Result<(), Fault> {
+    let steps = walker.at().abs_diff(moment);
+    let start = Instant::now(rt)?;
+    walker.goto(moment)?;
+    let micros = start.elapsed(rt)?.as_micros();
+    report(rt, what, steps, micros)?;
+    Ok(())
+}
+
+// What the records keep in memory, themselves included, in bytes.
+fn kept_bytes(records: &[Record]) -> usize {
+    let mut sum = 0usize;
+    for record in records {
+        sum = sum.saturating_add(record.kept_bytes());
+    }
+    sum
+}
+
+fn ended(walker: &Walker) -> u64 {
+    match walker.state().value(Place::Counted) {
+        Some(Value::Number(ended)) => ended,
+        _ => 0,
+    }
+}
+
+fn print_counts(rt: &(impl Print + Eprint), walker: &Walker) -> io::Result<()> {
+    let kept = kept_bytes(walker.records());
+    eprintln!(rt;
+        "records keep {kept} bytes, {} an event",
+        kept / walker.len().max(1)
+    )?;
+    println!(rt; "events {}", walker.len())?;
+    println!(rt; "position {}", walker.at())?;
+    println!(rt; "walked {}", walker.walked())?;
+    println!(rt; "ended {}", ended(walker))
+}
+
+// Adds the events, goes to the end, to the start and to the end again.
+fn measure(rt: &(impl Print + Eprint + Clock + AllocGlobal), load: &Load) -> Result<(), Fault> {
+    let mut walker = Walker::new(rt.alloc(), &load.setup)?;
+    add(rt, &mut walker, load)?;
+    let len = walker.len();
+    go(rt, &mut walker, "forward", len)?;
+    go(rt, &mut walker, "back", 0)?;
+    go(rt, &mut walker, "on again", len)?;
+    print_counts(rt, &walker)?;
+    Ok(())
+}
+
+fn main(rt: HostRuntime) -> io::Result<ExitCode> {
+    let alloc = rt.alloc();
+    let words: Vec<String> = env::args(&rt)?.collect(alloc)?;
+    let texts: Vec<&str> = words
+        .iter()
+        .skip(1)
+        .map(|word| word.as_str())
+        .collect(alloc)?;
+    let Some(plan) = plan_of(&texts) else {
+        eprintln!(rt; "measure nops N | measure overflow N | measure ticks N")?;
+        return Ok(ExitCode::from(2));
+    };
+    let load = load_of(alloc, plan)?;
+    match measure(&rt, &load) {
+        Ok(()) => Ok(ExitCode::SUCCESS),
+        Err(fault) => {
+            eprintln!(rt; "{fault}")?;
+            Ok(ExitCode::from(1))
+        }
+    }
+}

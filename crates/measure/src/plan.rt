@@ -1,0 +1,39 @@
+//! Which run is measured, and its size.
+ghost use Rattle.std.specs.Prelude.{◌≤◌, IfSome};
+ghost use Rattle.measure.specs.Plans.{HasLimits};
+
+/// The most events of NOP cycles: 16 programs of 1,365 cycles each.
+pub const MOST_NOP_EVENTS: u32 = 109200;
+
+/// The most NOPs that overflow: 16 programs of 4,095 pushes each.
+pub const MOST_OVERFLOWING: u32 = 65520;
+
+/// The most events of a trace.
+pub const MOST_TICKS: u32 = 1048576;
+
+/// A run.
+#[derive(Clone, Copy)]
+pub enum Plan {
+    /// So many events, five for each NOP: it is pushed, entered, issued, finished and reaped.
+    Nops(u32),
+    /// So many NOPs, all submitted before the first is issued: all completions but two are kept.
+    Overflow(u32),
+    /// So many ticks of the clock.
+    Ticks(u32),
+}
+
+/// Reads the words behind the program's name.
+pub fn plan_of(words: &[&str]) -> Option<Plan>
+    ensures { IfSome result HasLimits }
+{
+    let [name, size] = words else {
+        return None;
+    };
+    let size = size.parse::<u32>().ok()?;
+    match *name {
+        "nops" if size <= MOST_NOP_EVENTS => Some(Plan::Nops(size)),
+        "overflow" if size <= MOST_OVERFLOWING => Some(Plan::Overflow(size)),
+        "ticks" if size <= MOST_TICKS => Some(Plan::Ticks(size)),
+        _ => None,
+    }
+}
