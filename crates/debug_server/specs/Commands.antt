@@ -3,10 +3,10 @@ use Rattle.std.specs.Prelude.{ℕ, ◌==◌, List, [], ◌∷◌, length, codes,
 use Rattle.std.specs.List.{slice_split}
 use Rattle.std.specs.Str.{bytes_eq}
 use Rattle.places.specs.declared.place.Place.{Place}
-use Rattle.machine.specs.declared.setup.Setup.{Setup}
-use Rattle.machine.specs.declared.names.PlaceFault.{PlaceFault}
-use Rattle.machine.specs.declared.names.PlaceFault.TheVariants as missing
-use Rattle.machine.specs.Names.{number_of, place_named}
+use Rattle.scenario.specs.declared.setup.Setup.{Setup}
+use Rattle.scenario.specs.declared.names.PlaceFault.{PlaceFault}
+use Rattle.scenario.specs.declared.names.PlaceFault.TheVariants as missing
+use Rattle.scenario.specs.Names.{number_of, place_named}
 use Rattle.debug_server.specs.declared.commands.command.Command.{Command}
 use Rattle.debug_server.specs.declared.commands.command.Command.TheVariants.{Where, Show, Goto, Back, Quit}
 use Rattle.debug_server.specs.declared.commands.command.CommandFault.{CommandFault}

@@ -2,7 +2,7 @@
 use Rattle.std.specs.Prelude.{ℕ, ◌-◌, List, ◌++◌, length, codes, decimal, nat_le, Bool, true, false, if◌then◌else◌, Option, Some, None, Result, Ok, Err}
 use Rattle.places.specs.declared.value.Value.{Value}
 use Rattle.places.specs.Text.{value_text}
-use Rattle.machine.specs.declared.event.Event.{Event}
+use Rattle.scenario.specs.declared.event.Event.{Event}
 use Rattle.machine.specs.Whole.{view}
 use Rattle.inverse_log.specs.Walks.{Walk, here, jumped}
 use Rattle.debug_server.specs.declared.commands.command.Command.{Command}

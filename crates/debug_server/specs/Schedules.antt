@@ -1,9 +1,9 @@
 -- A schedule that runs from the start, where it stops, and what a walk can fail by.
 use Rattle.std.specs.Prelude.{ℕ, List, length}
-use Rattle.machine.specs.declared.setup.Setup.{Setup}
-use Rattle.machine.specs.declared.event.Event.{Event}
-use Rattle.machine.specs.declared.event.Refusal.{Refusal}
-use Rattle.machine.specs.declared.event.Refusal.TheVariants as refusal
+use Rattle.scenario.specs.declared.setup.Setup.{Setup}
+use Rattle.scenario.specs.declared.event.Event.{Event}
+use Rattle.scenario.specs.declared.event.Refusal.{Refusal}
+use Rattle.scenario.specs.declared.event.Refusal.TheVariants as refusal
 use Rattle.machine.specs.Runs.{IsRefused}
 use Rattle.inverse_log.specs.declared.refusal.ExtendRefusal.{ExtendRefusal}
 use Rattle.inverse_log.specs.declared.refusal.ExtendRefusal.TheVariants.{TraceFull, Refused}

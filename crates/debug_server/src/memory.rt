@@ -1,7 +1,7 @@
 //! A walk over memory.
 ghost use Rattle.std.specs.Prelude.{◌≡◌, ◌≢◌, ◌⊎◌, ◌++◌, List, ℕ, [], true, Ok, Err, IfOk, IfErr};
 ghost use Rattle.machine.specs.Runs.{IsRefused};
-ghost use Rattle.machine.specs.declared.event.Refusal.{Refusal as Denial};
+ghost use Rattle.scenario.specs.declared.event.Refusal.{Refusal as Denial};
 ghost use Rattle.script.specs.declared.fault.ScriptFault.{ScriptFault as Misread};
 ghost use Rattle.script.specs.Scripts.{Plan, Reads};
 ghost use Rattle.debug_server.specs.Lines.{lines_of};

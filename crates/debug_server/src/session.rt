@@ -1,8 +1,8 @@
 //! Sessions.
 ghost use Rattle.std.specs.Prelude.{◌≡◌, ◌≤◌, ℕ, length, false, option_map, IfOk, IfErr, OnOk, OnErr};
 ghost use Rattle.machine.specs.Runs.{start, Accepts, IsRefused};
-ghost use Rattle.machine.specs.declared.event.Refusal.{Refusal as Denial};
-ghost use Rattle.machine.specs.Setups.{setup_refusal};
+ghost use Rattle.scenario.specs.declared.event.Refusal.{Refusal as Denial};
+ghost use Rattle.scenario.specs.Setups.{setup_refusal};
 ghost use Rattle.debug_server.specs.Replies.{reply};
 ghost use Rattle.debug_server.specs.Schedules.{walk_over, IsOfSchedule, fault_of};
 

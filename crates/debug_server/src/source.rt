@@ -1,6 +1,6 @@
 //! Where the events of a live run come from.
 ghost use Rattle.std.specs.Prelude.{◌≡◌, IfOk, Option, List, None, option_map};
-ghost use Rattle.machine.specs.declared.event.Event.{Event as Happening};
+ghost use Rattle.scenario.specs.declared.event.Event.{Event as Happening};
 
 use machine::Event;
 use std::alloc::AllocError;

@@ -2,7 +2,7 @@
 ghost use Rattle.std.specs.Prelude.{◌≡◌, ◌≢◌, ℕ, Bool, [], Ok, Err, OnOk, IfErr};
 ghost use Rattle.std.specs.Io.KnownBytes.{Keeps};
 ghost use Rattle.machine.specs.Runs.{IsRefused};
-ghost use Rattle.machine.specs.declared.event.Refusal.{Refusal as Denial};
+ghost use Rattle.scenario.specs.declared.event.Refusal.{Refusal as Denial};
 ghost use Rattle.inverse_log.specs.Walks.{Walk};
 ghost use Rattle.script.specs.Scripts.{Plan, Reads};
 ghost use Rattle.script.specs.declared.fault.ScriptFault.{ScriptFault as Misread};

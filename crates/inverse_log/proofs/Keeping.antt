@@ -3,8 +3,8 @@ use Rattle.std.proofs.Common.{◌≡◌, ℕ, suc, ◌+◌, ◌-◌, ◌^◌, �
 use Rattle.std.proofs.lemmas.List.{take-take, length-take}
 use Rattle.places.specs.declared.value.Change.{Change}
 use Rattle.machine.specs.declared.whole.Machine.{Machine}
-use Rattle.machine.specs.declared.setup.Setup.{Setup}
-use Rattle.machine.specs.declared.event.Event.{Event}
+use Rattle.scenario.specs.declared.setup.Setup.{Setup}
+use Rattle.scenario.specs.declared.event.Event.{Event}
 use Rattle.machine.specs.Steps.{Next, after}
 use Rattle.machine.specs.Runs.{run, start, moment, Link, Linked}
 use Rattle.inverse_log.specs.Walks.{Keeps}

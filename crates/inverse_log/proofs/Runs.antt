@@ -3,10 +3,10 @@ use Rattle.std.proofs.Common.{◌≡◌, ℕ, zero, suc, ◌+◌, ◌<◌, List,
 use Rattle.std.specs.Prelude.{Option, Some, None, unwrap_or}
 use Rattle.places.specs.declared.value.Change.{Change}
 use Rattle.machine.specs.declared.whole.Machine.{Machine}
-use Rattle.machine.specs.declared.setup.Setup.{Setup}
-use Rattle.machine.specs.declared.event.Event.{Event}
-use Rattle.machine.specs.declared.event.Refusal.{Refusal}
-use Rattle.machine.specs.declared.event.Refusal.TheVariants.{Memory}
+use Rattle.scenario.specs.declared.setup.Setup.{Setup}
+use Rattle.scenario.specs.declared.event.Event.{Event}
+use Rattle.scenario.specs.declared.event.Refusal.{Refusal}
+use Rattle.scenario.specs.declared.event.Refusal.TheVariants.{Memory}
 use Rattle.machine.specs.Steps.{refusal, after}
 use Rattle.machine.specs.Runs.{run, Accepts, Link, Linked, IsRefused, start}
 use Rattle.inverse_log.specs.Walks.{Stops}

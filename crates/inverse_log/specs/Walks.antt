@@ -2,10 +2,10 @@
 use Rattle.std.specs.Prelude.{◌≡◌, ℕ, ◌+◌, ◌-◌, ◌^◌, ◌<◌, ◌≤◌, ◌⊎◌, min, List, [], ◌++◌, length, take, slice_get, Some, None}
 use Rattle.places.specs.declared.value.Change.{Change}
 use Rattle.machine.specs.declared.whole.Machine.{Machine}
-use Rattle.machine.specs.declared.setup.Setup.{Setup}
-use Rattle.machine.specs.declared.event.Event.{Event}
-use Rattle.machine.specs.declared.event.Refusal.{Refusal}
-use Rattle.machine.specs.declared.event.Refusal.TheVariants.{Memory}
+use Rattle.scenario.specs.declared.setup.Setup.{Setup}
+use Rattle.scenario.specs.declared.event.Event.{Event}
+use Rattle.scenario.specs.declared.event.Refusal.{Refusal}
+use Rattle.scenario.specs.declared.event.Refusal.TheVariants.{Memory}
 use Rattle.machine.specs.Steps.{refusal}
 use Rattle.machine.specs.Runs.{start, run, moment, Accepts, Linked}
 use Rattle.inverse_log.specs.declared.walker.Tally.{Tally}

@@ -1,8 +1,8 @@
 //! A walker through a run.
 ghost use Rattle.std.specs.Prelude.{◌≡◌, ℕ, ◌-◌, ◌+◌, ◌^◌, ◌<◌, ◌≤◌, ◌↔◌, ◌⊎◌, ◌∷◌, ◌++◌, [], Some, None, length, take, min, nat_lt, IsOk, OnOk, OnErr, IfErr, IfOk, IsErrOf};
-ghost use Rattle.machine.specs.declared.event.Event.{Event};
-ghost use Rattle.machine.specs.declared.event.Refusal.{Refusal};
-ghost use Rattle.machine.specs.declared.setup.SetupRefusal.{SetupRefusal};
+ghost use Rattle.scenario.specs.declared.event.Event.{Event};
+ghost use Rattle.scenario.specs.declared.event.Refusal.{Refusal};
+ghost use Rattle.scenario.specs.declared.setup.SetupRefusal.{SetupRefusal};
 ghost use Rattle.machine.specs.Steps.{refusal};
 ghost use Rattle.machine.specs.Runs.{start, moment, run, Accepts, Linked, setup_refusal};
 ghost use Rattle.inverse_log.specs.Walks.{tallied as tallied_by};

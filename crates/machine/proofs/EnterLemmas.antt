@@ -18,8 +18,8 @@ use Rattle.places.specs.declared.value.Stage.TheVariants.{Ready}
 use Rattle.machine.specs.Threads.{ThreadState}
 use Rattle.machine.specs.Whole.{WellFormed}
 use Rattle.machine.specs.declared.whole.Machine.{Machine}
-use Rattle.machine.specs.declared.event.Refusal.{Refusal}
-use Rattle.machine.specs.declared.event.Refusal.TheVariants.{WrongPhase}
+use Rattle.scenario.specs.declared.event.Refusal.{Refusal}
+use Rattle.scenario.specs.declared.event.Refusal.TheVariants.{WrongPhase}
 use Rattle.machine.proofs.TakingWords.{lt-ltb}
 
 -- nothing kept stands in the way of a submission, once there was a flush

@@ -28,15 +28,15 @@ use Rattle.links_drains.specs.Phases.{is_ended, counts}
 use Rattle.machine.specs.Submission.{offered, some_fails, taken_entries, einval, ebusy}
 use Rattle.machine.specs.Steps.{refusal, after, stepped, executed, entered, entered_alone, entered_beside, submitting, before_submission, is_busy, is_unknown, gets_events, wakes, woken, shown, awaited, ready_count, held_back, with_poller, flushed, submission_refusal, alone_refusal, enter_refusal, instruction_refusal, next_refusal, thread_refusal, take_refusal, issue_refusal, phase_refusal, finish_refusal, ended, taken, submitted, answered, gone_on}
 use Rattle.machine.specs.Threads.{ThreadState, program_of}
-use Rattle.machine.specs.Programs.{IsDone}
+use Rattle.scenario.specs.Programs.{IsDone}
 use Rattle.machine.specs.Whole.{is_asleep, flag_word, WellFormed, Stands}
-use Rattle.machine.specs.declared.setup.Instruction.{Instruction}
-use Rattle.machine.specs.declared.setup.Instruction.TheVariants.{Put, Push, Store, Enter, Reap, Close}
+use Rattle.scenario.specs.declared.setup.Instruction.{Instruction}
+use Rattle.scenario.specs.declared.setup.Instruction.TheVariants.{Put, Push, Store, Enter, Reap, Close}
 use Rattle.machine.specs.declared.whole.Machine.{Machine}
-use Rattle.machine.specs.declared.event.Event.{Event}
-use Rattle.machine.specs.declared.event.Event.TheVariants.{Step, Take, Sleep, Issue, Finish, Expire, Tick}
-use Rattle.machine.specs.declared.event.Refusal.{Refusal}
-use Rattle.machine.specs.declared.event.Refusal.TheVariants.{SqFull, NothingToReap, WrongPhase, ClockFull, RequestsFull}
+use Rattle.scenario.specs.declared.event.Event.{Event}
+use Rattle.scenario.specs.declared.event.Event.TheVariants.{Step, Take, Sleep, Issue, Finish, Expire, Tick}
+use Rattle.scenario.specs.declared.event.Refusal.{Refusal}
+use Rattle.scenario.specs.declared.event.Refusal.TheVariants.{SqFull, NothingToReap, WrongPhase, ClockFull, RequestsFull}
 use Rattle.machine.proofs.FormedThreads.{stands_on, stands_held, fits_count, formed_thread}
 use Rattle.machine.proofs.FormedMachines.{formed_ended, formed_issued, formed_flushed, wakeup_flag, formed_taken_all, formed_taken_last, formed_put, formed_push, formed_taken_out, length-offered, length-taken_entries}
 

@@ -9,8 +9,8 @@ use Rattle.places.specs.declared.value.Stage.{Stage}
 use Rattle.places.specs.declared.value.Stage.TheVariants.{Ready, Waiting}
 use Rattle.machine.specs.Threads.{ThreadState}
 use Rattle.machine.specs.Whole.{WellFormed, Stands, Waits}
-use Rattle.machine.specs.declared.setup.Instruction.{Instruction}
-use Rattle.machine.specs.declared.setup.Instruction.TheVariants.{Enter}
+use Rattle.scenario.specs.declared.setup.Instruction.{Instruction}
+use Rattle.scenario.specs.declared.setup.Instruction.TheVariants.{Enter}
 use Rattle.machine.specs.declared.whole.Machine.{Machine}
 
 -- an element of a changed list

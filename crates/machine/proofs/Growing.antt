@@ -17,11 +17,11 @@ use Rattle.machine.specs.Submission.{some_fails, taken_entries, einval, ebusy}
 use Rattle.machine.specs.Steps.{refusal, sleep_refusal, after, stepped, executed, entered, entered_alone, entered_beside, submitting, before_submission, is_busy, is_unknown, gets_events, wakes, woken, shown, awaited, ready_count, held_back, with_poller, posted, flushed, completions_of, ended, taken, submitted, answered}
 use Rattle.machine.specs.Threads.{ThreadState, program_of}
 use Rattle.machine.specs.Whole.{OneSetup, Grows}
-use Rattle.machine.specs.declared.setup.Instruction.{Instruction}
-use Rattle.machine.specs.declared.setup.Instruction.TheVariants.{Put, Push, Store, Enter, Reap, Close}
+use Rattle.scenario.specs.declared.setup.Instruction.{Instruction}
+use Rattle.scenario.specs.declared.setup.Instruction.TheVariants.{Put, Push, Store, Enter, Reap, Close}
 use Rattle.machine.specs.declared.whole.Machine.{Machine}
-use Rattle.machine.specs.declared.event.Event.{Event}
-use Rattle.machine.specs.declared.event.Event.TheVariants.{Step, Take, Sleep, Issue, Finish, Expire, Tick}
+use Rattle.scenario.specs.declared.event.Event.{Event}
+use Rattle.scenario.specs.declared.event.Event.TheVariants.{Step, Take, Sleep, Issue, Finish, Expire, Tick}
 use Rattle.machine.proofs.FormedThreads.{map_updated}
 use Rattle.machine.proofs.Restored.{setup_self, setup_then}
 

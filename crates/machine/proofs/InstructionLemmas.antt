@@ -3,11 +3,11 @@ use Rattle.std.proofs.Common.{◌≡◌, ℕ, refl, sym, ◌∙◌, ap, subst, L
 use Rattle.std.specs.Prelude.{Option, Some, None, slice_get}
 use Rattle.std.proofs.lemmas.Option.{slice_get_within}
 use Rattle.entries.specs.declared.entry.Sqe.{Sqe}
-use Rattle.machine.specs.Programs.{IsDone}
+use Rattle.scenario.specs.Programs.{IsDone}
 use Rattle.machine.specs.Threads.{ThreadState}
 use Rattle.machine.specs.Steps.{next_of}
 use Rattle.machine.specs.Whole.{WellFormed}
-use Rattle.machine.specs.declared.setup.Instruction.{Instruction}
+use Rattle.scenario.specs.declared.setup.Instruction.{Instruction}
 use Rattle.machine.specs.declared.whole.Machine.{Machine}
 
 -- the thread whose instruction comes next

@@ -14,4 +14,3 @@ pub mod Growing
 pub mod Formed
 pub mod Linking
 pub mod StartLemmas
-pub mod Numbers

@@ -11,7 +11,7 @@ use Rattle.machine.specs.Whole.{view, everywhere, Grows, WellFormed, GoesBack}
 use Rattle.machine.specs.Steps.{refusal, after, Next}
 use Rattle.machine.specs.Runs.{Link, Linked}
 use Rattle.machine.specs.declared.whole.Machine.{Machine}
-use Rattle.machine.specs.declared.event.Event.{Event}
+use Rattle.scenario.specs.declared.event.Event.{Event}
 use Rattle.machine.proofs.Growing.{grows_after}
 
 -- a link goes back

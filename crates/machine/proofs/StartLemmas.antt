@@ -15,16 +15,16 @@ use Rattle.ring_words.specs.Rings.{rounded, first_not_below, sizes, zero_entry, 
 use Rattle.ring_words.proofs.Order.{waiting_none}
 use Rattle.ring_words.proofs.Sizes.{rounded_size, size_most}
 use Rattle.ring_words.proofs.Laws.{formed_sub_start, formed_com_start}
-use Rattle.machine.specs.Programs.{HasWidths, HaveWidths, IsDone, IsProgram}
+use Rattle.scenario.specs.Programs.{HasWidths, HaveWidths, IsDone, IsProgram}
 use Rattle.machine.specs.Threads.{ThreadState, thread_start}
-use Rattle.machine.specs.Setups.{setup_refusal, has_ring_sizes, is_between, is_completion_size, has_programs, is_program, has_slot, is_unbuilt, asks_for_unbuilt, is_some_list}
+use Rattle.scenario.specs.Setups.{setup_refusal, has_ring_sizes, is_between, is_completion_size, has_programs, is_program, has_slot, is_unbuilt, asks_for_unbuilt, is_some_list}
 use Rattle.places.specs.declared.value.Stage.TheVariants.{Ready, Waiting}
 use Rattle.machine.specs.Whole.{is_asleep, flag_word, WellFormed, Stands}
 use Rattle.machine.specs.Runs.{first_poller, start, completion_entries}
-use Rattle.machine.specs.declared.setup.Instruction.{Instruction}
-use Rattle.machine.specs.declared.setup.Instruction.TheVariants.{Put, Push, Store, Enter, Reap, Close}
-use Rattle.machine.specs.declared.setup.Setup.{Setup}
-use Rattle.machine.specs.declared.setup.SetupRefusal.TheVariants.{RingSize, Limit}
+use Rattle.scenario.specs.declared.setup.Instruction.{Instruction}
+use Rattle.scenario.specs.declared.setup.Instruction.TheVariants.{Put, Push, Store, Enter, Reap, Close}
+use Rattle.scenario.specs.declared.setup.Setup.{Setup}
+use Rattle.scenario.specs.declared.setup.SetupRefusal.TheVariants.{RingSize, Limit}
 
 both_true : (a b : Bool) → (a && b) ≡ true → (a ≡ true) × (b ≡ true)
 both_true true b h = (refl, h)
@@ -48,21 +48,6 @@ below_on {X} P xs i y at p below j x l h = by (order i j)
 
 pub all_below : {X : Type 0} (P : X → Type 0) (xs : List X) (i : ℕ) → length xs ≤ i → ((j : ℕ) (x : X) → j < i → slice_get xs j ≡ Some x → P x) → (j : ℕ) (x : X) → slice_get xs j ≡ Some x → P x
 all_below P xs i l below j x h = let w = slice_get_within xs j x h in below j x (omega (arith, w, l)) h
-
--- ---- sizes
-
-first_most : (n : ℕ) (xs : List ℕ) → list_all (λ x. leb x 8192) xs ≡ true → first_not_below n xs ≤ 8192
-first_most n [] h = omega arith
-first_most n (x ∷ xs) h = by (ltb x n) (leb x 8192) refl h (λ k. first_most n xs k)
-  where
-    by : (b c : Bool) → leb x 8192 ≡ c → (c && list_all (λ y. leb y 8192) xs) ≡ true → (list_all (λ y. leb y 8192) xs ≡ true → first_not_below n xs ≤ 8192) → cond b (first_not_below n xs) x ≤ 8192
-    by b false e k f = absurd cc
-    by true true e k f = f k
-    by false true e k f = grind (arith, nat_tests)
-
-pub rounded_most : (n : ℕ) → rounded n ≤ 8192
-unfolding rounded
-rounded_most n = first_most n sizes refl
 
 -- ---- elements of lists that pass a test
 

@@ -18,8 +18,8 @@ use Rattle.machine.specs.Submission.{offered, passes_at, some_fails, taken_words
 use Rattle.machine.specs.Steps.{submission_refusal, taken_by, taken, submitted, ended}
 use Rattle.machine.specs.Whole.{WellFormed}
 use Rattle.machine.specs.declared.whole.Machine.{Machine}
-use Rattle.machine.specs.declared.event.Refusal.{Refusal}
-use Rattle.machine.specs.declared.event.Refusal.TheVariants.{RequestsFull}
+use Rattle.scenario.specs.declared.event.Refusal.{Refusal}
+use Rattle.scenario.specs.declared.event.Refusal.TheVariants.{RequestsFull}
 use Rattle.machine.proofs.TakingWords.{prefix_most, fails_told, take_least, one_more, entries-named}
 
 pub ltb_not : (a b : ℕ) → b ≤ a → ltb a b ≡ false

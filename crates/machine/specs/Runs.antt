@@ -2,25 +2,20 @@
 use Rattle.std.specs.Prelude.{◌≡◌, ◌*◌, ℕ, Bool, true, false, Option, Some, None, List, [], ◌∷◌, length, map, take, slice_get}
 use Rattle.places.specs.declared.value.Change.{Change}
 use Rattle.places.specs.View.{LeadsBack}
-use Rattle.ring_words.specs.Rings.{rounded, sub_start, com_start}
+use Rattle.ring_words.specs.Rings.{sub_start, com_start}
 use Rattle.overflow.specs.Backlogs.{backlog_start}
 use Rattle.sqpoll.specs.declared.poller.Poller.{Poller}
 use Rattle.sqpoll.specs.declared.poller.Poller.TheVariants.{Awake}
-pub use Rattle.machine.specs.Setups.{setup_refusal}
+pub use Rattle.scenario.specs.Setups.{setup_refusal, completion_entries}
 use Rattle.machine.specs.Threads.{ThreadState, thread_start}
 use Rattle.machine.specs.Whole.{view, WellFormed}
 use Rattle.machine.specs.Steps.{refusal, after, Next}
-use Rattle.machine.specs.declared.setup.Setup.{Setup}
+use Rattle.scenario.specs.declared.setup.Setup.{Setup}
 use Rattle.machine.specs.declared.whole.Machine.{Machine}
-use Rattle.machine.specs.declared.event.Event.{Event}
-use Rattle.machine.specs.declared.event.Refusal.{Refusal}
+use Rattle.scenario.specs.declared.event.Event.{Event}
+use Rattle.scenario.specs.declared.event.Refusal.{Refusal}
 
 -- ---- the start
-
--- the completion entries that a setup asks for: twice the rounded submission entries, unless it says so (io_uring_setup(2))
-abbrev pub completion_entries : ℕ → Option ℕ → ℕ
-completion_entries entries None = 2 * rounded entries
-completion_entries entries (Some n) = n
 
 -- the poller that a setup starts with, if it has one (IORING_SETUP_SQPOLL)
 abbrev pub first_poller : Bool → Option Poller

@@ -9,7 +9,7 @@ use Rattle.places.specs.declared.place.Place.TheVariants.{ProgramCounter, Thread
 use Rattle.places.specs.declared.value.Value.{Value}
 use Rattle.places.specs.declared.value.Value.TheVariants.{Number, Signed, Staged, Reaped}
 use Rattle.places.specs.View.{View}
-use Rattle.machine.specs.declared.setup.Instruction.{Instruction}
+use Rattle.scenario.specs.declared.setup.Instruction.{Instruction}
 
 -- a thread: its program, the index of its next instruction, what it does next, what its last Enter or Close answered, what it reaped last
 pub record ThreadState : Type 0 where

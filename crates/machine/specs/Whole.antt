@@ -15,8 +15,8 @@ use Rattle.links_drains.specs.Phases.{is_unfinished, counted_of, ended_of}
 use Rattle.overflow.specs.Backlogs.{BacklogState, is_clear, backlog_seen, backlog_can_put}
 use Rattle.sqpoll.specs.declared.poller.Poller.{Poller}
 use Rattle.sqpoll.specs.Pollers.{is_awake, poller_seen}
-use Rattle.machine.specs.Programs.{IsProgram}
-use Rattle.machine.specs.declared.setup.Instruction.TheVariants.{Enter}
+use Rattle.scenario.specs.Programs.{IsProgram}
+use Rattle.scenario.specs.declared.setup.Instruction.TheVariants.{Enter}
 use Rattle.machine.specs.Threads.{ThreadState, program_of, threads_seen, threads_can_put}
 use Rattle.machine.specs.declared.whole.Machine.{Machine}
 

@@ -4,7 +4,7 @@ ghost use Rattle.places.specs.View.{Keeps};
 ghost use Rattle.machine.specs.Steps.{executed, instruction_refusal, alone_refusal, next_of, flushed, before_submission, woken, shown, awaited, entered_beside, entered_alone, with_poller};
 ghost use Rattle.machine.specs.Threads.{ThreadState};
 ghost use Rattle.machine.specs.Whole.{view, everywhere, Grows, WellFormed};
-ghost use Rattle.machine.specs.declared.setup.Instruction.TheVariants.{Enter};
+ghost use Rattle.scenario.specs.declared.setup.Instruction.TheVariants.{Enter};
 
 use crate::whole::Machine;
 use opcodes::{EBUSY, EINVAL};

@@ -4,7 +4,7 @@ ghost use Rattle.places.specs.declared.place.Place.{Place};
 ghost use Rattle.machine.specs.Whole.{view, OneSetup, WellFormed};
 ghost use Rattle.machine.specs.Steps.{refusal, after};
 ghost use Rattle.machine.specs.declared.whole.Machine.{Machine};
-ghost use Rattle.machine.specs.declared.event.Event.{Event};
+ghost use Rattle.scenario.specs.declared.event.Event.{Event};
 
 /// Machines of one setup are one where they show the same in each place.
 pub fn shown_alike()

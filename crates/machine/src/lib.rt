@@ -1,15 +1,11 @@
-//! The machine: rings, rows, threads, and the events that change them.
+//! The machine: rings, rows, threads, and what events change of them.
 #![tactic(auto)]
 
 mod entering;
-pub mod event;
 pub mod laws;
-pub mod limits;
-pub mod names;
 mod performing;
 mod refusing;
 mod restoring;
-pub mod setup;
 mod starting;
 pub mod state;
 mod stepping;
@@ -17,8 +13,8 @@ mod submitting;
 pub mod threads;
 pub mod whole;
 
-pub use event::{Event, Refusal};
-pub use limits::{ring_size, setup_refusal};
-pub use names::{PlaceFault, place_of, read_number};
-pub use setup::{Instruction, Setup, SetupRefusal};
+pub use scenario::{
+    Event, Instruction, PlaceFault, Refusal, Setup, SetupRefusal, place_of, read_number, ring_size,
+    setup_refusal,
+};
 pub use state::State;

@@ -3,10 +3,10 @@ ghost use Rattle.std.specs.Prelude.{◌≡◌, ◌≤◌, OnOk, None, length};
 ghost use Rattle.places.specs.View.{Keeps};
 ghost use Rattle.machine.specs.Steps.{after, refusal, submission_refusal, submitted};
 ghost use Rattle.machine.specs.Whole.{view, everywhere, Grows, WellFormed};
-ghost use Rattle.machine.specs.declared.event.Event.TheVariants.{Tick, Issue, Finish, Step};
+ghost use Rattle.scenario.specs.declared.event.Event.TheVariants.{Tick, Issue, Finish, Step};
 
-use crate::event::Event;
-use crate::setup::Instruction;
+use scenario::Event;
+use scenario::Instruction;
 use crate::whole::Machine;
 use entries::Phase;
 use opcodes::Choice;

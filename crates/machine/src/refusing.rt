@@ -4,8 +4,8 @@ ghost use Rattle.ring_words.specs.Rings.{sub_list};
 ghost use Rattle.machine.specs.Steps.{refusal, next_refusal, instruction_refusal, enter_refusal, alone_refusal, submission_refusal, take_refusal, sleep_refusal, finish_refusal, choice_refusal, is_busy, flushed};
 ghost use Rattle.machine.specs.Submission.{offered};
 
-use crate::event::{Event, Refusal};
-use crate::setup::Instruction;
+use scenario::{Event, Refusal};
+use scenario::Instruction;
 use crate::whole::Machine;
 use entries::Phase;
 use opcodes::{Choice, is_timer};

@@ -1,12 +1,11 @@
 //! The machine that a setup starts with.
 ghost use Rattle.std.specs.Prelude.{◌≡◌, ℕ, IfOk, Some, map, slice_get};
-ghost use Rattle.machine.specs.Programs.{HasWidths, HaveWidths};
+ghost use Rattle.scenario.specs.Programs.{HasWidths, HaveWidths};
 ghost use Rattle.machine.specs.Threads.{thread_start};
-ghost use Rattle.machine.specs.declared.setup.Instruction.{Instruction};
-ghost use Rattle.machine.specs.Runs.{start, completion_entries as entries_for};
+ghost use Rattle.scenario.specs.declared.setup.Instruction.{Instruction};
+ghost use Rattle.machine.specs.Runs.{start};
 
-use crate::limits::ring_size;
-use crate::setup::{Instruction, Setup};
+use scenario::{Instruction, Setup, completion_entries};
 use crate::threads::{Thread, Threads};
 use crate::whole::Machine;
 use links_drains::Table;
@@ -59,15 +58,6 @@ impl Machine {
             clock: self.clock,
             counted: self.counted,
         })
-    }
-}
-
-fn completion_entries(entries: u32, cq: Option<u32>) -> u32
-    ensures { result ≡ entries_for entries cq }
-{
-    match cq {
-        Some(n) => n,
-        None => 2 * ring_size(entries),
     }
 }
 

@@ -1,8 +1,8 @@
 //! The state of a run.
 
-use crate::event::{Event, Refusal};
-use crate::limits;
-use crate::setup::{Setup, SetupRefusal};
+use scenario::{Event, Refusal};
+use scenario::setup_refusal;
+use scenario::{Setup, SetupRefusal};
 use crate::whole::Machine;
 use places::{At, Marks, Place, Record, Recorder, Value};
 use std::alloc::{AllocError, Global};
@@ -35,12 +35,12 @@ impl State {
     ghost use Rattle.machine.specs.Whole.{view, WellFormed};
     ghost use Rattle.machine.specs.Steps.{Next, refusal};
     ghost use Rattle.machine.specs.Runs.{start, Link, Linked};
-    ghost use Rattle.machine.specs.Setups.{setup_refusal};
-    ghost use Rattle.machine.specs.declared.setup.SetupRefusal.{SetupRefusal};
-    ghost use Rattle.machine.specs.declared.setup.SetupRefusal.TheVariants.{Memory as OutOfMemory};
-    ghost use Rattle.machine.specs.declared.event.Event.{Event};
-    ghost use Rattle.machine.specs.declared.event.Refusal.{Refusal};
-    ghost use Rattle.machine.specs.declared.event.Refusal.TheVariants.{Memory};
+    ghost use Rattle.scenario.specs.Setups.{setup_refusal};
+    ghost use Rattle.scenario.specs.declared.setup.SetupRefusal.{SetupRefusal};
+    ghost use Rattle.scenario.specs.declared.setup.SetupRefusal.TheVariants.{Memory as OutOfMemory};
+    ghost use Rattle.scenario.specs.declared.event.Event.{Event};
+    ghost use Rattle.scenario.specs.declared.event.Refusal.{Refusal};
+    ghost use Rattle.scenario.specs.declared.event.Refusal.TheVariants.{Memory};
     ghost use Rattle.machine.specs.declared.whole.Machine.{Machine};
 
     /// The start of a setup. A setup that has none is refused by its first fault, whether or not there is
@@ -50,7 +50,7 @@ impl State {
         ensures refused { (r : SetupRefusal) → setup_refusal setup.now ≡ Some r → result ≡ Err r }
         ensures only_memory { IfErr result (λ r. setup_refusal setup.now ≡ None → r ≡ OutOfMemory) }
     {
-        if let Some(r) = limits::setup_refusal(setup) {
+        if let Some(r) = setup_refusal(setup) {
             return Err(r);
         }
         match Machine::new(alloc, setup) {

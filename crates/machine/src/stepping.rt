@@ -3,7 +3,7 @@ ghost use Rattle.std.specs.Prelude.{◌≡◌, ◌≤◌, OnOk, None, Some, leng
 ghost use Rattle.places.specs.View.{Keeps};
 ghost use Rattle.machine.specs.Steps.{executed, instruction_refusal, next_of};
 ghost use Rattle.machine.specs.Whole.{view, everywhere, Grows, WellFormed};
-ghost use Rattle.machine.specs.declared.setup.Instruction.TheVariants.{Put, Push, Reap};
+ghost use Rattle.scenario.specs.declared.setup.Instruction.TheVariants.{Put, Push, Reap};
 
 use crate::whole::Machine;
 use entries::Sqe;

@@ -5,8 +5,8 @@ use Rattle.serde_json.specs.Data.{Data, null, boolean, number, string, array, ob
 use Rattle.serde_json.specs.Find.{get, as_bool}
 use Rattle.serde_json.specs.Read.{read}
 use Rattle.ring_words.specs.Rings.{rounded}
-use Rattle.machine.specs.declared.event.Event.{Event}
-use Rattle.machine.specs.declared.setup.Instruction.{Instruction}
+use Rattle.scenario.specs.declared.event.Event.{Event}
+use Rattle.scenario.specs.declared.setup.Instruction.{Instruction}
 use Rattle.script.specs.declared.fault.Key.{Key}
 use Rattle.script.specs.declared.fault.Key.TheVariants as key
 use Rattle.script.specs.declared.fault.Path.{Path}

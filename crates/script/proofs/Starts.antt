@@ -5,11 +5,11 @@ use Rattle.std.specs.List.{list_all, list_any}
 use Rattle.std.proofs.lemmas.Bool.Decides.{nat_tests}
 use Rattle.serde_json.specs.Data.{Data}
 use Rattle.opcodes.specs.declared.choice.Choice.{Choice}
-use Rattle.machine.specs.declared.event.Event.{Event}
-use Rattle.machine.specs.declared.setup.Instruction.{Instruction}
-use Rattle.machine.specs.declared.setup.Instruction.TheVariants.{Put, Push, Enter, Reap}
+use Rattle.scenario.specs.declared.event.Event.{Event}
+use Rattle.scenario.specs.declared.setup.Instruction.{Instruction}
+use Rattle.scenario.specs.declared.setup.Instruction.TheVariants.{Put, Push, Enter, Reap}
 use Rattle.ring_words.specs.Rings.{rounded}
-use Rattle.machine.specs.Setups.{is_between, is_completion_size, has_slot, is_program, is_unbuilt, setup_refusal}
+use Rattle.scenario.specs.Setups.{is_between, is_completion_size, has_slot, is_program, is_unbuilt, setup_refusal}
 use Rattle.script.specs.declared.fault.Path.{Path}
 use Rattle.script.specs.declared.fault.ScriptFault.{ScriptFault}
 use Rattle.script.specs.declared.fault.Key.TheVariants as key

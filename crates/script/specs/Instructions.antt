@@ -2,8 +2,8 @@
 use Rattle.std.specs.Prelude.{ℕ, List, [], ◌∷◌, codes, if◌then◌else◌, Option, Some, None, option_map, Result}
 use Rattle.std.specs.Str.{bytes_eq}
 use Rattle.serde_json.specs.Data.{Data, string}
-use Rattle.machine.specs.declared.setup.Instruction.{Instruction}
-use Rattle.machine.specs.declared.setup.Instruction.TheVariants.{Put, Push, Enter, Reap}
+use Rattle.scenario.specs.declared.setup.Instruction.{Instruction}
+use Rattle.scenario.specs.declared.setup.Instruction.TheVariants.{Put, Push, Enter, Reap}
 use Rattle.script.specs.declared.fault.Key.TheVariants as key
 use Rattle.script.specs.declared.fault.ScriptFault.{ScriptFault}
 use Rattle.script.specs.declared.instruction.InstructionForm.{InstructionForm}

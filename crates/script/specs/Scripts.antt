@@ -6,12 +6,12 @@ use Rattle.serde_json.specs.Data.{Data}
 use Rattle.serde_json.specs.Find.{get, as_bool}
 use Rattle.serde_json.specs.Read.{read}
 use Rattle.opcodes.specs.declared.choice.Choice.TheVariants.{Short}
-use Rattle.machine.specs.Setups.{setup_refusal}
+use Rattle.scenario.specs.Setups.{setup_refusal}
 use Rattle.ring_words.specs.Rings.{rounded}
-use Rattle.machine.specs.declared.event.Event.{Event}
-use Rattle.machine.specs.declared.event.Event.TheVariants.{Finish}
-use Rattle.machine.specs.declared.setup.Instruction.{Instruction}
-use Rattle.machine.specs.declared.setup.Setup.{Setup}
+use Rattle.scenario.specs.declared.event.Event.{Event}
+use Rattle.scenario.specs.declared.event.Event.TheVariants.{Finish}
+use Rattle.scenario.specs.declared.setup.Instruction.{Instruction}
+use Rattle.scenario.specs.declared.setup.Setup.{Setup}
 use Rattle.script.specs.declared.fault.Key.{Key}
 use Rattle.script.specs.declared.fault.Key.TheVariants as key
 use Rattle.script.specs.declared.fault.ScriptFault.{ScriptFault}

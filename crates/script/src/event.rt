@@ -8,7 +8,7 @@ ghost use Rattle.script.specs.Events.{event_of_number, choice_by, choice_words, 
 use crate::fault::{Key, ScriptFault};
 use crate::keys::item_path;
 use crate::number::{Whole, between, long, whole_of, word};
-use machine::Event;
+use scenario::Event;
 use opcodes::Choice;
 use serde_json::Value;
 use std::alloc::Global;

@@ -8,7 +8,7 @@ use crate::entry::{EntryForm, entry_form, entry_in_range};
 use crate::fault::{Key, ScriptFault};
 use crate::keys::inner_path;
 use crate::number::{Whole, whole_of, word};
-use machine::Instruction;
+use scenario::Instruction;
 use serde_json::Value;
 
 /// An instruction, before the ranges of its numbers are tested.

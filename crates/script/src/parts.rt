@@ -2,7 +2,7 @@
 ghost use Rattle.std.specs.Prelude.{◌≡◌};
 ghost use Rattle.script.specs.Scripts.{Startable};
 
-use machine::{Event, Setup};
+use scenario::{Event, Setup};
 use places::Items;
 use std::marker::Model;
 

@@ -11,7 +11,7 @@ use crate::keys::{items_of, key_path, script_object};
 use crate::number::number_between;
 use crate::parts::Script;
 use crate::threads::read_thread_list;
-use machine::{Event, Instruction, Setup, ring_size};
+use scenario::{Event, Instruction, Setup, ring_size};
 use places::Items;
 use serde_json::Value;
 use std::alloc::Global;

@@ -1,5 +1,5 @@
 use super::*;
-use machine::{Event, Instruction};
+use scenario::{Event, Instruction};
 use opcodes::Choice;
 use std::alloc::Global;
 use std::test::Fail;

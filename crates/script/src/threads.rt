@@ -8,7 +8,7 @@ ghost use Rattle.script.specs.Instructions.{instruction_at, thread_at};
 use crate::fault::{Key, ScriptFault};
 use crate::instruction::read_instruction;
 use crate::keys::{item_path, items_of};
-use machine::Instruction;
+use scenario::Instruction;
 use places::Items;
 use serde_json::Value;
 use std::alloc::Global;

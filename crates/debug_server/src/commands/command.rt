@@ -1,6 +1,6 @@
 //! Commands, and what can be wrong with a line.
 ghost use Rattle.std.specs.Prelude.{◌≡◌, map, IfOk};
-ghost use Rattle.machine.specs.Names.{place_named};
+ghost use Rattle.scenario.specs.Names.{place_named};
 ghost use Rattle.debug_server.specs.Commands.{showing, command_of_words, command_of};
 
 use super::verb::{Verb, parse_verb};

@@ -1,6 +1,6 @@
 use Rattle.std.proofs.Common.{refl}
 use Rattle.std.proofs.lemmas.Option.{slice_get_read}
-use Rattle.machine.specs.Programs.{HasWidths}
+use Rattle.scenario.specs.Programs.{HasWidths}
 use Rattle.machine.proofs.StartLemmas.{below_on, all_below, copied_on}
 use Rattle.machine.proofs.starting.start_thread.Goals as goal
 

@@ -1,7 +1,7 @@
 use Rattle.std.proofs.Common.{◌≡◌, ℕ, ◌<◌, take}
 use Rattle.std.specs.Prelude.{Some, slice_get}
-use Rattle.machine.specs.Programs.{HasWidths}
-use Rattle.machine.specs.declared.setup.Instruction.{Instruction}
+use Rattle.scenario.specs.Programs.{HasWidths}
+use Rattle.scenario.specs.declared.setup.Instruction.{Instruction}
 use Rattle.machine.proofs.starting.start_thread.Given as goal
 
 abbrev pub invariant-loop-instruction : goal.invariant-loop-instruction

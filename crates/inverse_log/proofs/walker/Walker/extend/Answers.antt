@@ -1,7 +1,7 @@
 use Rattle.std.proofs.Common.{◌≡◌, ◌<◌, ℕ, length, arith, subst}
 use Rattle.std.proofs.lemmas.Bool.Decides.{nat_tests}
-use Rattle.machine.specs.declared.event.Refusal.{Refusal}
-use Rattle.machine.specs.declared.event.Refusal.TheVariants.{Memory}
+use Rattle.scenario.specs.declared.event.Refusal.{Refusal}
+use Rattle.scenario.specs.declared.event.Refusal.TheVariants.{Memory}
 use Rattle.inverse_log.specs.Walks.{ending, Stops}
 use Rattle.inverse_log.proofs.Pushing.{no_memory}
 use Rattle.inverse_log.proofs.walker.Walker.extend.Goals as goal

@@ -1,6 +1,6 @@
 use Rattle.std.proofs.Common.{◌≡◌, ◌<◌, ◌^◌, sym, subst, ◌∙◌, rules}
 use Rattle.std.specs.Prelude.{None}
-use Rattle.machine.specs.Setups.{setup_refusal}
+use Rattle.scenario.specs.Setups.{setup_refusal}
 use Rattle.machine.specs.Whole.{WellFormed}
 use Rattle.machine.proofs.StartLemmas.{formed_start}
 use Rattle.machine.proofs.state.State.new.Goals as goal

@@ -1,5 +1,5 @@
 use Rattle.std.proofs.Common.{subst}
-use Rattle.machine.specs.Programs.{IsDone}
+use Rattle.scenario.specs.Programs.{IsDone}
 use Rattle.machine.proofs.InstructionLemmas.{is_done, comes_next}
 use Rattle.machine.proofs.whole.Machine.step_thread.Goals as goal
 

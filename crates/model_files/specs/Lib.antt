@@ -1,0 +1,4 @@
+pub mod Objects
+pub mod Files
+pub mod Pipes
+pub mod Worlds

@@ -1,0 +1,126 @@
+-- Which setups a run can start from (io_uring_setup(2)).
+use Rattle.std.specs.Prelude.{ℕ, ◌+◌, ◌*◌, ◌-◌, ◌^◌, List, [], ◌∷◌, length, slice_get, Bool, true, false, not, ◌&&◌, ◌||◌, ◌==◌, nat_lt, nat_le, if◌then◌else◌, Option, Some, None}
+use Rattle.std.specs.List.{list_all, list_any}
+use Rattle.std.specs.Option.{option_map_or}
+use Rattle.std.specs.Str.{bytes_eq}
+use Rattle.places.specs.declared.object.Contents.{Contents}
+use Rattle.places.specs.declared.object.Contents.TheVariants.{File, Pipe, EventFd}
+use Rattle.places.specs.declared.object.Descriptor.{Descriptor}
+use Rattle.places.specs.declared.object.End.{End}
+use Rattle.places.specs.declared.object.End.TheVariants.{Whole, Read, Write}
+use Rattle.places.specs.declared.object.Object.{Object}
+use Rattle.ring_words.specs.Rings.{rounded}
+use Rattle.scenario.specs.declared.setup.Instruction.{Instruction}
+use Rattle.scenario.specs.declared.setup.Instruction.TheVariants.{Put, Store, Close}
+use Rattle.scenario.specs.declared.setup.Setup.{Setup}
+use Rattle.scenario.specs.declared.setup.SetupRefusal.{SetupRefusal}
+use Rattle.scenario.specs.declared.setup.SetupRefusal.TheVariants.{RingSize, Limit}
+
+abbrev pub is_between : ℕ → ℕ → ℕ → Bool
+is_between low high n = nat_le low n && nat_le n high
+
+-- ---- rings
+
+-- the completion entries that a setup asks for: twice the rounded submission entries, unless it says so
+abbrev pub completion_entries : ℕ → Option ℕ → ℕ
+completion_entries entries None = 2 * rounded entries
+completion_entries entries (Some n) = n
+
+-- a completion ring of at least as many places as the submission ring; the default has twice as many
+abbrev pub is_completion_size : ℕ → Option ℕ → Bool
+is_completion_size entries None = true
+is_completion_size entries (Some cq) = is_between 1 8192 cq && nat_le (rounded entries) (rounded cq)
+
+abbrev pub has_ring_sizes : Setup → Bool
+has_ring_sizes s = is_between 1 4096 s.entries && is_completion_size s.entries s.cq
+
+-- ---- threads
+
+-- whether a thread can do an instruction: a slot is one of the ring's, and stored bytes are few enough and lie within the memory
+abbrev pub is_instruction : ℕ → Instruction → Bool
+is_instruction size (Put slot entry) = nat_lt slot size
+is_instruction size (Store address bytes) = nat_le (length bytes) 4096 && nat_le (address + length bytes) 65536
+is_instruction size _ = true
+
+abbrev pub is_program : ℕ → List Instruction → Bool
+is_program size p = nat_le (length p) 4096 && list_all (is_instruction size) p
+
+abbrev pub has_programs : Setup → Bool
+has_programs s = nat_le (length s.threads) 16 && list_all (is_program (rounded s.entries)) s.threads
+
+-- ---- memory, objects and descriptors
+
+abbrev pub has_memory : Setup → Bool
+has_memory s = nat_le (length s.memory) 65536
+
+-- a to z, 0 to 9 and the underscore
+abbrev pub is_name_byte : ℕ → Bool
+is_name_byte b = is_between 97 122 b || is_between 48 57 b || b == 95
+
+abbrev pub is_name : List ℕ → Bool
+is_name n = is_between 1 16 (length n) && list_all is_name_byte n
+
+-- the most bytes of a file, the capacities of a pipe (pipe(7)), and the most that an eventfd counts (eventfd(2))
+abbrev pub is_contents : Contents → Bool
+is_contents (File bytes) = nat_le (length bytes) 65536
+is_contents (Pipe capacity) = is_between 1 65536 capacity
+is_contents (EventFd counter) = nat_le counter (2 ^ 64 - 2)
+
+abbrev pub is_object : Object → Bool
+is_object o = is_name o.name && is_contents o.contents
+
+abbrev pub is_named : List ℕ → Object → Bool
+is_named name o = bytes_eq name o.name
+
+-- no two objects have one name
+abbrev pub names_once : List Object → Bool
+names_once [] = true
+names_once (o ∷ os) = not (list_any (is_named o.name) os) && names_once os
+
+abbrev pub has_objects : Setup → Bool
+has_objects s = nat_le (length s.objects) 32 && list_all is_object s.objects && names_once s.objects
+
+-- a descriptor of a pipe is one of its ends; one of another object is all of it
+abbrev pub is_end : Contents → End → Bool
+is_end (Pipe capacity) Whole = false
+is_end (Pipe capacity) e = true
+is_end (File bytes) Whole = true
+is_end (File bytes) e = false
+is_end (EventFd counter) Whole = true
+is_end (EventFd counter) e = false
+
+abbrev pub is_descriptor : List Object → Descriptor → Bool
+is_descriptor objects d = option_map_or (λ (o : Object). is_end o.contents d.end) (slice_get objects d.object) false
+
+abbrev pub has_descriptors : Setup → Bool
+has_descriptors s = nat_le (length s.fds) 64 && list_all (is_descriptor s.objects) s.fds
+
+-- ---- parts that aren't built yet: submission past a failing entry, pipes, eventfds and Close
+
+abbrev pub is_unbuilt : Instruction → Bool
+is_unbuilt (Close fd) = true
+is_unbuilt _ = false
+
+abbrev pub is_unbuilt_contents : Contents → Bool
+is_unbuilt_contents (File bytes) = false
+is_unbuilt_contents (Pipe capacity) = true
+is_unbuilt_contents (EventFd counter) = true
+
+abbrev pub is_unbuilt_object : Object → Bool
+is_unbuilt_object o = is_unbuilt_contents o.contents
+
+abbrev pub asks_for_unbuilt : Setup → Bool
+asks_for_unbuilt s = s.submit_all || list_any is_unbuilt_object s.objects || list_any (list_any is_unbuilt) s.threads
+
+-- ---- the whole
+
+-- whether all but the ring sizes lies within its limits
+abbrev pub keeps_limits : Setup → Bool
+keeps_limits s = has_memory s && (has_objects s && (has_descriptors s && has_programs s))
+
+-- why there is no start, but for want of memory
+abbrev pub setup_refusal : Setup → Option SetupRefusal
+setup_refusal s =
+    if not (has_ring_sizes s) then Some RingSize
+    else if keeps_limits s && not (asks_for_unbuilt s) then None
+    else Some Limit

@@ -1,0 +1,12 @@
+//! What a run starts from, what can happen in it, and the names of its places.
+#![tactic(auto)]
+
+pub mod event;
+pub mod limits;
+pub mod names;
+pub mod setup;
+
+pub use event::{Event, Refusal};
+pub use limits::{completion_entries, ring_size, setup_refusal};
+pub use names::{PlaceFault, place_of, read_number};
+pub use setup::{Instruction, Setup, SetupRefusal, copy_program};

@@ -1,0 +1,139 @@
+//! Which setups a run can start from (io_uring_setup(2)).
+ghost use Rattle.std.specs.Prelude.{◌≡◌, ◌≤◌};
+ghost use Rattle.std.specs.List.{list_all, list_any};
+ghost use Rattle.ring_words.specs.Rings.{rounded};
+ghost use Rattle.scenario.specs.Setups.{completion_entries as entries_for, is_between, is_completion_size, has_ring_sizes, has_slot, is_program, has_programs, is_unbuilt, asks_for_unbuilt, setup_refusal};
+
+use crate::setup::{Instruction, Setup, SetupRefusal};
+use places::Items;
+
+const SIZES: [u32; 14] = [
+    1, 2, 4, 8, 16, 32, 64, 128, 256, 512, 1024, 2048, 4096, 8192,
+];
+
+/// Why there is no start for a setup, but for want of memory, which only a start can meet.
+pub fn setup_refusal(setup: &Setup) -> Option<SetupRefusal>
+    ensures { result ≡ setup_refusal setup.now }
+{
+    if !has_ring_sizes(setup) {
+        return Some(SetupRefusal::RingSize);
+    }
+    if has_programs(setup) && !asks_for_unbuilt(setup) {
+        None
+    } else {
+        Some(SetupRefusal::Limit)
+    }
+}
+
+/// A number of entries, rounded up to the size of a ring; 0 where it is above 8,192.
+pub fn ring_size(entries: u32) -> u32
+    ensures { result ≡ rounded entries }
+{
+    for size in &SIZES {
+        if *size >= entries {
+            return *size;
+        }
+    }
+    0
+}
+
+/// How many completion entries a setup asks for: twice the submission ring's places, unless it says so.
+pub fn completion_entries(entries: u32, cq: Option<u32>) -> u32
+    ensures { result ≡ entries_for entries cq }
+{
+    match cq {
+        Some(n) => n,
+        None => 2 * ring_size(entries),
+    }
+}
+
+fn is_between(low: u32, high: u32, n: u32) -> bool
+    ensures { result ≡ is_between low high n }
+{
+    low <= n && n <= high
+}
+
+fn has_ring_sizes(setup: &Setup) -> bool
+    ensures { result ≡ has_ring_sizes setup.now }
+{
+    is_between(1, 4096, setup.entries) && is_completion_size(setup.entries, setup.cq)
+}
+
+fn is_completion_size(entries: u32, cq: Option<u32>) -> bool
+    ensures { result ≡ is_completion_size entries cq }
+{
+    match cq {
+        None => true,
+        Some(cq) => is_between(1, 8192, cq) && ring_size(entries) <= ring_size(cq),
+    }
+}
+
+fn has_programs(setup: &Setup) -> bool
+    ensures { result ≡ has_programs setup.now }
+{
+    setup.threads.len() <= 16 && are_programs(ring_size(setup.entries), setup.threads.as_slice())
+}
+
+fn are_programs(size: u32, threads: &[Items<Instruction>]) -> bool
+    ensures { result ≡ list_all (is_program size) threads.now }
+{
+    threads.iter().all(|program| is_program(size, program))
+}
+
+fn is_program(size: u32, program: &Items<Instruction>) -> bool
+    ensures { result ≡ is_program size program.now }
+{
+    program.len() <= 4096 && have_slots(size, program.as_slice())
+}
+
+fn have_slots(size: u32, instructions: &[Instruction]) -> bool
+    ensures { result ≡ list_all (has_slot size) instructions.now }
+{
+    instructions
+        .iter()
+        .all(|instruction| has_slot(size, instruction))
+}
+
+fn has_slot(size: u32, instruction: &Instruction) -> bool
+    ensures { result ≡ has_slot size instruction.now }
+{
+    match instruction {
+        Instruction::Put(slot, _) => *slot < size,
+        _ => true,
+    }
+}
+
+fn asks_for_unbuilt(setup: &Setup) -> bool
+    ensures { result ≡ asks_for_unbuilt setup.now }
+{
+    setup.submit_all
+        || !setup.memory.is_empty()
+        || !setup.objects.is_empty()
+        || !setup.fds.is_empty()
+        || have_unbuilt(setup.threads.as_slice())
+}
+
+fn have_unbuilt(threads: &[Items<Instruction>]) -> bool
+    ensures { result ≡ list_any (list_any is_unbuilt) threads.now }
+{
+    threads
+        .iter()
+        .any(|program| has_unbuilt(program.as_slice()))
+}
+
+fn has_unbuilt(instructions: &[Instruction]) -> bool
+    ensures { result ≡ list_any is_unbuilt instructions.now }
+{
+    instructions
+        .iter()
+        .any(|instruction| is_unbuilt(instruction))
+}
+
+fn is_unbuilt(instruction: &Instruction) -> bool
+    ensures { result ≡ is_unbuilt instruction.now }
+{
+    matches!(
+        instruction,
+        Instruction::Store(_, _) | Instruction::Close(_)
+    )
+}
