@@ -6,3 +6,5 @@ pub mod Lifting
 pub mod Remembering
 pub mod Describing
 pub mod Forming
+pub mod Fixing
+pub mod Restoring

@@ -1,5 +1,5 @@
 -- Memory, objects and descriptors, and what is seen of them.
-use Rattle.std.specs.Prelude.{◌≡◌, ℕ, ◌-◌, ◌≤◌, nat_lt, Bool, true, false, Option, Some, None, option_map, slice_get, List, [], map, length, if◌then◌else◌}
+use Rattle.std.specs.Prelude.{◌≡◌, ℕ, ℤ, pos, negsuc, ◌-◌, ◌≤◌, nat_lt, Bool, true, false, Option, Some, None, option_map, slice_get, List, [], map, length, if◌then◌else◌}
 use Rattle.std.specs.Option.{option_and_then}
 use Rattle.places.specs.Lists.{updated}
 use Rattle.places.specs.View.{View}
@@ -47,6 +47,11 @@ file_of w o = option_and_then file_in (slice_get w.objects o)
 
 abbrev pub descriptor_of : WorldState → ℕ → Option DescriptorState
 descriptor_of w fd = if nat_lt fd 3 then None else slice_get w.descriptors (fd - 3)
+
+-- the descriptor that an entry's number names; a negative number names none
+abbrev pub descriptor_at : WorldState → ℤ → Option DescriptorState
+descriptor_at w (pos fd) = descriptor_of w fd
+descriptor_at w (negsuc n) = None
 
 -- ---- places
 
@@ -177,20 +182,23 @@ world_stored addr bytes w = record w { memory = overwritten w.memory addr bytes 
 
 -- ---- what holds of it
 
--- The memory has its size, and each file is well formed.
+-- The memory has its size, each file is well formed, and no position is past the most that a file can have.
 pub record WorldFormed (w : WorldState) : Type 0 where
   pub memory : length w.memory ≡ 65536
   pub files : (o : ℕ) (f : FileState) → file_of w o ≡ Some f → FileFormed f
+  pub positions : (i : ℕ) (d : DescriptorState) (n : ℕ) → slice_get w.descriptors i ≡ Some d → d.position ≡ Some n → n ≤ 65536
 
 -- what the setup fixes of an object: its kind, and the size of what it holds
 pub record Kind : Type 0 where
   pub file : Option ℕ
+  pub device : Option ℕ
   pub pipe : Option ℕ
   pub counts : Option ℕ
 
 abbrev pub kind_of_body : Body → Kind
 kind_of_body b = record {
-  file = option_map (λ (f : FileState). 0) (file_in b);
+  file = option_map (λ (f : FileState). length f.bytes) (file_in b);
+  device = option_map (λ (f : FileState). length f.durable) (file_in b);
   pipe = option_map (λ (p : PipeState). length p.slots) (pipe_in b);
   counts = option_map (λ (n : ℕ). 0) (counter_in b);
 }

@@ -107,7 +107,9 @@ impl RegularFile {
     /// Sets what stands in one of its places.
     pub(crate) fn set(&mut self, place: Place, value: Value)
         requires { CanPut (file_seen self.old) place value }
-        ensures { PutsIn (file_seen self.old) (file_seen self.new) place value }
+        ensures put { PutsIn (file_seen self.old) (file_seen self.new) place value }
+        ensures bytes { length self.new.bytes ≡ length self.old.bytes }
+        ensures durable { length self.new.durable ≡ length self.old.durable }
     {
         match (place, value) {
             (Place::FileByte(_, i), Value::Byte(byte)) => self.bytes[i as usize] = byte,

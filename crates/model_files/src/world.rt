@@ -6,7 +6,7 @@ ghost use Rattle.places.specs.declared.place.Place.TheVariants.{MemoryByte, File
 ghost use Rattle.places.specs.declared.object.Object.{Object};
 ghost use Rattle.model_files.specs.Files.{FileFormed};
 ghost use Rattle.model_files.specs.Objects.{object_in};
-ghost use Rattle.model_files.specs.Worlds.{world_owns, world_seen, world_can_put, descriptor_of, file_of, mark_of, world_read, world_written, world_synced, world_at, world_closed, world_start, ContentsFit, OneSetup};
+ghost use Rattle.model_files.specs.Worlds.{world_owns, world_seen, world_can_put, descriptor_of, descriptor_at, file_of, mark_of, world_read, world_written, world_synced, world_at, world_closed, world_stored, world_start, ContentsFit, OneSetup};
 
 use crate::body::Body;
 use crate::bytes::{overwrite, pad};
@@ -136,6 +136,16 @@ impl World {
         self.descriptors.get((fd - 3) as usize).copied()
     }
 
+    /// The descriptor that an entry's number names, open or closed. A negative number names none.
+    pub fn descriptor_at(&self, fd: i32) -> Option<DescriptorState>
+        ensures { result ≡ descriptor_at self.now fd }
+    {
+        if fd < 0 {
+            return None;
+        }
+        self.descriptor(fd as u32)
+    }
+
     /// How many bytes a file has, by its object's number.
     pub fn file_len(&self, object: u32) -> Option<u32>
         ensures { result ≡ option_map (λ f. f.len) (file_of self.now object) }
@@ -151,6 +161,30 @@ impl World {
         ensures { result.now ≡ self.now.memory }
     {
         &self.memory
+    }
+
+    /// Bytes come into memory at an address. Want of memory for the notes leaves all as it was.
+    pub fn store(
+        &mut self,
+        address: u32,
+        bytes: &[u8],
+        notes: &mut Recorder,
+    ) -> Result<(), AllocError>
+        requires in_memory { address + length bytes.now ≤ length self.old.memory }
+        requires fits { address + length bytes.now ≤ 65536 }
+        requires fresh { (i : ℕ) → i < length bytes.now → named notes.old.made (MemoryByte (address + i)) ≡ None }
+        ensures ok { OnOk result (self.new ≡ world_stored address bytes.now self.old) }
+        ensures err { OnErr result (self.new ≡ self.old) }
+        ensures keeps { Keeps world_owns (world_seen self.old) (world_seen self.new) notes.old.made notes.new.made }
+        ensures named { (p : Place) → named notes.new.made p ≡ None → named notes.old.made p ≡ None }
+        ensures numbers { notes.old.numbers ≤ notes.new.numbers }
+        ensures completions { notes.old.completions ≤ notes.new.completions }
+        ensures others { notes.old.others ≤ notes.new.others }
+    {
+        let to = address as usize;
+        notes.note_bytes(Region::Memory, address, &self.memory[to..to + bytes.len()])?;
+        overwrite(&mut self.memory, to, bytes);
+        Ok(())
     }
 
     /// Bytes of a file, from an offset on, come into memory at an address (read(2)). Want of memory for
