@@ -1,5 +1,5 @@
 //! Memory, objects and descriptors together.
-ghost use Rattle.std.specs.Prelude.{◌≡◌, ◌+◌, ◌<◌, ◌≤◌, ℕ, IsSome, IfOk, IsSomeAnd, None, OnErr, OnOk, Some, length, option_map, slice_get};
+ghost use Rattle.std.specs.Prelude.{◌≡◌, ◌+◌, ◌<◌, ◌≤◌, ℕ, IsSome, IfOk, IfSome, IsSomeAnd, None, OnErr, OnOk, Some, length, option_map, slice_get};
 ghost use Rattle.places.specs.View.{Keeps, named, put_at};
 ghost use Rattle.places.specs.declared.place.Place.{Place};
 ghost use Rattle.places.specs.declared.place.Place.TheVariants.{MemoryByte, FileByte, DurableByte, Position};
@@ -148,7 +148,8 @@ impl World {
 
     /// How many bytes a file has, by its object's number.
     pub fn file_len(&self, object: u32) -> Option<u32>
-        ensures { result ≡ option_map (λ f. f.len) (file_of self.now object) }
+        ensures value { result ≡ option_map (λ f. f.len) (file_of self.now object) }
+        ensures most { IfSome result (λ len. len ≤ 65536) }
     {
         match self.objects.get(object as usize) {
             Some(Body::File(file)) => Some(file.len()),

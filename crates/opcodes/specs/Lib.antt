@@ -1,2 +1,4 @@
 pub mod Opcodes
 pub mod Check
+pub mod Outcomes
+pub mod Effects

@@ -1,6 +1,18 @@
 -- Kinds of opcodes, by their numbers (io_uring_enter(2)).
-use Rattle.std.specs.Prelude.{ℕ, ◌==◌, ◌||◌, Bool}
+use Rattle.std.specs.Prelude.{ℕ, ◌==◌, ◌||◌, ◌&&◌, not, Bool, true, false}
+use Rattle.places.specs.declared.object.End.{End}
+use Rattle.places.specs.declared.object.End.TheVariants.{Whole, Read, Write}
 
 -- a TIMEOUT or a LINK_TIMEOUT
 abbrev pub is_timer : ℕ → Bool
 is_timer opcode = (opcode == 11) || (opcode == 15)
+
+-- whether a request holds its descriptor once it is issued: an FSYNC, a POLL_ADD, a READ or a WRITE
+abbrev pub uses_descriptor : ℕ → Bool
+uses_descriptor opcode = (opcode == 3) || (opcode == 6) || (opcode == 22) || (opcode == 23)
+
+-- whether a request can use an end: nothing is read from a pipe's write end, nor written to its read end (pipe(7))
+abbrev pub fits_end : ℕ → End → Bool
+fits_end opcode Whole = true
+fits_end opcode Read = not (opcode == 23)
+fits_end opcode Write = not (opcode == 22)

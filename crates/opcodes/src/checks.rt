@@ -1,6 +1,6 @@
 //! The errors of submission.
 ghost use Rattle.std.specs.Prelude.{◌≡◌};
-ghost use Rattle.opcodes.specs.Check.{check_of, row_of};
+ghost use Rattle.opcodes.specs.Check.{check_of, tested};
 
 use crate::errno::EINVAL;
 use crate::op::Op;
@@ -25,9 +25,22 @@ pub fn check(entry: &Sqe, context: Context) -> Result<Op, i32>
         return Err(-EINVAL);
     }
     match Op::of(entry.opcode) {
-        Some(op) => Ok(op),
+        Some(op) => test(entry, op),
         None => Err(-EINVAL),
     }
+}
+
+// The tests of each opcode.
+fn test(entry: &Sqe, op: Op) -> Result<Op, i32>
+    ensures { result ≡ tested entry.now op }
+{
+    let passes = match op {
+        Op::Nop => true,
+        Op::Fsync => entry.operation_flags <= 1,
+        Op::Read | Op::Write => entry.operation_flags == 0,
+        _ => false,
+    };
+    if passes { Ok(op) } else { Err(-EINVAL) }
 }
 
 #[cfg(test)]

@@ -1,7 +1,19 @@
 //! Error numbers, as errno(3) lists them. A completion has them negated.
 
-/// Invalid argument.
-pub const EINVAL: i32 = 22;
+/// Input/output error.
+pub const EIO: i32 = 5;
+
+/// Bad file descriptor.
+pub const EBADF: i32 = 9;
+
+/// Bad address.
+pub const EFAULT: i32 = 14;
 
 /// The device or resource is busy.
 pub const EBUSY: i32 = 16;
+
+/// Invalid argument.
+pub const EINVAL: i32 = 22;
+
+/// File too large.
+pub const EFBIG: i32 = 27;

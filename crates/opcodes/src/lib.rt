@@ -3,10 +3,16 @@
 
 pub mod checks;
 pub mod choice;
+pub mod effect;
+pub mod ending;
 pub mod errno;
 pub mod op;
+pub mod results;
 
 pub use checks::{Context, check};
 pub use choice::Choice;
-pub use errno::{EBUSY, EINVAL};
-pub use op::{Op, is_timer};
+pub use effect::carry_out;
+pub use ending::Outcome;
+pub use errno::{EBADF, EBUSY, EFAULT, EFBIG, EINVAL, EIO};
+pub use op::{Op, fits_end, is_timer, uses_descriptor};
+pub use results::outcome;

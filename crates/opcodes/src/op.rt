@@ -1,7 +1,9 @@
 //! Opcodes (io_uring_enter(2)).
 ghost use Rattle.std.specs.Prelude.{◌≡◌};
 ghost use Rattle.opcodes.specs.Check.{op_of};
-ghost use Rattle.opcodes.specs.Opcodes.{is_timer as is_timer_number};
+ghost use Rattle.opcodes.specs.Opcodes.{is_timer as is_timer_number, uses_descriptor as uses_number, fits_end as fits_end_of};
+
+use places::End;
 
 /// What an entry asks for.
 #[derive(Clone, Copy, Debug, PartialEq, Eq)]
@@ -25,6 +27,9 @@ impl Op {
     {
         match opcode {
             0 => Some(Op::Nop),
+            3 => Some(Op::Fsync),
+            22 => Some(Op::Read),
+            23 => Some(Op::Write),
             _ => None,
         }
     }
@@ -36,4 +41,23 @@ pub fn is_timer(opcode: u8) -> bool
     ensures { result ≡ is_timer_number opcode }
 {
     opcode == 11 || opcode == 15
+}
+
+/// Whether a request of an opcode holds its descriptor once it is issued.
+pub fn uses_descriptor(opcode: u8) -> bool
+    ensures { result ≡ uses_number opcode }
+{
+    opcode == 3 || opcode == 6 || opcode == 22 || opcode == 23
+}
+
+/// Whether a request of an opcode can use an end: nothing is read from a pipe's write end, nor written to
+/// its read end (pipe(7)).
+pub fn fits_end(opcode: u8, end: End) -> bool
+    ensures { result ≡ fits_end_of opcode end }
+{
+    match end {
+        End::Whole => true,
+        End::Read => opcode != 23,
+        End::Write => opcode != 22,
+    }
 }

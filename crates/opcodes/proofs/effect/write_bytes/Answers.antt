@@ -1,0 +1,13 @@
+use Rattle.std.proofs.Common.{◌≡◌}
+use Rattle.std.specs.Prelude.{Some}
+use Rattle.opcodes.specs.Outcomes.{offset_of, position_of}
+use Rattle.model_files.specs.Worlds.{WorldState}
+use Rattle.model_files.proofs.Fixing.{setup_then, setup_written}
+use Rattle.opcodes.proofs.Transferring.{ok_written, some_bytes}
+use Rattle.opcodes.proofs.effect.write_bytes.Goals as goal
+
+pub returns-clause-ok : goal.returns-clause-ok
+returns-clause-ok c = ok_written c.args.entry.now c.args.fd c.args.descriptor.now c.args.count c.args.world.now c.write_at.new.self c.move_on.new.world c.move_on.result c.if-count-eq0.false (rw (c.narrow.ensures, c.narrow-2.ensures, c.offset_of-offset.ensures, c.position_of.ensures) at c.in_ok-write_at.ensures.ok) c.move_on.ensures.ok
+
+pub returns-clause-setup : goal.returns-clause-setup
+returns-clause-setup c = setup_then c.args.world.now c.write_at.new.self c.move_on.new.world (rw (c.in_ok-write_at.ensures.ok, c.narrow.ensures, c.narrow-2.ensures, c.offset_of-offset.ensures, c.position_of.ensures) (setup_written c.args.descriptor.now.object (offset_of c.args.entry.now (position_of (Some c.args.descriptor.now))) c.args.count c.args.entry.now.addr c.args.world.now c.requires.formed (c.requires.in_file (some_bytes c.args.count c.if-count-eq0.false)))) c.move_on.ensures.setup

@@ -1,0 +1,44 @@
+-- What the end of a request does to memory, objects and descriptors (read(2), write(2), fsync(2)).
+use Rattle.std.specs.Prelude.{ℕ, ℤ, pos, negsuc, zero, suc, ◌+◌, Option, Some, None, if◌then◌else◌}
+use Rattle.entries.specs.declared.entry.Sqe.{Sqe}
+use Rattle.entries.specs.declared.row.Row.{Row}
+use Rattle.model_files.specs.declared.descriptor.DescriptorState.{DescriptorState}
+use Rattle.model_files.specs.Worlds.{WorldState, descriptor_of, world_read, world_written, world_synced, world_at}
+use Rattle.opcodes.specs.declared.op.Op.{Op}
+use Rattle.opcodes.specs.declared.op.Op.TheVariants.{Nop, Fsync, Read, Write}
+use Rattle.opcodes.specs.Check.{op_of}
+use Rattle.opcodes.specs.Outcomes.{held_descriptor, is_at_position, offset_of, position_of}
+
+-- the position moves on behind the bytes of a transfer that began there
+abbrev pub moved_on : Sqe → ℕ → Option ℕ → ℕ → WorldState → WorldState
+moved_on entry fd None k w = w
+moved_on entry fd (Some position) k w = if is_at_position entry then world_at fd (position + k) w else w
+
+-- k bytes come from a file, or go to it; none change nothing
+abbrev pub bytes_read : Sqe → ℕ → DescriptorState → ℕ → WorldState → WorldState
+bytes_read entry fd d zero w = w
+bytes_read entry fd d (suc k) w = moved_on entry fd d.position (suc k) (world_read d.object (offset_of entry (position_of (Some d))) (suc k) entry.addr w)
+
+abbrev pub bytes_written : Sqe → ℕ → DescriptorState → ℕ → WorldState → WorldState
+bytes_written entry fd d zero w = w
+bytes_written entry fd d (suc k) w = moved_on entry fd d.position (suc k) (world_written d.object (offset_of entry (position_of (Some d))) (suc k) entry.addr w)
+
+-- what a good result did through a descriptor
+abbrev pub done_by : Sqe → Option Op → ℕ → DescriptorState → ℕ → WorldState → WorldState
+done_by entry (Some Fsync) fd d k w = world_synced d.object w
+done_by entry (Some Read) fd d k w = bytes_read entry fd d k w
+done_by entry (Some Write) fd d k w = bytes_written entry fd d k w
+done_by entry op fd d k w = w
+
+abbrev pub done_through : Sqe → ℕ → Option DescriptorState → ℕ → WorldState → WorldState
+done_through entry fd None k w = w
+done_through entry fd (Some d) k w = done_by entry (op_of entry.opcode) fd d k w
+
+abbrev pub done_holding : Sqe → Option ℕ → ℕ → WorldState → WorldState
+done_holding entry None k w = w
+done_holding entry (Some fd) k w = done_through entry fd (descriptor_of w fd) k w
+
+-- the world once a request has ended with a result; a bad one changed nothing
+abbrev pub world_after : Row → ℤ → WorldState → WorldState
+world_after row (negsuc n) w = w
+world_after row (pos k) w = done_holding row.entry row.held k w

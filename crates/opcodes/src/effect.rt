@@ -1,0 +1,152 @@
+//! What the end of a request does to memory, objects and descriptors (read(2), write(2), fsync(2)).
+ghost use Rattle.std.specs.Prelude.{◌≡◌, ◌+◌, ◌<◌, ◌≤◌, ◌≤ℤ◌, pos, OnOk, IsSome, None, Some, unwrap_or};
+ghost use Rattle.model_files.specs.declared.descriptor.DescriptorState.{DescriptorState};
+ghost use Rattle.places.specs.View.{Keeps, named};
+ghost use Rattle.places.specs.declared.place.Place.{Place};
+ghost use Rattle.model_files.specs.Worlds.{world_owns, world_seen, file_of, descriptor_of, OneSetup as OneWorldSetup, WorldFormed};
+ghost use Rattle.opcodes.specs.declared.choice.Choice.{Choice};
+ghost use Rattle.opcodes.specs.declared.ending.Outcome.TheVariants.{Res};
+ghost use Rattle.opcodes.specs.Outcomes.{outcome_of, offset_of, position_of};
+ghost use Rattle.opcodes.specs.Effects.{world_after, bytes_read, bytes_written, moved_on};
+
+use crate::op::Op;
+use crate::results::{held_descriptor, is_at_position, offset_of, position_of};
+use entries::{Row, Sqe};
+use model_files::{DescriptorState, World};
+use places::Recorder;
+use std::alloc::AllocError;
+
+/// Does what the end of a request with a result does. Where it stops for want of memory, undoing the notes
+/// still gives what was.
+pub fn carry_out(
+    world: &mut World,
+    row: &Row,
+    res: i32,
+    notes: &mut Recorder,
+) -> Result<(), AllocError>
+    requires formed { WorldFormed world.old }
+    requires came { (c : Choice) × (outcome_of world.old row.now c ≡ Res res) }
+    requires fresh { (p : Place) → named notes.old.made p ≡ None }
+    ensures ok { OnOk result (world.new ≡ world_after row.now res world.old) }
+    ensures setup { OneWorldSetup world.old world.new }
+    ensures keeps { Keeps world_owns (world_seen world.old) (world_seen world.new) notes.old.made notes.new.made }
+{
+    let (Some(fd), Some(descriptor)) = (row.held, held_descriptor(world, row)) else {
+        return Ok(());
+    };
+    if res < 0 {
+        return Ok(());
+    }
+    let count = count_of(res);
+    match Op::of(row.entry.opcode) {
+        Some(Op::Fsync) => world.sync(descriptor.object, notes),
+        Some(Op::Read) => read_bytes(world, &row.entry, fd, &descriptor, count, notes),
+        Some(Op::Write) => write_bytes(world, &row.entry, fd, &descriptor, count, notes),
+        _ => Ok(()),
+    }
+}
+
+// How many bytes a result tells that isn't bad.
+fn count_of(res: i32) -> u32
+    requires { pos 0 ≤ℤ res }
+    ensures { pos result ≡ res }
+{
+    res as u32
+}
+
+// An offset or an address within the most that a file or the memory has.
+fn narrow(n: u64) -> u32
+    requires { n ≤ 65536 }
+    ensures { result ≡ n }
+{
+    n as u32
+}
+
+// So many bytes come from a file into memory.
+fn read_bytes(
+    world: &mut World,
+    entry: &Sqe,
+    fd: u32,
+    descriptor: &DescriptorState,
+    count: u32,
+    notes: &mut Recorder,
+) -> Result<(), AllocError>
+    requires formed { WorldFormed world.old }
+    requires descriptor { descriptor_of world.old fd ≡ Some descriptor.now }
+    requires file { IsSome (file_of world.old descriptor.now.object) }
+    requires in_file { 0 < count → offset_of entry.now (position_of (Some descriptor.now)) + count ≤ 65536 }
+    requires in_memory { entry.now.addr + count ≤ 65536 }
+    requires fresh { (p : Place) → named notes.old.made p ≡ None }
+    ensures ok { OnOk result (world.new ≡ bytes_read entry.now fd descriptor.now count world.old) }
+    ensures setup { OneWorldSetup world.old world.new }
+    ensures keeps { Keeps world_owns (world_seen world.old) (world_seen world.new) notes.old.made notes.new.made }
+{
+    if count == 0 {
+        return Ok(());
+    }
+    let offset = offset_of(entry, position_of(Some(*descriptor)));
+    world.read_at(
+        descriptor.object,
+        narrow(offset),
+        count,
+        narrow(entry.addr),
+        notes,
+    )?;
+    move_on(world, entry, fd, descriptor.position, count, notes)
+}
+
+// So many bytes go from memory to a file.
+fn write_bytes(
+    world: &mut World,
+    entry: &Sqe,
+    fd: u32,
+    descriptor: &DescriptorState,
+    count: u32,
+    notes: &mut Recorder,
+) -> Result<(), AllocError>
+    requires formed { WorldFormed world.old }
+    requires descriptor { descriptor_of world.old fd ≡ Some descriptor.now }
+    requires file { IsSome (file_of world.old descriptor.now.object) }
+    requires in_file { 0 < count → offset_of entry.now (position_of (Some descriptor.now)) + count ≤ 65536 }
+    requires in_memory { entry.now.addr + count ≤ 65536 }
+    requires fresh { (p : Place) → named notes.old.made p ≡ None }
+    ensures ok { OnOk result (world.new ≡ bytes_written entry.now fd descriptor.now count world.old) }
+    ensures setup { OneWorldSetup world.old world.new }
+    ensures keeps { Keeps world_owns (world_seen world.old) (world_seen world.new) notes.old.made notes.new.made }
+{
+    if count == 0 {
+        return Ok(());
+    }
+    let offset = offset_of(entry, position_of(Some(*descriptor)));
+    world.write_at(
+        descriptor.object,
+        narrow(offset),
+        count,
+        narrow(entry.addr),
+        notes,
+    )?;
+    move_on(world, entry, fd, descriptor.position, count, notes)
+}
+
+// The position goes on behind the bytes of a transfer that began there.
+fn move_on(
+    world: &mut World,
+    entry: &Sqe,
+    fd: u32,
+    position: Option<u64>,
+    count: u32,
+    notes: &mut Recorder,
+) -> Result<(), AllocError>
+    requires descriptor { (d : DescriptorState) × (descriptor_of world.old fd ≡ Some d) × (d.position ≡ position) }
+    requires in_file { offset_of entry.now (unwrap_or position 0) + count ≤ 65536 }
+    ensures ok { OnOk result (world.new ≡ moved_on entry.now fd position count world.old) }
+    ensures setup { OneWorldSetup world.old world.new }
+    ensures keeps { Keeps world_owns (world_seen world.old) (world_seen world.new) notes.old.made notes.new.made }
+{
+    match position {
+        Some(position) if is_at_position(entry) => {
+            world.set_position(fd, position + u64::from(count), notes)
+        }
+        _ => Ok(()),
+    }
+}
