@@ -1,6 +1,7 @@
 //! The table of all rows that were ever submitted.
 ghost use Rattle.std.specs.Prelude.{◌≡◌, ◌+◌, ◌<◌, ◌≤◌, ◌^◌, ◌++◌, ◌∷◌, [], take, None, IfOk, OnOk, OnErr, OnSome, length, option_map, slice_get};
 ghost use Rattle.entries.specs.declared.row.Row.{Row};
+ghost use Rattle.entries.specs.declared.row.Phase.TheVariants.{Issued};
 ghost use Rattle.places.specs.Lists.{updated};
 ghost use Rattle.places.specs.View.{Keeps, named, put_at};
 ghost use Rattle.places.specs.declared.place.Place.{Place};
@@ -153,6 +154,32 @@ impl Table {
         Ok(())
     }
 
+    /// Issues a row, which holds a descriptor from now on, or none.
+    pub fn issue(
+        &mut self,
+        r: u32,
+        held: Option<u32>,
+        notes: &mut Recorder,
+    ) -> Result<(), AllocError>
+        requires { r < length self.old }
+        ensures ok { OnOk result (self.new ≡ updated (λ row. record row { phase = Issued; held = held }) self.old r) }
+        ensures err { OnErr result (self.new ≡ self.old) }
+        ensures len { length self.new ≡ length self.old }
+        ensures keeps { Keeps table_owns (table_seen self.old) (table_seen self.new) notes.old.made notes.new.made }
+        ensures numbers { notes.old.numbers ≤ notes.new.numbers }
+        ensures completions { notes.old.completions ≤ notes.new.completions }
+        ensures others { notes.old.others ≤ notes.new.others + 1 }
+    {
+        let row = self.rows[r as usize];
+        notes.note_row(r, Some(row))?;
+        self.rows[r as usize] = Row {
+            phase: Phase::Issued,
+            held,
+            ..row
+        };
+        Ok(())
+    }
+
     /// Drops the rows from a number on. It takes no memory.
     pub fn truncate(&mut self, n: usize)
         ensures { self.new ≡ take n self.old }
@@ -215,14 +242,20 @@ mod tests {
         let mut notes = Recorder::new(alloc);
         table.push(new_row(nop(7), 0), &mut notes)?;
         table.push(new_row(nop(8), 1), &mut notes)?;
+        table.issue(0, Some(3), &mut notes)?;
         table.set_phase(1, Phase::Ended(-22), &mut notes)?;
         assert_eq!(rt; table.len(), 2);
-        assert_eq!(rt; table.phase(0), Some(Phase::Queued));
+        assert_eq!(rt; table.phase(0), Some(Phase::Issued));
         assert_eq!(rt; table.phase(1), Some(Phase::Ended(-22)));
         assert_eq!(rt; table.phase(2), None);
         assert_eq!(rt; table.user_data(1), Some(8));
         assert_eq!(rt; table.opcode(0), Some(0));
-        assert_eq!(rt; table.get(0), Some(new_row(nop(7), 0)));
+        let issued = Row {
+            phase: Phase::Issued,
+            held: Some(3),
+            ..new_row(nop(7), 0)
+        };
+        assert_eq!(rt; table.get(0), Some(issued));
         let copied = table.copy(alloc)?;
         let record = notes.close(&table);
         assert_eq!(rt; record.rows_left(2), 0);
