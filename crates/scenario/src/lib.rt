@@ -8,6 +8,8 @@ pub mod names;
 mod numbered;
 mod owned;
 pub mod setup;
+#[cfg(test)]
+mod tests;
 mod unbuilt;
 
 pub use event::{Event, Refusal};
