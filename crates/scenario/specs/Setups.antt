@@ -7,7 +7,7 @@ use Rattle.places.specs.declared.object.Contents.{Contents}
 use Rattle.places.specs.declared.object.Contents.TheVariants.{File, Pipe, EventFd}
 use Rattle.places.specs.declared.object.Descriptor.{Descriptor}
 use Rattle.places.specs.declared.object.End.{End}
-use Rattle.places.specs.declared.object.End.TheVariants.{Whole, Read, Write}
+use Rattle.places.specs.declared.object.End.TheVariants.{Whole}
 use Rattle.places.specs.declared.object.Object.{Object}
 use Rattle.ring_words.specs.Rings.{rounded}
 use Rattle.scenario.specs.declared.setup.Instruction.{Instruction}

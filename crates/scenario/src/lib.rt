@@ -2,9 +2,15 @@
 #![tactic(auto)]
 
 pub mod event;
+mod holdings;
 pub mod limits;
 pub mod names;
+mod numbered;
+mod owned;
 pub mod setup;
+#[cfg(test)]
+mod tests;
+mod unbuilt;
 
 pub use event::{Event, Refusal};
 pub use limits::{completion_entries, ring_size, setup_refusal};

@@ -1,10 +1,12 @@
 //! Which setups a run can start from (io_uring_setup(2)).
-ghost use Rattle.std.specs.Prelude.{◌≡◌, ◌≤◌};
-ghost use Rattle.std.specs.List.{list_all, list_any};
+ghost use Rattle.std.specs.Prelude.{◌≡◌};
+ghost use Rattle.std.specs.List.{list_all};
 ghost use Rattle.ring_words.specs.Rings.{rounded};
-ghost use Rattle.scenario.specs.Setups.{completion_entries as entries_for, is_between, is_completion_size, has_ring_sizes, has_slot, is_program, has_programs, is_unbuilt, asks_for_unbuilt, setup_refusal};
+ghost use Rattle.scenario.specs.Setups.{completion_entries as entries_for, is_between, is_completion_size, has_ring_sizes, is_instruction, is_program, has_programs, has_memory, keeps_limits, setup_refusal};
 
+use crate::holdings::{has_descriptors, has_objects};
 use crate::setup::{Instruction, Setup, SetupRefusal};
+use crate::unbuilt::asks_for_unbuilt;
 use places::Items;
 
 const SIZES: [u32; 14] = [
@@ -18,7 +20,7 @@ pub fn setup_refusal(setup: &Setup) -> Option<SetupRefusal>
     if !has_ring_sizes(setup) {
         return Some(SetupRefusal::RingSize);
     }
-    if has_programs(setup) && !asks_for_unbuilt(setup) {
+    if keeps_limits(setup) && !asks_for_unbuilt(setup) {
         None
     } else {
         Some(SetupRefusal::Limit)
@@ -68,6 +70,19 @@ fn is_completion_size(entries: u32, cq: Option<u32>) -> bool
     }
 }
 
+// Whether all but the ring sizes lies within its limits.
+fn keeps_limits(setup: &Setup) -> bool
+    ensures { result ≡ keeps_limits setup.now }
+{
+    has_memory(setup) && (has_objects(setup) && (has_descriptors(setup) && has_programs(setup)))
+}
+
+fn has_memory(setup: &Setup) -> bool
+    ensures { result ≡ has_memory setup.now }
+{
+    setup.memory.len() <= 65536
+}
+
 fn has_programs(setup: &Setup) -> bool
     ensures { result ≡ has_programs setup.now }
 {
@@ -83,57 +98,25 @@ fn are_programs(size: u32, threads: &[Items<Instruction>]) -> bool
 fn is_program(size: u32, program: &Items<Instruction>) -> bool
     ensures { result ≡ is_program size program.now }
 {
-    program.len() <= 4096 && have_slots(size, program.as_slice())
+    program.len() <= 4096 && are_instructions(size, program.as_slice())
 }
 
-fn have_slots(size: u32, instructions: &[Instruction]) -> bool
-    ensures { result ≡ list_all (has_slot size) instructions.now }
+fn are_instructions(size: u32, instructions: &[Instruction]) -> bool
+    ensures { result ≡ list_all (is_instruction size) instructions.now }
 {
     instructions
         .iter()
-        .all(|instruction| has_slot(size, instruction))
+        .all(|instruction| is_instruction(size, instruction))
 }
 
-fn has_slot(size: u32, instruction: &Instruction) -> bool
-    ensures { result ≡ has_slot size instruction.now }
+fn is_instruction(size: u32, instruction: &Instruction) -> bool
+    ensures { result ≡ is_instruction size instruction.now }
 {
     match instruction {
         Instruction::Put(slot, _) => *slot < size,
+        Instruction::Store(address, bytes) => {
+            bytes.len() <= 4096 && *address as usize + bytes.len() <= 65536
+        }
         _ => true,
     }
-}
-
-fn asks_for_unbuilt(setup: &Setup) -> bool
-    ensures { result ≡ asks_for_unbuilt setup.now }
-{
-    setup.submit_all
-        || !setup.memory.is_empty()
-        || !setup.objects.is_empty()
-        || !setup.fds.is_empty()
-        || have_unbuilt(setup.threads.as_slice())
-}
-
-fn have_unbuilt(threads: &[Items<Instruction>]) -> bool
-    ensures { result ≡ list_any (list_any is_unbuilt) threads.now }
-{
-    threads
-        .iter()
-        .any(|program| has_unbuilt(program.as_slice()))
-}
-
-fn has_unbuilt(instructions: &[Instruction]) -> bool
-    ensures { result ≡ list_any is_unbuilt instructions.now }
-{
-    instructions
-        .iter()
-        .any(|instruction| is_unbuilt(instruction))
-}
-
-fn is_unbuilt(instruction: &Instruction) -> bool
-    ensures { result ≡ is_unbuilt instruction.now }
-{
-    matches!(
-        instruction,
-        Instruction::Store(_, _) | Instruction::Close(_)
-    )
 }

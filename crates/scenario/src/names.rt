@@ -2,9 +2,10 @@
 ghost use Rattle.std.specs.Prelude.{◌≡◌, map, true};
 ghost use Rattle.std.specs.Char.{is_ascii_digit};
 ghost use Rattle.std.specs.List.{list_all};
-ghost use Rattle.scenario.specs.Names.{is_numeral, number_of, single_named, kind_named, member_of, place_named, completion_size};
+ghost use Rattle.scenario.specs.Names.{is_numeral, number_of, single_named, kind_named, pair_named, byte_named, byte_place_named, place_named};
 
-use crate::limits::{completion_entries, ring_size};
+use crate::numbered::{kind_of_name, member};
+use crate::owned::{byte_of_name, byte_place, object_place, object_place_of_name};
 use crate::setup::Setup;
 use places::Place;
 
@@ -17,32 +18,40 @@ pub enum PlaceFault {
     Number,
 }
 
-/// Places that have one name, and a number each.
-#[derive(Clone, Copy, Debug, PartialEq, Eq)]
-enum PlaceKind {
-    Array,
-    Slots,
-    Completions,
-    Requests,
-    Backlogs,
-    ProgramCounters,
-    Stages,
-    Lasts,
-    Gots,
-}
-
 /// The place that some words name over a setup. The name and the number of words are tested first,
-/// then that the words in a number's place are numbers, then their ranges.
+/// then that the object is there and of its kind, then that the words in a number's place are numbers,
+/// then their ranges, to which descriptors and threads belong.
 pub fn place_of(setup: &Setup, words: &[&[u8]]) -> Result<Place, PlaceFault>
     ensures { result ≡ place_named setup.now (map (λ w. w.now) words.now) }
 {
     match words {
         [name] => single(setup, name).ok_or(PlaceFault::Place),
-        [name, index] => match kind_of_name(name) {
-            Some(kind) => member(setup, kind, index),
-            None => Err(PlaceFault::Place),
-        },
+        [name, word] => pair(setup, name, word),
+        [name, object, index] => triple(setup, name, object, index),
         _ => Err(PlaceFault::Place),
+    }
+}
+
+// The place that a name with a number, or with an object's name, names.
+fn pair(setup: &Setup, name: &[u8], word: &[u8]) -> Result<Place, PlaceFault>
+    ensures { result ≡ pair_named setup.now (kind_named name.now) name.now word.now }
+{
+    if let Some(kind) = kind_of_name(name) {
+        return member(setup, kind, word);
+    }
+    match object_place_of_name(name) {
+        Some(place) => object_place(setup, place, word).ok_or(PlaceFault::Place),
+        None => Err(PlaceFault::Place),
+    }
+}
+
+// The place that a name with an object's name and a number names.
+fn triple(setup: &Setup, name: &[u8], object: &[u8], index: &[u8]) -> Result<Place, PlaceFault>
+    ensures { result ≡ byte_named setup.now (byte_place_named name.now) object.now index.now }
+{
+    match byte_of_name(name) {
+        Some(place) => byte_place(setup, place, object, index),
+        None => Err(PlaceFault::Place),
     }
 }
 
@@ -111,85 +120,4 @@ fn single(setup: &Setup, name: &[u8]) -> Option<Place>
     } else {
         None
     }
-}
-
-// The places that one word and a number name.
-fn kind_of_name(name: &[u8]) -> Option<PlaceKind>
-    ensures { result ≡ kind_named name.now }
-{
-    if name == b"array".as_slice() {
-        Some(PlaceKind::Array)
-    } else if name == b"slot".as_slice() {
-        Some(PlaceKind::Slots)
-    } else if name == b"cqe".as_slice() {
-        Some(PlaceKind::Completions)
-    } else if name == b"row".as_slice() {
-        Some(PlaceKind::Requests)
-    } else if name == b"backlog".as_slice() {
-        Some(PlaceKind::Backlogs)
-    } else if name == b"pc".as_slice() {
-        Some(PlaceKind::ProgramCounters)
-    } else if name == b"stage".as_slice() {
-        Some(PlaceKind::Stages)
-    } else if name == b"last".as_slice() {
-        Some(PlaceKind::Lasts)
-    } else if name == b"got".as_slice() {
-        Some(PlaceKind::Gots)
-    } else {
-        None
-    }
-}
-
-// The place of a kind that a word tells.
-fn member(setup: &Setup, kind: PlaceKind, word: &[u8]) -> Result<Place, PlaceFault>
-    ensures { result ≡ member_of setup.now kind (number_of word.now) }
-{
-    let Some(index) = read_number(word) else {
-        return Err(PlaceFault::Number);
-    };
-    if u64::from(index) >= kind.count(setup) {
-        return Err(PlaceFault::Place);
-    }
-    Ok(kind.place(index))
-}
-
-impl PlaceKind {
-    ghost use Rattle.scenario.specs.Names.{count_in, place_in};
-
-    // How many places it has.
-    fn count(self, setup: &Setup) -> u64
-        ensures { result ≡ count_in setup.now self }
-    {
-        match self {
-            PlaceKind::Array | PlaceKind::Slots => u64::from(ring_size(setup.entries)),
-            PlaceKind::Completions => completion_size(setup),
-            PlaceKind::Requests | PlaceKind::Backlogs => 65536,
-            PlaceKind::ProgramCounters | PlaceKind::Stages | PlaceKind::Lasts | PlaceKind::Gots => {
-                setup.threads.len() as u64
-            }
-        }
-    }
-
-    fn place(self, index: u32) -> Place
-        ensures { result ≡ place_in self index }
-    {
-        match self {
-            PlaceKind::Array => Place::Array(index),
-            PlaceKind::Slots => Place::Slot(index),
-            PlaceKind::Completions => Place::Completion(index),
-            PlaceKind::Requests => Place::Request(index),
-            PlaceKind::Backlogs => Place::Backlog(index),
-            PlaceKind::ProgramCounters => Place::ProgramCounter(index),
-            PlaceKind::Stages => Place::ThreadStage(index),
-            PlaceKind::Lasts => Place::Last(index),
-            PlaceKind::Gots => Place::Got(index),
-        }
-    }
-}
-
-// How many completion slots there are.
-fn completion_size(setup: &Setup) -> u64
-    ensures { result ≡ completion_size setup.now }
-{
-    u64::from(ring_size(completion_entries(setup.entries, setup.cq)))
 }

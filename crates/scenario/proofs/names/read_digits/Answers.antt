@@ -1,4 +1,4 @@
-use Rattle.std.proofs.Common.{◌≡◌, List, ℕ, ◌∙◌, subst}
+use Rattle.std.proofs.Common.{List, ℕ, ◌∙◌, subst}
 use Rattle.std.specs.Str.Parse.{ParsesUnsigned}
 use Rattle.scenario.proofs.Numbers.{number_parsed, numeral_is_text}
 use Rattle.scenario.proofs.names.read_digits.Goals as goal

@@ -1,0 +1,212 @@
+//! Places of an object, which its name tells.
+ghost use Rattle.std.specs.Prelude.{◌≡◌, Some};
+ghost use Rattle.std.specs.List.{position};
+ghost use Rattle.scenario.specs.Names.{object_place_named, byte_place_named, is_of, is_object_of, object_named, most_bytes, bytes_of, owner_of, object_place, byte_of, byte_named, number_of};
+
+use crate::holdings::is_named;
+use crate::names::{PlaceFault, read_number};
+use crate::setup::Setup;
+use places::{Contents, Object, Place};
+
+#[derive(Clone, Copy, Debug, PartialEq, Eq)]
+pub enum ObjectKind {
+    File,
+    Pipe,
+    EventFd,
+}
+
+/// Places that an object has once.
+#[derive(Clone, Copy, Debug, PartialEq, Eq)]
+pub enum ObjectPlace {
+    FileLength,
+    DurableLength,
+    PutCount,
+    TakenCount,
+    EventCount,
+}
+
+/// Bytes of an object.
+#[derive(Clone, Copy, Debug, PartialEq, Eq)]
+pub enum BytePlace {
+    FileByte,
+    DurableByte,
+    PipeByte,
+}
+
+/// The places that a word names with an object's name.
+pub(crate) fn object_place_of_name(name: &[u8]) -> Option<ObjectPlace>
+    ensures { result ≡ object_place_named name.now }
+{
+    if name == b"len".as_slice() {
+        Some(ObjectPlace::FileLength)
+    } else if name == b"dlen".as_slice() {
+        Some(ObjectPlace::DurableLength)
+    } else if name == b"put".as_slice() {
+        Some(ObjectPlace::PutCount)
+    } else if name == b"taken".as_slice() {
+        Some(ObjectPlace::TakenCount)
+    } else if name == b"event".as_slice() {
+        Some(ObjectPlace::EventCount)
+    } else {
+        None
+    }
+}
+
+/// The bytes that a word names with an object's name and a number.
+pub(crate) fn byte_of_name(name: &[u8]) -> Option<BytePlace>
+    ensures { result ≡ byte_place_named name.now }
+{
+    if name == b"file".as_slice() {
+        Some(BytePlace::FileByte)
+    } else if name == b"durable".as_slice() {
+        Some(BytePlace::DurableByte)
+    } else if name == b"pipe".as_slice() {
+        Some(BytePlace::PipeByte)
+    } else {
+        None
+    }
+}
+
+/// Whether an object is of a kind.
+pub(crate) fn is_of(kind: ObjectKind, contents: &Contents) -> bool
+    ensures { result ≡ is_of kind contents.now }
+{
+    matches!(
+        (kind, contents),
+        (ObjectKind::File, Contents::File(_))
+            | (ObjectKind::Pipe, Contents::Pipe(_))
+            | (ObjectKind::EventFd, Contents::EventFd(_))
+    )
+}
+
+fn is_object_of(kind: ObjectKind, name: &[u8], object: &Object) -> bool
+    ensures { result ≡ is_object_of kind name.now object.now }
+{
+    is_named(name, object) && is_of(kind, &object.contents)
+}
+
+fn index_of(objects: &[Object], kind: ObjectKind, name: &[u8]) -> Option<usize>
+    ensures { result ≡ position (is_object_of kind name.now) objects.now }
+{
+    objects
+        .iter()
+        .position(|object| is_object_of(kind, name, object))
+}
+
+// The number of the object of that name and kind.
+fn object_named(setup: &Setup, kind: ObjectKind, name: &[u8]) -> Option<u32>
+    ensures { result ≡ object_named setup.now kind name.now }
+{
+    match index_of(setup.objects.as_slice(), kind, name) {
+        Some(index) => u32::try_from(index).ok(),
+        None => None,
+    }
+}
+
+fn most_bytes(contents: &Contents) -> u32
+    ensures { result ≡ most_bytes contents.now }
+{
+    match contents {
+        Contents::File(_) => 65536,
+        Contents::Pipe(capacity) => *capacity,
+        Contents::EventFd(_) => 0,
+    }
+}
+
+// How many bytes an object can have.
+fn bytes_of(setup: &Setup, object: u32) -> u32
+    ensures { result ≡ bytes_of setup.now object }
+{
+    match setup.objects.as_slice().get(object as usize) {
+        Some(object) => most_bytes(&object.contents),
+        None => 0,
+    }
+}
+
+/// The place of an object that its name tells.
+pub(crate) fn object_place(setup: &Setup, place: ObjectPlace, name: &[u8]) -> Option<Place>
+    ensures { result ≡ object_place setup.now (Some place) name.now }
+{
+    let object = object_named(setup, place.owner(), name)?;
+    Some(place.of(object))
+}
+
+/// The byte of an object that its name and a word tell. The object is looked for before the number
+/// is read.
+pub(crate) fn byte_place(
+    setup: &Setup,
+    place: BytePlace,
+    name: &[u8],
+    word: &[u8],
+) -> Result<Place, PlaceFault>
+    ensures { result ≡ byte_named setup.now (Some place) name.now word.now }
+{
+    match object_named(setup, place.owner(), name) {
+        Some(object) => byte_of(setup, place, object, word),
+        None => Err(PlaceFault::Place),
+    }
+}
+
+fn byte_of(setup: &Setup, place: BytePlace, object: u32, word: &[u8]) -> Result<Place, PlaceFault>
+    ensures { result ≡ byte_of setup.now place object (number_of word.now) }
+{
+    let Some(index) = read_number(word) else {
+        return Err(PlaceFault::Number);
+    };
+    if index < bytes_of(setup, object) {
+        Ok(place.of(object, index))
+    } else {
+        Err(PlaceFault::Place)
+    }
+}
+
+impl ObjectPlace {
+    ghost use Rattle.scenario.specs.Names.{owner_of, place_of_object};
+
+    // Whose it is.
+    fn owner(self) -> ObjectKind
+        ensures { result ≡ owner_of self }
+    {
+        match self {
+            ObjectPlace::FileLength | ObjectPlace::DurableLength => ObjectKind::File,
+            ObjectPlace::PutCount | ObjectPlace::TakenCount => ObjectKind::Pipe,
+            ObjectPlace::EventCount => ObjectKind::EventFd,
+        }
+    }
+
+    fn of(self, object: u32) -> Place
+        ensures { result ≡ place_of_object self object }
+    {
+        match self {
+            ObjectPlace::FileLength => Place::FileLength(object),
+            ObjectPlace::DurableLength => Place::DurableLength(object),
+            ObjectPlace::PutCount => Place::PutCount(object),
+            ObjectPlace::TakenCount => Place::TakenCount(object),
+            ObjectPlace::EventCount => Place::EventCount(object),
+        }
+    }
+}
+
+impl BytePlace {
+    ghost use Rattle.scenario.specs.Names.{owner_of_byte, place_of_byte};
+
+    // Whose it is.
+    fn owner(self) -> ObjectKind
+        ensures { result ≡ owner_of_byte self }
+    {
+        match self {
+            BytePlace::FileByte | BytePlace::DurableByte => ObjectKind::File,
+            BytePlace::PipeByte => ObjectKind::Pipe,
+        }
+    }
+
+    fn of(self, object: u32, index: u32) -> Place
+        ensures { result ≡ place_of_byte self object index }
+    {
+        match self {
+            BytePlace::FileByte => Place::FileByte(object, index),
+            BytePlace::DurableByte => Place::DurableByte(object, index),
+            BytePlace::PipeByte => Place::PipeByte(object, index),
+        }
+    }
+}
