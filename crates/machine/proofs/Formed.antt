@@ -11,7 +11,14 @@ use Rattle.entries.specs.declared.row.Row.{Row}
 use Rattle.entries.specs.declared.row.Phase.{Phase}
 use Rattle.entries.specs.declared.row.Phase.TheVariants.{Queued, Issued, Ended}
 use Rattle.opcodes.specs.declared.choice.Choice.{Choice}
-use Rattle.opcodes.specs.declared.choice.Choice.TheVariants.{Full, Short, Eio}
+use Rattle.opcodes.specs.declared.ending.Outcome.{Outcome}
+use Rattle.opcodes.specs.declared.ending.Outcome.TheVariants.{Res, Waits, BadChoice}
+use Rattle.opcodes.specs.Outcomes.{outcome_of}
+use Rattle.opcodes.specs.Effects.{world_after}
+use Rattle.opcodes.proofs.Staying.{stays_after}
+use Rattle.model_files.specs.Worlds.{world_stored}
+use Rattle.model_files.proofs.Fixing as worlds
+use Rattle.model_files.proofs.Forming.{world_stored_formed}
 use Rattle.places.specs.Lists.{updated}
 use Rattle.places.proofs.ListLemmas.{length-updated}
 use Rattle.places.specs.declared.value.Stage.{Stage}
@@ -25,8 +32,8 @@ use Rattle.sqpoll.specs.declared.poller.Poller.TheVariants.{Awake, Asleep}
 use Rattle.sqpoll.specs.Pollers.{is_awake}
 use Rattle.links_drains.specs.Batches.{rows_of}
 use Rattle.links_drains.specs.Phases.{is_ended, counts}
-use Rattle.machine.specs.Submission.{offered, some_fails, taken_entries, einval, ebusy}
-use Rattle.machine.specs.Steps.{refusal, after, stepped, executed, entered, entered_alone, entered_beside, submitting, before_submission, is_busy, is_unknown, gets_events, wakes, woken, shown, awaited, ready_count, held_back, with_poller, flushed, submission_refusal, alone_refusal, enter_refusal, instruction_refusal, next_refusal, thread_refusal, take_refusal, issue_refusal, phase_refusal, finish_refusal, ended, taken, submitted, answered, gone_on}
+use Rattle.machine.specs.Submission.{offered, some_fails, taken_entries, einval, ebusy, ebadf}
+use Rattle.machine.specs.Steps.{refusal, after, stepped, executed, entered, entered_alone, entered_beside, submitting, before_submission, is_busy, is_unknown, gets_events, wakes, woken, shown, awaited, ready_count, held_back, with_poller, flushed, submission_refusal, alone_refusal, enter_refusal, instruction_refusal, next_refusal, thread_refusal, take_refusal, issue_refusal, phase_refusal, finish_refusal, ended, taken, submitted, answered, gone_on, issued, finished, finished_as, lacks_descriptor, held_by}
 use Rattle.machine.specs.Threads.{ThreadState, program_of}
 use Rattle.scenario.specs.Programs.{IsDone}
 use Rattle.machine.specs.Whole.{is_asleep, flag_word, WellFormed, Stands}
@@ -38,7 +45,7 @@ use Rattle.scenario.specs.declared.event.Event.TheVariants.{Step, Take, Sleep, I
 use Rattle.scenario.specs.declared.event.Refusal.{Refusal}
 use Rattle.scenario.specs.declared.event.Refusal.TheVariants.{SqFull, NothingToReap, WrongPhase, ClockFull, RequestsFull}
 use Rattle.machine.proofs.FormedThreads.{stands_on, stands_held, fits_count, formed_thread}
-use Rattle.machine.proofs.FormedMachines.{formed_ended, formed_issued, formed_flushed, wakeup_flag, formed_taken_all, formed_taken_last, formed_put, formed_push, formed_taken_out, length-offered, length-taken_entries}
+use Rattle.machine.proofs.FormedMachines.{formed_ended, formed_issued, formed_world, formed_flushed, wakeup_flag, formed_taken_all, formed_taken_last, formed_put, formed_push, formed_taken_out, length-offered, length-taken_entries}
 
 ltb_tells : (a b : ℕ) → ((ltb a b ≡ true) × (a < b)) ⊎ ((ltb a b ≡ false) × (b ≤ a))
 ltb_tells a b = elim (leb_tells (suc a) b) [ inl k ↦ inl (k.0, k.1) | inr k ↦ inr (k.0, let l = k.1 in omega arith) ]
@@ -55,7 +62,8 @@ formed_tick m d f h = record {
   front = f.front;
   overflowed = f.overflowed;
   rows = f.rows;
-  opcodes = f.opcodes;
+  world = f.world;
+  requests = f.requests;
   counted = f.counted;
   clock = by (ltb_tells (m.clock + d) (2 ^ 64));
   threads = f.threads;
@@ -68,28 +76,40 @@ formed_tick m d f h = record {
 formed_issue : (m : Machine) (r : ℕ) → WellFormed m → refusal m (Issue r) ≡ None → WellFormed (after m (Issue r))
 formed_issue m r f h = by (slice_get m.table r) refl h
   where
-    at : (x : Row) → slice_get m.table r ≡ Some x → (p : Phase) → x.phase ≡ p → elim p as (λ q. Option Refusal) [ Queued ↦ None | Issued ↦ Some WrongPhase | Ended res ↦ Some WrongPhase ] ≡ None → WellFormed (after m (Issue r))
-    at x e Queued q k = formed_issued m r x f e (ap is_ended q)
+    lacking : (x : Row) → slice_get m.table r ≡ Some x → is_ended x.phase ≡ false → (b : Bool) → lacks_descriptor m.world x ≡ b
+        → WellFormed (if b then ended m r ebadf else record m { table = updated (λ row. record row { phase = Issued; held = held_by row }) m.table r })
+    lacking x e q true l = formed_ended m r x ebadf f e q
+    lacking x e q false l = formed_issued m r x f e q l
+
+    at : (x : Row) → slice_get m.table r ≡ Some x → (p : Phase) → x.phase ≡ p → elim p as (λ q. Option Refusal) [ Queued ↦ None | Issued ↦ Some WrongPhase | Ended res ↦ Some WrongPhase ] ≡ None → WellFormed (issued m r (Some x))
+    at x e Queued q k = lacking x e (ap is_ended q) (lacks_descriptor m.world x) refl
     at x e Issued q k = absurd cc
     at x e (Ended n) q k = absurd cc
 
-    by : (o : Option Row) → slice_get m.table r ≡ o → issue_refusal o ≡ None → WellFormed (after m (Issue r))
+    by : (o : Option Row) → slice_get m.table r ≡ o → issue_refusal o ≡ None → WellFormed (issued m r o)
     by None e k = absurd cc
     by (Some x) e k = at x e x.phase refl k
 
 formed_finish : (m : Machine) (r : ℕ) (c : Choice) → WellFormed m → refusal m (Finish r c) ≡ None → WellFormed (after m (Finish r c))
 formed_finish m r c f h = by (slice_get m.table r) refl h
   where
-    at : (x : Row) → slice_get m.table r ≡ Some x → (p : Phase) → x.phase ≡ p → phase_refusal p c ≡ None → WellFormed (ended m r (pos 0))
+    ending : (x : Row) → slice_get m.table r ≡ Some x → is_ended x.phase ≡ false → (o : Outcome) → outcome_of m.world x c ≡ o → WellFormed (finished_as m r x o)
+    ending x e q (Res res) g =
+        let s = stays_after m.world x res c f.world g in
+        formed_ended (record m { world = world_after x res m.world }) r x res (formed_world m (world_after x res m.world) f s.formed s.setup) e q
+    ending x e q Waits g = f
+    ending x e q BadChoice g = f
+
+    at : (x : Row) → slice_get m.table r ≡ Some x → (p : Phase) → x.phase ≡ p → phase_refusal p (outcome_of m.world x c) ≡ None → WellFormed (finished m r (Some x) c)
     at x e Queued q k = absurd cc
-    at x e Issued q k = formed_ended m r x (pos 0) f e (ap is_ended q)
+    at x e Issued q k = ending x e (ap is_ended q) (outcome_of m.world x c) refl
     at x e (Ended n) q k = absurd cc
 
-    counting : (x : Row) → slice_get m.table r ≡ Some x → (b : Bool) → cond b (phase_refusal x.phase c) (Some WrongPhase) ≡ None → WellFormed (ended m r (pos 0))
+    counting : (x : Row) → slice_get m.table r ≡ Some x → (b : Bool) → cond b (phase_refusal x.phase (outcome_of m.world x c)) (Some WrongPhase) ≡ None → WellFormed (finished m r (Some x) c)
     counting x e true k = at x e x.phase refl k
     counting x e false k = absurd cc
 
-    by : (o : Option Row) → slice_get m.table r ≡ o → finish_refusal o c ≡ None → WellFormed (ended m r (pos 0))
+    by : (o : Option Row) → slice_get m.table r ≡ o → finish_refusal m.world o c ≡ None → WellFormed (finished m r o c)
     by None e k = absurd cc
     by (Some x) e k = counting x e (counts x) k
 
@@ -168,7 +188,7 @@ formed_poller m p h =
       front = h.front;
       overflowed = h.overflowed;
       rows = h.rows;
-      opcodes = h.opcodes;
+      world = h.world; requests = h.requests;
       counted = h.counted;
       clock = h.clock;
       threads = h.threads;
@@ -283,13 +303,19 @@ formed_reaping m t x f e g r h = by _ refl h
         formed_thread (record m { completions = record m.completions { head = (m.completions.head + 1) % 2 ^ 32 } }) (λ y. record y { counter = y.counter + 1; got = got }) t x
         (formed_taken_out m f (some w o)) e (stands_on (length m.submissions.slots) x Reap x.stage x.last got (f.threads t x e) g r (f.threads t x e).last)
 
+formed_storing : (m : Machine) (t : ℕ) (x : ThreadState) (address : ℕ) (bytes : List ℕ) → WellFormed m → slice_get m.threads t ≡ Some x → slice_get x.program x.counter ≡ Some (Store address bytes) → x.stage ≡ Ready → WellFormed (executed m t (Some (Store address bytes)))
+formed_storing m t x address bytes f e g r =
+    let within = (f.threads t x e).program.done x.counter (Store address bytes) g in
+    formed_gone_on (record m { world = world_stored address bytes m.world }) t x (Store address bytes)
+    (formed_world m (world_stored address bytes m.world) f (world_stored_formed address bytes m.world f.world within) (worlds.setup_stored address bytes m.world f.world within)) e g r
+
 formed_step : (m : Machine) (t : ℕ) → WellFormed m → refusal m (Step t) ≡ None → WellFormed (after m (Step t))
 formed_step m t f h = by (slice_get m.threads t) refl h
   where
     next : (x : ThreadState) → slice_get m.threads t ≡ Some x → (i : Instruction) → slice_get x.program x.counter ≡ Some i → x.stage ≡ Ready → instruction_refusal m i ≡ None → WellFormed (executed m t (Some i))
     next x e (Put slot entry) g r k = formed_gone_on (record m { submissions = record m.submissions { slots = slice_set m.submissions.slots slot entry } }) t x (Put slot entry) (formed_put m slot entry f) e g r
     next x e (Push index) g r k = formed_pushing m t x index f e g r k
-    next x e (Store address bytes) g r k = f
+    next x e (Store address bytes) g r k = formed_storing m t x address bytes f e g r
     next x e (Enter to_submit min_complete flags) g r k = formed_enter m t x to_submit min_complete flags f e g k
     next x e Reap g r k = formed_reaping m t x f e g r k
     next x e (Close fd) g r k = f

@@ -1,7 +1,10 @@
 -- What each change of the machine keeps.
-use Rattle.std.proofs.Common.{◌≡◌, ◌≢◌, ℕ, ℤ, zero, suc, pos, Bool, true, false, cond, refl, sym, ◌∙◌, ap, subst, List, [], ◌∷◌, ◌++◌, length, take, drop, ◌+◌, ◌-◌, ◌%◌, ◌<◌, ◌≤◌, ◌^◌, ◌⊎◌, inl, inr, append_assoc, length-append, length-take, length-set, arith}
+use Rattle.std.proofs.Common.{◌≡◌, ◌≢◌, ℕ, ℤ, zero, suc, pos, negsuc, Bool, true, false, cond, refl, sym, ◌∙◌, ap, subst, List, [], ◌∷◌, ◌++◌, length, take, drop, ◌+◌, ◌-◌, ◌%◌, ◌<◌, ◌≤◌, ◌^◌, ◌⊎◌, inl, inr, append_assoc, length-append, length-take, length-set, arith}
 use Rattle.std.proofs.lemmas.List.{length-drop}
-use Rattle.std.specs.Prelude.{Option, Some, None, slice_get, slice_set, not}
+use Rattle.std.specs.Prelude.{Option, Some, None, slice_get, slice_set, not, ◌&&◌, if◌then◌else◌}
+use Rattle.model_files.specs.declared.descriptor.DescriptorState.{DescriptorState}
+use Rattle.model_files.specs.Worlds.{WorldState, WorldFormed, descriptor_of, descriptor_at, OneSetup as OneWorldSetup}
+use Rattle.opcodes.specs.Opcodes.{uses_descriptor, fits_end}
 use Rattle.std.specs.List.{list_any}
 use Rattle.entries.specs.declared.completion.Cqe.{Cqe}
 use Rattle.entries.specs.declared.entry.Sqe.{Sqe}
@@ -19,19 +22,18 @@ use Rattle.links_drains.specs.Batches.{rows_of}
 use Rattle.links_drains.specs.Rows.{new_row}
 use Rattle.links_drains.specs.Phases.{is_ended, is_unfinished, counts, counted_of, ended_of}
 use Rattle.links_drains.proofs.Batching.{length-rows_of, rows_of-more}
-use Rattle.links_drains.proofs.Counting.{counted-append, counted-ended, counted-issued, ended-ended, ended-unfinished, ended-append}
+use Rattle.links_drains.proofs.Counting.{counted-append, counted-ended, counted-unfinished, ended-ended, ended-unfinished, ended-append}
 use Rattle.overflow.specs.Backlogs.{BacklogState, is_clear, fits, Delivery, DeliveryFormed, all_posted, flushed as flushed_delivery}
 use Rattle.overflow.proofs.KeptInOrder.{posted_formed, flushed_formed}
 use Rattle.links_drains.proofs.RowsKept.{get-pushed, length-push}
 use Rattle.machine.specs.Submission.{offered, some_fails, passes_at, batch_of, entries_at, taken_words, taken_entries, einval}
-use Rattle.machine.specs.Steps.{delivery, flushed, ended, posted, count_of, taken_by, taken, submitted}
+use Rattle.machine.specs.Steps.{delivery, flushed, ended, posted, count_of, taken_by, taken, submitted, held_by, is_usable, lacks_descriptor, number_in}
 use Rattle.machine.specs.Threads.{ThreadState}
-use Rattle.machine.specs.Whole.{is_asleep, flag_word, WellFormed, Stands}
+use Rattle.machine.specs.Whole.{is_asleep, flag_word, HoldsDescriptor, RowFormed, WellFormed, Stands}
 use Rattle.machine.specs.declared.whole.Machine.{Machine}
-use Rattle.machine.proofs.FormedRows.{AllNops, LastFails, NopRows, all_pass, one_fails, length-batch_of, length-entries_at, counted-rows_of, nop_rows_of, nop_rows-append, updated-last}
-use Rattle.machine.proofs.FormedThreads.{updated_get}
+use Rattle.machine.proofs.FormedRows.{LastFails, FormedRows, all_pass, one_fails, length-batch_of, length-entries_at, counted-rows_of, formed_rows_of, formed_rows-append, formed_rows-updated, formed_rows-moved, ended_row, updated-last}
 
--- What holds of a well formed machine, but for the opcodes of its rows.
+-- What holds of a well formed machine, but for what holds of its rows.
 pub record Mostly (m : Machine) : Type 0 where
   pub submissions : SubFormed m.submissions
   pub completions : ComFormed m.completions
@@ -41,15 +43,16 @@ pub record Mostly (m : Machine) : Type 0 where
   pub front : m.backlog.front ≤ length m.backlog.items
   pub overflowed : length m.backlog.items ≤ ended_of m.table
   pub rows : length m.table ≤ 65536
+  pub world : WorldFormed m.world
   pub counted : m.counted ≡ counted_of m.table
   pub clock : m.clock < 2 ^ 64
   pub threads : (t : ℕ) (x : ThreadState) → slice_get m.threads t ≡ Some x → Stands (length m.submissions.slots) x
 
 pub mostly : (m : Machine) → WellFormed m → Mostly m
-mostly m h = record { submissions = h.submissions; completions = h.completions; entries_wait = h.entries_wait; completions_wait = h.completions_wait; flags = h.flags; front = h.front; overflowed = h.overflowed; rows = h.rows; counted = h.counted; clock = h.clock; threads = h.threads }
+mostly m h = record { submissions = h.submissions; completions = h.completions; entries_wait = h.entries_wait; completions_wait = h.completions_wait; flags = h.flags; front = h.front; overflowed = h.overflowed; rows = h.rows; world = h.world; counted = h.counted; clock = h.clock; threads = h.threads }
 
-pub formed_of : (m : Machine) → Mostly m → NopRows m.table → WellFormed m
-formed_of m h k = record { submissions = h.submissions; completions = h.completions; entries_wait = h.entries_wait; completions_wait = h.completions_wait; flags = h.flags; front = h.front; overflowed = h.overflowed; rows = h.rows; opcodes = k.each; counted = h.counted; clock = h.clock; threads = h.threads }
+pub formed_of : (m : Machine) → Mostly m → FormedRows m.world m.table → WellFormed m
+formed_of m h k = record { submissions = h.submissions; completions = h.completions; entries_wait = h.entries_wait; completions_wait = h.completions_wait; flags = h.flags; front = h.front; overflowed = h.overflowed; rows = h.rows; world = h.world; requests = k.each; counted = h.counted; clock = h.clock; threads = h.threads }
 
 -- ---- completions
 
@@ -95,13 +98,14 @@ mostly_flushed m h =
       front = d.front;
       overflowed = h.overflowed;
       rows = h.rows;
+      world = h.world;
       counted = h.counted;
       clock = h.clock;
       threads = h.threads;
     }
 
 pub formed_flushed : (m : Machine) → WellFormed m → WellFormed (flushed m)
-formed_flushed m h = formed_of (flushed m) (mostly_flushed m (mostly m h)) (record { each = h.opcodes })
+formed_flushed m h = formed_of (flushed m) (mostly_flushed m (mostly m h)) (record { each = h.requests })
 
 -- ---- a row ends
 
@@ -131,46 +135,85 @@ mostly_ended m r x res h e u =
       front = d.front;
       overflowed = let a = items_one (delivery m) c in let b = ended-ended m.table r x res e u in let k = h.overflowed in omega (arith, a, b, k);
       rows = let a = length-updated (λ (row : Row). record row { phase = Ended res }) m.table r in let b = h.rows in omega (arith, a, b);
+      world = h.world;
       counted = ap (λ n. n + cond (counts x) 1 0) h.counted ∙ sym (count_one (counted_of m.table) (counts x)) ∙ sym (counted-ended m.table r x res e u);
       clock = h.clock;
       threads = h.threads;
     })
 
--- an ended row and the others
-pub nop_rows-ended : (rows : List Row) (r : ℕ) (res : ℤ) → NopRows rows → NopRows (updated (λ (row : Row). record row { phase = Ended res }) rows r)
-nop_rows-ended rows r res h = record { each = λ j y e u. by j y u (updated_get (λ (row : Row). record row { phase = Ended res }) rows r j y e) }
-  where
-    by : (j : ℕ) (y : Row) → is_unfinished y.phase ≡ true → (slice_get rows j ≡ Some y) ⊎ ((z : Row) × (r ≡ j) × (slice_get rows j ≡ Some z) × (y ≡ record z { phase = Ended res })) → y.entry.opcode ≡ 0
-    by j y u (inl k) = h.each j y k u
-    by j y u (inr k) = absurd (let o = ap (λ (z : Row). is_unfinished z.phase) (sym k.3) ∙ u in cc)
-
 pub formed_ended : (m : Machine) (r : ℕ) (x : Row) (res : ℤ) → WellFormed m → slice_get m.table r ≡ Some x → is_ended x.phase ≡ false → WellFormed (ended m r res)
-formed_ended m r x res h e u = formed_of (ended m r res) (mostly_ended m r x res (mostly m h) e u) (nop_rows-ended m.table r res (record { each = h.opcodes }))
+formed_ended m r x res h e u =
+    formed_of (ended m r res) (mostly_ended m r x res (mostly m h) e u)
+    (formed_rows-updated m.world (λ (row : Row). record row { phase = Ended res }) m.table r (λ y k. ended_row m.world (record y { phase = Ended res }) refl) (record { each = h.requests }))
 
 -- ---- a row is issued
 
-pub nop_rows-issued : (rows : List Row) (r : ℕ) (x : Row) → slice_get rows r ≡ Some x → is_ended x.phase ≡ false → NopRows rows → NopRows (updated (λ (row : Row). record row { phase = Issued }) rows r)
-nop_rows-issued rows r x g q h = record { each = λ j y e u. by j y u (updated_get (λ (row : Row). record row { phase = Issued }) rows r j y e) }
+-- a row that lacks no descriptor holds one once it is issued
+issued_holds : (w : WorldState) (x : Row) → lacks_descriptor w x ≡ false → uses_descriptor x.entry.opcode ≡ true → HoldsDescriptor w (record x { phase = Issued; held = held_by x })
+issued_holds w x l u = by x.entry.fd refl
   where
-    by : (j : ℕ) (y : Row) → is_unfinished y.phase ≡ true → (slice_get rows j ≡ Some y) ⊎ ((z : Row) × (r ≡ j) × (slice_get rows j ≡ Some z) × (y ≡ record z { phase = Issued })) → y.entry.opcode ≡ 0
-    by j y u (inl k) = h.each j y k u
-    by j y u (inr k) =
-        let same : x ≡ k.0 = let o = sym g ∙ ap (slice_get rows) k.1 ∙ k.2 in cc in
-        let open_still : is_unfinished k.0.phase ≡ true = ap (λ (z : Row). is_unfinished z.phase) (sym same) ∙ ap not q in
-        ap (λ (z : Row). z.entry.opcode) k.3 ∙ h.each j k.0 k.2 open_still
+    usable : is_usable x (descriptor_at w x.entry.fd) ≡ true
+    usable = at (is_usable x (descriptor_at w x.entry.fd)) refl
+      where
+        at : (b : Bool) → is_usable x (descriptor_at w x.entry.fd) ≡ b → is_usable x (descriptor_at w x.entry.fd) ≡ true
+        at true e = e
+        at false e = absurd (let o = sym (ap (λ b. b && not (is_usable x (descriptor_at w x.entry.fd))) u) ∙ l in let p = ap not (sym e) ∙ o in cc)
 
-pub formed_issued : (m : Machine) (r : ℕ) (x : Row) → WellFormed m → slice_get m.table r ≡ Some x → is_ended x.phase ≡ false → WellFormed (record m { table = updated (λ row. record row { phase = Issued }) m.table r })
-formed_issued m r x h e q = record {
+    fits : (fd : ℕ) → x.entry.fd ≡ pos fd → (o : Option DescriptorState) → descriptor_of w fd ≡ o → is_usable x o ≡ true → HoldsDescriptor w (record x { phase = Issued; held = held_by x })
+    fits fd e None g k = absurd cc
+    fits fd e (Some d) g k = record { fd = fd; held = ap (λ b. if b then number_in x.entry.fd else None) u ∙ ap number_in e; descriptor = d; there = g; fits = second d.is_open (fits_end x.entry.opcode d.end) k }
+      where
+        second : (a b : Bool) → (a && b) ≡ true → b ≡ true
+        second true b h = h
+        second false b h = absurd cc
+
+    by : (n : ℤ) → x.entry.fd ≡ n → HoldsDescriptor w (record x { phase = Issued; held = held_by x })
+    by (pos fd) e = fits fd e (descriptor_of w fd) refl (sym (ap (λ n. is_usable x (descriptor_at w n)) e) ∙ usable)
+    by (negsuc n) e = absurd (let k = sym (ap (λ n. is_usable x (descriptor_at w n)) e) ∙ usable in cc)
+
+issued_row : (w : WorldState) (x : Row) → is_ended x.phase ≡ false → lacks_descriptor w x ≡ false → RowFormed w x → RowFormed w (record x { phase = Issued; held = held_by x })
+issued_row w x q l h = record { opcode = λ u. h.opcode (ap not q); holds = λ i u. issued_holds w x l u }
+
+pub formed_issued : (m : Machine) (r : ℕ) (x : Row) → WellFormed m → slice_get m.table r ≡ Some x → is_ended x.phase ≡ false → lacks_descriptor m.world x ≡ false
+    → WellFormed (record m { table = updated (λ row. record row { phase = Issued; held = held_by row }) m.table r })
+formed_issued m r x h e q l =
+    let f : Row → Row = λ (row : Row). record row { phase = Issued; held = held_by row } in
+    record {
+      submissions = h.submissions;
+      completions = h.completions;
+      entries_wait = h.entries_wait;
+      completions_wait = h.completions_wait;
+      flags = h.flags;
+      front = h.front;
+      overflowed = let a = ended-unfinished f m.table r x e q refl in let b = h.overflowed in omega (arith, a, b);
+      rows = let a = length-updated f m.table r in let b = h.rows in omega (arith, a, b);
+      world = h.world;
+      requests = (formed_rows-updated m.world f m.table r here (record { each = h.requests })).each;
+      counted = h.counted ∙ sym (counted-unfinished f m.table r x e q refl);
+      clock = h.clock;
+      threads = h.threads;
+    }
+  where
+    here : (y : Row) → slice_get m.table r ≡ Some y → RowFormed m.world (record y { phase = Issued; held = held_by y })
+    here y k =
+        let same : x ≡ y = let o = sym e ∙ k in cc in
+        subst (λ (z : Row). RowFormed m.world (record z { phase = Issued; held = held_by z })) same (issued_row m.world x q l (h.requests r x e))
+
+-- ---- the memory and the objects change
+
+pub formed_world : (m : Machine) (w : WorldState) → WellFormed m → WorldFormed w → OneWorldSetup m.world w → WellFormed (record m { world = w })
+formed_world m w h f s = record {
   submissions = h.submissions;
   completions = h.completions;
   entries_wait = h.entries_wait;
   completions_wait = h.completions_wait;
   flags = h.flags;
   front = h.front;
-  overflowed = let a = ended-unfinished (λ (row : Row). record row { phase = Issued }) m.table r x e q refl in let b = h.overflowed in omega (arith, a, b);
-  rows = let a = length-updated (λ (row : Row). record row { phase = Issued }) m.table r in let b = h.rows in omega (arith, a, b);
-  opcodes = (nop_rows-issued m.table r x e q (record { each = h.opcodes })).each;
-  counted = h.counted ∙ sym (counted-issued m.table r x e q);
+  overflowed = h.overflowed;
+  rows = h.rows;
+  world = f;
+  requests = (formed_rows-moved m.world w m.table s (record { each = h.requests })).each;
+  counted = h.counted;
   clock = h.clock;
   threads = h.threads;
 }
@@ -205,6 +248,7 @@ mostly_taken m k h l = record {
   front = h.front;
   overflowed = let a = ended-append m.table (rows_of (length m.table) (taken_entries m.submissions k)) in let b = h.overflowed in omega (arith, a, b);
   rows = count (length-append m.table (rows_of (length m.table) (taken_entries m.submissions k))) (length-rows_of (length m.table) (taken_entries m.submissions k)) (length-taken_entries m.submissions k);
+  world = h.world;
   counted = h.counted ∙ more (counted-append m.table (rows_of (length m.table) (taken_entries m.submissions k))) (counted-rows_of (length m.table) (taken_entries m.submissions k));
   clock = h.clock;
   threads = h.threads;
@@ -223,7 +267,7 @@ mostly_taken m k h l = record {
 pub formed_taken_all : (m : Machine) (k : ℕ) → WellFormed m → length m.table + length (offered m.submissions k) ≤ 65536 → some_fails m.submissions k ≡ false → WellFormed (taken m k)
 formed_taken_all m k h l e =
     formed_of (taken m k) (mostly_taken m k (mostly m h) l)
-    (nop_rows-append m.table (rows_of (length m.table) (taken_entries m.submissions k)) (record { each = h.opcodes }) (nop_rows_of (length m.table) (taken_entries m.submissions k) (all_pass m.submissions.slots (offered m.submissions k) e)))
+    (formed_rows-append m.world m.table (rows_of (length m.table) (taken_entries m.submissions k)) (record { each = h.requests }) (formed_rows_of m.world (length m.table) (taken_entries m.submissions k) (all_pass m.submissions.slots (offered m.submissions k) e)))
 
 -- where one does, it is the last row
 pub table_last : (m : Machine) (k : ℕ) (f : LastFails (taken_entries m.submissions k)) → (taken m k).table ≡ (m.table ++ rows_of (length m.table) f.before) ++ new_row f.last (length m.table + length f.before) ∷ []
@@ -237,16 +281,16 @@ last_row rows others x e =
     let n : length rows - 1 ≡ length others = let a = ap length e in let b = length-push others x in omega (arith, a, b) in
     ap (slice_get rows) n ∙ ap (λ rs. slice_get rs (length others)) e ∙ get-pushed others x
 
-last_ended : (rows : List Row) (others : List Row) (x : Row) (res : ℤ) → rows ≡ others ++ x ∷ [] → NopRows others → NopRows (updated (λ (row : Row). record row { phase = Ended res }) rows (length rows - 1))
-last_ended rows others x res e h =
+last_ended : (w : WorldState) (rows : List Row) (others : List Row) (x : Row) (res : ℤ) → rows ≡ others ++ x ∷ [] → FormedRows w others → FormedRows w (updated (λ (row : Row). record row { phase = Ended res }) rows (length rows - 1))
+last_ended w rows others x res e h =
     let n : length rows - 1 ≡ length others = let a = ap length e in let b = length-push others x in omega (arith, a, b) in
     let f : Row → Row = λ (row : Row). record row { phase = Ended res } in
     let s : updated f rows (length rows - 1) ≡ others ++ f x ∷ [] = ap (updated f rows) n ∙ ap (λ rs. updated f rs (length others)) e ∙ updated-last f others x in
-    subst NopRows (sym s) (nop_rows-append others (f x ∷ []) h (record { each = one }))
+    subst (FormedRows w) (sym s) (formed_rows-append w others (f x ∷ []) h (record { each = one }))
   where
-    one : (r : ℕ) (y : Row) → slice_get (record x { phase = Ended res } ∷ []) r ≡ Some y → is_unfinished y.phase ≡ true → y.entry.opcode ≡ 0
-    one zero y g u = absurd (let o = let same : record x { phase = Ended res } ≡ y = cc in ap (λ (z : Row). is_unfinished z.phase) same ∙ u in cc)
-    one (suc r) y g u = absurd cc
+    one : (r : ℕ) (y : Row) → slice_get (record x { phase = Ended res } ∷ []) r ≡ Some y → RowFormed w y
+    one zero y g = let same : record x { phase = Ended res } ≡ y = cc in subst (RowFormed w) same (ended_row w (record x { phase = Ended res }) refl)
+    one (suc r) y g = absurd cc
 
 pub formed_taken_last : (m : Machine) (k : ℕ) → WellFormed m → length m.table + length (offered m.submissions k) ≤ 65536 → some_fails m.submissions k ≡ true
     → WellFormed (ended (taken m k) (length (taken m k).table - 1) einval)
@@ -257,7 +301,7 @@ formed_taken_last m k h l e =
     let t = table_last m k f in
     formed_of (ended (taken m k) (length (taken m k).table - 1) einval)
     (mostly_ended (taken m k) (length (taken m k).table - 1) x einval (mostly_taken m k (mostly m h) l) (last_row (taken m k).table others x t) refl)
-    (last_ended (taken m k).table others x einval t (nop_rows-append m.table (rows_of (length m.table) f.before) (record { each = h.opcodes }) (nop_rows_of (length m.table) f.before f.nops)))
+    (last_ended m.world (taken m k).table others x einval t (formed_rows-append m.world m.table (rows_of (length m.table) f.before) (record { each = h.requests }) (formed_rows_of m.world (length m.table) f.before f.supported)))
 
 -- ---- words of the rings
 
@@ -271,7 +315,7 @@ formed_put m slot entry h = record {
   front = h.front;
   overflowed = h.overflowed;
   rows = h.rows;
-  opcodes = h.opcodes;
+  world = h.world; requests = h.requests;
   counted = h.counted;
   clock = h.clock;
   threads = λ t x e. subst (λ n. Stands n x) (sym (length-set m.submissions.slots slot entry)) (h.threads t x e);
@@ -292,7 +336,7 @@ formed_push m x h b l = record {
   front = h.front;
   overflowed = h.overflowed;
   rows = h.rows;
-  opcodes = h.opcodes;
+  world = h.world; requests = h.requests;
   counted = h.counted;
   clock = h.clock;
   threads = h.threads;
@@ -311,7 +355,7 @@ formed_taken_out m h l = record {
   front = h.front;
   overflowed = h.overflowed;
   rows = h.rows;
-  opcodes = h.opcodes;
+  world = h.world; requests = h.requests;
   counted = h.counted;
   clock = h.clock;
   threads = h.threads;

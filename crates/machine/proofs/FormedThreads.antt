@@ -12,20 +12,7 @@ use Rattle.machine.specs.Whole.{WellFormed, Stands, Waits}
 use Rattle.scenario.specs.declared.setup.Instruction.{Instruction}
 use Rattle.scenario.specs.declared.setup.Instruction.TheVariants.{Enter}
 use Rattle.machine.specs.declared.whole.Machine.{Machine}
-
--- an element of a changed list
-pub updated_get : {X : Type 0} (f : X → X) (xs : List X) (i j : ℕ) (y : X) → slice_get (updated f xs i) j ≡ Some y → (slice_get xs j ≡ Some y) ⊎ ((x : X) × (i ≡ j) × (slice_get xs j ≡ Some x) × (y ≡ f x))
-updated_get f [] i j y h = absurd cc
-updated_get f (x ∷ xs) zero zero y h = inr (x, refl, refl, cc)
-updated_get f (x ∷ xs) zero (suc j) y h = inl h
-updated_get f (x ∷ xs) (suc i) zero y h = inl h
-updated_get f (x ∷ xs) (suc i) (suc j) y h = elim (updated_get f xs i j y h) [ inl k ↦ inl k | inr k ↦ inr (k.0, ap suc k.1, k.2, k.3) ]
-
--- a field that no change reaches
-pub map_updated : {X V : Type 0} (g : X → V) (f : X → X) (xs : List X) (i : ℕ) → ((x : X) → g (f x) ≡ g x) → map g xs ≡ map g (updated f xs i)
-map_updated g f [] i h = refl
-map_updated g f (x ∷ xs) zero h = ap (λ v. v ∷ map g xs) (sym (h x))
-map_updated g f (x ∷ xs) (suc i) h = ap (λ vs. g x ∷ vs) (map_updated g f xs i h)
+use Rattle.machine.proofs.ListsChanged.{updated_get}
 
 -- an answer fits
 pub fits_count : (n : ℕ) → n ≤ 65536 → FitsSigned w64 (pos n)
@@ -79,7 +66,7 @@ formed_thread m f t x h e s = record {
   front = h.front;
   overflowed = h.overflowed;
   rows = h.rows;
-  opcodes = h.opcodes;
+  world = h.world; requests = h.requests;
   counted = h.counted;
   clock = h.clock;
   threads = stands_updated (length m.submissions.slots) m.threads f t x h.threads e s;

@@ -8,21 +8,29 @@ use Rattle.places.specs.Lists.{updated}
 use Rattle.places.proofs.ListLemmas.{length-updated}
 use Rattle.places.specs.declared.value.Stage.{Stage}
 use Rattle.places.specs.declared.value.Stage.TheVariants.{Ready, Waiting}
+use Rattle.model_files.specs.Worlds.{WorldState, world_stored, OneSetup as OneWorldSetup}
+use Rattle.opcodes.specs.declared.choice.Choice.{Choice}
+use Rattle.opcodes.specs.declared.ending.Outcome.{Outcome}
+use Rattle.opcodes.specs.declared.ending.Outcome.TheVariants.{Res, Waits, BadChoice}
+use Rattle.opcodes.specs.Outcomes.{outcome_of}
+use Rattle.opcodes.specs.Effects.{world_after}
+use Rattle.opcodes.proofs.Staying.{stays_after}
 use Rattle.links_drains.specs.Batches.{rows_of}
 use Rattle.overflow.specs.Backlogs.{fits, kept, free_slots}
 use Rattle.overflow.proofs.Posting.{posted_slots}
 use Rattle.sqpoll.specs.declared.poller.Poller.{Poller}
 use Rattle.sqpoll.specs.declared.poller.Poller.TheVariants.{Awake, Asleep}
-use Rattle.machine.specs.Submission.{some_fails, taken_entries, einval, ebusy}
-use Rattle.machine.specs.Steps.{refusal, sleep_refusal, after, stepped, executed, entered, entered_alone, entered_beside, submitting, before_submission, is_busy, is_unknown, gets_events, wakes, woken, shown, awaited, ready_count, held_back, with_poller, posted, flushed, completions_of, ended, taken, submitted, answered}
+use Rattle.model_files.proofs.Fixing as worlds
+use Rattle.machine.specs.Submission.{some_fails, taken_entries, einval, ebusy, ebadf}
+use Rattle.machine.specs.Steps.{refusal, sleep_refusal, after, stepped, executed, entered, entered_alone, entered_beside, submitting, before_submission, is_busy, is_unknown, gets_events, wakes, woken, shown, awaited, ready_count, held_back, with_poller, posted, flushed, completions_of, ended, taken, submitted, answered, issued, finished, finished_as, lacks_descriptor, held_by}
 use Rattle.machine.specs.Threads.{ThreadState, program_of}
-use Rattle.machine.specs.Whole.{OneSetup, Grows}
+use Rattle.machine.specs.Whole.{OneSetup, Grows, WellFormed}
 use Rattle.scenario.specs.declared.setup.Instruction.{Instruction}
 use Rattle.scenario.specs.declared.setup.Instruction.TheVariants.{Put, Push, Store, Enter, Reap, Close}
 use Rattle.machine.specs.declared.whole.Machine.{Machine}
 use Rattle.scenario.specs.declared.event.Event.{Event}
 use Rattle.scenario.specs.declared.event.Event.TheVariants.{Step, Take, Sleep, Issue, Finish, Expire, Tick}
-use Rattle.machine.proofs.FormedThreads.{map_updated}
+use Rattle.machine.proofs.ListsChanged.{map_updated}
 use Rattle.machine.proofs.Restored.{setup_self, setup_then}
 
 pub grows_self : (m : Machine) → Grows m m
@@ -41,23 +49,23 @@ pub grows_posted : (m : Machine) (cs : List Cqe) → Grows m (posted m cs)
 grows_posted m cs =
     let n = fits m.completions m.backlog (length cs) in
     record {
-      setup = record { array = refl; slots = refl; completions = sym (posted_slots m.completions (take n cs)); programs = refl; poller = refl };
+      setup = record { array = refl; slots = refl; completions = sym (posted_slots m.completions (take n cs)); world = worlds.setup_self _; programs = refl; poller = refl };
       rows = le_refl _;
       backlog = let a = length-append m.backlog.items (drop n cs) in omega (arith, a);
     }
 
 pub grows_flushed : (m : Machine) → Grows m (flushed m)
 grows_flushed m = record {
-  setup = record { array = refl; slots = refl; completions = sym (posted_slots m.completions (take (min (length (kept m.backlog)) (free_slots m.completions)) (kept m.backlog))); programs = refl; poller = refl };
+  setup = record { array = refl; slots = refl; completions = sym (posted_slots m.completions (take (min (length (kept m.backlog)) (free_slots m.completions)) (kept m.backlog))); world = worlds.setup_self _; programs = refl; poller = refl };
   rows = le_refl _;
   backlog = le_refl _;
 }
 
-grows_ended : (m : Machine) (r : ℕ) (res : ℤ) → Grows m (ended m r res)
+pub grows_ended : (m : Machine) (r : ℕ) (res : ℤ) → Grows m (ended m r res)
 grows_ended m r res =
     let p = grows_posted m (completions_of (slice_get m.table r) res) in
     record {
-      setup = record { array = refl; slots = refl; completions = p.setup.completions; programs = refl; poller = refl };
+      setup = record { array = refl; slots = refl; completions = p.setup.completions; world = worlds.setup_self _; programs = refl; poller = refl };
       rows = let a = length-updated (λ (row : Row). record row { phase = Ended res }) m.table r in omega (arith, a);
       backlog = p.backlog;
     }
@@ -66,7 +74,7 @@ grows_ended m r res =
 
 grows_taken : (m : Machine) (k : ℕ) → Grows m (taken m k)
 grows_taken m k = record {
-  setup = record { array = refl; slots = refl; completions = refl; programs = refl; poller = refl };
+  setup = record { array = refl; slots = refl; completions = refl; world = worlds.setup_self _; programs = refl; poller = refl };
   rows = let a = length-append m.table (rows_of (length m.table) (taken_entries m.submissions k)) in omega (arith, a);
   backlog = le_refl _;
 }
@@ -85,7 +93,7 @@ grows_submitted m k = by (some_fails m.submissions k)
 
 pub grows_thread : (m : Machine) (f : ThreadState → ThreadState) (t : ℕ) → ((x : ThreadState) → program_of (f x) ≡ program_of x) → Grows m (record m { threads = updated f m.threads t })
 grows_thread m f t h = record {
-  setup = record { array = refl; slots = refl; completions = refl; programs = map_updated program_of f m.threads t h; poller = refl };
+  setup = record { array = refl; slots = refl; completions = refl; world = worlds.setup_self _; programs = map_updated program_of f m.threads t h; poller = refl };
   rows = le_refl _;
   backlog = le_refl _;
 }
@@ -107,7 +115,7 @@ grows_awaited m t n k w flags = by (gets_events flags && ((n == k) && nat_lt (re
 
 pub grows_poller : (m : Machine) (p : Poller) → is_some m.poller ≡ true → Grows m (with_poller m p)
 grows_poller m p h = record {
-  setup = record { array = refl; slots = refl; completions = refl; programs = refl; poller = h };
+  setup = record { array = refl; slots = refl; completions = refl; world = worlds.setup_self _; programs = refl; poller = h };
   rows = le_refl _;
   backlog = le_refl _;
 }
@@ -157,35 +165,57 @@ grows_entered m t k w flags = by m.poller refl
             grows_then m (woken m flags) _ (grows_woken m flags (ap is_some e))
             (grows_then (woken m flags) (shown (woken m flags) flags) _ (grows_shown (woken m flags) flags) (grows_awaited (shown (woken m flags) flags) t k k w flags))
 
+-- ---- memory and objects
+
+grows_world : (m : Machine) (w : WorldState) → OneWorldSetup m.world w → Grows m (record m { world = w })
+grows_world m w h = record {
+  setup = record { array = refl; slots = refl; completions = refl; world = h; programs = refl; poller = refl };
+  rows = le_refl _;
+  backlog = le_refl _;
+}
+
+-- the memory changes, and a thread goes on
+pub grows_parts : (m : Machine) (w : WorldState) (ts : List ThreadState) → OneWorldSetup m.world w → map program_of ts ≡ map program_of m.threads → Grows m (record m { world = w; threads = ts })
+grows_parts m w ts h k = record {
+  setup = record { array = refl; slots = refl; completions = refl; world = h; programs = sym k; poller = refl };
+  rows = le_refl _;
+  backlog = le_refl _;
+}
+
+grows_stored : (m : Machine) (t address : ℕ) (bytes : List ℕ) → WellFormed m → address + length bytes ≤ 65536 → Grows m (executed m t (Some (Store address bytes)))
+grows_stored m t address bytes f l =
+    let stored = record m { world = world_stored address bytes m.world } in
+    grows_then m stored _ (grows_world m (world_stored address bytes m.world) (worlds.setup_stored address bytes m.world f.world l)) (grows_thread stored (λ x. record x { counter = x.counter + 1 }) t (λ x. refl))
+
 -- ---- events
 
-grows_executed : (m : Machine) (t : ℕ) (i : Option Instruction) → Grows m (executed m t i)
-grows_executed m t None = grows_self m
-grows_executed m t (Some (Put slot entry)) = record {
-  setup = record { array = refl; slots = sym (length-set m.submissions.slots slot entry); completions = refl; programs = map_updated program_of _ m.threads t (λ x. refl); poller = refl };
+grows_executed : (m : Machine) (t : ℕ) (x : ThreadState) → WellFormed m → slice_get m.threads t ≡ Some x → (i : Option Instruction) → slice_get x.program x.counter ≡ i → Grows m (executed m t i)
+grows_executed m t x f e None g = grows_self m
+grows_executed m t x f e (Some (Put slot entry)) g = record {
+  setup = record { array = refl; slots = sym (length-set m.submissions.slots slot entry); completions = refl; world = worlds.setup_self _; programs = map_updated program_of _ m.threads t (λ x. refl); poller = refl };
   rows = le_refl _;
   backlog = le_refl _;
 }
-grows_executed m t (Some (Push index)) = record {
-  setup = record { array = sym (length-set m.submissions.array (m.submissions.tail % length m.submissions.array) index); slots = refl; completions = refl; programs = map_updated program_of _ m.threads t (λ x. refl); poller = refl };
+grows_executed m t x f e (Some (Push index)) g = record {
+  setup = record { array = sym (length-set m.submissions.array (m.submissions.tail % length m.submissions.array) index); slots = refl; completions = refl; world = worlds.setup_self _; programs = map_updated program_of _ m.threads t (λ x. refl); poller = refl };
   rows = le_refl _;
   backlog = le_refl _;
 }
-grows_executed m t (Some (Store address bytes)) = grows_self m
-grows_executed m t (Some (Enter to_submit min_complete flags)) = grows_entered m t to_submit min_complete flags
-grows_executed m t (Some Reap) = record {
-  setup = record { array = refl; slots = refl; completions = refl; programs = map_updated program_of _ m.threads t (λ x. refl); poller = refl };
+grows_executed m t x f e (Some (Store address bytes)) g = grows_stored m t address bytes f ((f.threads t x e).program.done x.counter (Store address bytes) g)
+grows_executed m t x f e (Some (Enter to_submit min_complete flags)) g = grows_entered m t to_submit min_complete flags
+grows_executed m t x f e (Some Reap) g = record {
+  setup = record { array = refl; slots = refl; completions = refl; world = worlds.setup_self _; programs = map_updated program_of _ m.threads t (λ x. refl); poller = refl };
   rows = le_refl _;
   backlog = le_refl _;
 }
-grows_executed m t (Some (Close fd)) = grows_self m
+grows_executed m t x f e (Some (Close fd)) g = grows_self m
 
-grows_stepped : (m : Machine) (t : ℕ) (o : Option ThreadState) → Grows m (stepped m t o)
-grows_stepped m t None = grows_self m
-grows_stepped m t (Some x) = by x.stage
+grows_stepped : (m : Machine) (t : ℕ) → WellFormed m → (o : Option ThreadState) → slice_get m.threads t ≡ o → Grows m (stepped m t o)
+grows_stepped m t f None e = grows_self m
+grows_stepped m t f (Some x) e = by x.stage
   where
     by : (s : Stage) → Grows m (elim s [ Ready ↦ executed m t (slice_get x.program x.counter) | Waiting n w ↦ answered m t (pos n) ])
-    by Ready = grows_executed m t (slice_get x.program x.counter)
+    by Ready = grows_executed m t x f e (slice_get x.program x.counter) refl
     by (Waiting n w) = grows_answered m t (pos n)
 
 has_poller : (m : Machine) → refusal m Sleep ≡ None → is_some m.poller ≡ true
@@ -195,15 +225,34 @@ has_poller m h = by m.poller h
     by None k = absurd cc
     by (Some p) k = refl
 
-pub grows_after : (m : Machine) (e : Event) → refusal m e ≡ None → Grows m (after m e)
-grows_after m (Step t) h = grows_stepped m t (slice_get m.threads t)
-grows_after m (Take n) h = grows_submitted m n
-grows_after m Sleep h = grows_poller m Asleep (has_poller m h)
-grows_after m (Issue r) h = record {
-  setup = record { array = refl; slots = refl; completions = refl; programs = refl; poller = refl };
-  rows = let a = length-updated (λ (row : Row). record row { phase = Issued }) m.table r in omega (arith, a);
-  backlog = le_refl _;
-}
-grows_after m (Finish r c) h = grows_ended m r (pos 0)
-grows_after m (Expire r) h = grows_self m
-grows_after m (Tick d) h = record { setup = record { array = refl; slots = refl; completions = refl; programs = refl; poller = refl }; rows = le_refl _; backlog = le_refl _ }
+pub grows_issued : (m : Machine) (r : ℕ) (o : Option Row) → Grows m (issued m r o)
+grows_issued m r None = grows_self m
+grows_issued m r (Some x) = by (lacks_descriptor m.world x)
+  where
+    by : (b : Bool) → Grows m (if b then ended m r ebadf else record m { table = updated (λ row. record row { phase = Issued; held = held_by row }) m.table r })
+    by true = grows_ended m r ebadf
+    by false = record {
+      setup = record { array = refl; slots = refl; completions = refl; world = worlds.setup_self _; programs = refl; poller = refl };
+      rows = let a = length-updated (λ (row : Row). record row { phase = Issued; held = held_by row }) m.table r in omega (arith, a);
+      backlog = le_refl _;
+    }
+
+pub grows_finished : (m : Machine) (r : ℕ) (c : Choice) → WellFormed m → (o : Option Row) → Grows m (finished m r o c)
+grows_finished m r c f None = grows_self m
+grows_finished m r c f (Some x) = by (outcome_of m.world x c) refl
+  where
+    by : (o : Outcome) → outcome_of m.world x c ≡ o → Grows m (finished_as m r x o)
+    by (Res res) e =
+        let after_it = record m { world = world_after x res m.world } in
+        grows_then m after_it _ (grows_world m (world_after x res m.world) (stays_after m.world x res c f.world e).setup) (grows_ended after_it r res)
+    by Waits e = grows_self m
+    by BadChoice e = grows_self m
+
+pub grows_after : (m : Machine) (e : Event) → WellFormed m → refusal m e ≡ None → Grows m (after m e)
+grows_after m (Step t) f h = grows_stepped m t f (slice_get m.threads t) refl
+grows_after m (Take n) f h = grows_submitted m n
+grows_after m Sleep f h = grows_poller m Asleep (has_poller m h)
+grows_after m (Issue r) f h = grows_issued m r (slice_get m.table r)
+grows_after m (Finish r c) f h = grows_finished m r c f (slice_get m.table r)
+grows_after m (Expire r) f h = grows_self m
+grows_after m (Tick d) f h = record { setup = record { array = refl; slots = refl; completions = refl; world = worlds.setup_self _; programs = refl; poller = refl }; rows = le_refl _; backlog = le_refl _ }

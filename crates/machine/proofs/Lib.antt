@@ -7,6 +7,7 @@ pub mod TakingWords
 pub mod SubmissionLemmas
 pub mod InstructionLemmas
 pub mod EnterLemmas
+pub mod ListsChanged
 pub mod FormedRows
 pub mod FormedThreads
 pub mod FormedMachines

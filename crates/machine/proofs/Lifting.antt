@@ -3,7 +3,7 @@ use Rattle.std.proofs.Common.{◌≡◌, ℕ, Bool, true, false, refl, sym, ◌�
 use Rattle.std.specs.Prelude.{Option, Some, None, unwrap_or, if◌then◌else◌}
 use Rattle.entries.specs.declared.row.Row.{Row}
 use Rattle.places.specs.declared.place.Place.{Place}
-use Rattle.places.specs.declared.place.Place.TheVariants.{SubmissionHead, SubmissionTail, SubmissionFlags, SubmissionDropped, CompletionHead, CompletionTail, Array, Slot, Completion, Request, Backlog, BacklogFront, Clock, Counted, PollerStage, ProgramCounter, ThreadStage, Last, Got}
+use Rattle.places.specs.declared.place.Place.TheVariants.{SubmissionHead, SubmissionTail, SubmissionFlags, SubmissionDropped, CompletionHead, CompletionTail, Array, Slot, Completion, MemoryByte, FileByte, DurableByte, FileLength, DurableLength, Position, OpenMark, PipeByte, PutCount, TakenCount, EventCount, Request, Backlog, BacklogFront, Clock, Counted, PollerStage, ProgramCounter, ThreadStage, Last, Got}
 use Rattle.places.specs.declared.value.Value.{Value}
 use Rattle.places.specs.declared.value.Value.TheVariants.{Number}
 use Rattle.places.specs.declared.value.Change.{Change}
@@ -12,6 +12,7 @@ use Rattle.places.specs.View.{View, named, undo, put_at, Keeps, Noted}
 use Rattle.places.proofs.SamePlace.{same_place_is}
 use Rattle.places.proofs.Keeping.{keeps_noted}
 use Rattle.ring_words.specs.Rings.{SubWords, sub_owns, sub_seen, sub_can_put, ComWords, com_owns, com_seen, com_can_put}
+use Rattle.model_files.specs.Worlds.{WorldState, world_owns, world_seen, world_can_put}
 use Rattle.links_drains.specs.Rows.{table_owns, table_seen, table_can_put}
 use Rattle.overflow.specs.Backlogs.{BacklogState, Delivery, backlog_owns, backlog_seen, backlog_can_put, delivery_owns, delivery_seen}
 use Rattle.sqpoll.specs.declared.poller.Poller.{Poller}
@@ -43,6 +44,23 @@ lift_completions m w cs ds h = keeps_whole _ _ _ _ at
     at CompletionHead = h.back CompletionHead refl
     at CompletionTail = h.back CompletionTail refl
     at (Completion i) = h.back (Completion i) refl
+    at p = ap (λ n. unwrap_or n (view m p)) (h.others p refl)
+
+pub lift_world : (m : Machine) (w : WorldState) (cs ds : List Change) → Keeps world_owns (world_seen m.world) (world_seen w) cs ds → Keeps everywhere (view m) (view (record m { world = w })) cs ds
+lift_world m w cs ds h = keeps_whole _ _ _ _ at
+  where
+    at : (p : Place) → undo (view (record m { world = w })) ds p ≡ undo (view m) cs p
+    at (MemoryByte a) = h.back (MemoryByte a) refl
+    at (FileByte o i) = h.back (FileByte o i) refl
+    at (DurableByte o i) = h.back (DurableByte o i) refl
+    at (FileLength o) = h.back (FileLength o) refl
+    at (DurableLength o) = h.back (DurableLength o) refl
+    at (Position fd) = h.back (Position fd) refl
+    at (OpenMark fd) = h.back (OpenMark fd) refl
+    at (PipeByte o i) = h.back (PipeByte o i) refl
+    at (PutCount o) = h.back (PutCount o) refl
+    at (TakenCount o) = h.back (TakenCount o) refl
+    at (EventCount o) = h.back (EventCount o) refl
     at p = ap (λ n. unwrap_or n (view m p)) (h.others p refl)
 
 pub lift_table : (m : Machine) (w : List Row) (cs ds : List Change) → Keeps table_owns (table_seen m.table) (table_seen w) cs ds → Keeps everywhere (view m) (view (record m { table = w })) cs ds
@@ -136,6 +154,20 @@ seen_completions m w p v o h CompletionTail = h CompletionTail
 seen_completions m w p v o h (Completion i) = h (Completion i)
 seen_completions m w p v o h q = apart com_owns p q v (view m q) o refl
 
+pub seen_world : (m : Machine) (w : WorldState) (p : Place) (v : Option Value) → world_owns p ≡ true → ((q : Place) → world_seen w q ≡ put_at (world_seen m.world) p v q) → (q : Place) → view (record m { world = w }) q ≡ put_at (view m) p v q
+seen_world m w p v o h (MemoryByte a) = h (MemoryByte a)
+seen_world m w p v o h (FileByte x i) = h (FileByte x i)
+seen_world m w p v o h (DurableByte x i) = h (DurableByte x i)
+seen_world m w p v o h (FileLength x) = h (FileLength x)
+seen_world m w p v o h (DurableLength x) = h (DurableLength x)
+seen_world m w p v o h (Position fd) = h (Position fd)
+seen_world m w p v o h (OpenMark fd) = h (OpenMark fd)
+seen_world m w p v o h (PipeByte x i) = h (PipeByte x i)
+seen_world m w p v o h (PutCount x) = h (PutCount x)
+seen_world m w p v o h (TakenCount x) = h (TakenCount x)
+seen_world m w p v o h (EventCount x) = h (EventCount x)
+seen_world m w p v o h q = apart world_owns p q v (view m q) o refl
+
 pub seen_table : (m : Machine) (w : List Row) (p : Place) (v : Option Value) → table_owns p ≡ true → ((q : Place) → table_seen w q ≡ put_at (table_seen m.table) p v q) → (q : Place) → view (record m { table = w }) q ≡ put_at (view m) p v q
 seen_table m w p v o h (Request i) = h (Request i)
 seen_table m w p v o h q = apart table_owns p q v (view m q) o refl
@@ -173,6 +205,20 @@ can_put_completions m CompletionHead v o h = h
 can_put_completions m CompletionTail v o h = h
 can_put_completions m (Completion i) v o h = h
 can_put_completions m p v o h = absurd cc
+
+pub can_put_world : (m : Machine) (p : Place) (v : Option Value) → world_owns p ≡ true → can_put m p v → world_can_put m.world p v
+can_put_world m (MemoryByte a) v o h = h
+can_put_world m (FileByte x i) v o h = h
+can_put_world m (DurableByte x i) v o h = h
+can_put_world m (FileLength x) v o h = h
+can_put_world m (DurableLength x) v o h = h
+can_put_world m (Position fd) v o h = h
+can_put_world m (OpenMark fd) v o h = h
+can_put_world m (PipeByte x i) v o h = h
+can_put_world m (PutCount x) v o h = h
+can_put_world m (TakenCount x) v o h = h
+can_put_world m (EventCount x) v o h = h
+can_put_world m p v o h = absurd cc
 
 pub can_put_table : (m : Machine) (p : Place) (v : Option Value) → table_owns p ≡ true → can_put m p v → table_can_put m.table p v
 can_put_table m (Request i) v o h = h

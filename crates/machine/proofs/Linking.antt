@@ -19,9 +19,14 @@ pub goes_back : (s : Machine) (e : Event) (r : List Change) (m : Machine) → Li
 goes_back s e r m h =
     record {
       formed = h.formed;
-      grows = subst (Grows s) (sym h.next.changed) (grows_after s e h.next.accepted);
+      grows = subst (Grows s) (sym h.next.changed) (grows_after s e h.formed h.next.accepted);
       back = h.back;
     }
+
+-- nothing is noted yet
+pub none_named : (cs : List Change) (p : Place) → cs ≡ [] → named cs p ≡ None
+unfolding named
+none_named cs p h = ap (λ xs. named xs p) h
 
 -- notes from none
 pub back_from_keeps : (u v : View) (cs ds : List Change) → cs ≡ [] → Keeps everywhere u v cs ds → LeadsBack u v ds

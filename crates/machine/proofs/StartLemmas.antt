@@ -17,7 +17,12 @@ use Rattle.ring_words.proofs.Sizes.{rounded_size, size_most}
 use Rattle.ring_words.proofs.Laws.{formed_sub_start, formed_com_start}
 use Rattle.scenario.specs.Programs.{HasWidths, HaveWidths, IsDone, IsProgram}
 use Rattle.machine.specs.Threads.{ThreadState, thread_start}
-use Rattle.scenario.specs.Setups.{setup_refusal, has_ring_sizes, is_between, is_completion_size, has_programs, is_program, has_slot, is_unbuilt, asks_for_unbuilt, is_some_list}
+use Rattle.scenario.specs.Setups.{setup_refusal, has_ring_sizes, is_between, is_completion_size, has_programs, is_program, is_instruction, has_memory, has_objects, has_descriptors, is_object, is_name, is_contents, names_once, keeps_limits, is_unbuilt, is_unbuilt_object, asks_for_unbuilt}
+use Rattle.places.specs.declared.object.Contents.{Contents}
+use Rattle.places.specs.declared.object.Contents.TheVariants.{File, Pipe, EventFd}
+use Rattle.places.specs.declared.object.Object.{Object}
+use Rattle.model_files.specs.Worlds.{ContentsFit}
+use Rattle.model_files.proofs.Forming.{world_start_formed}
 use Rattle.places.specs.declared.value.Stage.TheVariants.{Ready, Waiting}
 use Rattle.machine.specs.Whole.{is_asleep, flag_word, WellFormed, Stands}
 use Rattle.machine.specs.Runs.{first_poller, start, completion_entries}
@@ -63,37 +68,61 @@ list_any_get q (y ∷ ys) (suc i) x h g = list_any_get q ys i x (both_false (q y
 
 -- ---- instructions and programs
 
-done : (size : ℕ) (x : Instruction) → has_slot size x ≡ true → is_unbuilt x ≡ false → HasWidths x → IsDone size x
+done : (size : ℕ) (x : Instruction) → is_instruction size x ≡ true → is_unbuilt x ≡ false → HasWidths x → IsDone size x
 done size (Put slot entry) h u w = grind (arith, nat_tests)
 done size (Push index) h u w = w
-done size (Store address bytes) h u w = absurd cc
+done size (Store address bytes) h u w = let b = both_true (leb (length bytes) 4096) (leb (address + length bytes) 65536) h in grind (arith, nat_tests, b.1)
 done size (Enter to_submit min_complete flags) h u w = w
 done size Reap h u w = tt
 done size (Close fd) h u w = absurd cc
 
 program : (size : ℕ) (p : List Instruction) → is_program size p ≡ true → list_any is_unbuilt p ≡ false → ((i : ℕ) (x : Instruction) → slice_get p i ≡ Some x → HasWidths x) → IsProgram size p
 program size p h u w =
-    let b = both_true (leb (length p) 4096) (list_all (has_slot size) p) h in
+    let b = both_true (leb (length p) 4096) (list_all (is_instruction size) p) h in
     record {
       short = grind (arith, nat_tests, b.0);
-      done = λ i x g. done size x (list_all_get (has_slot size) p i x b.1 g) (list_any_get is_unbuilt p i x u g) (w i x g);
+      done = λ i x g. done size x (list_all_get (is_instruction size) p i x b.1 g) (list_any_get is_unbuilt p i x u g) (w i x g);
     }
 
 -- ---- the setup's fields
 
-record Accepted (s : Setup) : Type 0 where
+pub record Accepted (s : Setup) : Type 0 where
   pub sizes : has_ring_sizes s ≡ true
+  pub memory : has_memory s ≡ true
+  pub objects : has_objects s ≡ true
   pub programs : has_programs s ≡ true
   pub built : asks_for_unbuilt s ≡ false
 
-accepted : (s : Setup) → setup_refusal s ≡ None → Accepted s
-accepted s h = by (has_ring_sizes s) (has_programs s) (asks_for_unbuilt s) refl refl refl h
+limits : (s : Setup) → has_ring_sizes s ≡ true → keeps_limits s ≡ true → asks_for_unbuilt s ≡ false → Accepted s
+limits s a b c =
+    let m = both_true (has_memory s) (has_objects s && (has_descriptors s && has_programs s)) b in
+    let o = both_true (has_objects s) (has_descriptors s && has_programs s) m.1 in
+    let d = both_true (has_descriptors s) (has_programs s) o.1 in
+    record { sizes = a; memory = m.0; objects = o.0; programs = d.1; built = c }
+
+pub accepted : (s : Setup) → setup_refusal s ≡ None → Accepted s
+accepted s h = by (has_ring_sizes s) (keeps_limits s) (asks_for_unbuilt s) refl refl refl h
   where
-    by : (a b c : Bool) → has_ring_sizes s ≡ a → has_programs s ≡ b → asks_for_unbuilt s ≡ c → cond (not a) (Some RingSize) (cond (b && not c) None (Some Limit)) ≡ None → Accepted s
-    by true true false d e f k = record { sizes = d; programs = e; built = f }
+    by : (a b c : Bool) → has_ring_sizes s ≡ a → keeps_limits s ≡ b → asks_for_unbuilt s ≡ c → cond (not a) (Some RingSize) (cond (b && not c) None (Some Limit)) ≡ None → Accepted s
+    by true true false d e f k = limits s d e f
     by true true true d e f k = absurd cc
     by true false c d e f k = absurd cc
     by false b c d e f k = absurd cc
+
+-- what the memory and the objects of a setup start as
+pub memory_fits : (s : Setup) → Accepted s → length s.memory ≤ 65536
+memory_fits s a = grind (arith, nat_tests, a.memory)
+
+contents_fit : (c : Contents) → is_contents c ≡ true → ContentsFit c
+contents_fit (File bytes) h = grind (arith, nat_tests)
+contents_fit (Pipe capacity) h = tt
+contents_fit (EventFd counter) h = tt
+
+pub objects_fit : (s : Setup) → Accepted s → (i : ℕ) (o : Object) → slice_get s.objects i ≡ Some o → ContentsFit o.contents
+objects_fit s a i o h =
+    let few = both_true (leb (length s.objects) 32 && list_all is_object s.objects) (names_once s.objects) a.objects in
+    let each = both_true (leb (length s.objects) 32) (list_all is_object s.objects) few.0 in
+    contents_fit o.contents (both_true (is_name o.name) (is_contents o.contents) (list_all_get is_object s.objects i o each.1 h)).1
 
 entries_between : (s : Setup) → has_ring_sizes s ≡ true → (0 < s.entries) × (s.entries ≤ 4096)
 entries_between s h =
@@ -123,7 +152,7 @@ threads_stand s a w t x h = by (slice_get s.threads t) refl (sym (slice_get-map 
     all = (both_true (leb (length s.threads) 16) (list_all (is_program (rounded s.entries)) s.threads) a.programs).1
 
     built : list_any (list_any is_unbuilt) s.threads ≡ false
-    built = (both_false (s.submit_all || is_some_list s.memory || is_some_list s.objects || is_some_list s.fds) (list_any (list_any is_unbuilt) s.threads) a.built).1
+    built = (both_false (s.submit_all || list_any is_unbuilt_object s.objects) (list_any (list_any is_unbuilt) s.threads) a.built).1
 
     by : (o : Option (List Instruction)) → slice_get s.threads t ≡ o → option_map thread_start o ≡ Some x → Stands (rounded s.entries) x
     by None g k = absurd cc
@@ -156,7 +185,8 @@ formed_start s h b w =
       front = omega arith;
       overflowed = omega arith;
       rows = omega arith;
-      opcodes = λ r x k u. absurd (none_there x k);
+      world = world_start_formed s.memory s.objects s.fds (memory_fits s a) (objects_fit s a);
+      requests = λ r x k. absurd (none_there x k);
       counted = refl;
       clock = omega arith;
       threads = λ t x k. subst (λ (i : ℕ). Stands i x) (sym size) (threads_stand s a w t x k);

@@ -4,6 +4,7 @@ use Rattle.places.specs.declared.value.Change.{Change}
 use Rattle.places.specs.View.{LeadsBack}
 use Rattle.ring_words.specs.Rings.{sub_start, com_start}
 use Rattle.overflow.specs.Backlogs.{backlog_start}
+use Rattle.model_files.specs.Worlds.{world_start}
 use Rattle.sqpoll.specs.declared.poller.Poller.{Poller}
 use Rattle.sqpoll.specs.declared.poller.Poller.TheVariants.{Awake}
 pub use Rattle.scenario.specs.Setups.{setup_refusal, completion_entries}
@@ -22,12 +23,13 @@ abbrev pub first_poller : Bool → Option Poller
 first_poller true = Some Awake
 first_poller false = None
 
--- the machine that a setup starts with: empty rings whose words are the base, nothing kept, no rows, the poller awake, threads ready, all numbers 0
+-- the machine that a setup starts with: empty rings whose words are the base, nothing kept, its memory and objects, descriptors open, no rows, the poller awake, threads ready, all numbers 0
 abbrev pub start : Setup → Machine
 start s = record {
   submissions = sub_start s.entries s.base;
   completions = com_start (completion_entries s.entries s.cq) s.base;
   backlog = backlog_start;
+  world = world_start s.memory s.objects s.fds;
   table = [];
   poller = first_poller s.sqpoll;
   threads = map thread_start s.threads;

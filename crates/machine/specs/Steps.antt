@@ -1,12 +1,18 @@
 -- Which events are refused, and what the others change.
-use Rattle.std.specs.Prelude.{◌≡◌, ℤ, pos, ℕ, ◌+◌, ◌-◌, ◌%◌, ◌<◌, ◌^◌, ◌==◌, Bool, true, false, not, ◌&&◌, ◌||◌, nat_lt, min, if◌then◌else◌, Option, Some, None, slice_get, slice_set, List, [], ◌∷◌, ◌++◌, length}
+use Rattle.std.specs.Prelude.{◌≡◌, ℤ, pos, negsuc, ℕ, ◌+◌, ◌-◌, ◌%◌, ◌<◌, ◌^◌, ◌==◌, Bool, true, false, not, ◌&&◌, ◌||◌, nat_lt, min, if◌then◌else◌, Option, Some, None, slice_get, slice_set, List, [], ◌∷◌, ◌++◌, length}
 use Rattle.std.specs.Int.Bits.{bit_and}
 use Rattle.entries.specs.declared.completion.Cqe.{Cqe}
 use Rattle.entries.specs.declared.row.Row.{Row}
 use Rattle.entries.specs.declared.row.Phase.{Phase}
 use Rattle.entries.specs.declared.row.Phase.TheVariants.{Queued, Issued, Ended}
 use Rattle.opcodes.specs.declared.choice.Choice.{Choice}
-use Rattle.opcodes.specs.declared.choice.Choice.TheVariants.{Full, Short, Eio}
+use Rattle.opcodes.specs.declared.ending.Outcome.{Outcome}
+use Rattle.opcodes.specs.declared.ending.Outcome.TheVariants.{Res, Waits, BadChoice}
+use Rattle.opcodes.specs.Opcodes.{uses_descriptor, fits_end}
+use Rattle.opcodes.specs.Outcomes.{outcome_of}
+use Rattle.opcodes.specs.Effects.{world_after}
+use Rattle.model_files.specs.declared.descriptor.DescriptorState.{DescriptorState}
+use Rattle.model_files.specs.Worlds.{WorldState, descriptor_at, world_stored}
 use Rattle.places.specs.Lists.{updated}
 use Rattle.places.specs.declared.value.Stage.{Stage}
 use Rattle.places.specs.declared.value.Stage.TheVariants.{Ready, Waiting}
@@ -18,7 +24,7 @@ use Rattle.sqpoll.specs.declared.poller.Poller.TheVariants.{Awake, Asleep}
 use Rattle.sqpoll.specs.Pollers.{is_awake}
 use Rattle.links_drains.specs.Batches.{rows_of}
 use Rattle.links_drains.specs.Phases.{counts}
-use Rattle.machine.specs.Submission.{offered, some_fails, entries_at, taken_words, taken_entries, einval, ebusy}
+use Rattle.machine.specs.Submission.{offered, some_fails, entries_at, taken_words, taken_entries, einval, ebusy, ebadf}
 use Rattle.machine.specs.Threads.{ThreadState}
 use Rattle.scenario.specs.declared.setup.Instruction.{Instruction}
 use Rattle.scenario.specs.declared.setup.Instruction.TheVariants.{Put, Push, Store, Enter, Reap, Close}
@@ -26,7 +32,7 @@ use Rattle.machine.specs.declared.whole.Machine.{Machine}
 use Rattle.scenario.specs.declared.event.Event.{Event}
 use Rattle.scenario.specs.declared.event.Event.TheVariants.{Step, Take, Sleep, Issue, Finish, Expire, Tick}
 use Rattle.scenario.specs.declared.event.Refusal.{Refusal}
-use Rattle.scenario.specs.declared.event.Refusal.TheVariants.{NoSuchThread, ThreadDone, SqFull, NothingToReap, StillWaiting, NoSuchRequest, WrongPhase, BadChoice, NoPoller, Asleep as IsAsleep, NotIdle, ClockFull, RequestsFull}
+use Rattle.scenario.specs.declared.event.Refusal.TheVariants.{NoSuchThread, ThreadDone, SqFull, NothingToReap, StillWaiting, NoSuchRequest, WrongPhase, NotReady, BadChoice as IsBadChoice, NoPoller, Asleep as IsAsleep, NotIdle, ClockFull, RequestsFull}
 
 -- ---- flags of Enter (io_uring_enter(2))
 
@@ -119,21 +125,21 @@ abbrev pub issue_refusal : Option Row → Option Refusal
 issue_refusal None = Some NoSuchRequest
 issue_refusal (Some row) = elim row.phase [ Queued ↦ None | Issued ↦ Some WrongPhase | Ended res ↦ Some WrongPhase ]
 
--- what a kernel can choose for a NOP that ends
-abbrev pub choice_refusal : Choice → Option Refusal
-choice_refusal Full = None
-choice_refusal (Short n) = Some BadChoice
-choice_refusal Eio = Some BadChoice
+-- why a request can't come to what a kernel chooses
+abbrev pub outcome_refusal : Outcome → Option Refusal
+outcome_refusal (Res res) = None
+outcome_refusal Waits = Some NotReady
+outcome_refusal BadChoice = Some IsBadChoice
 
-abbrev pub phase_refusal : Phase → Choice → Option Refusal
-phase_refusal Queued c = Some WrongPhase
-phase_refusal Issued c = choice_refusal c
-phase_refusal (Ended res) c = Some WrongPhase
+abbrev pub phase_refusal : Phase → Outcome → Option Refusal
+phase_refusal Queued o = Some WrongPhase
+phase_refusal Issued o = outcome_refusal o
+phase_refusal (Ended res) o = Some WrongPhase
 
 -- timeouts and guards don't finish, they expire
-abbrev pub finish_refusal : Option Row → Choice → Option Refusal
-finish_refusal None c = Some NoSuchRequest
-finish_refusal (Some row) c = if counts row then phase_refusal row.phase c else Some WrongPhase
+abbrev pub finish_refusal : WorldState → Option Row → Choice → Option Refusal
+finish_refusal w None c = Some NoSuchRequest
+finish_refusal w (Some row) c = if counts row then phase_refusal row.phase (outcome_of w row c) else Some WrongPhase
 
 abbrev pub expire_refusal : Option Row → Option Refusal
 expire_refusal None = Some NoSuchRequest
@@ -145,7 +151,7 @@ refusal m (Step t) = thread_refusal m (slice_get m.threads t)
 refusal m (Take n) = take_refusal m m.poller n
 refusal m Sleep = sleep_refusal m m.poller
 refusal m (Issue r) = issue_refusal (slice_get m.table r)
-refusal m (Finish r c) = finish_refusal (slice_get m.table r) c
+refusal m (Finish r c) = finish_refusal m.world (slice_get m.table r) c
 refusal m (Expire r) = expire_refusal (slice_get m.table r)
 refusal m (Tick d) = if nat_lt (m.clock + d) (2 ^ 64) then None else Some ClockFull
 
@@ -236,7 +242,7 @@ abbrev pub executed : Machine → ℕ → Option Instruction → Machine
 executed m t None = m
 executed m t (Some (Put slot entry)) = gone_on (record m { submissions = record m.submissions { slots = slice_set m.submissions.slots slot entry } }) t
 executed m t (Some (Push index)) = gone_on (record m { submissions = record m.submissions { tail = (m.submissions.tail + 1) % 2 ^ 32; array = slice_set m.submissions.array (m.submissions.tail % length m.submissions.array) index } }) t
-executed m t (Some (Store address bytes)) = m
+executed m t (Some (Store address bytes)) = gone_on (record m { world = world_stored address bytes m.world }) t
 executed m t (Some (Enter to_submit min_complete flags)) = entered m m.poller t to_submit min_complete flags
 executed m t (Some Reap) = record m {
   completions = record m.completions { head = (m.completions.head + 1) % 2 ^ 32 };
@@ -253,13 +259,46 @@ abbrev pub stepped : Machine → ℕ → Option ThreadState → Machine
 stepped m t None = m
 stepped m t (Some x) = elim x.stage [ Ready ↦ executed m t (slice_get x.program x.counter) | Waiting n w ↦ answered m t (pos n) ]
 
+-- the descriptor's number that an entry has
+abbrev pub number_in : ℤ → Option ℕ
+number_in (pos fd) = Some fd
+number_in (negsuc n) = None
+
+-- what a row holds once it is issued
+abbrev pub held_by : Row → Option ℕ
+held_by row = if uses_descriptor row.entry.opcode then number_in row.entry.fd else None
+
+-- whether a descriptor is open, of an end that fits a request
+abbrev pub is_usable : Row → Option DescriptorState → Bool
+is_usable row None = false
+is_usable row (Some d) = d.is_open && fits_end row.entry.opcode d.end
+
+-- whether a row has no descriptor to hold (EBADF)
+abbrev pub lacks_descriptor : WorldState → Row → Bool
+lacks_descriptor w row = uses_descriptor row.entry.opcode && not (is_usable row (descriptor_at w row.entry.fd))
+
+-- the machine once a row is issued; one without its descriptor ends
+abbrev pub issued : Machine → ℕ → Option Row → Machine
+issued m r None = m
+issued m r (Some row) = if lacks_descriptor m.world row then ended m r ebadf else record m { table = updated (λ x. record x { phase = Issued; held = held_by x }) m.table r }
+
+-- the machine once a row has ended as its outcome says, with what it did
+abbrev pub finished_as : Machine → ℕ → Row → Outcome → Machine
+finished_as m r row (Res res) = ended (record m { world = world_after row res m.world }) r res
+finished_as m r row Waits = m
+finished_as m r row BadChoice = m
+
+abbrev pub finished : Machine → ℕ → Option Row → Choice → Machine
+finished m r None c = m
+finished m r (Some row) c = finished_as m r row (outcome_of m.world row c)
+
 -- the machine after an event
 abbrev pub after : Machine → Event → Machine
 after m (Step t) = stepped m t (slice_get m.threads t)
 after m (Take n) = submitted m n
 after m Sleep = with_poller m Asleep
-after m (Issue r) = record m { table = updated (λ row. record row { phase = Issued }) m.table r }
-after m (Finish r c) = ended m r (pos 0)
+after m (Issue r) = issued m r (slice_get m.table r)
+after m (Finish r c) = finished m r (slice_get m.table r) c
 after m (Expire r) = m
 after m (Tick d) = record m { clock = m.clock + d }
 

@@ -38,6 +38,10 @@ taken_entries w k = entries_at w.slots (taken_words w k)
 abbrev pub einval : ℤ
 einval = negsuc 21
 
+-- the result of a row that has no descriptor to hold: EBADF
+abbrev pub ebadf : ℤ
+ebadf = negsuc 8
+
 -- the answer of an Enter that finds completions kept: EBUSY
 abbrev pub ebusy : ℤ
 ebusy = negsuc 15

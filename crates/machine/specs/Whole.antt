@@ -1,9 +1,9 @@
 -- The whole machine: what stands in each place, and which machines are well formed.
-use Rattle.std.specs.Prelude.{◌≡◌, ℕ, ℤ, ◌+◌, ◌<◌, ◌≤◌, ◌^◌, Bool, true, false, not, if◌then◌else◌, Option, Some, None, is_some, slice_get, map, List, length, FitsSigned}
+use Rattle.std.specs.Prelude.{◌≡◌, ℕ, ℤ, ◌+◌, ◌<◌, ◌≤◌, ◌^◌, Bool, true, false, not, if◌then◌else◌, Option, Some, None, is_some, IsSome, slice_get, map, List, length, FitsSigned}
 use Rattle.std.specs.Int.{w64}
 use Rattle.entries.specs.declared.row.Row.{Row}
 use Rattle.places.specs.declared.place.Place.{Place}
-use Rattle.places.specs.declared.place.Place.TheVariants.{SubmissionHead, SubmissionTail, SubmissionFlags, SubmissionDropped, CompletionHead, CompletionTail, Array, Slot, Completion, Request, Backlog, BacklogFront, Clock, Counted, PollerStage, ProgramCounter, ThreadStage, Last, Got}
+use Rattle.places.specs.declared.place.Place.TheVariants.{SubmissionHead, SubmissionTail, SubmissionFlags, SubmissionDropped, CompletionHead, CompletionTail, Array, Slot, Completion, MemoryByte, FileByte, DurableByte, FileLength, DurableLength, Position, OpenMark, PipeByte, PutCount, TakenCount, EventCount, Request, Backlog, BacklogFront, Clock, Counted, PollerStage, ProgramCounter, ThreadStage, Last, Got}
 use Rattle.places.specs.declared.value.Value.{Value}
 use Rattle.places.specs.declared.value.Value.TheVariants.{Number, Awake as IsAwake}
 use Rattle.places.specs.declared.value.Stage.TheVariants.{Waiting}
@@ -11,7 +11,11 @@ use Rattle.places.specs.declared.value.Change.{Change}
 use Rattle.places.specs.View.{View, LeadsBack}
 use Rattle.ring_words.specs.Rings.{waiting, sub_seen, sub_can_put, SubFormed, com_seen, com_can_put, ComFormed}
 use Rattle.links_drains.specs.Rows.{table_seen, table_can_put}
-use Rattle.links_drains.specs.Phases.{is_unfinished, counted_of, ended_of}
+use Rattle.links_drains.specs.Phases.{is_issued, is_unfinished, counted_of, ended_of}
+use Rattle.model_files.specs.declared.descriptor.DescriptorState.{DescriptorState}
+use Rattle.model_files.specs.Worlds.{WorldState, WorldFormed, world_seen, world_can_put, descriptor_of, OneSetup as OneWorldSetup}
+use Rattle.opcodes.specs.Check.{op_of}
+use Rattle.opcodes.specs.Opcodes.{uses_descriptor, fits_end}
 use Rattle.overflow.specs.Backlogs.{BacklogState, is_clear, backlog_seen, backlog_can_put}
 use Rattle.sqpoll.specs.declared.poller.Poller.{Poller}
 use Rattle.sqpoll.specs.Pollers.{is_awake, poller_seen}
@@ -36,6 +40,17 @@ view m (Slot i) = sub_seen m.submissions (Slot i)
 view m CompletionHead = com_seen m.completions CompletionHead
 view m CompletionTail = com_seen m.completions CompletionTail
 view m (Completion i) = com_seen m.completions (Completion i)
+view m (MemoryByte a) = world_seen m.world (MemoryByte a)
+view m (FileByte o i) = world_seen m.world (FileByte o i)
+view m (DurableByte o i) = world_seen m.world (DurableByte o i)
+view m (FileLength o) = world_seen m.world (FileLength o)
+view m (DurableLength o) = world_seen m.world (DurableLength o)
+view m (Position fd) = world_seen m.world (Position fd)
+view m (OpenMark fd) = world_seen m.world (OpenMark fd)
+view m (PipeByte o i) = world_seen m.world (PipeByte o i)
+view m (PutCount o) = world_seen m.world (PutCount o)
+view m (TakenCount o) = world_seen m.world (TakenCount o)
+view m (EventCount o) = world_seen m.world (EventCount o)
 view m (Request i) = table_seen m.table (Request i)
 view m (Backlog i) = backlog_seen m.backlog (Backlog i)
 view m BacklogFront = backlog_seen m.backlog BacklogFront
@@ -46,7 +61,6 @@ view m (ProgramCounter t) = threads_seen m.threads (ProgramCounter t)
 view m (ThreadStage t) = threads_seen m.threads (ThreadStage t)
 view m (Last t) = threads_seen m.threads (Last t)
 view m (Got t) = threads_seen m.threads (Got t)
-view m _ = None
 
 -- whether a value may be put into a place
 abbrev pub can_put : Machine → Place → Option Value → Type 0
@@ -59,6 +73,17 @@ can_put m (Slot i) v = sub_can_put m.submissions (Slot i) v
 can_put m CompletionHead v = com_can_put m.completions CompletionHead v
 can_put m CompletionTail v = com_can_put m.completions CompletionTail v
 can_put m (Completion i) v = com_can_put m.completions (Completion i) v
+can_put m (MemoryByte a) v = world_can_put m.world (MemoryByte a) v
+can_put m (FileByte o i) v = world_can_put m.world (FileByte o i) v
+can_put m (DurableByte o i) v = world_can_put m.world (DurableByte o i) v
+can_put m (FileLength o) v = world_can_put m.world (FileLength o) v
+can_put m (DurableLength o) v = world_can_put m.world (DurableLength o) v
+can_put m (Position fd) v = world_can_put m.world (Position fd) v
+can_put m (OpenMark fd) v = world_can_put m.world (OpenMark fd) v
+can_put m (PipeByte o i) v = world_can_put m.world (PipeByte o i) v
+can_put m (PutCount o) v = world_can_put m.world (PutCount o) v
+can_put m (TakenCount o) v = world_can_put m.world (TakenCount o) v
+can_put m (EventCount o) v = world_can_put m.world (EventCount o) v
 can_put m (Request i) v = table_can_put m.table (Request i) v
 can_put m (Backlog i) v = backlog_can_put m.backlog (Backlog i) v
 can_put m BacklogFront v = backlog_can_put m.backlog BacklogFront v
@@ -71,11 +96,12 @@ can_put m (Last t) v = threads_can_put m.threads (Last t) v
 can_put m (Got t) v = threads_can_put m.threads (Got t) v
 can_put m p v = ⊥
 
--- Two machines have what a setup fixes in common: sizes, programs, and whether there is a poller.
+-- Two machines have what a setup fixes in common: sizes, programs, objects and descriptors, and whether there is a poller.
 pub record OneSetup (m n : Machine) : Type 0 where
   pub array : length m.submissions.array ≡ length n.submissions.array
   pub slots : length m.submissions.slots ≡ length n.submissions.slots
   pub completions : length m.completions.slots ≡ length n.completions.slots
+  pub world : OneWorldSetup m.world n.world
   pub programs : map program_of m.threads ≡ map program_of n.threads
   pub poller : is_some m.poller ≡ is_some n.poller
 
@@ -110,6 +136,19 @@ pub record Stands (size : ℕ) (x : ThreadState) : Type 0 where
   pub last : FitsSigned w64 x.last
   pub waits : (n w : ℕ) → x.stage ≡ Waiting n w → Waits x n w
 
+-- The row holds a descriptor of the setup, of an end that fits it.
+pub record HoldsDescriptor (w : WorldState) (x : Row) : Type 0 where
+  pub fd : ℕ
+  pub held : x.held ≡ Some fd
+  pub descriptor : DescriptorState
+  pub there : descriptor_of w fd ≡ Some descriptor
+  pub fits : fits_end x.entry.opcode descriptor.end ≡ true
+
+-- While a row is unfinished its opcode is a supported one; while it is issued it holds its descriptor, if it uses one.
+pub record RowFormed (w : WorldState) (x : Row) : Type 0 where
+  pub opcode : is_unfinished x.phase ≡ true → IsSome (op_of x.entry.opcode)
+  pub holds : is_issued x.phase ≡ true → uses_descriptor x.entry.opcode ≡ true → HoldsDescriptor w x
+
 -- What holds of every machine between steps, with the range of each number.
 pub record WellFormed (m : Machine) : Type 0 where
   pub submissions : SubFormed m.submissions
@@ -120,7 +159,8 @@ pub record WellFormed (m : Machine) : Type 0 where
   pub front : m.backlog.front ≤ length m.backlog.items
   pub overflowed : length m.backlog.items ≤ ended_of m.table
   pub rows : length m.table ≤ 65536
-  pub opcodes : (r : ℕ) (x : Row) → slice_get m.table r ≡ Some x → is_unfinished x.phase ≡ true → x.entry.opcode ≡ 0
+  pub world : WorldFormed m.world
+  pub requests : (r : ℕ) (x : Row) → slice_get m.table r ≡ Some x → RowFormed m.world x
   pub counted : m.counted ≡ counted_of m.table
   pub clock : m.clock < 2 ^ 64
   pub threads : (t : ℕ) (x : ThreadState) → slice_get m.threads t ≡ Some x → Stands (length m.submissions.slots) x

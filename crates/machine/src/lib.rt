@@ -2,6 +2,7 @@
 #![tactic(auto)]
 
 mod entering;
+mod finishing;
 pub mod laws;
 mod performing;
 mod refusing;

@@ -1,15 +1,14 @@
 //! What accepted events do.
 ghost use Rattle.std.specs.Prelude.{◌≡◌, ◌≤◌, OnOk, None, length};
-ghost use Rattle.places.specs.View.{Keeps};
+ghost use Rattle.places.specs.View.{Keeps, named};
+ghost use Rattle.places.specs.declared.place.Place.{Place};
 ghost use Rattle.machine.specs.Steps.{after, refusal, submission_refusal, submitted};
 ghost use Rattle.machine.specs.Whole.{view, everywhere, Grows, WellFormed};
-ghost use Rattle.scenario.specs.declared.event.Event.TheVariants.{Tick, Issue, Finish, Step};
+ghost use Rattle.scenario.specs.declared.event.Event.TheVariants.{Tick, Step};
 
 use scenario::Event;
 use scenario::Instruction;
 use crate::whole::Machine;
-use entries::Phase;
-use opcodes::Choice;
 use places::{Place, Recorder, Stage};
 use sqpoll::Poller;
 use std::alloc::AllocError;
@@ -20,6 +19,7 @@ impl Machine {
     pub fn perform(&mut self, event: Event, notes: &mut Recorder) -> Result<(), AllocError>
         requires accepted { refusal self.old event ≡ None }
         requires formed { WellFormed self.old }
+        requires fresh { (p : Place) → named notes.old.made p ≡ None }
         ensures ok { OnOk result (self.new ≡ after self.old event) }
         ensures grows { Grows self.old self.new }
         ensures keeps { Keeps everywhere (view self.old) (view self.new) notes.old.made notes.new.made }
@@ -47,27 +47,6 @@ impl Machine {
         Ok(())
     }
 
-    // A queued row is issued.
-    fn issue(&mut self, r: u32, notes: &mut Recorder) -> Result<(), AllocError>
-        requires { refusal self.old (Issue r) ≡ None }
-        ensures ok { OnOk result (self.new ≡ after self.old (Issue r)) }
-        ensures grows { Grows self.old self.new }
-        ensures keeps { Keeps everywhere (view self.old) (view self.new) notes.old.made notes.new.made }
-    {
-        self.table.set_phase(r, Phase::Issued, notes)
-    }
-
-    // An issued row ends.
-    fn finish(&mut self, r: u32, choice: Choice, notes: &mut Recorder) -> Result<(), AllocError>
-        requires accepted { refusal self.old (Finish r choice) ≡ None }
-        requires formed { WellFormed self.old }
-        ensures ok { OnOk result (self.new ≡ after self.old (Finish r choice)) }
-        ensures grows { Grows self.old self.new }
-        ensures keeps { Keeps everywhere (view self.old) (view self.new) notes.old.made notes.new.made }
-    {
-        self.end(r, 0, notes)
-    }
-
     // The poller submits so many entries.
     fn submit_for_poller(&mut self, n: u32, notes: &mut Recorder) -> Result<(), AllocError>
         requires accepted { submission_refusal self.old n ≡ None }
@@ -84,6 +63,7 @@ impl Machine {
     fn step_thread(&mut self, t: u32, notes: &mut Recorder) -> Result<(), AllocError>
         requires accepted { refusal self.old (Step t) ≡ None }
         requires formed { WellFormed self.old }
+        requires fresh { (p : Place) → named notes.old.made p ≡ None }
         ensures ok { OnOk result (self.new ≡ after self.old (Step t)) }
         ensures grows { Grows self.old self.new }
         ensures keeps { Keeps everywhere (view self.old) (view self.new) notes.old.made notes.new.made }
@@ -115,7 +95,10 @@ impl Machine {
                 self.enter(t, to_submit, min_complete, flags, notes)
             }
             Instruction::Reap => self.reap(t, notes),
-            Instruction::Store(_, _) => unreachable!(),
+            Instruction::Store(address, bytes) => {
+                self.world.store(*address, bytes.as_slice(), notes)?;
+                self.threads.go_on(t, notes)
+            }
             Instruction::Close(_) => unreachable!(),
         }
     }

@@ -1,14 +1,14 @@
 //! Which events are refused.
 ghost use Rattle.std.specs.Prelude.{◌≡◌, ℕ, Some, slice_get, length, min};
 ghost use Rattle.ring_words.specs.Rings.{sub_list};
-ghost use Rattle.machine.specs.Steps.{refusal, next_refusal, instruction_refusal, enter_refusal, alone_refusal, submission_refusal, take_refusal, sleep_refusal, finish_refusal, choice_refusal, is_busy, flushed};
+ghost use Rattle.machine.specs.Steps.{refusal, next_refusal, instruction_refusal, enter_refusal, alone_refusal, submission_refusal, take_refusal, sleep_refusal, finish_refusal, outcome_refusal, is_busy, flushed};
 ghost use Rattle.machine.specs.Submission.{offered};
 
 use scenario::{Event, Refusal};
 use scenario::Instruction;
 use crate::whole::Machine;
 use entries::Phase;
-use opcodes::{Choice, is_timer};
+use opcodes::{Choice, Outcome, is_timer, outcome};
 use places::Stage;
 use sqpoll::Poller;
 
@@ -167,28 +167,27 @@ impl Machine {
     }
 
     fn refuses_finish(&self, r: u32, choice: Choice) -> Option<Refusal>
-        ensures { result ≡ finish_refusal (slice_get self.now.table r) choice }
+        ensures { result ≡ finish_refusal self.now.world (slice_get self.now.table r) choice }
     {
-        match (self.table.opcode(r), self.table.phase(r)) {
-            (Some(opcode), Some(phase)) => {
-                if is_timer(opcode) {
-                    return Some(Refusal::WrongPhase);
-                }
-                match phase {
-                    Phase::Issued => refuses_choice(choice),
-                    _ => Some(Refusal::WrongPhase),
-                }
-            }
-            _ => Some(Refusal::NoSuchRequest),
+        let Some(row) = self.table.get(r) else {
+            return Some(Refusal::NoSuchRequest);
+        };
+        if is_timer(row.entry.opcode) {
+            return Some(Refusal::WrongPhase);
+        }
+        match row.phase {
+            Phase::Issued => refuses_outcome(outcome(&self.world, &row, choice)),
+            _ => Some(Refusal::WrongPhase),
         }
     }
 }
 
-fn refuses_choice(choice: Choice) -> Option<Refusal>
-    ensures { result ≡ choice_refusal choice }
+fn refuses_outcome(outcome: Outcome) -> Option<Refusal>
+    ensures { result ≡ outcome_refusal outcome }
 {
-    match choice {
-        Choice::Full => None,
-        _ => Some(Refusal::BadChoice),
+    match outcome {
+        Outcome::Res(_) => None,
+        Outcome::Waits => Some(Refusal::NotReady),
+        Outcome::BadChoice => Some(Refusal::BadChoice),
     }
 }

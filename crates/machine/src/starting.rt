@@ -1,14 +1,16 @@
 //! The machine that a setup starts with.
-ghost use Rattle.std.specs.Prelude.{◌≡◌, ℕ, IfOk, Some, map, slice_get};
+ghost use Rattle.std.specs.Prelude.{◌≡◌, ℕ, IfOk, Some, None, map, slice_get};
 ghost use Rattle.scenario.specs.Programs.{HasWidths, HaveWidths};
 ghost use Rattle.machine.specs.Threads.{thread_start};
 ghost use Rattle.scenario.specs.declared.setup.Instruction.{Instruction};
+ghost use Rattle.scenario.specs.Setups.{setup_refusal};
 ghost use Rattle.machine.specs.Runs.{start};
 
 use scenario::{Instruction, Setup, completion_entries};
 use crate::threads::{Thread, Threads};
 use crate::whole::Machine;
 use links_drains::Table;
+use model_files::World;
 use overflow::Backlog;
 use places::Items;
 use ring_words::{ComRing, SubRing};
@@ -18,6 +20,7 @@ use std::alloc::{AllocError, Global};
 impl Machine {
     /// The start of a setup that has sizes for its rings.
     pub fn new(alloc: Global, setup: &Setup) -> Result<Machine, AllocError>
+        requires { setup_refusal setup.now ≡ None }
         ensures start { IfOk result (λ m. m ≡ start setup.now) }
         ensures widths { IfOk result (λ m. HaveWidths setup.now.threads) }
     {
@@ -32,6 +35,12 @@ impl Machine {
             submissions,
             completions,
             backlog: Backlog::new(alloc),
+            world: World::new(
+                alloc,
+                setup.memory.as_slice(),
+                setup.objects.as_slice(),
+                setup.fds.as_slice(),
+            )?,
             table: Table::new(alloc),
             poller: if setup.sqpoll {
                 Some(Poller::Awake)
@@ -52,6 +61,7 @@ impl Machine {
             submissions: self.submissions.copy(alloc)?,
             completions: self.completions.copy(alloc)?,
             backlog: self.backlog.copy(alloc)?,
+            world: self.world.copy(alloc)?,
             table: self.table.copy(alloc)?,
             poller: self.poller,
             threads: self.threads.copy(alloc)?,

@@ -2,6 +2,7 @@
 ghost use Rattle.std.specs.Prelude.{◌≡◌, OnSome, length, false};
 ghost use Rattle.ring_words.specs.Rings.{sub_owns, com_owns};
 ghost use Rattle.links_drains.specs.Rows.{table_owns};
+ghost use Rattle.model_files.specs.Worlds.{world_owns};
 ghost use Rattle.overflow.specs.Backlogs.{backlog_owns};
 ghost use Rattle.machine.specs.Threads.{threads_owns};
 ghost use Rattle.places.specs.View.{put_at};
@@ -9,6 +10,7 @@ ghost use Rattle.places.specs.declared.place.Place.{Place};
 
 use crate::threads::Threads;
 use links_drains::Table;
+use model_files::World;
 use overflow::Backlog;
 use places::{At, Part, Place, Value};
 use ring_words::{ComRing, SubRing};
@@ -20,6 +22,7 @@ pub struct Machine {
     pub submissions: SubRing,
     pub completions: ComRing,
     pub backlog: Backlog,
+    pub world: World,
     pub table: Table,
     pub poller: Option<Poller>,
     pub threads: Threads,
@@ -43,6 +46,17 @@ impl At for Machine {
             Place::CompletionHead | Place::CompletionTail | Place::Completion(_) => {
                 self.completions.at(place)
             }
+            Place::MemoryByte(_)
+            | Place::FileByte(_, _)
+            | Place::DurableByte(_, _)
+            | Place::FileLength(_)
+            | Place::DurableLength(_)
+            | Place::Position(_)
+            | Place::OpenMark(_)
+            | Place::PipeByte(_, _)
+            | Place::PutCount(_)
+            | Place::TakenCount(_)
+            | Place::EventCount(_) => self.world.at(place),
             Place::Request(_) => self.table.at(place),
             Place::Backlog(_) | Place::BacklogFront => self.backlog.at(place),
             Place::PollerStage => match &self.poller {
@@ -54,7 +68,6 @@ impl At for Machine {
             }
             Place::Clock => Some(Value::Number(self.clock)),
             Place::Counted => Some(Value::Number(self.counted as u64)),
-            _ => None,
         }
     }
 }
@@ -81,6 +94,10 @@ impl Part for Machine {
             self.completions.put(place, value);
             return;
         }
+        if is_of_world(place) {
+            self.world.put(place, value);
+            return;
+        }
         if is_of_table(place) {
             self.table.put(place, value);
             return;
@@ -105,6 +122,7 @@ impl Machine {
         requires can { can_put self.old place value }
         requires submissions { sub_owns place ≡ false }
         requires completions { com_owns place ≡ false }
+        requires world { world_owns place ≡ false }
         requires table { table_owns place ≡ false }
         requires backlog { backlog_owns place ≡ false }
         requires threads { threads_owns place ≡ false }
@@ -146,6 +164,25 @@ fn is_of_completions(place: Place) -> bool
     matches!(
         place,
         Place::CompletionHead | Place::CompletionTail | Place::Completion(_)
+    )
+}
+
+fn is_of_world(place: Place) -> bool
+    ensures { result ≡ world_owns place }
+{
+    matches!(
+        place,
+        Place::MemoryByte(_)
+            | Place::FileByte(_, _)
+            | Place::DurableByte(_, _)
+            | Place::FileLength(_)
+            | Place::DurableLength(_)
+            | Place::Position(_)
+            | Place::OpenMark(_)
+            | Place::PipeByte(_, _)
+            | Place::PutCount(_)
+            | Place::TakenCount(_)
+            | Place::EventCount(_)
     )
 }
 

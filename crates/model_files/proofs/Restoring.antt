@@ -70,6 +70,14 @@ descriptors_at_one s m h fd = by (nat_lt fd 3)
     by true = refl
     by false = at_one fixed_of s.descriptors m.descriptors (fd - 3) h.descriptors
 
+-- a descriptor of one world is one of the other, of the same end
+pub descriptor_alike : (s m : WorldState) → OneSetup s m → (fd : ℕ) (d : DescriptorState) → descriptor_of s fd ≡ Some d → (e : DescriptorState) × (descriptor_of m fd ≡ Some e) × (e.end ≡ d.end)
+descriptor_alike s m h fd d k = by (descriptor_of m fd) refl (ap (option_map fixed_of) (sym k) ∙ descriptors_at_one s m h fd)
+  where
+    by : (o : Option DescriptorState) → descriptor_of m fd ≡ o → Some (fixed_of d) ≡ option_map fixed_of o → (e : DescriptorState) × (descriptor_of m fd ≡ Some e) × (e.end ≡ d.end)
+    by None e g = absurd cc
+    by (Some x) e g = (x, e, ap (λ k. k.end) (let f : fixed_of x ≡ fixed_of d = cc in f))
+
 positions_alike : (a b : Option DescriptorState) → option_map fixed_of a ≡ option_map fixed_of b
     → is_some (option_and_then (λ (d : DescriptorState). option_map Number d.position) a) ≡ is_some (option_and_then (λ (d : DescriptorState). option_map Number d.position) b)
 positions_alike None None e = refl

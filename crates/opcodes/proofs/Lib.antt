@@ -1,1 +1,2 @@
 pub mod Transferring
+pub mod Staying

@@ -4,7 +4,7 @@ use Rattle.machine.specs.Whole.{view, WellFormed, GoesBack}
 use Rattle.machine.specs.Steps.{refusal}
 use Rattle.machine.proofs.Formed.{formed_after}
 use Rattle.machine.proofs.PuttingBack.{back_from_exact}
-use Rattle.machine.proofs.Linking.{back_from_keeps}
+use Rattle.machine.proofs.Linking.{back_from_keeps, none_named}
 use Rattle.machine.proofs.state.State.step.Goals as goal
 
 pub invariant_of-self : goal.invariant_of-self
@@ -41,3 +41,6 @@ returns-in-Err-clause-err c =
     let back = back_from_exact _ _ _ (c.close_with_marks-past.ensures _ led) in
     let restored = c.restore.ensures.back in
     rw (← c.self.view_is) (restored c.self.inside.machine (record { formed = c.self.invariant; grows = c.perform-done.ensures.grows; back = back }))
+
+pub perform-done-requires-clause-fresh : goal.perform-done-requires-clause-fresh
+perform-done-requires-clause-fresh c p = none_named _ p c.over-notes.ensures

@@ -1,0 +1,81 @@
+-- What the end of a request leaves as it was.
+use Rattle.std.proofs.Common.{◌≡◌, ℕ, ℤ, pos, negsuc, zero, suc, Bool, true, false, cond, refl, sym, ◌∙◌, ap, ◌+◌, ◌<◌, ◌≤◌, arith}
+use Rattle.std.specs.Prelude.{Option, Some, None, if◌then◌else◌}
+use Rattle.std.specs.Option.{option_and_then}
+use Rattle.entries.specs.declared.entry.Sqe.{Sqe}
+use Rattle.entries.specs.declared.row.Row.{Row}
+use Rattle.model_files.specs.declared.descriptor.DescriptorState.{DescriptorState}
+use Rattle.model_files.specs.Worlds.{WorldState, WorldFormed, OneSetup, descriptor_of, world_at, world_read, world_written, world_synced}
+use Rattle.model_files.proofs.Forming.{world_at_formed, world_read_formed, world_written_formed, world_synced_formed}
+use Rattle.model_files.proofs.Fixing.{setup_self, setup_then, setup_read, setup_written, setup_synced}
+use Rattle.opcodes.specs.declared.choice.Choice.{Choice}
+use Rattle.opcodes.specs.declared.op.Op.{Op}
+use Rattle.opcodes.specs.declared.op.Op.TheVariants.{Fsync, Read, Write}
+use Rattle.opcodes.specs.declared.ending.Outcome.TheVariants.{Res}
+use Rattle.opcodes.specs.Check.{op_of}
+use Rattle.opcodes.specs.Outcomes.{outcome_of, held_descriptor, is_at_position, offset_of, position_of}
+use Rattle.opcodes.specs.Effects.{moved_on, bytes_read, bytes_written, done_by, done_through, done_holding, world_after}
+use Rattle.opcodes.proofs.Transferring.{Moves, row_read, row_written, setup_moved}
+
+-- The world that follows is well formed, and one of the setup.
+pub record Stays (w v : WorldState) : Type 0 where
+  pub formed : WorldFormed v
+  pub setup : OneSetup w v
+
+stays_self : (w : WorldState) → WorldFormed w → Stays w w
+stays_self w f = record { formed = f; setup = setup_self w }
+
+-- where a transfer began at the position, that moves on
+stays_moved : (entry : Sqe) (fd : ℕ) (d : DescriptorState) (k : ℕ) (w : WorldState) → WorldFormed w → descriptor_of w fd ≡ Some d → offset_of entry (position_of (Some d)) + k ≤ 65536 → Stays w (moved_on entry fd d.position k w)
+stays_moved entry fd d k w f there l = by d.position refl
+  where
+    by : (o : Option ℕ) → d.position ≡ o → Stays w (moved_on entry fd o k w)
+    by None e = stays_self w f
+    by (Some p) e = at (is_at_position entry) refl
+      where
+        at : (b : Bool) → is_at_position entry ≡ b → Stays w (cond b (world_at fd (p + k) w) w)
+        at true g =
+            let begins : offset_of entry (position_of (Some d)) ≡ p = ap (λ b. cond b (position_of (Some d)) entry.off) g ∙ ap (λ x. position_of (Some (record d { position = x }))) e in
+            record { formed = world_at_formed fd (p + k) w f (omega (arith, l, begins)); setup = setup_moved w fd (p + k) d p there e }
+        at false g = stays_self w f
+
+stays_then : (a b c : WorldState) → Stays a b → Stays b c → Stays a c
+stays_then a b c h k = record { formed = k.formed; setup = setup_then a b c h.setup k.setup }
+
+stays_read : (entry : Sqe) (fd : ℕ) (d : DescriptorState) (k : ℕ) (w : WorldState) → WorldFormed w → descriptor_of w fd ≡ Some d → Moves entry (position_of (Some d)) k → Stays w (bytes_read entry fd d k w)
+stays_read entry fd d zero w f there m = stays_self w f
+stays_read entry fd d (suc k) w f there m =
+    let offset = offset_of entry (position_of (Some d)) in
+    let formed = world_read_formed d.object offset (suc k) entry.addr w f m.memory in
+    stays_then w (world_read d.object offset (suc k) entry.addr w) _
+    (record { formed = formed; setup = setup_read d.object offset (suc k) entry.addr w f m.memory })
+    (stays_moved entry fd d (suc k) (world_read d.object offset (suc k) entry.addr w) formed there (m.file (omega arith)))
+
+stays_written : (entry : Sqe) (fd : ℕ) (d : DescriptorState) (k : ℕ) (w : WorldState) → WorldFormed w → descriptor_of w fd ≡ Some d → Moves entry (position_of (Some d)) k → Stays w (bytes_written entry fd d k w)
+stays_written entry fd d zero w f there m = stays_self w f
+stays_written entry fd d (suc k) w f there m =
+    let offset = offset_of entry (position_of (Some d)) in
+    let within = m.file (omega arith) in
+    let formed = world_written_formed d.object offset (suc k) entry.addr w f within in
+    stays_then w (world_written d.object offset (suc k) entry.addr w) _
+    (record { formed = formed; setup = setup_written d.object offset (suc k) entry.addr w f within })
+    (stays_moved entry fd d (suc k) (world_written d.object offset (suc k) entry.addr w) formed there within)
+
+-- whatever a request came to
+pub stays_after : (w : WorldState) (row : Row) (res : ℤ) (c : Choice) → WorldFormed w → outcome_of w row c ≡ Res res → Stays w (world_after row res w)
+stays_after w row (negsuc n) c f h = stays_self w f
+stays_after w row (pos k) c f h = holding row.held refl
+  where
+    through : (fd : ℕ) (d : DescriptorState) → descriptor_of w fd ≡ Some d → held_descriptor w row ≡ Some d → (o : Option Op) → op_of row.entry.opcode ≡ o → Stays w (done_by row.entry o fd d k w)
+    through fd d there held (Some Fsync) e = record { formed = world_synced_formed d.object w f; setup = setup_synced d.object w f }
+    through fd d there held (Some Read) e = stays_read row.entry fd d k w f there (row_read w row d c (pos k) k f e held refl h)
+    through fd d there held (Some Write) e = stays_written row.entry fd d k w f there (row_written w row d c (pos k) k e held refl h)
+    through fd d there held o e = stays_self w f
+
+    holding : (x : Option ℕ) → row.held ≡ x → Stays w (done_holding row.entry x k w)
+    holding None e = stays_self w f
+    holding (Some fd) e = at (descriptor_of w fd) refl
+      where
+        at : (y : Option DescriptorState) → descriptor_of w fd ≡ y → Stays w (done_through row.entry fd y k w)
+        at None g = stays_self w f
+        at (Some d) g = through fd d g (ap (option_and_then (descriptor_of w)) e ∙ g) (op_of row.entry.opcode) refl
