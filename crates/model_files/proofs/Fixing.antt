@@ -1,15 +1,13 @@
 -- What changes of a world leave as the setup fixed it.
-use Rattle.std.proofs.Common.{◌≡◌, ℕ, zero, suc, Bool, true, false, refl, sym, ◌∙◌, ap, List, [], ◌∷◌, length, ◌+◌, ◌-◌, ◌≤◌, drop, length-take, arith}
+use Rattle.std.proofs.Common.{◌≡◌, ℕ, zero, suc, true, false, refl, sym, ◌∙◌, ap, List, [], ◌∷◌, length, ◌+◌, ◌-◌, ◌≤◌, drop, length-take, arith}
 use Rattle.std.specs.Prelude.{Option, Some, None, IsSome, is_some, option_map, slice_get, map}
 use Rattle.std.specs.Option.{option_and_then}
 use Rattle.places.specs.Lists.{updated}
-use Rattle.places.specs.declared.place.Place.TheVariants.{Position}
-use Rattle.places.specs.declared.value.Value.TheVariants.{Number}
 use Rattle.model_files.specs.declared.body.Body.{Body}
 use Rattle.model_files.specs.declared.body.Body.TheVariants.{File, Pipe, EventFd}
 use Rattle.model_files.specs.declared.descriptor.DescriptorState.{DescriptorState}
-use Rattle.model_files.specs.Files.{FileState, FileFormed, part, written, synced}
-use Rattle.model_files.specs.Worlds.{WorldState, WorldFormed, OneSetup, kind_of_body, fixed_of, file_in, file_of, on_file, descriptor_of, world_seen, world_read, world_written, world_synced, world_at, world_closed, world_stored}
+use Rattle.model_files.specs.Files.{FileState, part, written, synced}
+use Rattle.model_files.specs.Worlds.{WorldState, WorldFormed, OneSetup, kind_of_body, fixed_of, file_in, file_of, on_file, world_read, world_written, world_synced, world_at, world_closed, world_stored}
 use Rattle.model_files.proofs.Forming.{written_formed, world_read_formed, world_stored_formed}
 
 pub setup_self : (w : WorldState) → OneSetup w w

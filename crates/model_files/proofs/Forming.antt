@@ -109,7 +109,6 @@ world_stored_formed addr bytes w h within =
     let l = length-overwritten w.memory addr bytes (omega arith) in
     record { memory = l ∙ omega (arith, m); files = h.files; positions = h.positions }
 
-
 -- ---- the start
 
 started : (os : List Object) → ((i : ℕ) (o : Object) → slice_get os i ≡ Some o → ContentsFit o.contents) → (j : ℕ) (f : FileState) → option_and_then file_in (slice_get (map (λ (o : Object). body_start o.contents) os) j) ≡ Some f → FileFormed f

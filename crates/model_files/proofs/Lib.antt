@@ -2,6 +2,7 @@ pub mod Overwriting
 pub mod Setting
 pub mod Noting
 pub mod Transfers
+pub mod Paging
 pub mod Lifting
 pub mod Remembering
 pub mod Describing

@@ -27,7 +27,7 @@ byte_from_before s (b ∷ bs) i h = by (s == i) refl (byte_from_before (s + 1) b
     by true e k = absurd (let j = eqb-true s i e in omega arith)
     by false e k = k
 
-byte_from_at : (s : ℕ) (bs : List ℕ) (d i : ℕ) → i ≡ s + d → byte_from s bs i ≡ option_map (λ b. Some (Byte b)) (slice_get bs d)
+pub byte_from_at : (s : ℕ) (bs : List ℕ) (d i : ℕ) → i ≡ s + d → byte_from s bs i ≡ option_map (λ b. Some (Byte b)) (slice_get bs d)
 byte_from_at s [] d i e = refl
 byte_from_at s (b ∷ bs) zero i e = ap (λ t. cond t (Some (Some (Byte b))) (byte_from (s + 1) bs i)) (eq-eqb s i (omega arith))
 byte_from_at s (b ∷ bs) (suc d) i e = by (s == i) refl (byte_from_at (s + 1) bs d i (omega arith))
@@ -43,7 +43,7 @@ get_part xs at k d b h = grind (arith, common_steps, gets)
 pub length-part : (xs : List ℕ) (at k : ℕ) → at + k ≤ length xs → length (part xs at k) ≡ k
 length-part xs at k h = grind (arith, common_steps)
 
-below_or_not : (i s : ℕ) → (i < s) ⊎ (s ≤ i)
+pub below_or_not : (i s : ℕ) → (i < s) ⊎ (s ≤ i)
 below_or_not i s = by (nat_lt i s) refl
   where
     by : (t : Bool) → nat_lt i s ≡ t → (i < s) ⊎ (s ≤ i)

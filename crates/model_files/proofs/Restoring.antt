@@ -1,6 +1,6 @@
 -- What a world shows, put into a world of its setup.
-use Rattle.std.proofs.Common.{◌≡◌, ℕ, zero, suc, Bool, true, false, cond, refl, sym, ◌∙◌, ap, List, length, ◌+◌, ◌-◌, ◌<◌, ◌≤◌, arith}
-use Rattle.std.specs.Prelude.{Option, Some, None, IsSome, IsTrue, is_some, option_map, slice_get, map, nat_lt, nat_le}
+use Rattle.std.proofs.Common.{◌≡◌, ℕ, Bool, true, false, cond, refl, sym, ◌∙◌, ap, List, length, ◌+◌, ◌-◌, ◌≤◌, arith}
+use Rattle.std.specs.Prelude.{Option, Some, None, is_some, option_map, slice_get, map, nat_lt, nat_le}
 use Rattle.std.specs.Option.{option_and_then}
 use Rattle.std.proofs.lemmas.Bool.Decides.{nat_tests}
 use Rattle.std.proofs.lemmas.Option.{slice_get_within, slice_get-map}
@@ -12,10 +12,9 @@ use Rattle.places.proofs.ListLemmas.{same_list, slice_get_none}
 use Rattle.model_files.specs.declared.body.Body.{Body}
 use Rattle.model_files.specs.declared.body.Body.TheVariants.{File, Pipe, EventFd}
 use Rattle.model_files.specs.declared.descriptor.DescriptorState.{DescriptorState}
-use Rattle.model_files.specs.Objects.{CanPut, in_range, object_in}
-use Rattle.model_files.specs.Files.{FileState, FileFormed, file_seen}
-use Rattle.model_files.specs.Pipes.{PipeState}
-use Rattle.model_files.specs.Worlds.{WorldState, WorldFormed, OneSetup, body_seen, world_seen, world_can_put, kind_of_body, fixed_of, file_in, file_of, descriptor_of, mark_of}
+use Rattle.model_files.specs.Objects.{in_range, object_in}
+use Rattle.model_files.specs.Files.{FileState, FileFormed}
+use Rattle.model_files.specs.Worlds.{WorldState, WorldFormed, OneSetup, body_seen, world_seen, world_can_put, kind_of_body, fixed_of, file_in, descriptor_of, mark_of}
 use Rattle.model_files.proofs.Lifting.{own_seen, owns_own}
 
 -- ---- where a value stands

@@ -3,18 +3,17 @@ use Rattle.std.proofs.Common.{◌≡◌, ℕ, Bool, true, false, cond, refl, sym
 use Rattle.std.specs.Prelude.{Option, Some, None, option_map, slice_get, ◌==◌, ◌⊎◌}
 use Rattle.std.proofs.Common.{inl, inr}
 use Rattle.std.proofs.lemmas.Bool.{eqb-true, eq-eqb}
-use Rattle.std.proofs.lemmas.Option.{slice_get_past}
 use Rattle.places.specs.declared.place.Place.{Place}
-use Rattle.places.specs.declared.place.Place.TheVariants.{FileByte, DurableByte, FileLength, DurableLength}
+use Rattle.places.specs.declared.place.Place.TheVariants.{FileByte, FileLength}
 use Rattle.places.specs.declared.value.Change.{Change}
 use Rattle.places.specs.declared.value.Value.{Value}
 use Rattle.places.specs.declared.value.Value.TheVariants.{Number, Byte}
-use Rattle.places.specs.declared.notes.runs.Region.TheVariants.{File, Durable}
+use Rattle.places.specs.declared.notes.runs.Region.TheVariants.{File}
 use Rattle.places.specs.Runs.{byte_from, byte_in, NotedBytes}
 use Rattle.places.specs.View.{named, Keeps, Noted}
 use Rattle.places.proofs.Keeping.{keeps_noted_bytes, keeps_then, keeps_unchanged, noted_keeps}
 use Rattle.model_files.specs.Objects.{object_owns, NamesChanges}
-use Rattle.model_files.specs.Files.{FileState, FileFormed, FileSized, file_seen, part, written, synced}
+use Rattle.model_files.specs.Files.{FileState, FileFormed, file_seen, part, written}
 use Rattle.model_files.proofs.Overwriting.{written_is}
 use Rattle.model_files.proofs.Noting.{bytes_there, bytes_elsewhere, get_part, get-overwritten_other, length-part, unnamed_byte, noted_named}
 
@@ -29,21 +28,6 @@ file_bytes_there f o at k _ x e = absurd cc
 -- bytes of a file were noted, and nothing changed yet
 pub keeps_file_bytes : (f : FileState) (o at k : ℕ) (cs ds : List Change) → NotedBytes cs ds (File o) at (part f.bytes at k) → Keeps (object_owns o) (file_seen f) (file_seen f) cs ds
 keeps_file_bytes f o at k cs ds n = keeps_noted_bytes (object_owns o) (file_seen f) (file_seen f) cs ds (File o) at (part f.bytes at k) n (file_bytes_there f o at k) (λ q e. refl)
-
-durable_bytes_there : (f : FileState) (o : ℕ) (q : Place) (x : Option Value) → byte_in (Durable o) 0 f.durable q ≡ Some x → (x ≡ file_seen f q) × (object_owns o q ≡ true)
-durable_bytes_there f o (DurableByte y j) x e = by (o == y) refl e
-  where
-    same : (i b : ℕ) → slice_get f.durable i ≡ Some b → slice_get f.durable (0 + i) ≡ Some b
-    same i b h = ap (slice_get f.durable) (omega arith) ∙ h
-
-    by : (t : Bool) → (o == y) ≡ t → cond t (byte_from 0 f.durable j) None ≡ Some x → (x ≡ option_map Byte (slice_get f.durable j)) × ((o == y) ≡ true)
-    by true g h = (bytes_there f.durable f.durable 0 j x same h, g)
-    by false g h = absurd cc
-durable_bytes_there f o _ x e = absurd cc
-
--- all bytes on the device were noted, and nothing changed yet
-pub keeps_durable_bytes : (f : FileState) (o : ℕ) (cs ds : List Change) → NotedBytes cs ds (Durable o) 0 f.durable → Keeps (object_owns o) (file_seen f) (file_seen f) cs ds
-keeps_durable_bytes f o cs ds n = keeps_noted_bytes (object_owns o) (file_seen f) (file_seen f) cs ds (Durable o) 0 f.durable n (durable_bytes_there f o) (λ q e. refl)
 
 -- where a byte stands that none of a region's notes has
 elsewhere : (o y at j : ℕ) (bs : List ℕ) → (o == y) ≡ true → cond (o == y) (byte_from at bs j) None ≡ None → (j < at) ⊎ (at + length bs ≤ j)
@@ -68,22 +52,7 @@ names_written f o at others bs cs formed within l bytes grows (FileLength y) own
     sym (ap (λ (g : FileState). Some (Number g.len)) w) ∙ ap (λ n. Some (Number n)) same
 names_written f o at others bs cs formed within l bytes grows _ own h = refl
 
--- so does bringing all to the device
-pub names_synced : (f : FileState) (o : ℕ) (cs : List Change) → FileSized f → ((q : Place) → named cs q ≡ None → byte_in (Durable o) 0 f.durable q ≡ None) → (named cs (DurableLength o) ≡ None → ⊥) → NamesChanges (object_owns o) (file_seen f) (file_seen (synced f)) cs
-names_synced f o cs sized bytes len (DurableByte y j) own h =
-    ap (option_map Byte) (slice_get_past f.bytes j (past (elsewhere o y 0 j f.durable own (bytes (DurableByte y j) h))) ∙ sym (slice_get_past f.durable j (past' (elsewhere o y 0 j f.durable own (bytes (DurableByte y j) h)))))
-  where
-    past : (j < 0) ⊎ (0 + length f.durable ≤ j) → length f.bytes ≤ j
-    past (inl l) = absurd (omega arith)
-    past (inr l) = let a = sized.bytes in let b = sized.durable in omega arith
-
-    past' : (j < 0) ⊎ (0 + length f.durable ≤ j) → length f.durable ≤ j
-    past' (inl l) = absurd (omega arith)
-    past' (inr l) = omega arith
-names_synced f o cs sized bytes len (DurableLength y) own h = absurd (len (ap (λ z. named cs (DurableLength z)) (eqb-true o y own) ∙ h))
-names_synced f o cs sized bytes len _ own h = refl
-
--- ---- the notes of a write, and of bringing all to the device
+-- ---- the notes of a write
 
 pub keeps_written : (f : FileState) (o at k : ℕ) (cs ds es : List Change) → NotedBytes cs ds (File o) at (part f.bytes at k) → Noted ds es (FileLength o) (Some (Number f.len)) → Keeps (object_owns o) (file_seen f) (file_seen f) cs es
 keeps_written f o at k cs ds es n m =
@@ -101,11 +70,3 @@ names_past f o at k others x cs ds es formed within e n m =
     let size = formed.sized.bytes in
     names_written f o at others (part f.bytes at k) es formed within (length-part f.bytes at k (omega arith) ∙ e)
     (λ q h. unnamed_byte cs ds (File o) at (part f.bytes at k) n q (noted_keeps ds es (FileLength o) x m q h)) (λ h. absurd (noted_named ds es (FileLength o) x m h))
-
-pub keeps_synced : (f : FileState) (o : ℕ) (cs ds es : List Change) → NotedBytes cs ds (Durable o) 0 f.durable → Noted ds es (DurableLength o) (Some (Number f.durable_len)) → Keeps (object_owns o) (file_seen f) (file_seen f) cs es
-keeps_synced f o cs ds es n m =
-    keeps_then (object_owns o) (file_seen f) (file_seen f) (file_seen f) cs ds es (keeps_durable_bytes f o cs ds n) (keeps_unchanged (object_owns o) (file_seen f) ds es (DurableLength o) (eq-eqb o o refl) m)
-
-pub names_device : (f : FileState) (o : ℕ) (x : Option Value) (cs ds es : List Change) → FileSized f → NotedBytes cs ds (Durable o) 0 f.durable → Noted ds es (DurableLength o) x → NamesChanges (object_owns o) (file_seen f) (file_seen (synced f)) es
-names_device f o x cs ds es sized n m =
-    names_synced f o es sized (λ q h. unnamed_byte cs ds (Durable o) 0 f.durable n q (noted_keeps ds es (DurableLength o) x m q h)) (λ h. noted_named ds es (DurableLength o) x m h)

@@ -1,9 +1,10 @@
 //! Regular files.
-ghost use Rattle.std.specs.Prelude.{◌≡◌, ◌+◌, ◌≤◌, ◌<◌, IfOk, length};
+ghost use Rattle.std.specs.Prelude.{◌≡◌, ◌+◌, ◌*◌, ◌≤◌, ◌<◌, ℕ, false, slice_get, IfOk, length};
 ghost use Rattle.model_files.specs.Objects.{CanPut, PutsIn};
 ghost use Rattle.model_files.specs.Files.{file_seen, file_start, synced, written, FileFormed, FileSized};
 
 use crate::bytes::{overwrite, pad};
+use crate::pages::Pages;
 use places::{At, Place, Value};
 use std::alloc::{AllocError, Global};
 use std::marker::Model;
@@ -15,16 +16,19 @@ pub struct RegularFile {
     len: u32,
     durable: Vec<u8>,
     durable_len: u32,
+    /// Which pages may differ between the bytes and the durable ones.
+    dirty: Pages,
 }
 
 impl Model for RegularFile {
-    ghost use Rattle.model_files.specs.Files.{FileState, FileSized};
+    ghost use Rattle.model_files.specs.Files.{FileState};
+    ghost use Rattle.model_files.specs.Pages.{FileTracked};
 
     ghost Value = { FileState };
 
     ghost view = { λ a. record { bytes = a.bytes.items; len = a.len; durable = a.durable.items; durable_len = a.durable_len } };
 
-    ghost invariant = { λ a. FileSized (record { bytes = a.bytes.items; len = a.len; durable = a.durable.items; durable_len = a.durable_len }) };
+    ghost invariant = { λ a. FileTracked (record { bytes = a.bytes.items; len = a.len; durable = a.durable.items; durable_len = a.durable_len }) a.dirty.marks };
 }
 
 impl At for RegularFile {
@@ -59,6 +63,7 @@ impl RegularFile {
             len,
             durable: pad(alloc, bytes)?,
             durable_len: len,
+            dirty: Pages::none(),
         })
     }
 
@@ -71,6 +76,7 @@ impl RegularFile {
             len: self.len,
             durable: Vec::from_slice(alloc, &self.durable)?,
             durable_len: self.durable_len,
+            dirty: self.dirty,
         })
     }
 
@@ -98,8 +104,17 @@ impl RegularFile {
         &self.durable
     }
 
+    /// Whether the device may not have a page as it is.
+    pub(crate) fn is_dirty(&self, page: u32) -> bool
+        requires { page < 16 }
+        ensures { result ≡ false → (i : ℕ) → page * 4096 ≤ i → i < page * 4096 + 4096 → slice_get self.now.bytes i ≡ slice_get self.now.durable i }
+    {
+        self.dirty.is_marked(page as usize)
+    }
+
     pub(crate) fn durable_len(&self) -> u32
-        ensures { result ≡ self.now.durable_len }
+        ensures value { result ≡ self.now.durable_len }
+        ensures sized { FileSized self.now }
     {
         self.durable_len
     }
@@ -112,8 +127,14 @@ impl RegularFile {
         ensures durable { length self.new.durable ≡ length self.old.durable }
     {
         match (place, value) {
-            (Place::FileByte(_, i), Value::Byte(byte)) => self.bytes[i as usize] = byte,
-            (Place::DurableByte(_, i), Value::Byte(byte)) => self.durable[i as usize] = byte,
+            (Place::FileByte(_, i), Value::Byte(byte)) => {
+                self.dirty.mark(i as usize, 1);
+                self.bytes[i as usize] = byte
+            }
+            (Place::DurableByte(_, i), Value::Byte(byte)) => {
+                self.dirty.mark(i as usize, 1);
+                self.durable[i as usize] = byte
+            }
             (Place::FileLength(_), Value::Number(n)) => self.len = n as u32,
             (Place::DurableLength(_), Value::Number(n)) => self.durable_len = n as u32,
             _ => unreachable!(),
@@ -127,6 +148,7 @@ impl RegularFile {
         requires within { at + length others.now ≤ 65536 }
         ensures { self.new ≡ written others.now at self.old }
     {
+        self.dirty.mark(at, others.len());
         overwrite(&mut self.bytes, at, others);
         let end = (at + others.len()) as u32;
         if end > self.len {
@@ -138,7 +160,8 @@ impl RegularFile {
     pub(crate) fn sync(&mut self)
         ensures { self.new ≡ synced self.old }
     {
-        overwrite(&mut self.durable, 0, &self.bytes);
+        self.dirty.bring(&self.bytes, &mut self.durable);
         self.durable_len = self.len;
+        self.dirty = Pages::none();
     }
 }

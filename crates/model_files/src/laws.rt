@@ -2,7 +2,7 @@
 ghost use Rattle.std.specs.Prelude.{◌≡◌, ◌+◌, ◌≤◌, ℕ, List, Some, length, slice_get};
 ghost use Rattle.places.specs.declared.object.Descriptor.{Descriptor};
 ghost use Rattle.places.specs.declared.object.Object.{Object};
-ghost use Rattle.model_files.specs.Worlds.{WorldState, WorldFormed, ContentsFit, world_start, world_read, world_written, world_synced};
+ghost use Rattle.model_files.specs.Worlds.{WorldState, WorldFormed, ContentsFit, world_start, world_read, world_written, world_synced, world_stored, world_at, world_closed};
 
 /// What a setup starts with is well formed.
 pub fn start_formed()
@@ -22,4 +22,19 @@ pub fn written_formed()
 /// Bringing a file to the device leaves the world well formed.
 pub fn synced_formed()
     ensures { (object : ℕ) (w : WorldState) → WorldFormed w → WorldFormed (world_synced object w) }
+{}
+
+/// Storing leaves the world well formed.
+pub fn stored_formed()
+    ensures { (address : ℕ) (bytes : List ℕ) (w : WorldState) → WorldFormed w → address + length bytes ≤ 65536 → WorldFormed (world_stored address bytes w) }
+{}
+
+/// Moving a descriptor within the most that a file can have leaves the world well formed.
+pub fn moved_formed()
+    ensures { (fd position : ℕ) (w : WorldState) → WorldFormed w → position ≤ 65536 → WorldFormed (world_at fd position w) }
+{}
+
+/// Closing leaves the world well formed.
+pub fn closed_formed()
+    ensures { (fd : ℕ) (w : WorldState) → WorldFormed w → WorldFormed (world_closed fd w) }
 {}

@@ -6,6 +6,7 @@ pub mod bytes;
 pub mod descriptor;
 pub mod file;
 pub mod laws;
+mod pages;
 pub mod pipe;
 mod start;
 mod transfer;

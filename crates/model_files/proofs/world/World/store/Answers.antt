@@ -1,4 +1,4 @@
-use Rattle.std.proofs.Common.{◌≡◌, ◌+◌, ◌-◌, ◌≤◌, length, arith}
+use Rattle.std.proofs.Common.{◌+◌, ◌-◌, ◌≤◌, length, arith}
 use Rattle.model_files.specs.Worlds.{WorldState}
 use Rattle.model_files.proofs.Remembering.{keeps_memory}
 use Rattle.model_files.proofs.world.World.store.Goals as goal
