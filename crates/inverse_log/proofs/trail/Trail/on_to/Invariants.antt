@@ -1,6 +1,6 @@
 use Rattle.std.proofs.Common.{◌≡◌}
-use Rattle.inverse_log.specs.Walks.{stepped}
-use Rattle.inverse_log.proofs.walker.Walker.on_to.Given as goal
+use Rattle.inverse_log.specs.Tracks.{stepped}
+use Rattle.inverse_log.proofs.trail.Trail.on_to.Given as goal
 
 abbrev pub invariant-loop-at : goal.invariant-loop-at
 invariant-loop-at l = record {

@@ -1,7 +1,7 @@
 use Rattle.std.proofs.Common.{◌<◌, ◌-◌, arith, rules}
 use Rattle.inverse_log.proofs.Keeping.{behind, record_there, keeps_back}
 use Rattle.machine.specs.Runs.{moment}
-use Rattle.inverse_log.proofs.walker.Walker.step_back.Goals as goal
+use Rattle.inverse_log.proofs.trail.Trail.step_back.Goals as goal
 
 pub index-requires : goal.index-requires
 index-requires c =

@@ -1,6 +1,6 @@
 use Rattle.std.proofs.Common.{◌≡◌, ◌+◌}
-use Rattle.inverse_log.specs.Walks.{stepped}
-use Rattle.inverse_log.proofs.walker.Walker.back_to.Given as goal
+use Rattle.inverse_log.specs.Tracks.{stepped}
+use Rattle.inverse_log.proofs.trail.Trail.back_to.Given as goal
 
 abbrev pub invariant-loop-step : goal.invariant-loop-step
 invariant-loop-step l = record {

@@ -1,6 +1,6 @@
 use Rattle.std.proofs.Common.{◌≤◌, rules}
 use Rattle.inverse_log.proofs.Keeping.{keeps_cut}
-use Rattle.inverse_log.proofs.walker.Walker.cut.Goals as goal
+use Rattle.inverse_log.proofs.trail.Trail.cut.Goals as goal
 
 pub invariant_of-self : goal.invariant_of-self
 invariant_of-self c =

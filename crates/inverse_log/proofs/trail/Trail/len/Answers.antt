@@ -1,6 +1,6 @@
 use Rattle.machine.specs.Runs.{start, run}
 use Rattle.inverse_log.proofs.Runs.{linked_accepts}
-use Rattle.inverse_log.proofs.walker.Walker.len.Goals as goal
+use Rattle.inverse_log.proofs.trail.Trail.len.Goals as goal
 
 pub returns-clause-runs : goal.returns-clause-runs
 returns-clause-runs c =

@@ -1,6 +1,6 @@
 use Rattle.std.proofs.Common.{◌<◌, length, rules}
 use Rattle.inverse_log.proofs.Keeping.{keeps_on}
-use Rattle.inverse_log.proofs.walker.Walker.step_on.Goals as goal
+use Rattle.inverse_log.proofs.trail.Trail.step_on.Goals as goal
 
 pub invariant_of-self : goal.invariant_of-self
 invariant_of-self c =
