@@ -1,14 +1,16 @@
--- What a walker keeps, after a step either way, an event more, or a shorter trace.
+-- What a trail keeps, after a step either way, an event more, or a shorter trace.
 use Rattle.std.proofs.Common.{◌≡◌, ℕ, suc, ◌+◌, ◌-◌, ◌^◌, ◌<◌, ◌≤◌, List, [], ◌∷◌, ◌++◌, length, take, get_or, sym, ap, ◌∙◌, subst, arith, length-append}
 use Rattle.std.proofs.lemmas.List.{take-take, length-take}
 use Rattle.places.specs.declared.value.Change.{Change}
 use Rattle.machine.specs.declared.whole.Machine.{Machine}
 use Rattle.scenario.specs.declared.setup.Setup.{Setup}
 use Rattle.scenario.specs.declared.event.Event.{Event}
+use Rattle.places.specs.View.{Exact}
+use Rattle.machine.specs.Whole.{view}
 use Rattle.machine.specs.Steps.{Next, after}
 use Rattle.machine.specs.Runs.{run, start, moment, Link, Linked}
-use Rattle.inverse_log.specs.Walks.{Keeps}
-use Rattle.inverse_log.proofs.Runs.{linked_at, length_linked, linked_more, linked_take, run-take_more, run-push, run_all}
+use Rattle.inverse_log.specs.Tracks.{Keeps}
+use Rattle.inverse_log.proofs.Runs.{linked_at, length_linked, linked_more, linked_take, recorded_more, recorded_take, run-take_more, run-push, run_all}
 
 -- the link that leads to the position
 pub record Behind (setup : Setup) (es : List Event) (i : ℕ) (r : List Change) (state : Machine) : Type 0 where
@@ -31,6 +33,7 @@ record_there setup es rs at state walked k some =
 pub keeps_back : (setup : Setup) (es : List Event) (rs : List (List Change)) (at : ℕ) (state state' : Machine) (walked walked' : ℕ) → Keeps setup es rs at state walked → state' ≡ moment setup es (at - 1) → walked' < 2 ^ 64 → Keeps setup es rs (at - 1) state' walked'
 keeps_back setup es rs at state state' walked walked' k e c = record {
   linked = k.linked;
+  recorded = k.recorded;
   within = let w = k.within in omega arith;
   here = e;
   most = k.most;
@@ -40,21 +43,26 @@ keeps_back setup es rs at state state' walked walked' k e c = record {
 pub keeps_on : (setup : Setup) (es : List Event) (rs : List (List Change)) (at : ℕ) (state state' : Machine) (walked walked' : ℕ) (e : Event) → Keeps setup es rs at state walked → at < length es → e ≡ get_or es at e → Next state e state' → walked' < 2 ^ 64 → Keeps setup es rs (at + 1) state' walked'
 keeps_on setup es rs at state state' walked walked' e k h g next c = record {
   linked = k.linked;
+  recorded = k.recorded;
   within = omega arith;
   here = next.changed ∙ ap (λ v. after v e) k.here ∙ sym (run-take_more (start setup) es at e h g);
   most = k.most;
   counted = c;
 }
 
-pub keeps_push : (setup : Setup) (es es' : List Event) (rs rs' : List (List Change)) (at : ℕ) (state state' : Machine) (walked : ℕ) (e : Event) (r : List Change) → Keeps setup es rs at state walked → at ≡ length es → length es < 1048576 → es' ≡ es ++ e ∷ [] → rs' ≡ rs ++ r ∷ [] → Link state e r state' → Keeps setup es' rs' (at + 1) state' walked
-keeps_push setup es es' rs rs' at state state' walked e r k last room ge gr link =
+pub keeps_push : (setup : Setup) (es es' : List Event) (rs rs' : List (List Change)) (at : ℕ) (state state' : Machine) (walked : ℕ) (e : Event) (r : List Change) → Keeps setup es rs at state walked → at ≡ length es → length es < 1048576 → es' ≡ es ++ e ∷ [] → rs' ≡ rs ++ r ∷ [] → Link state e r state' → Exact (view state) (view state') r → Keeps setup es' rs' (at + 1) state' walked
+keeps_push setup es es' rs rs' at state state' walked e r k last room ge gr link exact =
     let s = start setup in
     let whole : state ≡ run s es = k.here ∙ run_all s es at last in
     let new : state' ≡ run s (es ++ e ∷ []) = link.next.changed ∙ ap (λ v. after v e) whole ∙ sym (run-push s es e) in
     let more : Linked s (es ++ e ∷ []) (rs ++ r ∷ []) state' = linked_more s state state' es rs e r (subst (Linked s es rs) (sym whole) k.linked) link in
     let long = length-append es (e ∷ []) in
+    let kept : Exact (view (run s es)) (view (after (run s es) e)) r =
+    let P : Machine → Machine → Type 0 = λ a b. Exact (view a) (view b) r in
+    subst (λ (a : Machine). P a (after a e)) whole (subst (P state) link.next.changed exact) in
     rw (ge, gr) (record {
       linked = subst (Linked s (es ++ e ∷ []) (rs ++ r ∷ [])) new more;
+      recorded = recorded_more s es rs e r k.recorded kept;
       within = omega arith;
       here = new ∙ sym (run_all s (es ++ e ∷ []) (at + 1) (omega arith));
       most = omega arith;
@@ -68,6 +76,7 @@ keeps_cut setup es es' rs rs' at state walked n k h ge gr =
     let m = k.most in
     rw (ge, gr) (record {
       linked = linked_take (start setup) (run (start setup) es) es rs n k.linked;
+      recorded = recorded_take (start setup) es rs n k.recorded;
       within = omega arith;
       here = k.here ∙ ap (run (start setup)) (sym (take-take at n es h));
       most = omega arith;

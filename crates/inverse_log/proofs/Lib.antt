@@ -1,4 +1,4 @@
 pub mod Runs
 pub mod Keeping
 pub mod Pushing
-pub mod Walking
+pub mod Copying

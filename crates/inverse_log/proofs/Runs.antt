@@ -9,7 +9,9 @@ use Rattle.scenario.specs.declared.event.Refusal.{Refusal}
 use Rattle.scenario.specs.declared.event.Refusal.TheVariants.{Memory}
 use Rattle.machine.specs.Steps.{refusal, after}
 use Rattle.machine.specs.Runs.{run, Accepts, Link, Linked, IsRefused, start}
-use Rattle.inverse_log.specs.Walks.{Stops}
+use Rattle.places.specs.View.{Exact}
+use Rattle.machine.specs.Whole.{view}
+use Rattle.inverse_log.specs.Tracks.{Stops, Recorded}
 
 -- ---- runs
 
@@ -98,6 +100,21 @@ linked_take s m [] [] (suc n) l = refl
 linked_take s m [] (r ∷ rs) (suc n) l = absurd l
 linked_take s m (e ∷ es) [] (suc n) l = absurd l
 linked_take s m (e ∷ es) (r ∷ rs) (suc n) l = (after s e, linked_first s m e es r rs l, linked_take (after s e) m es rs n (linked_rest s m e es r rs l))
+
+-- ---- what records name
+
+pub recorded_more : (s : Machine) (es : List Event) (rs : List (List Change)) (e : Event) (r : List Change) → Recorded s es rs → Exact (view (run s es)) (view (after (run s es) e)) r → Recorded s (es ++ e ∷ []) (rs ++ r ∷ [])
+recorded_more s [] [] e r h x = (x, tt)
+recorded_more s [] (q ∷ qs) e r h x = absurd h
+recorded_more s (f ∷ fs) [] e r h x = absurd h
+recorded_more s (f ∷ fs) (q ∷ qs) e r h x = (h.0, recorded_more (after s f) fs qs e r h.1 x)
+
+pub recorded_take : (s : Machine) (es : List Event) (rs : List (List Change)) (n : ℕ) → Recorded s es rs → Recorded s (take n es) (take n rs)
+recorded_take s es rs zero h = tt
+recorded_take s [] [] (suc n) h = tt
+recorded_take s [] (r ∷ rs) (suc n) h = absurd h
+recorded_take s (e ∷ es) [] (suc n) h = absurd h
+recorded_take s (e ∷ es) (r ∷ rs) (suc n) h = (h.0, recorded_take (after s e) es rs n h.1)
 
 -- ---- refusals
 

@@ -1,21 +1,19 @@
--- Walks through a run: its events, how many of them lie behind, and how far jumps have gone.
-use Rattle.std.specs.Prelude.{◌≡◌, ℕ, ◌+◌, ◌-◌, ◌^◌, ◌<◌, ◌≤◌, ◌⊎◌, min, List, [], ◌++◌, length, take, slice_get, Some, None}
-use Rattle.places.specs.declared.value.Change.{Change}
+-- Walks through a run: its events, how many of them lie behind, how far jumps have gone, and how a jump goes.
+use Rattle.std.specs.Prelude.{ℕ, ◌+◌, ◌-◌, ◌^◌, ◌&&◌, min, nat_le, if◌then◌else◌, List, [], ◌++◌}
 use Rattle.machine.specs.declared.whole.Machine.{Machine}
 use Rattle.scenario.specs.declared.setup.Setup.{Setup}
 use Rattle.scenario.specs.declared.event.Event.{Event}
-use Rattle.scenario.specs.declared.event.Refusal.{Refusal}
-use Rattle.scenario.specs.declared.event.Refusal.TheVariants.{Memory}
-use Rattle.machine.specs.Steps.{refusal}
-use Rattle.machine.specs.Runs.{start, run, moment, Accepts, Linked}
-use Rattle.inverse_log.specs.declared.walker.Tally.{Tally}
-use Rattle.inverse_log.specs.declared.walker.Tally.TheVariants.{Counted, Free}
+use Rattle.machine.specs.Runs.{start, run, moment}
+use Rattle.checkpoints.specs.Checkpoints.{nearest}
 
+-- `every` and `window` say how a jump goes: copies lie at the multiples of the one, and it steps back no further than the other
 pub record Walk : Type 0 where
   pub setup : Setup
   pub events : List Event
   pub at : ℕ
   pub walked : ℕ
+  pub every : ℕ
+  pub window : ℕ
 
 -- what stands at the position
 abbrev pub here : Walk → Machine
@@ -26,45 +24,28 @@ abbrev pub ending : Walk → Machine
 ending w = run (start w.setup) w.events
 
 -- a new walk
+abbrev pub fresh_with : Setup → ℕ → ℕ → Walk
+fresh_with setup every window = record { setup = setup; events = []; at = 0; walked = 0; every = every; window = window }
+
+-- a new walk, of the usual jumps
 abbrev pub fresh : Setup → Walk
-fresh setup = record { setup = setup; events = []; at = 0; walked = 0 }
+fresh setup = fresh_with setup 1024 256
 
--- how far two moments lie apart
-abbrev pub distance : ℕ → ℕ → ℕ
-distance a b = (a - b) + (b - a)
-
--- a count with more steps, which stays at the greatest u64 once there
-abbrev pub tallied : Tally → ℕ → ℕ → ℕ
-tallied Counted n k = min (n + k) (2 ^ 64 - 1)
-tallied Free n k = n
-
--- the walk at another moment, by single steps
-abbrev pub stepped : Tally → Walk → ℕ → Walk
-stepped t w m = record { setup = w.setup; events = w.events; at = m; walked = tallied t w.walked (distance w.at m) }
+-- How many single steps a jump makes: back where the moment lies at most the window behind, on from the position where no copy lies between, else on from the nearest copy.
+abbrev pub steps_to : Walk → ℕ → ℕ
+steps_to w m =
+    if nat_le m w.at && nat_le w.at (m + w.window) then w.at - m
+    else if nat_le (nearest w.every m) w.at && nat_le w.at m then m - w.at
+    else m - nearest w.every m
 
 -- the walk at another moment, the steps uncounted
 abbrev pub moved : Walk → ℕ → Walk
-moved w m = record { setup = w.setup; events = w.events; at = m; walked = w.walked }
+moved w m = record w { at = m }
 
 -- the walk at another moment, the steps counted
 abbrev pub jumped : Walk → ℕ → Walk
-jumped w m = record { setup = w.setup; events = w.events; at = m; walked = min (w.walked + distance w.at m) (2 ^ 64 - 1) }
+jumped w m = record w { at = m; walked = min (w.walked + steps_to w m) (2 ^ 64 - 1) }
 
 -- the walk with more events at its end
 abbrev pub extended : Walk → List Event → Walk
-extended w es = record { setup = w.setup; events = w.events ++ es; at = w.at; walked = w.walked }
-
--- From a machine, the events run up to one that is refused for n. Want of memory is told where no rule refuses it, or before the first.
-pub record Stops (m : Machine) (es : List Event) (i : ℕ) (n : Refusal) : Type 0 where
-  pub event : Event
-  pub there : slice_get es i ≡ Some event
-  pub runs : Accepts m (take i es)
-  pub refused : (refusal (run m (take i es)) event ≡ Some n) ⊎ ((n ≡ Memory) × ((i ≡ 0) ⊎ (refusal (run m (take i es)) event ≡ None)))
-
--- What a walker keeps: the records lead back from the end to the start, and the state is that of the position.
-pub record Keeps (setup : Setup) (events : List Event) (records : List (List Change)) (at : ℕ) (state : Machine) (walked : ℕ) : Type 0 where
-  pub linked : Linked (start setup) events records (run (start setup) events)
-  pub within : at ≤ length events
-  pub here : state ≡ moment setup events at
-  pub most : length events ≤ 1048576
-  pub counted : walked < 2 ^ 64
+extended w es = record w { events = w.events ++ es }

@@ -2,6 +2,7 @@
 #![tactic(auto)]
 
 pub mod refusal;
+mod trail;
 pub mod walker;
 
 pub use refusal::{ExtendRefusal, WalkRefusal};

@@ -83,6 +83,39 @@ fn single_steps_are_not_counted(rt: HostRuntime) -> Result<(), Fail> {
     Ok(())
 }
 
+// Goes to a moment, and tells how many steps jumps have made then, and the clock.
+fn after_jump(walker: &mut Walker, moment: usize) -> (u64, Option<u64>) {
+    let _gone = walker.goto(moment);
+    (walker.walked(), clock(walker))
+}
+
+#[test]
+fn jumps_are_short(rt: HostRuntime) -> Result<(), Fail> {
+    let mut walker = Walker::with(rt.alloc(), &quiet(rt.alloc()), 4, 2)?;
+    walker.extend(&[Event::Tick(1); 10])?;
+    assert_eq!(rt; after_jump(&mut walker, 10), (2, Some(10)));
+    assert_eq!(rt; after_jump(&mut walker, 9), (3, Some(9)));
+    assert_eq!(rt; after_jump(&mut walker, 5), (4, Some(5)));
+    assert_eq!(rt; after_jump(&mut walker, 7), (6, Some(7)));
+    assert_eq!(rt; after_jump(&mut walker, 0), (6, Some(0)));
+    assert_eq!(rt; after_jump(&mut walker, 8), (6, Some(8)));
+    assert_eq!(rt; after_jump(&mut walker, 8), (6, Some(8)));
+    assert_eq!(rt; after_jump(&mut walker, 11), (6, Some(8)));
+    Ok(())
+}
+
+// The copies of what was added last serve a jump, as do those of what was there.
+#[test]
+fn jumps_into_added_events(rt: HostRuntime) -> Result<(), Fail> {
+    let mut walker = Walker::with(rt.alloc(), &quiet(rt.alloc()), 4, 0)?;
+    walker.extend(&[Event::Tick(1); 3])?;
+    walker.extend(&[Event::Tick(1); 6])?;
+    assert_eq!(rt; after_jump(&mut walker, 9), (1, Some(9)));
+    assert_eq!(rt; after_jump(&mut walker, 6), (3, Some(6)));
+    assert_eq!(rt; after_jump(&mut walker, 3), (6, Some(3)));
+    Ok(())
+}
+
 #[test]
 fn refusals_have_numbers(rt: HostRuntime) {
     assert_eq!(rt; ExtendRefusal::TraceFull.number(), 1);

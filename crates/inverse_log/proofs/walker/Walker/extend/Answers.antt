@@ -1,14 +1,22 @@
-use Rattle.std.proofs.Common.{◌≡◌, ◌<◌, ℕ, length, arith, subst}
+use Rattle.std.proofs.Common.{◌≡◌, ℕ, ◌-◌, ◌<◌, length, arith, subst, ap}
 use Rattle.std.proofs.lemmas.Bool.Decides.{nat_tests}
 use Rattle.scenario.specs.declared.event.Refusal.{Refusal}
 use Rattle.scenario.specs.declared.event.Refusal.TheVariants.{Memory}
-use Rattle.inverse_log.specs.Walks.{ending, Stops}
-use Rattle.inverse_log.proofs.Pushing.{no_memory}
+use Rattle.inverse_log.specs.Tracks.{Track, Stops, ends}
+use Rattle.inverse_log.specs.Walks.{Walk}
+use Rattle.inverse_log.proofs.Pushing.{no_copy}
 use Rattle.inverse_log.proofs.walker.Walker.extend.Goals as goal
+
+pub cut-requires : goal.cut-requires
+cut-requires c =
+    let at : c.extend.new.self.at ≡ c.self.inside.trail.at = ap (λ (t : Track). t.at) c.in_ok-copies.ensures.ok in
+    let from : c.self.inside.trail.at ≡ c.args.self.now.at = ap (λ (w : Walk). w.at) c.self.view_is in
+    omega (arith, at, from, c.len-len.ensures.within)
 
 pub returns-then-is_err-clause-refused : goal.returns-then-is_err-clause-refused
 returns-then-is_err-clause-refused c = λ i n e.
-    let some : 0 < length c.args.events.now = grind (arith, nat_tests) in
-    let first : 0 ≡ i = cc in
+    let some : length c.args.events.now - 1 < length c.args.events.now = grind (arith, nat_tests) in
+    let at : length c.args.events.now - 1 ≡ i = cc in
     let why : Memory ≡ n = cc in
-    subst (λ (k : ℕ). Stops (ending c.args.self.now) c.args.events.now k n) first (subst (λ (k : Refusal). Stops (ending c.args.self.now) c.args.events.now 0 k) why (no_memory (ending c.args.self.now) c.args.events.now some))
+    let stops : Stops (ends c.self.inside.trail) c.args.events.now (length c.args.events.now - 1) Memory = no_copy (ends c.self.inside.trail) c.args.events.now (length c.args.events.now - 1) some c.in_ok-copies.ensures.accepts in
+    rw (← c.self.view_is) (subst (λ (k : ℕ). Stops (ends c.self.inside.trail) c.args.events.now k n) at (subst (λ (r : Refusal). Stops (ends c.self.inside.trail) c.args.events.now (length c.args.events.now - 1) r) why stops))

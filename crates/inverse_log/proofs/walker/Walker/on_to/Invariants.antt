@@ -1,9 +1,0 @@
-use Rattle.std.proofs.Common.{◌≡◌}
-use Rattle.inverse_log.specs.Walks.{stepped}
-use Rattle.inverse_log.proofs.walker.Walker.on_to.Given as goal
-
-abbrev pub invariant-loop-at : goal.invariant-loop-at
-invariant-loop-at l = record {
-  walk : l.self ≡ stepped l.tally l.fn.self l.self.at;
-  at : l.self.at ≡ l._at;
-}

@@ -1,0 +1,288 @@
+//! A run that is walked by single steps.
+ghost use Rattle.std.specs.Prelude.{◌≡◌, ℕ, ◌-◌, ◌+◌, ◌^◌, ◌<◌, ◌≤◌, ◌⊎◌, ◌∷◌, ◌++◌, [], Some, None, List, length, take, min, OnOk, OnErr, IfErr, IfOk};
+ghost use Rattle.machine.specs.declared.whole.Machine.{Machine};
+ghost use Rattle.scenario.specs.declared.event.Refusal.{Refusal};
+ghost use Rattle.scenario.specs.declared.setup.SetupRefusal.{SetupRefusal};
+ghost use Rattle.machine.specs.Steps.{refusal};
+ghost use Rattle.machine.specs.Runs.{start, moment, Accepts, Linked, setup_refusal};
+ghost use Rattle.inverse_log.specs.Tracks.{tallied as tallied_by};
+
+use crate::refusal::ExtendRefusal;
+use machine::{Event, Refusal, Setup, SetupRefusal, State};
+use places::Record;
+use std::alloc::{AllocError, Global};
+use std::marker::Model;
+use std::mem;
+
+/// A run with its records, at one of its moments.
+#[derive(Drop)]
+pub struct Trail {
+    alloc: Global,
+    setup: Setup,
+    events: Vec<Event>,
+    records: Vec<Record>,
+    at: usize,
+    state: State,
+    walked: u64,
+}
+
+/// Whether single steps are counted as those of a jump.
+#[derive(Clone, Copy)]
+pub enum Tally {
+    Counted,
+    Free,
+}
+
+impl Model for Trail {
+    ghost use Rattle.inverse_log.specs.Tracks.{Track, Keeps};
+
+    ghost Value = { Track };
+
+    ghost view = { λ t. record { setup = t.setup; events = t.events.items; at = t.at; walked = t.walked } };
+
+    ghost invariant = { λ t. Keeps t.setup t.events.items t.records.items t.at t.state t.walked };
+}
+
+impl Trail {
+    ghost use Rattle.inverse_log.specs.Tracks.{stands, ends, stepped, reached, grown, Stops, Recorded, Covers};
+
+    /// Stands at the start of a run without events.
+    pub fn new(alloc: Global, setup: &Setup) -> Result<Trail, SetupRefusal>
+        ensures fresh { IfOk result (λ t. t ≡ record { setup = setup.now; events = []; at = 0; walked = 0 }) }
+        ensures refused { (r : SetupRefusal) → setup_refusal setup.now ≡ Some r → result ≡ Err r }
+        ensures only_memory { IfErr result (λ r. setup_refusal setup.now ≡ None → r ≡ SetupRefusal.Memory) }
+    {
+        let state = State::new(alloc, setup)?;
+        match setup.copy(alloc) {
+            Ok(setup) => Ok(Trail {
+                alloc,
+                setup,
+                events: Vec::new(alloc),
+                records: Vec::new(alloc),
+                at: 0,
+                state,
+                walked: 0,
+            }),
+            Err(_) => Err(SetupRefusal::Memory),
+        }
+    }
+
+    /// What the run started from.
+    pub fn setup(&self) -> &Setup
+        ensures { result.now ≡ self.now.setup }
+    {
+        &self.setup
+    }
+
+    /// The moment: how many events lie behind.
+    pub fn at(&self) -> usize
+        ensures value { result ≡ self.now.at }
+        ensures within { self.now.at ≤ length self.now.events }
+        ensures counted { self.now.walked < 2 ^ 64 }
+    {
+        self.at
+    }
+
+    /// How many events there are.
+    pub fn len(&self) -> usize
+        ensures value { result ≡ length self.now.events }
+        ensures within { self.now.at ≤ length self.now.events }
+        ensures most { length self.now.events ≤ 1048576 }
+        ensures runs { Accepts (start self.now.setup) self.now.events }
+    {
+        self.events.len()
+    }
+
+    /// The state at the position.
+    pub fn state(&self) -> &State
+        ensures { result.now ≡ stands self.now }
+    {
+        &self.state
+    }
+
+    /// The records of the events, in order.
+    pub fn records(&self) -> &[Record]
+        ensures linked { Linked (start self.now.setup) self.now.events result.now (ends self.now) }
+        ensures recorded { Recorded (start self.now.setup) self.now.events result.now }
+    {
+        self.records.as_slice()
+    }
+
+    /// How many steps were counted, up to 2^64 - 1, where it stays.
+    pub fn walked(&self) -> u64
+        ensures { result ≡ self.now.walked }
+    {
+        self.walked
+    }
+
+    /// Back to an earlier moment. It takes no memory.
+    pub fn back_to(&mut self, moment: usize, tally: Tally)
+        requires { moment ≤ self.old.at }
+        ensures { self.new ≡ stepped tally self.old moment }
+    {
+        for _step in 0..self.at() - moment {
+            self.step_back(tally);
+        }
+    }
+
+    /// On to a later moment, or where memory is refused back to where it was.
+    pub fn on_to(&mut self, moment: usize, tally: Tally) -> Result<(), AllocError>
+        requires later { self.old.at ≤ moment }
+        requires within { moment ≤ length self.old.events }
+        ensures ok { OnOk result (self.new ≡ stepped tally self.old moment) }
+        ensures err { OnErr result (self.new ≡ self.old) }
+    {
+        let (before, walked) = (self.at(), self.walked());
+        for _at in before..moment {
+            if self.step_on(tally).is_err() {
+                self.back_to(before, Tally::Free);
+                self.walked = walked;
+                return Err(AllocError);
+            }
+        }
+        Ok(())
+    }
+
+    /// On to a moment from the state of an earlier one, by counted steps. Where memory is refused it
+    /// stays where it was.
+    pub fn on_from(&mut self, state: State, from: usize, to: usize) -> Result<(), AllocError>
+        requires state { state ≡ moment self.old.setup self.old.events from }
+        requires later { from ≤ to }
+        requires within { to ≤ length self.old.events }
+        ensures ok { OnOk result (self.new ≡ reached self.old to (to - from)) }
+        ensures err { OnErr result (self.new ≡ self.old) }
+    {
+        let before = mem::replace(&mut self.state, state);
+        let at = mem::replace(&mut self.at, from);
+        let gone = self.on_to(to, Tally::Counted);
+        if gone.is_err() {
+            self.state = before;
+            self.at = at;
+        }
+        gone
+    }
+
+    /// Adds events at the end, and keeps the position. Told are copies of the states that the run comes
+    /// by at multiples of a number.
+    pub fn extend(&mut self, events: &[Event], every: u32) -> Result<Vec<State>, ExtendRefusal>
+        requires some { 0 < every }
+        requires any { 0 < length events.now }
+        requires room { length self.old.events + length events.now ≤ 1048576 }
+        ensures ok { OnOk result (self.new ≡ grown self.old events.now self.old.at) }
+        ensures accepts { OnOk result (Accepts (ends self.old) events.now) }
+        ensures covers { IfOk result (λ copies. (xs : List Machine) → Covers self.old.setup self.old.events every xs → Covers self.new.setup self.new.events every (xs ++ copies.items)) }
+        ensures refused { IfErr result (λ e. (i : ℕ) × (n : Refusal) × (e ≡ ExtendRefusal.Refused i n) × Stops (ends self.old) events.now i n) }
+        ensures err { OnErr result (self.new ≡ self.old) }
+    {
+        let (from, len) = (self.at(), self.len());
+        if self.on_to(len, Tally::Free).is_err() {
+            return Err(ExtendRefusal::Refused(0, Refusal::Memory));
+        }
+        let added = self.push_all(events, every);
+        self.back_to(from, Tally::Free);
+        if added.is_err() {
+            self.cut(len);
+        }
+        added
+    }
+
+    /// Keeps the first events alone.
+    pub fn cut(&mut self, len: usize)
+        requires { self.old.at ≤ len }
+        ensures { self.new ≡ record { setup = self.old.setup; events = take len self.old.events; at = self.old.at; walked = self.old.walked } }
+    {
+        self.events.truncate(len);
+        self.records.truncate(len);
+    }
+
+    // The one step back. It takes no memory.
+    fn step_back(&mut self, tally: Tally)
+        requires { 0 < self.old.at }
+        ensures { self.new ≡ stepped tally self.old (self.old.at - 1) }
+    {
+        self.at -= 1;
+        self.state.put_back(&self.records[self.at]);
+        self.walked = tallied(self.walked, tally);
+    }
+
+    // The one step on.
+    fn step_on(&mut self, tally: Tally) -> Result<(), AllocError>
+        requires { self.old.at < length self.old.events }
+        ensures ok { OnOk result (self.new ≡ stepped tally self.old (self.old.at + 1)) }
+        ensures err { OnErr result (self.new ≡ self.old) }
+    {
+        let event = self.events[self.at];
+        match self.state.step(event) {
+            Ok(_) => {
+                self.at += 1;
+                self.walked = tallied(self.walked, tally);
+                Ok(())
+            }
+            Err(_) => Err(AllocError),
+        }
+    }
+
+    // Does an event at the end, and stands behind it.
+    fn push(&mut self, event: Event) -> Result<(), Refusal>
+        requires last { self.old.at ≡ length self.old.events }
+        requires room { length self.old.events < 1048576 }
+        ensures ok { OnOk result (self.new ≡ grown self.old (event ∷ []) (self.old.at + 1)) }
+        ensures accepts { OnOk result (refusal (stands self.old) event ≡ None) }
+        ensures refuses { IfErr result (λ n. (refusal (stands self.old) event ≡ Some n) ⊎ ((n ≡ Refusal.Memory) × (refusal (stands self.old) event ≡ None))) }
+        ensures err { OnErr result (self.new ≡ self.old) }
+    {
+        if self.records.reserve(1).is_err() || self.events.reserve(1).is_err() {
+            return Err(self.state.refuses(event).unwrap_or(Refusal::Memory));
+        }
+        let past = self.state.step(event)?;
+        self.records.push(past).unwrap();
+        self.events.push(event).unwrap();
+        self.at += 1;
+        Ok(())
+    }
+
+    // Adds a copy of the state at the end to those of the multiples, where it is one of them.
+    fn copy_at(&self, every: u32, copies: &mut Vec<State>) -> Result<(), AllocError>
+        requires last { self.now.at ≡ length self.now.events }
+        requires some { 0 < every }
+        ensures covers { OnOk result ((events : List Event) (event : Event) (xs : List Machine) → self.now.events ≡ events ++ event ∷ [] → Covers self.now.setup events every (xs ++ copies.old.items) → Covers self.now.setup self.now.events every (xs ++ copies.new.items)) }
+    {
+        if self.at % every as usize == 0 {
+            copies.push(self.state.copy(self.alloc)?)?;
+        }
+        Ok(())
+    }
+
+    // Does events at the end, up to one that is refused, and stands behind them. Told are copies of the
+    // states at multiples.
+    fn push_all(&mut self, events: &[Event], every: u32) -> Result<Vec<State>, ExtendRefusal>
+        requires last { self.old.at ≡ length self.old.events }
+        requires some { 0 < every }
+        requires room { length self.old.events + length events.now ≤ 1048576 }
+        ensures ok { OnOk result (self.new ≡ grown self.old events.now (self.old.at + length events.now)) }
+        ensures accepts { OnOk result (Accepts (ends self.old) events.now) }
+        ensures covers { IfOk result (λ copies. (xs : List Machine) → Covers self.old.setup self.old.events every xs → Covers self.new.setup self.new.events every (xs ++ copies.items)) }
+        ensures refused { IfErr result (λ e. (i : ℕ) × (n : Refusal) × (e ≡ ExtendRefusal.Refused i n) × Stops (ends self.old) events.now i n) }
+        ensures err { OnErr result ((i : ℕ) × (self.new ≡ grown self.old (take i events.now) (self.old.at + i))) }
+    {
+        let mut copies = Vec::new(self.alloc);
+        for (i, event) in events.iter().enumerate() {
+            if let Err(refusal) = self.push(*event) {
+                return Err(ExtendRefusal::Refused(i as u32, refusal));
+            }
+            if let Err(_) = self.copy_at(every, &mut copies) {
+                return Err(ExtendRefusal::Refused(i as u32, Refusal::Memory));
+            }
+        }
+        Ok(copies)
+    }
+}
+
+fn tallied(walked: u64, tally: Tally) -> u64
+    ensures { result ≡ tallied_by tally walked 1 }
+{
+    match tally {
+        Tally::Counted => walked.saturating_add(1),
+        Tally::Free => walked,
+    }
+}
