@@ -7,7 +7,7 @@ use Rattle.scenario.specs.declared.event.Refusal.TheVariants.{Memory}
 use Rattle.machine.specs.Runs.{start, IsRefused}
 use Rattle.inverse_log.specs.declared.refusal.ExtendRefusal.{ExtendRefusal}
 use Rattle.inverse_log.specs.declared.refusal.ExtendRefusal.TheVariants.{TraceFull, Refused}
-use Rattle.inverse_log.specs.Walks.{Stops}
+use Rattle.inverse_log.specs.Tracks.{Stops}
 use Rattle.debug_server.specs.declared.faults.RunFault.{RunFault}
 use Rattle.debug_server.specs.declared.faults.RunFault.TheVariants.{Script, Schedule, Serve, Memory as OutOfMemory, Net, Trace}
 use Rattle.debug_server.specs.Schedules.{StopsBy, IsOfSchedule, fault_by, fault_of}

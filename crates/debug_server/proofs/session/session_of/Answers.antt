@@ -1,5 +1,6 @@
 use Rattle.std.proofs.Common.{Err, ap, subst}
-use Rattle.inverse_log.specs.Walks.{Walk, Stops, ending}
+use Rattle.inverse_log.specs.Tracks.{Stops}
+use Rattle.inverse_log.specs.Walks.{Walk, ending}
 use Rattle.debug_server.proofs.Stopping.{refused_at, of_schedule, stops_for}
 use Rattle.debug_server.proofs.session.session_of.Goals as goal
 
