@@ -1,5 +1,7 @@
 pub mod Bytes
 pub mod Clean
 pub mod Each
+pub mod Numbered
+pub mod KeptLimits
 pub mod Starts
 pub mod Texts
