@@ -21,6 +21,7 @@ use Rattle.script.specs.Objects.{object_form, is_small, object_in_range, object_
 use Rattle.script.specs.Numbers.{whole_of, between, number_between}
 use Rattle.script.specs.Instructions.{instruction_form, keeps_limits, instruction_in_range, instruction_at, thread_at}
 use Rattle.script.specs.Events.{event_form, event_in_range, event_at}
+use Rattle.script.proofs.Chain.{with_schedule, with_threads, with_fds, with_objects, with_memory, with_base, with_sqpoll, with_cq, with_entries, with_keys}
 use Rattle.script.specs.Scripts.{Plan, is_script_key, entries_of, large_enough, cq_of, flag_of, base_of, threads_of, schedule_of, script_of, IsNoJson}
 
 abbrev Clean : {A : Type 0} → Result A ScriptFault → Type 0
@@ -129,42 +130,6 @@ schedule_clean : (d : Option Data) → Clean (schedule_of d)
 schedule_clean d =
     let r = required key.Schedule d in
     bind_clean (r >>= listed (at_key key.Schedule)) (at_most 65536 (at_key key.Schedule) event_at) (bind_clean r (listed (at_key key.Schedule)) (required_clean key.Schedule d) (listed_clean (at_key key.Schedule))) (λ ds. at_most_clean 65536 (at_key key.Schedule) event_at ds (λ i e. formed_clean (at_item key.Schedule i) (event_form e) event_in_range))
-
-abbrev planned : ℕ → Option ℕ → Bool → ℕ → List ℕ → List Object → List Descriptor → List (List Instruction) → List Event → Plan
-planned entries cq sqpoll base memory objects fds threads schedule = record {
-  setup = record { entries = entries; cq = cq; sqpoll = sqpoll; submit_all = false; base = base; memory = memory; objects = objects; fds = fds; threads = threads };
-  schedule = schedule;
-}
-
-abbrev with_schedule : Data → ℕ → Option ℕ → Bool → ℕ → List ℕ → List Object → List Descriptor → List (List Instruction) → List Event → Result Plan ScriptFault
-with_schedule d entries cq sqpoll base memory objects fds threads schedule = Ok (planned entries cq sqpoll base memory objects fds threads schedule)
-
-abbrev with_threads : Data → ℕ → Option ℕ → Bool → ℕ → List ℕ → List Object → List Descriptor → List (List Instruction) → Result Plan ScriptFault
-with_threads d entries cq sqpoll base memory objects fds threads = schedule_of (get (codes "schedule") d) >>= with_schedule d entries cq sqpoll base memory objects fds threads
-
-abbrev with_fds : Data → ℕ → Option ℕ → Bool → ℕ → List ℕ → List Object → List Descriptor → Result Plan ScriptFault
-with_fds d entries cq sqpoll base memory objects fds = threads_of (rounded entries) (get (codes "threads") d) >>= with_threads d entries cq sqpoll base memory objects fds
-
-abbrev with_objects : Data → ℕ → Option ℕ → Bool → ℕ → List ℕ → List Object → Result Plan ScriptFault
-with_objects d entries cq sqpoll base memory objects = fds_of objects (get (codes "fds") d) >>= with_fds d entries cq sqpoll base memory objects
-
-abbrev with_memory : Data → ℕ → Option ℕ → Bool → ℕ → List ℕ → Result Plan ScriptFault
-with_memory d entries cq sqpoll base memory = objects_of (get (codes "objects") d) >>= with_objects d entries cq sqpoll base memory
-
-abbrev with_base : Data → ℕ → Option ℕ → Bool → ℕ → Result Plan ScriptFault
-with_base d entries cq sqpoll base = memory_of (get (codes "memory") d) >>= with_memory d entries cq sqpoll base
-
-abbrev with_sqpoll : Data → ℕ → Option ℕ → Bool → Result Plan ScriptFault
-with_sqpoll d entries cq sqpoll = base_of (get (codes "base") d) >>= with_base d entries cq sqpoll
-
-abbrev with_cq : Data → ℕ → Option ℕ → Result Plan ScriptFault
-with_cq d entries cq = flag_of key.Sqpoll (get (codes "sqpoll") d) >>= with_sqpoll d entries cq
-
-abbrev with_entries : Data → ℕ → Result Plan ScriptFault
-with_entries d entries = cq_of entries (get (codes "cq") d) >>= with_cq d entries
-
-abbrev with_keys : Data → Unit {0} → Result Plan ScriptFault
-with_keys d u = entries_of (get (codes "entries") d) >>= with_entries d
 
 script_clean : (d : Data) → Clean (script_of d)
 script_clean d =

@@ -1,4 +1,5 @@
 pub mod Bytes
+pub mod Chain
 pub mod Clean
 pub mod Each
 pub mod Numbered

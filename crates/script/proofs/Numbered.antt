@@ -29,11 +29,11 @@ any_named name ks os h = any_text name ks ∙ ap (list_any (bytes_eq name)) h �
 
 at_text : (name : List ℕ) (ks : List (Bor (List ℕ))) → position_or_len (λ k. bytes_eq name k.now) ks ≡ position_or_len (bytes_eq name) (texts ks)
 at_text name [] = refl
-at_text name (k ∷ ks) = ap (λ n. cond (not (bytes_eq name k.now)) (suc n) 0) (at_text name ks)
+at_text name (k ∷ ks) = ap (λ n. cond (not (bytes_eq name k.now)) (1 + n) 0) (at_text name ks)
 
 at_name : (name : List ℕ) (os : List Object) → position_or_len (bytes_eq name) (names_of os) ≡ position_or_len (is_named name) os
 at_name name [] = refl
-at_name name (o ∷ os) = ap (λ n. cond (not (bytes_eq name o.name)) (suc n) 0) (at_name name os)
+at_name name (o ∷ os) = ap (λ n. cond (not (bytes_eq name o.name)) (1 + n) 0) (at_name name os)
 
 pub lengths_alike : (ks : List (Bor (List ℕ))) (os : List Object) → texts ks ≡ names_of os → length ks ≡ length os
 lengths_alike ks os h = sym (length-map ks (λ k. k.now)) ∙ ap length h ∙ length-map os (λ o. o.name)
@@ -55,6 +55,12 @@ names-append (o ∷ os) ps = ap (λ xs. o.name ∷ xs) (names-append os ps)
 pub one_more : (ks : List (Bor (List ℕ))) (os : List Object) (k : Bor (List ℕ)) (o : Object) → texts ks ≡ names_of os → o.name ≡ k.now → texts (ks ++ k ∷ []) ≡ names_of (os ++ o ∷ [])
 one_more ks os k o h e =
     texts-append ks (k ∷ []) ∙ ap (λ xs. xs ++ k.now ∷ []) h ∙ ap (λ x. names_of os ++ x ∷ []) (sym e) ∙ sym (names-append os (o ∷ []))
+
+-- a name that is new, and its object
+pub kept_names : (ks new : List (Bor (List ℕ))) (os : List Object) (k : Bor (List ℕ)) (o : Object) → texts ks ≡ names_of os → o.name ≡ k.now → list_any (is_named o.name) os ≡ false → new ≡ cond (list_any (λ l. bytes_eq k.now l.now) ks) ks (ks ++ k ∷ []) → texts new ≡ names_of (os ++ o ∷ [])
+kept_names ks new os k o h e n i =
+    let none : list_any (λ l. bytes_eq k.now l.now) ks ≡ false = any_named k.now ks os h ∙ ap (λ name. list_any (is_named name) os) (sym e) ∙ n in
+    ap texts (i ∙ ap (λ b. cond b ks (ks ++ k ∷ [])) none) ∙ one_more ks os k o h e
 
 -- ---- no two have one name
 

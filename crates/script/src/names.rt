@@ -48,23 +48,24 @@ impl<'a> NamedObjects<'a> {
 
     /// One object more.
     pub fn with(self, name: &'a str, object: Object) -> Result<NamedObjects<'a>, ScriptFault>
-        requires same { object.name ≡ name.entry.now }
+        requires same { object.name ≡ name.now }
         requires new { list_any (is_named object.name) self ≡ false }
         requires room { length self < 32 }
-        ensures ok { IfOk result (λ n. n ≡ self ++ object ∷ []) }
+        ensures ok { IfOk result (λ n. n ≡ self.entry ++ object ∷ []) }
         ensures err { IfErr result (λ e. e ≡ ScriptFault.Memory) }
     {
         let NamedObjects {
             mut objects,
             mut names,
         } = self;
-        if objects.push(object).is_err() {
+        let Ok(()) = objects.push(object) else {
             return Err(ScriptFault::Memory);
-        }
-        if names.insert(name).is_err() {
+        };
+        let Ok(_) = names.insert(name) else {
             return Err(ScriptFault::Memory);
-        }
-        Ok(NamedObjects { objects, names })
+        };
+        let named = NamedObjects { objects, names };
+        Ok(named)
     }
 
     /// The number of the object that has a name.
@@ -86,7 +87,7 @@ impl<'a> NamedObjects<'a> {
 
     /// The objects.
     pub fn into_items(self) -> Items<Object>
-        ensures { result ≡ self }
+        ensures { result ≡ self.entry }
     {
         let NamedObjects { objects, names: _ } = self;
         Items::of(objects)

@@ -96,8 +96,8 @@ fn with_object<'a>(
     value: &'a Value,
 ) -> Result<NamedObjects<'a>, ScriptFault>
     requires { length before < 32 }
-    ensures next { Gives (λ n. n) result (object_at before index (view value.now)) }
-    ensures len { IfOk result (λ n. length n ≡ length before + 1) }
+    ensures next { Gives (λ n. n) result (object_at before.entry index (view value.now)) }
+    ensures len { IfOk result (λ n. length n ≡ length before.entry + 1) }
 {
     let path = item_path(Key::Objects, index);
     let found = object_form(alloc, path, value)?;
