@@ -94,7 +94,8 @@ fn are_descriptors(objects: &[Object], descriptors: &[Descriptor]) -> bool
         .all(|descriptor| is_descriptor(objects, *descriptor))
 }
 
-fn is_descriptor(objects: &[Object], descriptor: Descriptor) -> bool
+/// Whether a descriptor's object is there, and has its side.
+pub fn is_descriptor(objects: &[Object], descriptor: Descriptor) -> bool
     ensures { result ≡ is_descriptor objects.now descriptor }
 {
     match objects.get(descriptor.object as usize) {

@@ -1,10 +1,12 @@
 -- A JSON value that was read is never told as no JSON.
-use Rattle.std.proofs.Common.{◌≡◌, ◌≢◌, ℕ, ◌+◌, Bool, true, false, cond, nat_le, nat_lt, List, [], ◌∷◌, length, Option, Some, None, Result, Ok, Err}
-use Rattle.std.specs.Prelude.{codes, ok_or, IsUtf8}
+use Rattle.std.proofs.Common.{◌≡◌, ◌≢◌, ℕ, ◌+◌, Bool, true, false, cond, nat_le, nat_lt, List, [], ◌∷◌, ◌++◌, length, Option, Some, None, Result, Ok, Err}
+use Rattle.std.specs.Prelude.{codes, ok_or, option_map, IsUtf8}
 use Rattle.serde_json.specs.Data.{Data, null, boolean, number, string, array, object}
-use Rattle.serde_json.specs.Find.{get, as_bool}
+use Rattle.serde_json.specs.Find.{get, as_bool, as_str}
 use Rattle.serde_json.specs.Read.{read}
 use Rattle.ring_words.specs.Rings.{rounded}
+use Rattle.places.specs.declared.object.Descriptor.{Descriptor}
+use Rattle.places.specs.declared.object.Object.{Object}
 use Rattle.scenario.specs.declared.event.Event.{Event}
 use Rattle.scenario.specs.declared.setup.Instruction.{Instruction}
 use Rattle.script.specs.declared.fault.Key.{Key}
@@ -12,12 +14,15 @@ use Rattle.script.specs.declared.fault.Key.TheVariants as key
 use Rattle.script.specs.declared.fault.Path.{Path}
 use Rattle.script.specs.declared.fault.ScriptFault.{ScriptFault}
 use Rattle.script.specs.declared.fault.ScriptFault.TheVariants.{NotJson, Shape, Range, Limit, Memory}
-use Rattle.script.specs.Faults.{◌>>=◌, ranged, form_then_ranges, at_key, at_item, at_inner, Gives}
-use Rattle.script.specs.Lists.{has_keys, keyed, listed, each, at_most, required}
+use Rattle.script.specs.Faults.{◌>>=◌, ranged, shaped, limits_then_ranges, form_limits_ranges, form_then_ranges, at_key, at_item, at_inner, Gives}
+use Rattle.script.specs.Lists.{has_keys, keyed, listed, list_at, each, folded, at_most, folded_at_most, required}
+use Rattle.script.specs.Memory.{piece_form, is_short, with_piece, piece_at, zeros, memory_of}
+use Rattle.script.specs.Objects.{object_form, is_small, object_in_range, object_at, objects_of, descriptor_named, descriptor_at, fds_of}
 use Rattle.script.specs.Numbers.{whole_of, between, number_between}
-use Rattle.script.specs.Instructions.{instruction_form, instruction_in_range, instruction_at, thread_at}
+use Rattle.script.specs.Instructions.{instruction_form, keeps_limits, instruction_in_range, instruction_at, thread_at}
 use Rattle.script.specs.Events.{event_form, event_in_range, event_at}
-use Rattle.script.specs.Scripts.{Plan, is_script_key, entries_of, large_enough, cq_of, flag_of, base_of, threads_of, schedule_of, setup_with, script_of, IsNoJson}
+use Rattle.script.proofs.Chain.{with_schedule, with_threads, with_fds, with_objects, with_memory, with_base, with_sqpoll, with_cq, with_entries, with_keys}
+use Rattle.script.specs.Scripts.{Plan, is_script_key, entries_of, large_enough, cq_of, flag_of, base_of, threads_of, schedule_of, script_of, IsNoJson}
 
 abbrev Clean : {A : Type 0} → Result A ScriptFault → Type 0
 Clean (Ok x) = Unit {0}
@@ -43,6 +48,10 @@ formed_clean : {F A : Type 0} → (p : Path) (o : Option F) (f : F → Option A)
 formed_clean p None f = tt
 formed_clean p (Some w) f = ranged_clean p (f w)
 
+shaped_clean : {F : Type 0} → (p : Path) (o : Option F) → Clean (shaped p o)
+shaped_clean p None = tt
+shaped_clean p (Some w) = tt
+
 required_clean : (k : Key) (o : Option Data) → Clean (required k o)
 required_clean k None = tt
 required_clean k (Some d) = tt
@@ -58,6 +67,17 @@ listed_clean p (object ms) = tt
 chosen_clean : {A : Type 0} → (b : Bool) (r s : Result A ScriptFault) → Clean r → Clean s → Clean (cond b r s)
 chosen_clean true r s h k = h
 chosen_clean false r s h k = k
+
+limited_clean : {F A : Type 0} → (p : Path) (o : Option F) (keeps : F → Bool) (f : F → Option A) → Clean (form_limits_ranges p o keeps f)
+limited_clean p o keeps f = bind_clean (shaped p o) (limits_then_ranges p keeps f) (shaped_clean p o) (λ w. chosen_clean (keeps w) (ranged p (f w)) (Err (Limit p)) (ranged_clean p (f w)) tt)
+
+list_clean : (k : Key) (d : Option Data) → Clean (list_at k d)
+list_clean k None = tt
+list_clean k (Some d) = listed_clean (at_key k) d
+
+folded_clean : {S : Type 0} → (f : S → ℕ → Data → Result S ScriptFault) (s : S) (i : ℕ) (ds : List Data) → ((t : S) (j : ℕ) (d : Data) → Clean (f t j d)) → Clean (folded f s i ds)
+folded_clean f s i [] k = tt
+folded_clean f s i (d ∷ ds) k = bind_clean (f s i d) (λ t. folded f t (i + 1) ds) (k s i d) (λ t. folded_clean f t (i + 1) ds k)
 
 each_clean : {A : Type 0} → (f : ℕ → Data → Result A ScriptFault) (i : ℕ) (ds : List Data) → ((j : ℕ) (d : Data) → Clean (f j d)) → Clean (each f i ds)
 each_clean f i [] k = tt
@@ -88,9 +108,18 @@ base_clean : (d : Option Data) → Clean (base_of d)
 base_clean None = tt
 base_clean (Some d) = formed_clean (at_key key.Base) (whole_of d) (between 0 4294967295)
 
+memory_clean : (d : Option Data) → Clean (memory_of d)
+memory_clean d = bind_clean (list_at key.Memory d) (folded piece_at (zeros 65536) 0) (list_clean key.Memory d) (λ ds. folded_clean piece_at (zeros 65536) 0 ds (λ m i e. limited_clean (at_item key.Memory i) (piece_form e) is_short (with_piece m)))
+
+objects_clean : (d : Option Data) → Clean (objects_of d)
+objects_clean d = bind_clean (list_at key.Objects d) (folded_at_most 32 (at_key key.Objects) object_at []) (list_clean key.Objects d) (λ ds. chosen_clean (nat_lt 32 (length ds)) (Err (Limit (at_key key.Objects))) (folded object_at [] 0 ds) tt (folded_clean object_at [] 0 ds (λ os i e. limited_clean (at_item key.Objects i) (object_form e) is_small (λ o. option_map (λ x. os ++ x ∷ []) (object_in_range os o)))))
+
+fds_clean : (objects : List Object) (d : Option Data) → Clean (fds_of objects d)
+fds_clean objects d = bind_clean (list_at key.Fds d) (at_most 64 (at_key key.Fds) (descriptor_at objects)) (list_clean key.Fds d) (λ ds. at_most_clean 64 (at_key key.Fds) (descriptor_at objects) ds (λ i e. formed_clean (at_item key.Fds i) (as_str e) (descriptor_named objects)))
+
 thread_clean : (size t : ℕ) (d : Data) → Clean (thread_at size t d)
 thread_clean size t d =
-    bind_clean (listed (at_item key.Threads t) d) (at_most 4096 (at_item key.Threads t) (instruction_at size t)) (listed_clean (at_item key.Threads t) d) (λ ds. at_most_clean 4096 (at_item key.Threads t) (instruction_at size t) ds (λ i e. formed_clean (at_inner key.Threads t i) (instruction_form e) (instruction_in_range size)))
+    bind_clean (listed (at_item key.Threads t) d) (at_most 4096 (at_item key.Threads t) (instruction_at size t)) (listed_clean (at_item key.Threads t) d) (λ ds. at_most_clean 4096 (at_item key.Threads t) (instruction_at size t) ds (λ i e. limited_clean (at_inner key.Threads t i) (instruction_form e) keeps_limits (instruction_in_range size)))
 
 threads_clean : (size : ℕ) (d : Option Data) → Clean (threads_of size d)
 threads_clean size d =
@@ -102,27 +131,6 @@ schedule_clean d =
     let r = required key.Schedule d in
     bind_clean (r >>= listed (at_key key.Schedule)) (at_most 65536 (at_key key.Schedule) event_at) (bind_clean r (listed (at_key key.Schedule)) (required_clean key.Schedule d) (listed_clean (at_key key.Schedule))) (λ ds. at_most_clean 65536 (at_key key.Schedule) event_at ds (λ i e. formed_clean (at_item key.Schedule i) (event_form e) event_in_range))
 
-abbrev with_schedule : Data → ℕ → Option ℕ → Bool → ℕ → List (List Instruction) → List Event → Result Plan ScriptFault
-with_schedule d entries cq sqpoll base threads schedule = Ok (record { setup = setup_with entries cq sqpoll base threads; schedule = schedule })
-
-abbrev with_threads : Data → ℕ → Option ℕ → Bool → ℕ → List (List Instruction) → Result Plan ScriptFault
-with_threads d entries cq sqpoll base threads = schedule_of (get (codes "schedule") d) >>= with_schedule d entries cq sqpoll base threads
-
-abbrev with_base : Data → ℕ → Option ℕ → Bool → ℕ → Result Plan ScriptFault
-with_base d entries cq sqpoll base = threads_of (rounded entries) (get (codes "threads") d) >>= with_threads d entries cq sqpoll base
-
-abbrev with_sqpoll : Data → ℕ → Option ℕ → Bool → Result Plan ScriptFault
-with_sqpoll d entries cq sqpoll = base_of (get (codes "base") d) >>= with_base d entries cq sqpoll
-
-abbrev with_cq : Data → ℕ → Option ℕ → Result Plan ScriptFault
-with_cq d entries cq = flag_of key.Sqpoll (get (codes "sqpoll") d) >>= with_sqpoll d entries cq
-
-abbrev with_entries : Data → ℕ → Result Plan ScriptFault
-with_entries d entries = cq_of entries (get (codes "cq") d) >>= with_cq d entries
-
-abbrev with_keys : Data → Unit {0} → Result Plan ScriptFault
-with_keys d u = entries_of (get (codes "entries") d) >>= with_entries d
-
 script_clean : (d : Data) → Clean (script_of d)
 script_clean d =
     bind_clean (keyed is_script_key (at_key key.Document) d) (with_keys d) (chosen_clean (has_keys is_script_key d) (Ok tt) (Err (Shape (at_key key.Document))) tt tt) (λ u.
@@ -130,8 +138,11 @@ script_clean d =
     bind_clean (cq_of entries (get (codes "cq") d)) (with_cq d entries) (cq_clean entries (get (codes "cq") d)) (λ cq.
     bind_clean (flag_of key.Sqpoll (get (codes "sqpoll") d)) (with_sqpoll d entries cq) (flag_clean key.Sqpoll (get (codes "sqpoll") d)) (λ sqpoll.
     bind_clean (base_of (get (codes "base") d)) (with_base d entries cq sqpoll) (base_clean (get (codes "base") d)) (λ base.
-    bind_clean (threads_of (rounded entries) (get (codes "threads") d)) (with_threads d entries cq sqpoll base) (threads_clean (rounded entries) (get (codes "threads") d)) (λ threads.
-    bind_clean (schedule_of (get (codes "schedule") d)) (with_schedule d entries cq sqpoll base threads) (schedule_clean (get (codes "schedule") d)) (λ schedule. tt)))))))
+    bind_clean (memory_of (get (codes "memory") d)) (with_memory d entries cq sqpoll base) (memory_clean (get (codes "memory") d)) (λ memory.
+    bind_clean (objects_of (get (codes "objects") d)) (with_objects d entries cq sqpoll base memory) (objects_clean (get (codes "objects") d)) (λ objects.
+    bind_clean (fds_of objects (get (codes "fds") d)) (with_fds d entries cq sqpoll base memory objects) (fds_clean objects (get (codes "fds") d)) (λ fds.
+    bind_clean (threads_of (rounded entries) (get (codes "threads") d)) (with_threads d entries cq sqpoll base memory objects fds) (threads_clean (rounded entries) (get (codes "threads") d)) (λ threads.
+    bind_clean (schedule_of (get (codes "schedule") d)) (with_schedule d entries cq sqpoll base memory objects fds threads) (schedule_clean (get (codes "schedule") d)) (λ schedule. tt))))))))))
 
 clean_is : {A : Type 0} → (r : Result A ScriptFault) → Clean r → r ≢ Err NotJson
 clean_is (Ok x) h e = absurd (cc)

@@ -7,7 +7,7 @@ use Rattle.serde_json.specs.declared.value.Value.{Value}
 use Rattle.script.specs.declared.fault.ScriptFault.{ScriptFault}
 use Rattle.script.specs.declared.fault.ScriptFault.TheVariants.{NotJson, Shape, Range, Limit, Memory}
 use Rattle.script.specs.declared.fault.Path.{Path}
-use Rattle.script.specs.Lists.{each, listed, list_of, of_list, has_keys, keys_pass}
+use Rattle.script.specs.Lists.{each, folded, listed, list_of, of_list, has_keys, keys_pass}
 use Rattle.script.specs.Faults.{◌>>=◌, Fails}
 use Rattle.std.specs.List.{list_all}
 use Rattle.std.specs.Map.{keys_of}
@@ -104,3 +104,33 @@ each_fails f vs i v (Shape p) done all h e so_far bad = each_err f vs i v (Shape
 each_fails f vs i v (Range p) done all h e so_far bad = each_err f vs i v (Range p) done all h e so_far bad
 each_fails f vs i v (Limit p) done all h e so_far bad = each_err f vs i v (Limit p) done all h e so_far bad
 each_fails f vs i v Memory done all h e so_far bad = tt
+
+-- ---- what items come to, one after the other
+
+-- an item that reads
+pub folded_on : {S : Type 0} → (f : S → ℕ → Data → Result S ScriptFault) (vs : List Value) (i : ℕ) (v : Value) (s t : S) (all : Result S ScriptFault) → i < length vs → v ≡ get_or vs i v → folded f s i (drop i (map view vs)) ≡ all → f s i (view v) ≡ Ok t → folded f t (i + 1) (drop (i + 1) (map view vs)) ≡ all
+folded_on f vs i v s t all h e so_far ok =
+    let rest = drop (i + 1) (map view vs) in
+    sym (ap (λ r. r >>= λ y. folded f y (i + 1) rest) ok)
+    ∙ ap (λ ds. folded f s i ds) (sym (item_view vs i v h e))
+    ∙ so_far
+
+-- an item that doesn't
+folded_err : {S : Type 0} → (f : S → ℕ → Data → Result S ScriptFault) (vs : List Value) (i : ℕ) (v : Value) (y : ScriptFault) (s : S) (all : Result S ScriptFault) → i < length vs → v ≡ get_or vs i v → folded f s i (drop i (map view vs)) ≡ all → f s i (view v) ≡ Err y → all ≡ Err y
+folded_err f vs i v y s all h e so_far bad =
+    let rest = drop (i + 1) (map view vs) in
+    sym so_far
+    ∙ ap (λ ds. folded f s i ds) (item_view vs i v h e)
+    ∙ ap (λ r. r >>= λ t. folded f t (i + 1) rest) bad
+
+-- no item is left
+pub folded_done : {S : Type 0} → (f : S → ℕ → Data → Result S ScriptFault) (ds : List Data) (i : ℕ) (s : S) (all : Result S ScriptFault) → drop i ds ≡ [] → folded f s i (drop i ds) ≡ all → all ≡ Ok s
+folded_done f ds i s all over so_far = sym so_far ∙ ap (λ l. folded f s i l) over
+
+-- an item whose reading failed, or ran out of memory
+pub folded_fails : {S : Type 0} → (f : S → ℕ → Data → Result S ScriptFault) (vs : List Value) (i : ℕ) (v : Value) (y : ScriptFault) (s : S) (all : Result S ScriptFault) → i < length vs → v ≡ get_or vs i v → folded f s i (drop i (map view vs)) ≡ all → Fails y (f s i (view v)) → Fails y all
+folded_fails f vs i v NotJson s all h e so_far bad = folded_err f vs i v NotJson s all h e so_far bad
+folded_fails f vs i v (Shape p) s all h e so_far bad = folded_err f vs i v (Shape p) s all h e so_far bad
+folded_fails f vs i v (Range p) s all h e so_far bad = folded_err f vs i v (Range p) s all h e so_far bad
+folded_fails f vs i v (Limit p) s all h e so_far bad = folded_err f vs i v (Limit p) s all h e so_far bad
+folded_fails f vs i v Memory s all h e so_far bad = tt

@@ -1,241 +1,208 @@
 -- A run can start from what was read.
-use Rattle.std.proofs.Common.{◌≡◌, ℕ, zero, suc, ◌+◌, ◌≤◌, Bool, true, false, cond, ◌&&◌, ◌||◌, nat_le, nat_lt, List, [], ◌∷◌, length, Option, Some, None, Result, Ok, Err, refl, sym, ap, ◌∙◌, arith}
+use Rattle.std.proofs.Common.{◌≡◌, ℕ, ◌+◌, ◌<◌, ◌≤◌, Bool, true, false, not, cond, ◌&&◌, ◌||◌, nat_le, nat_lt, List, [], ◌∷◌, ◌++◌, length, take, drop, Option, Some, None, Result, Ok, Err, refl, sym, ap, ◌∙◌, subst, arith, length-append, length-drop}
 use Rattle.std.specs.Prelude.{option_map}
-use Rattle.std.specs.List.{list_all, list_any}
+use Rattle.std.specs.List.{list_all, list_any, position}
 use Rattle.std.proofs.lemmas.Bool.Decides.{nat_tests}
+use Rattle.std.proofs.lemmas.List.{length-take-le, length-replicate}
+use Rattle.std.proofs.lemmas.List.Folds.{list_all-append, list_any-append}
 use Rattle.serde_json.specs.Data.{Data}
-use Rattle.opcodes.specs.declared.choice.Choice.{Choice}
+use Rattle.serde_json.specs.Find.{as_str}
+use Rattle.places.specs.declared.object.Contents.{Contents}
+use Rattle.places.specs.declared.object.Contents.TheVariants.{File}
+use Rattle.places.specs.declared.object.Descriptor.{Descriptor}
+use Rattle.places.specs.declared.object.End.TheVariants.{Whole}
+use Rattle.places.specs.declared.object.Object.{Object}
+use Rattle.ring_words.specs.Rings.{rounded}
+use Rattle.scenario.specs.Setups.{is_between, is_completion_size, is_name, is_named, is_contents, is_object, names_once, is_descriptor, is_unbuilt_contents, is_unbuilt_object, setup_refusal}
 use Rattle.scenario.specs.declared.event.Event.{Event}
 use Rattle.scenario.specs.declared.setup.Instruction.{Instruction}
-use Rattle.scenario.specs.declared.setup.Instruction.TheVariants.{Put, Push, Enter, Reap}
-use Rattle.ring_words.specs.Rings.{rounded}
-use Rattle.scenario.specs.Setups.{is_between, is_completion_size, has_slot, is_program, is_unbuilt, setup_refusal}
-use Rattle.script.specs.declared.fault.Path.{Path}
+use Rattle.scenario.specs.declared.setup.Setup.{Setup}
 use Rattle.script.specs.declared.fault.ScriptFault.{ScriptFault}
 use Rattle.script.specs.declared.fault.Key.TheVariants as key
-use Rattle.script.specs.declared.number.Whole.{Whole}
-use Rattle.script.specs.declared.number.Whole.TheVariants.{Natural, Negative}
-use Rattle.script.specs.declared.event.ChoiceForm.{ChoiceForm}
-use Rattle.script.specs.declared.event.ChoiceForm.TheVariants as chosen
-use Rattle.script.specs.declared.event.EventForm.{EventForm}
-use Rattle.script.specs.declared.event.EventForm.TheVariants as form
-use Rattle.script.specs.declared.instruction.InstructionForm.{InstructionForm}
-use Rattle.script.specs.declared.instruction.InstructionForm.TheVariants as instruction
-use Rattle.script.specs.Faults.{◌>>=◌, ranged, form_then_ranges, at_key, at_item, at_inner}
+use Rattle.script.specs.declared.memory.Piece.{Piece}
+use Rattle.script.specs.declared.object.ContentsForm.{ContentsForm}
+use Rattle.script.specs.declared.object.ContentsForm.TheVariants as form
 use Rattle.script.specs.Entries as entries
-use Rattle.script.specs.Lists.{listed, each, at_most, required}
-use Rattle.script.specs.Numbers.{whole_of, between, below, number_between}
-use Rattle.script.specs.Instructions.{instruction_form, instruction_in_range, instruction_at, thread_at}
-use Rattle.script.specs.Events.{event_form, choice_in_range, event_in_range, event_at}
-use Rattle.script.specs.Scripts.{entries_of, large_enough, cq_of, threads_of, schedule_of, setup_with, is_short_of_nothing, Startable}
+use Rattle.script.specs.Faults.{◌>>=◌, at_key, at_item}
+use Rattle.script.specs.Lists.{list_at, folded, at_most, folded_at_most}
+use Rattle.script.specs.Memory.{placed, piece_form, is_short, overwritten, with_piece, piece_at, zeros, memory_of}
+use Rattle.script.specs.Objects.{ObjectForm, object_form, contents_keep_limits, is_small, contents_in_range, is_new_name, object_in_range, object_at, objects_of, descriptor_of, descriptor_named, descriptor_at, fds_of}
+use Rattle.script.specs.Scripts.{Plan, entries_of, cq_of, threads_of, schedule_of, Startable}
+use Rattle.script.proofs.Numbered.{still_once}
+use Rattle.script.proofs.KeptLimits.{bind_ok, some_both, some_mapped, formed_ok, limited_ok, tested, placed_ok, each_all, at_most_ok, le_true, entries_ok, cq_ok, AreBuilt, threads_built, schedule_ok}
 
--- ---- what two readings in a row gave
+-- what each step keeps, the whole does
+folded_keeps : {S : Type 0} → (P : S → Type 0) (f : S → ℕ → Data → Result S ScriptFault) (s : S) (i : ℕ) (ds : List Data) (t : S) → ((r u : S) (j : ℕ) (d : Data) → P r → f r j d ≡ Ok u → P u) → P s → folded f s i ds ≡ Ok t → P t
+folded_keeps P f s i [] t k p h = let e : s ≡ t = cc in subst P e p
+folded_keeps P f s i (d ∷ ds) t k p h =
+    let b = bind_ok (f s i d) (λ u. folded f u (i + 1) ds) t h in
+    folded_keeps P f b.0 (i + 1) ds t k (k s b.0 i d p b.1) b.2
 
-abbrev Both : {A B : Type 0} → Result A ScriptFault → (A → Result B ScriptFault) → B → Type 0
-Both {A} {B} r f y = (x : A) × (r ≡ Ok x) × (f x ≡ Ok y)
+-- ---- memory
 
-bind_ok : {A B : Type 0} → (r : Result A ScriptFault) (f : A → Result B ScriptFault) (y : B) → (r >>= f) ≡ Ok y → Both r f y
-bind_ok (Ok x) f y h = (x, refl, h)
-bind_ok (Err e) f y h = absurd (cc)
+length-overwritten : (c : List ℕ) (at : ℕ) (others : List ℕ) → at + length others ≤ length c → length (overwritten c at others) ≡ length c
+length-overwritten c at others h =
+    let a = length-take-le at c (omega arith) in
+    let b = length-drop (at + length others) c in
+    let d = length-append others (drop (at + length others) c) in
+    length-append (take at c) (others ++ drop (at + length others) c) ∙ omega (arith, a, b, d)
 
-abbrev SomeBoth : {A B : Type 0} → Option A → (A → Option B) → B → Type 0
-SomeBoth {A} {B} o f y = (x : A) × (o ≡ Some x) × (f x ≡ Some y)
-
-some_both : {A B : Type 0} → (o : Option A) (f : A → Option B) (y : B) → entries.◌>>=◌ o f ≡ Some y → SomeBoth o f y
-some_both (Some x) f y h = (x, refl, h)
-some_both None f y h = absurd (cc)
-
-some_mapped : {A B : Type 0} → (f : A → B) (o : Option A) (y : B) → option_map f o ≡ Some y → (x : A) × (o ≡ Some x) × (y ≡ f x)
-some_mapped f (Some x) y h = let e : f x ≡ y = cc in (x, refl, sym e)
-some_mapped f None y h = absurd (cc)
-
-ranged_ok : {A : Type 0} → (p : Path) (o : Option A) (x : A) → ranged p o ≡ Ok x → o ≡ Some x
-ranged_ok p (Some y) x h = let e : y ≡ x = cc in ap Some e
-ranged_ok p None x h = absurd (cc)
-
-formed_ok : {F A : Type 0} → (p : Path) (o : Option F) (f : F → Option A) (x : A) → form_then_ranges p o f ≡ Ok x → (w : F) × (f w ≡ Some x)
-formed_ok p (Some w) f x h = (w, ranged_ok p (f w) x h)
-formed_ok p None f x h = absurd (cc)
-
--- ---- numbers
-
-tested : {A : Type 0} → (b : Bool) (x y : A) → cond b (Some x) None ≡ Some y → (b ≡ true) × (x ≡ y)
-tested true x y h = let e : x ≡ y = cc in (refl, e)
-tested false x y h = absurd (cc)
-
-between_ok : (low high : ℕ) (w : Whole) (n : ℕ) → between low high w ≡ Some n → is_between low high n ≡ true
-between_ok low high (Natural m) n h =
-    let t = tested (is_between low high m) m n h in
-    ap (is_between low high) (sym t.1) ∙ t.0
-between_ok low high (Negative z) n h = absurd (cc)
-
-below_ok : (limit : ℕ) (w : Whole) (n : ℕ) → below limit w ≡ Some n → nat_lt n limit ≡ true
-below_ok limit (Natural m) n h =
-    let t = tested (nat_lt m limit) m n h in
-    ap (λ k. nat_lt k limit) (sym t.1) ∙ t.0
-below_ok limit (Negative z) n h = absurd (cc)
-
-number_ok : (p : Path) (low high : ℕ) (d : Data) (n : ℕ) → number_between p low high d ≡ Ok n → is_between low high n ≡ true
-number_ok p low high d n h =
-    let f = formed_ok p (whole_of d) (between low high) n h in
-    between_ok low high f.0 n f.1
-
-entries_ok : (d : Option Data) (n : ℕ) → entries_of d ≡ Ok n → is_between 1 4096 n ≡ true
-entries_ok None n h = absurd (cc)
-entries_ok (Some d) n h = number_ok (at_key key.Entries) 1 4096 d n h
-
-large_ok : (entries n : ℕ) (cq : Option ℕ) (b : Bool) → is_between 1 8192 n ≡ true → nat_le (rounded entries) (rounded n) ≡ b → cond b (Ok (Some n)) (Err (ScriptFault.Range (at_key key.Cq))) ≡ Ok cq → is_completion_size entries cq ≡ true
-large_ok entries n cq true k b h =
-    let e : Some n ≡ cq = cc in
-    ap (is_completion_size entries) (sym e) ∙ ap (λ a. a && nat_le (rounded entries) (rounded n)) k ∙ b
-large_ok entries n cq false k b h = absurd (cc)
-
-cq_ok : (entries : ℕ) (d : Option Data) (cq : Option ℕ) → cq_of entries d ≡ Ok cq → is_completion_size entries cq ≡ true
-cq_ok entries None cq h = let e : None ≡ cq = cc in ap (is_completion_size entries) (sym e)
-cq_ok entries (Some d) cq h =
-    let b = bind_ok (number_between (at_key key.Cq) 1 8192 d) (large_enough entries) cq h in
-    large_ok entries b.0 cq (nat_le (rounded entries) (rounded b.0)) (number_ok (at_key key.Cq) 1 8192 d b.0 b.1) refl b.2
-
--- ---- lists
-
-each_one : {A : Type 0} → (f : ℕ → Data → Result A ScriptFault) (i : ℕ) (d : Data) (ds : List Data) (xs : List A) → each f i (d ∷ ds) ≡ Ok xs → (x : A) × (ys : List A) × (f i d ≡ Ok x) × (each f (i + 1) ds ≡ Ok ys) × (xs ≡ x ∷ ys)
-each_one f i d ds xs h =
-    let b = bind_ok (f i d) (λ x. each f (i + 1) ds >>= λ ys. Ok (x ∷ ys)) xs h in
-    let c = bind_ok (each f (i + 1) ds) (λ ys. Ok (b.0 ∷ ys)) xs b.2 in
-    let e : b.0 ∷ c.0 ≡ xs = cc in
-    (b.0, c.0, b.1, c.1, sym e)
-
-each_length : {A : Type 0} → (f : ℕ → Data → Result A ScriptFault) (i : ℕ) (ds : List Data) (xs : List A) → each f i ds ≡ Ok xs → length xs ≡ length ds
-each_length f i [] xs h = let e : [] ≡ xs = cc in ap length (sym e)
-each_length f i (d ∷ ds) xs h = let o = each_one f i d ds xs h in ap length o.4 ∙ ap suc (each_length f (i + 1) ds o.1 o.3)
-
-each_all : {A : Type 0} → (test : A → Bool) (f : ℕ → Data → Result A ScriptFault) (i : ℕ) (ds : List Data) (xs : List A) → ((j : ℕ) (d : Data) (x : A) → f j d ≡ Ok x → test x ≡ true) → each f i ds ≡ Ok xs → list_all test xs ≡ true
-each_all test f i [] xs k h = let e : [] ≡ xs = cc in ap (list_all test) (sym e)
-each_all test f i (d ∷ ds) xs k h =
-    let o = each_one f i d ds xs h in
-    ap (list_all test) o.4 ∙ ap (λ b. b && list_all test o.1) (k i d o.0 o.2) ∙ each_all test f (i + 1) ds o.1 k o.3
-
-each_none : {A : Type 0} → (test : A → Bool) (f : ℕ → Data → Result A ScriptFault) (i : ℕ) (ds : List Data) (xs : List A) → ((j : ℕ) (d : Data) (x : A) → f j d ≡ Ok x → test x ≡ false) → each f i ds ≡ Ok xs → list_any test xs ≡ false
-each_none test f i [] xs k h = let e : [] ≡ xs = cc in ap (list_any test) (sym e)
-each_none test f i (d ∷ ds) xs k h =
-    let o = each_one f i d ds xs h in
-    ap (list_any test) o.4 ∙ ap (λ b. b || list_any test o.1) (k i d o.0 o.2) ∙ each_none test f (i + 1) ds o.1 k o.3
-
--- the items of a list that keeps its limit
-at_most_ok : {A : Type 0} → (most : ℕ) (p : Path) (f : ℕ → Data → Result A ScriptFault) (ds : List Data) (xs : List A) → at_most most p f ds ≡ Ok xs → (length xs ≤ most) × (each f 0 ds ≡ Ok xs)
-at_most_ok most p f ds xs h = by (nat_lt most (length ds)) refl h
+piece_keeps : (m n : List ℕ) (i : ℕ) (d : Data) → length m ≡ 65536 → piece_at m i d ≡ Ok n → length n ≡ 65536
+piece_keeps m n i d l h =
+    let w = limited_ok (at_item key.Memory i) (piece_form d) is_short (with_piece m) n h in
+    let o = some_mapped (λ address. overwritten m address w.0.bytes) (placed w.0.bytes w.0.address) n w.3 in
+    let t = placed_ok w.0.bytes w.0.address o.0 o.1 in
+    let fits : o.0 + length w.0.bytes ≤ 65536 = within t in
+    ap length o.2 ∙ length-overwritten m o.0 w.0.bytes (omega (arith, fits)) ∙ l
   where
-    by : (b : Bool) → nat_lt most (length ds) ≡ b → cond b (Err (ScriptFault.Limit p)) (each f 0 ds) ≡ Ok xs → (length xs ≤ most) × (each f 0 ds ≡ Ok xs)
-    by true t k = absurd (cc)
-    by false t k =
-        let n = each_length f 0 ds xs k in
-        let short : length ds ≤ most = grind (arith, nat_tests) in
-        (omega arith, k)
+    within : {n : ℕ} → nat_le n 65536 ≡ true → n ≤ 65536
+    within e = grind (arith, nat_tests)
 
--- ---- instructions
+zeros_length : (n : ℕ) → length (zeros n) ≡ n
+unfolding zeros
+zeros_length n = length-replicate n 0
 
-abbrev IsBuilt : ℕ → Instruction → Type 0
-IsBuilt size x = (has_slot size x ≡ true) × (is_unbuilt x ≡ false)
+memory_length : (d : Option Data) (m : List ℕ) → memory_of d ≡ Ok m → length m ≡ 65536
+memory_length d m h =
+    let b = bind_ok (list_at key.Memory d) (folded piece_at (zeros 65536) 0) m h in
+    folded_keeps (λ (n : List ℕ). length n ≡ 65536) piece_at (zeros 65536) 0 b.0 m (λ r u j e p k. piece_keeps r u j e p k) (zeros_length 65536) b.2
 
-built : (size : ℕ) (w : InstructionForm) (x : Instruction) → instruction_in_range size w ≡ Some x → IsBuilt size x
-built size (instruction.Put slot e) x h =
-    let s = some_both (below size slot) (λ n. option_map (Put n) (entries.entry_in_range e)) x h in
-    let m = some_mapped (Put s.0) (entries.entry_in_range e) x s.2 in
-    (ap (has_slot size) m.2 ∙ below_ok size slot s.0 s.1, ap is_unbuilt m.2)
-built size (instruction.Push n) x h =
-    let m = some_mapped Push (between 0 4294967295 n) x h in
-    (ap (has_slot size) m.2, ap is_unbuilt m.2)
-built size (instruction.Enter a b c) x h =
-    let s = some_both (between 0 4294967295 a) (λ to_submit. entries.◌>>=◌ (between 0 4294967295 b) (λ min_complete. option_map (Enter to_submit min_complete) (between 0 4294967295 c))) x h in
-    let t = some_both (between 0 4294967295 b) (λ min_complete. option_map (Enter s.0 min_complete) (between 0 4294967295 c)) x s.2 in
-    let m = some_mapped (Enter s.0 t.0) (between 0 4294967295 c) x t.2 in
-    (ap (has_slot size) m.2, ap is_unbuilt m.2)
-built size instruction.Reap x h = let e : Reap ≡ x = cc in (ap (has_slot size) (sym e), ap is_unbuilt (sym e))
+-- ---- objects
 
-instruction_built : (size t i : ℕ) (d : Data) (x : Instruction) → instruction_at size t i d ≡ Ok x → IsBuilt size x
-instruction_built size t i d x h =
-    let f = formed_ok (at_inner key.Threads t i) (instruction_form d) (instruction_in_range size) x h in
-    built size f.0 x f.1
+pub record AreObjects (os : List Object) : Type 0 where
+  pub each : list_all is_object os ≡ true
+  pub once : names_once os ≡ true
+  pub built : list_any is_unbuilt_object os ≡ false
 
-le_true : (m n : ℕ) → m ≤ n → nat_le m n ≡ true
-le_true m n h = grind (arith, nat_tests)
+contents_ok : (w : ContentsForm) (c : Contents) → contents_keep_limits w ≡ true → contents_in_range w ≡ Some c → (is_contents c ≡ true) × (is_unbuilt_contents c ≡ false)
+contents_ok (form.File bytes) c k h = let e : File bytes ≡ c = cc in (ap is_contents (sym e) ∙ k, ap is_unbuilt_contents (sym e))
 
-abbrev IsBuiltProgram : ℕ → List Instruction → Type 0
-IsBuiltProgram size xs = (is_program size xs ≡ true) × (list_any is_unbuilt xs ≡ false)
+and_true : (a b : Bool) → (a && b) ≡ true → (a ≡ true) × (b ≡ true)
+and_true true b h = (refl, h)
+and_true false b h = absurd (cc)
 
-thread_built : (size t : ℕ) (d : Data) (xs : List Instruction) → thread_at size t d ≡ Ok xs → IsBuiltProgram size xs
-thread_built size t d xs h =
-    let b = bind_ok (listed (at_item key.Threads t) d) (at_most 4096 (at_item key.Threads t) (instruction_at size t)) xs h in
-    let m = at_most_ok 4096 (at_item key.Threads t) (instruction_at size t) b.0 xs b.2 in (
-      ap (λ c. c && list_all (has_slot size) xs) (le_true (length xs) 4096 m.0) ∙ each_all (has_slot size) (instruction_at size t) 0 b.0 xs (λ i e x k. (instruction_built size t i e x k).0) m.1,
-      each_none is_unbuilt (instruction_at size t) 0 b.0 xs (λ i e x k. (instruction_built size t i e x k).1) m.1,
+not_false : (a : Bool) → not a ≡ true → a ≡ false
+not_false true h = absurd (cc)
+not_false false h = refl
+
+chosen_some : {A : Type 0} → (b : Bool) (o : Option A) (x : A) → cond b o None ≡ Some x → (b ≡ true) × (o ≡ Some x)
+chosen_some true o x h = (refl, h)
+chosen_some false o x h = absurd (cc)
+
+abbrev IsNext : List Object → Object → Type 0
+IsNext os o = (is_object o ≡ true) × (list_any (is_named o.name) os ≡ false) × (is_unbuilt_object o ≡ false)
+
+object_ok : (os : List Object) (w : ObjectForm) (o : Object) → is_small w ≡ true → object_in_range os w ≡ Some o → IsNext os o
+object_ok os w o k h =
+    let t = chosen_some (is_new_name os w.name) (option_map (λ contents. record { name = w.name; contents = contents }) (contents_in_range w.contents)) o h in
+    let m = some_mapped (λ contents. record { name = w.name; contents = contents }) (contents_in_range w.contents) o t.1 in
+    let n = and_true (is_name w.name) (not (list_any (is_named w.name) os)) t.0 in
+    let c = contents_ok w.contents m.0 k m.1 in (
+      ap is_object m.2 ∙ ap (λ b. b && is_contents m.0) n.0 ∙ c.0,
+      ap (λ (x : Object). list_any (is_named x.name) os) m.2 ∙ not_false _ n.1,
+      ap is_unbuilt_object m.2 ∙ c.1,
     )
 
-pub record AreBuilt (size : ℕ) (ts : List (List Instruction)) : Type 0 where
-  pub few : length ts ≤ 16
-  pub programs : list_all (is_program size) ts ≡ true
-  pub built : list_any (list_any is_unbuilt) ts ≡ false
+one_all : (a b : Bool) → a ≡ true → b ≡ true → (a && (b && true)) ≡ true
+one_all a b h k = rw (h, k) refl
 
-threads_built : (size : ℕ) (d : Option Data) (ts : List (List Instruction)) → threads_of size d ≡ Ok ts → AreBuilt size ts
-threads_built size d ts h =
-    let r = required key.Threads d in
-    let b = bind_ok (r >>= listed (at_key key.Threads)) (at_most 16 (at_key key.Threads) (thread_at size)) ts h in
-    let m = at_most_ok 16 (at_key key.Threads) (thread_at size) b.0 ts b.2 in
-    record {
-      few = m.0;
-      programs = each_all (is_program size) (thread_at size) 0 b.0 ts (λ i e xs k. (thread_built size i e xs k).0) m.1;
-      built = each_none (list_any is_unbuilt) (thread_at size) 0 b.0 ts (λ i e xs k. (thread_built size i e xs k).1) m.1;
-    }
+one_none : (a b : Bool) → a ≡ false → b ≡ false → (a || (b || false)) ≡ false
+one_none a b h k = rw (h, k) refl
 
--- ---- events
+more_objects : (os : List Object) (o : Object) → AreObjects os → IsNext os o → AreObjects (os ++ o ∷ [])
+more_objects os o a n = record {
+  each = list_all-append is_object os (o ∷ []) ∙ one_all (list_all is_object os) (is_object o) a.each n.0;
+  once = still_once os o a.once n.1;
+  built = list_any-append is_unbuilt_object os (o ∷ []) ∙ one_none (list_any is_unbuilt_object os) (is_unbuilt_object o) a.built n.2;
+}
 
-some_short : (row n : ℕ) → is_between 1 4294967295 n ≡ true → is_short_of_nothing (Event.Finish row (Choice.Short n)) ≡ false
-some_short row zero h = absurd (cc)
-some_short row (suc n) h = refl
+-- one object more
+object_adds : (os ps : List Object) (i : ℕ) (d : Data) → object_at os i d ≡ Ok ps → (o : Object) × IsNext os o × (ps ≡ os ++ o ∷ [])
+object_adds os ps i d h =
+    let w = limited_ok (at_item key.Objects i) (object_form d) is_small (λ (f : ObjectForm). option_map (λ x. os ++ x ∷ []) (object_in_range os f)) ps h in
+    let m = some_mapped (λ x. os ++ x ∷ []) (object_in_range os w.0) ps w.3 in
+    (m.0, object_ok os w.0 m.0 w.2 m.1, m.2)
 
-choice_short : (row : ℕ) (w : ChoiceForm) (c : Choice) → choice_in_range w ≡ Some c → is_short_of_nothing (Event.Finish row c) ≡ false
-choice_short row chosen.Full c h = let e : Choice.Full ≡ c = cc in ap (λ d. is_short_of_nothing (Event.Finish row d)) (sym e)
-choice_short row (chosen.Short n) c h =
-    let m = some_mapped Choice.Short (between 1 4294967295 n) c h in
-    ap (λ d. is_short_of_nothing (Event.Finish row d)) m.2 ∙ some_short row m.0 (between_ok 1 4294967295 n m.0 m.1)
-choice_short row chosen.Eio c h = let e : Choice.Eio ≡ c = cc in ap (λ d. is_short_of_nothing (Event.Finish row d)) (sym e)
+object_keeps : (os ps : List Object) (i : ℕ) (d : Data) → AreObjects os → object_at os i d ≡ Ok ps → AreObjects ps
+object_keeps os ps i d a h = let o = object_adds os ps i d h in subst AreObjects (sym o.2) (more_objects os o.0 a o.1)
 
-event_short : (w : EventForm) (e : Event) → event_in_range w ≡ Some e → is_short_of_nothing e ≡ false
-event_short (form.Step n) e h = ap is_short_of_nothing (some_mapped Event.Step (between 0 4294967295 n) e h).2
-event_short (form.Take n) e h = ap is_short_of_nothing (some_mapped Event.Take (between 0 4294967295 n) e h).2
-event_short form.Sleep e h = let k : Event.Sleep ≡ e = cc in ap is_short_of_nothing (sym k)
-event_short (form.Issue n) e h = ap is_short_of_nothing (some_mapped Event.Issue (between 0 4294967295 n) e h).2
-event_short (form.Finish n c) e h =
-    let s = some_both (between 0 4294967295 n) (λ row. option_map (Event.Finish row) (choice_in_range c)) e h in
-    let m = some_mapped (Event.Finish s.0) (choice_in_range c) e s.2 in
-    ap is_short_of_nothing m.2 ∙ choice_short s.0 c m.0 m.1
-event_short (form.Expire n) e h = ap is_short_of_nothing (some_mapped Event.Expire (between 0 4294967295 n) e h).2
-event_short (form.Tick n) e h = ap is_short_of_nothing (some_mapped Event.Tick (between 0 18446744073709551615 n) e h).2
+folded_length : (os : List Object) (i : ℕ) (ds : List Data) (ps : List Object) → folded object_at os i ds ≡ Ok ps → length ps ≡ length os + length ds
+folded_length os i [] ps h = let e : os ≡ ps = cc in ap length (sym e) ∙ omega arith
+folded_length os i (d ∷ ds) ps h =
+    let b = bind_ok (object_at os i d) (λ u. folded object_at u (i + 1) ds) ps h in
+    let o = object_adds os b.0 i d b.1 in
+    let l : length b.0 ≡ length os + 1 = ap length o.2 ∙ length-append os (o.0 ∷ []) in
+    folded_length b.0 (i + 1) ds ps b.2 ∙ omega (arith, l)
 
-at_short : (i : ℕ) (d : Data) (e : Event) → event_at i d ≡ Ok e → is_short_of_nothing e ≡ false
-at_short i d e h = let f = formed_ok (at_item key.Schedule i) (event_form d) event_in_range e h in event_short f.0 e f.1
+pub record AreFew (os : List Object) : Type 0 where
+  pub few : length os ≤ 32
+  pub objects : AreObjects os
 
-schedule_ok : (d : Option Data) (es : List Event) → schedule_of d ≡ Ok es → (length es ≤ 65536) × (list_any is_short_of_nothing es ≡ false)
-schedule_ok d es h =
-    let r = required key.Schedule d in
-    let b = bind_ok (r >>= listed (at_key key.Schedule)) (at_most 65536 (at_key key.Schedule) event_at) es h in
-    let m = at_most_ok 65536 (at_key key.Schedule) event_at b.0 es b.2 in
-    (m.0, each_none is_short_of_nothing event_at 0 b.0 es at_short m.1)
+objects_ok : (d : Option Data) (os : List Object) → objects_of d ≡ Ok os → AreFew os
+objects_ok d os h =
+    let b = bind_ok (list_at key.Objects d) (folded_at_most 32 (at_key key.Objects) object_at []) os h in
+    by b.0 (nat_lt 32 (length b.0)) refl b.2
+  where
+    by : (ds : List Data) (t : Bool) → nat_lt 32 (length ds) ≡ t → cond t (Err (ScriptFault.Limit (at_key key.Objects))) (folded object_at [] 0 ds) ≡ Ok os → AreFew os
+    by ds true t k = absurd (cc)
+    by ds false t k =
+        let short : length ds ≤ 32 = grind (arith, nat_tests) in
+        let l = folded_length [] 0 ds os k in
+        record {
+          few = omega (arith, l);
+          objects = folded_keeps AreObjects object_at [] 0 ds os (λ r u j e p g. object_keeps r u j e p g) (record { each = refl; once = refl; built = refl }) k;
+        }
+
+-- ---- descriptors
+
+descriptor_ok : (os : List Object) (i : ℕ) (e : Data) (d : Descriptor) → descriptor_at os i e ≡ Ok d → is_descriptor os d ≡ true
+descriptor_ok os i e d h =
+    let f = formed_ok (at_item key.Fds i) (as_str e) (descriptor_named os) d h in
+    let s = some_both (position (is_named f.0) os) (descriptor_of os Whole) d f.1 in
+    let t = tested (is_descriptor os (record { object = s.0; end = Whole })) (record { object = s.0; end = Whole }) d s.2 in
+    ap (is_descriptor os) (sym t.1) ∙ t.0
+
+fds_ok : (os : List Object) (d : Option Data) (fds : List Descriptor) → fds_of os d ≡ Ok fds → (length fds ≤ 64) × (list_all (is_descriptor os) fds ≡ true)
+fds_ok os d fds h =
+    let b = bind_ok (list_at key.Fds d) (at_most 64 (at_key key.Fds) (descriptor_at os)) fds h in
+    let m = at_most_ok 64 (at_key key.Fds) (descriptor_at os) b.0 fds b.2 in
+    (m.0, each_all (is_descriptor os) (descriptor_at os) 0 b.0 fds (descriptor_ok os) m.1)
 
 -- ---- the whole
 
-starts : (entries : ℕ) (cq : Option ℕ) (sqpoll : Bool) (base : ℕ) (ts : List (List Instruction)) → is_between 1 4096 entries ≡ true → is_completion_size entries cq ≡ true → AreBuilt (rounded entries) ts → setup_refusal (setup_with entries cq sqpoll base ts) ≡ None
-starts entries cq sqpoll base ts e q b =
-    let few = le_true (length ts) 16 b.few in
-    rw (e, q, few, b.programs, b.built) refl
+abbrev setup_of : ℕ → Option ℕ → Bool → ℕ → List ℕ → List Object → List Descriptor → List (List Instruction) → Setup
+setup_of entries cq sqpoll base memory objects fds threads = record {
+  entries = entries;
+  cq = cq;
+  sqpoll = sqpoll;
+  submit_all = false;
+  base = base;
+  memory = memory;
+  objects = objects;
+  fds = fds;
+  threads = threads;
+}
 
-pub startable : (entries size : ℕ) (cq : Option ℕ) (sqpoll : Bool) (base : ℕ) (ts : List (List Instruction)) (es : List Event) (d1 d2 d4 d5 : Option Data) → Ok entries ≡ entries_of d1 → Ok cq ≡ cq_of entries d2 → size ≡ rounded entries → threads_of size d4 ≡ Ok ts → schedule_of d5 ≡ Ok es
-    → Startable (record { setup = setup_with entries cq sqpoll base ts; schedule = es })
-startable entries size cq sqpoll base ts es d1 d2 d4 d5 e q s t h =
-    let built = threads_built (rounded entries) d4 ts (ap (λ n. threads_of n d4) (sym s) ∙ t) in
-    let events = schedule_ok d5 es h in
+starts : (entries : ℕ) (cq : Option ℕ) (sqpoll : Bool) (base : ℕ) (memory : List ℕ) (os : List Object) (fds : List Descriptor) (ts : List (List Instruction))
+    → is_between 1 4096 entries ≡ true → is_completion_size entries cq ≡ true → length memory ≤ 65536 → AreFew os → length fds ≤ 64 → list_all (is_descriptor os) fds ≡ true → AreBuilt (rounded entries) ts
+    → setup_refusal (setup_of entries cq sqpoll base memory os fds ts) ≡ None
+starts entries cq sqpoll base memory os fds ts e q m o l f b =
+    let small = le_true (length memory) 65536 m in
+    let few_objects = le_true (length os) 32 o.few in
+    let few_fds = le_true (length fds) 64 l in
+    let few = le_true (length ts) 16 b.few in
+    rw (e, q, small, few_objects, o.objects.each, o.objects.once, few_fds, f, few, b.programs, o.objects.built, b.built) refl
+
+pub startable : (d1 d2 d3 d4 d5 d6 d7 : Option Data) (entries size : ℕ) (cq : Option ℕ) (sqpoll : Bool) (base : ℕ) (memory : List ℕ) (os : List Object) (fds : List Descriptor) (ts : List (List Instruction)) (es : List Event)
+    → Ok entries ≡ entries_of d1 → Ok cq ≡ cq_of entries d2 → memory_of d3 ≡ Ok memory → objects_of d4 ≡ Ok os → fds_of os d5 ≡ Ok fds → size ≡ rounded entries → threads_of size d6 ≡ Ok ts → schedule_of d7 ≡ Ok es
+    → Startable (record { setup = setup_of entries cq sqpoll base memory os fds ts; schedule = es })
+startable d1 d2 d3 d4 d5 d6 d7 entries size cq sqpoll base memory os fds ts es e q m o f s t h =
+    let built = threads_built (rounded entries) d6 ts (ap (λ n. threads_of n d6) (sym s) ∙ t) in
+    let events = schedule_ok d7 es h in
+    let l = memory_length d3 memory m in
+    let ends = fds_ok os d5 fds f in
     record {
-      setup = starts entries cq sqpoll base ts (entries_ok d1 entries (sym e)) (cq_ok entries d2 cq (sym q)) built;
+      setup = starts entries cq sqpoll base memory os fds ts (entries_ok d1 entries (sym e)) (cq_ok entries d2 cq (sym q)) (omega (arith, l)) (objects_ok d4 os o) ends.0 ends.1 built;
       events = events.0;
       transfers = events.1;
     }

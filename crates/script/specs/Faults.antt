@@ -1,5 +1,5 @@
 -- Faults, where they stand, and reading up to the first one.
-use Rattle.std.specs.Prelude.{◌≡◌, ℕ, Option, Some, None, Result, Ok, Err}
+use Rattle.std.specs.Prelude.{◌≡◌, ℕ, Bool, if◌then◌else◌, Option, Some, None, Result, Ok, Err}
 use Rattle.script.specs.declared.fault.Key.{Key}
 use Rattle.script.specs.declared.fault.Path.{Path}
 use Rattle.script.specs.declared.fault.ScriptFault.{ScriptFault}
@@ -44,7 +44,20 @@ abbrev pub ranged : {A : Type 0} → Path → Option A → Result A ScriptFault
 ranged p None = Err (Range p)
 ranged p (Some x) = Ok x
 
--- One item: the form of the whole of it first, and then the ranges of its numbers.
+-- what has the form of an item
+abbrev pub shaped : {F : Type 0} → Path → Option F → Result F ScriptFault
+shaped p None = Err (Shape p)
+shaped p (Some form) = Ok form
+
+-- an item of the right form: its limits, and then its ranges
+abbrev pub limits_then_ranges : {F A : Type 0} → Path → (F → Bool) → (F → Option A) → F → Result A ScriptFault
+limits_then_ranges p keeps in_range form = if keeps form then ranged p (in_range form) else Err (Limit p)
+
+-- One item: the form of the whole of it first, then its limits, and then its ranges.
+abbrev pub form_limits_ranges : {F A : Type 0} → Path → Option F → (F → Bool) → (F → Option A) → Result A ScriptFault
+form_limits_ranges p form keeps in_range = shaped p form >>= limits_then_ranges p keeps in_range
+
+-- One item without limits: the form of the whole of it first, and then the ranges of its numbers.
 abbrev pub form_then_ranges : {F A : Type 0} → Path → Option F → (F → Option A) → Result A ScriptFault
 form_then_ranges p None in_range = Err (Shape p)
 form_then_ranges p (Some form) in_range = ranged p (in_range form)

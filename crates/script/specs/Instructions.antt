@@ -1,18 +1,19 @@
 -- Instructions of a thread.
-use Rattle.std.specs.Prelude.{ℕ, List, [], ◌∷◌, codes, if◌then◌else◌, Option, Some, None, option_map, Result}
+use Rattle.std.specs.Prelude.{ℕ, ◌+◌, nat_le, List, [], ◌∷◌, length, codes, Bool, true, if◌then◌else◌, Option, Some, None, option_map, Result}
 use Rattle.std.specs.Str.{bytes_eq}
 use Rattle.serde_json.specs.Data.{Data, string}
 use Rattle.scenario.specs.declared.setup.Instruction.{Instruction}
-use Rattle.scenario.specs.declared.setup.Instruction.TheVariants.{Put, Push, Enter, Reap}
+use Rattle.scenario.specs.declared.setup.Instruction.TheVariants.{Put, Push, Store, Enter, Reap}
 use Rattle.script.specs.declared.fault.Key.TheVariants as key
 use Rattle.script.specs.declared.fault.ScriptFault.{ScriptFault}
 use Rattle.script.specs.declared.instruction.InstructionForm.{InstructionForm}
 use Rattle.script.specs.declared.instruction.InstructionForm.TheVariants as form
-use Rattle.script.specs.Faults.{at_item, at_inner, form_then_ranges}
+use Rattle.script.specs.Faults.{at_item, at_inner, form_limits_ranges}
 use Rattle.script.specs.Faults as faults
 use Rattle.script.specs.Lists.{listed, of_list, at_most}
 use Rattle.script.specs.Numbers.{whole_of, between, below}
 use Rattle.script.specs.Entries.{◌>>=◌, entry_form, entry_in_range}
+use Rattle.script.specs.Memory.{bytes_of, placed}
 
 -- an instruction by its word and the items after it
 abbrev pub instruction_by : List ℕ → List Data → Option InstructionForm
@@ -22,24 +23,35 @@ instruction_by w (d ∷ e ∷ []) = if bytes_eq w (codes "put") then (whole_of d
 instruction_by w (d ∷ e ∷ f ∷ []) = if bytes_eq w (codes "enter") then (whole_of d >>= λ to_submit. (whole_of e >>= λ min_complete. option_map (form.Enter to_submit min_complete) (whole_of f))) else None
 instruction_by w (d ∷ e ∷ f ∷ g ∷ ds) = None
 
+-- a store, by the items after its word
+abbrev pub store_by : List Data → Option InstructionForm
+store_by (a ∷ x ∷ []) = whole_of a >>= λ address. option_map (form.Store address) (bytes_of x)
+store_by _ = None
+
 abbrev pub instruction_words : List Data → Option InstructionForm
-instruction_words (string w ∷ ds) = instruction_by w ds
+instruction_words (string w ∷ ds) = if bytes_eq w (codes "store") then store_by ds else instruction_by w ds
 instruction_words _ = None
 
 -- the form of an instruction
 abbrev pub instruction_form : Data → Option InstructionForm
 instruction_form d = of_list instruction_words d
 
+-- whether an instruction has few enough bytes
+abbrev pub keeps_limits : InstructionForm → Bool
+keeps_limits (form.Store address bytes) = nat_le (length bytes) 4096
+keeps_limits _ = true
+
 -- an instruction whose numbers keep their ranges, over so many slots
 abbrev pub instruction_in_range : ℕ → InstructionForm → Option Instruction
 instruction_in_range size (form.Put slot e) = below size slot >>= λ n. option_map (Put n) (entry_in_range e)
 instruction_in_range size (form.Push n) = option_map Push (between 0 4294967295 n)
 instruction_in_range size (form.Enter a b c) = between 0 4294967295 a >>= λ to_submit. (between 0 4294967295 b >>= λ min_complete. option_map (Enter to_submit min_complete) (between 0 4294967295 c))
+instruction_in_range size (form.Store a bytes) = option_map (λ address. Store address bytes) (placed bytes a)
 instruction_in_range size form.Reap = Some Reap
 
 -- instruction i of thread t
 abbrev pub instruction_at : ℕ → ℕ → ℕ → Data → Result Instruction ScriptFault
-instruction_at size t i d = form_then_ranges (at_inner key.Threads t i) (instruction_form d) (instruction_in_range size)
+instruction_at size t i d = form_limits_ranges (at_inner key.Threads t i) (instruction_form d) keeps_limits (instruction_in_range size)
 
 -- A thread is a list: its kind and its length are tested when its turn comes.
 abbrev pub thread_at : ℕ → ℕ → Data → Result (List Instruction) ScriptFault

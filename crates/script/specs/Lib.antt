@@ -2,6 +2,9 @@ pub mod Faults
 pub mod Lists
 pub mod Numbers
 pub mod Entries
+pub mod Memory
+pub mod Names
+pub mod Objects
 pub mod Instructions
 pub mod Events
 pub mod Scripts

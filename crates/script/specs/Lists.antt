@@ -26,9 +26,17 @@ abbrev pub each : {A : Type 0} → (ℕ → Data → Result A ScriptFault) → �
 each f i [] = Ok []
 each f i (d ∷ ds) = f i d >>= λ x. (each f (i + 1) ds >>= λ xs. Ok (x ∷ xs))
 
+-- what the items come to, one after the other from index i on, up to the first fault
+abbrev pub folded : {S : Type 0} → (S → ℕ → Data → Result S ScriptFault) → S → ℕ → List Data → Result S ScriptFault
+folded f s i [] = Ok s
+folded f s i (d ∷ ds) = f s i d >>= λ t. folded f t (i + 1) ds
+
 -- a list of at most so many items; its length is tested before its items
 abbrev pub at_most : {A : Type 0} → ℕ → Path → (ℕ → Data → Result A ScriptFault) → List Data → Result (List A) ScriptFault
 at_most most p f ds = if nat_lt most (length ds) then Err (Limit p) else each f 0 ds
+
+abbrev pub folded_at_most : {S : Type 0} → ℕ → Path → (S → ℕ → Data → Result S ScriptFault) → S → List Data → Result S ScriptFault
+folded_at_most most p f s ds = if nat_lt most (length ds) then Err (Limit p) else folded f s 0 ds
 
 abbrev pub keys_pass : (List ℕ → Bool) → Members → Bool
 keys_pass test no_members = true
@@ -41,6 +49,11 @@ has_keys test _ = false
 
 abbrev pub keyed : (List ℕ → Bool) → Path → Data → Result (Unit {0}) ScriptFault
 keyed test p d = if has_keys test d then Ok tt else Err (Shape p)
+
+-- the list of a key that may be missing, and has no items then
+abbrev pub list_at : Key → Option Data → Result (List Data) ScriptFault
+list_at k None = Ok []
+list_at k (Some d) = listed (at_key k) d
 
 -- the value of a key that must be there
 abbrev pub required : Key → Option Data → Result Data ScriptFault

@@ -1,5 +1,5 @@
 -- Which script a text is, or its first fault.
-use Rattle.std.specs.Prelude.{◌≡◌, ℕ, zero, ◌<◌, ◌≤◌, ◌||◌, nat_le, List, length, codes, Bool, if◌then◌else◌, Option, Some, None, ok_or, Result, Ok, Err, IsUtf8, [], true, false}
+use Rattle.std.specs.Prelude.{◌≡◌, ℕ, zero, ◌<◌, ◌≤◌, ◌||◌, nat_le, List, length, codes, Bool, if◌then◌else◌, Option, Some, None, ok_or, Result, Ok, Err, IsUtf8, true, false}
 use Rattle.std.specs.List.{list_any}
 use Rattle.std.specs.Str.{bytes_eq}
 use Rattle.serde_json.specs.Data.{Data}
@@ -19,6 +19,8 @@ use Rattle.script.specs.declared.fault.ScriptFault.TheVariants.{NotJson, Shape, 
 use Rattle.script.specs.Faults.{◌>>=◌, at_key}
 use Rattle.script.specs.Lists.{listed, at_most, keyed, required}
 use Rattle.script.specs.Numbers.{number_between}
+use Rattle.script.specs.Memory.{memory_of}
+use Rattle.script.specs.Objects.{objects_of, fds_of}
 use Rattle.script.specs.Instructions.{thread_at}
 use Rattle.script.specs.Events.{event_at}
 
@@ -29,8 +31,8 @@ pub record Plan : Type 0 where
 
 abbrev pub is_script_key : List ℕ → Bool
 is_script_key k =
-    bytes_eq k (codes "entries") || bytes_eq k (codes "cq") || bytes_eq k (codes "sqpoll") || bytes_eq k (codes "base") || bytes_eq k (codes "threads")
-    || bytes_eq k (codes "schedule")
+    bytes_eq k (codes "entries") || bytes_eq k (codes "cq") || bytes_eq k (codes "sqpoll") || bytes_eq k (codes "base") || bytes_eq k (codes "memory")
+    || bytes_eq k (codes "objects") || bytes_eq k (codes "fds") || bytes_eq k (codes "threads") || bytes_eq k (codes "schedule")
 
 abbrev pub entries_of : Option Data → Result ℕ ScriptFault
 entries_of d = required key.Entries d >>= number_between (at_key key.Entries) 1 4096
@@ -58,19 +60,6 @@ threads_of size d = required key.Threads d >>= listed (at_key key.Threads) >>= a
 abbrev pub schedule_of : Option Data → Result (List Event) ScriptFault
 schedule_of d = required key.Schedule d >>= listed (at_key key.Schedule) >>= at_most 65536 (at_key key.Schedule) event_at
 
-abbrev pub setup_with : ℕ → Option ℕ → Bool → ℕ → List (List Instruction) → Setup
-setup_with entries cq sqpoll base threads = record {
-  entries = entries;
-  cq = cq;
-  sqpoll = sqpoll;
-  submit_all = false;
-  base = base;
-  memory = [];
-  objects = [];
-  fds = [];
-  threads = threads;
-}
-
 -- The script that a JSON value is, or its first fault: an unknown key first, then the keys in this order.
 abbrev pub script_of : Data → Result Plan ScriptFault
 script_of d = do
@@ -79,9 +68,25 @@ script_of d = do
   cq ← cq_of entries (get (codes "cq") d)
   sqpoll ← flag_of key.Sqpoll (get (codes "sqpoll") d)
   base ← base_of (get (codes "base") d)
+  memory ← memory_of (get (codes "memory") d)
+  objects ← objects_of (get (codes "objects") d)
+  fds ← fds_of objects (get (codes "fds") d)
   threads ← threads_of (rounded entries) (get (codes "threads") d)
   schedule ← schedule_of (get (codes "schedule") d)
-  Ok (record { setup = setup_with entries cq sqpoll base threads; schedule = schedule })
+  Ok (record {
+    setup = record {
+      entries = entries;
+      cq = cq;
+      sqpoll = sqpoll;
+      submit_all = false;
+      base = base;
+      memory = memory;
+      objects = objects;
+      fds = fds;
+      threads = threads;
+    };
+    schedule = schedule;
+  })
 
 abbrev pub limit : ℕ
 limit = 8388608

@@ -8,8 +8,8 @@ ghost use Rattle.script.specs.Events.{event_of_number, choice_by, choice_words, 
 use crate::fault::{Key, ScriptFault};
 use crate::keys::item_path;
 use crate::number::{Whole, between, long, whole_of, word};
-use scenario::Event;
 use opcodes::Choice;
+use scenario::Event;
 use serde_json::Value;
 use std::alloc::Global;
 

@@ -1,21 +1,26 @@
 //! Instructions of a thread.
 ghost use Rattle.std.specs.Prelude.{◌≡◌, map};
 ghost use Rattle.serde_json.specs.View.{view};
+ghost use Rattle.script.specs.Faults.{Gives, shaped};
 ghost use Rattle.script.specs.Numbers.{below};
-ghost use Rattle.script.specs.Instructions.{instruction_by, instruction_words, instruction_form, instruction_in_range, instruction_at};
+ghost use Rattle.script.specs.Instructions.{instruction_by, store_by, instruction_words, instruction_form, keeps_limits, instruction_in_range, instruction_at};
 
 use crate::entry::{EntryForm, entry_form, entry_in_range};
-use crate::fault::{Key, ScriptFault};
+use crate::fault::{Key, Path, ScriptFault};
 use crate::keys::inner_path;
+use crate::memory::{placed, read_bytes};
 use crate::number::{Whole, whole_of, word};
+use places::Items;
 use scenario::Instruction;
 use serde_json::Value;
+use std::alloc::Global;
 
-/// An instruction, before the ranges of its numbers are tested.
-#[derive(Clone, Copy, Debug, PartialEq, Eq)]
+/// An instruction, before its limits and ranges are tested.
+#[derive(Debug, Drop)]
 pub enum InstructionForm {
     Put(Whole, EntryForm),
     Push(Whole),
+    Store(Whole, Items<u8>),
     Enter(Whole, Whole, Whole),
     Reap,
 }
@@ -49,19 +54,58 @@ fn instruction_by(word: &str, rest: &[Value]) -> Option<InstructionForm>
     }
 }
 
-fn instruction_words(items: &[Value]) -> Option<InstructionForm>
-    ensures { result ≡ instruction_words (map view items.now) }
+// A store, by the items after its word.
+fn store_by(alloc: Global, path: Path, rest: &[Value]) -> Result<InstructionForm, ScriptFault>
+    ensures { Gives (λ form. form) result (shaped path (store_by (map view rest.now))) }
 {
-    let (first, rest) = items.split_first()?;
-    instruction_by(first.as_str()?, rest)
+    let [address, text] = rest else {
+        return Err(ScriptFault::Shape(path));
+    };
+    let Some(address) = whole_of(address) else {
+        return Err(ScriptFault::Shape(path));
+    };
+    let bytes = read_bytes(alloc, path, text)?;
+    Ok(InstructionForm::Store(address, bytes))
 }
 
-fn instruction_form(value: &Value) -> Option<InstructionForm>
-    ensures { result ≡ instruction_form (view value.now) }
+fn instruction_words(
+    alloc: Global,
+    path: Path,
+    items: &[Value],
+) -> Result<InstructionForm, ScriptFault>
+    ensures { Gives (λ form. form) result (shaped path (instruction_words (map view items.now))) }
+{
+    let [first, rest @ ..] = items else {
+        return Err(ScriptFault::Shape(path));
+    };
+    let Some(word) = first.as_str() else {
+        return Err(ScriptFault::Shape(path));
+    };
+    if word == "store" {
+        return store_by(alloc, path, rest);
+    }
+    instruction_by(word, rest).ok_or(ScriptFault::Shape(path))
+}
+
+fn instruction_form(
+    alloc: Global,
+    path: Path,
+    value: &Value,
+) -> Result<InstructionForm, ScriptFault>
+    ensures { Gives (λ form. form) result (shaped path (instruction_form (view value.now))) }
 {
     match value.as_array() {
-        Some(items) => instruction_words(items),
-        None => None,
+        Some(items) => instruction_words(alloc, path, items),
+        None => Err(ScriptFault::Shape(path)),
+    }
+}
+
+fn keeps_limits(form: &InstructionForm) -> bool
+    ensures { result ≡ keeps_limits form.now }
+{
+    match form {
+        InstructionForm::Store(_, bytes) => bytes.len() <= 4096,
+        _ => true,
     }
 }
 
@@ -79,19 +123,22 @@ fn slot_below(size: u32, slot: Whole) -> Option<u32>
     }
 }
 
-fn instruction_in_range(size: u32, form: &InstructionForm) -> Option<Instruction>
-    ensures { result ≡ instruction_in_range size form.now }
+fn instruction_in_range(size: u32, form: InstructionForm) -> Option<Instruction>
+    ensures { result ≡ instruction_in_range size form }
 {
     match form {
         InstructionForm::Put(slot, entry) => Some(Instruction::Put(
-            slot_below(size, *slot)?,
-            entry_in_range(entry)?,
+            slot_below(size, slot)?,
+            entry_in_range(&entry)?,
         )),
-        InstructionForm::Push(index) => Some(Instruction::Push(word(*index)?)),
+        InstructionForm::Push(index) => Some(Instruction::Push(word(index)?)),
+        InstructionForm::Store(address, bytes) => {
+            Some(Instruction::Store(placed(&bytes, address)?, bytes))
+        }
         InstructionForm::Enter(to_submit, min_complete, flags) => Some(Instruction::Enter {
-            to_submit: word(*to_submit)?,
-            min_complete: word(*min_complete)?,
-            flags: word(*flags)?,
+            to_submit: word(to_submit)?,
+            min_complete: word(min_complete)?,
+            flags: word(flags)?,
         }),
         InstructionForm::Reap => Some(Instruction::Reap),
     }
@@ -99,18 +146,20 @@ fn instruction_in_range(size: u32, form: &InstructionForm) -> Option<Instruction
 
 /// An instruction of a thread, over a ring of so many slots.
 pub fn read_instruction(
+    alloc: Global,
     size: u32,
     thread: u32,
     index: u32,
     value: &Value,
 ) -> Result<Instruction, ScriptFault>
-    ensures { result ≡ instruction_at size thread index (view value.now) }
+    ensures { Gives (λ instruction. instruction) result (instruction_at size thread index (view value.now)) }
 {
     let path = inner_path(Key::Threads, thread, index);
-    let Some(form) = instruction_form(value) else {
-        return Err(ScriptFault::Shape(path));
-    };
-    match instruction_in_range(size, &form) {
+    let form = instruction_form(alloc, path, value)?;
+    if !keeps_limits(&form) {
+        return Err(ScriptFault::Limit(path));
+    }
+    match instruction_in_range(size, form) {
         Some(instruction) => Ok(instruction),
         None => Err(ScriptFault::Range(path)),
     }

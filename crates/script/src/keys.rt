@@ -1,11 +1,12 @@
 //! Where things stand, the keys of objects, and lists.
-ghost use Rattle.std.specs.Prelude.{◌≡◌, map, string_bytes};
+ghost use Rattle.std.specs.Prelude.{◌≡◌, map, option_map, string_bytes};
 ghost use Rattle.std.specs.List.{list_all};
 ghost use Rattle.std.specs.BTreeMap.{keys};
 ghost use Rattle.serde_json.specs.View.{view};
 ghost use Rattle.script.specs.Faults.{Gives, at_key, at_item, at_inner};
-ghost use Rattle.script.specs.Lists.{has_keys, keyed, listed};
+ghost use Rattle.script.specs.Lists.{has_keys, keyed, listed, list_at};
 ghost use Rattle.script.specs.Entries.{is_entry_key};
+ghost use Rattle.script.specs.Objects.{is_object_key};
 ghost use Rattle.script.specs.Scripts.{is_script_key};
 
 use crate::fault::{Key, Path, ScriptFault};
@@ -51,12 +52,22 @@ pub fn items_of(value: &Value, path: Path) -> Result<&[Value], ScriptFault>
     }
 }
 
+/// The items of a list at a key that may be missing, and has none then.
+pub fn items_at<'a>(key: Key, found: Option<&'a Value>) -> Result<&'a [Value], ScriptFault>
+    ensures { Gives (λ items. map view items.now) result (list_at key (option_map (λ v. view v.now) found.entry)) }
+{
+    match found {
+        Some(value) => items_of(value, key_path(key)),
+        None => Ok(&[]),
+    }
+}
+
 fn is_script_key(key: &str) -> bool
     ensures { result ≡ is_script_key key.now }
 {
     matches!(
         key,
-        "entries" | "cq" | "sqpoll" | "base" | "threads" | "schedule"
+        "entries" | "cq" | "sqpoll" | "base" | "memory" | "objects" | "fds" | "threads" | "schedule"
     )
 }
 
@@ -81,6 +92,18 @@ fn has_entry_keys(members: &Map<String, Value>) -> bool
     members.keys().all(|key| is_entry_key(key))
 }
 
+fn is_object_key(key: &str) -> bool
+    ensures { result ≡ is_object_key key.now }
+{
+    matches!(key, "name" | "file")
+}
+
+fn has_object_keys(members: &Map<String, Value>) -> bool
+    ensures { result ≡ list_all (λ k. is_object_key (string_bytes k)) (keys members.now) }
+{
+    members.keys().all(|key| is_object_key(key))
+}
+
 fn is_script_object(value: &Value) -> bool
     ensures { result ≡ has_keys is_script_key (view value.now) }
 {
@@ -96,6 +119,16 @@ pub fn is_entry_object(value: &Value) -> bool
 {
     match value.as_object() {
         Some(members) => has_entry_keys(members),
+        None => false,
+    }
+}
+
+/// Whether a value is an object of JSON with no other key than an object's of a setup.
+pub fn is_object_of_script(value: &Value) -> bool
+    ensures { result ≡ has_keys is_object_key (view value.now) }
+{
+    match value.as_object() {
+        Some(members) => has_object_keys(members),
         None => false,
     }
 }

@@ -1,12 +1,16 @@
 //! Scripts: a JSON text that gives a setup and a schedule of events.
 #![tactic(auto)]
 
+mod descriptor;
 mod entry;
 mod event;
 mod fault;
 mod instruction;
 mod keys;
+mod memory;
+mod names;
 mod number;
+mod object;
 mod parts;
 mod reading;
 #[cfg(test)]

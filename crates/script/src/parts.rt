@@ -2,8 +2,8 @@
 ghost use Rattle.std.specs.Prelude.{◌≡◌};
 ghost use Rattle.script.specs.Scripts.{Startable};
 
-use scenario::{Event, Setup};
 use places::Items;
+use scenario::{Event, Setup};
 use std::marker::Model;
 
 /// A setup from which a run can start, and at most 65,536 events to run.

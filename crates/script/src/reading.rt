@@ -2,17 +2,23 @@
 ghost use Rattle.std.specs.Prelude.{◌≡◌, ◌≢◌, ◌≤◌, ◌<◌, ◌⊎◌, option_map, map, IfOk, IfErr};
 ghost use Rattle.serde_json.specs.View.{view};
 ghost use Rattle.script.specs.Faults.{Gives};
+ghost use Rattle.script.specs.Memory.{memory_of};
+ghost use Rattle.script.specs.Objects.{objects_of, fds_of};
 ghost use Rattle.script.specs.Scripts.{entries_of, large_enough, cq_of, flag_of, base_of, threads_of, schedule_of, script_of, Reads, IsNoJson};
 ghost use Rattle.ring_words.specs.Rings.{rounded};
 
+use crate::descriptor::read_descriptors;
 use crate::event::read_events;
 use crate::fault::{Key, ScriptFault};
-use crate::keys::{items_of, key_path, script_object};
+use crate::keys::{items_at, items_of, key_path, script_object};
+use crate::memory::read_pieces;
+use crate::names::NamedObjects;
 use crate::number::number_between;
+use crate::object::read_object_list;
 use crate::parts::Script;
 use crate::threads::read_thread_list;
+use places::{Descriptor, Items};
 use scenario::{Event, Instruction, Setup, ring_size};
-use places::Items;
 use serde_json::Value;
 use std::alloc::Global;
 
@@ -97,6 +103,41 @@ fn read_schedule(alloc: Global, found: Option<&Value>) -> Result<Items<Event>, S
     Ok(Items::of(events))
 }
 
+fn read_memory(alloc: Global, found: Option<&Value>) -> Result<Items<u8>, ScriptFault>
+    ensures { Gives (λ v. v) result (memory_of (option_map (λ v. view v.now) found.entry)) }
+{
+    let items = items_at(Key::Memory, found)?;
+    read_pieces(alloc, items)
+}
+
+fn read_objects<'a>(
+    alloc: Global,
+    found: Option<&'a Value>,
+) -> Result<NamedObjects<'a>, ScriptFault>
+    ensures { Gives (λ v. v) result (objects_of (option_map (λ v. view v.now) found.entry)) }
+{
+    let items = items_at(Key::Objects, found)?;
+    if items.len() > 32 {
+        return Err(ScriptFault::Limit(key_path(Key::Objects)));
+    }
+    read_object_list(alloc, items)
+}
+
+fn read_fds(
+    alloc: Global,
+    objects: &NamedObjects<'_>,
+    found: Option<&Value>,
+) -> Result<Items<Descriptor>, ScriptFault>
+    ensures { Gives (λ v. v) result (fds_of objects.now (option_map (λ v. view v.now) found.entry)) }
+{
+    let items = items_at(Key::Fds, found)?;
+    if items.len() > 64 {
+        return Err(ScriptFault::Limit(key_path(Key::Fds)));
+    }
+    let descriptors = read_descriptors(alloc, objects, items)?;
+    Ok(Items::of(descriptors))
+}
+
 // The script that a JSON value is.
 fn script_from(alloc: Global, value: &Value) -> Result<Script, ScriptFault>
     ensures { Gives (λ s. s) result (script_of (view value.now)) }
@@ -106,6 +147,9 @@ fn script_from(alloc: Global, value: &Value) -> Result<Script, ScriptFault>
     let cq = read_cq(entries, value.get("cq"))?;
     let sqpoll = read_flag(Key::Sqpoll, value.get("sqpoll"))?;
     let base = read_base(value.get("base"))?;
+    let memory = read_memory(alloc, value.get("memory"))?;
+    let objects = read_objects(alloc, value.get("objects"))?;
+    let fds = read_fds(alloc, &objects, value.get("fds"))?;
     let threads = read_threads(alloc, ring_size(entries), value.get("threads"))?;
     let schedule = read_schedule(alloc, value.get("schedule"))?;
     let setup = Setup {
@@ -114,9 +158,9 @@ fn script_from(alloc: Global, value: &Value) -> Result<Script, ScriptFault>
         sqpoll,
         submit_all: false,
         base,
-        memory: Items::new(alloc),
-        objects: Items::new(alloc),
-        fds: Items::new(alloc),
+        memory,
+        objects: objects.into_items(),
+        fds,
         threads,
     };
     Ok(Script::of(setup, schedule))

@@ -1,6 +1,8 @@
+mod setups;
+
 use super::*;
-use scenario::{Event, Instruction};
 use opcodes::Choice;
+use scenario::{Event, Instruction};
 use std::alloc::Global;
 use std::test::Fail;
 
@@ -50,10 +52,6 @@ fn faults_of_documents(rt: HostRuntime) {
         ),
         (
             "{\"x\":0,\"entries\":0}",
-            ScriptFault::Shape(key(Key::Document)),
-        ),
-        (
-            "{\"entries\":1,\"memory\":[],\"threads\":[],\"schedule\":[]}",
             ScriptFault::Shape(key(Key::Document)),
         ),
     ] {

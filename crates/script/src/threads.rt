@@ -8,8 +8,8 @@ ghost use Rattle.script.specs.Instructions.{instruction_at, thread_at};
 use crate::fault::{Key, ScriptFault};
 use crate::instruction::read_instruction;
 use crate::keys::{item_path, items_of};
-use scenario::Instruction;
 use places::Items;
+use scenario::Instruction;
 use serde_json::Value;
 use std::alloc::Global;
 
@@ -24,7 +24,7 @@ fn read_instructions(
 {
     let mut instructions = Vec::new(alloc);
     for (i, item) in items.iter().enumerate() {
-        let instruction = read_instruction(size, thread, i as u32, item)?;
+        let instruction = read_instruction(alloc, size, thread, i as u32, item)?;
         if instructions.push(instruction).is_err() {
             return Err(ScriptFault::Memory);
         }

@@ -1,0 +1,87 @@
+-- Objects and descriptors.
+use Rattle.std.specs.Prelude.{ℕ, ◌&&◌, ◌||◌, nat_le, not, List, [], ◌∷◌, ◌++◌, length, codes, Bool, if◌then◌else◌, Option, Some, None, option_map, Result, Ok}
+use Rattle.std.specs.List.{list_any, position}
+use Rattle.std.specs.Str.{bytes_eq}
+use Rattle.serde_json.specs.Data.{Data}
+use Rattle.serde_json.specs.Find.{get, as_str}
+use Rattle.places.specs.declared.object.Contents.{Contents}
+use Rattle.places.specs.declared.object.Contents.TheVariants.{File}
+use Rattle.places.specs.declared.object.Descriptor.{Descriptor}
+use Rattle.places.specs.declared.object.End.{End}
+use Rattle.places.specs.declared.object.End.TheVariants.{Whole}
+use Rattle.places.specs.declared.object.Object.{Object}
+use Rattle.scenario.specs.Setups.{is_name, is_named, is_descriptor}
+use Rattle.script.specs.declared.fault.Key.TheVariants as key
+use Rattle.script.specs.declared.fault.ScriptFault.{ScriptFault}
+use Rattle.script.specs.declared.object.ContentsForm.{ContentsForm}
+use Rattle.script.specs.declared.object.ContentsForm.TheVariants as form
+use Rattle.script.specs.Entries.{◌>>=◌}
+use Rattle.script.specs.Faults as faults
+use Rattle.script.specs.Faults.{at_key, at_item, form_limits_ranges, form_then_ranges, ranged}
+use Rattle.script.specs.Lists.{has_keys, list_at, at_most, folded_at_most}
+use Rattle.script.specs.Memory.{bytes_of}
+
+-- ---- objects
+
+-- an object, before its ranges are tested
+pub record ObjectForm : Type 0 where
+  pub name : List ℕ
+  pub contents : ContentsForm
+
+abbrev pub is_object_key : List ℕ → Bool
+is_object_key k = bytes_eq k (codes "name") || bytes_eq k (codes "file")
+
+abbrev pub contents_form : Data → Option ContentsForm
+contents_form d = get (codes "file") d >>= λ x. option_map form.File (bytes_of x)
+
+abbrev pub name_of : Data → Option (List ℕ)
+name_of d = get (codes "name") d >>= as_str
+
+abbrev pub members_form : Data → Option ObjectForm
+members_form d = do
+  name ← name_of d
+  contents ← contents_form d
+  Some (record { name = name; contents = contents })
+
+-- an object with just a name and what it is
+abbrev pub object_form : Data → Option ObjectForm
+object_form d = if has_keys is_object_key d then members_form d else None
+
+abbrev pub contents_keep_limits : ContentsForm → Bool
+contents_keep_limits (form.File bytes) = nat_le (length bytes) 65536
+
+abbrev pub is_small : ObjectForm → Bool
+is_small o = contents_keep_limits o.contents
+
+abbrev pub contents_in_range : ContentsForm → Option Contents
+contents_in_range (form.File bytes) = Some (File bytes)
+
+-- whether a name has its form, and no object before has it
+abbrev pub is_new_name : List Object → List ℕ → Bool
+is_new_name before name = is_name name && not (list_any (is_named name) before)
+
+abbrev pub object_in_range : List Object → ObjectForm → Option Object
+object_in_range before o = if is_new_name before o.name then option_map (λ contents. record { name = o.name; contents = contents }) (contents_in_range o.contents) else None
+
+-- the objects before, and then object i
+abbrev pub object_at : List Object → ℕ → Data → Result (List Object) ScriptFault
+object_at before i d = form_limits_ranges (at_item key.Objects i) (object_form d) is_small (λ o. option_map (λ x. before ++ x ∷ []) (object_in_range before o))
+
+abbrev pub objects_of : Option Data → Result (List Object) ScriptFault
+objects_of d = faults.◌>>=◌ (list_at key.Objects d) (folded_at_most 32 (at_key key.Objects) object_at [])
+
+-- ---- descriptors
+
+-- an end of an object, where the object has it
+abbrev pub descriptor_of : List Object → End → ℕ → Option Descriptor
+descriptor_of objects end o = if is_descriptor objects (record { object = o; end = end }) then Some (record { object = o; end = end }) else None
+
+-- the object that a text names
+abbrev pub descriptor_named : List Object → List ℕ → Option Descriptor
+descriptor_named objects name = position (is_named name) objects >>= descriptor_of objects Whole
+
+abbrev pub descriptor_at : List Object → ℕ → Data → Result Descriptor ScriptFault
+descriptor_at objects i d = form_then_ranges (at_item key.Fds i) (as_str d) (descriptor_named objects)
+
+abbrev pub fds_of : List Object → Option Data → Result (List Descriptor) ScriptFault
+fds_of objects d = faults.◌>>=◌ (list_at key.Fds d) (at_most 64 (at_key key.Fds) (descriptor_at objects))

@@ -1,0 +1,72 @@
+//! Descriptors, as a script writes them.
+ghost use Rattle.std.specs.Prelude.{◌≡◌, ◌≤◌, map, length};
+ghost use Rattle.serde_json.specs.View.{view};
+ghost use Rattle.script.specs.Faults.{Gives};
+ghost use Rattle.script.specs.Lists.{each};
+ghost use Rattle.script.specs.Objects.{descriptor_of, descriptor_named, descriptor_at};
+
+use crate::fault::{Key, ScriptFault};
+use crate::keys::item_path;
+use crate::names::NamedObjects;
+use places::{Descriptor, End, Object};
+use scenario::is_descriptor;
+use serde_json::Value;
+use std::alloc::Global;
+
+// An end of an object, where the object has it.
+fn descriptor_of(objects: &[Object], end: End, object: u32) -> Option<Descriptor>
+    ensures { result ≡ descriptor_of objects.now end object }
+{
+    let descriptor = Descriptor { object, end };
+    if is_descriptor(objects, descriptor) {
+        Some(descriptor)
+    } else {
+        None
+    }
+}
+
+// The object that a text names.
+fn descriptor_named(objects: &NamedObjects<'_>, name: &str) -> Option<Descriptor>
+    ensures { result ≡ descriptor_named objects.now name.now }
+{
+    match objects.number_of(name) {
+        Some(number) => descriptor_of(objects.as_slice(), End::Whole, number),
+        None => None,
+    }
+}
+
+fn read_descriptor(
+    objects: &NamedObjects<'_>,
+    index: u32,
+    value: &Value,
+) -> Result<Descriptor, ScriptFault>
+    ensures { result ≡ descriptor_at objects.now index (view value.now) }
+{
+    let path = item_path(Key::Fds, index);
+    let Some(name) = value.as_str() else {
+        return Err(ScriptFault::Shape(path));
+    };
+    match descriptor_named(objects, name) {
+        Some(descriptor) => Ok(descriptor),
+        None => Err(ScriptFault::Range(path)),
+    }
+}
+
+/// The descriptors of a list, up to the first fault.
+pub fn read_descriptors(
+    alloc: Global,
+    objects: &NamedObjects<'_>,
+    items: &[Value],
+) -> Result<Vec<Descriptor>, ScriptFault>
+    requires { length items.now ≤ 64 }
+    ensures { Gives (λ v. v.items) result (each (descriptor_at objects.now) 0 (map view items.now)) }
+{
+    let mut descriptors = Vec::new(alloc);
+    for (i, item) in items.iter().enumerate() {
+        let descriptor = read_descriptor(objects, i as u32, item)?;
+        if descriptors.push(descriptor).is_err() {
+            return Err(ScriptFault::Memory);
+        }
+    }
+    Ok(descriptors)
+}

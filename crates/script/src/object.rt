@@ -1,0 +1,136 @@
+//! Objects, as a script writes them.
+ghost use Rattle.std.specs.Prelude.{◌≡◌, ◌<◌, ◌≤◌, ◌+◌, [], map, option_map, length, IfOk};
+ghost use Rattle.serde_json.specs.View.{view};
+ghost use Rattle.script.specs.Faults.{Gives, shaped};
+ghost use Rattle.script.specs.Lists.{folded};
+ghost use Rattle.script.specs.Objects.{contents_form, name_of, members_form, object_form, contents_keep_limits, contents_in_range, is_new_name, object_at};
+
+use crate::fault::{Key, Path, ScriptFault};
+use crate::keys::{is_object_of_script, item_path};
+use crate::memory::read_bytes;
+use crate::names::NamedObjects;
+use places::{Contents, Items, Object};
+use scenario::is_name;
+use serde_json::Value;
+use std::alloc::Global;
+
+/// What an object is, before its limits and ranges are tested.
+#[derive(Debug, Drop)]
+pub enum ContentsForm {
+    File(Items<u8>),
+}
+
+/// An object, before its limits and ranges are tested.
+#[derive(Debug, Drop)]
+pub struct Found<'a> {
+    pub name: &'a str,
+    pub contents: ContentsForm,
+}
+
+fn read_contents(alloc: Global, path: Path, value: &Value) -> Result<ContentsForm, ScriptFault>
+    ensures { Gives (λ c. c) result (shaped path (contents_form (view value.now))) }
+{
+    let Some(text) = value.get("file") else {
+        return Err(ScriptFault::Shape(path));
+    };
+    let bytes = read_bytes(alloc, path, text)?;
+    Ok(ContentsForm::File(bytes))
+}
+
+fn name_of(value: &Value) -> Option<&str>
+    ensures { option_map (λ name. name.now) result ≡ name_of (view value.now) }
+{
+    match value.get("name") {
+        Some(name) => name.as_str(),
+        None => None,
+    }
+}
+
+fn read_members<'a>(alloc: Global, path: Path, value: &'a Value) -> Result<Found<'a>, ScriptFault>
+    ensures { Gives (λ f. record { name = f.name.now; contents = f.contents }) result (shaped path (members_form (view value.now))) }
+{
+    let Some(name) = name_of(value) else {
+        return Err(ScriptFault::Shape(path));
+    };
+    let contents = read_contents(alloc, path, value)?;
+    Ok(Found { name, contents })
+}
+
+fn object_form<'a>(alloc: Global, path: Path, value: &'a Value) -> Result<Found<'a>, ScriptFault>
+    ensures { Gives (λ f. record { name = f.name.now; contents = f.contents }) result (shaped path (object_form (view value.now))) }
+{
+    if is_object_of_script(value) {
+        read_members(alloc, path, value)
+    } else {
+        Err(ScriptFault::Shape(path))
+    }
+}
+
+fn contents_keep_limits(contents: &ContentsForm) -> bool
+    ensures { result ≡ contents_keep_limits contents.now }
+{
+    match contents {
+        ContentsForm::File(bytes) => bytes.len() <= 65536,
+    }
+}
+
+fn contents_in_range(contents: ContentsForm) -> Option<Contents>
+    ensures { result ≡ contents_in_range contents }
+{
+    match contents {
+        ContentsForm::File(bytes) => Some(Contents::File(bytes)),
+    }
+}
+
+fn is_new_name(before: &NamedObjects<'_>, name: &str) -> bool
+    ensures { result ≡ is_new_name before.now name.now }
+{
+    is_name(name.as_bytes()) && !before.has(name)
+}
+
+// The objects before, and then an item.
+fn with_object<'a>(
+    alloc: Global,
+    before: NamedObjects<'a>,
+    index: u32,
+    value: &'a Value,
+) -> Result<NamedObjects<'a>, ScriptFault>
+    requires { length before < 32 }
+    ensures next { Gives (λ n. n) result (object_at before.entry index (view value.now)) }
+    ensures len { IfOk result (λ n. length n ≡ length before.entry + 1) }
+{
+    let path = item_path(Key::Objects, index);
+    let found = object_form(alloc, path, value)?;
+    if !contents_keep_limits(&found.contents) {
+        return Err(ScriptFault::Limit(path));
+    }
+    if !is_new_name(&before, found.name) {
+        return Err(ScriptFault::Range(path));
+    }
+    let Some(contents) = contents_in_range(found.contents) else {
+        return Err(ScriptFault::Range(path));
+    };
+    let Ok(name) = Vec::from_slice(alloc, found.name.as_bytes()) else {
+        return Err(ScriptFault::Memory);
+    };
+    let object = Object {
+        name: Items::of(name),
+        contents,
+    };
+    before.with(found.name, object)
+}
+
+/// The objects of a list, up to the first fault.
+pub fn read_object_list<'a>(
+    alloc: Global,
+    items: &'a [Value],
+) -> Result<NamedObjects<'a>, ScriptFault>
+    requires { length items.now ≤ 32 }
+    ensures { Gives (λ n. n) result (folded object_at [] 0 (map view items.now)) }
+{
+    let mut objects = NamedObjects::new(alloc);
+    for (i, item) in items.iter().enumerate() {
+        objects = with_object(alloc, objects, i as u32, item)?;
+    }
+    Ok(objects)
+}
