@@ -4,6 +4,7 @@ mod calls;
 mod devices;
 mod entering;
 mod failures;
+mod files;
 mod notes;
 mod records;
 mod sessions;
