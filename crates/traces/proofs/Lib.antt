@@ -1,0 +1,5 @@
+pub mod Put
+pub mod Numbers
+pub mod Events
+pub mod Faults
+pub mod Traces
