@@ -115,7 +115,7 @@ no_counted_fault es Trailing h g = no_fault_behind es Trailing h g.1
 no_counted_fault es Memory h g = no_fault_behind es Memory h g.1
 no_counted_fault es (Setup offset) h g = no_fault_behind es (Setup offset) h g.1
 
-begins : (text rest : List ℕ) → length text ≡ 8 → BeginsAs text (text ++ rest)
+pub begins : (text rest : List ℕ) → length text ≡ 8 → BeginsAs text (text ++ rest)
 begins text rest n =
     let whole : min 8 (length (text ++ rest)) ≡ 8 = omega (arith, length-append text rest) in
     rw whole (take_at text rest 8 n ∙ sym (take_all 8 text (omega arith)))

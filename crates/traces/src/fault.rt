@@ -22,7 +22,7 @@ pub enum TraceFault {
     /// Memory was refused.
     Memory,
     /// The field of the setup that begins at this offset has a value that it can't have.
-    Setup(u32),
+    Setup(usize),
 }
 
 impl TraceFault {

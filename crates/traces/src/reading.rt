@@ -37,7 +37,7 @@ fn read_events(alloc: Global, count: u32, bytes: &[u8]) -> Result<Vec<Event>, Tr
 }
 
 // The events that the bytes are, with their count before them.
-fn read_counted(alloc: Global, bytes: &[u8]) -> Result<Vec<Event>, TraceFault>
+pub(crate) fn read_counted(alloc: Global, bytes: &[u8]) -> Result<Vec<Event>, TraceFault>
     ensures events { IfOk result (λ events. AreEvents events.items) }
     ensures spelled { IfOk result (λ events. bytes.now ≡ counted_bytes events.items) }
     ensures fault { IfErr result (λ fault. (fault ≡ TraceFault.Memory) ⊎ IsCountedFault bytes.now fault) }

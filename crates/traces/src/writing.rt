@@ -21,7 +21,7 @@ fn count_bytes(count: u32) -> [u8; 4]
 }
 
 // Writes how many events there are, and the events in a row.
-fn put_counted(out: &mut Vec<u8>, events: &[Event]) -> Result<(), AllocError>
+pub(crate) fn put_counted(out: &mut Vec<u8>, events: &[Event]) -> Result<(), AllocError>
     requires few { length events.now ≤ most_events }
     requires transfers { IsTrue (list_all has_transfer events.now) }
     ensures spelled { OnOk result (out.new.items ≡ out.old.items ++ counted_bytes events.now) }
