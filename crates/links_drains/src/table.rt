@@ -170,12 +170,12 @@ impl Table {
         ensures completions { notes.old.completions ≤ notes.new.completions }
         ensures others { notes.old.others ≤ notes.new.others + 1 }
     {
-        let row = self.rows[r as usize];
-        notes.note_row(r, Some(row))?;
+        let queued = self.rows[r as usize];
+        notes.note_row(r, Some(queued))?;
         self.rows[r as usize] = Row {
             phase: Phase::Issued,
             held,
-            ..row
+            ..queued
         };
         Ok(())
     }

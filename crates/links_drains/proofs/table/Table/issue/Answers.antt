@@ -8,10 +8,10 @@ use Rattle.links_drains.proofs.table.Table.issue.Goals as goal
 pub returns-clause-ok : goal.returns-clause-ok
 returns-clause-ok c =
     let r = rw (← c.self.view_is) at c.requires in
-    rw (← c.self.view_is) (sym (updated_set _ _ _ _ (slice_get_read _ _ _ _ refl r c.index-row.ensures)))
+    rw (← c.self.view_is) (sym (updated_set _ _ _ _ (slice_get_read _ _ _ _ refl r c.index-queued.ensures)))
 
 pub returns-clause-keeps : goal.returns-clause-keeps
 returns-clause-keeps c =
     let r = rw (← c.self.view_is) at c.requires in
-    let before = slice_get_read _ _ _ _ refl r c.index-row.ensures in
+    let before = slice_get_read _ _ _ _ refl r c.index-queued.ensures in
     rw (← c.self.view_is) (keeps_noted _ _ _ _ _ _ _ refl (rw before c.in_ok-note_row.ensures.ok) (seen_row _ _ _ r))

@@ -1,0 +1,15 @@
+pub mod Put
+pub mod Numbers
+pub mod Events
+pub mod Faults
+pub mod Traces
+pub mod Items
+pub mod Taking
+pub mod Entries
+pub mod Lists
+pub mod ObjectLaws
+pub mod ProgramLaws
+pub mod SetupLaws
+pub mod Trimming
+pub mod Written
+pub mod SecondForm

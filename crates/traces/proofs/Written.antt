@@ -1,0 +1,77 @@
+-- Lists that are written item by item.
+use Rattle.std.proofs.Common.{◌≡◌, ℕ, zero, suc, ◌+◌, ◌<◌, ◌≤◌, Bool, true, List, [], ◌∷◌, ◌++◌, length, take, get_or, refl, sym, ap, subst, ◌∙◌, append_assoc, arith}
+use Rattle.std.specs.Prelude.{nat_lt, ◌&&◌}
+use Rattle.std.specs.List.{flat_map, list_all, AllByRecursion}
+use Rattle.std.proofs.lemmas.Bool.Decides.{nat_tests}
+use Rattle.std.proofs.lemmas.List.{flat_map_more, take_more}
+use Rattle.std.proofs.lemmas.List.Recursion.{and_at}
+use Rattle.byteorder.specs.Endian.{little_bytes}
+use Rattle.entries.specs.declared.entry.Sqe.{Sqe}
+use Rattle.entries.specs.Layout.{entry_bytes}
+use Rattle.scenario.specs.declared.setup.Instruction.TheVariants.{Put}
+use Rattle.traces.specs.Setups.{instruction_bytes}
+use Rattle.places.specs.declared.object.Object.{Object}
+use Rattle.places.specs.declared.object.Descriptor.{Descriptor}
+use Rattle.traces.specs.Limits.{is_within, is_new_name, all_behind, keeps_contents, keeps_object, end_number, keeps_descriptor}
+use Rattle.traces.proofs.Lists.{both_true, and_true}
+use Rattle.traces.proofs.ObjectLaws.{within_most, end_there}
+
+-- one more item
+pub item_written : {A : Type 0} (f : A → List ℕ) (xs : List A) (i : ℕ) (x : A) (front count out new : List ℕ) → i < length xs → x ≡ get_or xs i x
+    → out ≡ front ++ (count ++ flat_map f (take i xs)) → new ≡ out ++ f x → new ≡ front ++ (count ++ flat_map f (take (i + 1) xs))
+item_written {A} f xs i x front count out new lt there before now =
+    let one : take (i + 1) xs ≡ take i xs ++ x ∷ [] = take_more xs i x lt ∙ ap (λ (y : A). take i xs ++ y ∷ []) (sym there) in
+    let more : flat_map f (take i xs) ++ f x ≡ flat_map f (take (i + 1) xs) = flat_map_more f [] (take i xs) x ∙ ap (λ (ys : List A). flat_map f ys) (sym one) in
+    now ∙ ap (λ (t : List ℕ). t ++ f x) before ∙ append_assoc front (count ++ flat_map f (take i xs)) (f x)
+    ∙ ap (λ (t : List ℕ). front ++ t) (append_assoc count (flat_map f (take i xs)) (f x))
+    ∙ ap (λ (t : List ℕ). front ++ (count ++ t)) more
+
+pushed : {A : Type 0} (W : A → Type 0) (xs : List A) (x : A) → AllByRecursion W xs → W x → AllByRecursion W (xs ++ x ∷ [])
+pushed W [] x h w = (w, tt)
+pushed W (y ∷ ys) x h w = (h.0, pushed W ys x h.1 w)
+
+-- and what holds of each
+pub item_holds : {A : Type 0} (W : A → Type 0) (xs : List A) (i : ℕ) (x : A) → i < length xs → x ≡ get_or xs i x
+    → AllByRecursion W (take i xs) → W x → AllByRecursion W (take (i + 1) xs)
+item_holds {A} W xs i x lt there before now =
+    let one : take (i + 1) xs ≡ take i xs ++ x ∷ [] = take_more xs i x lt ∙ ap (λ (y : A). take i xs ++ y ∷ []) (sym there) in
+    subst (AllByRecursion W) (sym one) (pushed W (take i xs) x before now)
+
+-- a test that each item passes
+pub item_kept : {A : Type 0} (p : A → Bool) (xs : List A) (i : ℕ) (x : A) → i < length xs → x ≡ get_or xs i x → list_all p xs ≡ true → p x ≡ true
+item_kept {A} p xs i x lt there all =
+    subst (λ (y : A). p y ≡ true) (sym there) (and_at (list_all p) p refl (λ _ _. refl) xs i x lt all)
+
+-- the same behind the items before it
+pub behind_kept : (keeps : List Object → Object → Bool) (xs before : List Object) (i : ℕ) (x : Object) → i < length xs → x ≡ get_or xs i x → all_behind keeps before xs ≡ true
+    → (front : List Object) × (keeps front x ≡ true)
+behind_kept keeps [] before i x lt there all = absurd (omega arith)
+behind_kept keeps (y ∷ ys) before zero x lt there all = (before, subst (λ (z : Object). keeps before z ≡ true) (sym there) (both_true _ _ all).0)
+behind_kept keeps (y ∷ ys) before (suc i) x lt there all = behind_kept keeps ys (before ++ y ∷ []) i x (omega arith) there (both_true _ _ all).1
+
+-- numbers of objects that there are
+pub numbers_small : (objects : List Object) (ds : List Descriptor) → length objects ≤ 32 → list_all (keeps_descriptor objects) ds ≡ true → list_all (λ d. nat_lt d.object 256) ds ≡ true
+numbers_small objects [] few all = refl
+numbers_small objects (d ∷ ds) few all =
+    let p = both_true _ _ all in
+    let there : d.object < length objects = end_there objects d.object (end_number d.end) p.0 in
+    let below : nat_lt d.object 256 ≡ true = grind (arith, nat_tests) in
+    and_true _ _ below (numbers_small objects ds few p.1)
+
+three : (a b c d : List ℕ) → ((a ++ b) ++ c) ++ d ≡ a ++ (b ++ (c ++ d))
+three a b c d = simp append_assoc
+
+-- an entry behind its slot
+pub put_written : (slot : ℕ) (entry : Sqe) (old one two bytes new : List ℕ) → bytes ≡ entry_bytes entry
+    → one ≡ old ++ little_bytes 1 1 → two ≡ one ++ little_bytes 4 slot → new ≡ two ++ bytes → new ≡ old ++ instruction_bytes (Put slot entry)
+put_written slot entry old one two bytes new e f g h =
+    h ∙ ap (λ (t : List ℕ). two ++ t) e ∙ ap (λ (t : List ℕ). t ++ entry_bytes entry) (g ∙ ap (λ (t : List ℕ). t ++ little_bytes 4 slot) f)
+    ∙ three old (little_bytes 1 1) (little_bytes 4 slot) (entry_bytes entry)
+
+-- what an object that keeps its ranges has
+pub object_kept : (before : List Object) (o : Object) → keeps_object before o ≡ true → (length o.name < 256) × (keeps_contents o.contents ≡ true)
+object_kept before o h =
+    let p = both_true (is_within 1 16 (length o.name) && is_new_name before o.name) (keeps_contents o.contents) h in
+    let q = both_true (is_within 1 16 (length o.name)) (is_new_name before o.name) p.0 in
+    let most : length o.name ≤ 16 = within_most 1 16 (length o.name) q.0 in
+    (omega arith, p.1)

@@ -1,0 +1,100 @@
+//! Traces of the second form: a setup and its events.
+ghost use Rattle.std.specs.Prelude.{◌≡◌, ◌≤◌, ◌++◌, ◌⊎◌, List, Ok, length, take, drop, min, IsTrue, IfOk, IfErr, MatchResult};
+ghost use Rattle.std.specs.List.{list_all};
+ghost use Rattle.scenario.specs.declared.event.Event.{Event};
+ghost use Rattle.scenario.specs.declared.setup.Setup.{Setup};
+ghost use Rattle.traces.specs.Spots.{Spot};
+ghost use Rattle.traces.specs.Spelling.{counted_bytes, most_events, has_transfer, AreEvents, IsTrace};
+ghost use Rattle.traces.specs.Faults.{BeginsAs, IsFault};
+ghost use Rattle.traces.specs.Limits.{keeps_ranges};
+ghost use Rattle.traces.specs.Setups.{plain, magic2, trace2_bytes, IsTrace2};
+ghost use Rattle.traces.specs.Reading.{setup_at, behind_magic, IsBodyFault, IsFault2};
+
+use crate::cursor::Cursor;
+use crate::fault::TraceFault;
+use crate::reading::{read_counted, read_trace};
+use crate::setup_writing::push_setup;
+use crate::setups::read_setup;
+use crate::writing::put_counted;
+use scenario::{Event, Setup};
+use std::alloc::{AllocError, Global};
+
+// The eight bytes that a trace of the second form begins with.
+const MAGIC: [u8; 8] = *b"URTRACE2";
+
+// The setup that stands at the place, and the events behind it.
+fn read_body(alloc: Global, cursor: Cursor<'_>) -> Result<(Setup, Vec<Event>), TraceFault>
+    ensures found { IfOk result (λ found. (s : Spot) × (setup_at cursor.entry ≡ Ok (found.0, s))
+        × (s.rest ≡ counted_bytes found.1.items) × AreEvents found.1.items) }
+    ensures fault { IfErr result (λ fault. (fault ≡ TraceFault.Memory) ⊎ IsBodyFault (setup_at cursor.entry) fault) }
+{
+    let (setup, after) = read_setup(alloc, cursor)?;
+    let events = read_counted(alloc, after.rest())?;
+    Ok((setup, events))
+}
+
+// The setup and the events that the bytes are, with the second form's beginning before them.
+fn read_second(alloc: Global, bytes: &[u8]) -> Result<(Setup, Vec<Event>), TraceFault>
+    ensures found { IfOk result (λ found. IsTrace2 found.0 found.1.items bytes.now) }
+    ensures fault { IfErr result (λ fault. (fault ≡ TraceFault.Memory) ⊎ IsFault2 bytes.now fault) }
+{
+    let there = MAGIC.len().min(bytes.len());
+    if bytes[..there] != MAGIC[..there] {
+        return Err(TraceFault::Magic);
+    }
+    if bytes.len() < 8 {
+        return Err(TraceFault::Truncated);
+    }
+    read_body(alloc, Cursor::new(bytes, 8))
+}
+
+/// The setup and the events of a trace of the second form.
+pub fn read_trace2(alloc: Global, bytes: &[u8]) -> Result<(Setup, Vec<Event>), TraceFault>
+    // What is read is spelled so.
+    ensures found { IfOk result (λ found. IsTrace2 found.0 found.1.items bytes.now) }
+
+    // What is spelled so is read, unless memory runs out.
+    ensures only { (setup : Setup) (events : List Event) → IsTrace2 setup events bytes.now →
+        MatchResult result (λ found. (found.0 ≡ setup) × (found.1.items ≡ events)) (λ fault. fault ≡ TraceFault.Memory) }
+
+    // Which fault it is.
+    ensures fault { IfErr result (λ fault. (fault ≡ TraceFault.Memory) ⊎ IsFault2 bytes.now fault) }
+{
+    read_second(alloc, bytes)
+}
+
+/// The one trace of the second form of a setup, with rounded sizes and its memory up to the last byte that
+/// isn't 0, and of at most 1,048,576 events, none a transfer of no bytes.
+pub fn write_trace2(
+    alloc: Global,
+    setup: &Setup,
+    events: &[Event],
+) -> Result<Vec<u8>, AllocError>
+    requires ranges { IsTrue (keeps_ranges setup.now) }
+    requires few { length events.now ≤ most_events }
+    requires transfers { IsTrue (list_all has_transfer events.now) }
+    ensures { IfOk result (λ bytes. IsTrace2 (plain setup.now) events.now bytes.items) }
+{
+    let mut out = Vec::new(alloc);
+    out.extend_from_slice(&MAGIC)?;
+    push_setup(&mut out, setup)?;
+    put_counted(&mut out, events)?;
+    Ok(out)
+}
+
+/// The trace of the second form of a setup and the events of a trace of the first form.
+pub fn migrate(alloc: Global, setup: &Setup, bytes: &[u8]) -> Result<Vec<u8>, TraceFault>
+    requires { IsTrue (keeps_ranges setup.now) }
+    // What is migrated has the setup and just those events.
+    ensures migrated { IfOk result (λ made. (events : List Event) × IsTrace events bytes.now × IsTrace2 (plain setup.now) events made.items) }
+
+    // A trace of the first form is migrated, unless memory runs out.
+    ensures only { (events : List Event) → IsTrace events bytes.now →
+        MatchResult result (λ made. IsTrace2 (plain setup.now) events made.items) (λ fault. fault ≡ TraceFault.Memory) }
+
+    // Which fault it is.
+    ensures fault { IfErr result (λ fault. (fault ≡ TraceFault.Memory) ⊎ IsFault bytes.now fault) }
+{
+    let events = read_trace(alloc, bytes)?;
+    Ok(write_trace2(alloc, setup, &events)?)
+}
