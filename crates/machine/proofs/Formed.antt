@@ -188,7 +188,8 @@ formed_poller m p h =
       front = h.front;
       overflowed = h.overflowed;
       rows = h.rows;
-      world = h.world; requests = h.requests;
+      world = h.world;
+      requests = h.requests;
       counted = h.counted;
       clock = h.clock;
       threads = h.threads;

@@ -315,7 +315,8 @@ formed_put m slot entry h = record {
   front = h.front;
   overflowed = h.overflowed;
   rows = h.rows;
-  world = h.world; requests = h.requests;
+  world = h.world;
+  requests = h.requests;
   counted = h.counted;
   clock = h.clock;
   threads = λ t x e. subst (λ n. Stands n x) (sym (length-set m.submissions.slots slot entry)) (h.threads t x e);
@@ -336,7 +337,8 @@ formed_push m x h b l = record {
   front = h.front;
   overflowed = h.overflowed;
   rows = h.rows;
-  world = h.world; requests = h.requests;
+  world = h.world;
+  requests = h.requests;
   counted = h.counted;
   clock = h.clock;
   threads = h.threads;
@@ -355,7 +357,8 @@ formed_taken_out m h l = record {
   front = h.front;
   overflowed = h.overflowed;
   rows = h.rows;
-  world = h.world; requests = h.requests;
+  world = h.world;
+  requests = h.requests;
   counted = h.counted;
   clock = h.clock;
   threads = h.threads;

@@ -66,7 +66,8 @@ formed_thread m f t x h e s = record {
   front = h.front;
   overflowed = h.overflowed;
   rows = h.rows;
-  world = h.world; requests = h.requests;
+  world = h.world;
+  requests = h.requests;
   counted = h.counted;
   clock = h.clock;
   threads = stands_updated (length m.submissions.slots) m.threads f t x h.threads e s;

@@ -6,10 +6,9 @@ ghost use Rattle.machine.specs.Steps.{after, refusal, submission_refusal, submit
 ghost use Rattle.machine.specs.Whole.{view, everywhere, Grows, WellFormed};
 ghost use Rattle.scenario.specs.declared.event.Event.TheVariants.{Tick, Step};
 
-use scenario::Event;
-use scenario::Instruction;
 use crate::whole::Machine;
 use places::{Place, Recorder, Stage};
+use scenario::{Event, Instruction};
 use sqpoll::Poller;
 use std::alloc::AllocError;
 

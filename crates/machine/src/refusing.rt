@@ -4,12 +4,11 @@ ghost use Rattle.ring_words.specs.Rings.{sub_list};
 ghost use Rattle.machine.specs.Steps.{refusal, next_refusal, instruction_refusal, enter_refusal, alone_refusal, submission_refusal, take_refusal, sleep_refusal, finish_refusal, outcome_refusal, is_busy, flushed};
 ghost use Rattle.machine.specs.Submission.{offered};
 
-use scenario::{Event, Refusal};
-use scenario::Instruction;
 use crate::whole::Machine;
 use entries::Phase;
 use opcodes::{Choice, Outcome, is_timer, outcome};
 use places::Stage;
+use scenario::{Event, Instruction, Refusal};
 use sqpoll::Poller;
 
 impl Machine {

@@ -6,7 +6,6 @@ ghost use Rattle.scenario.specs.declared.setup.Instruction.{Instruction};
 ghost use Rattle.scenario.specs.Setups.{setup_refusal};
 ghost use Rattle.machine.specs.Runs.{start};
 
-use scenario::{Instruction, Setup, completion_entries};
 use crate::threads::{Thread, Threads};
 use crate::whole::Machine;
 use links_drains::Table;
@@ -14,6 +13,7 @@ use model_files::World;
 use overflow::Backlog;
 use places::Items;
 use ring_words::{ComRing, SubRing};
+use scenario::{Instruction, Setup, completion_entries};
 use sqpoll::Poller;
 use std::alloc::{AllocError, Global};
 

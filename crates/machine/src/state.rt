@@ -1,10 +1,8 @@
 //! The state of a run.
 
-use scenario::{Event, Refusal};
-use scenario::setup_refusal;
-use scenario::{Setup, SetupRefusal};
 use crate::whole::Machine;
 use places::{At, Marks, Place, Record, Recorder, Value};
+use scenario::{Event, Refusal, Setup, SetupRefusal, setup_refusal};
 use std::alloc::{AllocError, Global};
 use std::marker::Model;
 use std::mem;

@@ -6,9 +6,9 @@ ghost use Rattle.places.specs.View.{Keeps, put_at};
 ghost use Rattle.places.specs.declared.place.Place.{Place};
 ghost use Rattle.places.specs.declared.value.Stage.TheVariants.{Ready};
 
-use scenario::{Instruction, copy_program};
 use entries::Cqe;
 use places::{At, Items, Part, Place, Recorder, Stage, Value};
+use scenario::{Instruction, copy_program};
 use std::alloc::{AllocError, Global};
 use std::marker::Model;
 

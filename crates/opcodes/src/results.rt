@@ -3,9 +3,9 @@ ghost use Rattle.std.specs.Prelude.{◌≡◌, ◌≤◌, IfSome, pos};
 ghost use Rattle.opcodes.specs.Outcomes.{outcome_of, held_descriptor, length_behind, position_of, fixed, transferred, passes_memory, is_at_position, is_bad_offset, offset_of, fsync_outcome, read_outcome, write_outcome};
 
 use crate::choice::Choice;
+use crate::ending::Outcome;
 use crate::errno::{EFAULT, EFBIG, EINVAL, EIO};
 use crate::op::Op;
-use crate::ending::Outcome;
 use entries::{Row, Sqe};
 use model_files::{DescriptorState, World};
 

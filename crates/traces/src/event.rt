@@ -5,8 +5,8 @@ ghost use Rattle.traces.specs.Faults.{is_kind, has_numbers, event_fault};
 
 use crate::fault::TraceFault;
 use crate::fields::{put_u32, put_u64, u32_at, u64_at};
-use scenario::Event;
 use opcodes::Choice;
+use scenario::Event;
 
 // The number of a choice that the device makes.
 const EIO: u64 = 4_294_967_296;

@@ -6,8 +6,8 @@ ghost use Rattle.traces.specs.Reading.{Gives, entry_of, put_at, push_at, store_a
 use crate::cursor::{Cursor, bytes_at, count_at, u8_within, u32_at, u32_below};
 use crate::fault::TraceFault;
 use entries::Sqe;
-use scenario::Instruction;
 use places::Items;
+use scenario::Instruction;
 use std::alloc::Global;
 
 fn entry_of(bytes: &[u8]) -> Sqe
@@ -37,10 +37,7 @@ fn read_push(cursor: Cursor<'_>) -> Result<(Instruction, Cursor<'_>), TraceFault
 }
 
 #[tactic(auto, unfolding(crate::specs::Reading::store_at))]
-fn read_store(
-    alloc: Global,
-    cursor: Cursor<'_>,
-) -> Result<(Instruction, Cursor<'_>), TraceFault>
+fn read_store(alloc: Global, cursor: Cursor<'_>) -> Result<(Instruction, Cursor<'_>), TraceFault>
     ensures { Gives (λ x. (x.0, x.1)) result (store_at cursor.entry) }
 {
     let at = cursor.offset();

@@ -14,8 +14,8 @@ ghost use Rattle.traces.specs.Setups.{list_bytes, long_bytes, name_bytes, conten
 
 use byteorder::{ByteOrder, LittleEndian};
 use entries::Sqe;
-use scenario::{Instruction, Setup, ring_size};
 use places::{Contents, Descriptor, End, Items, Object};
+use scenario::{Instruction, Setup, ring_size};
 use std::alloc::AllocError;
 
 fn push_u8(out: &mut Vec<u8>, number: u8) -> Result<(), AllocError>
@@ -208,11 +208,7 @@ fn push_instruction(
     }
 }
 
-fn push_program(
-    out: &mut Vec<u8>,
-    slots: u32,
-    program: &[Instruction],
-) -> Result<(), AllocError>
+fn push_program(out: &mut Vec<u8>, slots: u32, program: &[Instruction]) -> Result<(), AllocError>
     requires { IsTrue (keeps_program slots program.now) }
     ensures spelled { OnOk result (out.new.items ≡ out.old.items ++ program_bytes program.now) }
     ensures widths { OnOk result (AllByRecursion HasWidths program.now) }

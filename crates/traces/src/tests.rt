@@ -2,8 +2,8 @@ ghost use Rattle.std.specs.Prelude.{◌<◌};
 
 use crate::laws::{events_again, one_list_of_a_trace};
 use crate::{TraceFault, read_trace, write_trace};
-use scenario::Event;
 use opcodes::Choice;
+use scenario::Event;
 use std::alloc::Global;
 use std::test::Fail;
 
