@@ -2,7 +2,7 @@
 
 use super::{fault_of, inner, item, key};
 use crate::{Key, ScriptFault, read_script};
-use places::{Contents, Descriptor, End};
+use places::{Contents, End};
 use scenario::{Instruction, Setup};
 use std::alloc::Global;
 use std::test::Fail;
@@ -244,33 +244,60 @@ fn is_file_of(setup: &Setup, index: usize, name: &[u8], bytes: &[u8]) -> bool {
     }
 }
 
+const WHOLE: &str =
+    "{\"entries\":1,\"memory\":[[1,\"aAbBcC\"],[2,\"00ff01\"],[65536,\"\"]],\"objects\":[{\"file\":\"0001\",\"name\":\"log_0\"},{\"name\":\"g\",\"file\":\"\"}],\"fds\":[\"g\",\"log_0\"],\"threads\":[[[\"store\",65536,\"\"],[\"store\",7,\"0aFF\"]]],\"schedule\":[]}";
+
+fn byte_at(setup: &Setup, address: usize) -> Option<u8> {
+    setup.memory.as_slice().get(address).copied()
+}
+
 #[test]
-fn reads_memory_and_objects(rt: HostRuntime) -> Result<(), Fail> {
-    let text =
-        "{\"entries\":1,\"memory\":[[1,\"aAbBcC\"],[2,\"00ff01\"],[65536,\"\"]],\"objects\":[{\"file\":\"0001\",\"name\":\"log_0\"},{\"name\":\"g\",\"file\":\"\"}],\"fds\":[\"g\",\"log_0\",\"g\"],\"threads\":[[[\"store\",65536,\"\"],[\"store\",7,\"0aFF\"]]],\"schedule\":[]}";
-    let script = read_script(rt.alloc(), text.as_bytes())?;
+fn reads_memory(rt: HostRuntime) -> Result<(), Fail> {
+    let script = read_script(rt.alloc(), WHOLE.as_bytes())?;
     let setup = script.setup();
-    let memory = setup.memory.as_slice();
-    let first = memory.get(0..6).ok_or("too little memory")?;
-    assert_eq!(rt; first, [0, 0xaa, 0, 0xff, 1, 0].as_slice());
-    assert!(rt; memory.iter().skip(5).all(|byte| *byte == 0));
-    assert!(rt; setup.objects.len() == 2 && is_file_of(setup, 0, b"log_0", &[0, 1]));
-    assert!(rt; is_file_of(setup, 1, b"g", &[]));
-    let fds = [1, 0, 1].map(|object| Descriptor {
-        object,
-        end: End::Whole,
-    });
-    assert_eq!(rt; setup.fds.as_slice(), fds.as_slice());
-    let program = setup.threads.as_slice().first().ok_or("no thread")?;
-    match program.as_slice() {
-        [
-            Instruction::Store(first, none),
-            Instruction::Store(second, bytes),
-        ] => {
-            assert_eq!(rt; (*first, none.len(), *second), (65536, 0, 7));
-            assert_eq!(rt; bytes.as_slice(), [10, 255].as_slice());
-        }
-        _ => return Err(Fail::from("other instructions")),
+    assert_eq!(rt; byte_at(setup, 0), Some(0));
+    assert_eq!(rt; byte_at(setup, 1), Some(0xaa));
+    assert_eq!(rt; byte_at(setup, 2), Some(0));
+    assert_eq!(rt; byte_at(setup, 3), Some(0xff));
+    assert_eq!(rt; byte_at(setup, 4), Some(1));
+    assert_eq!(rt; byte_at(setup, 5), Some(0));
+    Ok(())
+}
+
+fn is_all_of(setup: &Setup, index: usize, object: u32) -> bool {
+    match setup.fds.as_slice().get(index) {
+        Some(descriptor) => descriptor.object == object && descriptor.end == End::Whole,
+        None => false,
     }
+}
+
+#[test]
+fn reads_objects(rt: HostRuntime) -> Result<(), Fail> {
+    let script = read_script(rt.alloc(), WHOLE.as_bytes())?;
+    let setup = script.setup();
+    assert!(rt; is_file_of(setup, 0, b"log_0", &[0, 1]));
+    assert!(rt; is_file_of(setup, 1, b"g", &[]));
+    assert!(rt; is_all_of(setup, 0, 1) && is_all_of(setup, 1, 0));
+    assert!(rt; setup.objects.len() == 2 && setup.fds.len() == 2);
+    Ok(())
+}
+
+// Whether an instruction of the first thread stores bytes at an address.
+fn is_store(setup: &Setup, index: usize, address: u32, bytes: &[u8]) -> bool {
+    let Some(program) = setup.threads.as_slice().first() else {
+        return false;
+    };
+    match program.as_slice().get(index) {
+        Some(Instruction::Store(at, stored)) => *at == address && stored.as_slice() == bytes,
+        _ => false,
+    }
+}
+
+#[test]
+fn reads_stores(rt: HostRuntime) -> Result<(), Fail> {
+    let script = read_script(rt.alloc(), WHOLE.as_bytes())?;
+    let setup = script.setup();
+    assert!(rt; is_store(setup, 0, 65536, &[]));
+    assert!(rt; is_store(setup, 1, 7, &[10, 255]));
     Ok(())
 }
