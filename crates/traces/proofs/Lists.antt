@@ -58,9 +58,11 @@ items_again A item bytes Fits r (x ∷ xs) before offset rest fit =
     let a = r.again before offset x (flat_map bytes xs ++ rest) fit.0 in
     let b = items_again A item bytes Fits r xs (before ++ x ∷ []) a.0 rest fit.1 in
     let regrouped : flat_map bytes (x ∷ xs) ++ rest ≡ bytes x ++ (flat_map bytes xs ++ rest) =
-    ap (λ (t : List ℕ). t ++ rest) (flat_map-cons bytes x xs) ∙ append_assoc (bytes x) (flat_map bytes xs) rest in
-    (b.0, ap (λ (input : List ℕ). items_at item (suc (length xs)) before (spot offset input)) regrouped
-    ∙ rw (a.1, b.1) (ap (λ (l : List A). Ok (l, spot b.0 rest)) (append_assoc before (x ∷ []) xs)))
+    ap (λ (t : List ℕ). t ++ rest) (flat_map-cons bytes x xs) ∙ append_assoc (bytes x) (flat_map bytes xs) rest in (
+      b.0,
+      ap (λ (input : List ℕ). items_at item (suc (length xs)) before (spot offset input)) regrouped
+          ∙ rw (a.1, b.1) (ap (λ (l : List A). Ok (l, spot b.0 rest)) (append_assoc before (x ∷ []) xs)),
+    )
 
 pub list_takes : (A : Type 0) (item : List A → Spot → Result (A × Spot) TraceFault) (bytes : A → List ℕ) (Fits : List A → A → Type 0) → Reads A item bytes Fits
     → (most : ℕ) (s : Spot) (xs : List A) (t : Spot) → IsBytes s.rest → list_at most item s ≡ Ok (xs, t)

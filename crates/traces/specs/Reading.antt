@@ -203,17 +203,20 @@ setup_at s = do
   objects ← list_at 32 object_at memory.1
   fds ← list_at 64 (λ before. descriptor_at objects.0) objects.1
   threads ← list_at 16 (λ before. program_at entries.0) fds.1
-  Ok (record {
-    entries = entries.0;
-    cq = Some completions.0;
-    sqpoll = (options.0 == 1) || (options.0 == 3);
-    submit_all = (options.0 == 2) || (options.0 == 3);
-    base = base.0;
-    memory = memory.0;
-    objects = objects.0;
-    fds = fds.0;
-    threads = threads.0;
-  }, threads.1)
+  Ok (
+    record {
+      entries = entries.0;
+      cq = Some completions.0;
+      sqpoll = (options.0 == 1) || (options.0 == 3);
+      submit_all = (options.0 == 2) || (options.0 == 3);
+      base = base.0;
+      memory = memory.0;
+      objects = objects.0;
+      fds = fds.0;
+      threads = threads.0;
+    },
+    threads.1,
+  )
 
 -- behind the first eight bytes
 abbrev pub behind_magic : List ℕ → Spot

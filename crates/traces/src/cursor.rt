@@ -113,10 +113,7 @@ pub(crate) fn u8_within(
 
 /// A number below a limit.
 #[tactic(auto, unfolding(crate::specs::Reading::number_in))]
-pub(crate) fn u8_below(
-    cursor: Cursor<'_>,
-    limit: usize,
-) -> Result<(u8, Cursor<'_>), TraceFault>
+pub(crate) fn u8_below(cursor: Cursor<'_>, limit: usize) -> Result<(u8, Cursor<'_>), TraceFault>
     ensures read { Gives (λ x. (x.0, x.1)) result (number_in 1 (λ n. nat_lt n limit) cursor.entry) }
     ensures below { IfOk result (λ x. x.0 < limit) }
 {
@@ -147,10 +144,7 @@ pub(crate) fn u32_within(
 
 /// A number below a limit.
 #[tactic(auto, unfolding(crate::specs::Reading::number_in))]
-pub(crate) fn u32_below(
-    cursor: Cursor<'_>,
-    limit: u32,
-) -> Result<(u32, Cursor<'_>), TraceFault>
+pub(crate) fn u32_below(cursor: Cursor<'_>, limit: u32) -> Result<(u32, Cursor<'_>), TraceFault>
     ensures { Gives (λ x. (x.0, x.1)) result (number_in 4 (λ n. nat_lt n limit) cursor.entry) }
 {
     let at = cursor.offset();

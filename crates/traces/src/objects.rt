@@ -112,10 +112,7 @@ fn read_contents_of(
 }
 
 #[tactic(auto, unfolding(crate::specs::Reading::contents_at))]
-fn read_contents(
-    alloc: Global,
-    cursor: Cursor<'_>,
-) -> Result<(Contents, Cursor<'_>), TraceFault>
+fn read_contents(alloc: Global, cursor: Cursor<'_>) -> Result<(Contents, Cursor<'_>), TraceFault>
     ensures { Gives (λ x. (x.0, x.1)) result (contents_at cursor.entry) }
 {
     let (kind, after) = u8_within(cursor, 1, 3)?;
@@ -185,10 +182,7 @@ fn end_of(number: u8) -> End
 }
 
 #[tactic(auto, unfolding(crate::specs::Reading::number_in, crate::specs::Reading::end_at))]
-fn read_end<'a>(
-    object: &Object,
-    cursor: Cursor<'a>,
-) -> Result<(End, Cursor<'a>), TraceFault>
+fn read_end<'a>(object: &Object, cursor: Cursor<'a>) -> Result<(End, Cursor<'a>), TraceFault>
     ensures { Gives (λ x. (x.0, x.1)) result (end_at (Some object.now) cursor.entry) }
 {
     let at = cursor.offset();

@@ -37,10 +37,7 @@ fn read_push(cursor: Cursor<'_>) -> Result<(Instruction, Cursor<'_>), TraceFault
 }
 
 #[tactic(auto, unfolding(crate::specs::Reading::store_at))]
-fn read_store(
-    alloc: Global,
-    cursor: Cursor<'_>,
-) -> Result<(Instruction, Cursor<'_>), TraceFault>
+fn read_store(alloc: Global, cursor: Cursor<'_>) -> Result<(Instruction, Cursor<'_>), TraceFault>
     ensures { Gives (λ x. (x.0, x.1)) result (store_at cursor.entry) }
 {
     let at = cursor.offset();

@@ -65,11 +65,7 @@ pub fn read_trace2(alloc: Global, bytes: &[u8]) -> Result<(Setup, Vec<Event>), T
 
 /// The one trace of the second form of a setup, with rounded sizes and its memory up to the last byte that
 /// isn't 0, and of at most 1,048,576 events, none a transfer of no bytes.
-pub fn write_trace2(
-    alloc: Global,
-    setup: &Setup,
-    events: &[Event],
-) -> Result<Vec<u8>, AllocError>
+pub fn write_trace2(alloc: Global, setup: &Setup, events: &[Event]) -> Result<Vec<u8>, AllocError>
     requires ranges { IsTrue (keeps_ranges setup.now) }
     requires few { length events.now ≤ most_events }
     requires transfers { IsTrue (list_all has_transfer events.now) }

@@ -34,12 +34,13 @@ const ONE_NOP_2: [u8; 225] = [
 const WHOLE: [u8; 220] = [
     85, 82, 84, 82, 65, 67, 69, 50, 4, 0, 8, 0, 3, 4, 3, 2, 1, 3, 0, 0, 0, 0, 7, 9, 3, 0, 0, 0, 1,
     102, 1, 2, 0, 0, 0, 1, 2, 2, 112, 95, 2, 64, 0, 0, 0, 2, 101, 57, 3, 254, 255, 255, 255, 255,
-    255, 255, 255, 4, 0, 0, 0, 0, 0, 1, 1, 1, 2, 2, 0, 2, 0, 0, 0, 2, 0, 0, 0, 3, 255, 255, 0, 0, 1,
-    0, 0, 0, 5, 6, 254, 255, 255, 255, 4, 0, 0, 0, 1, 3, 0, 0, 0, 0, 1, 2, 3, 4, 5, 6, 7, 8, 9, 10,
-    11, 12, 13, 14, 15, 16, 17, 18, 19, 20, 21, 22, 23, 24, 25, 26, 27, 28, 29, 30, 31, 32, 33, 34,
-    35, 36, 37, 38, 39, 40, 41, 42, 43, 44, 45, 46, 47, 48, 49, 50, 51, 52, 53, 54, 55, 56, 57, 58,
-    59, 60, 61, 62, 63, 2, 254, 255, 255, 255, 4, 1, 0, 0, 0, 2, 0, 0, 0, 3, 0, 0, 0, 5, 2, 0, 0, 0,
-    1, 0, 0, 0, 0, 0, 0, 0, 0, 0, 0, 0, 0, 0, 0, 0, 7, 0, 0, 0, 0, 0, 0, 0, 5, 0, 0, 0, 0, 0, 0, 0,
+    255, 255, 255, 4, 0, 0, 0, 0, 0, 1, 1, 1, 2, 2, 0, 2, 0, 0, 0, 2, 0, 0, 0, 3, 255, 255, 0, 0,
+    1, 0, 0, 0, 5, 6, 254, 255, 255, 255, 4, 0, 0, 0, 1, 3, 0, 0, 0, 0, 1, 2, 3, 4, 5, 6, 7, 8, 9,
+    10, 11, 12, 13, 14, 15, 16, 17, 18, 19, 20, 21, 22, 23, 24, 25, 26, 27, 28, 29, 30, 31, 32, 33,
+    34, 35, 36, 37, 38, 39, 40, 41, 42, 43, 44, 45, 46, 47, 48, 49, 50, 51, 52, 53, 54, 55, 56, 57,
+    58, 59, 60, 61, 62, 63, 2, 254, 255, 255, 255, 4, 1, 0, 0, 0, 2, 0, 0, 0, 3, 0, 0, 0, 5, 2, 0,
+    0, 0, 1, 0, 0, 0, 0, 0, 0, 0, 0, 0, 0, 0, 0, 0, 0, 0, 7, 0, 0, 0, 0, 0, 0, 0, 5, 0, 0, 0, 0, 0,
+    0, 0,
 ];
 
 /// A place of that trace, another byte there, and the fault with its offset (0 and 0 for none).
@@ -124,7 +125,8 @@ fn sizes_are_rounded(rt: HostRuntime) -> Result<(), Fail> {
     let memory = Vec::from_slice(rt.alloc(), &[0, 5, 0, 0])?;
     let setup = unrounded(rt.alloc(), Items::of(memory));
     let trace = write_trace2(rt.alloc(), &setup, &[])?;
-    let expected = b"URTRACE2\x04\0\x08\0\x01\x07\0\0\0\x02\0\0\0\0\x05\0\0\0\0\0\0\0\0\0\0\0\0\0\0\0\0";
+    let expected =
+        b"URTRACE2\x04\0\x08\0\x01\x07\0\0\0\x02\0\0\0\0\x05\0\0\0\0\0\0\0\0\0\0\0\0\0\0\0\0";
     assert_eq!(rt; trace.as_slice(), expected.as_slice());
     let (again, events) = setup_and_events_again(rt.alloc(), &setup, &[])?;
     assert_eq!(rt; (again.entries, again.cq, again.base), (4, Some(8), 7));
@@ -162,7 +164,12 @@ fn one_nop_in_both_forms(rt: HostRuntime) -> Result<(), Fail> {
     assert_eq!(rt; migrated.as_slice(), ONE_NOP_2.as_slice());
     assert_eq!(rt; fault_of(rt.alloc(), &ONE_NOP), (1, 0));
     assert!(rt; matches!(read_trace(rt.alloc(), &ONE_NOP_2), Err(TraceFault::Magic)));
-    assert!(rt; matches!(migrate(rt.alloc(), &setup, &ONE_NOP_2), Err(TraceFault::Magic)));
+    assert!(rt;
+        matches!(
+            migrate(rt.alloc(), &setup, &ONE_NOP_2),
+            Err(TraceFault::Magic)
+        )
+    );
     first_form_is_not_second();
     second_form_is_not_first();
     one_setup_and_events_of_a_trace();
@@ -172,8 +179,14 @@ fn one_nop_in_both_forms(rt: HostRuntime) -> Result<(), Fail> {
 #[test]
 fn whole_setup(rt: HostRuntime) -> Result<(), Fail> {
     let (setup, events) = read_trace2(rt.alloc(), &WHOLE)?;
-    assert_eq!(rt; events.as_slice(), [Event::Step(0), Event::Tick(5)].as_slice());
-    assert_eq!(rt; (setup.entries, setup.cq, setup.base), (4, Some(8), 0x0102_0304));
+    assert_eq!(rt;
+        events.as_slice(),
+        [Event::Step(0), Event::Tick(5)].as_slice()
+    );
+    assert_eq!(rt;
+        (setup.entries, setup.cq, setup.base),
+        (4, Some(8), 0x0102_0304)
+    );
     assert!(rt; setup.sqpoll && setup.submit_all);
     assert_eq!(rt; setup.memory.as_slice(), [0, 7, 9].as_slice());
     let mut kinds = [0; 3];
@@ -185,7 +198,12 @@ fn whole_setup(rt: HostRuntime) -> Result<(), Fail> {
         }
     }
     assert_eq!(rt; kinds, [2, 64, 614]);
-    let ends = [(0, End::Whole), (1, End::Read), (1, End::Write), (2, End::Whole)];
+    let ends = [
+        (0, End::Whole),
+        (1, End::Read),
+        (1, End::Write),
+        (2, End::Whole),
+    ];
     let descriptors = ends.map(|(object, end)| Descriptor { object, end });
     assert_eq!(rt; setup.fds.as_slice(), descriptors.as_slice());
     let mut lengths = [0; 2];
@@ -195,6 +213,12 @@ fn whole_setup(rt: HostRuntime) -> Result<(), Fail> {
         }
     }
     assert_eq!(rt; lengths, [2, 4]);
+    Ok(())
+}
+
+#[test]
+fn whole_setup_again(rt: HostRuntime) -> Result<(), Fail> {
+    let (setup, events) = read_trace2(rt.alloc(), &WHOLE)?;
     let trace = write_trace2(rt.alloc(), &setup, &events)?;
     assert_eq!(rt; trace.as_slice(), WHOLE.as_slice());
     Ok(())
@@ -214,7 +238,11 @@ fn changed_bytes(rt: HostRuntime) {
         );
     }
     for length in 0..220usize {
-        assert_eq!(rt; fault_of(rt.alloc(), &WHOLE[..length]), (2, 0), "{length} bytes");
+        assert_eq!(rt;
+            fault_of(rt.alloc(), &WHOLE[..length]),
+            (2, 0),
+            "{length} bytes"
+        );
     }
 }
 

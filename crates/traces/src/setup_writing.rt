@@ -208,11 +208,7 @@ fn push_instruction(
     }
 }
 
-fn push_program(
-    out: &mut Vec<u8>,
-    slots: u32,
-    program: &[Instruction],
-) -> Result<(), AllocError>
+fn push_program(out: &mut Vec<u8>, slots: u32, program: &[Instruction]) -> Result<(), AllocError>
     requires { IsTrue (keeps_program slots program.now) }
     ensures spelled { OnOk result (out.new.items ≡ out.old.items ++ program_bytes program.now) }
     ensures widths { OnOk result (AllByRecursion HasWidths program.now) }

@@ -33,10 +33,7 @@ fn read_entries(cursor: Cursor<'_>) -> Result<(u32, Cursor<'_>), TraceFault>
 }
 
 #[tactic(auto, unfolding(crate::specs::Reading::number_in))]
-fn read_completions(
-    entries: u32,
-    cursor: Cursor<'_>,
-) -> Result<(u32, Cursor<'_>), TraceFault>
+fn read_completions(entries: u32, cursor: Cursor<'_>) -> Result<(u32, Cursor<'_>), TraceFault>
     ensures { Gives (λ x. (x.0, x.1)) result (number_in 2 (is_completion_size entries) cursor.entry) }
 {
     let at = cursor.offset();
@@ -55,10 +52,7 @@ fn is_trimmed(bytes: &[u8]) -> bool
 }
 
 #[tactic(auto, unfolding(crate::specs::Reading::memory_at))]
-fn read_memory(
-    alloc: Global,
-    cursor: Cursor<'_>,
-) -> Result<(Items<u8>, Cursor<'_>), TraceFault>
+fn read_memory(alloc: Global, cursor: Cursor<'_>) -> Result<(Items<u8>, Cursor<'_>), TraceFault>
     ensures { Gives (λ x. (x.0, x.1)) result (memory_at cursor.entry) }
 {
     let at = cursor.offset();
