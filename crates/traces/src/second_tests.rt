@@ -213,6 +213,12 @@ fn whole_setup(rt: HostRuntime) -> Result<(), Fail> {
         }
     }
     assert_eq!(rt; lengths, [2, 4]);
+    Ok(())
+}
+
+#[test]
+fn whole_setup_again(rt: HostRuntime) -> Result<(), Fail> {
+    let (setup, events) = read_trace2(rt.alloc(), &WHOLE)?;
     let trace = write_trace2(rt.alloc(), &setup, &events)?;
     assert_eq!(rt; trace.as_slice(), WHOLE.as_slice());
     Ok(())

@@ -1,4 +1,4 @@
-use Rattle.std.proofs.Common.{◌≡◌, ◌≤◌, ℕ, true, List, [], length, None, refl}
+use Rattle.std.proofs.Common.{◌≡◌, ◌≤◌, ℕ, true, false, List, [], length, None, refl}
 use Rattle.std.proofs.lemmas.Bool.{le-leb}
 use Rattle.ring_words.specs.Rings.{rounded}
 use Rattle.places.specs.declared.object.Object.{Object}
@@ -16,4 +16,4 @@ unfolding keeps_ranges rounded
 kept m o f t few a b c = rw (a, b, c, le-leb (length m) 65536 few) refl
 
 pub returns : goal.returns
-returns c = kept c.args.memory c.new-objects.result c.new-fds.result c.new-threads.result c.requires c.new-objects.ensures c.new-fds.ensures c.new-threads.ensures
+returns c = record { ranges = kept c.args.memory c.new-objects.result c.new-fds.result c.new-threads.result c.requires c.new-objects.ensures c.new-fds.ensures c.new-threads.ensures }
