@@ -2,18 +2,24 @@
 #![tactic(auto)]
 
 mod fault;
+mod files;
 mod load;
+mod parts;
 mod plan;
 
 use fault::Fault;
 use inverse_log::Walker;
-use load::{Load, load_of};
+use load::load_of;
+use parts::Load;
 use places::{Place, Record, Value};
 use plan::plan_of;
 use std::process::ExitCode;
 use std::rt::Clock;
 use std::time::Instant;
 use std::{env, io};
+
+#[cfg(test)]
+mod tests;
 
 // So many events in so many microseconds, on standard error.
 fn report(rt: &impl Eprint, what: &str, events: usize, micros: u128) -> io::Result<()> {
@@ -95,7 +101,7 @@ fn main(rt: HostRuntime) -> io::Result<ExitCode> {
         .map(|word| word.as_str())
         .collect(alloc)?;
     let Some(plan) = plan_of(&texts) else {
-        eprintln!(rt; "measure nops N | measure overflow N | measure ticks N")?;
+        eprintln!(rt; "measure nops N | overflow N | ticks N | transfers N | syncs N")?;
         return Ok(ExitCode::from(2));
     };
     let load = load_of(alloc, plan)?;
