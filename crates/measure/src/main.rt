@@ -2,18 +2,24 @@
 #![tactic(auto)]
 
 mod fault;
+mod files;
 mod load;
+mod parts;
 mod plan;
 
 use fault::Fault;
 use inverse_log::Walker;
-use load::{Load, load_of};
+use load::load_of;
+use parts::Load;
 use places::{Place, Record, Value};
 use plan::plan_of;
 use std::process::ExitCode;
 use std::rt::Clock;
 use std::time::Instant;
 use std::{env, io};
+
+#[cfg(test)]
+mod tests;
 
 // So many events in so many microseconds, on standard error.
 fn report(rt: &impl Eprint, what: &str, events: usize, micros: u128) -> io::Result<()> {
@@ -73,9 +79,10 @@ fn print_counts(rt: &(impl Print + Eprint), walker: &Walker) -> io::Result<()> {
     println!(rt; "ended {}", ended(walker))
 }
 
-// Adds the events, goes to the end, to the start and to the end again.
+// Adds the events, goes to the end, to the start and to the end again. Only the start is copied, and no
+// way back is too long for single steps: so each way is walked event by event.
 fn measure(rt: &(impl Print + Eprint + Clock + AllocGlobal), load: &Load) -> Result<(), Fault> {
-    let mut walker = Walker::new(rt.alloc(), &load.setup)?;
+    let mut walker = Walker::with(rt.alloc(), &load.setup, u32::MAX, u32::MAX)?;
     add(rt, &mut walker, load)?;
     let len = walker.len();
     go(rt, &mut walker, "forward", len)?;
@@ -94,7 +101,7 @@ fn main(rt: HostRuntime) -> io::Result<ExitCode> {
         .map(|word| word.as_str())
         .collect(alloc)?;
     let Some(plan) = plan_of(&texts) else {
-        eprintln!(rt; "measure nops N | measure overflow N | measure ticks N")?;
+        eprintln!(rt; "measure nops N | overflow N | ticks N | transfers N | syncs N")?;
         return Ok(ExitCode::from(2));
     };
     let load = load_of(alloc, plan)?;

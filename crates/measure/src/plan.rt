@@ -2,7 +2,7 @@
 ghost use Rattle.std.specs.Prelude.{◌≤◌, IfSome};
 ghost use Rattle.measure.specs.Plans.{HasLimits};
 
-/// The most events of NOP cycles: 16 programs of 1,365 cycles each.
+/// The most events of NOPs: 16 programs of 1,365 requests each.
 pub const MOST_NOP_EVENTS: u32 = 109200;
 
 /// The most NOPs that overflow: 16 programs of 4,095 pushes each.
@@ -11,15 +11,22 @@ pub const MOST_OVERFLOWING: u32 = 65520;
 /// The most events of a trace.
 pub const MOST_TICKS: u32 = 1048576;
 
-/// A run.
+/// The most events of requests on a file: 16 programs of 1,364 requests each.
+pub const MOST_FILE_EVENTS: u32 = 109120;
+
+/// A run. Each request is pushed, entered, issued, finished and reaped, in five events.
 #[derive(Clone, Copy)]
 pub enum Plan {
-    /// So many events, five for each NOP: it is pushed, entered, issued, finished and reaped.
+    /// So many events of NOPs.
     Nops(u32),
     /// So many NOPs, all submitted before the first is issued: all completions but two are kept.
     Overflow(u32),
     /// So many ticks of the clock.
     Ticks(u32),
+    /// So many events of READs and WRITEs, each of which changes 4,096 bytes.
+    Transfers(u32),
+    /// So many events of WRITEs, each of which changes one byte of a file of 65,536 bytes, and of FSYNCs.
+    Syncs(u32),
 }
 
 /// Reads the words behind the program's name.
@@ -34,6 +41,8 @@ pub fn plan_of(words: &[&str]) -> Option<Plan>
         "nops" if size <= MOST_NOP_EVENTS => Some(Plan::Nops(size)),
         "overflow" if size <= MOST_OVERFLOWING => Some(Plan::Overflow(size)),
         "ticks" if size <= MOST_TICKS => Some(Plan::Ticks(size)),
+        "transfers" if size <= MOST_FILE_EVENTS => Some(Plan::Transfers(size)),
+        "syncs" if size <= MOST_FILE_EVENTS => Some(Plan::Syncs(size)),
         _ => None,
     }
 }

@@ -1,0 +1,93 @@
+//! Requests on a file: transfers of whole pages, and single bytes that are brought to the device.
+
+use crate::parts::{Load, Requests, entry, request_load};
+use entries::Sqe;
+use places::{Contents, Descriptor, End, Items, Object};
+use std::alloc::{AllocError, Global};
+
+const FSYNC: u8 = 3;
+
+const READ: u8 = 22;
+
+const WRITE: u8 = 23;
+
+/// The descriptor of the file.
+const FD: i32 = 3;
+
+/// The bytes of a page.
+const PAGE: u32 = 4096;
+
+/// How many requests one program of 4,096 instructions holds, behind three puts.
+const PROGRAM_REQUESTS: u32 = 1364;
+
+/// READs of the file's first page and of its second page in turn, and behind each a WRITE of what was read
+/// over its third page. The pages differ in each byte, so that each transfer changes 4,096 bytes.
+pub fn transfer_load(alloc: Global, count: u32) -> Result<Load, AllocError> {
+    let mut file = vec![in alloc; 1u8; 4096]?;
+    file.extend_from_slice(&[2; 4096])?;
+    file.extend_from_slice(&[0; 4096])?;
+    let entries = [
+        transfer(READ, 0, 0, PAGE),
+        transfer(READ, u64::from(PAGE), 0, PAGE),
+        transfer(WRITE, 2 * u64::from(PAGE), 0, PAGE),
+    ];
+    file_load(alloc, count, &entries, file)
+}
+
+/// WRITEs of one byte in the middle of a file of 65,536 bytes, of a 1 and of a 2 in turn, and behind each an
+/// FSYNC.
+pub fn sync_load(alloc: Global, count: u32) -> Result<Load, AllocError> {
+    let file = vec![in alloc; 0u8; 65536]?;
+    let entries = [
+        transfer(WRITE, 32768, 0, 1),
+        transfer(WRITE, 32768, 1, 1),
+        transfer(FSYNC, 0, 0, 0),
+    ];
+    let mut load = file_load(alloc, count, &entries, file)?;
+    load.setup.memory = Items::of(vec![in alloc; 1, 2]?);
+    Ok(load)
+}
+
+// An entry on the file.
+fn transfer(opcode: u8, off: u64, addr: u64, len: u32) -> Sqe {
+    Sqe {
+        fd: FD,
+        off,
+        addr,
+        len,
+        ..entry(opcode)
+    }
+}
+
+// Requests of the first slot and of the second in turn, and behind each one of the third.
+fn file_load(
+    alloc: Global,
+    count: u32,
+    entries: &[Sqe],
+    file: Vec<u8>,
+) -> Result<Load, AllocError> {
+    let requests = Requests {
+        entries,
+        slots: [0, 2, 1, 2],
+        in_program: PROGRAM_REQUESTS,
+    };
+    let mut load = request_load(alloc, count, &requests)?;
+    load.setup.entries = 4;
+    load.setup.objects = Items::of(vec![in alloc; file_object(alloc, file)?]?);
+    load.setup.fds = Items::of(vec![in alloc; whole_file()]?);
+    Ok(load)
+}
+
+fn file_object(alloc: Global, file: Vec<u8>) -> Result<Object, AllocError> {
+    Ok(Object {
+        name: Items::of(vec![in alloc; b'f'; 1]?),
+        contents: Contents::File(Items::of(file)),
+    })
+}
+
+fn whole_file() -> Descriptor {
+    Descriptor {
+        object: 0,
+        end: End::Whole,
+    }
+}

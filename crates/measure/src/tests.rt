@@ -1,0 +1,63 @@
+//! What the events of the file plans change.
+
+use crate::load::load_of;
+use crate::parts::Load;
+use crate::plan::Plan;
+use machine::{Event, State};
+use places::{Place, Record};
+use std::alloc::Global;
+use std::test::Fail;
+
+// How many bytes of memory, of files and of devices a record names.
+fn bytes_named(record: &Record) -> [usize; 3] {
+    let mut named = [0usize; 3];
+    let mut changes = record.changes();
+    for _ in 0..65536 {
+        let Some(change) = changes.next() else {
+            return named;
+        };
+        match change.place {
+            Place::MemoryByte(_) => named[0] = named[0].saturating_add(1),
+            Place::FileByte(..) => named[1] = named[1].saturating_add(1),
+            Place::DurableByte(..) => named[2] = named[2].saturating_add(1),
+            _ => {}
+        }
+    }
+    named
+}
+
+// What each request names as it ends, in turn: the run's other events name no bytes.
+fn named_by_requests(alloc: Global, load: &Load) -> Result<Vec<[usize; 3]>, Fail> {
+    let mut state = State::new(alloc, &load.setup)?;
+    let mut named = Vec::new(alloc);
+    for event in &load.events {
+        let record = state.step(*event)?;
+        let bytes = bytes_named(&record);
+        match event {
+            Event::Finish(..) => named.push(bytes)?,
+            _ if bytes == [0, 0, 0] => {}
+            _ => return Err(Fail::from("bytes change at another event")),
+        }
+    }
+    Ok(named)
+}
+
+#[test]
+fn transfers_change_4096_bytes_each(rt: HostRuntime) -> Result<(), Fail> {
+    let load = load_of(rt.alloc(), Plan::Transfers(43))?;
+    let named = named_by_requests(rt.alloc(), &load)?;
+    let (read, write) = ([4096, 0, 0], [0, 4096, 0]);
+    let want = [read, write, read, write, read, write, read, write];
+    assert_eq!(rt; named.as_slice(), want.as_slice());
+    Ok(())
+}
+
+#[test]
+fn syncs_change_one_byte_each(rt: HostRuntime) -> Result<(), Fail> {
+    let load = load_of(rt.alloc(), Plan::Syncs(43))?;
+    let named = named_by_requests(rt.alloc(), &load)?;
+    let (write, sync) = ([0, 1, 0], [0, 0, 1]);
+    let want = [write, sync, write, sync, write, sync, write, sync];
+    assert_eq!(rt; named.as_slice(), want.as_slice());
+    Ok(())
+}
