@@ -235,6 +235,13 @@ mod tests {
         }
     }
 
+    fn held_by(table: &Table, r: u32) -> Option<u32> {
+        match table.get(r) {
+            Some(row) => row.held,
+            None => None,
+        }
+    }
+
     #[test]
     fn two_rows(rt: HostRuntime) -> Result<(), AllocError> {
         let alloc = rt.alloc();
@@ -250,12 +257,8 @@ mod tests {
         assert_eq!(rt; table.phase(2), None);
         assert_eq!(rt; table.user_data(1), Some(8));
         assert_eq!(rt; table.opcode(0), Some(0));
-        let issued = Row {
-            phase: Phase::Issued,
-            held: Some(3),
-            ..new_row(nop(7), 0)
-        };
-        assert_eq!(rt; table.get(0), Some(issued));
+        assert_eq!(rt; held_by(&table, 0), Some(3));
+        assert_eq!(rt; held_by(&table, 1), None);
         let copied = table.copy(alloc)?;
         let record = notes.close(&table);
         assert_eq!(rt; record.rows_left(2), 0);
