@@ -249,16 +249,14 @@ mod tests {
         let mut notes = Recorder::new(alloc);
         table.push(new_row(nop(7), 0), &mut notes)?;
         table.push(new_row(nop(8), 1), &mut notes)?;
-        table.issue(0, Some(3), &mut notes)?;
         table.set_phase(1, Phase::Ended(-22), &mut notes)?;
         assert_eq!(rt; table.len(), 2);
-        assert_eq!(rt; table.phase(0), Some(Phase::Issued));
+        assert_eq!(rt; table.phase(0), Some(Phase::Queued));
         assert_eq!(rt; table.phase(1), Some(Phase::Ended(-22)));
         assert_eq!(rt; table.phase(2), None);
         assert_eq!(rt; table.user_data(1), Some(8));
         assert_eq!(rt; table.opcode(0), Some(0));
-        assert_eq!(rt; held_by(&table, 0), Some(3));
-        assert_eq!(rt; held_by(&table, 1), None);
+        assert_eq!(rt; table.get(0), Some(new_row(nop(7), 0)));
         let copied = table.copy(alloc)?;
         let record = notes.close(&table);
         assert_eq!(rt; record.rows_left(2), 0);
@@ -266,6 +264,17 @@ mod tests {
         assert_eq!(rt; table.len(), 1);
         assert_eq!(rt; copied.len(), 2);
         assert_eq!(rt; copied.user_data(1), Some(8));
+        Ok(())
+    }
+
+    #[test]
+    fn an_issued_row_holds(rt: HostRuntime) -> Result<(), AllocError> {
+        let mut table = Table::new(rt.alloc());
+        let mut notes = Recorder::new(rt.alloc());
+        table.push(new_row(nop(7), 0), &mut notes)?;
+        table.issue(0, Some(3), &mut notes)?;
+        assert_eq!(rt; table.phase(0), Some(Phase::Issued));
+        assert_eq!(rt; held_by(&table, 0), Some(3));
         Ok(())
     }
 }
