@@ -1,0 +1,11 @@
+pub mod Overwriting
+pub mod Setting
+pub mod Noting
+pub mod Transfers
+pub mod Paging
+pub mod Lifting
+pub mod Remembering
+pub mod Describing
+pub mod Forming
+pub mod Fixing
+pub mod Restoring

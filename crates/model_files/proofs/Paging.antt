@@ -1,0 +1,172 @@
+-- Pages of a file are marked, noted and brought to the device.
+use Rattle.std.proofs.Common.{◌≡◌, ℕ, Bool, true, false, cond, refl, sym, ◌∙◌, ap, List, length, ◌+◌, ◌-◌, ◌*◌, ◌/◌, ◌<◌, ◌≤◌, arith}
+use Rattle.std.specs.Prelude.{Option, Some, None, option_map, slice_get, slice_set, ◌==◌, ◌⊎◌}
+use Rattle.std.proofs.Common.{inl, inr}
+use Rattle.std.proofs.lemmas.Bool.{eqb-true, eq-eqb}
+use Rattle.std.proofs.lemmas.Bool.Decides.{nat_tests}
+use Rattle.std.proofs.lemmas.Option.{slice_get_past}
+use Rattle.places.specs.declared.place.Place.{Place}
+use Rattle.places.specs.declared.place.Place.TheVariants.{DurableByte, DurableLength}
+use Rattle.places.specs.declared.value.Change.{Change}
+use Rattle.places.specs.declared.value.Value.{Value}
+use Rattle.places.specs.declared.value.Value.TheVariants.{Number, Byte}
+use Rattle.places.specs.declared.notes.runs.Region.TheVariants.{Durable}
+use Rattle.places.specs.Notes.{Notes, HasAsMuch}
+use Rattle.places.specs.Runs.{byte_from, byte_in, NotedBytes}
+use Rattle.places.specs.View.{named, first_note, Keeps, Noted}
+use Rattle.places.proofs.Keeping.{keeps_noted_bytes, keeps_then, keeps_unchanged, noted_keeps}
+use Rattle.places.proofs.ListLemmas.{same_list, slice_get-set}
+use Rattle.model_files.specs.Objects.{object_owns, NamesChanges}
+use Rattle.model_files.specs.Files.{FileState, FileSized, file_seen, part, synced}
+use Rattle.model_files.specs.Pages.{Agree, NamesUpTo}
+use Rattle.model_files.proofs.Noting.{below_or_not, byte_from_at, bytes_there, bytes_elsewhere, get_part, length-part, noted_bytes_keep, noted_named, unnamed_byte}
+
+-- ---- marks
+
+set_true : (xs : List Bool) (k p : ℕ) → k < length xs → slice_get (slice_set xs k true) p ≡ Some false → (slice_get xs p ≡ Some false) × ((k == p) ≡ false)
+set_true xs k p h e = by (k == p) refl (sym (slice_get-set xs k p true h) ∙ e)
+  where
+    by : (t : Bool) → (k == p) ≡ t → cond t (Some true) (slice_get xs p) ≡ Some false → (slice_get xs p ≡ Some false) × ((k == p) ≡ false)
+    by true g f = absurd cc
+    by false g f = (f, g)
+
+-- The pages from one up to the next are marked, and no mark was taken away.
+pub record Marking (before marks : List Bool) (first next : ℕ) : Type 0 where
+  pub kept : (p : ℕ) → slice_get marks p ≡ Some false → slice_get before p ≡ Some false
+  pub apart : (p : ℕ) → slice_get marks p ≡ Some false → (p < first) ⊎ (next ≤ p)
+
+pub marking_on : (before marks : List Bool) (first next : ℕ) → Marking before marks first next → next < length marks → Marking before (slice_set marks next true) first (next + 1)
+marking_on before marks first next m h = record { kept = λ p e. m.kept p (set_true marks next p h e).0; apart = λ p e. by p (set_true marks next p h e).1 (m.apart p (set_true marks next p h e).0) }
+  where
+    by : (p : ℕ) → (next == p) ≡ false → (p < first) ⊎ (next ≤ p) → (p < first) ⊎ (next + 1 ≤ p)
+    by p e (inl l) = inl l
+    by p e (inr l) = inr (grind (arith, nat_tests))
+
+-- a page that is not marked has none of the bytes whose pages were
+pub marked_apart : (before marks : List Bool) (at count next : ℕ) → Marking before marks (at / 4096) next → 0 < count → (at + count - 1) / 4096 + 1 ≤ next → (p : ℕ) → slice_get marks p ≡ Some false → (p * 4096 + 4096 ≤ at) ⊎ (at + count ≤ p * 4096)
+marked_apart before marks at count next m some h p e = by (m.apart p e)
+  where
+    by : (p < at / 4096) ⊎ (next ≤ p) → (p * 4096 + 4096 ≤ at) ⊎ (at + count ≤ p * 4096)
+    by (inl l) = inl (omega arith)
+    by (inr l) = inr (omega arith)
+
+-- where a page is apart from some bytes, its own are before or behind them
+pub outside : (p i at count : ℕ) → (p * 4096 + 4096 ≤ at) ⊎ (at + count ≤ p * 4096) → p * 4096 ≤ i → i < p * 4096 + 4096 → (i < at) ⊎ (at + count ≤ i)
+outside p i at count (inl l) lo hi = inl (omega arith)
+outside p i at count (inr l) lo hi = inr (omega arith)
+
+-- ---- bringing pages to the device
+
+-- The device has the bytes before a page, and those from it on are as they were.
+pub record Bringing (bytes before durable : List ℕ) (page : ℕ) : Type 0 where
+  pub len : length durable ≡ 65536
+  pub there : (i : ℕ) → i < page * 4096 → slice_get durable i ≡ slice_get bytes i
+  pub behind : (i : ℕ) → page * 4096 ≤ i → slice_get durable i ≡ slice_get before i
+
+pub bringing_on : (bytes before durable next : List ℕ) (page : ℕ) → Bringing bytes before durable page → length next ≡ 65536 → ((i : ℕ) → i < page * 4096 → slice_get next i ≡ slice_get durable i)
+    → ((i : ℕ) → page * 4096 ≤ i → i < page * 4096 + 4096 → slice_get next i ≡ slice_get bytes i) → ((i : ℕ) → page * 4096 + 4096 ≤ i → slice_get next i ≡ slice_get durable i) → Bringing bytes before next (page + 1)
+bringing_on bytes before durable next page b len lower here upper = record {
+  len = len;
+  there = λ i h. by i h (below_or_not i (page * 4096));
+  behind = λ i h. upper i (omega arith) ∙ b.behind i (omega arith);
+}
+  where
+    by : (i : ℕ) → i < (page + 1) * 4096 → (i < page * 4096) ⊎ (page * 4096 ≤ i) → slice_get next i ≡ slice_get bytes i
+    by i h (inl l) = lower i l ∙ b.there i l
+    by i h (inr l) = here i l (omega arith)
+
+pub bringing_clean : (marks : List Bool) (bytes before durable : List ℕ) (page : ℕ) → Bringing bytes before durable page → Agree marks bytes before → (i : ℕ) → slice_get marks page ≡ Some false → page * 4096 ≤ i → i < page * 4096 + 4096 → slice_get bytes i ≡ slice_get durable i
+bringing_clean marks bytes before durable page b clean i e lo hi = clean page i e lo hi ∙ sym (b.behind i lo)
+
+pub brought : (bytes before durable : List ℕ) (page : ℕ) → Bringing bytes before durable page → length bytes ≡ 65536 → 16 ≤ page → durable ≡ bytes
+brought bytes before durable page b len h = same_list durable bytes (λ i. by i (below_or_not i 65536))
+  where
+    by : (i : ℕ) → (i < 65536) ⊎ (65536 ≤ i) → slice_get durable i ≡ slice_get bytes i
+    by i (inl l) = b.there i (omega arith)
+    by i (inr l) = let d = b.len in slice_get_past durable i (omega arith) ∙ sym (slice_get_past bytes i (omega arith))
+
+-- ---- noting pages
+
+durable_there : (f : FileState) (o at k : ℕ) (q : Place) (x : Option Value) → byte_in (Durable o) at (part f.durable at k) q ≡ Some x → (x ≡ file_seen f q) × (object_owns o q ≡ true)
+durable_there f o at k (DurableByte y j) x e = by (o == y) refl e
+  where
+    by : (t : Bool) → (o == y) ≡ t → cond t (byte_from at (part f.durable at k) j) None ≡ Some x → (x ≡ option_map Byte (slice_get f.durable j)) × ((o == y) ≡ true)
+    by true g h = (bytes_there f.durable (part f.durable at k) at j x (get_part f.durable at k) h, g)
+    by false g h = absurd cc
+durable_there f o at k _ x e = absurd cc
+
+-- bytes on the device were noted, and nothing changed yet
+pub keeps_durable_bytes : (f : FileState) (o at k : ℕ) (cs ds : List Change) → NotedBytes cs ds (Durable o) at (part f.durable at k) → Keeps (object_owns o) (file_seen f) (file_seen f) cs ds
+keeps_durable_bytes f o at k cs ds n = keeps_noted_bytes (object_owns o) (file_seen f) (file_seen f) cs ds (Durable o) at (part f.durable at k) n (durable_there f o at k) (λ q e. refl)
+
+-- a page was noted, behind those that are noted where they differ
+pub page_noted : (f : FileState) (o at k : ℕ) (cs ds : List Change) → FileSized f → at + k ≤ 65536 → k ≡ 4096 → NotedBytes cs ds (Durable o) at (part f.durable at k) → NamesUpTo o f cs at → NamesUpTo o f ds (at + 4096)
+page_noted f o at k cs ds sized within e n before i h unnamed = by (below_or_not i at)
+  where
+    size : length (part f.durable at k) ≡ k
+    size = length-part f.durable at k (let d = sized.durable in omega arith)
+
+    past : (i < at) ⊎ (at + length (part f.durable at k) ≤ i) → at ≤ i → slice_get f.bytes i ≡ slice_get f.durable i
+    past (inl l) r = absurd (omega arith)
+    past (inr l) r = absurd (let s = size in omega arith)
+
+    by : (i < at) ⊎ (at ≤ i) → slice_get f.bytes i ≡ slice_get f.durable i
+    by (inl l) = before i l (noted_bytes_keep cs ds (Durable o) at (part f.durable at k) n (DurableByte o i) unnamed)
+    by (inr r) = past (bytes_elsewhere (part f.durable at k) at i (rw (eq-eqb o o refl) at (unnamed_byte cs ds (Durable o) at (part f.durable at k) n (DurableByte o i) unnamed))) r
+
+-- what stands behind a page that was noted is not
+pub page_fresh : (f : FileState) (o at k : ℕ) (cs ds : List Change) → FileSized f → at + k ≤ 65536 → NotedBytes cs ds (Durable o) at (part f.durable at k) → (i : ℕ) → at + k ≤ i → named cs (DurableByte o i) ≡ None → named ds (DurableByte o i) ≡ None
+page_fresh f o at k cs ds sized within n i h unnamed = n (DurableByte o i) ∙ ap (λ m. first_note m (byte_in (Durable o) at (part f.durable at k) (DurableByte o i))) unnamed ∙ by (o == o)
+  where
+    size : length (part f.durable at k) ≡ k
+    size = length-part f.durable at k (let d = sized.durable in omega arith)
+
+    none : byte_from at (part f.durable at k) i ≡ None
+    none = byte_from_at at (part f.durable at k) (i - at) i (omega arith) ∙ ap (option_map (λ b. Some (Byte b))) (slice_get_past (part f.durable at k) (i - at) (let s = size in omega arith))
+
+    by : (t : Bool) → cond t (byte_from at (part f.durable at k) i) None ≡ None
+    by true = none
+    by false = refl
+
+-- The pages before one are noted where they differ.
+pub record NotingPages (o : ℕ) (f : FileState) (before notes : Notes) (page : ℕ) : Type 0 where
+  pub fresh : (i : ℕ) → page * 4096 ≤ i → i < 65536 → named notes.made (DurableByte o i) ≡ None
+  pub keeps : Keeps (object_owns o) (file_seen f) (file_seen f) before.made notes.made
+  pub noted : NamesUpTo o f notes.made (page * 4096)
+  pub named : (p : Place) → named notes.made p ≡ None → named before.made p ≡ None
+  pub room : HasAsMuch before notes
+
+as_much : (a b c : Notes) → HasAsMuch a b → HasAsMuch b c → HasAsMuch a c
+as_much a b c h k = record {
+  numbers = let x = h.numbers in let y = k.numbers in omega arith;
+  completions = let x = h.completions in let y = k.completions in omega arith;
+  others = let x = h.others in let y = k.others in omega arith;
+}
+
+pub noting_on : (o : ℕ) (f : FileState) (before notes next : Notes) (page : ℕ) → NotingPages o f before notes page → ((i : ℕ) → page * 4096 + 4096 ≤ i → i < 65536 → named next.made (DurableByte o i) ≡ None)
+    → Keeps (object_owns o) (file_seen f) (file_seen f) notes.made next.made → (NamesUpTo o f notes.made (page * 4096) → NamesUpTo o f next.made (page * 4096 + 4096)) → ((p : Place) → named next.made p ≡ None → named notes.made p ≡ None) → HasAsMuch notes next
+    → NotingPages o f before next (page + 1)
+noting_on o f before notes next page n fresh keeps noted names room = record {
+  fresh = λ i h l. fresh i (omega arith) l;
+  keeps = keeps_then (object_owns o) (file_seen f) (file_seen f) (file_seen f) before.made notes.made next.made n.keeps keeps;
+  noted = λ i h u. noted n.noted i (omega arith) u;
+  named = λ p e. n.named p (names p e);
+  room = as_much before notes next n.room room;
+}
+
+-- ---- the notes of bringing all to the device
+
+pub keeps_synced : (f : FileState) (o : ℕ) (cs ds es : List Change) → Keeps (object_owns o) (file_seen f) (file_seen f) cs ds → Noted ds es (DurableLength o) (Some (Number f.durable_len)) → Keeps (object_owns o) (file_seen f) (file_seen f) cs es
+keeps_synced f o cs ds es k m = keeps_then (object_owns o) (file_seen f) (file_seen f) (file_seen f) cs ds es k (keeps_unchanged (object_owns o) (file_seen f) ds es (DurableLength o) (eq-eqb o o refl) m)
+
+names_synced : (f : FileState) (o : ℕ) (cs : List Change) → FileSized f → NamesUpTo o f cs 65536 → (named cs (DurableLength o) ≡ None → ⊥) → NamesChanges (object_owns o) (file_seen f) (file_seen (synced f)) cs
+names_synced f o cs sized bytes len (DurableByte y j) own h = ap (option_map Byte) (by (below_or_not j 65536))
+  where
+    by : (j < 65536) ⊎ (65536 ≤ j) → slice_get f.bytes j ≡ slice_get f.durable j
+    by (inl l) = bytes j l (ap (λ z. named cs (DurableByte z j)) (eqb-true o y own) ∙ h)
+    by (inr l) = let a = sized.bytes in let b = sized.durable in slice_get_past f.bytes j (omega arith) ∙ sym (slice_get_past f.durable j (omega arith))
+names_synced f o cs sized bytes len (DurableLength y) own h = absurd (len (ap (λ z. named cs (DurableLength z)) (eqb-true o y own) ∙ h))
+names_synced f o cs sized bytes len _ own h = refl
+
+pub names_device : (f : FileState) (o : ℕ) (x : Option Value) (cs ds : List Change) → FileSized f → NamesUpTo o f cs 65536 → Noted cs ds (DurableLength o) x → NamesChanges (object_owns o) (file_seen f) (file_seen (synced f)) ds
+names_device f o x cs ds sized n m = names_synced f o ds sized (λ i l h. n i l (noted_keeps cs ds (DurableLength o) x m (DurableByte o i) h)) (λ h. noted_named cs ds (DurableLength o) x m h)

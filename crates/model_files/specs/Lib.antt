@@ -1,0 +1,5 @@
+pub mod Objects
+pub mod Files
+pub mod Pages
+pub mod Pipes
+pub mod Worlds

@@ -1,0 +1,219 @@
+-- Memory, objects and descriptors, and what is seen of them.
+use Rattle.std.specs.Prelude.{◌≡◌, ℕ, ℤ, pos, negsuc, ◌-◌, ◌≤◌, nat_lt, Bool, true, false, Option, Some, None, option_map, slice_get, List, [], map, length, if◌then◌else◌}
+use Rattle.std.specs.Option.{option_and_then}
+use Rattle.places.specs.Lists.{updated}
+use Rattle.places.specs.View.{View}
+use Rattle.places.specs.declared.object.Contents.{Contents}
+use Rattle.places.specs.declared.object.Contents.TheVariants.{File as FileOf, Pipe as PipeOf, EventFd as EventFdOf}
+use Rattle.places.specs.declared.object.Descriptor.{Descriptor}
+use Rattle.places.specs.declared.object.End.{End}
+use Rattle.places.specs.declared.object.Object.{Object}
+use Rattle.places.specs.declared.place.Place.{Place}
+use Rattle.places.specs.declared.place.Place.TheVariants.{MemoryByte, FileByte, DurableByte, FileLength, DurableLength, Position, OpenMark, PipeByte, PutCount, TakenCount, EventCount}
+use Rattle.places.specs.declared.value.Value.{Value}
+use Rattle.places.specs.declared.value.Value.TheVariants.{Number, Byte}
+use Rattle.model_files.specs.declared.body.Body.{Body}
+use Rattle.model_files.specs.declared.body.Body.TheVariants.{File, Pipe, EventFd}
+use Rattle.model_files.specs.declared.descriptor.DescriptorState.{DescriptorState}
+use Rattle.model_files.specs.Objects.{CanPut}
+use Rattle.model_files.specs.Pipes.{PipeState, pipe_seen, counter_seen, pipe_start}
+use Rattle.model_files.specs.Files.{FileState, FileFormed, file_seen, file_start, padded, written, synced, overwritten, part}
+
+-- the memory, the objects in the setup's order, and the descriptors, numbered from 3 (stdin(3))
+pub record WorldState : Type 0 where
+  pub memory : List ℕ
+  pub objects : List Body
+  pub descriptors : List DescriptorState
+
+-- ---- an object or a descriptor by its number, where there is one
+
+abbrev pub file_in : Body → Option FileState
+file_in (File f) = Some f
+file_in (Pipe p) = None
+file_in (EventFd n) = None
+
+abbrev pub pipe_in : Body → Option PipeState
+pipe_in (File f) = None
+pipe_in (Pipe p) = Some p
+pipe_in (EventFd n) = None
+
+abbrev pub counter_in : Body → Option ℕ
+counter_in (File f) = None
+counter_in (Pipe p) = None
+counter_in (EventFd n) = Some n
+
+abbrev pub file_of : WorldState → ℕ → Option FileState
+file_of w o = option_and_then file_in (slice_get w.objects o)
+
+abbrev pub descriptor_of : WorldState → ℕ → Option DescriptorState
+descriptor_of w fd = if nat_lt fd 3 then None else slice_get w.descriptors (fd - 3)
+
+-- the descriptor that an entry's number names; a negative number names none
+abbrev pub descriptor_at : WorldState → ℤ → Option DescriptorState
+descriptor_at w (pos fd) = descriptor_of w fd
+descriptor_at w (negsuc n) = None
+
+-- ---- places
+
+abbrev pub world_owns : Place → Bool
+world_owns (MemoryByte a) = true
+world_owns (FileByte o i) = true
+world_owns (DurableByte o i) = true
+world_owns (FileLength o) = true
+world_owns (DurableLength o) = true
+world_owns (Position fd) = true
+world_owns (OpenMark fd) = true
+world_owns (PipeByte o i) = true
+world_owns (PutCount o) = true
+world_owns (TakenCount o) = true
+world_owns (EventCount o) = true
+world_owns _ = false
+
+abbrev pub mark_of : Bool → ℕ
+mark_of is_open = if is_open then 1 else 0
+
+-- what stands in the places of an object
+abbrev pub body_seen : Body → View
+body_seen (File f) = file_seen f
+body_seen (Pipe p) = pipe_seen p
+body_seen (EventFd n) = counter_seen n
+
+abbrev pub object_seen : WorldState → ℕ → View
+object_seen w o p = option_and_then (λ (b : Body). body_seen b p) (slice_get w.objects o)
+
+-- what stands in each place
+abbrev pub world_seen : WorldState → View
+world_seen w (MemoryByte a) = option_map Byte (slice_get w.memory a)
+world_seen w (FileByte o i) = object_seen w o (FileByte o i)
+world_seen w (DurableByte o i) = object_seen w o (DurableByte o i)
+world_seen w (FileLength o) = object_seen w o (FileLength o)
+world_seen w (DurableLength o) = object_seen w o (DurableLength o)
+world_seen w (PipeByte o i) = object_seen w o (PipeByte o i)
+world_seen w (PutCount o) = object_seen w o (PutCount o)
+world_seen w (TakenCount o) = object_seen w o (TakenCount o)
+world_seen w (EventCount o) = object_seen w o (EventCount o)
+world_seen w (Position fd) = option_and_then (λ (d : DescriptorState). option_map Number d.position) (descriptor_of w fd)
+world_seen w (OpenMark fd) = option_map (λ (d : DescriptorState). Number (mark_of d.is_open)) (descriptor_of w fd)
+world_seen w _ = None
+
+-- A value may be put where one stands, within the range of the place; nothing is taken out.
+abbrev pub world_can_put : WorldState → Place → Option Value → Type 0
+world_can_put w p None = ⊥
+world_can_put w p (Some v) = CanPut (world_seen w) p v
+
+-- ---- the start
+
+-- A file of a setup is not above the most.
+abbrev pub ContentsFit : Contents → Type 0
+ContentsFit (FileOf bytes) = length bytes ≤ 65536
+ContentsFit (PipeOf capacity) = Unit {0}
+ContentsFit (EventFdOf counter) = Unit {0}
+
+abbrev pub body_start : Contents → Body
+body_start (FileOf bytes) = File (file_start bytes)
+body_start (PipeOf capacity) = Pipe (pipe_start capacity)
+body_start (EventFdOf counter) = EventFd counter
+
+-- a descriptor of a file has a position, the start of the file
+abbrev pub position_start : Contents → Option ℕ
+position_start (FileOf bytes) = Some 0
+position_start (PipeOf capacity) = None
+position_start (EventFdOf counter) = None
+
+abbrev pub descriptor_start : List Object → Descriptor → DescriptorState
+descriptor_start objects d = record {
+  object = d.object;
+  end = d.end;
+  is_open = true;
+  position = option_and_then (λ (o : Object). position_start o.contents) (slice_get objects d.object);
+}
+
+-- what a setup's memory, objects and descriptors start as
+abbrev pub world_start : List ℕ → List Object → List Descriptor → WorldState
+world_start memory objects descriptors = record {
+  memory = padded memory;
+  objects = map (λ (o : Object). body_start o.contents) objects;
+  descriptors = map (descriptor_start objects) descriptors;
+}
+
+-- ---- changes
+
+abbrev pub on_file : (FileState → FileState) → Body → Body
+on_file g (File f) = File (g f)
+on_file g (Pipe p) = Pipe p
+on_file g (EventFd n) = EventFd n
+
+-- the world with a file changed
+abbrev pub with_file : (FileState → FileState) → WorldState → ℕ → WorldState
+with_file g w o = record w { objects = updated (on_file g) w.objects o }
+
+-- the world with a descriptor changed
+abbrev pub with_descriptor : (DescriptorState → DescriptorState) → WorldState → ℕ → WorldState
+with_descriptor g w fd = record w { descriptors = updated g w.descriptors (fd - 3) }
+
+-- the bytes of an object, if it is a file
+abbrev pub bytes_of : Option FileState → List ℕ
+bytes_of None = []
+bytes_of (Some f) = f.bytes
+
+-- k bytes of a file, from an offset on, stand in memory from an address on (read(2))
+abbrev pub world_read : ℕ → ℕ → ℕ → ℕ → WorldState → WorldState
+world_read o offset k addr w = record w { memory = overwritten w.memory addr (part (bytes_of (file_of w o)) offset k) }
+
+-- k bytes of memory, from an address on, stand in a file from an offset on (write(2))
+abbrev pub world_written : ℕ → ℕ → ℕ → ℕ → WorldState → WorldState
+world_written o offset k addr w = with_file (written (part w.memory addr k) offset) w o
+
+-- the device has all of a file (fsync(2))
+abbrev pub world_synced : ℕ → WorldState → WorldState
+world_synced o w = with_file synced w o
+
+-- a descriptor of a file is at a position (lseek(2))
+abbrev pub world_at : ℕ → ℕ → WorldState → WorldState
+world_at fd n w = with_descriptor (λ d. record d { position = Some n }) w fd
+
+-- a descriptor is closed (close(2))
+abbrev pub world_closed : ℕ → WorldState → WorldState
+world_closed fd w = with_descriptor (λ d. record d { is_open = false }) w fd
+
+-- bytes stand in memory from an address on
+abbrev pub world_stored : ℕ → List ℕ → WorldState → WorldState
+world_stored addr bytes w = record w { memory = overwritten w.memory addr bytes }
+
+-- ---- what holds of it
+
+-- The memory has its size, each file is well formed, and no position is past the most that a file can have.
+pub record WorldFormed (w : WorldState) : Type 0 where
+  pub memory : length w.memory ≡ 65536
+  pub files : (o : ℕ) (f : FileState) → file_of w o ≡ Some f → FileFormed f
+  pub positions : (i : ℕ) (d : DescriptorState) (n : ℕ) → slice_get w.descriptors i ≡ Some d → d.position ≡ Some n → n ≤ 65536
+
+-- what the setup fixes of an object: its kind, and the size of what it holds
+pub record Kind : Type 0 where
+  pub file : Option ℕ
+  pub device : Option ℕ
+  pub pipe : Option ℕ
+  pub counts : Option ℕ
+
+abbrev pub kind_of_body : Body → Kind
+kind_of_body b = record {
+  file = option_map (λ (f : FileState). length f.bytes) (file_in b);
+  device = option_map (λ (f : FileState). length f.durable) (file_in b);
+  pipe = option_map (λ (p : PipeState). length p.slots) (pipe_in b);
+  counts = option_map (λ (n : ℕ). 0) (counter_in b);
+}
+
+-- what the setup fixes of a descriptor: its object, its end, and whether it has a position
+pub record Fixed : Type 0 where
+  pub object : ℕ
+  pub end : End
+  pub positioned : Option ℕ
+
+abbrev pub fixed_of : DescriptorState → Fixed
+fixed_of d = record { object = d.object; end = d.end; positioned = option_map (λ (n : ℕ). 0) d.position }
+
+-- Two worlds have the same kinds, sizes and numbers of objects and descriptors.
+pub record OneSetup (s m : WorldState) : Type 0 where
+  pub memory : length s.memory ≡ length m.memory
+  pub objects : map kind_of_body s.objects ≡ map kind_of_body m.objects
+  pub descriptors : map fixed_of s.descriptors ≡ map fixed_of m.descriptors

@@ -1,0 +1,114 @@
+//! What objects hold.
+ghost use Rattle.std.specs.Prelude.{◌≡◌, ◌≤◌, ◌+◌, ◌<◌, ℕ, IfOk, OnOk, OnErr, IsSome, IsSomeAnd, None, length};
+ghost use Rattle.places.specs.View.{Keeps, named};
+ghost use Rattle.places.specs.declared.place.Place.{Place};
+ghost use Rattle.places.specs.declared.place.Place.TheVariants.{FileByte, DurableByte};
+ghost use Rattle.model_files.specs.Objects.{CanPut, PutsIn, object_owns};
+ghost use Rattle.model_files.specs.Files.{synced, written, FileFormed};
+
+use crate::file::RegularFile;
+use crate::pipe::PipeBuffer;
+use places::{At, Place, Recorder, Value};
+use std::alloc::{AllocError, Global};
+
+/// What an object holds.
+#[derive(Drop)]
+pub enum Body {
+    /// A regular file.
+    File(RegularFile),
+    Pipe(PipeBuffer),
+    /// The counter of an eventfd (eventfd(2)).
+    EventFd(u64),
+}
+
+impl At for Body {
+    ghost use Rattle.model_files.specs.Worlds.{body_seen};
+
+    ghost seen = { body_seen };
+
+    fn at(&self, place: Place) -> Option<Value> {
+        match self {
+            Body::File(file) => file.at(place),
+            Body::Pipe(pipe) => pipe.at(place),
+            Body::EventFd(counter) => match place {
+                Place::EventCount(_) => Some(Value::Number(*counter)),
+                _ => None,
+            },
+        }
+    }
+}
+
+impl Body {
+    ghost use Rattle.model_files.specs.Worlds.{body_seen, file_in, kind_of_body, on_file};
+
+    /// The same again.
+    pub fn copy(&self, alloc: Global) -> Result<Body, AllocError>
+        ensures { IfOk result (λ body. body ≡ self.now) }
+    {
+        Ok(match self {
+            Body::File(file) => Body::File(file.copy(alloc)?),
+            Body::Pipe(pipe) => Body::Pipe(pipe.copy(alloc)?),
+            Body::EventFd(counter) => Body::EventFd(*counter),
+        })
+    }
+
+    /// Sets what stands in one of its places.
+    pub(crate) fn set(&mut self, place: Place, value: Value)
+        requires { CanPut (body_seen self.old) place value }
+        ensures put { PutsIn (body_seen self.old) (body_seen self.new) place value }
+        ensures kind { kind_of_body self.new ≡ kind_of_body self.old }
+    {
+        match self {
+            Body::File(file) => file.set(place, value),
+            Body::Pipe(pipe) => pipe.set(place, value),
+            Body::EventFd(counter) => match (place, value) {
+                (Place::EventCount(_), Value::Number(n)) => *counter = n,
+                _ => unreachable!(),
+            },
+        }
+    }
+
+    /// Writes bytes into a file, from an offset on. Want of memory leaves it as it was.
+    pub(crate) fn write_at(
+        &mut self,
+        object: u32,
+        offset: u32,
+        others: &[u8],
+        notes: &mut Recorder,
+    ) -> Result<(), AllocError>
+        requires formed { IsSomeAnd (file_in self.old) FileFormed }
+        requires some { 0 < length others.now }
+        requires within { offset + length others.now ≤ 65536 }
+        requires fresh { (i : ℕ) → i < length others.now → named notes.old.made (FileByte object (offset + i)) ≡ None }
+        ensures ok { OnOk result (self.new ≡ on_file (written others.now offset) self.old) }
+        ensures err { OnErr result (self.new ≡ self.old) }
+        ensures keeps { Keeps (object_owns object) (body_seen self.old) (body_seen self.new) notes.old.made notes.new.made }
+        ensures named { (p : Place) → named notes.new.made p ≡ None → named notes.old.made p ≡ None }
+        ensures numbers { notes.old.numbers ≤ notes.new.numbers + 1 }
+        ensures completions { notes.old.completions ≤ notes.new.completions }
+        ensures others { notes.old.others ≤ notes.new.others }
+    {
+        match self {
+            Body::File(file) => file.write_at(object, offset, others, notes),
+            _ => unreachable!(),
+        }
+    }
+
+    /// Brings all of a file to the device. Want of memory leaves it as it was.
+    pub(crate) fn sync(&mut self, object: u32, notes: &mut Recorder) -> Result<(), AllocError>
+        requires file { IsSome (file_in self.old) }
+        requires fresh { (i : ℕ) → i < 65536 → named notes.old.made (DurableByte object i) ≡ None }
+        ensures ok { OnOk result (self.new ≡ on_file synced self.old) }
+        ensures err { OnErr result (self.new ≡ self.old) }
+        ensures keeps { Keeps (object_owns object) (body_seen self.old) (body_seen self.new) notes.old.made notes.new.made }
+        ensures named { (p : Place) → named notes.new.made p ≡ None → named notes.old.made p ≡ None }
+        ensures numbers { notes.old.numbers ≤ notes.new.numbers + 1 }
+        ensures completions { notes.old.completions ≤ notes.new.completions }
+        ensures others { notes.old.others ≤ notes.new.others }
+    {
+        match self {
+            Body::File(file) => file.sync_noted(object, notes),
+            _ => unreachable!(),
+        }
+    }
+}

@@ -1,0 +1,167 @@
+//! Regular files.
+ghost use Rattle.std.specs.Prelude.{◌≡◌, ◌+◌, ◌*◌, ◌≤◌, ◌<◌, ℕ, false, slice_get, IfOk, length};
+ghost use Rattle.model_files.specs.Objects.{CanPut, PutsIn};
+ghost use Rattle.model_files.specs.Files.{file_seen, file_start, synced, written, FileFormed, FileSized};
+
+use crate::bytes::{overwrite, pad};
+use crate::pages::Pages;
+use places::{At, Place, Value};
+use std::alloc::{AllocError, Global};
+use std::marker::Model;
+
+/// A regular file: what a program reads and writes, and what of it is on the device.
+#[derive(Drop)]
+pub struct RegularFile {
+    bytes: Vec<u8>,
+    len: u32,
+    durable: Vec<u8>,
+    durable_len: u32,
+    /// Which pages may differ between the bytes and the durable ones.
+    dirty: Pages,
+}
+
+impl Model for RegularFile {
+    ghost use Rattle.model_files.specs.Files.{FileState};
+    ghost use Rattle.model_files.specs.Pages.{FileTracked};
+
+    ghost Value = { FileState };
+
+    ghost view = { λ a. record { bytes = a.bytes.items; len = a.len; durable = a.durable.items; durable_len = a.durable_len } };
+
+    ghost invariant = { λ a. FileTracked (record { bytes = a.bytes.items; len = a.len; durable = a.durable.items; durable_len = a.durable_len }) a.dirty.marks };
+}
+
+impl At for RegularFile {
+    ghost seen = { file_seen };
+
+    fn at(&self, place: Place) -> Option<Value> {
+        match place {
+            Place::FileByte(_, i) => match self.bytes.get(i as usize) {
+                Some(byte) => Some(Value::Byte(*byte)),
+                None => None,
+            },
+            Place::DurableByte(_, i) => match self.durable.get(i as usize) {
+                Some(byte) => Some(Value::Byte(*byte)),
+                None => None,
+            },
+            Place::FileLength(_) => Some(Value::Number(self.len as u64)),
+            Place::DurableLength(_) => Some(Value::Number(self.durable_len as u64)),
+            _ => None,
+        }
+    }
+}
+
+impl RegularFile {
+    /// A file with these bytes, all of which are on the device.
+    pub fn new(alloc: Global, bytes: &[u8]) -> Result<RegularFile, AllocError>
+        requires { length bytes.now ≤ 65536 }
+        ensures { IfOk result (λ f. f ≡ file_start bytes.now) }
+    {
+        let len = bytes.len() as u32;
+        Ok(RegularFile {
+            bytes: pad(alloc, bytes)?,
+            len,
+            durable: pad(alloc, bytes)?,
+            durable_len: len,
+            dirty: Pages::none(),
+        })
+    }
+
+    /// The same file again.
+    pub fn copy(&self, alloc: Global) -> Result<RegularFile, AllocError>
+        ensures { IfOk result (λ f. f ≡ self.now) }
+    {
+        Ok(RegularFile {
+            bytes: Vec::from_slice(alloc, &self.bytes)?,
+            len: self.len,
+            durable: Vec::from_slice(alloc, &self.durable)?,
+            durable_len: self.durable_len,
+            dirty: self.dirty,
+        })
+    }
+
+    /// Its bytes, and behind them zeros.
+    pub fn bytes(&self) -> &[u8]
+        ensures value { result.now ≡ self.now.bytes }
+        ensures len { length result.now ≡ 65536 }
+    {
+        &self.bytes
+    }
+
+    /// How many bytes it has.
+    pub fn len(&self) -> u32
+        ensures value { result ≡ self.now.len }
+        ensures most { result ≤ 65536 }
+    {
+        self.len
+    }
+
+    pub(crate) fn durable(&self) -> &[u8]
+        ensures value { result.now ≡ self.now.durable }
+        ensures len { length result.now ≡ 65536 }
+        ensures sized { FileSized self.now }
+    {
+        &self.durable
+    }
+
+    /// Whether the device may not have a page as it is.
+    pub(crate) fn is_dirty(&self, page: u32) -> bool
+        requires { page < 16 }
+        ensures { result ≡ false → (i : ℕ) → page * 4096 ≤ i → i < page * 4096 + 4096 → slice_get self.now.bytes i ≡ slice_get self.now.durable i }
+    {
+        self.dirty.is_marked(page as usize)
+    }
+
+    pub(crate) fn durable_len(&self) -> u32
+        ensures value { result ≡ self.now.durable_len }
+        ensures sized { FileSized self.now }
+    {
+        self.durable_len
+    }
+
+    /// Sets what stands in one of its places.
+    pub(crate) fn set(&mut self, place: Place, value: Value)
+        requires { CanPut (file_seen self.old) place value }
+        ensures put { PutsIn (file_seen self.old) (file_seen self.new) place value }
+        ensures bytes { length self.new.bytes ≡ length self.old.bytes }
+        ensures durable { length self.new.durable ≡ length self.old.durable }
+    {
+        match (place, value) {
+            (Place::FileByte(_, i), Value::Byte(byte)) => {
+                self.dirty.mark(i as usize, 1);
+                self.bytes[i as usize] = byte
+            }
+            (Place::DurableByte(_, i), Value::Byte(byte)) => {
+                self.dirty.mark(i as usize, 1);
+                self.durable[i as usize] = byte
+            }
+            (Place::FileLength(_), Value::Number(n)) => self.len = n as u32,
+            (Place::DurableLength(_), Value::Number(n)) => self.durable_len = n as u32,
+            _ => unreachable!(),
+        }
+    }
+
+    /// Writes bytes from an offset on.
+    pub(crate) fn write(&mut self, at: usize, others: &[u8])
+        requires formed { FileFormed self.old }
+        requires some { 0 < length others.now }
+        requires within { at + length others.now ≤ 65536 }
+        ensures { self.new ≡ written others.now at self.old }
+    {
+        self.dirty.mark(at, others.len());
+        overwrite(&mut self.bytes, at, others);
+        let end = (at + others.len()) as u32;
+        if end > self.len {
+            self.len = end;
+        }
+    }
+
+    /// Brings all of it to the device.
+    pub(crate) fn sync(&mut self)
+        ensures { self.new ≡ synced self.old }
+    {
+        self.dirty.bring(&self.bytes, &mut self.durable);
+        self.durable_len = self.len;
+        self.dirty = Pages::none();
+    }
+}

@@ -1,0 +1,74 @@
+//! Pages of a file.
+ghost use Rattle.std.specs.Prelude.{◌≡◌, ◌+◌, ◌*◌, ◌<◌, ◌≤◌, ◌⊎◌, ℕ, Some, false, length, replicate, slice_get};
+ghost use Rattle.model_files.specs.Pages.{Agree};
+
+use crate::bytes::overwrite;
+
+/// How many bytes a page has.
+pub(crate) const PAGE: usize = 4096;
+
+/// How many pages a file can have.
+pub(crate) const PAGES: usize = 16;
+
+/// Which pages of a file may differ between what a program reads and what is on the device.
+#[derive(Clone, Copy, Debug)]
+pub(crate) struct Pages {
+    marks: [bool; 16],
+}
+
+impl Pages {
+    /// No page is marked.
+    pub(crate) fn none() -> Pages
+        ensures { result.marks ≡ replicate 16 false }
+    {
+        Pages { marks: [false; 16] }
+    }
+
+    /// Whether a page is marked.
+    pub(crate) fn is_marked(&self, page: usize) -> bool
+        requires { page < 16 }
+        ensures { slice_get self.now.marks page ≡ Some result }
+    {
+        self.marks[page]
+    }
+
+    /// Marks the pages that some bytes are in.
+    pub(crate) fn mark(&mut self, at: usize, count: usize)
+        requires some { 0 < count }
+        requires within { at + count ≤ 65536 }
+        ensures kept { (page : ℕ) → slice_get self.new.marks page ≡ Some false → slice_get self.old.marks page ≡ Some false }
+        ensures apart { (page : ℕ) → slice_get self.new.marks page ≡ Some false → (page * 4096 + 4096 ≤ at) ⊎ (at + count ≤ page * 4096) }
+    {
+        for page in at / PAGE..(at + count - 1) / PAGE + 1 {
+            self.marks[page] = true;
+        }
+    }
+
+    /// Writes bytes over others in each page that is marked.
+    pub(crate) fn bring(&self, bytes: &[u8], durable: &mut Vec<u8>)
+        requires bytes { length bytes.now ≡ 65536 }
+        requires durable { length durable.old.items ≡ 65536 }
+        requires clean { Agree self.now.marks bytes.now durable.old.items }
+        ensures { durable.new.items ≡ bytes.now }
+    {
+        for page in 0..PAGES {
+            self.bring_page(page, bytes, durable);
+        }
+    }
+
+    fn bring_page(&self, page: usize, bytes: &[u8], durable: &mut Vec<u8>)
+        requires page { page < 16 }
+        requires bytes { length bytes.now ≡ 65536 }
+        requires durable { length durable.old.items ≡ 65536 }
+        requires clean { (i : ℕ) → slice_get self.now.marks page ≡ Some false → page * 4096 ≤ i → i < page * 4096 + 4096 → slice_get bytes.now i ≡ slice_get durable.old.items i }
+        ensures len { length durable.new.items ≡ 65536 }
+        ensures before { (i : ℕ) → i < page * 4096 → slice_get durable.new.items i ≡ slice_get durable.old.items i }
+        ensures there { (i : ℕ) → page * 4096 ≤ i → i < page * 4096 + 4096 → slice_get durable.new.items i ≡ slice_get bytes.now i }
+        ensures behind { (i : ℕ) → page * 4096 + 4096 ≤ i → slice_get durable.new.items i ≡ slice_get durable.old.items i }
+    {
+        if self.is_marked(page) {
+            let start = page * PAGE;
+            overwrite(durable, start, &bytes[start..start + PAGE]);
+        }
+    }
+}

@@ -1,0 +1,332 @@
+//! Memory, objects and descriptors together.
+ghost use Rattle.std.specs.Prelude.{◌≡◌, ◌+◌, ◌<◌, ◌≤◌, ℕ, IsSome, IfOk, IfSome, IsSomeAnd, None, OnErr, OnOk, Some, length, option_map, slice_get};
+ghost use Rattle.places.specs.View.{Keeps, named, put_at};
+ghost use Rattle.places.specs.declared.place.Place.{Place};
+ghost use Rattle.places.specs.declared.place.Place.TheVariants.{MemoryByte, FileByte, DurableByte, Position};
+ghost use Rattle.places.specs.declared.object.Object.{Object};
+ghost use Rattle.model_files.specs.Files.{FileFormed};
+ghost use Rattle.model_files.specs.Objects.{object_in};
+ghost use Rattle.model_files.specs.Worlds.{world_owns, world_seen, world_can_put, descriptor_of, descriptor_at, file_of, mark_of, world_read, world_written, world_synced, world_at, world_closed, world_stored, world_start, ContentsFit, OneSetup};
+
+use crate::body::Body;
+use crate::bytes::{overwrite, pad};
+use crate::descriptor::DescriptorState;
+use crate::start::{copy_objects, start_descriptors, start_objects};
+use places::{At, Descriptor, Object, Part, Place, Recorder, Region, Value};
+use std::alloc::{AllocError, Global};
+use std::marker::Model;
+
+/// The memory, the objects and their descriptors.
+#[derive(Drop)]
+pub struct World {
+    memory: Vec<u8>,
+    objects: Vec<Body>,
+    descriptors: Vec<DescriptorState>,
+}
+
+impl Model for World {
+    ghost use Rattle.model_files.specs.Worlds.{WorldState};
+
+    ghost Value = { WorldState };
+
+    ghost view = { λ a. record { memory = a.memory.items; objects = a.objects.items; descriptors = a.descriptors.items } };
+}
+
+impl At for World {
+    ghost seen = { world_seen };
+
+    fn at(&self, place: Place) -> Option<Value> {
+        match place {
+            Place::MemoryByte(address) => match self.memory.get(address as usize) {
+                Some(byte) => Some(Value::Byte(*byte)),
+                None => None,
+            },
+            Place::FileByte(object, _)
+            | Place::DurableByte(object, _)
+            | Place::FileLength(object)
+            | Place::DurableLength(object)
+            | Place::PipeByte(object, _)
+            | Place::PutCount(object)
+            | Place::TakenCount(object)
+            | Place::EventCount(object) => match self.objects.get(object as usize) {
+                Some(body) => body.at(place),
+                None => None,
+            },
+            Place::Position(fd) => match self.descriptor(fd) {
+                Some(descriptor) => match descriptor.position {
+                    Some(position) => Some(Value::Number(position)),
+                    None => None,
+                },
+                None => None,
+            },
+            Place::OpenMark(fd) => match self.descriptor(fd) {
+                Some(descriptor) => Some(Value::Number(descriptor.is_open as u64)),
+                None => None,
+            },
+            _ => None,
+        }
+    }
+}
+
+impl Part for World {
+    ghost owns = { world_owns };
+
+    ghost can_put = { world_can_put };
+
+    fn put(&mut self, place: Place, value: Option<Value>)
+        requires { world_can_put self.old place value }
+        ensures put { (q : Place) → world_seen self.new q ≡ put_at (world_seen self.old) place value q }
+        ensures setup { OneSetup self.old self.new }
+    {
+        let Some(value) = value else { unreachable!() };
+        if let Some(object) = object_in(place) {
+            self.objects[object as usize].set(place, value);
+            return;
+        }
+        match (place, value) {
+            (Place::MemoryByte(address), Value::Byte(byte)) => self.memory[address as usize] = byte,
+            (Place::Position(fd), Value::Number(n)) => {
+                self.descriptors[(fd - 3) as usize].position = Some(n)
+            }
+            (Place::OpenMark(fd), Value::Number(n)) => {
+                self.descriptors[(fd - 3) as usize].is_open = n == 1
+            }
+            _ => unreachable!(),
+        }
+    }
+}
+
+impl World {
+    /// What the memory, the objects and the descriptors of a setup start as.
+    pub fn new(
+        alloc: Global,
+        memory: &[u8],
+        objects: &[Object],
+        descriptors: &[Descriptor],
+    ) -> Result<World, AllocError>
+        requires memory { length memory.now ≤ 65536 }
+        requires files { (i : ℕ) (o : Object) → slice_get objects.now i ≡ Some o → ContentsFit o.contents }
+        ensures { IfOk result (λ world. world ≡ world_start memory.now objects.now descriptors.now) }
+    {
+        Ok(World {
+            memory: pad(alloc, memory)?,
+            objects: start_objects(alloc, objects)?,
+            descriptors: start_descriptors(alloc, objects, descriptors)?,
+        })
+    }
+
+    /// The same world again.
+    pub fn copy(&self, alloc: Global) -> Result<World, AllocError>
+        ensures { IfOk result (λ world. world ≡ self.now) }
+    {
+        Ok(World {
+            memory: Vec::from_slice(alloc, &self.memory)?,
+            objects: copy_objects(alloc, &self.objects)?,
+            descriptors: Vec::from_slice(alloc, &self.descriptors)?,
+        })
+    }
+
+    /// The descriptor of a number, open or closed.
+    pub fn descriptor(&self, fd: u32) -> Option<DescriptorState>
+        ensures { result ≡ descriptor_of self.now fd }
+    {
+        if fd < 3 {
+            return None;
+        }
+        self.descriptors.get((fd - 3) as usize).copied()
+    }
+
+    /// The descriptor that an entry's number names, open or closed. A negative number names none.
+    pub fn descriptor_at(&self, fd: i32) -> Option<DescriptorState>
+        ensures { result ≡ descriptor_at self.now fd }
+    {
+        if fd < 0 {
+            return None;
+        }
+        self.descriptor(fd as u32)
+    }
+
+    /// How many bytes a file has, by its object's number.
+    pub fn file_len(&self, object: u32) -> Option<u32>
+        ensures value { result ≡ option_map (λ f. f.len) (file_of self.now object) }
+        ensures most { IfSome result (λ len. len ≤ 65536) }
+    {
+        match self.objects.get(object as usize) {
+            Some(Body::File(file)) => Some(file.len()),
+            _ => None,
+        }
+    }
+
+    /// The memory.
+    pub fn memory(&self) -> &[u8]
+        ensures { result.now ≡ self.now.memory }
+    {
+        &self.memory
+    }
+
+    /// Bytes come into memory at an address. Want of memory for the notes leaves all as it was.
+    pub fn store(
+        &mut self,
+        address: u32,
+        bytes: &[u8],
+        notes: &mut Recorder,
+    ) -> Result<(), AllocError>
+        requires in_memory { address + length bytes.now ≤ length self.old.memory }
+        requires fits { address + length bytes.now ≤ 65536 }
+        requires fresh { (i : ℕ) → i < length bytes.now → named notes.old.made (MemoryByte (address + i)) ≡ None }
+        ensures ok { OnOk result (self.new ≡ world_stored address bytes.now self.old) }
+        ensures err { OnErr result (self.new ≡ self.old) }
+        ensures keeps { Keeps world_owns (world_seen self.old) (world_seen self.new) notes.old.made notes.new.made }
+        ensures named { (p : Place) → named notes.new.made p ≡ None → named notes.old.made p ≡ None }
+        ensures numbers { notes.old.numbers ≤ notes.new.numbers }
+        ensures completions { notes.old.completions ≤ notes.new.completions }
+        ensures others { notes.old.others ≤ notes.new.others }
+    {
+        let to = address as usize;
+        notes.note_bytes(Region::Memory, address, &self.memory[to..to + bytes.len()])?;
+        overwrite(&mut self.memory, to, bytes);
+        Ok(())
+    }
+
+    /// Bytes of a file, from an offset on, come into memory at an address (read(2)). Want of memory for
+    /// the notes leaves all as it was.
+    pub fn read_at(
+        &mut self,
+        object: u32,
+        offset: u32,
+        count: u32,
+        address: u32,
+        notes: &mut Recorder,
+    ) -> Result<(), AllocError>
+        requires file { IsSome (file_of self.old object) }
+        requires in_file { offset + count ≤ 65536 }
+        requires in_memory { address + count ≤ length self.old.memory }
+        requires fits { address + count ≤ 65536 }
+        requires fresh { (i : ℕ) → i < count → named notes.old.made (MemoryByte (address + i)) ≡ None }
+        ensures ok { OnOk result (self.new ≡ world_read object offset count address self.old) }
+        ensures err { OnErr result (self.new ≡ self.old) }
+        ensures keeps { Keeps world_owns (world_seen self.old) (world_seen self.new) notes.old.made notes.new.made }
+        ensures named { (p : Place) → named notes.new.made p ≡ None → named notes.old.made p ≡ None }
+        ensures numbers { notes.old.numbers ≤ notes.new.numbers }
+        ensures completions { notes.old.completions ≤ notes.new.completions }
+        ensures others { notes.old.others ≤ notes.new.others }
+    {
+        let (from, to, count) = (offset as usize, address as usize, count as usize);
+        let Body::File(file) = &self.objects[object as usize] else {
+            unreachable!()
+        };
+        notes.note_bytes(Region::Memory, address, &self.memory[to..to + count])?;
+        overwrite(&mut self.memory, to, &file.bytes()[from..from + count]);
+        Ok(())
+    }
+
+    /// Bytes of memory, from an address on, go into a file at an offset (write(2)). Want of memory for the
+    /// notes leaves all as it was.
+    pub fn write_at(
+        &mut self,
+        object: u32,
+        offset: u32,
+        count: u32,
+        address: u32,
+        notes: &mut Recorder,
+    ) -> Result<(), AllocError>
+        requires file { IsSomeAnd (file_of self.old object) FileFormed }
+        requires some { 0 < count }
+        requires in_file { offset + count ≤ 65536 }
+        requires in_memory { address + count ≤ length self.old.memory }
+        requires fresh { (i : ℕ) → i < count → named notes.old.made (FileByte object (offset + i)) ≡ None }
+        ensures ok { OnOk result (self.new ≡ world_written object offset count address self.old) }
+        ensures err { OnErr result (self.new ≡ self.old) }
+        ensures keeps { Keeps world_owns (world_seen self.old) (world_seen self.new) notes.old.made notes.new.made }
+        ensures named { (p : Place) → named notes.new.made p ≡ None → named notes.old.made p ≡ None }
+        ensures numbers { notes.old.numbers ≤ notes.new.numbers + 1 }
+        ensures completions { notes.old.completions ≤ notes.new.completions }
+        ensures others { notes.old.others ≤ notes.new.others }
+    {
+        let from = address as usize;
+        let others = &self.memory[from..from + count as usize];
+        self.objects[object as usize].write_at(object, offset, others, notes)
+    }
+
+    /// Brings all of a file to the device (fsync(2)). Want of memory for the notes leaves all as it was.
+    pub fn sync(&mut self, object: u32, notes: &mut Recorder) -> Result<(), AllocError>
+        requires file { IsSome (file_of self.old object) }
+        requires fresh { (i : ℕ) → i < 65536 → named notes.old.made (DurableByte object i) ≡ None }
+        ensures ok { OnOk result (self.new ≡ world_synced object self.old) }
+        ensures err { OnErr result (self.new ≡ self.old) }
+        ensures keeps { Keeps world_owns (world_seen self.old) (world_seen self.new) notes.old.made notes.new.made }
+        ensures named { (p : Place) → named notes.new.made p ≡ None → named notes.old.made p ≡ None }
+        ensures numbers { notes.old.numbers ≤ notes.new.numbers + 1 }
+        ensures completions { notes.old.completions ≤ notes.new.completions }
+        ensures others { notes.old.others ≤ notes.new.others }
+    {
+        self.objects[object as usize].sync(object, notes)
+    }
+
+    /// Moves a descriptor of a file to a position (lseek(2)). Want of memory leaves it where it was.
+    pub fn set_position(
+        &mut self,
+        fd: u32,
+        position: u64,
+        notes: &mut Recorder,
+    ) -> Result<(), AllocError>
+        requires { IsSome (world_seen self.old (Position fd)) }
+        ensures ok { OnOk result (self.new ≡ world_at fd position self.old) }
+        ensures err { OnErr result (self.new ≡ self.old) }
+        ensures keeps { Keeps world_owns (world_seen self.old) (world_seen self.new) notes.old.made notes.new.made }
+        ensures named { (p : Place) → named notes.new.made p ≡ None → named notes.old.made p ≡ None }
+        ensures numbers { notes.old.numbers ≤ notes.new.numbers + 1 }
+        ensures completions { notes.old.completions ≤ notes.new.completions }
+        ensures others { notes.old.others ≤ notes.new.others }
+    {
+        let index = (fd - 3) as usize;
+        let Some(old) = self.descriptors[index].position else {
+            unreachable!()
+        };
+        notes.note_number(Place::Position(fd), old)?;
+        self.descriptors[index].position = Some(position);
+        Ok(())
+    }
+
+    /// Closes a descriptor (close(2)). Want of memory leaves it open.
+    pub fn close(&mut self, fd: u32, notes: &mut Recorder) -> Result<(), AllocError>
+        requires { IsSome (descriptor_of self.old fd) }
+        ensures ok { OnOk result (self.new ≡ world_closed fd self.old) }
+        ensures err { OnErr result (self.new ≡ self.old) }
+        ensures keeps { Keeps world_owns (world_seen self.old) (world_seen self.new) notes.old.made notes.new.made }
+        ensures named { (p : Place) → named notes.new.made p ≡ None → named notes.old.made p ≡ None }
+        ensures numbers { notes.old.numbers ≤ notes.new.numbers + 1 }
+        ensures completions { notes.old.completions ≤ notes.new.completions }
+        ensures others { notes.old.others ≤ notes.new.others }
+    {
+        let index = (fd - 3) as usize;
+        let is_open = self.descriptors[index].is_open;
+        notes.note_number(Place::OpenMark(fd), mark_number(is_open))?;
+        self.descriptors[index].is_open = false;
+        Ok(())
+    }
+}
+
+/// The object whose place it is, if it is an object's.
+fn object_in(place: Place) -> Option<u32>
+    ensures { result ≡ object_in place }
+{
+    match place {
+        Place::FileByte(object, _)
+        | Place::DurableByte(object, _)
+        | Place::FileLength(object)
+        | Place::DurableLength(object)
+        | Place::PipeByte(object, _)
+        | Place::PutCount(object)
+        | Place::TakenCount(object)
+        | Place::EventCount(object) => Some(object),
+        _ => None,
+    }
+}
+
+/// The number in the place of an open mark.
+fn mark_number(is_open: bool) -> u64
+    ensures { result ≡ mark_of is_open }
+{
+    is_open as u64
+}
