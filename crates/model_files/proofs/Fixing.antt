@@ -16,9 +16,6 @@ setup_self w = record { memory = refl; objects = refl; descriptors = refl }
 pub setup_then : (a b c : WorldState) → OneSetup a b → OneSetup b c → OneSetup a c
 setup_then a b c h k = record { memory = h.memory ∙ k.memory; objects = h.objects ∙ k.objects; descriptors = h.descriptors ∙ k.descriptors }
 
-pub setup_back : (a b : WorldState) → OneSetup a b → OneSetup b a
-setup_back a b h = record { memory = sym h.memory; objects = sym h.objects; descriptors = sym h.descriptors }
-
 -- a field that a change keeps
 kept : {X V : Type 0} (f : X → V) (g : X → X) (xs : List X) (i : ℕ) → ((x : X) → slice_get xs i ≡ Some x → f (g x) ≡ f x) → map f xs ≡ map f (updated g xs i)
 kept f g [] i h = refl
