@@ -19,7 +19,7 @@ use Rattle.model_files.specs.Objects.{NamesChanges}
 use Rattle.model_files.specs.Files.{part, overwritten}
 
 -- what bytes that stand from s on say of an index
-byte_from_before : (s : ℕ) (bs : List ℕ) (i : ℕ) → i < s → byte_from s bs i ≡ None
+pub byte_from_before : (s : ℕ) (bs : List ℕ) (i : ℕ) → i < s → byte_from s bs i ≡ None
 byte_from_before s [] i h = refl
 byte_from_before s (b ∷ bs) i h = by (s == i) refl (byte_from_before (s + 1) bs i (omega arith))
   where

@@ -4,6 +4,7 @@
 pub mod body;
 pub mod bytes;
 pub mod descriptor;
+mod differing;
 pub mod file;
 pub mod laws;
 mod pages;
