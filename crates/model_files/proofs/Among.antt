@@ -15,7 +15,7 @@ use Rattle.places.specs.Runs.{place_in, is_in, offset_in, byte_from, byte_in, No
 use Rattle.places.specs.View.{View, named, undo, first_note, Keeps}
 use Rattle.model_files.specs.Differing.{Alike, IsFirst, IsSpanEnd, NotedAmong, NamesDiffering}
 use Rattle.model_files.specs.Files.{part}
-use Rattle.model_files.proofs.Noting.{below_or_not, byte_from_at, byte_from_before, bytes_elsewhere, get_part, length-part, noted_bytes_keep, unnamed_byte}
+use Rattle.model_files.proofs.Noting.{below_or_not, byte_from_at, byte_from_before, bytes_elsewhere, get_part, length-part, unnamed_byte}
 
 first_none : (m : Option (Option Value)) → first_note m None ≡ m
 first_none None = refl

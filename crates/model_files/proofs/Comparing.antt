@@ -1,16 +1,16 @@
 -- Two lists of bytes side by side.
-use Rattle.std.proofs.Common.{◌≡◌, ℕ, Bool, true, refl, sym, ◌∙◌, ap, List, length, get_or, ◌+◌, ◌-◌, ◌<◌, ◌≤◌, arith}
+use Rattle.std.proofs.Common.{◌≡◌, ℕ, Bool, sym, ◌∙◌, ap, List, length, ◌+◌, ◌-◌, ◌<◌, ◌≤◌, arith}
 use Rattle.std.specs.Prelude.{None, slice_get, nat_eq, IsTrue, ◌⊎◌, ◌↔◌}
 use Rattle.std.proofs.Common.{inl, inr}
 use Rattle.std.specs.Cmp.Lexicographic.{pointwise}
 use Rattle.std.proofs.lemmas.Bool.Decides.{Decides-eqb}
 use Rattle.std.proofs.lemmas.Grind.{common_steps}
-use Rattle.std.proofs.lemmas.Option.{gets, slice_get_past}
+use Rattle.std.proofs.lemmas.Option.{gets}
 use Rattle.std.proofs.lemmas.Slice.Eq.{slice_eq-Decides}
 use Rattle.places.proofs.ListLemmas.{same_list}
-use Rattle.model_files.specs.Differing.{Alike, DifferAt, IsFirst, IsSpanEnd}
-use Rattle.model_files.specs.Files.{part}
-use Rattle.model_files.proofs.Noting.{below_or_not}
+use Rattle.model_files.specs.Differing.{Alike}
+use Rattle.model_files.specs.Files.{part, overwritten}
+use Rattle.model_files.proofs.Noting.{below_or_not, get-overwritten_other}
 
 -- an element of a part of a list
 pub slice_get-part : (xs : List ℕ) (at k d : ℕ) → d < k → slice_get (part xs at k) d ≡ slice_get xs (at + d)
@@ -37,3 +37,19 @@ pub parts_tell : (old others : List ℕ) (from to : ℕ) (r : Bool) → r ≡ po
 parts_tell old others from to r e =
     let d = slice_eq-Decides Decides-eqb (part old from (to - from)) (part others from (to - from)) r e in
     (λ t. alike_part old others from to (d.0 t), λ a. d.1 (part_alike old others from to a))
+
+-- a byte that was written over others stands there
+get-overwritten : (xs others : List ℕ) (at d : ℕ) → at + length others ≤ length xs → d < length others → slice_get (overwritten xs at others) (at + d) ≡ slice_get others d
+get-overwritten xs others at d h l = grind (arith, common_steps, gets)
+
+-- a byte is as it was where the one that was written over it is the same, or none was
+pub same_overwritten : (xs others : List ℕ) (at k i : ℕ) → at + k ≤ length xs → length others ≡ k → ((d : ℕ) → i ≡ at + d → slice_get (part xs at k) d ≡ slice_get others d) → slice_get (overwritten xs at others) i ≡ slice_get xs i
+same_overwritten xs others at k i h l same = by (below_or_not i at) (below_or_not i (at + k))
+  where
+    by : (i < at) ⊎ (at ≤ i) → (i < at + k) ⊎ (at + k ≤ i) → slice_get (overwritten xs at others) i ≡ slice_get xs i
+    by (inl a) b = get-overwritten_other xs at others i (omega arith) (inl a)
+    by (inr a) (inr b) = get-overwritten_other xs at others i (omega arith) (inr (omega arith))
+    by (inr a) (inl b) =
+        let e : i ≡ at + (i - at) = omega arith in
+        ap (slice_get (overwritten xs at others)) e ∙ get-overwritten xs others at (i - at) (omega arith) (omega arith) ∙ sym (same (i - at) e)
+        ∙ slice_get-part xs at k (i - at) (omega arith) ∙ ap (slice_get xs) (sym e)

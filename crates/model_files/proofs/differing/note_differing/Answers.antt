@@ -1,4 +1,3 @@
-use Rattle.std.proofs.Common.{◌+◌, ◌-◌, length, arith}
 use Rattle.model_files.proofs.Among.{span_fresh, spans_on, spans_end}
 use Rattle.model_files.proofs.differing.note_differing.Goals as goal
 
