@@ -95,14 +95,6 @@ unnamed_byte cs ds g s bs n q h = by (named cs q) (byte_in g s bs q) (sym (n q) 
     by None b k = k
     by (Some x) b k = absurd cc
 
--- noting bytes un-notes no place
-pub noted_bytes_keep : (cs ds : List Change) (g : Region) (s : ℕ) (bs : List ℕ) → NotedBytes cs ds g s bs → (q : Place) → named ds q ≡ None → named cs q ≡ None
-noted_bytes_keep cs ds g s bs n q h = by (named cs q) (byte_in g s bs q) (sym (n q) ∙ h)
-  where
-    by : (m b : Option (Option Value)) → first_note m b ≡ None → m ≡ None
-    by None b k = refl
-    by (Some x) b k = absurd cc
-
 -- a noted place is named
 pub noted_named : (cs ds : List Change) (p : Place) (x : Option Value) → Noted cs ds p x → named ds p ≡ None → ⊥
 noted_named cs ds p x n h = by (named cs p) (sym (n p ∙ ap (λ b. first_note (named cs p) (cond b (Some x) None)) (same_place_self p)) ∙ h)

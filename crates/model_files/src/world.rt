@@ -217,10 +217,10 @@ impl World {
         let Body::File(file) = &self.objects[object as usize] else {
             unreachable!()
         };
-        let bytes = &file.bytes()[from..from + count];
+        let others = &file.bytes()[from..from + count];
         let old = &self.memory[to..to + count];
-        note_differing(Region::Memory, address, old, bytes, notes)?;
-        overwrite(&mut self.memory, to, bytes);
+        note_differing(Region::Memory, address, old, others, notes)?;
+        overwrite(&mut self.memory, to, others);
         Ok(())
     }
 
