@@ -13,7 +13,7 @@ use Rattle.places.specs.declared.value.Value.TheVariants.{Byte}
 use Rattle.places.specs.Notes.{Notes, HasAsMuch}
 use Rattle.places.specs.Runs.{place_in, is_in, offset_in, byte_from, byte_in, NotedBytes}
 use Rattle.places.specs.View.{View, named, undo, first_note, Keeps}
-use Rattle.model_files.specs.Differing.{Alike, IsFirst, IsSpanEnd, NotedAmong, NamesDiffering}
+use Rattle.model_files.specs.Differing.{Alike, IsFirst, IsSpanEnd, NotedAmong, NamesDiffering, Spares}
 use Rattle.model_files.specs.Files.{part}
 use Rattle.model_files.proofs.Noting.{below_or_not, byte_from_at, byte_from_before, bytes_elsewhere, get_part, length-part, unnamed_byte}
 
@@ -128,12 +128,13 @@ as_much a b c h k = record {
   others = let x = h.others in let y = k.others in omega arith;
 }
 
--- The bytes before an index are noted where they differ, and none from it on is noted.
+-- The bytes before an index are noted where they differ, without long stretches that are alike, and none from it on is noted.
 pub record NotingSpans (g : Region) (s : ℕ) (old others : List ℕ) (before notes : Notes) (done : ℕ) : Type 0 where
   pub within : done ≤ length old
   pub among : NotedAmong before.made notes.made g s old
   pub noted : (i : ℕ) → i < done → named notes.made (place_in g (s + i)) ≡ None → slice_get old i ≡ slice_get others i
   pub fresh : (i : ℕ) → done ≤ i → i < length old → named notes.made (place_in g (s + i)) ≡ None
+  pub spared : (i k : ℕ) → Alike old others i (i + 16) → i ≤ k → k < i + 16 → k < done → named notes.made (place_in g (s + k)) ≡ None
   pub room : HasAsMuch before notes
 
 -- the bytes of a span are not named yet
@@ -151,6 +152,7 @@ spans_on g s old others before notes next done from end m first last n room = re
   among = among_then before.made notes.made next.made g s old m.among among;
   noted = noted;
   fresh = fresh;
+  spared = spared;
   room = as_much before notes next m.room room;
 }
   where
@@ -167,6 +169,31 @@ spans_on g s old others before notes next done from end m first last n room = re
         ∙ says_there g (s + from) (part old from (end - from)) (s + i)
         ∙ past_says (part old from (end - from)) (s + from) (s + i) (let a = size in let b = last.some in omega arith)
 
+    -- what stands before the span is noted as it was
+    before_it : (i : ℕ) → i < from → named next.made (place_in g (s + i)) ≡ named notes.made (place_in g (s + i))
+    before_it i h =
+        n (place_in g (s + i))
+        ∙ ap (first_note (named notes.made (place_in g (s + i)))) (says_there g (s + from) (part old from (end - from)) (s + i) ∙ byte_from_before (s + from) (part old from (end - from)) (s + i) (omega arith))
+        ∙ first_none (named notes.made (place_in g (s + i)))
+
+    spared : (i k : ℕ) → Alike old others i (i + 16) → i ≤ k → k < i + 16 → k < end → named next.made (place_in g (s + k)) ≡ None
+    spared i k a lo hi h = by (below_or_not k done) (below_or_not k from)
+      where
+        -- sixteen that are alike and have one of the span go on behind its end
+        here : from ≤ k → (from < i) ⊎ (i ≤ from) → ⊥
+        here l (inr f) = first.differs (a from f (omega arith))
+        here l (inl f) = beyond (below_or_not (end - 1) (i + 16))
+          where
+            beyond : (end - 1 < i + 16) ⊎ (i + 16 ≤ end - 1) → ⊥
+            beyond (inl e) = last.last (a (end - 1) (omega arith) e)
+            beyond (inr e) = last.inner i (omega arith) (omega arith) a
+
+        by : (k < done) ⊎ (done ≤ k) → (k < from) ⊎ (from ≤ k) → named next.made (place_in g (s + k)) ≡ None
+        by (inl l) (inl f) = before_it k f ∙ m.spared i k a lo hi l
+        by (inl l) (inr f) = absurd (let b = first.from in omega arith)
+        by (inr l) (inl f) = before_it k f ∙ m.fresh k l (let b = last.within in omega arith)
+        by (inr l) (inr f) = absurd (here f (below_or_not from i))
+
     inside : (i : ℕ) → (s + i < s + from) ⊎ ((s + from) + length (part old from (end - from)) ≤ s + i) → from ≤ i → i < end → ⊥
     inside i (inl l) lo hi = omega arith
     inside i (inr l) lo hi = let a = size in omega arith
@@ -181,6 +208,14 @@ spans_on g s old others before notes next done from end m first last n room = re
         by (inl l) k = m.noted i l (among_named notes.made next.made g s old among (place_in g (s + i)) e)
         by (inr l) (inl k) = first.before i l k
         by (inr l) (inr k) = absurd (here i k h e)
+
+-- sixteen that are alike stand before the notes' end or behind it
+pub spans_spare : (g : Region) (s : ℕ) (old others : List ℕ) (before notes : Notes) (done : ℕ) → NotingSpans g s old others before notes done → Spares notes.made g s old others
+spans_spare g s old others before notes done m i k a lo hi h = by (below_or_not k done)
+  where
+    by : (k < done) ⊎ (done ≤ k) → named notes.made (place_in g (s + k)) ≡ None
+    by (inl l) = m.spared i k a lo hi l
+    by (inr l) = m.fresh k l h
 
 -- no byte from an index on differs any more
 pub spans_end : (g : Region) (s : ℕ) (old others : List ℕ) (before notes : Notes) (done : ℕ) → NotingSpans g s old others before notes done → length others ≡ length old → Alike old others done (length old) → NamesDiffering notes.made g s old others

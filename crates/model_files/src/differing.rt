@@ -3,13 +3,12 @@ ghost use Rattle.std.specs.Prelude.{◌≡◌, ◌+◌, ◌-◌, ◌<◌, ◌≤
 ghost use Rattle.places.specs.Notes.{HasAsMuch};
 ghost use Rattle.places.specs.Runs.{place_in};
 ghost use Rattle.places.specs.View.{named};
-ghost use Rattle.model_files.specs.Differing.{Alike, DifferAt, IsFirst, IsSpanEnd, NotedAmong, NamesDiffering};
+ghost use Rattle.model_files.specs.Differing.{Alike, DifferAt, IsFirst, IsSpanEnd, NotedAmong, NamesDiffering, Spares};
 
 use places::{Recorder, Region};
 use std::alloc::AllocError;
 
-/// How many bytes that are alike end a span. To keep as many old bytes takes more memory than another run
-/// does.
+/// How many bytes in a row that are alike end a span. To keep as many takes more memory than another run.
 const GAP: usize = 16;
 
 /// How many bytes are compared at once while none differs.
@@ -23,7 +22,7 @@ struct Span {
 }
 
 /// Notes the old bytes of a region from an index on that differ from what is to stand there, none of which
-/// is noted. Short stretches alike between them may be noted with them.
+/// is noted. Of those that are alike it notes fewer than sixteen in a row, between two that differ.
 pub(crate) fn note_differing(
     region: Region,
     start: u32,
@@ -35,6 +34,7 @@ pub(crate) fn note_differing(
     requires fits { start + length old.now ≤ 65536 }
     requires fresh { (i : ℕ) → i < length old.now → named notes.old.made (place_in region (start + i)) ≡ None }
     ensures noted { OnOk result (NamesDiffering notes.new.made region start old.now others.now) }
+    ensures spared { Spares notes.new.made region start old.now others.now }
     ensures among { NotedAmong notes.old.made notes.new.made region start old.now }
     ensures room { HasAsMuch notes.old notes.new }
 {
@@ -90,7 +90,7 @@ fn skip_alike(old: &[u8], others: &[u8], from: usize, step: usize) -> usize
     at
 }
 
-/// Behind the last byte that differs before sixteen that are alike, or the end.
+/// Behind the last byte that differs before sixteen in a row that are alike, or before the end.
 fn span_end(old: &[u8], others: &[u8], from: usize) -> usize
     requires len { length others.now ≡ length old.now }
     requires within { from < length old.now }
@@ -98,32 +98,30 @@ fn span_end(old: &[u8], others: &[u8], from: usize) -> usize
     ensures { IsSpanEnd old.now others.now from result }
 {
     let mut end = from + 1;
-    while end < old.len() {
-        let next = old.len().min(end + GAP);
-        if are_alike(old, others, end, next) {
-            break;
+    loop {
+        let next = last_end(old, others, end, old.len().min(end + GAP));
+        if next == end {
+            return end;
         }
         end = next;
     }
-    last_end(old, others, from, end)
 }
 
-/// Behind the last byte before an index that differs.
-fn last_end(old: &[u8], others: &[u8], from: usize, end: usize) -> usize
+/// Behind the last byte that differs between two indexes, or the first of these.
+fn last_end(old: &[u8], others: &[u8], from: usize, to: usize) -> usize
     requires len { length others.now ≡ length old.now }
-    requires some { from < end }
-    requires within { end ≤ length old.now }
-    requires differs { DifferAt old.now others.now from }
-    ensures some { from < result }
-    ensures within { result ≤ end }
-    ensures last { DifferAt old.now others.now (result - 1) }
-    ensures behind { Alike old.now others.now result end }
+    requires order { from ≤ to }
+    requires within { to ≤ length old.now }
+    ensures from { from ≤ result }
+    ensures within { result ≤ to }
+    ensures last { from < result → DifferAt old.now others.now (result - 1) }
+    ensures behind { Alike old.now others.now result to }
 {
-    let mut last = end;
-    while old[last - 1] == others[last - 1] {
-        last -= 1;
+    let mut end = to;
+    while from < end && old[end - 1] == others[end - 1] {
+        end -= 1;
     }
-    last
+    end
 }
 
 /// Whether two lists of bytes have the same from an index up to another.

@@ -10,6 +10,8 @@ pub mod laws;
 mod pages;
 pub mod pipe;
 mod start;
+#[cfg(test)]
+mod tests;
 mod transfer;
 pub mod world;
 
