@@ -4,11 +4,14 @@
 pub mod body;
 pub mod bytes;
 pub mod descriptor;
+mod differing;
 pub mod file;
 pub mod laws;
 mod pages;
 pub mod pipe;
 mod start;
+#[cfg(test)]
+mod tests;
 mod transfer;
 pub mod world;
 
