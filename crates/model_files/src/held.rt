@@ -20,8 +20,8 @@ impl Held {
     pub fn holds(&self, fd: u32) -> bool
         ensures { result ≡ is_held self.now fd }
     {
-        match place_of(fd) {
-            Some(place) => self.counts[place] > 0,
+        match index_of(fd) {
+            Some(index) => self.counts[index] > 0,
             None => false,
         }
     }
@@ -31,8 +31,8 @@ impl Held {
         requires { holders self.old fd < 2 ^ 32 - 1 }
         ensures { (other : ℕ) → holders self.new other ≡ holders self.old other + counted fd other }
     {
-        if let Some(place) = place_of(fd) {
-            self.counts[place] += 1;
+        if let Some(index) = index_of(fd) {
+            self.counts[index] += 1;
         }
     }
 
@@ -41,14 +41,14 @@ impl Held {
         requires { is_descriptor_number fd ≡ true → 0 < holders self.old fd }
         ensures { (other : ℕ) → holders self.old other ≡ holders self.new other + counted fd other }
     {
-        if let Some(place) = place_of(fd) {
-            self.counts[place] -= 1;
+        if let Some(index) = index_of(fd) {
+            self.counts[index] -= 1;
         }
     }
 }
 
 // Where the count of a descriptor stands.
-fn place_of(fd: u32) -> Option<usize>
+fn index_of(fd: u32) -> Option<usize>
     ensures { result ≡ (if is_descriptor_number fd then Some (fd - 3) else None) }
 {
     if 3 <= fd && fd < 67 {
