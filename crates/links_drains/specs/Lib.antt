@@ -1,3 +1,4 @@
 pub mod Batches
+pub mod Holding
 pub mod Phases
 pub mod Rows

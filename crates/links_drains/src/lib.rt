@@ -1,6 +1,7 @@
 //! The table of all requests, and how entries come into it.
 #![tactic(auto)]
 
+mod holding;
 pub mod submission;
 pub mod table;
 

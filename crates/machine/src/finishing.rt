@@ -48,7 +48,7 @@ impl Machine {
         let Some(row) = self.table.get(r) else {
             unreachable!()
         };
-        let Outcome::Res(res) = outcome(&self.world, &row, choice) else {
+        let Outcome::Res(res) = outcome(&self.world, self.table.held(), &row, choice) else {
             unreachable!()
         };
         carry_out(&mut self.world, &row, res, notes)?;
