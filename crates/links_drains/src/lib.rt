@@ -2,8 +2,10 @@
 #![tactic(auto)]
 
 mod holding;
+pub mod links;
 pub mod submission;
 pub mod table;
 
+pub use links::is_soft_linked;
 pub use submission::{Batch, Failure};
 pub use table::{Table, new_row};
