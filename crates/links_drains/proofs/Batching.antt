@@ -12,37 +12,37 @@ use Rattle.places.specs.declared.place.Place.{Place}
 use Rattle.places.specs.Notes.{Notes}
 use Rattle.places.specs.View.{Keeps, named}
 use Rattle.places.proofs.Keeping.{keeps_then}
-use Rattle.links_drains.specs.Batches.{error_of, passes, taken_of, rows_of, failed_of}
+use Rattle.links_drains.specs.Batches.{error_of, passes, up_to_failure, single_rows, failed_of}
 use Rattle.links_drains.specs.declared.submission.Failure.{Failure}
 use Rattle.links_drains.specs.Rows.{table_owns, table_seen, new_row}
 
 -- rows of entries
 
-pub length-rows_of : (first : ℕ) (entries : List Sqe) → length (rows_of first entries) ≡ length entries
-length-rows_of first [] = refl
-length-rows_of first (e ∷ es) = ap suc (length-rows_of (first + 1) es)
+pub length-single_rows : (first : ℕ) (entries : List Sqe) → length (single_rows first entries) ≡ length entries
+length-single_rows first [] = refl
+length-single_rows first (e ∷ es) = ap suc (length-single_rows (first + 1) es)
 
-pub rows_of-append : (first : ℕ) (es fs : List Sqe) → rows_of first (es ++ fs) ≡ rows_of first es ++ rows_of (first + length es) fs
-rows_of-append first [] fs = let e : first ≡ first + 0 = omega arith in ap (λ n. rows_of n fs) e
-rows_of-append first (e ∷ es) fs =
+pub single_rows-append : (first : ℕ) (es fs : List Sqe) → single_rows first (es ++ fs) ≡ single_rows first es ++ single_rows (first + length es) fs
+single_rows-append first [] fs = let e : first ≡ first + 0 = omega arith in ap (λ n. single_rows n fs) e
+single_rows-append first (e ∷ es) fs =
     let n : (first + 1) + length es ≡ first + suc (length es) = omega arith in
-    ap (λ rs. new_row e first ∷ rs) (rows_of-append (first + 1) es fs ∙ ap (λ k. rows_of (first + 1) es ++ rows_of k fs) n)
+    ap (λ rs. new_row e first ∷ rs) (single_rows-append (first + 1) es fs ∙ ap (λ k. single_rows (first + 1) es ++ single_rows k fs) n)
 
 -- one entry more
-pub rows_of-more : (first : ℕ) (es : List Sqe) (e : Sqe) → rows_of first (es ++ e ∷ []) ≡ rows_of first es ++ new_row e (first + length es) ∷ []
-rows_of-more first es e = rows_of-append first es (e ∷ [])
+pub single_rows-more : (first : ℕ) (es : List Sqe) (e : Sqe) → single_rows first (es ++ e ∷ []) ≡ single_rows first es ++ new_row e (first + length es) ∷ []
+single_rows-more first es e = single_rows-append first es (e ∷ [])
 
 -- the entries up to the first that fails
 
 -- an entry that passes is not the last
-pub taken_of-passes : (e : Sqe) (es : List Sqe) → passes e ≡ true → taken_of (e ∷ es) ≡ e ∷ taken_of es
-taken_of-passes e es h =
+pub up_to_failure-passes : (e : Sqe) (es : List Sqe) → passes e ≡ true → up_to_failure (e ∷ es) ≡ e ∷ up_to_failure es
+up_to_failure-passes e es h =
     let n : 1 + prefix_len passes es + 1 ≡ suc (prefix_len passes es + 1) = omega arith in
     rw h (ap (λ k. take k (e ∷ es)) n)
 
 -- one that fails is
-pub taken_of-fails : (e : Sqe) (es : List Sqe) → passes e ≡ false → taken_of (e ∷ es) ≡ e ∷ []
-taken_of-fails e es h = rw h refl
+pub up_to_failure-fails : (e : Sqe) (es : List Sqe) → passes e ≡ false → up_to_failure (e ∷ es) ≡ e ∷ []
+up_to_failure-fails e es h = rw h refl
 
 prefix_on : {X : Type 0} (p : X → Bool) (xs : List X) (i : ℕ) (x : X) → i ≤ prefix_len p xs → slice_get xs i ≡ Some x → p x ≡ true → i + 1 ≤ prefix_len p xs
 prefix_on p [] i x h g t = absurd cc
@@ -69,7 +69,7 @@ take_more xs i x g = grind (arith, common_steps, gets)
 pub record Taking (before now : List Row) (old new : Notes) (entries : List Sqe) (i count : ℕ) : Type 0 where
   pub count_is : count ≡ i
   pub passed : i ≤ prefix_len passes entries
-  pub rows : now ≡ before ++ rows_of (length before) (take i entries)
+  pub rows : now ≡ before ++ single_rows (length before) (take i entries)
   pub keeps : Keeps table_owns (table_seen before) (table_seen now) old.made new.made
   pub names : (p : Place) → named new.made p ≡ None → named old.made p ≡ None
   pub numbers : old.numbers ≤ new.numbers
@@ -79,7 +79,7 @@ failing : {T E : Type 0} (r : Result T E) (x : E) → result_err r ≡ Some x �
 failing (Ok y) x h = absurd cc
 failing (Err y) x h = refl
 
-passing : {T E : Type 0} (r : Result T E) → result_err r ≡ None → is_ok r ≡ true
+pub passing : {T E : Type 0} (r : Result T E) → result_err r ≡ None → is_ok r ≡ true
 passing (Ok y) h = refl
 passing (Err y) h = absurd cc
 
@@ -88,17 +88,17 @@ length-take_within es i h = grind (arith, common_steps)
 
 pub count_taken : (before now : List Row) (old new : Notes) (es : List Sqe) (i count : ℕ) → Taking before now old new es i count → i ≤ length es → length now ≡ length before + i
 count_taken before now old new es i count t h =
-    ap length t.rows ∙ length-append before (rows_of (length before) (take i es))
-    ∙ ap (λ n. length before + n) (length-rows_of (length before) (take i es) ∙ length-take_within es i h)
+    ap length t.rows ∙ length-append before (single_rows (length before) (take i es))
+    ∙ ap (λ n. length before + n) (length-single_rows (length before) (take i es) ∙ length-take_within es i h)
 
 -- the rows with one more
 grown : (before now later : List Row) (old new : Notes) (es : List Sqe) (i count : ℕ) (e : Sqe) → Taking before now old new es i count → slice_get es i ≡ Some e → later ≡ now ++ new_row e (length now) ∷ [] →
-    later ≡ before ++ rows_of (length before) (take i es ++ e ∷ [])
+    later ≡ before ++ single_rows (length before) (take i es ++ e ∷ [])
 grown before now later old new es i count e t g h =
     h ∙ ap (λ n. now ++ new_row e n ∷ []) (count_taken before now old new es i count t within)
     ∙ ap (λ rs. rs ++ new_row e (length before + i) ∷ []) t.rows
-    ∙ append_assoc before (rows_of (length before) (take i es)) (new_row e (length before + i) ∷ [])
-    ∙ ap (λ rs. before ++ rs) (sym (rows_of-more (length before) (take i es) e ∙ ap (λ n. rows_of (length before) (take i es) ++ new_row e (length before + n) ∷ []) (length-take_within es i within)))
+    ∙ append_assoc before (single_rows (length before) (take i es)) (new_row e (length before + i) ∷ [])
+    ∙ ap (λ rs. before ++ rs) (sym (single_rows-more (length before) (take i es) e ∙ ap (λ n. single_rows (length before) (take i es) ++ new_row e (length before + n) ∷ []) (length-take_within es i within)))
   where
     within : i ≤ length es
     within = let w = slice_get_within es i e g in omega (arith, w)
@@ -110,7 +110,7 @@ pub taking_on : (before now later : List Row) (old new newer : Notes) (es : List
 taking_on before now later old new newer es i count e t g err h k names numbers completions = record {
   count_is = let c = t.count_is in omega (arith, c);
   passed = prefix_on passes es i e t.passed g (passing _ err);
-  rows = grown before now later old new es i count e t g h ∙ ap (λ xs. before ++ rows_of (length before) xs) (sym (take_more es i e g));
+  rows = grown before now later old new es i count e t g h ∙ ap (λ xs. before ++ single_rows (length before) xs) (sym (take_more es i e g));
   keeps = keeps_then table_owns (table_seen before) (table_seen now) (table_seen later) old.made new.made newer.made t.keeps k;
   names = λ p n. t.names p (names p n);
   numbers = let n = t.numbers in omega (arith, n, numbers);
@@ -118,16 +118,16 @@ taking_on before now later old new newer es i count e t g err h k names numbers 
 }
 
 -- the first entry that fails
-pub taken_to : (before now : List Row) (old new : Notes) (es : List Sqe) (i count : ℕ) (e : Sqe) (res : ℤ) → Taking before now old new es i count → slice_get es i ≡ Some e → error_of e ≡ Some res → taken_of es ≡ take i es ++ e ∷ []
+pub taken_to : (before now : List Row) (old new : Notes) (es : List Sqe) (i count : ℕ) (e : Sqe) (res : ℤ) → Taking before now old new es i count → slice_get es i ≡ Some e → error_of e ≡ Some res → up_to_failure es ≡ take i es ++ e ∷ []
 taken_to before now old new es i count e res t g err = ap (λ n. take (n + 1) es) (prefix_end passes es i e t.passed g (failing _ res err)) ∙ take_more es i e g
 
 pub taking_ends : (before now later : List Row) (old new : Notes) (es : List Sqe) (i count : ℕ) (e : Sqe) (res : ℤ) → Taking before now old new es i count → slice_get es i ≡ Some e → error_of e ≡ Some res →
-    later ≡ now ++ new_row e (length now) ∷ [] → later ≡ before ++ rows_of (length before) (taken_of es)
+    later ≡ now ++ new_row e (length now) ∷ [] → later ≡ before ++ single_rows (length before) (up_to_failure es)
 taking_ends before now later old new es i count e res t g err h =
-    grown before now later old new es i count e t g h ∙ ap (λ xs. before ++ rows_of (length before) xs) (sym (taken_to before now old new es i count e res t g err))
+    grown before now later old new es i count e t g h ∙ ap (λ xs. before ++ single_rows (length before) xs) (sym (taken_to before now old new es i count e res t g err))
 
 pub count_ends : (before now : List Row) (old new : Notes) (es : List Sqe) (i count : ℕ) (e : Sqe) (res : ℤ) → Taking before now old new es i count → slice_get es i ≡ Some e → error_of e ≡ Some res →
-    count + 1 ≡ length (taken_of es)
+    count + 1 ≡ length (up_to_failure es)
 count_ends before now old new es i count e res t g err =
     let w = slice_get_within es i e g in
     let n = length-append (take i es) (e ∷ []) in

@@ -1,5 +1,9 @@
 pub mod Batching
+pub mod Chains
 pub mod Counting
+pub mod DirectPairs
+pub mod Listing
+pub mod Rising
 pub mod RowsKept
 pub mod Seen
 pub mod Tallying

@@ -1,4 +1,6 @@
 pub mod Batches
+pub mod Eligible
+pub mod Endings
 pub mod Holding
 pub mod Links
 pub mod Phases

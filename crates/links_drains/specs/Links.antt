@@ -1,6 +1,7 @@
 -- Links between the requests of a chain (io_uring_enter(2), IOSQE_IO_LINK and IOSQE_IO_HARDLINK).
 use Rattle.std.specs.Prelude.{◌≡◌, ℕ, ◌≤◌, ◌==◌, Bool, not, ◌&&◌, ◌||◌, Some, List, slice_get}
 use Rattle.std.specs.Int.Bits.{bit_and}
+use Rattle.entries.specs.declared.entry.Sqe.{Sqe}
 use Rattle.entries.specs.declared.row.Row.{Row}
 
 -- whether an entry's flags have a bit of a value
@@ -12,8 +13,12 @@ abbrev pub is_soft_linked : Row → Bool
 is_soft_linked row = has_flag row.entry.flags 4 && not (has_flag row.entry.flags 8)
 
 -- either of them: the next entry is of the same chain
-abbrev pub is_linked : Row → Bool
-is_linked row = has_flag row.entry.flags 4 || has_flag row.entry.flags 8
+abbrev pub is_linked : Sqe → Bool
+is_linked entry = has_flag entry.flags 4 || has_flag entry.flags 8
+
+-- a LINK_TIMEOUT guards the row before it
+abbrev pub is_guard : Row → Bool
+is_guard row = row.entry.opcode == 15
 
 -- A unit is a run of rows, named by the number of its first.
 pub record Chained (rows : List Row) : Type 0 where

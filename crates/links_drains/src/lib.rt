@@ -2,6 +2,7 @@
 #![tactic(auto)]
 
 mod holding;
+pub mod laws;
 pub mod links;
 pub mod submission;
 pub mod table;

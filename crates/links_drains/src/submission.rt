@@ -2,7 +2,7 @@
 ghost use Rattle.std.specs.Prelude.{◌≡◌, ◌+◌, ◌<◌, ◌≤◌, ◌++◌, ◌∷◌, [], None, IfOk, OnOk, OnErr, length, take};
 ghost use Rattle.places.specs.View.{Keeps, named};
 ghost use Rattle.places.specs.declared.place.Place.{Place};
-ghost use Rattle.links_drains.specs.Batches.{error_of, taken_of, rows_of, failed_of};
+ghost use Rattle.links_drains.specs.Batches.{error_of, up_to_failure, single_rows, failed_of};
 ghost use Rattle.links_drains.specs.Rows.{table_owns, table_seen, new_row as new_row_of};
 
 use crate::table::{Table, new_row};
@@ -51,8 +51,8 @@ impl Table {
     /// Makes queued rows of entries, each a unit of its own, up to and with the first that fails.
     pub fn take_batch(&mut self, entries: &[Sqe], notes: &mut Recorder) -> Result<Batch, AllocError>
         requires { length self.old + length entries.now ≤ 65536 }
-        ensures ok { OnOk result (self.new ≡ self.old ++ rows_of (length self.old) (taken_of entries.now)) }
-        ensures taken { IfOk result (λ batch. batch.taken ≡ length (taken_of entries.now)) }
+        ensures ok { OnOk result (self.new ≡ self.old ++ single_rows (length self.old) (up_to_failure entries.now)) }
+        ensures taken { IfOk result (λ batch. batch.taken ≡ length (up_to_failure entries.now)) }
         ensures failed { IfOk result (λ batch. batch.failed ≡ failed_of (length self.old) entries.now) }
         ensures err { OnErr result (self.new ≡ self.old) }
         ensures keeps { Keeps table_owns (table_seen self.old) (table_seen self.new) notes.old.made notes.new.made }
@@ -75,8 +75,8 @@ impl Table {
         notes: &mut Recorder,
     ) -> Result<Batch, AllocError>
         requires { length self.old + length entries.now ≤ 65536 }
-        ensures ok { OnOk result (self.new ≡ self.old ++ rows_of (length self.old) (taken_of entries.now)) }
-        ensures taken { IfOk result (λ batch. batch.taken ≡ length (taken_of entries.now)) }
+        ensures ok { OnOk result (self.new ≡ self.old ++ single_rows (length self.old) (up_to_failure entries.now)) }
+        ensures taken { IfOk result (λ batch. batch.taken ≡ length (up_to_failure entries.now)) }
         ensures failed { IfOk result (λ batch. batch.failed ≡ failed_of (length self.old) entries.now) }
         ensures before { take (length self.old) self.new ≡ self.old }
         ensures keeps { Keeps table_owns (table_seen self.old) (table_seen self.new) notes.old.made notes.new.made }

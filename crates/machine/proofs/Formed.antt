@@ -30,7 +30,7 @@ use Rattle.overflow.specs.Backlogs.{is_clear}
 use Rattle.sqpoll.specs.declared.poller.Poller.{Poller}
 use Rattle.sqpoll.specs.declared.poller.Poller.TheVariants.{Awake, Asleep}
 use Rattle.sqpoll.specs.Pollers.{is_awake}
-use Rattle.links_drains.specs.Batches.{rows_of}
+use Rattle.links_drains.specs.Batches.{single_rows}
 use Rattle.links_drains.specs.Phases.{is_ended, counts}
 use Rattle.machine.specs.Submission.{offered, some_fails, taken_entries, einval, ebusy, ebadf}
 use Rattle.machine.specs.Steps.{refusal, after, stepped, executed, entered, entered_alone, entered_beside, submitting, before_submission, is_busy, is_unknown, gets_events, wakes, woken, shown, awaited, ready_count, held_back, with_poller, flushed, submission_refusal, alone_refusal, enter_refusal, instruction_refusal, next_refusal, thread_refusal, take_refusal, issue_refusal, phase_refusal, finish_refusal, ended, taken, submitted, answered, gone_on, issued, finished, finished_as, lacks_descriptor, held_by}

@@ -18,10 +18,10 @@ use Rattle.ring_words.specs.declared.flag.RingFlag.TheVariants.{NeedWakeup, CqOv
 use Rattle.ring_words.proofs.Laws.{formed_pushed, formed_taken, formed_entry, formed_flag, formed_reaped, sub_length}
 use Rattle.ring_words.proofs.Order.{waiting_less, waiting_more, waiting_behind}
 use Rattle.ring_words.proofs.Sizes.{size_most}
-use Rattle.links_drains.specs.Batches.{rows_of}
+use Rattle.links_drains.specs.Batches.{single_rows}
 use Rattle.links_drains.specs.Rows.{new_row}
 use Rattle.links_drains.specs.Phases.{is_ended, is_unfinished, counts, counted_of, ended_of}
-use Rattle.links_drains.proofs.Batching.{length-rows_of, rows_of-more}
+use Rattle.links_drains.proofs.Batching.{length-single_rows, single_rows-more}
 use Rattle.links_drains.proofs.Counting.{counted-append, counted-ended, counted-unfinished, ended-ended, ended-unfinished, ended-append}
 use Rattle.overflow.specs.Backlogs.{BacklogState, is_clear, fits, Delivery, DeliveryFormed, all_posted, flushed as flushed_delivery}
 use Rattle.overflow.proofs.KeptInOrder.{posted_formed, flushed_formed}
@@ -31,7 +31,7 @@ use Rattle.machine.specs.Steps.{delivery, flushed, ended, posted, count_of, take
 use Rattle.machine.specs.Threads.{ThreadState}
 use Rattle.machine.specs.Whole.{is_asleep, flag_word, HoldsDescriptor, RowFormed, WellFormed, Stands}
 use Rattle.machine.specs.declared.whole.Machine.{Machine}
-use Rattle.machine.proofs.FormedRows.{LastFails, FormedRows, all_pass, one_fails, length-batch_of, length-entries_at, counted-rows_of, formed_rows_of, formed_rows-append, formed_rows-updated, formed_rows-moved, ended_row, updated-last}
+use Rattle.machine.proofs.FormedRows.{LastFails, FormedRows, all_pass, one_fails, length-batch_of, length-entries_at, counted-single_rows, formed_single_rows, formed_rows-append, formed_rows-updated, formed_rows-moved, ended_row, updated-last}
 
 -- What holds of a well formed machine, but for what holds of its rows.
 pub record Mostly (m : Machine) : Type 0 where
@@ -246,10 +246,10 @@ mostly_taken m k h l = record {
   completions_wait = h.completions_wait;
   flags = h.flags;
   front = h.front;
-  overflowed = let a = ended-append m.table (rows_of (length m.table) (taken_entries m.submissions k)) in let b = h.overflowed in omega (arith, a, b);
-  rows = count (length-append m.table (rows_of (length m.table) (taken_entries m.submissions k))) (length-rows_of (length m.table) (taken_entries m.submissions k)) (length-taken_entries m.submissions k);
+  overflowed = let a = ended-append m.table (single_rows (length m.table) (taken_entries m.submissions k)) in let b = h.overflowed in omega (arith, a, b);
+  rows = count (length-append m.table (single_rows (length m.table) (taken_entries m.submissions k))) (length-single_rows (length m.table) (taken_entries m.submissions k)) (length-taken_entries m.submissions k);
   world = h.world;
-  counted = h.counted ∙ more (counted-append m.table (rows_of (length m.table) (taken_entries m.submissions k))) (counted-rows_of (length m.table) (taken_entries m.submissions k));
+  counted = h.counted ∙ more (counted-append m.table (single_rows (length m.table) (taken_entries m.submissions k))) (counted-single_rows (length m.table) (taken_entries m.submissions k));
   clock = h.clock;
   threads = h.threads;
 }
@@ -267,14 +267,14 @@ mostly_taken m k h l = record {
 pub formed_taken_all : (m : Machine) (k : ℕ) → WellFormed m → length m.table + length (offered m.submissions k) ≤ 65536 → some_fails m.submissions k ≡ false → WellFormed (taken m k)
 formed_taken_all m k h l e =
     formed_of (taken m k) (mostly_taken m k (mostly m h) l)
-    (formed_rows-append m.world m.table (rows_of (length m.table) (taken_entries m.submissions k)) (record { each = h.requests }) (formed_rows_of m.world (length m.table) (taken_entries m.submissions k) (all_pass m.submissions.slots (offered m.submissions k) e)))
+    (formed_rows-append m.world m.table (single_rows (length m.table) (taken_entries m.submissions k)) (record { each = h.requests }) (formed_single_rows m.world (length m.table) (taken_entries m.submissions k) (all_pass m.submissions.slots (offered m.submissions k) e)))
 
 -- where one does, it is the last row
-pub table_last : (m : Machine) (k : ℕ) (f : LastFails (taken_entries m.submissions k)) → (taken m k).table ≡ (m.table ++ rows_of (length m.table) f.before) ++ new_row f.last (length m.table + length f.before) ∷ []
+pub table_last : (m : Machine) (k : ℕ) (f : LastFails (taken_entries m.submissions k)) → (taken m k).table ≡ (m.table ++ single_rows (length m.table) f.before) ++ new_row f.last (length m.table + length f.before) ∷ []
 table_last m k f =
-    ap (λ es. m.table ++ rows_of (length m.table) es) f.is
-    ∙ ap (λ rs. m.table ++ rs) (rows_of-more (length m.table) f.before f.last)
-    ∙ sym (append_assoc m.table (rows_of (length m.table) f.before) (new_row f.last (length m.table + length f.before) ∷ []))
+    ap (λ es. m.table ++ single_rows (length m.table) es) f.is
+    ∙ ap (λ rs. m.table ++ rs) (single_rows-more (length m.table) f.before f.last)
+    ∙ sym (append_assoc m.table (single_rows (length m.table) f.before) (new_row f.last (length m.table + length f.before) ∷ []))
 
 last_row : (rows : List Row) (others : List Row) (x : Row) → rows ≡ others ++ x ∷ [] → slice_get rows (length rows - 1) ≡ Some x
 last_row rows others x e =
@@ -296,12 +296,12 @@ pub formed_taken_last : (m : Machine) (k : ℕ) → WellFormed m → length m.ta
     → WellFormed (ended (taken m k) (length (taken m k).table - 1) einval)
 formed_taken_last m k h l e =
     let f : LastFails (taken_entries m.submissions k) = one_fails m.submissions.slots (offered m.submissions k) e in
-    let others : List Row = m.table ++ rows_of (length m.table) f.before in
+    let others : List Row = m.table ++ single_rows (length m.table) f.before in
     let x : Row = new_row f.last (length m.table + length f.before) in
     let t = table_last m k f in
     formed_of (ended (taken m k) (length (taken m k).table - 1) einval)
     (mostly_ended (taken m k) (length (taken m k).table - 1) x einval (mostly_taken m k (mostly m h) l) (last_row (taken m k).table others x t) refl)
-    (last_ended m.world (taken m k).table others x einval t (formed_rows-append m.world m.table (rows_of (length m.table) f.before) (record { each = h.requests }) (formed_rows_of m.world (length m.table) f.before f.supported)))
+    (last_ended m.world (taken m k).table others x einval t (formed_rows-append m.world m.table (single_rows (length m.table) f.before) (record { each = h.requests }) (formed_single_rows m.world (length m.table) f.before f.supported)))
 
 -- ---- words of the rings
 

@@ -15,7 +15,7 @@ use Rattle.opcodes.specs.Opcodes.{fits_end}
 use Rattle.places.specs.Lists.{updated}
 use Rattle.links_drains.specs.Phases.{is_ended, is_issued, is_unfinished, counted_of}
 use Rattle.links_drains.specs.Rows.{new_row}
-use Rattle.links_drains.specs.Batches.{passes, rows_of}
+use Rattle.links_drains.specs.Batches.{passes, single_rows}
 use Rattle.links_drains.proofs.Counting.{counted-more}
 use Rattle.machine.specs.Submission.{passes_at, batch_of, entries_at}
 use Rattle.machine.specs.Whole.{HoldsDescriptor, RowFormed}
@@ -117,11 +117,11 @@ length-entries_at slots (w ∷ ws) = by (slice_get slots w) refl (length-entries
     by None e k = rw e (omega (arith, k))
     by (Some x) e k = rw e (omega (arith, k))
 
-pub counted-rows_of : (first : ℕ) (es : List Sqe) → counted_of (rows_of first es) ≡ 0
-counted-rows_of first [] = refl
-counted-rows_of first (e ∷ es) =
-    let a = counted-more (new_row e first) (rows_of (first + 1) es) in
-    let b = counted-rows_of (first + 1) es in
+pub counted-single_rows : (first : ℕ) (es : List Sqe) → counted_of (single_rows first es) ≡ 0
+counted-single_rows first [] = refl
+counted-single_rows first (e ∷ es) =
+    let a = counted-more (new_row e first) (single_rows (first + 1) es) in
+    let b = counted-single_rows (first + 1) es in
     omega (arith, a, b)
 
 -- ---- what holds of each row
@@ -142,10 +142,10 @@ ended_row w x h = by x.phase refl h
 queued_row : (w : WorldState) (e : Sqe) (n : ℕ) → IsSome (op_of e.opcode) → RowFormed w (new_row e n)
 queued_row w e n h = record { opcode = λ u. h; holds = λ i. absurd cc }
 
-pub formed_rows_of : (w : WorldState) (first : ℕ) (es : List Sqe) → AllSupported es → FormedRows w (rows_of first es)
-formed_rows_of w first es h = record { each = at first es h.each }
+pub formed_single_rows : (w : WorldState) (first : ℕ) (es : List Sqe) → AllSupported es → FormedRows w (single_rows first es)
+formed_single_rows w first es h = record { each = at first es h.each }
   where
-    at : (n : ℕ) (fs : List Sqe) → ((i : ℕ) (e : Sqe) → slice_get fs i ≡ Some e → IsSome (op_of e.opcode)) → (r : ℕ) (x : Row) → slice_get (rows_of n fs) r ≡ Some x → RowFormed w x
+    at : (n : ℕ) (fs : List Sqe) → ((i : ℕ) (e : Sqe) → slice_get fs i ≡ Some e → IsSome (op_of e.opcode)) → (r : ℕ) (x : Row) → slice_get (single_rows n fs) r ≡ Some x → RowFormed w x
     at n [] k r x e = absurd cc
     at n (f ∷ fs) k zero x e = let same : new_row f n ≡ x = cc in subst (RowFormed w) same (queued_row w f n (k 0 f refl))
     at n (f ∷ fs) k (suc r) x e = at (n + 1) fs (λ j z o. k (suc j) z o) r x e

@@ -15,7 +15,7 @@ use Rattle.opcodes.specs.declared.ending.Outcome.TheVariants.{Res, Waits, BadCho
 use Rattle.opcodes.specs.Outcomes.{outcome_of}
 use Rattle.opcodes.specs.Effects.{world_after}
 use Rattle.opcodes.proofs.Staying.{stays_after}
-use Rattle.links_drains.specs.Batches.{rows_of}
+use Rattle.links_drains.specs.Batches.{single_rows}
 use Rattle.overflow.specs.Backlogs.{fits, kept, free_slots}
 use Rattle.overflow.proofs.Posting.{posted_slots}
 use Rattle.sqpoll.specs.declared.poller.Poller.{Poller}
@@ -75,7 +75,7 @@ grows_ended m r res =
 grows_taken : (m : Machine) (k : ℕ) → Grows m (taken m k)
 grows_taken m k = record {
   setup = record { array = refl; slots = refl; completions = refl; world = worlds.setup_self _; programs = refl; poller = refl };
-  rows = let a = length-append m.table (rows_of (length m.table) (taken_entries m.submissions k)) in omega (arith, a);
+  rows = let a = length-append m.table (single_rows (length m.table) (taken_entries m.submissions k)) in omega (arith, a);
   backlog = le_refl _;
 }
 

@@ -10,8 +10,8 @@ use Rattle.std.proofs.lemmas.List.{length-take, take_all}
 use Rattle.entries.specs.declared.entry.Sqe.{Sqe}
 use Rattle.places.proofs.ListLemmas.{slice_get-take_below}
 use Rattle.ring_words.specs.Rings.{SubWords, sub_list}
-use Rattle.links_drains.specs.Batches.{passes, rows_of}
-use Rattle.links_drains.proofs.Batching.{length-rows_of}
+use Rattle.links_drains.specs.Batches.{passes, single_rows}
+use Rattle.links_drains.proofs.Batching.{length-single_rows}
 use Rattle.links_drains.specs.Phases.{counted_of}
 use Rattle.links_drains.proofs.Counting.{counted-le-length}
 use Rattle.machine.specs.Submission.{offered, passes_at, some_fails, taken_words, entries_at, batch_of, einval}
@@ -111,4 +111,4 @@ entries_most slots (x ∷ xs) = by (slice_get slots x) refl (entries_most slots 
     by (Some s) e k = rw e (omega (arith, k))
 
 pub length-taken : (m n : Machine) (words : List ℕ) → n ≡ taken_by m words → length n.table ≡ length m.table + length (entries_at m.submissions.slots words)
-length-taken m n words h = ap (λ (x : Machine). length x.table) h ∙ length-append m.table (rows_of (length m.table) (entries_at m.submissions.slots words)) ∙ ap (λ k. length m.table + k) (length-rows_of (length m.table) (entries_at m.submissions.slots words))
+length-taken m n words h = ap (λ (x : Machine). length x.table) h ∙ length-append m.table (single_rows (length m.table) (entries_at m.submissions.slots words)) ∙ ap (λ k. length m.table + k) (length-single_rows (length m.table) (entries_at m.submissions.slots words))

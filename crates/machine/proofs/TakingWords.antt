@@ -15,9 +15,9 @@ use Rattle.places.specs.View.{Keeps}
 use Rattle.places.proofs.Keeping.{keeps_same, keeps_then}
 use Rattle.places.proofs.ListLemmas.{slice_get-take_below}
 use Rattle.ring_words.specs.Rings.{SubWords, sub_list}
-use Rattle.links_drains.specs.Batches.{rows_of}
+use Rattle.links_drains.specs.Batches.{single_rows}
 use Rattle.links_drains.specs.Rows.{table_owns, table_seen, new_row}
-use Rattle.links_drains.proofs.Batching.{length-rows_of, rows_of-more}
+use Rattle.links_drains.proofs.Batching.{length-single_rows, single_rows-more}
 use Rattle.model_files.proofs.Fixing as worlds
 use Rattle.machine.specs.Submission.{offered, passes_at, some_fails, entries_at}
 use Rattle.machine.specs.Whole.{view, everywhere, OneSetup}
@@ -85,7 +85,7 @@ fails_told w k count passing h e =
 
 -- Of the words so far, the entries have become rows, and the others were counted.
 pub record Adding (before : Machine) (cs : List Change) (now : Machine) (ds : List Change) (words : List ℕ) (dropped : ℕ) : Type 0 where
-  pub added : now ≡ record before { table = before.table ++ rows_of (length before.table) (entries_at before.submissions.slots words) }
+  pub added : now ≡ record before { table = before.table ++ single_rows (length before.table) (entries_at before.submissions.slots words) }
   pub skipped : dropped + length (entries_at before.submissions.slots words) ≡ length words
   pub keeps : Keeps everywhere (view before) (view now) cs ds
 
@@ -108,7 +108,7 @@ entries-skipped slots words x h = filter_map-append (slice_get slots) words (x �
 pub count_added : (before now : Machine) (cs ds : List Change) (words : List ℕ) (dropped : ℕ) → Adding before cs now ds words dropped → length now.table + dropped ≡ length before.table + length words
 count_added before now cs ds words dropped a =
     let l : length now.table ≡ length before.table + length (entries_at before.submissions.slots words) =
-    ap (λ (m : Machine). length m.table) a.added ∙ length-append before.table (rows_of (length before.table) (entries_at before.submissions.slots words)) ∙ ap (λ k. length before.table + k) (length-rows_of (length before.table) (entries_at before.submissions.slots words)) in
+    ap (λ (m : Machine). length m.table) a.added ∙ length-append before.table (single_rows (length before.table) (entries_at before.submissions.slots words)) ∙ ap (λ k. length before.table + k) (length-single_rows (length before.table) (entries_at before.submissions.slots words)) in
     let s = a.skipped in
     omega (arith, l, s)
 
@@ -137,21 +137,21 @@ adding_on before now rows cs ds es i x dropped e a h g r k = subst (λ (ws : Lis
     entries = entries_at before.submissions.slots words
 
     count : length now.table ≡ first + length entries
-    count = ap (λ (m : Machine). length m.table) a.added ∙ length-append before.table (rows_of first entries) ∙ ap (λ n. first + n) (length-rows_of first entries)
+    count = ap (λ (m : Machine). length m.table) a.added ∙ length-append before.table (single_rows first entries) ∙ ap (λ n. first + n) (length-single_rows first entries)
 
-    more : now.table ++ new_row e (length now.table) ∷ [] ≡ before.table ++ rows_of first (entries_at before.submissions.slots (words ++ x ∷ []))
+    more : now.table ++ new_row e (length now.table) ∷ [] ≡ before.table ++ single_rows first (entries_at before.submissions.slots (words ++ x ∷ []))
     more =
         ap (λ n. now.table ++ new_row e n ∷ []) count
         ∙ ap (λ (m : Machine). m.table ++ new_row e (first + length entries) ∷ []) a.added
-        ∙ append_assoc before.table (rows_of first entries) (new_row e (first + length entries) ∷ [])
-        ∙ ap (λ rs. before.table ++ rs) (sym (rows_of-more first entries e))
-        ∙ ap (λ xs. before.table ++ rows_of first xs) (sym (entries-named before.submissions.slots words x e g))
+        ∙ append_assoc before.table (single_rows first entries) (new_row e (first + length entries) ∷ [])
+        ∙ ap (λ rs. before.table ++ rs) (sym (single_rows-more first entries e))
+        ∙ ap (λ xs. before.table ++ single_rows first xs) (sym (entries-named before.submissions.slots words x e g))
 
 -- a word that names none
 pub adding_skip : (before now : Machine) (cs ds : List Change) (i x dropped : ℕ) → Adding before cs now ds (take i (sub_list before.submissions)) dropped → slice_get (sub_list before.submissions) i ≡ Some x → slice_get before.submissions.slots x ≡ None
     → Adding before cs now ds (take (i + 1) (sub_list before.submissions)) (dropped + 1)
 adding_skip before now cs ds i x dropped a h g = subst (λ (ws : List ℕ). Adding before cs now ds ws (dropped + 1)) (sym (one_more (sub_list before.submissions) i x h)) (record {
-  added = a.added ∙ ap (λ xs. record before { table = before.table ++ rows_of (length before.table) xs }) (sym (entries-skipped before.submissions.slots words x g));
+  added = a.added ∙ ap (λ xs. record before { table = before.table ++ single_rows (length before.table) xs }) (sym (entries-skipped before.submissions.slots words x g));
   skipped = let s = a.skipped in let n = ap length (entries-skipped before.submissions.slots words x g) in let l = length-append words (x ∷ []) in omega (arith, s, n, l);
   keeps = a.keeps;
 })

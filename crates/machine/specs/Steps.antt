@@ -22,7 +22,7 @@ use Rattle.overflow.specs.Backlogs.{Delivery, delivery_of, is_clear, all_posted,
 use Rattle.sqpoll.specs.declared.poller.Poller.{Poller}
 use Rattle.sqpoll.specs.declared.poller.Poller.TheVariants.{Awake, Asleep}
 use Rattle.sqpoll.specs.Pollers.{is_awake}
-use Rattle.links_drains.specs.Batches.{rows_of}
+use Rattle.links_drains.specs.Batches.{single_rows}
 use Rattle.links_drains.specs.Phases.{counts}
 use Rattle.machine.specs.Submission.{offered, some_fails, entries_at, taken_words, taken_entries, einval, ebusy, ebadf}
 use Rattle.machine.specs.Threads.{ThreadState}
@@ -181,7 +181,7 @@ taken_by m words = record m {
     head = (m.submissions.head + length words) % 2 ^ 32;
     dropped = (m.submissions.dropped + (length words - length (entries_at m.submissions.slots words))) % 2 ^ 32;
   };
-  table = m.table ++ rows_of (length m.table) (entries_at m.submissions.slots words);
+  table = m.table ++ single_rows (length m.table) (entries_at m.submissions.slots words);
 }
 
 -- the machine once the entries of a submission have become rows

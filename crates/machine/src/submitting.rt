@@ -3,7 +3,7 @@ ghost use Rattle.std.specs.Prelude.{◌≡◌, ◌+◌, ◌-◌, ◌<◌, ◌≤
 ghost use Rattle.std.specs.List.{prefix_len};
 ghost use Rattle.places.specs.View.{Keeps};
 ghost use Rattle.ring_words.specs.Rings.{sub_list};
-ghost use Rattle.links_drains.specs.Batches.{rows_of};
+ghost use Rattle.links_drains.specs.Batches.{single_rows};
 ghost use Rattle.machine.specs.Submission.{offered, passes_at, some_fails, entries_at, taken_entries};
 ghost use Rattle.machine.specs.Steps.{submission_refusal, delivery, ended, submitted, taken_by};
 ghost use Rattle.overflow.specs.Backlogs.{DeliveryFormed};
@@ -45,7 +45,7 @@ impl Machine {
     fn add_rows(&mut self, count: u32, notes: &mut Recorder) -> Result<u32, AllocError>
         requires waits { count ≤ length (sub_list self.old.submissions) }
         requires room { length self.old.table + count ≤ 65536 }
-        ensures ok { OnOk result (self.new ≡ record self.old { table = self.old.table ++ rows_of (length self.old.table) (entries_at self.old.submissions.slots (offered self.old.submissions count)) }) }
+        ensures ok { OnOk result (self.new ≡ record self.old { table = self.old.table ++ single_rows (length self.old.table) (entries_at self.old.submissions.slots (offered self.old.submissions count)) }) }
         ensures dropped { IfOk result (λ d. d + length (entries_at self.old.submissions.slots (offered self.old.submissions count)) ≡ count) }
         ensures grows { Grows self.old self.new }
         ensures keeps { Keeps everywhere (view self.old) (view self.new) notes.old.made notes.new.made }

@@ -6,9 +6,10 @@ use Rattle.std.specs.List.{list_any}
 use Rattle.std.proofs.lemmas.Bool.{eqb-true}
 use Rattle.entries.specs.declared.row.Row.{Row}
 use Rattle.links_drains.specs.Phases.{is_unfinished}
-use Rattle.timeouts_cancel.specs.Falls.{Ending, result_in, endings, joined, or_else, given}
-use Rattle.timeouts_cancel.proofs.Listing.{result_of, listed_at, alike}
-use Rattle.timeouts_cancel.proofs.Rising.{ends_at}
+use Rattle.links_drains.specs.Endings.{Ending, result_in, endings, or_else, given}
+use Rattle.timeouts_cancel.specs.Falls.{joined}
+use Rattle.links_drains.proofs.Listing.{result_of, listed_at, alike}
+use Rattle.links_drains.proofs.Rising.{ends_at}
 
 -- ---- some element passes a test
 

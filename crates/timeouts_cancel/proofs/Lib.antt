@@ -1,5 +1,3 @@
-pub mod Listing
-pub mod Rising
 pub mod Again
 pub mod Severing
 pub mod Tallying

@@ -5,8 +5,9 @@ use Rattle.std.proofs.lemmas.Bool.{eqb-true, eq-eqb}
 use Rattle.std.proofs.lemmas.Bool.Decides.{nat_tests}
 use Rattle.entries.specs.declared.row.Row.{Row}
 use Rattle.links_drains.specs.Phases.{is_issued}
-use Rattle.links_drains.specs.Links.{is_soft_linked}
-use Rattle.timeouts_cancel.specs.Falls.{Ending, is_severed, severs_by, is_bad, is_guard, is_count_timeout}
+use Rattle.links_drains.specs.Links.{is_soft_linked, is_guard}
+use Rattle.links_drains.specs.Endings.{Ending}
+use Rattle.timeouts_cancel.specs.Falls.{is_severed, severs_by, is_bad, is_count_timeout}
 use Rattle.timeouts_cancel.specs.Walks.{Severs}
 use Rattle.timeouts_cancel.proofs.Again.{any_at}
 

@@ -5,9 +5,10 @@ use Rattle.std.specs.Option.{option_map_or}
 use Rattle.std.proofs.lemmas.List.{take_all}
 use Rattle.std.proofs.lemmas.Option.{slice_get_within}
 use Rattle.entries.specs.declared.row.Row.{Row}
-use Rattle.links_drains.specs.Links.{is_soft_linked, Chained}
+use Rattle.links_drains.specs.Links.{is_soft_linked, Chained, is_guard}
 use Rattle.links_drains.specs.Phases.{is_unfinished}
-use Rattle.timeouts_cancel.specs.Falls.{Ending, paired, endings, given, with_met, with_guards, is_severed, is_bad, is_guard, is_count_timeout, guards_listed, is_met, counted_in, fall_of, ecanceled, is_listed, Direct, NoTimers}
+use Rattle.links_drains.specs.Endings.{Ending, paired, endings, given, ecanceled, is_listed, Direct}
+use Rattle.timeouts_cancel.specs.Falls.{with_met, with_guards, is_severed, is_bad, is_count_timeout, guards_listed, is_met, counted_in, fall_of, NoTimers}
 use Rattle.timeouts_cancel.proofs.Again.{joined_nothing}
 use Rattle.timeouts_cancel.specs.Walks.{Severs, Walked, Sweeping, ds, ss, test, upto}
 use Rattle.timeouts_cancel.proofs.Walking.{of_one, upto_more, upto_gap, test_direct, test_other, severed_if, NotDirect, split, between, listed_direct, below_next, above_next}

@@ -8,9 +8,10 @@ use Rattle.std.proofs.lemmas.List.{append-nil}
 use Rattle.entries.specs.declared.row.Row.{Row}
 use Rattle.links_drains.specs.Links.{is_soft_linked}
 use Rattle.links_drains.specs.Phases.{is_unfinished}
-use Rattle.timeouts_cancel.specs.Falls.{Ending, result_in, paired, endings, or_else, given, is_severed, is_bad, ecanceled, severs_by, Direct}
-use Rattle.timeouts_cancel.proofs.Listing.{endings_from, endings_step, result_of}
-use Rattle.timeouts_cancel.proofs.Rising.{ends_at}
+use Rattle.links_drains.specs.Endings.{Ending, result_in, paired, endings, or_else, given, ecanceled, Direct, endings_from}
+use Rattle.timeouts_cancel.specs.Falls.{is_severed, is_bad, severs_by}
+use Rattle.links_drains.proofs.Listing.{endings_step, result_of}
+use Rattle.links_drains.proofs.Rising.{ends_at}
 use Rattle.timeouts_cancel.proofs.Again.{any_found, result_there, listed_row}
 use Rattle.timeouts_cancel.specs.Walks.{Severs, Walked, ds, test, upto}
 use Rattle.timeouts_cancel.proofs.Severing.{severs_is, severed_by}

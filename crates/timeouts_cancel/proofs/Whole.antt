@@ -5,9 +5,11 @@ use Rattle.std.specs.Option.{option_map_or}
 use Rattle.std.proofs.lemmas.Bool.{eqb-true, eq-eqb}
 use Rattle.entries.specs.declared.row.Row.{Row}
 use Rattle.links_drains.specs.Phases.{is_unfinished}
-use Rattle.timeouts_cancel.specs.Falls.{Ending, result_in, joined, given, or_else, with_severed, with_met, with_guards, is_severed, is_bad, is_guard, is_count_timeout, is_listed, guards_listed, is_met, counted_in, fall_of, ecanceled, severs_by, GuardsFormed, IsWhole}
+use Rattle.links_drains.specs.Endings.{Ending, result_in, given, or_else, is_listed, ecanceled}
+use Rattle.links_drains.specs.Links.{is_guard}
+use Rattle.timeouts_cancel.specs.Falls.{joined, with_severed, with_met, with_guards, is_severed, is_bad, is_count_timeout, guards_listed, is_met, counted_in, fall_of, severs_by, GuardsFormed, IsWhole}
 use Rattle.timeouts_cancel.specs.Walks.{Severs, ds, ss}
-use Rattle.timeouts_cancel.proofs.Rising.{ends_at, rising}
+use Rattle.links_drains.proofs.Rising.{ends_at, rising}
 use Rattle.timeouts_cancel.proofs.Again.{any_at, any_found, result_there, listed_row, or_else_none, given_none, given_is, joined_nothing}
 use Rattle.timeouts_cancel.proofs.Tallying.{joined_counts, guard_counts, met_counts}
 use Rattle.timeouts_cancel.proofs.Severing.{both, guard_not_bad, timeout_not_bad, severs_is, severed_by, severs_then}

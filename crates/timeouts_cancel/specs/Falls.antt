@@ -1,18 +1,11 @@
 -- Which rows a step ends, and with what results: those that it ends of itself, and those that fall with them (io_uring_enter(2)).
-use Rattle.std.specs.Prelude.{◌≡◌, ℕ, ℤ, pos, negsuc, ◌+◌, ◌<◌, ◌==◌, Bool, true, false, not, ◌&&◌, ◌||◌, nat_lt, nat_le, if◌then◌else◌, Option, Some, None, slice_get, List, [], ◌∷◌, length}
+use Rattle.std.specs.Prelude.{◌≡◌, ℕ, ℤ, pos, negsuc, ◌+◌, ◌==◌, Bool, true, false, not, ◌&&◌, ◌||◌, nat_lt, nat_le, if◌then◌else◌, Option, Some, None, slice_get, List, length}
 use Rattle.std.specs.Option.{option_map_or}
-use Rattle.std.specs.List.{filter, filter_map, list_any, enumerate_from}
+use Rattle.std.specs.List.{filter, list_any}
 use Rattle.entries.specs.declared.row.Row.{Row}
-use Rattle.links_drains.specs.Links.{is_soft_linked}
+use Rattle.links_drains.specs.Endings.{Ending, ecanceled, result_in, is_listed, given, or_else, endings}
+use Rattle.links_drains.specs.Links.{is_soft_linked, is_guard}
 use Rattle.links_drains.specs.Phases.{is_issued, is_unfinished, counts}
-
--- a row's number, with the result that it ends with
-abbrev pub Ending : Type 0
-Ending = ℕ × ℤ
-
--- ECANCELED (errno(3))
-abbrev pub ecanceled : ℤ
-ecanceled = negsuc 124
 
 -- ---- rows and results
 
@@ -22,10 +15,6 @@ is_transfer opcode = (opcode == 22) || (opcode == 23)
 abbrev pub is_negative : ℤ → Bool
 is_negative (pos n) = false
 is_negative (negsuc n) = true
-
--- a LINK_TIMEOUT guards the row before it
-abbrev pub is_guard : Row → Bool
-is_guard row = row.entry.opcode == 15
 
 -- whether a result is a whole number
 abbrev pub is_number : ℤ → ℕ → Bool
@@ -42,33 +31,11 @@ is_bad row res =
 abbrev pub is_count_timeout : Row → Bool
 is_count_timeout row = is_issued row.phase && ((row.entry.opcode == 11) && nat_lt 0 row.entry.off)
 
--- ---- lists of endings
-
--- the result that a list has for a row, if it has one
-abbrev pub result_in : List Ending → ℕ → Option ℤ
-result_in [] r = None
-result_in (e ∷ es) r = if e.0 == r then Some e.1 else result_in es r
-
-abbrev pub paired : ℕ → Option ℤ → Option Ending
-paired r None = None
-paired r (Some res) = Some (r, res)
-
--- the endings of all unfinished rows that are given a result, in the order of their numbers
-abbrev pub endings : (ℕ → Row → Option ℤ) → List Row → List Ending
-endings f rows = filter_map (λ (p : ℕ × Row). if is_unfinished p.1.phase then paired p.0 (f p.0 p.1) else None) (enumerate_from 0 rows)
+-- ---- the four filters
 
 -- a list of endings, and those that a test adds to it: a row that is listed keeps its result
-abbrev pub or_else : Option ℤ → Option ℤ → Option ℤ
-or_else (Some res) other = Some res
-or_else None other = other
-
 abbrev pub joined : List Row → (ℕ → Row → Option ℤ) → List Ending → List Ending
 joined rows f es = endings (λ r row. or_else (result_in es r) (f r row)) rows
-
-abbrev pub given : Bool → ℤ → Option ℤ
-given b res = if b then Some res else None
-
--- ---- the four filters
 
 -- whether a listed row, before a row and of its unit, is soft-linked and ends badly
 abbrev pub severs_by : ℕ → Row → Option Row → Ending → Bool
@@ -85,10 +52,6 @@ counted_in rows es = length (filter (λ (e : Ending). option_map_or counts (slic
 -- whether as many completions were counted as a TIMEOUT waits for
 abbrev pub is_met : ℕ → Row → Bool
 is_met total row = is_count_timeout row && nat_le (row.base + row.entry.off) total
-
--- whether a row is listed
-abbrev pub is_listed : List Ending → ℕ → Bool
-is_listed es r = list_any (λ (e : Ending). e.0 == r) es
 
 -- whether a row guards one that is listed
 abbrev pub guards_listed : List Ending → Row → Bool
@@ -124,13 +87,6 @@ pub record IsWhole (rows : List Row) (counted : ℕ) (direct es : List Ending) :
   pub severed : with_severed rows es ≡ es
   pub met : with_met rows counted es ≡ es
   pub guards : with_guards rows es ≡ es
-
--- ---- what a step ends of itself
-
--- Unfinished rows, in the order of their numbers, each once.
-pub record Direct (rows : List Row) (direct : List Ending) : Type 0 where
-  pub each : (i : ℕ) (e : Ending) → slice_get direct i ≡ Some e → (row : Row) × (slice_get rows e.0 ≡ Some row) × (is_unfinished row.phase ≡ true)
-  pub rising : (i j : ℕ) (p q : Ending) → slice_get direct i ≡ Some p → slice_get direct j ≡ Some q → i < j → p.0 < q.0
 
 -- No unfinished row is a TIMEOUT that counts completions, or a guard.
 abbrev pub NoTimers : List Row → Type 0

@@ -2,7 +2,8 @@
 use Rattle.std.specs.Prelude.{◌≡◌, ℕ, ℤ, ◌<◌, ◌≤◌, true, Option, Some, slice_get, List, take}
 use Rattle.entries.specs.declared.row.Row.{Row}
 use Rattle.links_drains.specs.Links.{is_soft_linked}
-use Rattle.timeouts_cancel.specs.Falls.{Ending, result_in, endings, or_else, given, first_listed, with_severed, is_severed, is_bad, ecanceled}
+use Rattle.links_drains.specs.Endings.{Ending, result_in, endings, or_else, given, ecanceled}
+use Rattle.timeouts_cancel.specs.Falls.{first_listed, with_severed, is_severed, is_bad}
 
 -- A listed row, before a row and of its unit, is soft-linked and ends badly.
 pub record Severs (rows : List Row) (r : ℕ) (row : Row) (e : Ending) : Type 0 where

@@ -2,7 +2,8 @@
 ghost use Rattle.std.specs.Prelude.{◌≡◌, ◌≢◌, ◌&&◌, ◌+◌, ◌^◌, ◌<◌, ◌≤◌, ℕ, IfOk, IfSome, None, Some, length, slice_get};
 ghost use Rattle.links_drains.specs.Links.{is_soft_linked as has_soft_link, Chained};
 ghost use Rattle.links_drains.specs.Phases.{is_unfinished};
-ghost use Rattle.timeouts_cancel.specs.Falls.{Ending, fall_of, is_bad, Direct, NoTimers};
+ghost use Rattle.links_drains.specs.Endings.{Ending, Direct};
+ghost use Rattle.timeouts_cancel.specs.Falls.{fall_of, is_bad, NoTimers};
 ghost use Rattle.timeouts_cancel.specs.Walks.{Walked, Sweeping};
 
 use entries::{Phase, Row};

@@ -2,7 +2,8 @@
 ghost use Rattle.std.specs.Prelude.{◌≡◌, ◌<◌, ℕ, List, true, Some, slice_get};
 ghost use Rattle.entries.specs.declared.row.Row.{Row};
 ghost use Rattle.links_drains.specs.Phases.{is_unfinished};
-ghost use Rattle.timeouts_cancel.specs.Falls.{Ending, fall_of, GuardsFormed, IsWhole};
+ghost use Rattle.links_drains.specs.Endings.{Ending};
+ghost use Rattle.timeouts_cancel.specs.Falls.{fall_of, GuardsFormed, IsWhole};
 
 /// Running the filters again over the rows that fall adds none.
 pub fn fall_is_whole()

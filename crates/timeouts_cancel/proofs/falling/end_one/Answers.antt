@@ -3,7 +3,8 @@ use Rattle.std.specs.Prelude.{◌&&◌}
 use Rattle.std.proofs.lemmas.Int.{to_z-of_z}
 use Rattle.std.proofs.lemmas.Option.{slice_get-get_or}
 use Rattle.links_drains.specs.Links.{is_soft_linked}
-use Rattle.timeouts_cancel.specs.Falls.{Ending, is_bad}
+use Rattle.links_drains.specs.Endings.{Ending}
+use Rattle.timeouts_cancel.specs.Falls.{is_bad}
 use Rattle.timeouts_cancel.specs.Walks.{Walked, Sweeping}
 use Rattle.timeouts_cancel.proofs.Severing.{both}
 use Rattle.timeouts_cancel.proofs.Walking.{walked_direct}

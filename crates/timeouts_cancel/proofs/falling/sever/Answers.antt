@@ -4,7 +4,7 @@ use Rattle.std.proofs.lemmas.Int.{to_z-of_z}
 use Rattle.std.proofs.lemmas.List.{append-nil}
 use Rattle.std.proofs.lemmas.Option.{slice_get_within}
 use Rattle.entries.specs.declared.row.Row.{Row}
-use Rattle.timeouts_cancel.specs.Falls.{Ending, ecanceled, paired}
+use Rattle.links_drains.specs.Endings.{Ending, ecanceled, paired}
 use Rattle.timeouts_cancel.specs.Walks.{Sweeping, SweepsOn}
 use Rattle.timeouts_cancel.proofs.Walking.{of_one}
 use Rattle.timeouts_cancel.proofs.Sweeping.{same_row, sweep_direct, sweep_other, sweep_end, others_later}

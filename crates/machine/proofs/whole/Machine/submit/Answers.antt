@@ -3,8 +3,8 @@ use Rattle.std.specs.Prelude.{min}
 use Rattle.machine.specs.Submission.{some_fails, offered, entries_at}
 use Rattle.machine.specs.Steps.{taken_by}
 use Rattle.machine.specs.declared.whole.Machine.{Machine}
-use Rattle.links_drains.specs.Batches.{rows_of}
-use Rattle.links_drains.proofs.Batching.{length-rows_of}
+use Rattle.links_drains.specs.Batches.{single_rows}
+use Rattle.links_drains.proofs.Batching.{length-single_rows}
 use Rattle.std.proofs.lemmas.List.{length-take}
 use Rattle.ring_words.specs.Rings.{sub_list}
 use Rattle.machine.proofs.TakingWords.{fails_told}

@@ -4,8 +4,8 @@ use Rattle.std.specs.Prelude.{Option, Some, None, slice_get}
 use Rattle.std.specs.List.{cons_option}
 use Rattle.entries.specs.declared.row.Row.{Row}
 use Rattle.links_drains.specs.Phases.{is_unfinished}
-use Rattle.timeouts_cancel.specs.Falls.{Ending, paired, endings}
-use Rattle.timeouts_cancel.proofs.Listing.{result_of, endings_from, endings_step}
+use Rattle.links_drains.specs.Endings.{Ending, paired, endings_from, endings}
+use Rattle.links_drains.proofs.Listing.{result_of, endings_step}
 
 -- an ending of a row that is unfinished, with the result that a test gives it; rows are numbered from a first one
 pub record EndsFrom (f : ℕ → Row → Option ℤ) (n : ℕ) (rows : List Row) (e : Ending) : Type 0 where

@@ -2,19 +2,15 @@
 use Rattle.std.proofs.Common.{◌≡◌, ℕ, ℤ, zero, suc, Bool, true, false, cond, refl, sym, ◌∙◌, ap, subst, List, [], ◌∷◌, ◌+◌, ◌<◌, arith}
 use Rattle.std.specs.Prelude.{Option, Some, None, slice_get, ◌==◌, if◌then◌else◌}
 use Rattle.std.specs.Option.{option_and_then}
-use Rattle.std.specs.List.{filter_map, enumerate_from, cons_option}
+use Rattle.std.specs.List.{cons_option}
 use Rattle.std.proofs.lemmas.Bool.{eqb-true, eq-eqb}
 use Rattle.entries.specs.declared.row.Row.{Row}
 use Rattle.links_drains.specs.Phases.{is_unfinished}
-use Rattle.timeouts_cancel.specs.Falls.{Ending, result_in, paired, endings}
+use Rattle.links_drains.specs.Endings.{Ending, result_in, paired, endings_from, endings}
 
 -- what a test gives an unfinished row
 abbrev pub result_of : (ℕ → Row → Option ℤ) → ℕ → Row → Option ℤ
 result_of f r row = if is_unfinished row.phase then f r row else None
-
--- the endings of rows that are numbered from a first one
-abbrev pub endings_from : (ℕ → Row → Option ℤ) → ℕ → List Row → List Ending
-endings_from f n rows = filter_map (λ (p : ℕ × Row). if is_unfinished p.1.phase then paired p.0 (f p.0 p.1) else None) (enumerate_from n rows)
 
 pub endings_step : (f : ℕ → Row → Option ℤ) (n : ℕ) (row : Row) (rows : List Row) → endings_from f n (row ∷ rows) ≡ cons_option (paired n (result_of f n row)) (endings_from f (n + 1) rows)
 endings_step f n row rows = by (is_unfinished row.phase) (f n row) (endings_from f (n + 1) rows)

@@ -1,0 +1,169 @@
+-- Units are runs of rows, once the table is changed.
+use Rattle.std.proofs.Common.{◌≡◌, ℕ, zero, suc, Bool, true, false, cond, refl, sym, ◌∙◌, ap, List, [], ◌∷◌, ◌++◌, length, take, ◌+◌, ◌-◌, ◌<◌, ◌≤◌, ◌⊎◌, inl, inr, arith}
+use Rattle.std.specs.Prelude.{Option, Some, None, option_map, slice_get, ◌==◌}
+use Rattle.std.specs.Option.{option_map_or}
+use Rattle.std.specs.List.{enumerate_from}
+use Rattle.std.proofs.lemmas.Bool.{cases_lt}
+use Rattle.std.proofs.lemmas.Option.{slice_get-map, slice_get_within}
+use Rattle.entries.specs.declared.entry.Sqe.{Sqe}
+use Rattle.entries.specs.declared.row.Row.{Row}
+use Rattle.places.specs.Lists.{updated}
+use Rattle.places.proofs.ListLemmas.{slice_get-take_below, slice_get-take_above}
+use Rattle.links_drains.specs.Batches.{chain_of, rows_of}
+use Rattle.links_drains.specs.Links.{is_linked, Chained}
+use Rattle.links_drains.specs.Rows.{new_row}
+use Rattle.links_drains.proofs.RowsKept.{get-updated}
+
+-- ---- chains of a batch
+
+pub chain_before : (es : List Sqe) (i : ℕ) → chain_of es i ≤ i
+chain_before es zero = omega arith
+chain_before es (suc i) = by (option_map_or is_linked (slice_get es i) false) (chain_before es i)
+  where
+    by : (b : Bool) → chain_of es i ≤ i → cond b (chain_of es i) (suc i) ≤ suc i
+    by true h = omega (arith, h)
+    by false h = omega arith
+
+-- all from its first on are of the chain
+pub chain_run : (es : List Sqe) (i j : ℕ) → chain_of es i ≤ j → j ≤ i → chain_of es j ≡ chain_of es i
+chain_run es zero j h k = let e : j ≡ zero = omega (arith, k) in ap (chain_of es) e
+chain_run es (suc i) j h k = by (option_map_or is_linked (slice_get es i) false) refl h (chain_run es i j) (cases_lt j (suc i))
+  where
+    by : (b : Bool) → option_map_or is_linked (slice_get es i) false ≡ b → cond b (chain_of es i) (suc i) ≤ j → (chain_of es i ≤ j → j ≤ i → chain_of es j ≡ chain_of es i) → (j < suc i) ⊎ (suc i ≤ j) → chain_of es j ≡ cond b (chain_of es i) (suc i)
+    by true e l more (inl less) = more l (omega (arith, less))
+    by true e l more (inr same) = let m : j ≡ suc i = omega (arith, same, k) in ap (chain_of es) m ∙ ap (λ b. cond b (chain_of es i) (suc i)) e
+    by false e l more s = let m : j ≡ suc i = omega (arith, l, k) in ap (chain_of es) m ∙ ap (λ b. cond b (chain_of es i) (suc i)) e
+
+-- ---- rows of a batch
+
+enumerated_from : {X : Type 0} (n : ℕ) (xs : List X) (i : ℕ) → slice_get (enumerate_from n xs) i ≡ option_map (λ x. (n + i, x)) (slice_get xs i)
+enumerated_from n [] i = refl
+enumerated_from {X} n (x ∷ xs) zero = let m : n ≡ n + zero = omega arith in ap (λ k. option_map (λ (y : X). (k, y)) (Some x)) m
+enumerated_from {X} n (x ∷ xs) (suc i) = let m : n + 1 + i ≡ n + suc i = omega arith in enumerated_from (n + 1) xs i ∙ ap (λ k. option_map (λ (y : X). (k, y)) (slice_get xs i)) m
+
+enumerated : {X : Type 0} (xs : List X) (i : ℕ) → slice_get (enumerate_from 0 xs) i ≡ option_map (λ x. (i, x)) (slice_get xs i)
+enumerated {X} xs i = let m : 0 + i ≡ i = omega arith in enumerated_from 0 xs i ∙ ap (λ k. option_map (λ (y : X). (k, y)) (slice_get xs i)) m
+
+pub get-batch : (first : ℕ) (es : List Sqe) (i : ℕ) → slice_get (rows_of first es) i ≡ option_map (λ e. new_row e (first + chain_of es i)) (slice_get es i)
+get-batch first es i = slice_get-map row (enumerate_from 0 es) i ∙ ap (option_map row) (enumerated es i) ∙ joined (slice_get es i)
+  where
+    row : ℕ × Sqe → Row
+    row p = new_row p.1 (first + chain_of es p.0)
+
+    joined : (o : Option Sqe) → option_map row (option_map (λ e. (i, e)) o) ≡ option_map (λ e. new_row e (first + chain_of es i)) o
+    joined None = refl
+    joined (Some e) = refl
+
+-- A row of a batch is one that an entry became.
+pub record Became (first : ℕ) (es : List Sqe) (i : ℕ) (row : Row) : Type 0 where
+  pub entry : Sqe
+  pub there : slice_get es i ≡ Some entry
+  pub is : row ≡ new_row entry (first + chain_of es i)
+
+pub became : (first : ℕ) (es : List Sqe) (i : ℕ) (row : Row) → slice_get (rows_of first es) i ≡ Some row → Became first es i row
+became first es i row h = by (slice_get es i) refl (sym (get-batch first es i) ∙ h)
+  where
+    by : (o : Option Sqe) → slice_get es i ≡ o → option_map (λ e. new_row e (first + chain_of es i)) o ≡ Some row → Became first es i row
+    by None e k = absurd cc
+    by (Some x) e k = record { entry = x; there = e; is = cc }
+
+-- ---- rows behind others
+
+get-front : (rows more : List Row) (i : ℕ) → i < length rows → slice_get (rows ++ more) i ≡ slice_get rows i
+get-front [] more i h = absurd (omega (arith, h))
+get-front (x ∷ rows) more zero h = refl
+get-front (x ∷ rows) more (suc i) h = get-front rows more i (omega (arith, h))
+
+pub get-behind : (rows more : List Row) (i : ℕ) → slice_get (rows ++ more) (length rows + i) ≡ slice_get more i
+get-behind [] more i = let m : 0 + i ≡ i = omega arith in ap (slice_get more) m
+get-behind (x ∷ rows) more i = let m : suc (length rows) + i ≡ suc (length rows + i) = omega arith in ap (slice_get (x ∷ rows ++ more)) m ∙ get-behind rows more i
+
+record Behind (rows more : List Row) (r : ℕ) (x : Row) : Type 0 where
+  pub index : ℕ
+  pub is : r ≡ length rows + index
+  pub there : slice_get more index ≡ Some x
+
+placed : (rows more : List Row) (r : ℕ) (x : Row) → slice_get (rows ++ more) r ≡ Some x → (slice_get rows r ≡ Some x) ⊎ Behind rows more r x
+placed rows more r x h = by (cases_lt r (length rows))
+  where
+    by : (r < length rows) ⊎ (length rows ≤ r) → (slice_get rows r ≡ Some x) ⊎ Behind rows more r x
+    by (inl less) = inl (sym (get-front rows more r less) ∙ h)
+    by (inr le) =
+        let m : r ≡ length rows + (r - length rows) = omega (arith, le) in
+        inr (record { index = r - length rows; is = m; there = sym (get-behind rows more (r - length rows)) ∙ ap (slice_get (rows ++ more)) (sym m) ∙ h })
+
+-- ---- changes of a table
+
+pub chained-none : Chained []
+chained-none = record { back = λ r x h. absurd cc; run = λ q r y x g h l k. absurd cc }
+
+pub chained-batch : (rows : List Row) (es : List Sqe) → Chained rows → Chained (rows ++ rows_of (length rows) es)
+chained-batch rows es c = record {
+  back = λ r x h. back r x (placed rows batch r x h);
+  run = λ q r y x g h l k. run q r y x (placed rows batch q y g) (placed rows batch r x h) l k;
+}
+  where
+    batch : List Row
+    batch = rows_of (length rows) es
+
+    unit : (r : ℕ) (x : Row) (b : Behind rows batch r x) → x.unit ≡ length rows + chain_of es b.index
+    unit r x b = ap (λ (y : Row). y.unit) (became (length rows) es b.index x b.there).is
+
+    back : (r : ℕ) (x : Row) → (slice_get rows r ≡ Some x) ⊎ Behind rows batch r x → x.unit ≤ r
+    back r x (inl h) = c.back r x h
+    back r x (inr b) = let u = unit r x b in let m = chain_before es b.index in let i = b.is in omega (arith, u, m, i)
+
+    run : (q r : ℕ) (y x : Row) → (slice_get rows q ≡ Some y) ⊎ Behind rows batch q y → (slice_get rows r ≡ Some x) ⊎ Behind rows batch r x → q ≤ r → x.unit ≤ q → y.unit ≡ x.unit
+    run q r y x (inl g) (inl h) l k = c.run q r y x g h l k
+    run q r y x (inr b) (inl h) l k = absurd (let w = slice_get_within rows r x h in let i = b.is in omega (arith, w, i, l))
+    run q r y x (inl g) (inr b) l k = absurd (let w = slice_get_within rows q y g in let u = unit r x b in omega (arith, w, u, k))
+    run q r y x (inr d) (inr b) l k =
+        let u = unit r x b in
+        let i = d.is in
+        let j = b.is in
+        unit q y d ∙ ap (λ n. length rows + n) (chain_run es b.index d.index (omega (arith, u, i, k)) (omega (arith, i, j, l))) ∙ sym u
+
+-- a row of the changed table is one that was of the same unit
+record Was (rows : List Row) (r unit : ℕ) : Type 0 where
+  pub row : Row
+  pub there : slice_get rows r ≡ Some row
+  pub same : unit ≡ row.unit
+
+was : (f : Row → Row) (rows : List Row) (i : ℕ) → ((x : Row) → (f x).unit ≡ x.unit) → (r : ℕ) (x : Row) → slice_get (updated f rows i) r ≡ Some x → Was rows r x.unit
+was f rows i same r x h = by (i == r) (slice_get rows r) refl (sym (get-updated f rows i r) ∙ h)
+  where
+    by : (b : Bool) (o : Option Row) → slice_get rows r ≡ o → cond b (option_map f o) o ≡ Some x → Was rows r x.unit
+    by true None e k = absurd cc
+    by true (Some y) e k = let m : f y ≡ x = cc in record { row = y; there = e; same = ap (λ (z : Row). z.unit) (sym m) ∙ same y }
+    by false o e k = record { row = x; there = e ∙ k; same = refl }
+
+-- a row changes, and stays in its unit
+pub chained-updated : (f : Row → Row) (rows : List Row) (i : ℕ) → ((x : Row) → (f x).unit ≡ x.unit) → Chained rows → Chained (updated f rows i)
+chained-updated f rows i same c = record {
+  back = λ r x h. back r x (was f rows i same r x h);
+  run = λ q r y x g h l k. run q r y x (was f rows i same q y g) (was f rows i same r x h) l k;
+}
+  where
+    back : (r : ℕ) (x : Row) → Was rows r x.unit → x.unit ≤ r
+    back r x w = let b = c.back r w.row w.there in let u = w.same in omega (arith, b, u)
+
+    run : (q r : ℕ) (y x : Row) → Was rows q y.unit → Was rows r x.unit → q ≤ r → x.unit ≤ q → y.unit ≡ x.unit
+    run q r y x v w l k =
+        let a = v.same in
+        let b = w.same in
+        let m = c.run q r v.row w.row v.there w.there l (omega (arith, k, b)) in
+        omega (arith, a, b, m)
+
+-- rows are dropped
+pub chained-take : (rows : List Row) (n : ℕ) → Chained rows → Chained (take n rows)
+chained-take rows n c = record {
+  back = λ r x h. c.back r x (kept r x h);
+  run = λ q r y x g h l k. c.run q r y x (kept q y g) (kept r x h) l k;
+}
+  where
+    kept : (r : ℕ) (x : Row) → slice_get (take n rows) r ≡ Some x → slice_get rows r ≡ Some x
+    kept r x h = by (cases_lt r n)
+      where
+        by : (r < n) ⊎ (n ≤ r) → slice_get rows r ≡ Some x
+        by (inl less) = sym (slice_get-take_below rows n r less) ∙ h
+        by (inr le) = absurd (let e = slice_get-take_above rows n r le in cc)
