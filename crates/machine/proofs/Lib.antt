@@ -12,6 +12,7 @@ pub mod FormedRows
 pub mod FormedThreads
 pub mod FormedMachines
 pub mod Growing
+pub mod Endings
 pub mod Formed
 pub mod Linking
 pub mod StartLemmas

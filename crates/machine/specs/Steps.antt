@@ -174,6 +174,11 @@ ended m r res = record (posted m (completions_of (slice_get m.table r) res)) {
   counted = m.counted + count_of (slice_get m.table r);
 }
 
+-- the machine once rows have ended, one after the other, each with its result
+abbrev pub all_ended : Machine → List (ℕ × ℤ) → Machine
+all_ended m [] = m
+all_ended m (p ∷ ps) = all_ended (ended m p.0 p.1) ps
+
 -- the machine once words were taken from the ring, and the entries that they name have become rows
 abbrev pub taken_by : Machine → List ℕ → Machine
 taken_by m words = record m {

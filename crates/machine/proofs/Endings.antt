@@ -1,0 +1,139 @@
+-- Rows that end one after the other.
+use Rattle.std.proofs.Common.{◌≡◌, ℕ, ℤ, zero, suc, false, refl, sym, ◌∙◌, ap, subst, List, [], ◌∷◌, ◌++◌, length, drop, ◌+◌, ◌<◌, ◌≤◌, ◌^◌, length-append, arith}
+use Rattle.std.proofs.lemmas.List.{length-drop}
+use Rattle.std.specs.Prelude.{Option, Some, None, slice_get}
+use Rattle.entries.specs.declared.completion.Cqe.{Cqe}
+use Rattle.entries.specs.declared.row.Row.{Row}
+use Rattle.entries.specs.declared.row.Phase.TheVariants.{Ended}
+use Rattle.places.specs.View.{Keeps}
+use Rattle.places.specs.declared.value.Change.{Change}
+use Rattle.places.proofs.Keeping.{keeps_then, keeps_same}
+use Rattle.places.proofs.ListLemmas.{length-updated}
+use Rattle.places.specs.Lists.{updated}
+use Rattle.links_drains.specs.Phases.{is_ended, ended_of}
+use Rattle.links_drains.proofs.Counting.{ended-ended, ended-le-length, counted-le-length}
+use Rattle.overflow.specs.Backlogs.{DeliveryFormed, all_posted, fits}
+use Rattle.overflow.proofs.KeptInOrder.{posted_formed}
+use Rattle.machine.specs.Steps.{delivery, ended, all_ended, completions_of, count_of}
+use Rattle.machine.specs.Whole.{view, everywhere, Grows, WellFormed}
+use Rattle.machine.specs.declared.whole.Machine.{Machine}
+use Rattle.machine.proofs.FormedMachines.{items_one, formed_ended}
+use Rattle.machine.proofs.Growing.{grows_self, grows_then, grows_ended}
+
+pub all_ended-more : (m : Machine) (ps : List (ℕ × ℤ)) (p : ℕ × ℤ) → all_ended m (ps ++ p ∷ []) ≡ ended (all_ended m ps) p.0 p.1
+all_ended-more m [] p = refl
+all_ended-more m (q ∷ ps) p = all_ended-more (ended m q.0 q.1) ps p
+
+-- What holds while rows end: some have ended, and no more was posted or counted than they.
+pub record Ending (m : Machine) (cs : List Change) (n : Machine) (ds : List Change) (ps : List (ℕ × ℤ)) : Type 0 where
+  pub ended : n ≡ all_ended m ps
+  pub grows : Grows m n
+  pub keeps : Keeps everywhere (view m) (view n) cs ds
+  pub delivery : DeliveryFormed (delivery n)
+  pub items : length n.backlog.items ≤ length m.backlog.items + length ps
+  pub counted : n.counted ≤ m.counted + length ps
+  pub rows : length n.table ≡ length m.table
+
+pub ending_none : (m : Machine) (cs : List Change) → DeliveryFormed (delivery m) → Ending m cs m cs []
+ending_none m cs d = record { ended = refl; grows = grows_self m; keeps = keeps_same everywhere (view m) cs; delivery = d; items = omega arith; counted = omega arith; rows = refl }
+
+-- a row has one completion at most, and counts once at most
+posted_most : (m : Machine) (o : Option Row) (res : ℤ) → length (all_posted (delivery m) (completions_of o res)).backlog.items ≤ length m.backlog.items + 1
+posted_most m None res =
+    let none : List Cqe = [] in
+    let n = fits m.completions m.backlog 0 in
+    let a = length-append m.backlog.items (drop n none) in
+    let b = length-drop n none in
+    omega (arith, a, b)
+posted_most m (Some x) res = items_one (delivery m) (record { user_data = x.entry.user_data; res = res; flags = 0 })
+
+count_most : (o : Option Row) → count_of o ≤ 1
+count_most None = omega arith
+count_most (Some x) = grind arith
+
+ended_formed : (m : Machine) (r : ℕ) (res : ℤ) → DeliveryFormed (delivery m) → DeliveryFormed (delivery (ended m r res))
+ended_formed m r res d = posted_formed (delivery m) (completions_of (slice_get m.table r) res) d
+
+ended_items : (m : Machine) (r : ℕ) (res : ℤ) → length (ended m r res).backlog.items ≤ length m.backlog.items + 1
+ended_items m r res = posted_most m (slice_get m.table r) res
+
+ended_counted : (m : Machine) (r : ℕ) (res : ℤ) → (ended m r res).counted ≤ m.counted + 1
+ended_counted m r res = let a = count_most (slice_get m.table r) in omega (arith, a)
+
+ended_length : (m : Machine) (r : ℕ) (res : ℤ) → length (ended m r res).table ≡ length m.table
+ended_length m r res = length-updated (λ (row : Row). record row { phase = Ended res }) m.table r
+
+pub ending_on : (m : Machine) (cs : List Change) (n : Machine) (ds : List Change) (ps : List (ℕ × ℤ)) (p : ℕ × ℤ) (n' : Machine) (es : List Change)
+    → Ending m cs n ds ps → n' ≡ ended n p.0 p.1 → Grows n n' → Keeps everywhere (view n) (view n') ds es → Ending m cs n' es (ps ++ p ∷ [])
+ending_on m cs n ds ps p n' es h e g k =
+    let len = length-append ps (p ∷ []) in
+    let items = ap (λ (x : Machine). length x.backlog.items) e in
+    let counted = ap (λ (x : Machine). x.counted) e in
+    let a = ended_items n p.0 p.1 in
+    let b = ended_counted n p.0 p.1 in
+    record {
+      ended = e ∙ ap (λ (x : Machine). ended x p.0 p.1) h.ended ∙ sym (all_ended-more m ps p);
+      grows = grows_then m n n' h.grows g;
+      keeps = keeps_then everywhere (view m) (view n) (view n') cs ds es h.keeps k;
+      delivery = subst (λ (x : Machine). DeliveryFormed (delivery x)) (sym e) (ended_formed n p.0 p.1 h.delivery);
+      items = omega (arith, len, items, a, h.items);
+      counted = omega (arith, len, counted, b, h.counted);
+      rows = ap (λ (x : Machine). length x.table) e ∙ ended_length n p.0 p.1 ∙ h.rows;
+    }
+
+-- ---- rows that can end
+
+-- Each row of a list is unfinished as its turn to end comes.
+abbrev pub CanEnd : List Row → List (ℕ × ℤ) → Type 0
+CanEnd rows [] = Unit {0}
+CanEnd rows (p ∷ ps) = (x : Row) × (slice_get rows p.0 ≡ Some x) × (is_ended x.phase ≡ false) × CanEnd (updated (λ row. record row { phase = Ended p.1 }) rows p.0) ps
+
+-- there are no more of them than unfinished rows
+pub can_end_most : (rows : List Row) (ps : List (ℕ × ℤ)) → CanEnd rows ps → ended_of rows + length ps ≤ length rows
+can_end_most rows [] h = omega (arith, ended-le-length rows)
+can_end_most rows (p ∷ ps) h =
+    let k = can_end_most (updated (λ (row : Row). record row { phase = Ended p.1 }) rows p.0) ps h.3 in
+    let a = ended-ended rows p.0 h.0 p.1 h.1 h.2 in
+    let b = length-updated (λ (row : Row). record row { phase = Ended p.1 }) rows p.0 in
+    omega (arith, k, a, b)
+
+pub formed_all_ended : (m : Machine) (ps : List (ℕ × ℤ)) → WellFormed m → CanEnd m.table ps → WellFormed (all_ended m ps)
+formed_all_ended m [] f h = f
+formed_all_ended m (p ∷ ps) f h = formed_all_ended (ended m p.0 p.1) ps (formed_ended m p.0 h.0 p.1 f h.1 h.2) h.3
+
+pub grows_all_ended : (m : Machine) (ps : List (ℕ × ℤ)) → Grows m (all_ended m ps)
+grows_all_ended m [] = grows_self m
+grows_all_ended m (p ∷ ps) = grows_then m (ended m p.0 p.1) (all_ended (ended m p.0 p.1) ps) (grows_ended m p.0 p.1) (grows_all_ended (ended m p.0 p.1) ps)
+
+-- rows in rising order, all of which are unfinished
+pub record Rising (rows : List Row) (from : ℕ) (ps : List (ℕ × ℤ)) : Type 0 where
+  pub each : (i : ℕ) (p : ℕ × ℤ) → slice_get ps i ≡ Some p → (x : Row) × (slice_get rows p.0 ≡ Some x) × (is_ended x.phase ≡ false)
+  pub above : (i : ℕ) (p : ℕ × ℤ) → slice_get ps i ≡ Some p → from ≤ p.0
+  pub less : (i j : ℕ) (p q : ℕ × ℤ) → slice_get ps i ≡ Some p → slice_get ps j ≡ Some q → i < j → p.0 < q.0
+
+-- the room that they need
+pub can_end_room : (m : Machine) (ps : List (ℕ × ℤ)) → WellFormed m → CanEnd m.table ps → length m.backlog.items + length ps ≤ 65536
+can_end_room m ps f h = let k = can_end_most m.table ps h in omega (arith, k, f.overflowed, f.rows)
+
+pub can_end_counts : (m : Machine) (ps : List (ℕ × ℤ)) → WellFormed m → CanEnd m.table ps → m.counted + length ps < 2 ^ 32
+can_end_counts m ps f h =
+    let k = can_end_most m.table ps h in
+    let a = counted-le-length m.table in
+    omega (arith, k, a, f.counted, f.rows)
+
+updated_other : (f : Row → Row) (rows : List Row) (r j : ℕ) → r < j → slice_get (updated f rows r) j ≡ slice_get rows j
+updated_other f [] r j h = refl
+updated_other f (x ∷ rows) zero zero h = absurd (omega arith)
+updated_other f (x ∷ rows) zero (suc j) h = refl
+updated_other f (x ∷ rows) (suc r) zero h = absurd (omega arith)
+updated_other f (x ∷ rows) (suc r) (suc j) h = updated_other f rows r j (omega arith)
+
+pub can_end : (rows : List Row) (from : ℕ) (ps : List (ℕ × ℤ)) → Rising rows from ps → CanEnd rows ps
+can_end rows from [] h = tt
+can_end rows from (p ∷ ps) h =
+    let first = h.each 0 p refl in
+    (first.0, first.1, first.2, can_end (updated (λ (row : Row). record row { phase = Ended p.1 }) rows p.0) (p.0 + 1) ps (record {
+      each = λ i q e. let x = h.each (suc i) q e in (x.0, updated_other (λ (row : Row). record row { phase = Ended p.1 }) rows p.0 q.0 (h.less 0 (suc i) p q refl e (omega arith)) ∙ x.1, x.2);
+      above = λ i q e. let l = h.less 0 (suc i) p q refl e (omega arith) in omega (arith, l);
+      less = λ i j q o e d l. h.less (suc i) (suc j) q o e d (omega arith);
+    }))
