@@ -1,7 +1,7 @@
 -- Rows that end one after the other.
-use Rattle.std.proofs.Common.{◌≡◌, ℕ, ℤ, zero, suc, false, refl, sym, ◌∙◌, ap, subst, List, [], ◌∷◌, ◌++◌, length, drop, ◌+◌, ◌<◌, ◌≤◌, ◌^◌, length-append, arith}
+use Rattle.std.proofs.Common.{◌≡◌, ℕ, ℤ, zero, suc, Bool, true, false, cond, refl, sym, ◌∙◌, ap, subst, List, [], ◌∷◌, ◌++◌, length, drop, ◌+◌, ◌<◌, ◌≤◌, ◌^◌, ◌⊎◌, inl, inr, length-append, arith}
 use Rattle.std.proofs.lemmas.List.{length-drop}
-use Rattle.std.specs.Prelude.{Option, Some, None, slice_get}
+use Rattle.std.specs.Prelude.{Option, Some, None, option_map, slice_get, not, ◌==◌}
 use Rattle.entries.specs.declared.completion.Cqe.{Cqe}
 use Rattle.entries.specs.declared.row.Row.{Row}
 use Rattle.entries.specs.declared.row.Phase.TheVariants.{Ended}
@@ -14,11 +14,15 @@ use Rattle.links_drains.specs.Phases.{is_ended, ended_of}
 use Rattle.links_drains.proofs.Counting.{ended-ended, ended-le-length, counted-le-length}
 use Rattle.overflow.specs.Backlogs.{DeliveryFormed, all_posted, fits}
 use Rattle.overflow.proofs.KeptInOrder.{posted_formed}
-use Rattle.machine.specs.Steps.{delivery, ended, all_ended, completions_of, count_of}
-use Rattle.machine.specs.Whole.{view, everywhere, Grows, WellFormed}
+use Rattle.machine.specs.Steps.{delivery, ended, all_ended, fallen, completions_of, count_of}
+use Rattle.machine.specs.Whole.{view, everywhere, Grows, RowFormed, WellFormed}
 use Rattle.machine.specs.declared.whole.Machine.{Machine}
-use Rattle.machine.proofs.FormedMachines.{items_one, formed_ended}
-use Rattle.machine.proofs.Growing.{grows_self, grows_then, grows_ended}
+use Rattle.machine.proofs.FormedMachines.{Mostly, items_one, mostly_ended, formed_of, formed_ended}
+use Rattle.timeouts_cancel.specs.Falls.{result_in, fall_of}
+use Rattle.timeouts_cancel.proofs.Whole.{unlisted, fall_unfinished, fall_rising}
+use Rattle.links_drains.proofs.RowsKept.{get-updated}
+use Rattle.machine.proofs.FormedRows.{ended_row}
+use Rattle.machine.proofs.Growing.{grows_self, grows_then}
 
 pub all_ended-more : (m : Machine) (ps : List (ℕ × ℤ)) (p : ℕ × ℤ) → all_ended m (ps ++ p ∷ []) ≡ ended (all_ended m ps) p.0 p.1
 all_ended-more m [] p = refl
@@ -101,10 +105,6 @@ pub formed_all_ended : (m : Machine) (ps : List (ℕ × ℤ)) → WellFormed m �
 formed_all_ended m [] f h = f
 formed_all_ended m (p ∷ ps) f h = formed_all_ended (ended m p.0 p.1) ps (formed_ended m p.0 h.0 p.1 f h.1 h.2) h.3
 
-pub grows_all_ended : (m : Machine) (ps : List (ℕ × ℤ)) → Grows m (all_ended m ps)
-grows_all_ended m [] = grows_self m
-grows_all_ended m (p ∷ ps) = grows_then m (ended m p.0 p.1) (all_ended (ended m p.0 p.1) ps) (grows_ended m p.0 p.1) (grows_all_ended (ended m p.0 p.1) ps)
-
 -- rows in rising order, all of which are unfinished
 pub record Rising (rows : List Row) (from : ℕ) (ps : List (ℕ × ℤ)) : Type 0 where
   pub each : (i : ℕ) (p : ℕ × ℤ) → slice_get ps i ≡ Some p → (x : Row) × (slice_get rows p.0 ≡ Some x) × (is_ended x.phase ≡ false)
@@ -137,3 +137,73 @@ can_end rows from (p ∷ ps) h =
       above = λ i q e. let l = h.less 0 (suc i) p q refl e (omega arith) in omega (arith, l);
       less = λ i j q o e d l. h.less (suc i) (suc j) q o e d (omega arith);
     }))
+
+pub mostly_all_ended : (m : Machine) (ps : List (ℕ × ℤ)) → Mostly m → CanEnd m.table ps → Mostly (all_ended m ps)
+mostly_all_ended m [] f h = f
+mostly_all_ended m (p ∷ ps) f h = mostly_all_ended (ended m p.0 p.1) ps (mostly_ended m p.0 h.0 p.1 f h.1 h.2) h.3
+
+pub world_all_ended : (m : Machine) (ps : List (ℕ × ℤ)) → (all_ended m ps).world ≡ m.world
+world_all_ended m [] = refl
+world_all_ended m (p ∷ ps) = world_all_ended (ended m p.0 p.1) ps
+
+threads_all_ended : (m : Machine) (ps : List (ℕ × ℤ)) → (all_ended m ps).threads ≡ m.threads
+threads_all_ended m [] = refl
+threads_all_ended m (p ∷ ps) = threads_all_ended (ended m p.0 p.1) ps
+
+-- a row that ends is ended, and no other changes
+one_ended : (rows : List Row) (r : ℕ) (res : ℤ) (j : ℕ) (y : Row) → slice_get (updated (λ row. record row { phase = Ended res }) rows r) j ≡ Some y → ((slice_get rows j ≡ Some y) × ((r == j) ≡ false)) ⊎ (is_ended y.phase ≡ true)
+one_ended rows r res j y h = by (r == j) refl (sym (get-updated (λ (row : Row). record row { phase = Ended res }) rows r j) ∙ h)
+  where
+    ended_of_map : (o : Option Row) → option_map (λ (row : Row). record row { phase = Ended res }) o ≡ Some y → is_ended y.phase ≡ true
+    ended_of_map None k = absurd cc
+    ended_of_map (Some x) k = let same : record x { phase = Ended res } ≡ y = cc in ap (λ (z : Row). is_ended z.phase) (sym same)
+
+    by : (b : Bool) → (r == j) ≡ b → cond b (option_map (λ (row : Row). record row { phase = Ended res }) (slice_get rows j)) (slice_get rows j) ≡ Some y → ((slice_get rows j ≡ Some y) × ((r == j) ≡ false)) ⊎ (is_ended y.phase ≡ true)
+    by true e k = inr (ended_of_map (slice_get rows j) k)
+    by false e k = inl (k, e)
+
+pub all_ended_rows : (m : Machine) (ps : List (ℕ × ℤ)) (j : ℕ) (y : Row) → slice_get (all_ended m ps).table j ≡ Some y → ((slice_get m.table j ≡ Some y) × (result_in ps j ≡ None)) ⊎ (is_ended y.phase ≡ true)
+all_ended_rows m [] j y h = inl (h, refl)
+all_ended_rows m (p ∷ ps) j y h = by (all_ended_rows (ended m p.0 p.1) ps j y h)
+  where
+    at : result_in ps j ≡ None → ((slice_get m.table j ≡ Some y) × ((p.0 == j) ≡ false)) ⊎ (is_ended y.phase ≡ true) → ((slice_get m.table j ≡ Some y) × (result_in (p ∷ ps) j ≡ None)) ⊎ (is_ended y.phase ≡ true)
+    at n (inl a) = inl (a.0, ap (λ b. cond b (Some p.1) (result_in ps j)) a.1 ∙ n)
+    at n (inr a) = inr a
+
+    by : ((slice_get (ended m p.0 p.1).table j ≡ Some y) × (result_in ps j ≡ None)) ⊎ (is_ended y.phase ≡ true) → ((slice_get m.table j ≡ Some y) × (result_in (p ∷ ps) j ≡ None)) ⊎ (is_ended y.phase ≡ true)
+    by (inl a) = at a.1 (one_ended m.table p.0 p.1 j y a.0)
+    by (inr a) = inr a
+
+-- ---- the rows that fall
+
+not_ended : (b : Bool) → not b ≡ true → b ≡ false
+not_ended true h = absurd cc
+not_ended false h = refl
+
+pub can_fall : (rows : List Row) (c : ℕ) (direct : List (ℕ × ℤ)) → CanEnd rows (fall_of rows c direct)
+can_fall rows c direct = can_end rows 0 (fall_of rows c direct) (record {
+  each = λ i p h. let w = fall_unfinished rows c direct i p h in (w.0, w.1, not_ended (is_ended w.0.phase) w.2);
+  above = λ i p h. omega arith;
+  less = fall_rising rows c direct;
+})
+
+pub threads_fallen : (m : Machine) (direct : List (ℕ × ℤ)) → (fallen m direct).threads ≡ m.threads
+threads_fallen m direct = threads_all_ended m (fall_of m.table m.counted direct)
+
+pub formed_fallen : (m : Machine) (direct : List (ℕ × ℤ)) → WellFormed m → WellFormed (fallen m direct)
+formed_fallen m direct f = formed_all_ended m (fall_of m.table m.counted direct) f (can_fall m.table m.counted direct)
+
+-- rows that aren't well formed end, if they are among those that a step ends of itself
+pub formed_fallen_but : (m : Machine) (direct : List (ℕ × ℤ)) → Mostly m → ((j : ℕ) (y : Row) → slice_get m.table j ≡ Some y → RowFormed m.world y ⊎ ((res : ℤ) × (result_in direct j ≡ Some res))) → WellFormed (fallen m direct)
+formed_fallen_but m direct f h =
+    formed_of (fallen m direct) (mostly_all_ended m (fall_of m.table m.counted direct) f (can_fall m.table m.counted direct))
+    (record { each = λ j y e. subst (λ w. RowFormed w y) (sym (world_all_ended m (fall_of m.table m.counted direct))) (by j y (all_ended_rows m (fall_of m.table m.counted direct) j y e)) })
+  where
+    stays : (j : ℕ) (y : Row) → slice_get m.table j ≡ Some y → result_in (fall_of m.table m.counted direct) j ≡ None → (b : Bool) → is_ended y.phase ≡ b → RowFormed m.world y ⊎ ((res : ℤ) × (result_in direct j ≡ Some res)) → RowFormed m.world y
+    stays j y e n true u k = ended_row m.world y u
+    stays j y e n false u (inl k) = k
+    stays j y e n false u (inr k) = absurd (let d = (unlisted m.table m.counted direct j y e (ap not u) n).undirected in let x = sym d ∙ k.1 in cc)
+
+    by : (j : ℕ) (y : Row) → ((slice_get m.table j ≡ Some y) × (result_in (fall_of m.table m.counted direct) j ≡ None)) ⊎ (is_ended y.phase ≡ true) → RowFormed m.world y
+    by j y (inl a) = stays j y a.0 a.1 (is_ended y.phase) refl (h j y a.0)
+    by j y (inr a) = ended_row m.world y a

@@ -69,6 +69,7 @@ formed_thread m f t x h e s = record {
   world = h.world;
   requests = h.requests;
   counted = h.counted;
+  chained = h.chained;
   clock = h.clock;
   threads = stands_updated (length m.submissions.slots) m.threads f t x h.threads e s;
 }

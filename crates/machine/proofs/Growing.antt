@@ -22,7 +22,8 @@ use Rattle.sqpoll.specs.declared.poller.Poller.{Poller}
 use Rattle.sqpoll.specs.declared.poller.Poller.TheVariants.{Awake, Asleep}
 use Rattle.model_files.proofs.Fixing as worlds
 use Rattle.machine.specs.Submission.{some_fails, taken_entries, einval, ebusy, ebadf}
-use Rattle.machine.specs.Steps.{refusal, sleep_refusal, after, stepped, executed, entered, entered_alone, entered_beside, submitting, before_submission, is_busy, is_unknown, gets_events, wakes, woken, shown, awaited, ready_count, held_back, with_poller, posted, flushed, completions_of, ended, taken, submitted, answered, issued, finished, finished_as, lacks_descriptor, held_by}
+use Rattle.timeouts_cancel.specs.Falls.{fall_of}
+use Rattle.machine.specs.Steps.{refusal, sleep_refusal, after, stepped, executed, entered, entered_alone, entered_beside, submitting, before_submission, is_busy, is_unknown, gets_events, wakes, woken, shown, awaited, ready_count, held_back, with_poller, posted, flushed, completions_of, ended, all_ended, fallen, taken, submitted, answered, issued, finished, finished_as, lacks_descriptor, held_by}
 use Rattle.machine.specs.Threads.{ThreadState, program_of}
 use Rattle.machine.specs.Whole.{OneSetup, Grows, WellFormed}
 use Rattle.scenario.specs.declared.setup.Instruction.{Instruction}
@@ -70,6 +71,13 @@ grows_ended m r res =
       backlog = p.backlog;
     }
 
+pub grows_all_ended : (m : Machine) (ps : List (ℕ × ℤ)) → Grows m (all_ended m ps)
+grows_all_ended m [] = grows_self m
+grows_all_ended m (p ∷ ps) = grows_then m (ended m p.0 p.1) (all_ended (ended m p.0 p.1) ps) (grows_ended m p.0 p.1) (grows_all_ended (ended m p.0 p.1) ps)
+
+pub grows_fallen : (m : Machine) (direct : List (ℕ × ℤ)) → Grows m (fallen m direct)
+grows_fallen m direct = grows_all_ended m (fall_of m.table m.counted direct)
+
 -- ---- submissions
 
 grows_taken : (m : Machine) (k : ℕ) → Grows m (taken m k)
@@ -83,10 +91,10 @@ pub grows_submitted : (m : Machine) (k : ℕ) → Grows m (submitted m k)
 grows_submitted m k = by (some_fails m.submissions k)
   where
     last : Machine
-    last = ended (taken m k) (length (taken m k).table - 1) einval
+    last = fallen (taken m k) ((length (taken m k).table - 1, einval) ∷ [])
 
     by : (b : Bool) → Grows m (if b then last else taken m k)
-    by true = grows_then m (taken m k) last (grows_taken m k) (grows_ended (taken m k) (length (taken m k).table - 1) einval)
+    by true = grows_then m (taken m k) last (grows_taken m k) (grows_fallen (taken m k) ((length (taken m k).table - 1, einval) ∷ []))
     by false = grows_taken m k
 
 -- ---- threads
@@ -229,8 +237,8 @@ pub grows_issued : (m : Machine) (r : ℕ) (o : Option Row) → Grows m (issued 
 grows_issued m r None = grows_self m
 grows_issued m r (Some x) = by (lacks_descriptor m.world x)
   where
-    by : (b : Bool) → Grows m (if b then ended m r ebadf else record m { table = updated (λ row. record row { phase = Issued; held = held_by row }) m.table r })
-    by true = grows_ended m r ebadf
+    by : (b : Bool) → Grows m (if b then fallen m ((r, ebadf) ∷ []) else record m { table = updated (λ row. record row { phase = Issued; held = held_by row }) m.table r })
+    by true = grows_fallen m ((r, ebadf) ∷ [])
     by false = record {
       setup = record { array = refl; slots = refl; completions = refl; world = worlds.setup_self _; programs = refl; poller = refl };
       rows = let a = length-updated (λ (row : Row). record row { phase = Issued; held = held_by row }) m.table r in omega (arith, a);
@@ -244,7 +252,7 @@ grows_finished m r c f (Some x) = by (outcome_of m.world x c) refl
     by : (o : Outcome) → outcome_of m.world x c ≡ o → Grows m (finished_as m r x o)
     by (Res res) e =
         let after_it = record m { world = world_after x res m.world } in
-        grows_then m after_it _ (grows_world m (world_after x res m.world) (stays_after m.world x res c f.world e).setup) (grows_ended after_it r res)
+        grows_then m after_it _ (grows_world m (world_after x res m.world) (stays_after m.world x res c f.world e).setup) (grows_fallen after_it ((r, res) ∷ []))
     by Waits e = grows_self m
     by BadChoice e = grows_self m
 

@@ -187,6 +187,7 @@ formed_start s h b w =
       rows = omega arith;
       world = world_start_formed s.memory s.objects s.fds (memory_fits s a) (objects_fit s a);
       requests = λ r x k. absurd (none_there x k);
+      chained = chained_none;
       counted = refl;
       clock = omega arith;
       threads = λ t x k. subst (λ (i : ℕ). Stands i x) (sym size) (threads_stand s a w t x k);

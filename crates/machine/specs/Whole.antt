@@ -10,6 +10,7 @@ use Rattle.places.specs.declared.value.Stage.TheVariants.{Waiting}
 use Rattle.places.specs.declared.value.Change.{Change}
 use Rattle.places.specs.View.{View, LeadsBack}
 use Rattle.ring_words.specs.Rings.{waiting, sub_seen, sub_can_put, SubFormed, com_seen, com_can_put, ComFormed}
+use Rattle.links_drains.specs.Links.{Chained}
 use Rattle.links_drains.specs.Rows.{table_seen, table_can_put}
 use Rattle.links_drains.specs.Phases.{is_issued, is_unfinished, counted_of, ended_of}
 use Rattle.model_files.specs.declared.descriptor.DescriptorState.{DescriptorState}
@@ -159,6 +160,7 @@ pub record WellFormed (m : Machine) : Type 0 where
   pub front : m.backlog.front ≤ length m.backlog.items
   pub overflowed : length m.backlog.items ≤ ended_of m.table
   pub rows : length m.table ≤ 65536
+  pub chained : Chained m.table
   pub world : WorldFormed m.world
   pub requests : (r : ℕ) (x : Row) → slice_get m.table r ≡ Some x → RowFormed m.world x
   pub counted : m.counted ≡ counted_of m.table

@@ -132,6 +132,6 @@ pub record Direct (rows : List Row) (direct : List Ending) : Type 0 where
   pub each : (i : ℕ) (e : Ending) → slice_get direct i ≡ Some e → (row : Row) × (slice_get rows e.0 ≡ Some row) × (is_unfinished row.phase ≡ true)
   pub rising : (i j : ℕ) (p q : Ending) → slice_get direct i ≡ Some p → slice_get direct j ≡ Some q → i < j → p.0 < q.0
 
--- No unfinished row is a TIMEOUT that counts completions, or a guard.
+-- No unfinished row is a TIMEOUT that counts completions, and none guards another.
 abbrev pub NoTimers : List Row → Type 0
-NoTimers rows = (r : ℕ) (row : Row) → slice_get rows r ≡ Some row → is_unfinished row.phase ≡ true → (is_count_timeout row ≡ false) × (is_guard row ≡ false)
+NoTimers rows = (r : ℕ) (row : Row) → slice_get rows r ≡ Some row → is_unfinished row.phase ≡ true → (is_count_timeout row ≡ false) × (row.target ≡ None)
