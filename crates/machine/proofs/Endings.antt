@@ -10,17 +10,18 @@ use Rattle.places.specs.declared.value.Change.{Change}
 use Rattle.places.proofs.Keeping.{keeps_then, keeps_same}
 use Rattle.places.proofs.ListLemmas.{length-updated}
 use Rattle.places.specs.Lists.{updated}
-use Rattle.links_drains.specs.Phases.{is_ended, ended_of}
+use Rattle.links_drains.specs.Phases.{is_ended, is_unfinished, ended_of}
 use Rattle.links_drains.proofs.Counting.{ended-ended, ended-le-length, counted-le-length}
 use Rattle.overflow.specs.Backlogs.{DeliveryFormed, all_posted, fits}
 use Rattle.overflow.proofs.KeptInOrder.{posted_formed}
 use Rattle.machine.specs.Steps.{delivery, ended, all_ended, fallen, completions_of, count_of}
-use Rattle.machine.specs.Whole.{view, everywhere, Grows, RowFormed, WellFormed}
+use Rattle.machine.specs.Whole.{view, everywhere, Grows, Mostly, RowFormed, WellFormed}
 use Rattle.machine.specs.declared.whole.Machine.{Machine}
-use Rattle.machine.proofs.FormedMachines.{Mostly, items_one, mostly_ended, formed_of, formed_ended}
-use Rattle.timeouts_cancel.specs.Falls.{result_in, fall_of}
+use Rattle.machine.proofs.FormedMachines.{items_one, mostly_ended, formed_of, formed_ended}
+use Rattle.timeouts_cancel.specs.Falls.{result_in, fall_of, Direct}
 use Rattle.timeouts_cancel.proofs.Whole.{unlisted, fall_unfinished, fall_rising}
 use Rattle.links_drains.proofs.RowsKept.{get-updated}
+use Rattle.std.proofs.lemmas.Option.{slice_get_within}
 use Rattle.machine.proofs.FormedRows.{ended_row}
 use Rattle.machine.proofs.Growing.{grows_self, grows_then}
 
@@ -112,10 +113,10 @@ pub record Rising (rows : List Row) (from : ℕ) (ps : List (ℕ × ℤ)) : Type
   pub less : (i j : ℕ) (p q : ℕ × ℤ) → slice_get ps i ≡ Some p → slice_get ps j ≡ Some q → i < j → p.0 < q.0
 
 -- the room that they need
-pub can_end_room : (m : Machine) (ps : List (ℕ × ℤ)) → WellFormed m → CanEnd m.table ps → length m.backlog.items + length ps ≤ 65536
+pub can_end_room : (m : Machine) (ps : List (ℕ × ℤ)) → Mostly m → CanEnd m.table ps → length m.backlog.items + length ps ≤ 65536
 can_end_room m ps f h = let k = can_end_most m.table ps h in omega (arith, k, f.overflowed, f.rows)
 
-pub can_end_counts : (m : Machine) (ps : List (ℕ × ℤ)) → WellFormed m → CanEnd m.table ps → m.counted + length ps < 2 ^ 32
+pub can_end_counts : (m : Machine) (ps : List (ℕ × ℤ)) → Mostly m → CanEnd m.table ps → m.counted + length ps < 2 ^ 32
 can_end_counts m ps f h =
     let k = can_end_most m.table ps h in
     let a = counted-le-length m.table in
@@ -188,13 +189,16 @@ can_fall rows c direct = can_end rows 0 (fall_of rows c direct) (record {
 })
 
 pub threads_fallen : (m : Machine) (direct : List (ℕ × ℤ)) → (fallen m direct).threads ≡ m.threads
+unfolding fallen
 threads_fallen m direct = threads_all_ended m (fall_of m.table m.counted direct)
 
 pub formed_fallen : (m : Machine) (direct : List (ℕ × ℤ)) → WellFormed m → WellFormed (fallen m direct)
+unfolding fallen
 formed_fallen m direct f = formed_all_ended m (fall_of m.table m.counted direct) f (can_fall m.table m.counted direct)
 
 -- rows that aren't well formed end, if they are among those that a step ends of itself
 pub formed_fallen_but : (m : Machine) (direct : List (ℕ × ℤ)) → Mostly m → ((j : ℕ) (y : Row) → slice_get m.table j ≡ Some y → RowFormed m.world y ⊎ ((res : ℤ) × (result_in direct j ≡ Some res))) → WellFormed (fallen m direct)
+unfolding fallen
 formed_fallen_but m direct f h =
     formed_of (fallen m direct) (mostly_all_ended m (fall_of m.table m.counted direct) f (can_fall m.table m.counted direct))
     (record { each = λ j y e. subst (λ w. RowFormed w y) (sym (world_all_ended m (fall_of m.table m.counted direct))) (by j y (all_ended_rows m (fall_of m.table m.counted direct) j y e)) })
@@ -207,3 +211,19 @@ formed_fallen_but m direct f h =
     by : (j : ℕ) (y : Row) → ((slice_get m.table j ≡ Some y) × (result_in (fall_of m.table m.counted direct) j ≡ None)) ⊎ (is_ended y.phase ≡ true) → RowFormed m.world y
     by j y (inl a) = stays j y a.0 a.1 (is_ended y.phase) refl (h j y a.0)
     by j y (inr a) = ended_row m.world y a
+
+-- each of them is a row
+pub fall_within : (rows : List Row) (c : ℕ) (direct : List (ℕ × ℤ)) (i : ℕ) (p : ℕ × ℤ) → slice_get (fall_of rows c direct) i ≡ Some p → p.0 < length rows
+fall_within rows c direct i p h = let w = fall_unfinished rows c direct i p h in slice_get_within rows p.0 w.0 w.1
+
+-- one row that is unfinished is what a step can end of itself
+pub direct_one : (rows : List Row) (r : ℕ) (res : ℤ) (x : Row) → slice_get rows r ≡ Some x → is_ended x.phase ≡ false → Direct rows ((r, res) ∷ [])
+direct_one rows r res x h u = record { each = each; rising = rising }
+  where
+    each : (i : ℕ) (p : ℕ × ℤ) → slice_get ((r, res) ∷ []) i ≡ Some p → (y : Row) × (slice_get rows p.0 ≡ Some y) × (is_unfinished y.phase ≡ true)
+    each zero p e = let n : r ≡ p.0 = cc in (x, ap (slice_get rows) (sym n) ∙ h, ap not u)
+    each (suc i) p e = absurd cc
+
+    rising : (i j : ℕ) (p q : ℕ × ℤ) → slice_get ((r, res) ∷ []) i ≡ Some p → slice_get ((r, res) ∷ []) j ≡ Some q → i < j → p.0 < q.0
+    rising i zero p q e g l = absurd (omega (arith, l))
+    rising i (suc j) p q e g l = absurd cc

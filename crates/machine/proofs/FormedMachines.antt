@@ -29,27 +29,11 @@ use Rattle.links_drains.proofs.RowsKept.{get-pushed, length-push}
 use Rattle.machine.specs.Submission.{offered, some_fails, passes_at, batch_of, entries_at, taken_words, taken_entries, einval}
 use Rattle.machine.specs.Steps.{delivery, flushed, ended, posted, count_of, taken_by, taken, submitted, held_by, is_usable, lacks_descriptor, number_in}
 use Rattle.machine.specs.Threads.{ThreadState}
-use Rattle.machine.specs.Whole.{is_asleep, flag_word, HoldsDescriptor, RowFormed, WellFormed, Stands}
+use Rattle.machine.specs.Whole.{Mostly, is_asleep, flag_word, HoldsDescriptor, RowFormed, WellFormed, Stands}
 use Rattle.machine.specs.declared.whole.Machine.{Machine}
 use Rattle.links_drains.specs.Links.{Chained}
 use Rattle.machine.proofs.Chaining.{chained-updated, chained-rows_of}
 use Rattle.machine.proofs.FormedRows.{LastFails, FormedRows, all_pass, one_fails, length-batch_of, length-entries_at, counted-rows_of, formed_rows_of, formed_rows-append, formed_rows-updated, formed_rows-moved, ended_row, updated-last}
-
--- What holds of a well formed machine, but for what holds of its rows.
-pub record Mostly (m : Machine) : Type 0 where
-  pub submissions : SubFormed m.submissions
-  pub completions : ComFormed m.completions
-  pub entries_wait : waiting m.submissions.head m.submissions.tail ≤ length m.submissions.array
-  pub completions_wait : waiting m.completions.head m.completions.tail ≤ length m.completions.slots
-  pub flags : m.submissions.flags ≡ flag_word (is_asleep m.poller) (not (is_clear m.backlog))
-  pub front : m.backlog.front ≤ length m.backlog.items
-  pub overflowed : length m.backlog.items ≤ ended_of m.table
-  pub rows : length m.table ≤ 65536
-  pub chained : Chained m.table
-  pub world : WorldFormed m.world
-  pub counted : m.counted ≡ counted_of m.table
-  pub clock : m.clock < 2 ^ 64
-  pub threads : (t : ℕ) (x : ThreadState) → slice_get m.threads t ≡ Some x → Stands (length m.submissions.slots) x
 
 pub mostly : (m : Machine) → WellFormed m → Mostly m
 mostly m h = record { submissions = h.submissions; completions = h.completions; entries_wait = h.entries_wait; completions_wait = h.completions_wait; flags = h.flags; front = h.front; overflowed = h.overflowed; rows = h.rows; chained = h.chained; world = h.world; counted = h.counted; clock = h.clock; threads = h.threads }
@@ -177,7 +161,7 @@ issued_holds w x l u = by x.entry.fd refl
     by (negsuc n) e = absurd (let k = sym (ap (λ n. is_usable x (descriptor_at w n)) e) ∙ usable in cc)
 
 issued_row : (w : WorldState) (x : Row) → is_ended x.phase ≡ false → lacks_descriptor w x ≡ false → RowFormed w x → RowFormed w (record x { phase = Issued; held = held_by x })
-issued_row w x q l h = record { opcode = λ u. h.opcode (ap not q); holds = λ i u. issued_holds w x l u }
+issued_row w x q l h = record { opcode = λ u. h.opcode (ap not q); holds = λ i u. issued_holds w x l u; untargeted = λ u. h.untargeted (ap not q) }
 
 pub formed_issued : (m : Machine) (r : ℕ) (x : Row) → WellFormed m → slice_get m.table r ≡ Some x → is_ended x.phase ≡ false → lacks_descriptor m.world x ≡ false
     → WellFormed (record m { table = updated (λ row. record row { phase = Issued; held = held_by row }) m.table r })

@@ -20,7 +20,7 @@ use Rattle.ring_words.proofs.Order.{waiting_less, waiting_more, waiting_behind}
 use Rattle.ring_words.proofs.Sizes.{size_most}
 use Rattle.links_drains.specs.Batches.{rows_of}
 use Rattle.links_drains.specs.Rows.{new_row}
-use Rattle.links_drains.specs.Phases.{is_ended, is_unfinished, counts, counted_of, ended_of}
+use Rattle.links_drains.specs.Phases.{is_ended, is_issued, is_unfinished, counts, counted_of, ended_of}
 use Rattle.links_drains.proofs.Batching.{length-rows_of, rows_of-more}
 use Rattle.links_drains.proofs.Counting.{counted-append, counted-ended, counted-unfinished, ended-ended, ended-unfinished, ended-append}
 use Rattle.overflow.specs.Backlogs.{BacklogState, is_clear, fits, Delivery, DeliveryFormed, all_posted, flushed as flushed_delivery}
@@ -29,13 +29,14 @@ use Rattle.links_drains.proofs.RowsKept.{get-pushed, get-push_before, length-pus
 use Rattle.machine.specs.Submission.{offered, some_fails, passes_at, batch_of, entries_at, taken_words, taken_entries, einval}
 use Rattle.machine.specs.Steps.{delivery, flushed, fallen, ended, posted, count_of, taken_by, taken, submitted, held_by, is_usable, lacks_descriptor, number_in}
 use Rattle.machine.specs.Threads.{ThreadState}
-use Rattle.machine.specs.Whole.{is_asleep, flag_word, HoldsDescriptor, RowFormed, WellFormed, Stands}
+use Rattle.machine.specs.Whole.{Mostly, is_asleep, flag_word, HoldsDescriptor, RowFormed, WellFormed, Stands}
 use Rattle.machine.specs.declared.whole.Machine.{Machine}
 use Rattle.links_drains.specs.Links.{Chained}
 use Rattle.machine.proofs.Chaining.{chained-updated, chained-rows_of}
-use Rattle.timeouts_cancel.specs.Falls.{result_in}
-use Rattle.machine.proofs.FormedMachines.{Mostly, mostly, formed_of}
-use Rattle.machine.proofs.Endings.{formed_fallen_but}
+use Rattle.timeouts_cancel.specs.Falls.{result_in, Direct, NoTimers}
+use Rattle.machine.proofs.FormedMachines.{mostly, formed_of}
+use Rattle.machine.proofs.Endings.{formed_fallen_but, direct_one}
+use Rattle.machine.proofs.Untimed.{untimed_but}
 use Rattle.std.proofs.lemmas.Bool.{eq-eqb}
 use Rattle.std.proofs.lemmas.Bool.Decides.{nat_tests}
 use Rattle.std.proofs.lemmas.Option.{slice_get_within}
@@ -134,3 +135,50 @@ formed_taken_last m k h l e =
     by : (j : ℕ) (y : Row) → RowFormed m.world y ⊎ (result_in ((length (taken m k).table - 1, einval) ∷ []) j ≡ Some einval) → RowFormed m.world y ⊎ ((res : ℤ) × (result_in ((length (taken m k).table - 1, einval) ∷ []) j ≡ Some res))
     by j y (inl a) = inl a
     by j y (inr a) = inr (einval, a)
+
+-- ---- what a submission may end, with a row that fails
+
+-- the row that fails is the last, and the others are well formed
+failed_last : (m : Machine) (k : ℕ) → WellFormed m → some_fails m.submissions k ≡ true → (others : List Row) × (x : Row) × ((taken m k).table ≡ others ++ x ∷ []) × FormedRows m.world others × (is_ended x.phase ≡ false) × (is_issued x.phase ≡ false) × (x.target ≡ None)
+failed_last m k h e =
+    let f : LastFails (taken_entries m.submissions k) = one_fails m.submissions.slots (offered m.submissions k) e in
+    (
+      m.table ++ rows_of (length m.table) f.before, new_row f.last (length m.table + length f.before), table_last m k f,
+      formed_rows-append m.world m.table (rows_of (length m.table) f.before) (record { each = h.requests }) (formed_rows_of m.world (length m.table) f.before f.supported), refl, refl, refl,
+    )
+
+untimed_last : (w : WorldState) (rows others : List Row) (x : Row) → rows ≡ others ++ x ∷ [] → FormedRows w others → is_issued x.phase ≡ false → x.target ≡ None → NoTimers rows
+untimed_last w rows others x e h i t = untimed_but w rows (λ j y g. by j y g (nat_lt j (length others)) refl)
+  where
+    same : (a b : Row) → Some a ≡ Some b → a ≡ b
+    same a b k = cc
+
+    by : (j : ℕ) (y : Row) → slice_get rows j ≡ Some y → (b : Bool) → nat_lt j (length others) ≡ b → RowFormed w y ⊎ ((is_issued y.phase ≡ false) × (y.target ≡ None))
+    by j y g true k =
+        let l : j < length others = grind (arith, nat_tests, k) in
+        inl (h.each j y (sym (get-push_before others x j l) ∙ ap (λ zs. slice_get zs j) (sym e) ∙ g))
+    by j y g false k =
+        let l : length others ≤ j = grind (arith, nat_tests, k) in
+        let n = ap length e ∙ length-push others x in
+        let m = slice_get_within rows j y g in
+        let at : j ≡ length others = omega (arith, l, m, n) in
+        let y_is : y ≡ x = same y x (sym g ∙ ap (λ zs. slice_get zs j) e ∙ ap (slice_get (others ++ x ∷ [])) at ∙ get-pushed others x) in
+        inr (ap (λ (z : Row). is_issued z.phase) y_is ∙ i, ap (λ (z : Row). z.target) y_is ∙ t)
+
+-- What a fall asks of the machine, of its last row alone.
+pub record FallsLast (n : Machine) : Type 0 where
+  pub direct : Direct n.table ((length n.table - 1, einval) ∷ [])
+  pub untimed : NoTimers n.table
+  pub mostly : Mostly n
+
+pub falls_last : (m n : Machine) (k : ℕ) (words : List ℕ) → WellFormed m → length m.table + length (offered m.submissions k) ≤ 65536 → some_fails m.submissions k ≡ true → taken_words m.submissions k ≡ words → n ≡ taken_by m words → FallsLast n
+falls_last m n k words h l e w is = subst FallsLast (sym (is ∙ ap (taken_by m) (sym w))) here
+  where
+    here : FallsLast (taken m k)
+    here =
+        let f = failed_last m k h e in
+        record {
+          direct = direct_one (taken m k).table (length (taken m k).table - 1) einval f.1 (last_row (taken m k).table f.0 f.1 f.2) f.4;
+          untimed = untimed_last m.world (taken m k).table f.0 f.1 f.2 f.3 f.5 f.6;
+          mostly = mostly_taken m k (mostly m h) l;
+        }

@@ -76,6 +76,7 @@ grows_all_ended m [] = grows_self m
 grows_all_ended m (p ∷ ps) = grows_then m (ended m p.0 p.1) (all_ended (ended m p.0 p.1) ps) (grows_ended m p.0 p.1) (grows_all_ended (ended m p.0 p.1) ps)
 
 pub grows_fallen : (m : Machine) (direct : List (ℕ × ℤ)) → Grows m (fallen m direct)
+unfolding fallen
 grows_fallen m direct = grows_all_ended m (fall_of m.table m.counted direct)
 
 -- ---- submissions

@@ -16,6 +16,7 @@ use Rattle.ring_words.proofs.Order.{waiting_none}
 use Rattle.ring_words.proofs.Sizes.{rounded_size, size_most}
 use Rattle.ring_words.proofs.Laws.{formed_sub_start, formed_com_start}
 use Rattle.scenario.specs.Programs.{HasWidths, HaveWidths, IsDone, IsProgram}
+use Rattle.machine.proofs.Chaining.{chained_none}
 use Rattle.machine.specs.Threads.{ThreadState, thread_start}
 use Rattle.scenario.specs.Setups.{setup_refusal, has_ring_sizes, is_between, is_completion_size, has_programs, is_program, is_instruction, has_memory, has_objects, has_descriptors, is_object, is_name, is_contents, names_once, keeps_limits, is_unbuilt, is_unbuilt_object, asks_for_unbuilt}
 use Rattle.places.specs.declared.object.Contents.{Contents}

@@ -181,7 +181,7 @@ all_ended m [] = m
 all_ended m (p ∷ ps) = all_ended (ended m p.0 p.1) ps
 
 -- the machine once rows have ended, and those that fall with them
-abbrev pub fallen : Machine → List (ℕ × ℤ) → Machine
+unfoldable pub fallen : Machine → List (ℕ × ℤ) → Machine
 fallen m direct = all_ended m (fall_of m.table m.counted direct)
 
 -- the machine once words were taken from the ring, and the entries that they name have become rows

@@ -145,10 +145,11 @@ pub record HoldsDescriptor (w : WorldState) (x : Row) : Type 0 where
   pub there : descriptor_of w fd ≡ Some descriptor
   pub fits : fits_end x.entry.opcode descriptor.end ≡ true
 
--- While a row is unfinished its opcode is a supported one; while it is issued it holds its descriptor, if it uses one.
+-- While a row is unfinished its opcode is a supported one, and it guards no other; while it is issued it holds its descriptor, if it uses one.
 pub record RowFormed (w : WorldState) (x : Row) : Type 0 where
   pub opcode : is_unfinished x.phase ≡ true → IsSome (op_of x.entry.opcode)
   pub holds : is_issued x.phase ≡ true → uses_descriptor x.entry.opcode ≡ true → HoldsDescriptor w x
+  pub untargeted : is_unfinished x.phase ≡ true → x.target ≡ None
 
 -- What holds of every machine between steps, with the range of each number.
 pub record WellFormed (m : Machine) : Type 0 where
@@ -163,6 +164,22 @@ pub record WellFormed (m : Machine) : Type 0 where
   pub chained : Chained m.table
   pub world : WorldFormed m.world
   pub requests : (r : ℕ) (x : Row) → slice_get m.table r ≡ Some x → RowFormed m.world x
+  pub counted : m.counted ≡ counted_of m.table
+  pub clock : m.clock < 2 ^ 64
+  pub threads : (t : ℕ) (x : ThreadState) → slice_get m.threads t ≡ Some x → Stands (length m.submissions.slots) x
+
+-- What holds of a well formed machine, but for what holds of its rows.
+pub record Mostly (m : Machine) : Type 0 where
+  pub submissions : SubFormed m.submissions
+  pub completions : ComFormed m.completions
+  pub entries_wait : waiting m.submissions.head m.submissions.tail ≤ length m.submissions.array
+  pub completions_wait : waiting m.completions.head m.completions.tail ≤ length m.completions.slots
+  pub flags : m.submissions.flags ≡ flag_word (is_asleep m.poller) (not (is_clear m.backlog))
+  pub front : m.backlog.front ≤ length m.backlog.items
+  pub overflowed : length m.backlog.items ≤ ended_of m.table
+  pub rows : length m.table ≤ 65536
+  pub chained : Chained m.table
+  pub world : WorldFormed m.world
   pub counted : m.counted ≡ counted_of m.table
   pub clock : m.clock < 2 ^ 64
   pub threads : (t : ℕ) (x : ThreadState) → slice_get m.threads t ≡ Some x → Stands (length m.submissions.slots) x

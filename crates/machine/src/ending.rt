@@ -1,9 +1,10 @@
 //! Requests end: their completions are posted, and they are counted.
 ghost use Rattle.std.specs.Prelude.{◌≡◌, ◌+◌, ◌<◌, ◌≤◌, ◌^◌, ℕ, ℤ, OnOk, Some, length, slice_get};
 ghost use Rattle.places.specs.View.{Keeps};
-ghost use Rattle.machine.specs.Steps.{delivery, ended, all_ended};
+ghost use Rattle.machine.specs.Steps.{delivery, ended, all_ended, fallen};
+ghost use Rattle.timeouts_cancel.specs.Falls.{Direct, NoTimers};
 ghost use Rattle.overflow.specs.Backlogs.{DeliveryFormed};
-ghost use Rattle.machine.specs.Whole.{view, everywhere, Grows};
+ghost use Rattle.machine.specs.Whole.{view, everywhere, Grows, Mostly};
 
 use crate::whole::Machine;
 use entries::{Cqe, Phase};
@@ -11,6 +12,7 @@ use opcodes::is_timer;
 use overflow::post_all;
 use places::{Place, Recorder};
 use std::alloc::AllocError;
+use timeouts_cancel::fall;
 
 impl Machine {
     /// A row ends with a result: its completion is posted, and it is counted unless it is a timer.
@@ -45,6 +47,24 @@ impl Machine {
         notes.note_number(Place::Counted, self.counted as u64)?;
         self.counted += 1;
         Ok(())
+    }
+
+    /// Rows end that a step ends of itself, and those that fall with them.
+    #[tactic(auto, unfolding(crate::specs::Steps::fallen))]
+    pub(crate) fn fall(
+        &mut self,
+        direct: &[(u32, i32)],
+        notes: &mut Recorder,
+    ) -> Result<(), AllocError>
+        requires direct { Direct self.old.table direct.now }
+        requires untimed { NoTimers self.old.table }
+        requires mostly { Mostly self.old }
+        ensures ok { OnOk result (self.new ≡ fallen self.old direct.now) }
+        ensures grows { Grows self.old self.new }
+        ensures keeps { Keeps everywhere (view self.old) (view self.new) notes.old.made notes.new.made }
+    {
+        let endings = fall(&self.table, self.counted, direct)?;
+        self.end_all(&endings, notes)
     }
 
     /// Rows end with their results, one after the other.

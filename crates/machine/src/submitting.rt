@@ -77,7 +77,7 @@ impl Machine {
         }
         let taken = self.take(passing + 1, notes)?;
         let last = self.table.len() as u32 - 1;
-        self.end(last, -EINVAL, notes)?;
+        self.fall(&[(last, -EINVAL)], notes)?;
         Ok(taken)
     }
 
