@@ -5,6 +5,7 @@ ghost use Rattle.links_drains.specs.Links.{is_soft_linked};
 use entries::Row;
 
 const IO_LINK: u8 = 4;
+
 const IO_HARDLINK: u8 = 8;
 
 /// Whether a bad end of a row severs the rest of its chain: it has IO_LINK and not IO_HARDLINK.

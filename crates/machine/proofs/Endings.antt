@@ -132,12 +132,16 @@ updated_other f (x ∷ rows) (suc r) (suc j) h = updated_other f rows r j (omega
 pub can_end : (rows : List Row) (from : ℕ) (ps : List (ℕ × ℤ)) → Rising rows from ps → CanEnd rows ps
 can_end rows from [] h = tt
 can_end rows from (p ∷ ps) h =
-    let first = h.each 0 p refl in
-    (first.0, first.1, first.2, can_end (updated (λ (row : Row). record row { phase = Ended p.1 }) rows p.0) (p.0 + 1) ps (record {
-      each = λ i q e. let x = h.each (suc i) q e in (x.0, updated_other (λ (row : Row). record row { phase = Ended p.1 }) rows p.0 q.0 (h.less 0 (suc i) p q refl e (omega arith)) ∙ x.1, x.2);
-      above = λ i q e. let l = h.less 0 (suc i) p q refl e (omega arith) in omega (arith, l);
-      less = λ i j q o e d l. h.less (suc i) (suc j) q o e d (omega arith);
-    }))
+    let first = h.each 0 p refl in (
+      first.0,
+      first.1,
+      first.2,
+      can_end (updated (λ (row : Row). record row { phase = Ended p.1 }) rows p.0) (p.0 + 1) ps (record {
+        each = λ i q e. let x = h.each (suc i) q e in (x.0, updated_other (λ (row : Row). record row { phase = Ended p.1 }) rows p.0 q.0 (h.less 0 (suc i) p q refl e (omega arith)) ∙ x.1, x.2);
+        above = λ i q e. let l = h.less 0 (suc i) p q refl e (omega arith) in omega (arith, l);
+        less = λ i j q o e d l. h.less (suc i) (suc j) q o e d (omega arith);
+      }),
+    )
 
 pub mostly_all_ended : (m : Machine) (ps : List (ℕ × ℤ)) → Mostly m → CanEnd m.table ps → Mostly (all_ended m ps)
 mostly_all_ended m [] f h = f

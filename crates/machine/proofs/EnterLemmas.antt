@@ -14,7 +14,7 @@ use Rattle.links_drains.proofs.Counting.{ended-le-length, ended-lt-length}
 use Rattle.ring_words.specs.Rings.{sub_list}
 use Rattle.overflow.specs.Backlogs.{is_clear}
 use Rattle.machine.specs.Submission.{taken_entries, einval, ebusy, ebadf}
-use Rattle.machine.specs.Steps.{flushed, gets_events, before_submission, is_unknown, is_busy, submission_refusal, alone_refusal, issue_refusal, outcome_refusal, issued, held_by, lacks_descriptor, ended, phase_refusal, finish_refusal, answered, submitted, awaited, submitting, entered, entered_alone, entered_beside, fallen}
+use Rattle.machine.specs.Steps.{flushed, gets_events, before_submission, is_unknown, is_busy, submission_refusal, alone_refusal, issue_refusal, outcome_refusal, issued, held_by, lacks_descriptor, phase_refusal, finish_refusal, answered, submitted, awaited, submitting, entered, entered_alone, entered_beside, fallen}
 use Rattle.sqpoll.specs.declared.poller.Poller.{Poller}
 use Rattle.places.specs.Lists.{updated}
 use Rattle.places.proofs.ListLemmas.{updated_set}

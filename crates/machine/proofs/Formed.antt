@@ -1,12 +1,11 @@
 -- Accepted events keep machines well formed.
-use Rattle.std.proofs.Common.{◌≡◌, ◌≢◌, ℕ, ℤ, zero, suc, pos, Bool, true, false, cond, refl, sym, ◌∙◌, ap, subst, List, [], ◌∷◌, ◌++◌, length, map, ◌+◌, ◌-◌, ◌%◌, ◌<◌, ◌≤◌, ◌^◌, ◌⊎◌, inl, inr, arith, length-set, length-append, le_refl, FitsSigned}
+use Rattle.std.proofs.Common.{◌≡◌, ℕ, ℤ, zero, suc, pos, Bool, true, false, cond, refl, sym, ◌∙◌, ap, List, [], ◌∷◌, length, ◌+◌, ◌-◌, ◌%◌, ◌<◌, ◌≤◌, ◌^◌, ◌⊎◌, inl, inr, arith, FitsSigned}
 use Rattle.std.specs.Prelude.{Option, Some, None, not, min, slice_get, slice_set, nat_lt, ◌==◌, ◌&&◌, ◌||◌, if◌then◌else◌}
 use Rattle.std.specs.Int.{w64}
-use Rattle.std.proofs.lemmas.Bool.{eqb-true, eq-eqb}
+use Rattle.std.proofs.lemmas.Bool.{eq-eqb}
 use Rattle.std.proofs.lemmas.Bool.Decides.{leb_tells}
-use Rattle.std.proofs.Math.Dec.{leb, ltb}
+use Rattle.std.proofs.Math.Dec.{ltb}
 use Rattle.entries.specs.declared.completion.Cqe.{Cqe}
-use Rattle.entries.specs.declared.entry.Sqe.{Sqe}
 use Rattle.entries.specs.declared.row.Row.{Row}
 use Rattle.entries.specs.declared.row.Phase.{Phase}
 use Rattle.entries.specs.declared.row.Phase.TheVariants.{Queued, Issued, Ended}
@@ -20,7 +19,6 @@ use Rattle.model_files.specs.Worlds.{world_stored}
 use Rattle.model_files.proofs.Fixing as worlds
 use Rattle.model_files.proofs.Forming.{world_stored_formed}
 use Rattle.places.specs.Lists.{updated}
-use Rattle.places.proofs.ListLemmas.{length-updated}
 use Rattle.places.specs.declared.value.Stage.{Stage}
 use Rattle.places.specs.declared.value.Stage.TheVariants.{Ready, Waiting}
 use Rattle.ring_words.specs.Rings.{waiting, with_flag}
@@ -30,13 +28,11 @@ use Rattle.overflow.specs.Backlogs.{is_clear}
 use Rattle.sqpoll.specs.declared.poller.Poller.{Poller}
 use Rattle.sqpoll.specs.declared.poller.Poller.TheVariants.{Awake, Asleep}
 use Rattle.sqpoll.specs.Pollers.{is_awake}
-use Rattle.links_drains.specs.Batches.{rows_of}
 use Rattle.links_drains.specs.Phases.{is_ended, counts}
 use Rattle.machine.specs.Submission.{offered, some_fails, taken_entries, einval, ebusy, ebadf}
-use Rattle.machine.specs.Steps.{refusal, after, stepped, executed, entered, entered_alone, entered_beside, submitting, before_submission, is_busy, is_unknown, gets_events, wakes, woken, shown, awaited, ready_count, held_back, with_poller, flushed, submission_refusal, alone_refusal, enter_refusal, instruction_refusal, next_refusal, thread_refusal, take_refusal, issue_refusal, phase_refusal, finish_refusal, ended, taken, submitted, answered, gone_on, issued, finished, finished_as, lacks_descriptor, held_by, fallen}
-use Rattle.machine.specs.Threads.{ThreadState, program_of}
-use Rattle.scenario.specs.Programs.{IsDone}
-use Rattle.machine.specs.Whole.{is_asleep, flag_word, WellFormed, Stands}
+use Rattle.machine.specs.Steps.{refusal, after, stepped, executed, entered, entered_alone, entered_beside, submitting, before_submission, is_busy, is_unknown, gets_events, wakes, woken, shown, awaited, ready_count, held_back, with_poller, flushed, submission_refusal, alone_refusal, enter_refusal, instruction_refusal, next_refusal, thread_refusal, take_refusal, issue_refusal, phase_refusal, finish_refusal, taken, submitted, answered, gone_on, issued, finished, finished_as, lacks_descriptor, held_by, fallen}
+use Rattle.machine.specs.Threads.{ThreadState}
+use Rattle.machine.specs.Whole.{is_asleep, flag_word, WellFormed}
 use Rattle.scenario.specs.declared.setup.Instruction.{Instruction}
 use Rattle.scenario.specs.declared.setup.Instruction.TheVariants.{Put, Push, Store, Enter, Reap, Close}
 use Rattle.machine.specs.declared.whole.Machine.{Machine}
@@ -44,9 +40,9 @@ use Rattle.scenario.specs.declared.event.Event.{Event}
 use Rattle.scenario.specs.declared.event.Event.TheVariants.{Step, Take, Sleep, Issue, Finish, Expire, Tick}
 use Rattle.scenario.specs.declared.event.Refusal.{Refusal}
 use Rattle.scenario.specs.declared.event.Refusal.TheVariants.{SqFull, NothingToReap, WrongPhase, ClockFull, RequestsFull}
-use Rattle.machine.proofs.FormedThreads.{stands_on, stands_held, fits_count, formed_thread}
+use Rattle.machine.proofs.FormedThreads.{stands_on, stands_held, formed_thread}
 use Rattle.machine.proofs.FormedMachines.{formed_issued, formed_world, formed_flushed, wakeup_flag, formed_put, formed_push, formed_taken_out}
-use Rattle.machine.proofs.FormedSubmissions.{formed_taken_all, formed_taken_last, length-offered, length-taken_entries}
+use Rattle.machine.proofs.FormedSubmissions.{formed_taken_all, formed_taken_last, length-taken_entries}
 use Rattle.machine.proofs.Endings.{formed_fallen, threads_fallen}
 
 ltb_tells : (a b : ℕ) → ((ltb a b ≡ true) × (a < b)) ⊎ ((ltb a b ≡ false) × (b ≤ a))

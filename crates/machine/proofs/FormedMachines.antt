@@ -1,39 +1,30 @@
 -- What each change of the machine keeps.
-use Rattle.std.proofs.Common.{◌≡◌, ◌≢◌, ℕ, ℤ, zero, suc, pos, negsuc, Bool, true, false, cond, refl, sym, ◌∙◌, ap, subst, List, [], ◌∷◌, ◌++◌, length, take, drop, ◌+◌, ◌-◌, ◌%◌, ◌<◌, ◌≤◌, ◌^◌, ◌⊎◌, inl, inr, append_assoc, length-append, length-take, length-set, arith}
+use Rattle.std.proofs.Common.{◌≡◌, ℕ, ℤ, pos, negsuc, Bool, true, false, cond, refl, sym, ◌∙◌, ap, subst, [], ◌∷◌, length, drop, ◌+◌, ◌%◌, ◌<◌, ◌≤◌, ◌^◌, length-append, length-set, arith}
 use Rattle.std.proofs.lemmas.List.{length-drop}
 use Rattle.std.specs.Prelude.{Option, Some, None, slice_get, slice_set, not, ◌&&◌, if◌then◌else◌}
 use Rattle.model_files.specs.declared.descriptor.DescriptorState.{DescriptorState}
 use Rattle.model_files.specs.Worlds.{WorldState, WorldFormed, descriptor_of, descriptor_at, OneSetup as OneWorldSetup}
 use Rattle.opcodes.specs.Opcodes.{uses_descriptor, fits_end}
-use Rattle.std.specs.List.{list_any}
 use Rattle.entries.specs.declared.completion.Cqe.{Cqe}
 use Rattle.entries.specs.declared.entry.Sqe.{Sqe}
 use Rattle.entries.specs.declared.row.Row.{Row}
-use Rattle.entries.specs.declared.row.Phase.{Phase}
-use Rattle.entries.specs.declared.row.Phase.TheVariants.{Queued, Issued, Ended}
+use Rattle.entries.specs.declared.row.Phase.TheVariants.{Issued, Ended}
 use Rattle.places.specs.Lists.{updated}
 use Rattle.places.proofs.ListLemmas.{length-updated}
-use Rattle.ring_words.specs.Rings.{SubWords, SubFormed, ComWords, ComFormed, waiting, sub_list, with_flag}
+use Rattle.ring_words.specs.Rings.{waiting, with_flag}
 use Rattle.ring_words.specs.declared.flag.RingFlag.TheVariants.{NeedWakeup, CqOverflow}
-use Rattle.ring_words.proofs.Laws.{formed_pushed, formed_taken, formed_entry, formed_flag, formed_reaped, sub_length}
-use Rattle.ring_words.proofs.Order.{waiting_less, waiting_more, waiting_behind}
+use Rattle.ring_words.proofs.Laws.{formed_pushed, formed_entry, formed_flag, formed_reaped}
+use Rattle.ring_words.proofs.Order.{waiting_less, waiting_more}
 use Rattle.ring_words.proofs.Sizes.{size_most}
-use Rattle.links_drains.specs.Batches.{rows_of}
-use Rattle.links_drains.specs.Rows.{new_row}
-use Rattle.links_drains.specs.Phases.{is_ended, is_unfinished, counts, counted_of, ended_of}
-use Rattle.links_drains.proofs.Batching.{length-rows_of, rows_of-more}
-use Rattle.links_drains.proofs.Counting.{counted-append, counted-ended, counted-unfinished, ended-ended, ended-unfinished, ended-append}
+use Rattle.links_drains.specs.Phases.{is_ended, counts, counted_of}
+use Rattle.links_drains.proofs.Counting.{counted-ended, counted-unfinished, ended-ended, ended-unfinished}
 use Rattle.overflow.specs.Backlogs.{BacklogState, is_clear, fits, Delivery, DeliveryFormed, all_posted, flushed as flushed_delivery}
 use Rattle.overflow.proofs.KeptInOrder.{posted_formed, flushed_formed}
-use Rattle.links_drains.proofs.RowsKept.{get-pushed, length-push}
-use Rattle.machine.specs.Submission.{offered, some_fails, passes_at, batch_of, entries_at, taken_words, taken_entries, einval}
-use Rattle.machine.specs.Steps.{delivery, flushed, ended, posted, count_of, taken_by, taken, submitted, held_by, is_usable, lacks_descriptor, number_in}
-use Rattle.machine.specs.Threads.{ThreadState}
+use Rattle.machine.specs.Steps.{delivery, flushed, ended, held_by, is_usable, lacks_descriptor, number_in}
 use Rattle.machine.specs.Whole.{Mostly, is_asleep, flag_word, HoldsDescriptor, RowFormed, WellFormed, Stands}
 use Rattle.machine.specs.declared.whole.Machine.{Machine}
-use Rattle.links_drains.specs.Links.{Chained}
-use Rattle.machine.proofs.Chaining.{chained-updated, chained-rows_of}
-use Rattle.machine.proofs.FormedRows.{LastFails, FormedRows, all_pass, one_fails, length-batch_of, length-entries_at, counted-rows_of, formed_rows_of, formed_rows-append, formed_rows-updated, formed_rows-moved, ended_row, updated-last}
+use Rattle.machine.proofs.Chaining.{chained-updated}
+use Rattle.machine.proofs.FormedRows.{FormedRows, formed_rows-updated, formed_rows-moved, ended_row}
 
 pub mostly : (m : Machine) → WellFormed m → Mostly m
 mostly m h = record { submissions = h.submissions; completions = h.completions; entries_wait = h.entries_wait; completions_wait = h.completions_wait; flags = h.flags; front = h.front; overflowed = h.overflowed; rows = h.rows; chained = h.chained; world = h.world; counted = h.counted; clock = h.clock; threads = h.threads }

@@ -1,38 +1,22 @@
 -- What a submission keeps.
-use Rattle.std.proofs.Common.{◌≡◌, ◌≢◌, ℕ, ℤ, zero, suc, pos, negsuc, Bool, true, false, cond, refl, sym, ◌∙◌, ap, subst, List, [], ◌∷◌, ◌++◌, length, take, drop, ◌+◌, ◌-◌, ◌%◌, ◌<◌, ◌≤◌, ◌^◌, ◌⊎◌, inl, inr, append_assoc, length-append, length-take, length-set, arith}
-use Rattle.std.proofs.lemmas.List.{length-drop}
-use Rattle.std.specs.Prelude.{Option, Some, None, slice_get, slice_set, not, ◌&&◌, nat_lt, ◌==◌, if◌then◌else◌}
-use Rattle.model_files.specs.declared.descriptor.DescriptorState.{DescriptorState}
-use Rattle.model_files.specs.Worlds.{WorldState, WorldFormed, descriptor_of, descriptor_at, OneSetup as OneWorldSetup}
-use Rattle.opcodes.specs.Opcodes.{uses_descriptor, fits_end}
-use Rattle.std.specs.List.{list_any}
-use Rattle.entries.specs.declared.completion.Cqe.{Cqe}
-use Rattle.entries.specs.declared.entry.Sqe.{Sqe}
+use Rattle.std.proofs.Common.{◌≡◌, ℕ, ℤ, Bool, true, false, cond, refl, sym, ◌∙◌, ap, subst, List, [], ◌∷◌, ◌++◌, length, ◌+◌, ◌-◌, ◌%◌, ◌<◌, ◌≤◌, ◌^◌, ◌⊎◌, inl, inr, append_assoc, length-append, length-take, arith}
+use Rattle.std.specs.Prelude.{Some, None, slice_get, nat_lt}
+use Rattle.model_files.specs.Worlds.{WorldState}
 use Rattle.entries.specs.declared.row.Row.{Row}
-use Rattle.entries.specs.declared.row.Phase.{Phase}
-use Rattle.entries.specs.declared.row.Phase.TheVariants.{Queued, Issued, Ended}
-use Rattle.places.specs.Lists.{updated}
-use Rattle.places.proofs.ListLemmas.{length-updated}
-use Rattle.ring_words.specs.Rings.{SubWords, SubFormed, ComWords, ComFormed, waiting, sub_list, with_flag}
-use Rattle.ring_words.specs.declared.flag.RingFlag.TheVariants.{NeedWakeup, CqOverflow}
-use Rattle.ring_words.proofs.Laws.{formed_pushed, formed_taken, formed_entry, formed_flag, formed_reaped, sub_length}
-use Rattle.ring_words.proofs.Order.{waiting_less, waiting_more, waiting_behind}
-use Rattle.ring_words.proofs.Sizes.{size_most}
+use Rattle.ring_words.specs.Rings.{SubWords, SubFormed, waiting, sub_list}
+use Rattle.ring_words.proofs.Laws.{formed_taken, sub_length}
+use Rattle.ring_words.proofs.Order.{waiting_behind}
 use Rattle.links_drains.specs.Batches.{rows_of}
 use Rattle.links_drains.specs.Rows.{new_row}
-use Rattle.links_drains.specs.Phases.{is_ended, is_issued, is_unfinished, counts, counted_of, ended_of}
+use Rattle.links_drains.specs.Phases.{is_ended, is_issued}
 use Rattle.links_drains.proofs.Batching.{length-rows_of, rows_of-more}
-use Rattle.links_drains.proofs.Counting.{counted-append, counted-ended, counted-unfinished, ended-ended, ended-unfinished, ended-append}
-use Rattle.overflow.specs.Backlogs.{BacklogState, is_clear, fits, Delivery, DeliveryFormed, all_posted, flushed as flushed_delivery}
-use Rattle.overflow.proofs.KeptInOrder.{posted_formed, flushed_formed}
+use Rattle.links_drains.proofs.Counting.{counted-append, ended-append}
 use Rattle.links_drains.proofs.RowsKept.{get-pushed, get-push_before, length-push}
-use Rattle.machine.specs.Submission.{offered, some_fails, passes_at, batch_of, entries_at, taken_words, taken_entries, einval}
-use Rattle.machine.specs.Steps.{delivery, flushed, fallen, ended, posted, count_of, taken_by, taken, submitted, held_by, is_usable, lacks_descriptor, number_in}
-use Rattle.machine.specs.Threads.{ThreadState}
-use Rattle.machine.specs.Whole.{Mostly, is_asleep, flag_word, HoldsDescriptor, RowFormed, WellFormed, Stands}
+use Rattle.machine.specs.Submission.{offered, some_fails, taken_words, taken_entries, einval}
+use Rattle.machine.specs.Steps.{fallen, taken_by, taken}
+use Rattle.machine.specs.Whole.{Mostly, RowFormed, WellFormed}
 use Rattle.machine.specs.declared.whole.Machine.{Machine}
-use Rattle.links_drains.specs.Links.{Chained}
-use Rattle.machine.proofs.Chaining.{chained-updated, chained-rows_of}
+use Rattle.machine.proofs.Chaining.{chained-rows_of}
 use Rattle.timeouts_cancel.specs.Falls.{result_in, Direct, NoTimers}
 use Rattle.machine.proofs.FormedMachines.{mostly, formed_of}
 use Rattle.machine.proofs.Endings.{formed_fallen_but, direct_one}
@@ -40,7 +24,7 @@ use Rattle.machine.proofs.Untimed.{untimed_but}
 use Rattle.std.proofs.lemmas.Bool.{eq-eqb}
 use Rattle.std.proofs.lemmas.Bool.Decides.{nat_tests}
 use Rattle.std.proofs.lemmas.Option.{slice_get_within}
-use Rattle.machine.proofs.FormedRows.{LastFails, FormedRows, all_pass, one_fails, length-batch_of, length-entries_at, counted-rows_of, formed_rows_of, formed_rows-append, formed_rows-updated, formed_rows-moved, ended_row, updated-last}
+use Rattle.machine.proofs.FormedRows.{LastFails, FormedRows, all_pass, one_fails, length-batch_of, length-entries_at, counted-rows_of, formed_rows_of, formed_rows-append}
 
 -- ---- a submission
 
@@ -141,10 +125,14 @@ formed_taken_last m k h l e =
 -- the row that fails is the last, and the others are well formed
 failed_last : (m : Machine) (k : ℕ) → WellFormed m → some_fails m.submissions k ≡ true → (others : List Row) × (x : Row) × ((taken m k).table ≡ others ++ x ∷ []) × FormedRows m.world others × (is_ended x.phase ≡ false) × (is_issued x.phase ≡ false) × (x.target ≡ None)
 failed_last m k h e =
-    let f : LastFails (taken_entries m.submissions k) = one_fails m.submissions.slots (offered m.submissions k) e in
-    (
-      m.table ++ rows_of (length m.table) f.before, new_row f.last (length m.table + length f.before), table_last m k f,
-      formed_rows-append m.world m.table (rows_of (length m.table) f.before) (record { each = h.requests }) (formed_rows_of m.world (length m.table) f.before f.supported), refl, refl, refl,
+    let f : LastFails (taken_entries m.submissions k) = one_fails m.submissions.slots (offered m.submissions k) e in (
+      m.table ++ rows_of (length m.table) f.before,
+      new_row f.last (length m.table + length f.before),
+      table_last m k f,
+      formed_rows-append m.world m.table (rows_of (length m.table) f.before) (record { each = h.requests }) (formed_rows_of m.world (length m.table) f.before f.supported),
+      refl,
+      refl,
+      refl,
     )
 
 untimed_last : (w : WorldState) (rows others : List Row) (x : Row) → rows ≡ others ++ x ∷ [] → FormedRows w others → is_issued x.phase ≡ false → x.target ≡ None → NoTimers rows

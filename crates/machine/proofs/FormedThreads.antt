@@ -1,6 +1,6 @@
 -- Threads that go on stand within their programs, and setups stay.
-use Rattle.std.proofs.Common.{◌≡◌, ◌≢◌, ℕ, ℤ, zero, suc, pos, negsuc, refl, sym, ◌∙◌, ap, subst, List, [], ◌∷◌, length, map, ◌+◌, ◌<◌, ◌≤◌, ◌^◌, ◌⊎◌, inl, inr, arith, FitsSigned}
-use Rattle.std.specs.Prelude.{Option, Some, None, slice_get}
+use Rattle.std.proofs.Common.{◌≡◌, ℕ, ℤ, pos, sym, ◌∙◌, ap, subst, List, length, ◌+◌, ◌<◌, ◌≤◌, ◌^◌, ◌⊎◌, inl, inr, arith, FitsSigned}
+use Rattle.std.specs.Prelude.{Option, Some, slice_get}
 use Rattle.std.specs.Int.{w64}
 use Rattle.std.proofs.lemmas.Option.{slice_get_within}
 use Rattle.entries.specs.declared.completion.Cqe.{Cqe}

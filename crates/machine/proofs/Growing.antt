@@ -1,5 +1,5 @@
 -- Accepted events leave a setup as it is, and take no row and no item of the backlog away.
-use Rattle.std.proofs.Common.{◌≡◌, ℕ, ℤ, pos, Bool, true, false, refl, sym, ◌∙◌, ap, subst, List, [], ◌∷◌, ◌++◌, length, map, take, drop, ◌+◌, ◌-◌, ◌%◌, ◌≤◌, arith, length-set, length-append, le_refl}
+use Rattle.std.proofs.Common.{◌≡◌, ℕ, ℤ, pos, Bool, true, false, refl, sym, ap, List, [], ◌∷◌, length, map, take, drop, ◌+◌, ◌-◌, ◌%◌, ◌≤◌, arith, length-set, length-append, le_refl}
 use Rattle.std.specs.Prelude.{Option, Some, None, is_some, min, slice_get, nat_lt, ◌==◌, ◌&&◌, ◌||◌, if◌then◌else◌}
 use Rattle.entries.specs.declared.completion.Cqe.{Cqe}
 use Rattle.entries.specs.declared.row.Row.{Row}
@@ -25,7 +25,7 @@ use Rattle.machine.specs.Submission.{some_fails, taken_entries, einval, ebusy, e
 use Rattle.timeouts_cancel.specs.Falls.{fall_of}
 use Rattle.machine.specs.Steps.{refusal, sleep_refusal, after, stepped, executed, entered, entered_alone, entered_beside, submitting, before_submission, is_busy, is_unknown, gets_events, wakes, woken, shown, awaited, ready_count, held_back, with_poller, posted, flushed, completions_of, ended, all_ended, fallen, taken, submitted, answered, issued, finished, finished_as, lacks_descriptor, held_by}
 use Rattle.machine.specs.Threads.{ThreadState, program_of}
-use Rattle.machine.specs.Whole.{OneSetup, Grows, WellFormed}
+use Rattle.machine.specs.Whole.{Grows, WellFormed}
 use Rattle.scenario.specs.declared.setup.Instruction.{Instruction}
 use Rattle.scenario.specs.declared.setup.Instruction.TheVariants.{Put, Push, Store, Enter, Reap, Close}
 use Rattle.machine.specs.declared.whole.Machine.{Machine}

@@ -1,5 +1,5 @@
 -- What a submission takes, told by how many words stand before one that fails.
-use Rattle.std.proofs.Common.{◌≡◌, ℕ, ℤ, zero, suc, Bool, true, false, cond, refl, sym, ◌∙◌, ap, subst, List, [], ◌∷◌, ◌++◌, length, take, ◌+◌, ◌-◌, ◌<◌, ◌≤◌, ◌^◌, length-append, arith}
+use Rattle.std.proofs.Common.{◌≡◌, ℕ, suc, Bool, true, false, cond, refl, sym, ◌∙◌, ap, List, [], ◌∷◌, length, take, ◌+◌, ◌-◌, ◌<◌, ◌≤◌, ◌^◌, length-append, arith}
 use Rattle.std.specs.Prelude.{Option, Some, None, slice_get, min}
 use Rattle.std.specs.Option.{option_map_or}
 use Rattle.std.specs.List.{prefix_len}
@@ -12,15 +12,13 @@ use Rattle.places.proofs.ListLemmas.{slice_get-take_below}
 use Rattle.ring_words.specs.Rings.{SubWords, sub_list}
 use Rattle.links_drains.specs.Batches.{passes, rows_of}
 use Rattle.links_drains.proofs.Batching.{length-rows_of}
-use Rattle.links_drains.specs.Phases.{counted_of}
 use Rattle.links_drains.proofs.Counting.{counted-le-length}
-use Rattle.machine.specs.Submission.{offered, passes_at, some_fails, taken_words, entries_at, batch_of, einval}
+use Rattle.machine.specs.Submission.{offered, passes_at, some_fails, taken_words, entries_at, einval}
 use Rattle.machine.specs.Steps.{submission_refusal, taken_by, taken, submitted, fallen}
 use Rattle.machine.specs.Whole.{WellFormed}
 use Rattle.machine.specs.declared.whole.Machine.{Machine}
-use Rattle.scenario.specs.declared.event.Refusal.{Refusal}
 use Rattle.scenario.specs.declared.event.Refusal.TheVariants.{RequestsFull}
-use Rattle.machine.proofs.TakingWords.{prefix_most, fails_told, take_least, one_more, entries-named}
+use Rattle.machine.proofs.TakingWords.{take_least, one_more, entries-named}
 
 pub ltb_not : (a b : ℕ) → b ≤ a → ltb a b ≡ false
 ltb_not a b h = grind (arith, nat_tests)

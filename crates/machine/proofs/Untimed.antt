@@ -1,9 +1,8 @@
 -- No timeout counts and no row guards another where rows are well formed, or queued without a target.
 use Rattle.std.proofs.Common.{◌≡◌, ℕ, Bool, true, false, refl, sym, ◌∙◌, ap, ◌⊎◌, inl, inr, List}
-use Rattle.std.specs.Prelude.{Option, Some, None, IsSome, is_some, slice_get, not, ◌==◌, ◌&&◌, nat_lt}
+use Rattle.std.specs.Prelude.{Some, None, IsSome, is_some, slice_get, ◌==◌, ◌&&◌, nat_lt}
 use Rattle.std.proofs.lemmas.Bool.{eqb-true}
 use Rattle.entries.specs.declared.row.Row.{Row}
-use Rattle.entries.specs.declared.row.Phase.{Phase}
 use Rattle.model_files.specs.Worlds.{WorldState}
 use Rattle.opcodes.specs.Check.{op_of}
 use Rattle.links_drains.specs.Phases.{is_unfinished, is_issued}

@@ -1,5 +1,5 @@
 -- The whole machine: what stands in each place, and which machines are well formed.
-use Rattle.std.specs.Prelude.{◌≡◌, ℕ, ℤ, ◌+◌, ◌<◌, ◌≤◌, ◌^◌, Bool, true, false, not, if◌then◌else◌, Option, Some, None, is_some, IsSome, slice_get, map, List, length, FitsSigned}
+use Rattle.std.specs.Prelude.{◌≡◌, ℕ, ◌+◌, ◌<◌, ◌≤◌, ◌^◌, Bool, true, false, not, if◌then◌else◌, Option, Some, None, is_some, IsSome, slice_get, map, List, length, FitsSigned}
 use Rattle.std.specs.Int.{w64}
 use Rattle.entries.specs.declared.row.Row.{Row}
 use Rattle.places.specs.declared.place.Place.{Place}
@@ -17,7 +17,7 @@ use Rattle.model_files.specs.declared.descriptor.DescriptorState.{DescriptorStat
 use Rattle.model_files.specs.Worlds.{WorldState, WorldFormed, world_seen, world_can_put, descriptor_of, OneSetup as OneWorldSetup}
 use Rattle.opcodes.specs.Check.{op_of}
 use Rattle.opcodes.specs.Opcodes.{uses_descriptor, fits_end}
-use Rattle.overflow.specs.Backlogs.{BacklogState, is_clear, backlog_seen, backlog_can_put}
+use Rattle.overflow.specs.Backlogs.{is_clear, backlog_seen, backlog_can_put}
 use Rattle.sqpoll.specs.declared.poller.Poller.{Poller}
 use Rattle.sqpoll.specs.Pollers.{is_awake, poller_seen}
 use Rattle.scenario.specs.Programs.{IsProgram}

@@ -1,4 +1,4 @@
-use Rattle.std.proofs.Common.{ap, subst, sym, take, arith, ◌∙◌, ◌++◌, ◌∷◌, [], List, ℕ, ℤ, pos, slice_index_or, w32, FitsSigned, rules}
+use Rattle.std.proofs.Common.{ap, subst, sym, ◌∙◌, List, ℕ, ℤ, pos, slice_index_or, w32, FitsSigned, rules}
 use Rattle.std.proofs.lemmas.List.{take_more}
 use Rattle.std.proofs.lemmas.Int.{to_z-of_z}
 use Rattle.machine.specs.Steps.{ended}

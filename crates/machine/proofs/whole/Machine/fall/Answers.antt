@@ -1,4 +1,4 @@
-use Rattle.std.proofs.Common.{◌≡◌, ◌∙◌, ℕ, ℤ, ap, subst, sym, List, length, ◌+◌, ◌<◌, ◌≤◌, ◌^◌, arith}
+use Rattle.std.proofs.Common.{◌≡◌, ◌∙◌, ℕ, ℤ, ap, sym, List, length, arith}
 use Rattle.std.specs.Prelude.{slice_get}
 use Rattle.timeouts_cancel.specs.Falls.{fall_of}
 use Rattle.machine.proofs.Endings.{fall_within, can_fall, can_end_room, can_end_counts}

@@ -1,7 +1,6 @@
-use Rattle.std.proofs.Common.{◌≡◌, ℤ, sym, ◌∙◌, ap, subst, w32, FitsSigned, to_z, of_z, rules, [], ◌∷◌, OnOk}
+use Rattle.std.proofs.Common.{◌≡◌, sym, ◌∙◌, ap, subst, w32, FitsSigned, to_z, of_z, rules, [], ◌∷◌, OnOk}
 use Rattle.std.specs.Prelude.{slice_get, Some}
 use Rattle.std.proofs.lemmas.Int.{to_z-of_z}
-use Rattle.entries.specs.declared.row.Row.{Row}
 use Rattle.model_files.specs.Worlds.{WorldState}
 use Rattle.opcodes.specs.Effects.{world_after}
 use Rattle.opcodes.specs.Outcomes.{outcome_of}
@@ -43,8 +42,8 @@ returns-clause-ok c =
     let told : outcome_of m.world c.in-Some.row c.args.choice ≡ Res c.in-Res.res = sym c.outcome.ensures ∙ c.in-Res.is in
     let moved : c.carry_out.new.world ≡ world_after c.in-Some.row c.in-Res.res m.world = c.in_ok-carry_out.ensures.ok ∙ ap (λ z. world_after c.in-Some.row z m.world) same in
     let is : fallen (record m { world = c.carry_out.new.world }) ((c.args.r, to_z w32 (of_z w32 c.in-Res.res)) ∷ []) ≡ after m (Finish c.args.r c.args.choice) =
-        ap (λ (w : WorldState). fallen (record m { world = w }) ((c.args.r, to_z w32 (of_z w32 c.in-Res.res)) ∷ [])) moved
-        ∙ ap (λ z. fallen (record m { world = world_after c.in-Some.row c.in-Res.res m.world }) ((c.args.r, z) ∷ [])) same
-        ∙ sym (ap (finished_as m c.args.r c.in-Some.row) told)
-        ∙ sym (ap (λ o. finished m c.args.r o c.args.choice) there) in
+    ap (λ (w : WorldState). fallen (record m { world = w }) ((c.args.r, to_z w32 (of_z w32 c.in-Res.res)) ∷ [])) moved
+    ∙ ap (λ z. fallen (record m { world = world_after c.in-Some.row c.in-Res.res m.world }) ((c.args.r, z) ∷ [])) same
+    ∙ sym (ap (finished_as m c.args.r c.in-Some.row) told)
+    ∙ sym (ap (λ o. finished m c.args.r o c.args.choice) there) in
     subst (λ (n : Machine). OnOk c.fall.result (c.fall.new.self ≡ n)) is c.fall.ensures.ok

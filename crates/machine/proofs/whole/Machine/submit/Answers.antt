@@ -1,15 +1,9 @@
-use Rattle.std.proofs.Common.{subst, [], ◌∷◌, ◌-◌, ◌≡◌, ◌∙◌, sym, true, false, ap, arith, length, ◌+◌, length-append}
-use Rattle.std.specs.Prelude.{min}
+use Rattle.std.proofs.Common.{subst, [], ◌∷◌, ◌-◌, ◌≡◌, ◌∙◌, sym, true, false, ap, arith, length, ◌+◌}
 use Rattle.machine.specs.Submission.{some_fails, offered, entries_at}
-use Rattle.machine.specs.Steps.{taken_by}
-use Rattle.machine.specs.declared.whole.Machine.{Machine}
-use Rattle.links_drains.specs.Batches.{rows_of}
-use Rattle.links_drains.proofs.Batching.{length-rows_of}
 use Rattle.std.proofs.lemmas.List.{length-take}
 use Rattle.ring_words.specs.Rings.{sub_list}
 use Rattle.machine.proofs.TakingWords.{fails_told}
-use Rattle.machine.proofs.SubmissionLemmas.{accepted_fits, words_all, words_some, one_taken, entries_most, length-taken, submitted_all, submitted_some, counted_low, ltb_not, ltb_lt}
-use Rattle.machine.proofs.EnterLemmas.{backlog_most}
+use Rattle.machine.proofs.SubmissionLemmas.{accepted_fits, words_all, words_some, one_taken, entries_most, length-taken, submitted_all, submitted_some, ltb_not, ltb_lt}
 use Rattle.timeouts_cancel.specs.Falls.{Direct}
 use Rattle.machine.specs.Submission.{einval}
 use Rattle.machine.proofs.FormedSubmissions.{FallsLast, falls_last}
