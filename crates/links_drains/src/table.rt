@@ -80,6 +80,11 @@ impl Table {
         }
     }
 
+    /// Where the table has its memory from.
+    pub fn allocator(&self) -> Global {
+        *self.rows.allocator()
+    }
+
     /// How many rows there are.
     pub fn len(&self) -> usize
         ensures len { result ≡ length self.now }

@@ -26,7 +26,7 @@ impl Machine {
             unreachable!()
         };
         if lacks_descriptor(&self.world, &row) {
-            return self.end(r, -EBADF, notes);
+            return self.fall(&[(r, -EBADF)], notes);
         }
         self.table.issue(r, held_by(&row), notes)
     }
@@ -52,7 +52,7 @@ impl Machine {
             unreachable!()
         };
         carry_out(&mut self.world, &row, res, notes)?;
-        self.end(r, res, notes)
+        self.fall(&[(r, res)], notes)
     }
 }
 

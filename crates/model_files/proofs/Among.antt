@@ -138,12 +138,9 @@ pub record NotingSpans (g : Region) (s : ℕ) (old others : List ℕ) (before no
   pub room : HasAsMuch before notes
 
 -- the bytes of a span are not named yet
-pub span_fresh : (g : Region) (s : ℕ) (old others : List ℕ) (before notes : Notes) (done from end : ℕ) → NotingSpans g s old others before notes done → IsFirst old others done from → IsSpanEnd old others from end → (i : ℕ) → i < length (part old from (end - from)) → named notes.made (place_in g ((s + from) + i)) ≡ None
-span_fresh g s old others before notes done from end m first last i h =
-    ap (λ n. named notes.made (place_in g n)) (let e : (s + from) + i ≡ s + (from + i) = omega arith in e) ∙ m.fresh (from + i) (let a = first.from in omega arith) (let a = size in let b = last.within in omega arith)
-  where
-    size : length (part old from (end - from)) ≡ end - from
-    size = length-part old from (end - from) (let a = last.within in let b = last.some in omega arith)
+pub span_fresh : (g : Region) (s : ℕ) (old others : List ℕ) (before notes : Notes) (done from end : ℕ) (bs : List ℕ) → NotingSpans g s old others before notes done → IsFirst old others done from → IsSpanEnd old others from end → length bs ≤ end - from → (i : ℕ) → i < length bs → named notes.made (place_in g ((s + from) + i)) ≡ None
+span_fresh g s old others before notes done from end bs m first last size i h =
+    ap (λ n. named notes.made (place_in g n)) (let e : (s + from) + i ≡ s + (from + i) = omega arith in e) ∙ m.fresh (from + i) (let a = first.from in omega arith) (let b = last.within in omega arith)
 
 pub spans_on : (g : Region) (s : ℕ) (old others : List ℕ) (before notes next : Notes) (done from end : ℕ) → NotingSpans g s old others before notes done → IsFirst old others done from → IsSpanEnd old others from end → NotedBytes notes.made next.made g (s + from) (part old from (end - from)) → HasAsMuch notes next
     → NotingSpans g s old others before next end

@@ -74,7 +74,7 @@ fn first_difference(old: &[u8], others: &[u8], done: usize) -> Option<usize>
     None
 }
 
-/// An index up to which two lists of bytes are alike, a whole number of steps behind another.
+/// How far two lists of bytes are alike from an index on, in whole steps.
 fn skip_alike(old: &[u8], others: &[u8], from: usize, step: usize) -> usize
     requires some { 0 < step }
     requires len { length others.now ≡ length old.now }
@@ -82,6 +82,7 @@ fn skip_alike(old: &[u8], others: &[u8], from: usize, step: usize) -> usize
     ensures from { from ≤ result }
     ensures within { result ≤ length old.now }
     ensures alike { Alike old.now others.now from result }
+    ensures stops { result + step ≤ length old.now → ¬ Alike old.now others.now result (result + step) }
 {
     let mut at = from;
     while step <= old.len() - at && are_alike(old, others, at, at + step) {

@@ -1,5 +1,5 @@
 -- Walking over the rest of a unit that a row severs.
-use Rattle.std.proofs.Common.{◌≡◌, ℕ, pos, zero, suc, true, false, cond, refl, sym, ◌∙◌, ap, List, [], ◌∷◌, ◌++◌, length, ◌+◌, ◌<◌, ◌≤◌, ◌⊎◌, inl, inr, arith}
+use Rattle.std.proofs.Common.{Bool, ◌≡◌, ℕ, pos, zero, suc, true, false, cond, refl, sym, ◌∙◌, ap, List, [], ◌∷◌, ◌++◌, length, ◌+◌, ◌<◌, ◌≤◌, ◌⊎◌, inl, inr, arith}
 use Rattle.std.specs.Prelude.{Option, Some, None, slice_get, ◌&&◌, nat_le}
 use Rattle.std.specs.Option.{option_map_or}
 use Rattle.std.proofs.lemmas.List.{take_all}
@@ -175,5 +175,9 @@ fall_untimed rows c direct n =
     guards : with_guards rows (ss rows direct) ≡ ss rows direct
     guards = joined_nothing (λ r row. given (guards_listed (ss rows direct) row) ecanceled) (test rows direct) rows (λ r row h u k. by row (n r row h u).1)
       where
-        by : (row : Row) → is_guard row ≡ false → given (guards_listed (ss rows direct) row) ecanceled ≡ None
-        by row e = ap (λ b. given (b && option_map_or (is_listed (ss rows direct)) row.target false) ecanceled) e
+        both_false : (b : Bool) → (b && false) ≡ false
+        both_false true = refl
+        both_false false = refl
+
+        by : (row : Row) → row.target ≡ None → given (guards_listed (ss rows direct) row) ecanceled ≡ None
+        by row e = ap (λ (o : Option ℕ). given (is_guard row && option_map_or (is_listed (ss rows direct)) o false) ecanceled) e ∙ ap (λ b. given b ecanceled) (both_false (is_guard row))

@@ -88,6 +88,6 @@ pub record IsWhole (rows : List Row) (counted : ℕ) (direct es : List Ending) :
   pub met : with_met rows counted es ≡ es
   pub guards : with_guards rows es ≡ es
 
--- No unfinished row is a TIMEOUT that counts completions, or a guard.
+-- No unfinished row is a TIMEOUT that counts completions, and none guards another.
 abbrev pub NoTimers : List Row → Type 0
-NoTimers rows = (r : ℕ) (row : Row) → slice_get rows r ≡ Some row → is_unfinished row.phase ≡ true → (is_count_timeout row ≡ false) × (is_guard row ≡ false)
+NoTimers rows = (r : ℕ) (row : Row) → slice_get rows r ≡ Some row → is_unfinished row.phase ≡ true → (is_count_timeout row ≡ false) × (row.target ≡ None)

@@ -9,12 +9,11 @@ ghost use Rattle.timeouts_cancel.specs.Walks.{Walked, Sweeping};
 use entries::{Phase, Row};
 use links_drains::{Table, is_soft_linked};
 use opcodes::ECANCELED;
-use std::alloc::{AllocError, Global};
+use std::alloc::AllocError;
 
 /// The rows that end, with their results, in the order of their numbers: those that a step ends of
 /// itself, and the later ones of each unit that they sever. It looks at no other row.
 pub fn fall(
-    alloc: Global,
     table: &Table,
     counted: u32,
     direct: &[(u32, i32)],
@@ -26,7 +25,7 @@ pub fn fall(
     ensures { IfOk result (λ endings. endings.items ≡ fall_of table.now counted direct.now) }
 {
     let _ = counted;
-    let mut endings = Vec::new(alloc);
+    let mut endings = Vec::new(table.allocator());
     let mut at = 0;
     while at < direct.len() {
         at = end_one(table, direct, at, &mut endings)?;
