@@ -18,7 +18,8 @@ use Rattle.machine.specs.Steps.{delivery, ended, all_ended, fallen, completions_
 use Rattle.machine.specs.Whole.{view, everywhere, Grows, Mostly, RowFormed, WellFormed}
 use Rattle.machine.specs.declared.whole.Machine.{Machine}
 use Rattle.machine.proofs.FormedMachines.{items_one, mostly_ended, formed_of, formed_ended}
-use Rattle.timeouts_cancel.specs.Falls.{result_in, fall_of, Direct}
+use Rattle.links_drains.specs.Endings.{result_in, Direct}
+use Rattle.timeouts_cancel.specs.Falls.{fall_of}
 use Rattle.timeouts_cancel.proofs.Whole.{unlisted, fall_unfinished, fall_rising}
 use Rattle.links_drains.proofs.RowsKept.{get-updated}
 use Rattle.std.proofs.lemmas.Option.{slice_get_within}

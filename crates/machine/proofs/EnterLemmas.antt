@@ -62,7 +62,7 @@ unknown_told m t k w flags h = by m.poller
 -- completions that are kept
 pub busy_told : (m n : Machine) (t k w flags : ℕ) → n ≡ before_submission m k flags → 0 < k → is_clear n.backlog ≡ false → answered n t ebusy ≡ entered_alone m t k w flags
 busy_told m n t k w flags e l h =
-    sym (ap (λ b. cond b (answered n t ebusy) (awaited (submitted n k) t (length (taken_entries n.submissions k)) k w flags)) busy) ∙ ap (λ (x : Machine). submitting x t k w flags) e
+    sym (ap (λ b. cond b (answered n t ebusy) (awaited (submitted n k) t (length (taken_entries n.submit_all n.submissions k)) k w flags)) busy) ∙ ap (λ (x : Machine). submitting x t k w flags) e
   where
     busy : is_busy n k ≡ true
     busy = rw (lt-ltb 0 k l, h) refl

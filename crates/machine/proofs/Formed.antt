@@ -28,8 +28,9 @@ use Rattle.overflow.specs.Backlogs.{is_clear}
 use Rattle.sqpoll.specs.declared.poller.Poller.{Poller}
 use Rattle.sqpoll.specs.declared.poller.Poller.TheVariants.{Awake, Asleep}
 use Rattle.sqpoll.specs.Pollers.{is_awake}
+use Rattle.links_drains.specs.Batches.{direct_of}
 use Rattle.links_drains.specs.Phases.{is_ended, counts}
-use Rattle.machine.specs.Submission.{offered, some_fails, taken_entries, einval, ebusy, ebadf}
+use Rattle.machine.specs.Submission.{offered, taken_entries, einval, ebusy, ebadf}
 use Rattle.machine.specs.Steps.{refusal, after, stepped, executed, entered, entered_alone, entered_beside, submitting, before_submission, is_busy, is_unknown, gets_events, wakes, woken, shown, awaited, ready_count, held_back, with_poller, flushed, submission_refusal, alone_refusal, enter_refusal, instruction_refusal, next_refusal, thread_refusal, take_refusal, issue_refusal, phase_refusal, finish_refusal, taken, submitted, answered, gone_on, issued, finished, finished_as, lacks_descriptor, held_by, fallen}
 use Rattle.machine.specs.Threads.{ThreadState}
 use Rattle.machine.specs.Whole.{is_asleep, flag_word, WellFormed}
@@ -42,7 +43,7 @@ use Rattle.scenario.specs.declared.event.Refusal.{Refusal}
 use Rattle.scenario.specs.declared.event.Refusal.TheVariants.{SqFull, NothingToReap, WrongPhase, ClockFull, RequestsFull}
 use Rattle.machine.proofs.FormedThreads.{stands_on, stands_held, formed_thread}
 use Rattle.machine.proofs.FormedMachines.{formed_issued, formed_world, formed_flushed, wakeup_flag, formed_put, formed_push, formed_taken_out}
-use Rattle.machine.proofs.FormedSubmissions.{formed_taken_all, formed_taken_last, length-taken_entries}
+use Rattle.machine.proofs.FormedSubmissions.{formed_submitted, length-taken_entries}
 use Rattle.machine.proofs.Endings.{formed_fallen, threads_fallen}
 
 ltb_tells : (a b : ℕ) → ((ltb a b ≡ true) × (a < b)) ⊎ ((ltb a b ≡ false) × (b ≤ a))
@@ -123,23 +124,12 @@ submission_room m k h = by (ltb_tells 65536 (length m.table + length (offered m.
     by (inl a) = absurd (let l = ap (λ b. cond b (Some RequestsFull) None) (sym a.0) ∙ h in cc)
     by (inr a) = a.1
 
-pub formed_submitted : (m : Machine) (k : ℕ) → WellFormed m → submission_refusal m k ≡ None → WellFormed (submitted m k)
-formed_submitted m k f h = by (some_fails m.submissions k) refl
-  where
-    last : Machine
-    last = fallen (taken m k) ((length (taken m k).table - 1, einval) ∷ [])
-
-    by : (b : Bool) → some_fails m.submissions k ≡ b → WellFormed (if b then last else taken m k)
-    by true e = formed_taken_last m k f (submission_room m k h) e
-    by false e = formed_taken_all m k f (submission_room m k h) e
+pub formed_submission : (m : Machine) (k : ℕ) → WellFormed m → submission_refusal m k ≡ None → WellFormed (submitted m k)
+formed_submission m k f h = formed_submitted m k f (submission_room m k h)
 
 -- the threads stay as a submission is done
 pub submitted_threads : (m : Machine) (k : ℕ) → (submitted m k).threads ≡ m.threads
-submitted_threads m k = by (some_fails m.submissions k)
-  where
-    by : (b : Bool) → (if b then fallen (taken m k) ((length (taken m k).table - 1, einval) ∷ []) else taken m k).threads ≡ m.threads
-    by true = threads_fallen (taken m k) ((length (taken m k).table - 1, einval) ∷ [])
-    by false = refl
+submitted_threads m k = threads_fallen (taken m k) (direct_of (length m.table) (taken_entries m.submit_all m.submissions k))
 
 fits_einval : FitsSigned w64 einval
 fits_einval = omega arith
@@ -230,14 +220,14 @@ formed_submitting : (m : Machine) (t : ℕ) (x : ThreadState) (k w flags : ℕ) 
 formed_submitting m t x k w flags f e g l h = by (is_busy m k) h
   where
     n : ℕ
-    n = length (taken_entries m.submissions k)
+    n = length (taken_entries m.submit_all m.submissions k)
 
     few : length m.table + length (offered m.submissions k) ≤ 65536 → n < 2 ^ 32
-    few r = let a = length-taken_entries m.submissions k in omega (arith, a, r)
+    few r = let a = length-taken_entries m.submit_all m.submissions k in omega (arith, a, r)
 
     by : (b : Bool) → (if b then None else submission_refusal m k) ≡ None → WellFormed (if b then answered m t ebusy else awaited (submitted m k) t n k w flags)
     by true o = formed_answered m t x (Enter k w flags) ebusy f e g fits_ebusy
-    by false o = formed_awaited (submitted m k) t x n k w flags k w flags (formed_submitted m k f o) (ap (λ ts. slice_get ts t) (submitted_threads m k) ∙ e) g (few (submission_room m k o)) l
+    by false o = formed_awaited (submitted m k) t x n k w flags k w flags (formed_submission m k f o) (ap (λ ts. slice_get ts t) (submitted_threads m k) ∙ e) g (few (submission_room m k o)) l
 
 formed_beside : (m : Machine) (t : ℕ) (x : ThreadState) (k w flags : ℕ) → WellFormed m → slice_get m.threads t ≡ Some x → slice_get x.program x.counter ≡ Some (Enter k w flags) → k < 2 ^ 32 → w < 2 ^ 32 → WellFormed (entered_beside m t k w flags)
 formed_beside m t x k w flags f e g l l' =
@@ -336,7 +326,7 @@ formed_take m n f h = by m.poller h
   where
     by : (o : Option Poller) → take_refusal m o n ≡ None → WellFormed (submitted m n)
     by None k = absurd cc
-    by (Some Awake) k = formed_submitted m n f k
+    by (Some Awake) k = formed_submission m n f k
     by (Some Asleep) k = absurd cc
 
 -- an accepted event leaves a well formed machine

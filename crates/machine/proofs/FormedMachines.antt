@@ -23,7 +23,7 @@ use Rattle.overflow.proofs.KeptInOrder.{posted_formed, flushed_formed}
 use Rattle.machine.specs.Steps.{delivery, flushed, ended, held_by, is_usable, lacks_descriptor, number_in}
 use Rattle.machine.specs.Whole.{Mostly, is_asleep, flag_word, HoldsDescriptor, RowFormed, WellFormed, Stands}
 use Rattle.machine.specs.declared.whole.Machine.{Machine}
-use Rattle.machine.proofs.Chaining.{chained-updated}
+use Rattle.links_drains.proofs.Chains.{chained-updated}
 use Rattle.machine.proofs.FormedRows.{FormedRows, formed_rows-updated, formed_rows-moved, ended_row}
 
 pub mostly : (m : Machine) → WellFormed m → Mostly m

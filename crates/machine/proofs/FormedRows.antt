@@ -1,7 +1,9 @@
 -- The rows that a submission adds, and what holds of each row.
 use Rattle.std.proofs.Common.{◌≡◌, ℕ, zero, suc, Bool, true, false, cond, refl, sym, ◌∙◌, ap, subst, List, [], ◌∷◌, ◌++◌, length, take, ◌+◌, ◌≤◌, ◌⊎◌, inl, inr, length-take, arith}
-use Rattle.std.specs.Prelude.{Option, Some, None, IsSome, is_some, slice_get, not, is_ok, bit_and, ◌==◌, ◌||◌, if◌then◌else◌}
-use Rattle.std.specs.List.{prefix_len, list_any}
+use Rattle.std.specs.Prelude.{Option, Some, None, IsSome, is_some, option_map, slice_get, not, is_ok, bit_and, ◌==◌, ◌&&◌, ◌||◌, if◌then◌else◌}
+use Rattle.std.specs.List.{filter, prefix_len, enumerate_from}
+use Rattle.std.proofs.lemmas.List.{length-map}
+use Rattle.std.proofs.lemmas.List.FromFn.{length-enumerate_from}
 use Rattle.entries.specs.declared.entry.Sqe.{Sqe}
 use Rattle.entries.specs.declared.row.Row.{Row}
 use Rattle.entries.specs.declared.row.Phase.{Phase}
@@ -12,10 +14,11 @@ use Rattle.opcodes.specs.declared.op.Op.{Op}
 use Rattle.opcodes.specs.Check.{row_of, op_of, invalid, refused_flags}
 use Rattle.opcodes.specs.Opcodes.{fits_end}
 use Rattle.places.specs.Lists.{updated}
-use Rattle.links_drains.specs.Phases.{is_ended, is_issued, is_unfinished, counted_of}
+use Rattle.links_drains.specs.Phases.{is_ended, is_issued, is_unfinished, counts, counted_of}
 use Rattle.links_drains.specs.Rows.{new_row}
-use Rattle.links_drains.specs.Batches.{passes, single_rows}
-use Rattle.links_drains.proofs.Counting.{counted-more}
+use Rattle.links_drains.specs.Batches.{passes, rows_of, chain_of}
+use Rattle.links_drains.proofs.Counting.{matching-more}
+use Rattle.links_drains.proofs.Chains.{get-batch}
 use Rattle.machine.specs.Submission.{passes_at, batch_of, entries_at}
 use Rattle.machine.specs.Whole.{HoldsDescriptor, RowFormed}
 use Rattle.machine.proofs.ListsChanged.{updated_get}
@@ -31,78 +34,6 @@ passes_supported e h = by (bit_and e.flags refused_flags == 0) (op_of e.opcode) 
     by true None k = absurd cc
     by false o k = absurd cc
 
--- All of the entries have supported opcodes.
-pub record AllSupported (es : List Sqe) : Type 0 where
-  pub each : (i : ℕ) (e : Sqe) → slice_get es i ≡ Some e → IsSome (op_of e.opcode)
-
-pub none_supported : AllSupported []
-none_supported = record { each = λ i e h. absurd cc }
-
-pub supported_more : (e : Sqe) (es : List Sqe) → IsSome (op_of e.opcode) → AllSupported es → AllSupported (e ∷ es)
-supported_more e es h k = record { each = at }
-  where
-    at : (i : ℕ) (x : Sqe) → slice_get (e ∷ es) i ≡ Some x → IsSome (op_of x.opcode)
-    at zero x g = let same : e ≡ x = cc in subst (λ (y : Sqe). IsSome (op_of y.opcode)) same h
-    at (suc i) x g = k.each i x g
-
--- All entries but the last have supported opcodes.
-pub record LastFails (es : List Sqe) : Type 0 where
-  pub before : List Sqe
-  pub last : Sqe
-  pub is : es ≡ before ++ last ∷ []
-  pub supported : AllSupported before
-
--- ---- what a submission takes, word by word
-
-pub batch_on : (slots : List Sqe) (w : ℕ) (ws : List ℕ) → passes_at slots w ≡ true → batch_of slots (w ∷ ws) ≡ w ∷ batch_of slots ws
-batch_on slots w ws h =
-    let n : 1 + prefix_len (passes_at slots) ws + 1 ≡ suc (prefix_len (passes_at slots) ws + 1) = omega arith in
-    ap (λ b. take (cond b (1 + prefix_len (passes_at slots) ws) 0 + 1) (w ∷ ws)) h ∙ ap (λ k. take k (w ∷ ws)) n
-
-take_none : (ws : List ℕ) → take 0 ws ≡ []
-take_none [] = refl
-take_none (w ∷ ws) = refl
-
-pub batch_off : (slots : List Sqe) (w : ℕ) (ws : List ℕ) → passes_at slots w ≡ false → batch_of slots (w ∷ ws) ≡ w ∷ []
-batch_off slots w ws h = ap (λ b. take (cond b (1 + prefix_len (passes_at slots) ws) 0 + 1) (w ∷ ws)) h ∙ ap (λ vs. w ∷ vs) (take_none ws)
-
-supported_at : (slots : List Sqe) (w : ℕ) (ws : List ℕ) → passes_at slots w ≡ true → AllSupported (entries_at slots ws) → AllSupported (entries_at slots (w ∷ ws))
-supported_at slots w ws h k = by (slice_get slots w) refl
-  where
-    by : (o : Option Sqe) → slice_get slots w ≡ o → AllSupported (entries_at slots (w ∷ ws))
-    by None e = rw e k
-    by (Some x) e = rw e (supported_more x (entries_at slots ws) (passes_supported x (rw e at h)) k)
-
-pub all_pass : (slots : List Sqe) (ws : List ℕ) → list_any (λ w. not (passes_at slots w)) ws ≡ false → AllSupported (entries_at slots (batch_of slots ws))
-all_pass slots [] h = none_supported
-all_pass slots (w ∷ ws) h = by (passes_at slots w) refl h (all_pass slots ws)
-  where
-    by : (b : Bool) → passes_at slots w ≡ b → (not b || list_any (λ w. not (passes_at slots w)) ws) ≡ false → (list_any (λ w. not (passes_at slots w)) ws ≡ false → AllSupported (entries_at slots (batch_of slots ws))) → AllSupported (entries_at slots (batch_of slots (w ∷ ws)))
-    by true e k more = subst (λ (vs : List ℕ). AllSupported (entries_at slots vs)) (sym (batch_on slots w ws e)) (supported_at slots w (batch_of slots ws) e (more k))
-    by false e k more = absurd cc
-
-fails_at : (slots : List Sqe) (w : ℕ) (ws : List ℕ) → passes_at slots w ≡ true → LastFails (entries_at slots ws) → LastFails (entries_at slots (w ∷ ws))
-fails_at slots w ws h k = by (slice_get slots w) refl
-  where
-    by : (o : Option Sqe) → slice_get slots w ≡ o → LastFails (entries_at slots (w ∷ ws))
-    by None e = rw e k
-    by (Some x) e = rw e (record { before = x ∷ k.before; last = k.last; is = ap (λ es. x ∷ es) k.is; supported = supported_more x k.before (passes_supported x (rw e at h)) k.supported })
-
-fails_here : (slots : List Sqe) (w : ℕ) → passes_at slots w ≡ false → LastFails (entries_at slots (w ∷ []))
-fails_here slots w h = by (slice_get slots w) refl
-  where
-    by : (o : Option Sqe) → slice_get slots w ≡ o → LastFails (entries_at slots (w ∷ []))
-    by None e = absurd (let k = rw e at h in cc)
-    by (Some x) e = rw e (record { before = []; last = x; is = refl; supported = none_supported })
-
-pub one_fails : (slots : List Sqe) (ws : List ℕ) → list_any (λ w. not (passes_at slots w)) ws ≡ true → LastFails (entries_at slots (batch_of slots ws))
-one_fails slots [] h = absurd cc
-one_fails slots (w ∷ ws) h = by (passes_at slots w) refl h (one_fails slots ws)
-  where
-    by : (b : Bool) → passes_at slots w ≡ b → (not b || list_any (λ w. not (passes_at slots w)) ws) ≡ true → (list_any (λ w. not (passes_at slots w)) ws ≡ true → LastFails (entries_at slots (batch_of slots ws))) → LastFails (entries_at slots (batch_of slots (w ∷ ws)))
-    by true e k more = subst (λ (vs : List ℕ). LastFails (entries_at slots vs)) (sym (batch_on slots w ws e)) (fails_at slots w (batch_of slots ws) e (more k))
-    by false e k more = subst (λ (vs : List ℕ). LastFails (entries_at slots vs)) (sym (batch_off slots w ws e)) (fails_here slots w e)
-
 -- ---- how many
 
 pub length-batch_of : (slots : List Sqe) (ws : List ℕ) → length (batch_of slots ws) ≤ length ws
@@ -116,12 +47,27 @@ length-entries_at slots (w ∷ ws) = by (slice_get slots w) refl (length-entries
     by None e k = rw e (omega (arith, k))
     by (Some x) e k = rw e (omega (arith, k))
 
-pub counted-single_rows : (first : ℕ) (es : List Sqe) → counted_of (single_rows first es) ≡ 0
-counted-single_rows first [] = refl
-counted-single_rows first (e ∷ es) =
-    let a = counted-more (new_row e first) (single_rows (first + 1) es) in
-    let b = counted-single_rows (first + 1) es in
-    omega (arith, a, b)
+-- rows that are queued have not ended
+queued_none : (p : Row → Bool) (rows : List Row) → ((i : ℕ) (x : Row) → slice_get rows i ≡ Some x → p x ≡ false) → length (filter p rows) ≡ 0
+queued_none p [] h = refl
+queued_none p (x ∷ rows) h =
+    let a = matching-more p x rows in
+    let b = queued_none p rows (λ i y e. h (suc i) y e) in
+    let n = ap (λ t. cond t 1 0) (h 0 x refl) in
+    omega (arith, a, b, n)
+
+batch_queued : (first : ℕ) (es : List Sqe) (i : ℕ) (x : Row) → slice_get (rows_of first es) i ≡ Some x → is_ended x.phase ≡ false
+batch_queued first es i x e = by (slice_get es i) (sym (get-batch first es i) ∙ e)
+  where
+    by : (o : Option Sqe) → option_map (λ e. new_row e (first + chain_of es i)) o ≡ Some x → is_ended x.phase ≡ false
+    by None k = absurd cc
+    by (Some s) k = let same : new_row s (first + chain_of es i) ≡ x = cc in ap (λ (y : Row). is_ended y.phase) (sym same)
+
+pub counted-rows_of : (first : ℕ) (es : List Sqe) → counted_of (rows_of first es) ≡ 0
+counted-rows_of first es = queued_none (λ row. is_ended row.phase && counts row) (rows_of first es) (λ i x e. ap (λ b. b && counts x) (batch_queued first es i x e))
+
+pub length-rows_of : (first : ℕ) (es : List Sqe) → length (rows_of first es) ≡ length es
+length-rows_of first es = length-map (λ (p : ℕ × Sqe). new_row p.1 (first + chain_of es p.0)) (enumerate_from 0 es) ∙ length-enumerate_from 0 es
 
 -- ---- what holds of each row
 
@@ -141,13 +87,21 @@ ended_row w x h = by x.phase refl h
 queued_row : (w : WorldState) (e : Sqe) (n : ℕ) → IsSome (op_of e.opcode) → RowFormed w (new_row e n)
 queued_row w e n h = record { opcode = λ u. h; holds = λ i. absurd cc; untargeted = λ u. refl }
 
-pub formed_single_rows : (w : WorldState) (first : ℕ) (es : List Sqe) → AllSupported es → FormedRows w (single_rows first es)
-formed_single_rows w first es h = record { each = at first es h.each }
+-- a row of a batch that passed its tests
+pub batch_row : (w : WorldState) (first : ℕ) (es : List Sqe) (i : ℕ) (x : Row) → slice_get (rows_of first es) i ≡ Some x → passes x.entry ≡ true → RowFormed w x
+batch_row w first es i x e p = by (slice_get es i) (sym (get-batch first es i) ∙ e)
   where
-    at : (n : ℕ) (fs : List Sqe) → ((i : ℕ) (e : Sqe) → slice_get fs i ≡ Some e → IsSome (op_of e.opcode)) → (r : ℕ) (x : Row) → slice_get (single_rows n fs) r ≡ Some x → RowFormed w x
-    at n [] k r x e = absurd cc
-    at n (f ∷ fs) k zero x e = let same : new_row f n ≡ x = cc in subst (RowFormed w) same (queued_row w f n (k 0 f refl))
-    at n (f ∷ fs) k (suc r) x e = at (n + 1) fs (λ j z o. k (suc j) z o) r x e
+    by : (o : Option Sqe) → option_map (λ e. new_row e (first + chain_of es i)) o ≡ Some x → RowFormed w x
+    by None k = absurd cc
+    by (Some s) k = let same : new_row s (first + chain_of es i) ≡ x = cc in subst (RowFormed w) same (queued_row w s (first + chain_of es i) (passes_supported s (ap (λ (y : Row). passes y.entry) same ∙ p)))
+
+-- the rows of a batch are queued, and have no target
+pub batch_untimed : (first : ℕ) (es : List Sqe) (i : ℕ) (x : Row) → slice_get (rows_of first es) i ≡ Some x → (is_issued x.phase ≡ false) × (x.target ≡ None)
+batch_untimed first es i x e = by (slice_get es i) (sym (get-batch first es i) ∙ e)
+  where
+    by : (o : Option Sqe) → option_map (λ e. new_row e (first + chain_of es i)) o ≡ Some x → (is_issued x.phase ≡ false) × (x.target ≡ None)
+    by None k = absurd cc
+    by (Some s) k = let same : new_row s (first + chain_of es i) ≡ x = cc in (ap (λ (y : Row). is_issued y.phase) (sym same), ap (λ (y : Row). y.target) (sym same))
 
 pub formed_rows-append : (w : WorldState) (xs ys : List Row) → FormedRows w xs → FormedRows w ys → FormedRows w (xs ++ ys)
 formed_rows-append w xs ys h k = record { each = at xs h.each }

@@ -15,13 +15,13 @@ use Rattle.opcodes.specs.declared.ending.Outcome.TheVariants.{Res, Waits, BadCho
 use Rattle.opcodes.specs.Outcomes.{outcome_of}
 use Rattle.opcodes.specs.Effects.{world_after}
 use Rattle.opcodes.proofs.Staying.{stays_after}
-use Rattle.links_drains.specs.Batches.{single_rows}
+use Rattle.links_drains.specs.Batches.{rows_of, direct_of}
 use Rattle.overflow.specs.Backlogs.{fits, kept, free_slots}
 use Rattle.overflow.proofs.Posting.{posted_slots}
 use Rattle.sqpoll.specs.declared.poller.Poller.{Poller}
 use Rattle.sqpoll.specs.declared.poller.Poller.TheVariants.{Awake, Asleep}
 use Rattle.model_files.proofs.Fixing as worlds
-use Rattle.machine.specs.Submission.{some_fails, taken_entries, einval, ebusy, ebadf}
+use Rattle.machine.specs.Submission.{taken_entries, einval, ebusy, ebadf}
 use Rattle.timeouts_cancel.specs.Falls.{fall_of}
 use Rattle.machine.specs.Steps.{refusal, sleep_refusal, after, stepped, executed, entered, entered_alone, entered_beside, submitting, before_submission, is_busy, is_unknown, gets_events, wakes, woken, shown, awaited, ready_count, held_back, with_poller, posted, flushed, completions_of, ended, all_ended, fallen, taken, submitted, answered, issued, finished, finished_as, lacks_descriptor, held_by}
 use Rattle.machine.specs.Threads.{ThreadState, program_of}
@@ -50,14 +50,14 @@ pub grows_posted : (m : Machine) (cs : List Cqe) → Grows m (posted m cs)
 grows_posted m cs =
     let n = fits m.completions m.backlog (length cs) in
     record {
-      setup = record { array = refl; slots = refl; completions = sym (posted_slots m.completions (take n cs)); world = worlds.setup_self _; programs = refl; poller = refl };
+      setup = record { array = refl; slots = refl; completions = sym (posted_slots m.completions (take n cs)); world = worlds.setup_self _; programs = refl; poller = refl; submit_all = refl };
       rows = le_refl _;
       backlog = let a = length-append m.backlog.items (drop n cs) in omega (arith, a);
     }
 
 pub grows_flushed : (m : Machine) → Grows m (flushed m)
 grows_flushed m = record {
-  setup = record { array = refl; slots = refl; completions = sym (posted_slots m.completions (take (min (length (kept m.backlog)) (free_slots m.completions)) (kept m.backlog))); world = worlds.setup_self _; programs = refl; poller = refl };
+  setup = record { array = refl; slots = refl; completions = sym (posted_slots m.completions (take (min (length (kept m.backlog)) (free_slots m.completions)) (kept m.backlog))); world = worlds.setup_self _; programs = refl; poller = refl; submit_all = refl };
   rows = le_refl _;
   backlog = le_refl _;
 }
@@ -66,7 +66,7 @@ pub grows_ended : (m : Machine) (r : ℕ) (res : ℤ) → Grows m (ended m r res
 grows_ended m r res =
     let p = grows_posted m (completions_of (slice_get m.table r) res) in
     record {
-      setup = record { array = refl; slots = refl; completions = p.setup.completions; world = worlds.setup_self _; programs = refl; poller = refl };
+      setup = record { array = refl; slots = refl; completions = p.setup.completions; world = worlds.setup_self _; programs = refl; poller = refl; submit_all = refl };
       rows = let a = length-updated (λ (row : Row). record row { phase = Ended res }) m.table r in omega (arith, a);
       backlog = p.backlog;
     }
@@ -83,26 +83,19 @@ grows_fallen m direct = grows_all_ended m (fall_of m.table m.counted direct)
 
 grows_taken : (m : Machine) (k : ℕ) → Grows m (taken m k)
 grows_taken m k = record {
-  setup = record { array = refl; slots = refl; completions = refl; world = worlds.setup_self _; programs = refl; poller = refl };
-  rows = let a = length-append m.table (single_rows (length m.table) (taken_entries m.submissions k)) in omega (arith, a);
+  setup = record { array = refl; slots = refl; completions = refl; world = worlds.setup_self _; programs = refl; poller = refl; submit_all = refl };
+  rows = let a = length-append m.table (rows_of (length m.table) (taken_entries m.submit_all m.submissions k)) in omega (arith, a);
   backlog = le_refl _;
 }
 
 pub grows_submitted : (m : Machine) (k : ℕ) → Grows m (submitted m k)
-grows_submitted m k = by (some_fails m.submissions k)
-  where
-    last : Machine
-    last = fallen (taken m k) ((length (taken m k).table - 1, einval) ∷ [])
-
-    by : (b : Bool) → Grows m (if b then last else taken m k)
-    by true = grows_then m (taken m k) last (grows_taken m k) (grows_fallen (taken m k) ((length (taken m k).table - 1, einval) ∷ []))
-    by false = grows_taken m k
+grows_submitted m k = grows_then m (taken m k) (submitted m k) (grows_taken m k) (grows_fallen (taken m k) (direct_of (length m.table) (taken_entries m.submit_all m.submissions k)))
 
 -- ---- threads
 
 pub grows_thread : (m : Machine) (f : ThreadState → ThreadState) (t : ℕ) → ((x : ThreadState) → program_of (f x) ≡ program_of x) → Grows m (record m { threads = updated f m.threads t })
 grows_thread m f t h = record {
-  setup = record { array = refl; slots = refl; completions = refl; world = worlds.setup_self _; programs = map_updated program_of f m.threads t h; poller = refl };
+  setup = record { array = refl; slots = refl; completions = refl; world = worlds.setup_self _; programs = map_updated program_of f m.threads t h; poller = refl; submit_all = refl };
   rows = le_refl _;
   backlog = le_refl _;
 }
@@ -124,7 +117,7 @@ grows_awaited m t n k w flags = by (gets_events flags && ((n == k) && nat_lt (re
 
 pub grows_poller : (m : Machine) (p : Poller) → is_some m.poller ≡ true → Grows m (with_poller m p)
 grows_poller m p h = record {
-  setup = record { array = refl; slots = refl; completions = refl; world = worlds.setup_self _; programs = refl; poller = h };
+  setup = record { array = refl; slots = refl; completions = refl; world = worlds.setup_self _; programs = refl; poller = h; submit_all = refl };
   rows = le_refl _;
   backlog = le_refl _;
 }
@@ -153,9 +146,9 @@ grows_before m k flags = by (gets_events flags || nat_lt 0 k)
 grows_submitting : (m : Machine) (t k w flags : ℕ) → Grows m (submitting m t k w flags)
 grows_submitting m t k w flags = by (is_busy m k)
   where
-    by : (b : Bool) → Grows m (if b then answered m t ebusy else awaited (submitted m k) t (length (taken_entries m.submissions k)) k w flags)
+    by : (b : Bool) → Grows m (if b then answered m t ebusy else awaited (submitted m k) t (length (taken_entries m.submit_all m.submissions k)) k w flags)
     by true = grows_answered m t ebusy
-    by false = grows_then m (submitted m k) _ (grows_submitted m k) (grows_awaited (submitted m k) t (length (taken_entries m.submissions k)) k w flags)
+    by false = grows_then m (submitted m k) _ (grows_submitted m k) (grows_awaited (submitted m k) t (length (taken_entries m.submit_all m.submissions k)) k w flags)
 
 grows_entered : (m : Machine) (t k w flags : ℕ) → Grows m (entered m m.poller t k w flags)
 grows_entered m t k w flags = by m.poller refl
@@ -178,7 +171,7 @@ grows_entered m t k w flags = by m.poller refl
 
 grows_world : (m : Machine) (w : WorldState) → OneWorldSetup m.world w → Grows m (record m { world = w })
 grows_world m w h = record {
-  setup = record { array = refl; slots = refl; completions = refl; world = h; programs = refl; poller = refl };
+  setup = record { array = refl; slots = refl; completions = refl; world = h; programs = refl; poller = refl; submit_all = refl };
   rows = le_refl _;
   backlog = le_refl _;
 }
@@ -186,7 +179,7 @@ grows_world m w h = record {
 -- the memory changes, and a thread goes on
 pub grows_parts : (m : Machine) (w : WorldState) (ts : List ThreadState) → OneWorldSetup m.world w → map program_of ts ≡ map program_of m.threads → Grows m (record m { world = w; threads = ts })
 grows_parts m w ts h k = record {
-  setup = record { array = refl; slots = refl; completions = refl; world = h; programs = sym k; poller = refl };
+  setup = record { array = refl; slots = refl; completions = refl; world = h; programs = sym k; poller = refl; submit_all = refl };
   rows = le_refl _;
   backlog = le_refl _;
 }
@@ -201,19 +194,19 @@ grows_stored m t address bytes f l =
 grows_executed : (m : Machine) (t : ℕ) (x : ThreadState) → WellFormed m → slice_get m.threads t ≡ Some x → (i : Option Instruction) → slice_get x.program x.counter ≡ i → Grows m (executed m t i)
 grows_executed m t x f e None g = grows_self m
 grows_executed m t x f e (Some (Put slot entry)) g = record {
-  setup = record { array = refl; slots = sym (length-set m.submissions.slots slot entry); completions = refl; world = worlds.setup_self _; programs = map_updated program_of _ m.threads t (λ x. refl); poller = refl };
+  setup = record { array = refl; slots = sym (length-set m.submissions.slots slot entry); completions = refl; world = worlds.setup_self _; programs = map_updated program_of _ m.threads t (λ x. refl); poller = refl; submit_all = refl };
   rows = le_refl _;
   backlog = le_refl _;
 }
 grows_executed m t x f e (Some (Push index)) g = record {
-  setup = record { array = sym (length-set m.submissions.array (m.submissions.tail % length m.submissions.array) index); slots = refl; completions = refl; world = worlds.setup_self _; programs = map_updated program_of _ m.threads t (λ x. refl); poller = refl };
+  setup = record { array = sym (length-set m.submissions.array (m.submissions.tail % length m.submissions.array) index); slots = refl; completions = refl; world = worlds.setup_self _; programs = map_updated program_of _ m.threads t (λ x. refl); poller = refl; submit_all = refl };
   rows = le_refl _;
   backlog = le_refl _;
 }
 grows_executed m t x f e (Some (Store address bytes)) g = grows_stored m t address bytes f ((f.threads t x e).program.done x.counter (Store address bytes) g)
 grows_executed m t x f e (Some (Enter to_submit min_complete flags)) g = grows_entered m t to_submit min_complete flags
 grows_executed m t x f e (Some Reap) g = record {
-  setup = record { array = refl; slots = refl; completions = refl; world = worlds.setup_self _; programs = map_updated program_of _ m.threads t (λ x. refl); poller = refl };
+  setup = record { array = refl; slots = refl; completions = refl; world = worlds.setup_self _; programs = map_updated program_of _ m.threads t (λ x. refl); poller = refl; submit_all = refl };
   rows = le_refl _;
   backlog = le_refl _;
 }
@@ -241,7 +234,7 @@ grows_issued m r (Some x) = by (lacks_descriptor m.world x)
     by : (b : Bool) → Grows m (if b then fallen m ((r, ebadf) ∷ []) else record m { table = updated (λ row. record row { phase = Issued; held = held_by row }) m.table r })
     by true = grows_fallen m ((r, ebadf) ∷ [])
     by false = record {
-      setup = record { array = refl; slots = refl; completions = refl; world = worlds.setup_self _; programs = refl; poller = refl };
+      setup = record { array = refl; slots = refl; completions = refl; world = worlds.setup_self _; programs = refl; poller = refl; submit_all = refl };
       rows = let a = length-updated (λ (row : Row). record row { phase = Issued; held = held_by row }) m.table r in omega (arith, a);
       backlog = le_refl _;
     }
@@ -264,4 +257,4 @@ grows_after m Sleep f h = grows_poller m Asleep (has_poller m h)
 grows_after m (Issue r) f h = grows_issued m r (slice_get m.table r)
 grows_after m (Finish r c) f h = grows_finished m r c f (slice_get m.table r)
 grows_after m (Expire r) f h = grows_self m
-grows_after m (Tick d) f h = record { setup = record { array = refl; slots = refl; completions = refl; world = worlds.setup_self _; programs = refl; poller = refl }; rows = le_refl _; backlog = le_refl _ }
+grows_after m (Tick d) f h = record { setup = record { array = refl; slots = refl; completions = refl; world = worlds.setup_self _; programs = refl; poller = refl; submit_all = refl }; rows = le_refl _; backlog = le_refl _ }

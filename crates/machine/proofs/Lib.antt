@@ -8,7 +8,6 @@ pub mod SubmissionLemmas
 pub mod InstructionLemmas
 pub mod EnterLemmas
 pub mod ListsChanged
-pub mod Chaining
 pub mod FormedRows
 pub mod FormedThreads
 pub mod FormedMachines

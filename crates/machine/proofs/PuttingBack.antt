@@ -158,7 +158,7 @@ same_thread (Some x) (Some y) p c s l g = ap Some (five (cc) (cc) (cc) (cc) (cc)
     five a b c' d e = λ i. record { program = a i; counter = b i; stage = c' i; last = d i; got = e i }
 
 pub same_machine : (m n : Machine) → OneSetup m n → ((p : Place) → view m p ≡ view n p) → m ≡ n
-same_machine m n h e = λ i. record { submissions = subs i; completions = coms i; backlog = kept i; world = world i; table = rows i; poller = polled i; threads = threads i; clock = clock i; counted = counted i }
+same_machine m n h e = λ i. record { submissions = subs i; completions = coms i; backlog = kept i; world = world i; table = rows i; poller = polled i; submit_all = h.submit_all i; threads = threads i; clock = clock i; counted = counted i }
   where
     at_sub : (p : Place) → sub_seen m.submissions p ≡ sub_seen n.submissions p
     at_sub SubmissionHead = e SubmissionHead

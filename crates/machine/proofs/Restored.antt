@@ -21,10 +21,10 @@ pub record Restored (before : Machine) (cs : List Change) (now : Machine) (left 
   pub same : (p : Place) → undo (view now) left p ≡ undo (view before) cs p
 
 pub setup_then : (a b c : Machine) → OneSetup a b → OneSetup b c → OneSetup a c
-setup_then a b c h k = record { array = h.array ∙ k.array; slots = h.slots ∙ k.slots; completions = h.completions ∙ k.completions; world = worlds.setup_then _ _ _ h.world k.world; programs = h.programs ∙ k.programs; poller = h.poller ∙ k.poller }
+setup_then a b c h k = record { array = h.array ∙ k.array; slots = h.slots ∙ k.slots; completions = h.completions ∙ k.completions; world = worlds.setup_then _ _ _ h.world k.world; programs = h.programs ∙ k.programs; poller = h.poller ∙ k.poller; submit_all = h.submit_all ∙ k.submit_all }
 
 pub setup_self : (m : Machine) → OneSetup m m
-setup_self m = record { array = refl; slots = refl; completions = refl; world = worlds.setup_self _; programs = refl; poller = refl }
+setup_self m = record { array = refl; slots = refl; completions = refl; world = worlds.setup_self _; programs = refl; poller = refl; submit_all = refl }
 
 pub restored_from : (m : Machine) (cs : List Change) → NamesOnce cs → Restored m cs m cs
 restored_from m cs o = record { setup = setup_self m; rows = refl; backlog = refl; once = o; same = λ p. refl }

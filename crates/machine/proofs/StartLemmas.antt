@@ -16,7 +16,7 @@ use Rattle.ring_words.proofs.Order.{waiting_none}
 use Rattle.ring_words.proofs.Sizes.{rounded_size, size_most}
 use Rattle.ring_words.proofs.Laws.{formed_sub_start, formed_com_start}
 use Rattle.scenario.specs.Programs.{HasWidths, HaveWidths, IsDone, IsProgram}
-use Rattle.machine.proofs.Chaining.{chained_none}
+use Rattle.links_drains.proofs.Chains.{chained-none}
 use Rattle.machine.specs.Threads.{ThreadState, thread_start}
 use Rattle.scenario.specs.Setups.{setup_refusal, has_ring_sizes, is_between, is_completion_size, has_programs, is_program, is_instruction, has_memory, has_objects, has_descriptors, is_object, is_name, is_contents, names_once, keeps_limits, is_unbuilt, is_unbuilt_object, asks_for_unbuilt}
 use Rattle.places.specs.declared.object.Contents.{Contents}
@@ -188,7 +188,7 @@ formed_start s h b w =
       rows = omega arith;
       world = world_start_formed s.memory s.objects s.fds (memory_fits s a) (objects_fit s a);
       requests = λ r x k. absurd (none_there x k);
-      chained = chained_none;
+      chained = chained-none;
       counted = refl;
       clock = omega arith;
       threads = λ t x k. subst (λ (i : ℕ). Stands i x) (sym size) (threads_stand s a w t x k);

@@ -20,7 +20,7 @@ cut cs m = record m { table = take (rows_left cs (length m.table)) m.table; back
 pub overwrites : (s m : Machine) (cs : List Change) → NamesOnce cs → GoesBack s m cs → Overwrites s (cut cs m) cs
 overwrites s m cs o g = record {
   formed = g.formed;
-  setup = record { array = g.grows.setup.array; slots = g.grows.setup.slots; completions = g.grows.setup.completions; world = g.grows.setup.world; programs = g.grows.setup.programs; poller = g.grows.setup.poller };
+  setup = record { array = g.grows.setup.array; slots = g.grows.setup.slots; completions = g.grows.setup.completions; world = g.grows.setup.world; programs = g.grows.setup.programs; poller = g.grows.setup.poller; submit_all = g.grows.setup.submit_all };
   rows = sym rows ∙ sym (length-take-le (rows_left cs (length m.table)) m.table (left_le Requests cs (length m.table)));
   backlog = sym items ∙ sym (length-take-le (backlog_left cs (length m.backlog.items)) m.backlog.items (left_le Overflowed cs (length m.backlog.items)));
   back = back;

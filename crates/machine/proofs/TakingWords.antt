@@ -115,7 +115,7 @@ pub adding_keeps : (before now : Machine) (rows : List Row) (cs ds es : List Cha
 adding_keeps before now rows cs ds es words dropped a k = keeps_then everywhere (view before) (view now) _ cs ds es a.keeps (lift_table now rows ds es k)
 
 pub adding_setup : (before now : Machine) (rows : List Row) (cs ds : List Change) (words : List ℕ) (dropped : ℕ) → Adding before cs now ds words dropped → OneSetup before (record now { table = rows })
-adding_setup before now rows cs ds words dropped a = subst (λ (m : Machine). OneSetup before (record m { table = rows })) (sym a.added) (record { array = refl; slots = refl; completions = refl; world = worlds.setup_self _; programs = refl; poller = refl })
+adding_setup before now rows cs ds words dropped a = subst (λ (m : Machine). OneSetup before (record m { table = rows })) (sym a.added) (record { array = refl; slots = refl; completions = refl; world = worlds.setup_self _; programs = refl; poller = refl; submit_all = refl })
 
 -- a word that names an entry
 pub adding_on : (before now : Machine) (rows : List Row) (cs ds es : List Change) (i x dropped : ℕ) (e : Sqe) → Adding before cs now ds (take i (sub_list before.submissions)) dropped → slice_get (sub_list before.submissions) i ≡ Some x → slice_get before.submissions.slots x ≡ Some e

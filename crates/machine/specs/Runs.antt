@@ -32,6 +32,7 @@ start s = record {
   world = world_start s.memory s.objects s.fds;
   table = [];
   poller = first_poller s.sqpoll;
+  submit_all = s.submit_all;
   threads = map thread_start s.threads;
   clock = 0;
   counted = 0;

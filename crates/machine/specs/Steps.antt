@@ -22,10 +22,10 @@ use Rattle.overflow.specs.Backlogs.{Delivery, delivery_of, is_clear, all_posted,
 use Rattle.sqpoll.specs.declared.poller.Poller.{Poller}
 use Rattle.sqpoll.specs.declared.poller.Poller.TheVariants.{Awake, Asleep}
 use Rattle.sqpoll.specs.Pollers.{is_awake}
-use Rattle.links_drains.specs.Batches.{single_rows}
+use Rattle.links_drains.specs.Batches.{rows_of, direct_of}
 use Rattle.links_drains.specs.Phases.{counts}
 use Rattle.timeouts_cancel.specs.Falls.{fall_of}
-use Rattle.machine.specs.Submission.{offered, some_fails, entries_at, taken_words, taken_entries, einval, ebusy, ebadf}
+use Rattle.machine.specs.Submission.{offered, entries_at, taken_words, taken_entries, einval, ebusy, ebadf}
 use Rattle.machine.specs.Threads.{ThreadState}
 use Rattle.scenario.specs.declared.setup.Instruction.{Instruction}
 use Rattle.scenario.specs.declared.setup.Instruction.TheVariants.{Put, Push, Store, Enter, Reap, Close}
@@ -191,16 +191,16 @@ taken_by m words = record m {
     head = (m.submissions.head + length words) % 2 ^ 32;
     dropped = (m.submissions.dropped + (length words - length (entries_at m.submissions.slots words))) % 2 ^ 32;
   };
-  table = m.table ++ single_rows (length m.table) (entries_at m.submissions.slots words);
+  table = m.table ++ rows_of (length m.table) (entries_at m.submissions.slots words);
 }
 
 -- the machine once the entries of a submission have become rows
 abbrev pub taken : Machine → ℕ → Machine
-taken m k = taken_by m (taken_words m.submissions k)
+taken m k = taken_by m (taken_words m.submit_all m.submissions k)
 
--- the machine once a submission has ended the row that failed, which is the last
+-- the machine once a submission has ended the rows that failed, and the others of their chains
 abbrev pub submitted : Machine → ℕ → Machine
-submitted m k = if some_fails m.submissions k then fallen (taken m k) ((length (taken m k).table - 1, einval) ∷ []) else taken m k
+submitted m k = fallen (taken m k) (direct_of (length m.table) (taken_entries m.submit_all m.submissions k))
 
 -- the machine once a thread has an answer, and goes on
 abbrev pub answered : Machine → ℕ → ℤ → Machine
@@ -237,7 +237,7 @@ entered_beside m t k w flags = awaited (shown (woken m flags) flags) t k k w fla
 
 -- what a thread does that is to submit k entries
 abbrev pub submitting : Machine → ℕ → ℕ → ℕ → ℕ → Machine
-submitting m t k w flags = if is_busy m k then answered m t ebusy else awaited (submitted m k) t (length (taken_entries m.submissions k)) k w flags
+submitting m t k w flags = if is_busy m k then answered m t ebusy else awaited (submitted m k) t (length (taken_entries m.submit_all m.submissions k)) k w flags
 
 -- an Enter without a poller
 abbrev pub entered_alone : Machine → ℕ → ℕ → ℕ → ℕ → Machine

@@ -1,7 +1,7 @@
 -- What a submission takes from the ring (io_uring_enter(2)).
-use Rattle.std.specs.Prelude.{ℕ, ℤ, negsuc, ◌+◌, Bool, not, true, slice_get, List, take}
+use Rattle.std.specs.Prelude.{ℕ, ℤ, negsuc, ◌+◌, Bool, true, if◌then◌else◌, slice_get, List, take}
 use Rattle.std.specs.Option.{option_map_or}
-use Rattle.std.specs.List.{filter_map, prefix_len, list_any}
+use Rattle.std.specs.List.{filter_map, prefix_len}
 use Rattle.entries.specs.declared.entry.Sqe.{Sqe}
 use Rattle.links_drains.specs.Batches.{passes}
 use Rattle.ring_words.specs.Rings.{SubWords, sub_list}
@@ -22,19 +22,15 @@ entries_at slots words = filter_map (slice_get slots) words
 abbrev pub offered : SubWords → ℕ → List ℕ
 offered w k = take k (sub_list w)
 
--- whether one of them names an entry that fails
-abbrev pub some_fails : SubWords → ℕ → Bool
-some_fails w k = list_any (λ word. not (passes_at w.slots word)) (offered w k)
-
--- the words that it takes
-abbrev pub taken_words : SubWords → ℕ → List ℕ
-taken_words w k = batch_of w.slots (offered w k)
+-- the words that it takes: all of them where it goes on behind an entry that fails (io_uring_setup(2), IORING_SETUP_SUBMIT_ALL)
+abbrev pub taken_words : Bool → SubWords → ℕ → List ℕ
+taken_words submit_all w k = if submit_all then offered w k else batch_of w.slots (offered w k)
 
 -- the entries that become rows
-abbrev pub taken_entries : SubWords → ℕ → List Sqe
-taken_entries w k = entries_at w.slots (taken_words w k)
+abbrev pub taken_entries : Bool → SubWords → ℕ → List Sqe
+taken_entries submit_all w k = entries_at w.slots (taken_words submit_all w k)
 
--- the result of a row that fails submitting: EINVAL (errno(3))
+-- the answer of an Enter that has unknown flags: EINVAL (errno(3))
 abbrev pub einval : ℤ
 einval = negsuc 21
 

@@ -97,7 +97,7 @@ can_put m (Last t) v = threads_can_put m.threads (Last t) v
 can_put m (Got t) v = threads_can_put m.threads (Got t) v
 can_put m p v = ⊥
 
--- Two machines have what a setup fixes in common: sizes, programs, objects and descriptors, and whether there is a poller.
+-- Two machines have what a setup fixes in common: sizes, programs, objects and descriptors, whether there is a poller, and how it submits.
 pub record OneSetup (m n : Machine) : Type 0 where
   pub array : length m.submissions.array ≡ length n.submissions.array
   pub slots : length m.submissions.slots ≡ length n.submissions.slots
@@ -105,6 +105,7 @@ pub record OneSetup (m n : Machine) : Type 0 where
   pub world : OneWorldSetup m.world n.world
   pub programs : map program_of m.threads ≡ map program_of n.threads
   pub poller : is_some m.poller ≡ is_some n.poller
+  pub submit_all : m.submit_all ≡ n.submit_all
 
 -- Two machines of one setup, the second of which has no fewer rows and no fewer items of the backlog.
 pub record Grows (m n : Machine) : Type 0 where

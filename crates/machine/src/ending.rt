@@ -2,7 +2,8 @@
 ghost use Rattle.std.specs.Prelude.{◌≡◌, ◌+◌, ◌<◌, ◌≤◌, ◌^◌, ℕ, ℤ, OnOk, Some, length, slice_get};
 ghost use Rattle.places.specs.View.{Keeps};
 ghost use Rattle.machine.specs.Steps.{delivery, ended, all_ended, fallen};
-ghost use Rattle.timeouts_cancel.specs.Falls.{Direct, NoTimers};
+ghost use Rattle.links_drains.specs.Endings.{Direct};
+ghost use Rattle.timeouts_cancel.specs.Falls.{NoTimers};
 ghost use Rattle.overflow.specs.Backlogs.{DeliveryFormed};
 ghost use Rattle.machine.specs.Whole.{view, everywhere, Grows, Mostly};
 

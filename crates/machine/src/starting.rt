@@ -42,6 +42,7 @@ impl Machine {
                 setup.fds.as_slice(),
             )?,
             table: Table::new(alloc),
+            submit_all: setup.submit_all,
             poller: if setup.sqpoll {
                 Some(Poller::Awake)
             } else {
@@ -64,6 +65,7 @@ impl Machine {
             world: self.world.copy(alloc)?,
             table: self.table.copy(alloc)?,
             poller: self.poller,
+            submit_all: self.submit_all,
             threads: self.threads.copy(alloc)?,
             clock: self.clock,
             counted: self.counted,

@@ -3,8 +3,8 @@ ghost use Rattle.std.specs.Prelude.{◌≡◌, ◌+◌, ◌-◌, ◌<◌, ◌≤
 ghost use Rattle.std.specs.List.{prefix_len};
 ghost use Rattle.places.specs.View.{Keeps};
 ghost use Rattle.ring_words.specs.Rings.{sub_list};
-ghost use Rattle.links_drains.specs.Batches.{single_rows};
-ghost use Rattle.machine.specs.Submission.{offered, passes_at, some_fails, entries_at, taken_entries};
+ghost use Rattle.links_drains.specs.Batches.{rows_of};
+ghost use Rattle.machine.specs.Submission.{offered, passes_at, entries_at, taken_entries};
 ghost use Rattle.machine.specs.Steps.{submission_refusal, submitted, taken_by};
 ghost use Rattle.machine.specs.Whole.{view, everywhere, Grows, WellFormed};
 
@@ -42,7 +42,7 @@ impl Machine {
     fn add_rows(&mut self, count: u32, notes: &mut Recorder) -> Result<u32, AllocError>
         requires waits { count ≤ length (sub_list self.old.submissions) }
         requires room { length self.old.table + count ≤ 65536 }
-        ensures ok { OnOk result (self.new ≡ record self.old { table = self.old.table ++ single_rows (length self.old.table) (entries_at self.old.submissions.slots (offered self.old.submissions count)) }) }
+        ensures ok { OnOk result (self.new ≡ record self.old { table = self.old.table ++ rows_of (length self.old.table) (entries_at self.old.submissions.slots (offered self.old.submissions count)) }) }
         ensures dropped { IfOk result (λ d. d + length (entries_at self.old.submissions.slots (offered self.old.submissions count)) ≡ count) }
         ensures grows { Grows self.old self.new }
         ensures keeps { Keeps everywhere (view self.old) (view self.new) notes.old.made notes.new.made }
@@ -65,7 +65,7 @@ impl Machine {
         requires accepted { submission_refusal self.old to_submit ≡ None }
         requires formed { WellFormed self.old }
         ensures ok { OnOk result (self.new ≡ submitted self.old to_submit) }
-        ensures count { IfOk result (λ n. n ≡ length (taken_entries self.old.submissions to_submit)) }
+        ensures count { IfOk result (λ n. n ≡ length (taken_entries self.old.submit_all self.old.submissions to_submit)) }
         ensures grows { Grows self.old self.new }
         ensures keeps { Keeps everywhere (view self.old) (view self.new) notes.old.made notes.new.made }
     {

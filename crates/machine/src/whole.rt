@@ -25,6 +25,8 @@ pub struct Machine {
     pub world: World,
     pub table: Table,
     pub poller: Option<Poller>,
+    /// Whether a submission goes on behind an entry that fails (io_uring_setup(2), IORING_SETUP_SUBMIT_ALL).
+    pub submit_all: bool,
     pub threads: Threads,
     pub clock: u64,
     pub counted: u32,
