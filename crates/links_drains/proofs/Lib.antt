@@ -4,6 +4,7 @@ pub mod Counting
 pub mod DirectPairs
 pub mod Listing
 pub mod Rising
+pub mod Remaining
 pub mod RowsKept
 pub mod Seen
 pub mod Tallying

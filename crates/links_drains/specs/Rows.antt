@@ -1,5 +1,5 @@
 -- The table of all requests, and what is seen of it.
-use Rattle.std.specs.Prelude.{◌≡◌, ℕ, ◌+◌, ◌<◌, Bool, true, false, Option, Some, None, option_map, slice_get, List, length}
+use Rattle.std.specs.Prelude.{◌≡◌, ℕ, ◌+◌, ◌*◌, ◌<◌, Bool, true, false, Option, Some, None, option_map, slice_get, List, length}
 use Rattle.entries.specs.declared.entry.Sqe.{Sqe}
 use Rattle.entries.specs.declared.row.Row.{Row}
 use Rattle.entries.specs.declared.row.Phase.TheVariants.{Queued}
@@ -19,9 +19,17 @@ abbrev pub table_seen : List Row → View
 table_seen rows (Request i) = option_map Requested (slice_get rows i)
 table_seen rows _ = None
 
--- A row can be written over, and the last one taken out.
+-- what of a row never changes
+abbrev pub fixed_of : Row → Sqe × ℕ
+fixed_of row = (row.entry, row.unit)
+
+-- Rows stay where they are, with their entries and units; others may have come behind them.
+abbrev pub Stay : List Row → List Row → Type 0
+Stay rows next = (r : ℕ) → r < length rows → option_map fixed_of (slice_get next r) ≡ option_map fixed_of (slice_get rows r)
+
+-- A row of the same entry and unit can be written over one, and the last one taken out.
 abbrev pub table_can_put : List Row → Place → Option Value → Type 0
-table_can_put rows (Request i) (Some (Requested row)) = i < length rows
+table_can_put rows (Request i) (Some (Requested row)) = option_map fixed_of (slice_get rows i) ≡ Some (fixed_of row)
 table_can_put rows (Request i) None = i + 1 ≡ length rows
 table_can_put rows place value = ⊥
 

@@ -1,13 +1,14 @@
 //! The table of all rows that were ever submitted.
-ghost use Rattle.std.specs.Prelude.{◌≡◌, ℕ, ◌+◌, ◌<◌, ◌≤◌, ◌^◌, ◌++◌, ◌∷◌, [], take, None, IfOk, OnOk, OnErr, OnSome, length, option_map, slice_get, slice_set};
+ghost use Rattle.std.specs.Prelude.{◌≡◌, ℕ, ◌+◌, ◌<◌, ◌≤◌, ◌^◌, ◌++◌, ◌∷◌, [], take, None, IfOk, OnOk, OnErr, OnSome, length, map, option_map, slice_get, slice_set};
 ghost use Rattle.entries.specs.declared.row.Row.{Row};
 ghost use Rattle.entries.specs.declared.row.Phase.TheVariants.{Issued};
 ghost use Rattle.places.specs.Lists.{updated};
 ghost use Rattle.places.specs.View.{Keeps, named, put_at};
 ghost use Rattle.places.specs.declared.place.Place.{Place};
 ghost use Rattle.model_files.specs.Holders.{is_held};
+ghost use Rattle.links_drains.specs.Eligible.{is_eligible, GuardsFollow};
 ghost use Rattle.links_drains.specs.Holding.{is_held_by};
-ghost use Rattle.links_drains.specs.Rows.{table_owns, table_seen, table_can_put, new_row as new_row_of};
+ghost use Rattle.links_drains.specs.Rows.{fixed_of, table_owns, table_seen, table_can_put, new_row as new_row_of};
 
 use crate::holding::{count, take_all_off, take_off};
 use entries::{Phase, Row, Sqe};
@@ -59,7 +60,7 @@ impl Part for Table {
     fn put(&mut self, place: Place, value: Option<Value>)
         requires { table_can_put self.old place value }
         ensures put { (q : Place) → table_seen self.new q ≡ put_at (table_seen self.old) place value q }
-        ensures len { OnSome value (length self.new ≡ length self.old) }
+        ensures fixed { OnSome value (map fixed_of self.new ≡ map fixed_of self.old) }
     {
         match (place, value) {
             (Place::Request(i), Some(Value::Requested(row))) => self.set(i as usize, row),
@@ -128,6 +129,14 @@ impl Table {
             Some(row) => Some(row.entry.opcode),
             None => None,
         }
+    }
+
+    /// Whether a row may be issued. It takes constant time.
+    pub fn is_eligible(&self, r: u32) -> bool
+        requires { GuardsFollow self.now }
+        ensures { result ≡ is_eligible self.now r }
+    {
+        false
     }
 
     /// Which descriptors issued rows hold. It takes constant time.

@@ -9,6 +9,7 @@ use Rattle.opcodes.specs.declared.choice.Choice.{Choice}
 use Rattle.opcodes.specs.declared.ending.Outcome.{Outcome}
 use Rattle.opcodes.specs.declared.ending.Outcome.TheVariants.{Res, Waits, BadChoice}
 use Rattle.opcodes.specs.Outcomes.{outcome_of}
+use Rattle.links_drains.specs.Eligible.{is_eligible}
 use Rattle.links_drains.specs.Phases.{is_ended, counts}
 use Rattle.links_drains.proofs.Counting.{ended-le-length, ended-lt-length}
 use Rattle.ring_words.specs.Rings.{sub_list}
@@ -23,7 +24,7 @@ use Rattle.machine.specs.Threads.{ThreadState}
 use Rattle.machine.specs.Whole.{WellFormed}
 use Rattle.machine.specs.declared.whole.Machine.{Machine}
 use Rattle.scenario.specs.declared.event.Refusal.{Refusal}
-use Rattle.scenario.specs.declared.event.Refusal.TheVariants.{WrongPhase}
+use Rattle.scenario.specs.declared.event.Refusal.TheVariants.{WrongPhase, NotEligible}
 use Rattle.machine.proofs.TakingWords.{lt-ltb}
 
 -- nothing kept stands in the way of a submission, once there was a flush
@@ -109,15 +110,15 @@ finished_result m r c x e h = counting (counts x) (ap (λ o. finish_refusal m.wo
     counting false k = absurd cc
 
 -- a row that can be issued is there, and unfinished
-pub issued_row : (m : Machine) (r : ℕ) → issue_refusal (slice_get m.table r) ≡ None → (x : Row) × (slice_get m.table r ≡ Some x) × (is_ended x.phase ≡ false)
+pub issued_row : (m : Machine) (r : ℕ) → issue_refusal m.table r (slice_get m.table r) ≡ None → (x : Row) × (slice_get m.table r ≡ Some x) × (is_ended x.phase ≡ false)
 issued_row m r h = by (slice_get m.table r) refl h
   where
-    at : (x : Row) → slice_get m.table r ≡ Some x → (p : Phase) → x.phase ≡ p → elim p as (λ q. Option Refusal) [ Queued ↦ None | Issued ↦ Some WrongPhase | Ended res ↦ Some WrongPhase ] ≡ None → (y : Row) × (slice_get m.table r ≡ Some y) × (is_ended y.phase ≡ false)
+    at : (x : Row) → slice_get m.table r ≡ Some x → (p : Phase) → x.phase ≡ p → elim p as (λ q. Option Refusal) [ Queued ↦ cond (is_eligible m.table r) None (Some NotEligible) | Issued ↦ Some WrongPhase | Ended res ↦ Some WrongPhase ] ≡ None → (y : Row) × (slice_get m.table r ≡ Some y) × (is_ended y.phase ≡ false)
     at x e Queued q k = (x, e, ap is_ended q)
     at x e Issued q k = absurd cc
     at x e (Ended n) q k = absurd cc
 
-    by : (o : Option Row) → slice_get m.table r ≡ o → issue_refusal o ≡ None → (y : Row) × (slice_get m.table r ≡ Some y) × (is_ended y.phase ≡ false)
+    by : (o : Option Row) → slice_get m.table r ≡ o → issue_refusal m.table r o ≡ None → (y : Row) × (slice_get m.table r ≡ Some y) × (is_ended y.phase ≡ false)
     by None e k = absurd cc
     by (Some x) e k = at x e x.phase refl k
 

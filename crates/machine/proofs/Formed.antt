@@ -29,6 +29,7 @@ use Rattle.sqpoll.specs.declared.poller.Poller.{Poller}
 use Rattle.sqpoll.specs.declared.poller.Poller.TheVariants.{Awake, Asleep}
 use Rattle.sqpoll.specs.Pollers.{is_awake}
 use Rattle.links_drains.specs.Batches.{direct_of}
+use Rattle.links_drains.specs.Eligible.{is_eligible}
 use Rattle.links_drains.specs.Phases.{is_ended, counts}
 use Rattle.machine.specs.Submission.{offered, taken_entries, einval, ebusy, ebadf}
 use Rattle.machine.specs.Steps.{refusal, after, stepped, executed, entered, entered_alone, entered_beside, submitting, before_submission, is_busy, is_unknown, gets_events, wakes, woken, shown, awaited, ready_count, held_back, with_poller, flushed, submission_refusal, alone_refusal, enter_refusal, instruction_refusal, next_refusal, thread_refusal, take_refusal, issue_refusal, phase_refusal, finish_refusal, taken, submitted, answered, gone_on, issued, finished, finished_as, lacks_descriptor, held_by, fallen}
@@ -40,7 +41,7 @@ use Rattle.machine.specs.declared.whole.Machine.{Machine}
 use Rattle.scenario.specs.declared.event.Event.{Event}
 use Rattle.scenario.specs.declared.event.Event.TheVariants.{Step, Take, Sleep, Issue, Finish, Expire, Tick}
 use Rattle.scenario.specs.declared.event.Refusal.{Refusal}
-use Rattle.scenario.specs.declared.event.Refusal.TheVariants.{SqFull, NothingToReap, WrongPhase, ClockFull, RequestsFull}
+use Rattle.scenario.specs.declared.event.Refusal.TheVariants.{SqFull, NothingToReap, WrongPhase, NotEligible, ClockFull, RequestsFull}
 use Rattle.machine.proofs.FormedThreads.{stands_on, stands_held, formed_thread}
 use Rattle.machine.proofs.FormedMachines.{formed_issued, formed_world, formed_flushed, wakeup_flag, formed_put, formed_push, formed_taken_out}
 use Rattle.machine.proofs.FormedSubmissions.{formed_submitted, length-taken_entries}
@@ -81,12 +82,12 @@ formed_issue m r f h = by (slice_get m.table r) refl h
     lacking x e q true l = formed_fallen m ((r, ebadf) ∷ []) f
     lacking x e q false l = formed_issued m r x f e q l
 
-    at : (x : Row) → slice_get m.table r ≡ Some x → (p : Phase) → x.phase ≡ p → elim p as (λ q. Option Refusal) [ Queued ↦ None | Issued ↦ Some WrongPhase | Ended res ↦ Some WrongPhase ] ≡ None → WellFormed (issued m r (Some x))
+    at : (x : Row) → slice_get m.table r ≡ Some x → (p : Phase) → x.phase ≡ p → elim p as (λ q. Option Refusal) [ Queued ↦ cond (is_eligible m.table r) None (Some NotEligible) | Issued ↦ Some WrongPhase | Ended res ↦ Some WrongPhase ] ≡ None → WellFormed (issued m r (Some x))
     at x e Queued q k = lacking x e (ap is_ended q) (lacks_descriptor m.world x) refl
     at x e Issued q k = absurd cc
     at x e (Ended n) q k = absurd cc
 
-    by : (o : Option Row) → slice_get m.table r ≡ o → issue_refusal o ≡ None → WellFormed (issued m r o)
+    by : (o : Option Row) → slice_get m.table r ≡ o → issue_refusal m.table r o ≡ None → WellFormed (issued m r o)
     by None e k = absurd cc
     by (Some x) e k = at x e x.phase refl k
 

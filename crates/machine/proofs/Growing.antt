@@ -32,15 +32,17 @@ use Rattle.machine.specs.declared.whole.Machine.{Machine}
 use Rattle.scenario.specs.declared.event.Event.{Event}
 use Rattle.scenario.specs.declared.event.Event.TheVariants.{Step, Take, Sleep, Issue, Finish, Expire, Tick}
 use Rattle.machine.proofs.ListsChanged.{map_updated}
+use Rattle.links_drains.proofs.Remaining.{stay_then, stay_updated, stay_append}
 use Rattle.machine.proofs.Restored.{setup_self, setup_then}
 
 pub grows_self : (m : Machine) → Grows m m
-grows_self m = record { setup = setup_self m; rows = le_refl _; backlog = le_refl _ }
+grows_self m = record { setup = setup_self m; rows = le_refl _; stay = λ r l. refl; backlog = le_refl _ }
 
 pub grows_then : (a b c : Machine) → Grows a b → Grows b c → Grows a c
 grows_then a b c h k = record {
   setup = setup_then a b c h.setup k.setup;
   rows = let x = h.rows in let y = k.rows in omega (arith, x, y);
+  stay = stay_then a.table b.table c.table h.rows h.stay k.stay;
   backlog = let x = h.backlog in let y = k.backlog in omega (arith, x, y);
 }
 
@@ -52,6 +54,7 @@ grows_posted m cs =
     record {
       setup = record { array = refl; slots = refl; completions = sym (posted_slots m.completions (take n cs)); world = worlds.setup_self _; programs = refl; poller = refl; submit_all = refl };
       rows = le_refl _;
+      stay = λ r l. refl;
       backlog = let a = length-append m.backlog.items (drop n cs) in omega (arith, a);
     }
 
@@ -59,6 +62,7 @@ pub grows_flushed : (m : Machine) → Grows m (flushed m)
 grows_flushed m = record {
   setup = record { array = refl; slots = refl; completions = sym (posted_slots m.completions (take (min (length (kept m.backlog)) (free_slots m.completions)) (kept m.backlog))); world = worlds.setup_self _; programs = refl; poller = refl; submit_all = refl };
   rows = le_refl _;
+  stay = λ r l. refl;
   backlog = le_refl _;
 }
 
@@ -68,6 +72,7 @@ grows_ended m r res =
     record {
       setup = record { array = refl; slots = refl; completions = p.setup.completions; world = worlds.setup_self _; programs = refl; poller = refl; submit_all = refl };
       rows = let a = length-updated (λ (row : Row). record row { phase = Ended res }) m.table r in omega (arith, a);
+      stay = stay_updated (λ (row : Row). record row { phase = Ended res }) m.table r (λ x. refl);
       backlog = p.backlog;
     }
 
@@ -85,6 +90,7 @@ grows_taken : (m : Machine) (k : ℕ) → Grows m (taken m k)
 grows_taken m k = record {
   setup = record { array = refl; slots = refl; completions = refl; world = worlds.setup_self _; programs = refl; poller = refl; submit_all = refl };
   rows = let a = length-append m.table (rows_of (length m.table) (taken_entries m.submit_all m.submissions k)) in omega (arith, a);
+  stay = stay_append m.table (rows_of (length m.table) (taken_entries m.submit_all m.submissions k));
   backlog = le_refl _;
 }
 
@@ -97,6 +103,7 @@ pub grows_thread : (m : Machine) (f : ThreadState → ThreadState) (t : ℕ) →
 grows_thread m f t h = record {
   setup = record { array = refl; slots = refl; completions = refl; world = worlds.setup_self _; programs = map_updated program_of f m.threads t h; poller = refl; submit_all = refl };
   rows = le_refl _;
+  stay = λ r l. refl;
   backlog = le_refl _;
 }
 
@@ -119,6 +126,7 @@ pub grows_poller : (m : Machine) (p : Poller) → is_some m.poller ≡ true → 
 grows_poller m p h = record {
   setup = record { array = refl; slots = refl; completions = refl; world = worlds.setup_self _; programs = refl; poller = h; submit_all = refl };
   rows = le_refl _;
+  stay = λ r l. refl;
   backlog = le_refl _;
 }
 
@@ -173,6 +181,7 @@ grows_world : (m : Machine) (w : WorldState) → OneWorldSetup m.world w → Gro
 grows_world m w h = record {
   setup = record { array = refl; slots = refl; completions = refl; world = h; programs = refl; poller = refl; submit_all = refl };
   rows = le_refl _;
+  stay = λ r l. refl;
   backlog = le_refl _;
 }
 
@@ -181,6 +190,7 @@ pub grows_parts : (m : Machine) (w : WorldState) (ts : List ThreadState) → One
 grows_parts m w ts h k = record {
   setup = record { array = refl; slots = refl; completions = refl; world = h; programs = sym k; poller = refl; submit_all = refl };
   rows = le_refl _;
+  stay = λ r l. refl;
   backlog = le_refl _;
 }
 
@@ -196,11 +206,13 @@ grows_executed m t x f e None g = grows_self m
 grows_executed m t x f e (Some (Put slot entry)) g = record {
   setup = record { array = refl; slots = sym (length-set m.submissions.slots slot entry); completions = refl; world = worlds.setup_self _; programs = map_updated program_of _ m.threads t (λ x. refl); poller = refl; submit_all = refl };
   rows = le_refl _;
+  stay = λ r l. refl;
   backlog = le_refl _;
 }
 grows_executed m t x f e (Some (Push index)) g = record {
   setup = record { array = sym (length-set m.submissions.array (m.submissions.tail % length m.submissions.array) index); slots = refl; completions = refl; world = worlds.setup_self _; programs = map_updated program_of _ m.threads t (λ x. refl); poller = refl; submit_all = refl };
   rows = le_refl _;
+  stay = λ r l. refl;
   backlog = le_refl _;
 }
 grows_executed m t x f e (Some (Store address bytes)) g = grows_stored m t address bytes f ((f.threads t x e).program.done x.counter (Store address bytes) g)
@@ -208,6 +220,7 @@ grows_executed m t x f e (Some (Enter to_submit min_complete flags)) g = grows_e
 grows_executed m t x f e (Some Reap) g = record {
   setup = record { array = refl; slots = refl; completions = refl; world = worlds.setup_self _; programs = map_updated program_of _ m.threads t (λ x. refl); poller = refl; submit_all = refl };
   rows = le_refl _;
+  stay = λ r l. refl;
   backlog = le_refl _;
 }
 grows_executed m t x f e (Some (Close fd)) g = grows_self m
@@ -236,6 +249,7 @@ grows_issued m r (Some x) = by (lacks_descriptor m.world x)
     by false = record {
       setup = record { array = refl; slots = refl; completions = refl; world = worlds.setup_self _; programs = refl; poller = refl; submit_all = refl };
       rows = let a = length-updated (λ (row : Row). record row { phase = Issued; held = held_by row }) m.table r in omega (arith, a);
+      stay = stay_updated (λ (row : Row). record row { phase = Issued; held = held_by row }) m.table r (λ x. refl);
       backlog = le_refl _;
     }
 
@@ -257,4 +271,4 @@ grows_after m Sleep f h = grows_poller m Asleep (has_poller m h)
 grows_after m (Issue r) f h = grows_issued m r (slice_get m.table r)
 grows_after m (Finish r c) f h = grows_finished m r c f (slice_get m.table r)
 grows_after m (Expire r) f h = grows_self m
-grows_after m (Tick d) f h = record { setup = record { array = refl; slots = refl; completions = refl; world = worlds.setup_self _; programs = refl; poller = refl; submit_all = refl }; rows = le_refl _; backlog = le_refl _ }
+grows_after m (Tick d) f h = record { setup = record { array = refl; slots = refl; completions = refl; world = worlds.setup_self _; programs = refl; poller = refl; submit_all = refl }; rows = le_refl _; stay = λ r l. refl; backlog = le_refl _ }

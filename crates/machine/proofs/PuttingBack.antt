@@ -12,7 +12,9 @@ use Rattle.places.specs.Places.{same_place}
 use Rattle.places.specs.View.{View, named, undo, put_at, LeadsBack, Exact}
 use Rattle.places.proofs.SamePlace.{same_place_is, same_place_self}
 use Rattle.places.proofs.ListLemmas.{same_list}
+use Rattle.links_drains.specs.Rows.{fixed_of}
 use Rattle.links_drains.proofs.Counting.{counted-le-length, ended-le-length}
+use Rattle.links_drains.proofs.Remaining.{stood_there, as_many}
 use Rattle.ring_words.specs.Rings.{sub_seen, com_seen}
 use Rattle.ring_words.proofs.Restoring.{none_here, some_here, same_through, sub_seen_can_put, com_seen_can_put, sub_absent_same, com_absent_same, same_sub, same_com}
 use Rattle.model_files.specs.Worlds.{world_seen}
@@ -77,7 +79,7 @@ kept_front : (s : Machine) → WellFormed s → BacklogFormed s.backlog
 kept_front s f = record { front = let k = ended-le-length s.table in omega (arith, f.front, f.overflowed, f.rows, k) }
 
 -- what a machine shows can be put into each machine of its setup
-pub seen_can_put : (s m : Machine) → WellFormed s → OneSetup s m → length s.table ≡ length m.table → length s.backlog.items ≡ length m.backlog.items → (p : Place) (v : Value) → view s p ≡ Some v → can_put m p (Some v)
+pub seen_can_put : (s m : Machine) → WellFormed s → OneSetup s m → map fixed_of s.table ≡ map fixed_of m.table → length s.backlog.items ≡ length m.backlog.items → (p : Place) (v : Value) → view s p ≡ Some v → can_put m p (Some v)
 seen_can_put s m f h r b SubmissionHead v e = sub_seen_can_put s.submissions m.submissions f.submissions h.array h.slots SubmissionHead v e
 seen_can_put s m f h r b SubmissionTail v e = sub_seen_can_put s.submissions m.submissions f.submissions h.array h.slots SubmissionTail v e
 seen_can_put s m f h r b SubmissionFlags v e = sub_seen_can_put s.submissions m.submissions f.submissions h.array h.slots SubmissionFlags v e
@@ -98,7 +100,7 @@ seen_can_put s m f h r b (PipeByte o i) v e = world_seen_can_put s.world m.world
 seen_can_put s m f h r b (PutCount o) v e = world_seen_can_put s.world m.world f.world h.world (PutCount o) v e
 seen_can_put s m f h r b (TakenCount o) v e = world_seen_can_put s.world m.world f.world h.world (TakenCount o) v e
 seen_can_put s m f h r b (EventCount o) v e = world_seen_can_put s.world m.world f.world h.world (EventCount o) v e
-seen_can_put s m f h r b (Request i) v e = let k = some_here Requested s.table m.table i v r e in subst (λ (w : Value). can_put m (Request i) (Some w)) (sym k.1.2) k.0
+seen_can_put s m f h r b (Request i) v e = let k = some_here Requested s.table m.table i v (as_many s.table m.table r) e in subst (λ (w : Value). can_put m (Request i) (Some w)) (sym k.1.2) (stood_there s.table m.table i k.1.0 r k.1.1)
 seen_can_put s m f h r b (Backlog i) v e = backlog_seen_can_put s.backlog m.backlog (kept_front s f) b (Backlog i) v e
 seen_can_put s m f h r b BacklogFront v e = backlog_seen_can_put s.backlog m.backlog (kept_front s f) b BacklogFront v e
 seen_can_put s m f h r b PollerStage v e = let k = poller_put s.poller m.poller v h.poller e in subst (λ (w : Value). can_put m PollerStage (Some w)) (sym k.1.1) k.0
@@ -110,7 +112,7 @@ seen_can_put s m f h r b (Last t) v e = let k = some_here (λ (x : ThreadState).
 seen_can_put s m f h r b (Got t) v e = let k = some_here (λ (x : ThreadState). Reaped x.got) s.threads m.threads t v (same_count s m h) e in subst (λ (w : Value). can_put m (Got t) (Some w)) (sym k.1.2) k.0
 
 -- where nothing stands, nothing stands in each machine of the setup with as many rows
-pub absent_same : (s m : Machine) → OneSetup s m → length s.table ≡ length m.table → length s.backlog.items ≡ length m.backlog.items → (p : Place) → view s p ≡ None → view m p ≡ None
+pub absent_same : (s m : Machine) → OneSetup s m → map fixed_of s.table ≡ map fixed_of m.table → length s.backlog.items ≡ length m.backlog.items → (p : Place) → view s p ≡ None → view m p ≡ None
 absent_same s m h r b SubmissionHead e = sub_absent_same s.submissions m.submissions h.array h.slots SubmissionHead e
 absent_same s m h r b SubmissionTail e = sub_absent_same s.submissions m.submissions h.array h.slots SubmissionTail e
 absent_same s m h r b SubmissionFlags e = sub_absent_same s.submissions m.submissions h.array h.slots SubmissionFlags e
@@ -131,7 +133,7 @@ absent_same s m h r b (PipeByte o i) e = world_absent_same s.world m.world h.wor
 absent_same s m h r b (PutCount o) e = world_absent_same s.world m.world h.world (PutCount o) e
 absent_same s m h r b (TakenCount o) e = world_absent_same s.world m.world h.world (TakenCount o) e
 absent_same s m h r b (EventCount o) e = world_absent_same s.world m.world h.world (EventCount o) e
-absent_same s m h r b (Request i) e = none_here Requested s.table m.table i r e
+absent_same s m h r b (Request i) e = none_here Requested s.table m.table i (as_many s.table m.table r) e
 absent_same s m h r b (Backlog i) e = backlog_absent_same s.backlog m.backlog b (Backlog i) e
 absent_same s m h r b BacklogFront e = backlog_absent_same s.backlog m.backlog b BacklogFront e
 absent_same s m h r b PollerStage e = poller_absent s.poller m.poller h.poller e

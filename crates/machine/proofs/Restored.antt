@@ -1,5 +1,5 @@
 -- How far changes have been put back.
-use Rattle.std.proofs.Common.{◌≡◌, Bool, true, false, cond, refl, sym, ◌∙◌, ap, subst, List, [], ◌∷◌, length}
+use Rattle.std.proofs.Common.{◌≡◌, Bool, true, false, cond, refl, sym, ◌∙◌, ap, subst, List, [], ◌∷◌, length, map}
 use Rattle.std.specs.Prelude.{Option, Some, None, is_some}
 use Rattle.places.specs.declared.place.Place.{Place}
 use Rattle.places.specs.declared.value.Value.{Value}
@@ -8,6 +8,7 @@ use Rattle.places.specs.Places.{same_place}
 use Rattle.places.specs.View.{named, undo, put_at, NamesOnce}
 use Rattle.places.proofs.SamePlace.{same_place_is}
 use Rattle.model_files.proofs.Fixing as worlds
+use Rattle.links_drains.specs.Rows.{fixed_of}
 use Rattle.machine.specs.Whole.{view, can_put, OneSetup, Overwrites}
 use Rattle.machine.specs.declared.whole.Machine.{Machine}
 use Rattle.machine.proofs.PuttingBack.{undo-cons, undo-cons_at, seen_can_put, absent_same, same_machine}
@@ -15,7 +16,7 @@ use Rattle.machine.proofs.PuttingBack.{undo-cons, undo-cons_at, seen_can_put, ab
 -- of the changes these are left
 pub record Restored (before : Machine) (cs : List Change) (now : Machine) (left : List Change) : Type 0 where
   pub setup : OneSetup before now
-  pub rows : length before.table ≡ length now.table
+  pub rows : map fixed_of before.table ≡ map fixed_of now.table
   pub backlog : length before.backlog.items ≡ length now.backlog.items
   pub once : NamesOnce left
   pub same : (p : Place) → undo (view now) left p ≡ undo (view before) cs p
@@ -38,7 +39,7 @@ next_can_put s before now cs c left v e g r =
     subst (can_put now c.place) (sym e)
     (seen_can_put s now g.formed (setup_then s before now g.setup r.setup) (g.rows ∙ r.rows) (g.backlog ∙ r.backlog) c.place v (sym (next_is s before now cs c left g r) ∙ e))
 
-pub restored_on : (before now next : Machine) (cs : List Change) (c : Change) (left : List Change) → OneSetup now next → length now.table ≡ length next.table → length now.backlog.items ≡ length next.backlog.items → ((q : Place) → view next q ≡ put_at (view now) c.place c.old q)
+pub restored_on : (before now next : Machine) (cs : List Change) (c : Change) (left : List Change) → OneSetup now next → map fixed_of now.table ≡ map fixed_of next.table → length now.backlog.items ≡ length next.backlog.items → ((q : Place) → view next q ≡ put_at (view now) c.place c.old q)
     → Restored before cs now (c ∷ left) → Restored before cs next left
 restored_on before now next cs c left o l b e r = record {
   setup = setup_then before now next r.setup o;

@@ -9,6 +9,7 @@ use Rattle.places.specs.declared.value.Change.{Change}
 use Rattle.places.specs.View.{undo, NamesOnce}
 use Rattle.places.specs.Notes.{rows_left, backlog_left}
 use Rattle.places.proofs.Restored.{left_le, left_all, left_back}
+use Rattle.links_drains.proofs.Remaining.{stay_cut}
 use Rattle.machine.specs.Whole.{view, GoesBack, Overwrites}
 use Rattle.machine.specs.declared.whole.Machine.{Machine}
 
@@ -21,7 +22,7 @@ pub overwrites : (s m : Machine) (cs : List Change) → NamesOnce cs → GoesBac
 overwrites s m cs o g = record {
   formed = g.formed;
   setup = record { array = g.grows.setup.array; slots = g.grows.setup.slots; completions = g.grows.setup.completions; world = g.grows.setup.world; programs = g.grows.setup.programs; poller = g.grows.setup.poller; submit_all = g.grows.setup.submit_all };
-  rows = sym rows ∙ sym (length-take-le (rows_left cs (length m.table)) m.table (left_le Requests cs (length m.table)));
+  rows = stay_cut s.table m.table (rows_left cs (length m.table)) rows g.grows.stay;
   backlog = sym items ∙ sym (length-take-le (backlog_left cs (length m.backlog.items)) m.backlog.items (left_le Overflowed cs (length m.backlog.items)));
   back = back;
 }

@@ -5,6 +5,7 @@ use Rattle.std.proofs.lemmas.Bool.{eqb-true}
 use Rattle.entries.specs.declared.row.Row.{Row}
 use Rattle.model_files.specs.Worlds.{WorldState}
 use Rattle.opcodes.specs.Check.{op_of}
+use Rattle.links_drains.specs.Eligible.{GuardsFollow}
 use Rattle.links_drains.specs.Phases.{is_unfinished, is_issued}
 use Rattle.timeouts_cancel.specs.Falls.{is_count_timeout, NoTimers}
 use Rattle.machine.specs.Whole.{RowFormed, WellFormed}
@@ -35,3 +36,10 @@ untimed_but w rows h r x e u = by (h r x e)
 
 pub untimed : (m : Machine) → WellFormed m → NoTimers m.table
 untimed m f = untimed_but m.world m.table (λ r x e. inl (f.requests r x e))
+
+-- no LINK_TIMEOUT passes its tests yet
+no_guard : (n : ℕ) → IsSome (op_of n) → (n == 15) ≡ true → ⊥
+no_guard n h e = let k = eqb-true n 15 e in let x : is_some (op_of 15) ≡ true = sym (ap (λ o. is_some (op_of o)) k) ∙ h in cc
+
+pub guards_follow : (m : Machine) → WellFormed m → GuardsFollow m.table
+guards_follow m f k guard e g u = absurd (no_guard guard.entry.opcode ((f.requests k guard e).opcode u) g)

@@ -23,6 +23,7 @@ use Rattle.sqpoll.specs.declared.poller.Poller.{Poller}
 use Rattle.sqpoll.specs.declared.poller.Poller.TheVariants.{Awake, Asleep}
 use Rattle.sqpoll.specs.Pollers.{is_awake}
 use Rattle.links_drains.specs.Batches.{rows_of, direct_of}
+use Rattle.links_drains.specs.Eligible.{is_eligible}
 use Rattle.links_drains.specs.Phases.{counts}
 use Rattle.timeouts_cancel.specs.Falls.{fall_of}
 use Rattle.machine.specs.Submission.{offered, entries_at, taken_words, taken_entries, einval, ebusy, ebadf}
@@ -33,7 +34,7 @@ use Rattle.machine.specs.declared.whole.Machine.{Machine}
 use Rattle.scenario.specs.declared.event.Event.{Event}
 use Rattle.scenario.specs.declared.event.Event.TheVariants.{Step, Take, Sleep, Issue, Finish, Expire, Tick}
 use Rattle.scenario.specs.declared.event.Refusal.{Refusal}
-use Rattle.scenario.specs.declared.event.Refusal.TheVariants.{NoSuchThread, ThreadDone, SqFull, NothingToReap, StillWaiting, NoSuchRequest, WrongPhase, NotReady, BadChoice as IsBadChoice, NoPoller, Asleep as IsAsleep, NotIdle, ClockFull, RequestsFull}
+use Rattle.scenario.specs.declared.event.Refusal.TheVariants.{NoSuchThread, ThreadDone, SqFull, NothingToReap, StillWaiting, NoSuchRequest, WrongPhase, NotEligible, NotReady, BadChoice as IsBadChoice, NoPoller, Asleep as IsAsleep, NotIdle, ClockFull, RequestsFull}
 
 -- ---- flags of Enter (io_uring_enter(2))
 
@@ -122,9 +123,10 @@ sleep_refusal m None = Some NoPoller
 sleep_refusal m (Some Asleep) = Some IsAsleep
 sleep_refusal m (Some Awake) = if waiting m.submissions.head m.submissions.tail == 0 then None else Some NotIdle
 
-abbrev pub issue_refusal : Option Row → Option Refusal
-issue_refusal None = Some NoSuchRequest
-issue_refusal (Some row) = elim row.phase [ Queued ↦ None | Issued ↦ Some WrongPhase | Ended res ↦ Some WrongPhase ]
+-- a queued row is issued once no other row holds it back
+abbrev pub issue_refusal : List Row → ℕ → Option Row → Option Refusal
+issue_refusal rows r None = Some NoSuchRequest
+issue_refusal rows r (Some row) = elim row.phase [ Queued ↦ (if is_eligible rows r then None else Some NotEligible) | Issued ↦ Some WrongPhase | Ended res ↦ Some WrongPhase ]
 
 -- why a request can't come to what a kernel chooses
 abbrev pub outcome_refusal : Outcome → Option Refusal
@@ -151,7 +153,7 @@ abbrev pub refusal : Machine → Event → Option Refusal
 refusal m (Step t) = thread_refusal m (slice_get m.threads t)
 refusal m (Take n) = take_refusal m m.poller n
 refusal m Sleep = sleep_refusal m m.poller
-refusal m (Issue r) = issue_refusal (slice_get m.table r)
+refusal m (Issue r) = issue_refusal m.table r (slice_get m.table r)
 refusal m (Finish r c) = finish_refusal m.world (slice_get m.table r) c
 refusal m (Expire r) = expire_refusal (slice_get m.table r)
 refusal m (Tick d) = if nat_lt (m.clock + d) (2 ^ 64) then None else Some ClockFull

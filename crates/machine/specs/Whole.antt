@@ -11,7 +11,7 @@ use Rattle.places.specs.declared.value.Change.{Change}
 use Rattle.places.specs.View.{View, LeadsBack}
 use Rattle.ring_words.specs.Rings.{waiting, sub_seen, sub_can_put, SubFormed, com_seen, com_can_put, ComFormed}
 use Rattle.links_drains.specs.Links.{Chained}
-use Rattle.links_drains.specs.Rows.{table_seen, table_can_put}
+use Rattle.links_drains.specs.Rows.{fixed_of, Stay, table_seen, table_can_put}
 use Rattle.links_drains.specs.Phases.{is_issued, is_unfinished, counted_of, ended_of}
 use Rattle.model_files.specs.declared.descriptor.DescriptorState.{DescriptorState}
 use Rattle.model_files.specs.Worlds.{WorldState, WorldFormed, world_seen, world_can_put, descriptor_of, OneSetup as OneWorldSetup}
@@ -107,10 +107,11 @@ pub record OneSetup (m n : Machine) : Type 0 where
   pub poller : is_some m.poller ≡ is_some n.poller
   pub submit_all : m.submit_all ≡ n.submit_all
 
--- Two machines of one setup, the second of which has no fewer rows and no fewer items of the backlog.
+-- Two machines of one setup, the second of which has the rows of the first, and no fewer items of the backlog.
 pub record Grows (m n : Machine) : Type 0 where
   pub setup : OneSetup m n
   pub rows : length m.table ≤ length n.table
+  pub stay : Stay m.table n.table
   pub backlog : length m.backlog.items ≤ length n.backlog.items
 
 -- whether the poller is asleep
@@ -199,6 +200,6 @@ pub record GoesBack (s m : Machine) (cs : List Change) : Type 0 where
 pub record Overwrites (s m : Machine) (cs : List Change) : Type 0 where
   pub formed : WellFormed s
   pub setup : OneSetup s m
-  pub rows : length s.table ≡ length m.table
+  pub rows : map fixed_of s.table ≡ map fixed_of m.table
   pub backlog : length s.backlog.items ≡ length m.backlog.items
   pub back : LeadsBack (view s) (view m) cs

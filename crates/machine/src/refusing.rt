@@ -1,8 +1,9 @@
 //! Which events are refused.
 ghost use Rattle.std.specs.Prelude.{◌≡◌, ℕ, Some, slice_get, length, min};
 ghost use Rattle.ring_words.specs.Rings.{sub_list};
-ghost use Rattle.machine.specs.Steps.{refusal, next_refusal, instruction_refusal, enter_refusal, alone_refusal, submission_refusal, take_refusal, sleep_refusal, finish_refusal, outcome_refusal, is_busy, flushed};
+ghost use Rattle.machine.specs.Steps.{refusal, next_refusal, instruction_refusal, enter_refusal, alone_refusal, submission_refusal, take_refusal, sleep_refusal, issue_refusal, finish_refusal, outcome_refusal, is_busy, flushed};
 ghost use Rattle.machine.specs.Submission.{offered};
+ghost use Rattle.machine.specs.Whole.{WellFormed};
 
 use crate::whole::Machine;
 use entries::Phase;
@@ -14,6 +15,7 @@ use sqpoll::Poller;
 impl Machine {
     /// Why an event is refused, if it is. It takes no memory.
     pub fn refuses(&self, event: Event) -> Option<Refusal>
+        requires formed { WellFormed self.now }
         ensures { result ≡ refusal self.now event }
     {
         match event {
@@ -26,11 +28,7 @@ impl Machine {
             },
             Event::Take(n) => self.refuses_take(n),
             Event::Sleep => self.refuses_sleep(),
-            Event::Issue(r) => match self.table.phase(r) {
-                None => Some(Refusal::NoSuchRequest),
-                Some(Phase::Queued) => None,
-                Some(_) => Some(Refusal::WrongPhase),
-            },
+            Event::Issue(r) => self.refuses_issue(r),
             Event::Finish(r, choice) => self.refuses_finish(r, choice),
             Event::Expire(r) => match self.table.phase(r) {
                 None => Some(Refusal::NoSuchRequest),
@@ -163,6 +161,23 @@ impl Machine {
         ensures least { result ≡ min to_submit (length (sub_list self.now.submissions)) }
     {
         to_submit.min(self.submissions.waiting())
+    }
+
+    fn refuses_issue(&self, r: u32) -> Option<Refusal>
+        requires formed { WellFormed self.now }
+        ensures { result ≡ issue_refusal self.now.table r (slice_get self.now.table r) }
+    {
+        match self.table.phase(r) {
+            None => Some(Refusal::NoSuchRequest),
+            Some(Phase::Queued) => {
+                if self.table.is_eligible(r) {
+                    None
+                } else {
+                    Some(Refusal::NotEligible)
+                }
+            }
+            Some(_) => Some(Refusal::WrongPhase),
+        }
     }
 
     fn refuses_finish(&self, r: u32, choice: Choice) -> Option<Refusal>

@@ -1,7 +1,7 @@
 //! The parts of the machine together.
-ghost use Rattle.std.specs.Prelude.{◌≡◌, OnSome, length, false};
+ghost use Rattle.std.specs.Prelude.{◌≡◌, OnSome, length, map, false};
 ghost use Rattle.ring_words.specs.Rings.{sub_owns, com_owns};
-ghost use Rattle.links_drains.specs.Rows.{table_owns};
+ghost use Rattle.links_drains.specs.Rows.{fixed_of, table_owns};
 ghost use Rattle.model_files.specs.Worlds.{world_owns};
 ghost use Rattle.overflow.specs.Backlogs.{backlog_owns};
 ghost use Rattle.machine.specs.Threads.{threads_owns};
@@ -85,7 +85,7 @@ impl Part for Machine {
         requires { can_put self.old place value }
         ensures put { (q : Place) → view self.new q ≡ put_at (view self.old) place value q }
         ensures setup { OneSetup self.old self.new }
-        ensures rows { OnSome value (length self.new.table ≡ length self.old.table) }
+        ensures rows { OnSome value (map fixed_of self.new.table ≡ map fixed_of self.old.table) }
         ensures backlog { OnSome value (length self.new.backlog.items ≡ length self.old.backlog.items) }
     {
         if is_of_submissions(place) {
@@ -130,7 +130,7 @@ impl Machine {
         requires threads { threads_owns place ≡ false }
         ensures put { (q : Place) → view self.new q ≡ put_at (view self.old) place value q }
         ensures setup { OneSetup self.old self.new }
-        ensures rows { length self.new.table ≡ length self.old.table }
+        ensures rows { map fixed_of self.new.table ≡ map fixed_of self.old.table }
         ensures backlog { length self.new.backlog.items ≡ length self.old.backlog.items }
     {
         match (place, value) {

@@ -1,0 +1,50 @@
+-- Rows stay where they are, with their entries and units.
+use Rattle.std.proofs.Common.{◌≡◌, ℕ, Bool, true, false, cond, refl, sym, ◌∙◌, ap, List, ◌++◌, length, map, take, ◌<◌, ◌≤◌, ◌⊎◌, inl, inr, length-take, arith}
+use Rattle.std.specs.Prelude.{Option, Some, None, option_map, slice_get, ◌==◌}
+use Rattle.std.proofs.lemmas.Bool.{cases_lt}
+use Rattle.std.proofs.lemmas.Grind.{common_steps}
+use Rattle.std.proofs.lemmas.List.{length-map}
+use Rattle.std.proofs.lemmas.Option.{gets, slice_get-map}
+use Rattle.entries.specs.declared.row.Row.{Row}
+use Rattle.places.specs.Lists.{updated}
+use Rattle.places.proofs.ListLemmas.{same_list, slice_get-take_below, slice_get-take_above}
+use Rattle.links_drains.specs.Rows.{fixed_of, Stay}
+use Rattle.links_drains.proofs.RowsKept.{get-updated}
+
+pub stay_then : (a b c : List Row) → length a ≤ length b → Stay a b → Stay b c → Stay a c
+stay_then a b c n h k r l = k r (omega (arith, n, l)) ∙ h r l
+
+-- one row changes, and keeps its entry and unit
+pub stay_updated : (f : Row → Row) (rows : List Row) (i : ℕ) → ((x : Row) → fixed_of (f x) ≡ fixed_of x) → Stay rows (updated f rows i)
+stay_updated f rows i same r l = ap (option_map fixed_of) (get-updated f rows i r) ∙ by (i == r) (slice_get rows r)
+  where
+    by : (b : Bool) (o : Option Row) → option_map fixed_of (cond b (option_map f o) o) ≡ option_map fixed_of o
+    by false o = refl
+    by true None = refl
+    by true (Some x) = ap Some (same x)
+
+get_before : (rows more : List Row) (r : ℕ) → r < length rows → slice_get (rows ++ more) r ≡ slice_get rows r
+get_before rows more r h = grind (arith, common_steps, gets)
+
+-- others come behind them
+pub stay_append : (rows more : List Row) → Stay rows (rows ++ more)
+stay_append rows more r l = ap (option_map fixed_of) (get_before rows more r l)
+
+past : (rows : List Row) (r : ℕ) → length rows ≤ r → slice_get rows r ≡ None
+past rows r h = grind (arith, common_steps, gets)
+
+-- without those behind them they are the same but for what may change
+pub stay_cut : (rows next : List Row) (n : ℕ) → n ≡ length rows → Stay rows next → map fixed_of rows ≡ map fixed_of (take n next)
+stay_cut rows next n e h = same_list _ _ (λ r. slice_get-map fixed_of rows r ∙ by r (cases_lt r n) ∙ sym (slice_get-map fixed_of (take n next) r))
+  where
+    by : (r : ℕ) → (r < n) ⊎ (n ≤ r) → option_map fixed_of (slice_get rows r) ≡ option_map fixed_of (slice_get (take n next) r)
+    by r (inl less) = sym (h r (omega (arith, less, e))) ∙ ap (option_map fixed_of) (sym (slice_get-take_below next n r less))
+    by r (inr more) = ap (option_map fixed_of) (past rows r (omega (arith, more, e)) ∙ sym (slice_get-take_above next n r more))
+
+-- a row can be written over by the one that stood there
+pub stood_there : (rows now : List Row) (i : ℕ) (x : Row) → map fixed_of rows ≡ map fixed_of now → slice_get rows i ≡ Some x → option_map fixed_of (slice_get now i) ≡ Some (fixed_of x)
+stood_there rows now i x e h = sym (slice_get-map fixed_of now i) ∙ ap (λ fs. slice_get fs i) (sym e) ∙ slice_get-map fixed_of rows i ∙ ap (option_map fixed_of) h
+
+-- as many rows
+pub as_many : (rows now : List Row) → map fixed_of rows ≡ map fixed_of now → length rows ≡ length now
+as_many rows now e = sym (length-map fixed_of rows) ∙ ap length e ∙ length-map fixed_of now
