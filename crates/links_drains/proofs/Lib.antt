@@ -1,8 +1,10 @@
 pub mod Batching
+pub mod Bits
 pub mod Chains
 pub mod Counting
 pub mod DirectPairs
 pub mod Listing
+pub mod Numbers
 pub mod Rising
 pub mod RowsKept
 pub mod Seen

@@ -5,3 +5,4 @@ pub mod Holding
 pub mod Links
 pub mod Phases
 pub mod Rows
+pub mod Sets

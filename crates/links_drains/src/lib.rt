@@ -4,6 +4,7 @@
 mod holding;
 pub mod laws;
 pub mod links;
+mod sets;
 pub mod submission;
 pub mod table;
 
