@@ -3,9 +3,12 @@ pub mod Bits
 pub mod Chains
 pub mod Counting
 pub mod DirectPairs
+pub mod Eligibility
+pub mod Indexing
 pub mod Listing
 pub mod Numbers
 pub mod Rising
 pub mod RowsKept
 pub mod Seen
 pub mod Tallying
+pub mod Units

@@ -2,6 +2,7 @@
 #![tactic(auto)]
 
 mod holding;
+mod index;
 pub mod laws;
 pub mod links;
 mod sets;

@@ -1,5 +1,5 @@
 //! Sets of numbers: a bit for each, and a summary of the words that have any.
-ghost use Rattle.std.specs.Prelude.{◌≡◌, ℕ, ◌+◌, ◌*◌, ◌<◌, ◌≤◌, ◌==◌, [], true, length, IfSome, IfNone, IfOk, OnOk, MatchBool, if◌then◌else◌};
+ghost use Rattle.std.specs.Prelude.{◌≡◌, ℕ, ◌+◌, ◌*◌, ◌<◌, ◌≤◌, ◌==◌, [], true, false, length, IfSome, IfNone, IfOk, OnOk, MatchBool, if◌then◌else◌};
 ghost use Rattle.std.specs.Int.{bit_at};
 ghost use Rattle.links_drains.specs.Sets.{has, IsNextBit, IsNext, NoneFrom};
 
@@ -100,6 +100,16 @@ impl NumberSet {
         match self.next(from) {
             Some(first) => first == k,
             None => unreachable!(),
+        }
+    }
+
+    /// Whether the set has no number below another.
+    pub(crate) fn has_none_below(&self, limit: usize) -> bool
+        ensures { MatchBool result ((i : ℕ) → i < limit → has self.now i ≡ false) ((i : ℕ) × (i < limit) × (has self.now i ≡ true)) }
+    {
+        match self.next(0) {
+            Some(least) => limit <= least,
+            None => true,
         }
     }
 
