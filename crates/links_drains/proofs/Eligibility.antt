@@ -1,6 +1,6 @@
 -- The rows that a row waits for, by the least numbers of the sets.
-use Rattle.std.proofs.Common.{◌≡◌, ℕ, ◌+◌, ◌<◌, ◌≤◌, Bool, true, false, not, ltb, refl, sym, ◌∙◌, ap, subst, List, ◌⊎◌, inl, inr, arith}
-use Rattle.std.specs.Prelude.{Option, Some, None, option_map, slice_get, ◌==◌, ◌&&◌, ◌||◌, MatchBool}
+use Rattle.std.proofs.Common.{◌≡◌, ℕ, ◌<◌, ◌≤◌, Bool, true, false, not, refl, sym, ◌∙◌, ap, List, ◌⊎◌, inl, inr, arith}
+use Rattle.std.specs.Prelude.{Option, Some, None, option_map, slice_get, ◌&&◌, ◌||◌, MatchBool}
 use Rattle.std.specs.List.{list_any, enumerate_from}
 use Rattle.std.proofs.lemmas.Bool.{cases_eq, cases_lt, cases_Bool, eq-eqb, eqb-true, ltb-true, lt-ltb, both_ways, and_from, and_parts, or_from, or_cases, or_left, or_right}
 use Rattle.entries.specs.declared.row.Phase.{Phase}
@@ -11,7 +11,7 @@ use Rattle.links_drains.specs.Indexes.{Indexed}
 use Rattle.links_drains.specs.Links.{is_guard}
 use Rattle.links_drains.specs.Phases.{is_queued, is_unfinished}
 use Rattle.links_drains.specs.Sets.{has, IsNext}
-use Rattle.links_drains.specs.Units.{is_open, is_barrier, is_under_way, passes_at}
+use Rattle.links_drains.specs.Units.{is_open, is_under_way}
 use Rattle.links_drains.specs.declared.index.Index.{Index}
 use Rattle.links_drains.proofs.Chains.{enumerated}
 use Rattle.links_drains.proofs.Units.{any_true, any_false, any_of_true, any_of_found, passes_here}
@@ -65,7 +65,7 @@ module _ (rows : List Row) (index : Index) (i : Indexed rows index) (guards : Gu
 
   -- a row that the set doesn't have has ended
   not_open : (k : ℕ) (x : Row) → slice_get rows k ≡ Some x → has index.unfinished k ≡ false → is_open x ≡ true → ⊥
-  not_open k x h no yes = both_ways (is_open x) (sym (passes_here is_open rows k x h) ∙ sym (i.unfinished k) ∙ no) yes
+  not_open k x h absent here = both_ways (is_open x) (sym (passes_here is_open rows k x h) ∙ sym (i.unfinished k) ∙ absent) here
 
   pub member : has index.unfinished r ≡ true
   member = i.unfinished r ∙ passes_here is_open rows r row here ∙ queued_open row.phase queued
@@ -96,8 +96,8 @@ module _ (rows : List Row) (index : Index) (i : Indexed rows index) (guards : Gu
   waits_for_none : ((k : ℕ) (x : Row) → slice_get rows k ≡ Some x → is_open x ≡ true → x.unit ≡ row.unit → k < r → ⊥)
       → ((k : ℕ) (x : Row) → slice_get rows k ≡ Some x → is_open x ≡ true → x.unit < row.unit → (drains rows x.unit || drains rows row.unit) ≡ true → ⊥) → true ≡ is_eligible rows r
   waits_for_none one two = eligible_is false (none_numbered (λ (p : ℕ × Row). waits_for rows r row p.0 p.1) rows (λ k x h. never _ _ _ _ _ _
-    (λ u a l. one k x h u (eqb-true x.unit row.unit a) (ltb-true k r l))
-    (λ u m d. two k x h u (ltb-true x.unit row.unit m) d)))
+      (λ u a l. one k x h u (eqb-true x.unit row.unit a) (ltb-true k r l))
+      (λ u m d. two k x h u (ltb-true x.unit row.unit m) d)))
 
   waits : (k : ℕ) (x : Row) → slice_get rows k ≡ Some x → waits_for rows r row k x ≡ true → false ≡ is_eligible rows r
   waits k x h w = eligible_is true (any_numbered (λ (p : ℕ × Row). waits_for rows r row p.0 p.1) rows k x h w)
@@ -131,17 +131,17 @@ module _ (rows : List Row) (index : Index) (i : Indexed rows index) (guards : Gu
       by x h u (inr other) (inr e) = waits_in_drain k x h u (let up = rises k r x row h here (omega (arith, less)) in apart x.unit row.unit up other) (or_right _ _ e.1)
         where
           apart : (m n : ℕ) → m ≤ n → (m ≡ n → ⊥) → m < n
-          apart m n l ne = elim (cases_lt m n) [ | inl lt ↦ lt | inr ge ↦ absurd (ne (omega (arith, l, ge))) ]
+          apart m n l ne = elim (cases_lt m n) [ inl lt ↦ lt | inr ge ↦ absurd (ne (omega (arith, l, ge))) ]
 
   -- its unit drains
   pub eligible_in_drain : (b : Bool) → has index.barriers row.unit ≡ true → MatchBool b (IsNext index.unfinished 0 r) ((k : ℕ) × (k < r) × IsNext index.unfinished 0 k) → b ≡ is_eligible rows r
   eligible_in_drain false drain found = waits_for_least 0 found.0 found.2 found.1 (inr (refl, drains_by drain))
   eligible_in_drain true drain next = waits_for_none
-    (λ k x h u same less. not_open k x h (next.least k (omega arith) less) u)
-    (λ k x h u low d. elim (cases_lt k r) [
-      | inl less ↦ not_open k x h (next.least k (omega arith) less) u
-      | inr late ↦ let up = rises r k row x here h late in absurd (omega (arith, up, low))
-    ])
+      (λ k x h u same less. not_open k x h (next.least k (omega arith) less) u)
+      (λ k x h u low d. elim (cases_lt k r) [
+        | inl less ↦ not_open k x h (next.least k (omega arith) less) u
+        | inr late ↦ let up = rises r k row x here h late in absurd (omega (arith, up, low))
+      ])
 
   -- it doesn't, and no earlier row of the unit is unfinished
   pub eligible_behind : (b : Bool) → has index.barriers row.unit ≡ false → IsNext index.unfinished row.unit r
@@ -153,11 +153,11 @@ module _ (rows : List Row) (index : Index) (i : Indexed rows index) (guards : Gu
       let same = w.same in
       waits_in_drain w.number w.row w.there w.passes (omega (arith, less, same)) (or_left _ _ (ap (drains rows) same ∙ p.0))
   eligible_behind true drain next none = waits_for_none
-    (λ k x h u same less. not_open k x h (next.least k (let b = i.chained.back k x h in omega (arith, b, same)) less) u)
-    (λ k x h u low d. elim (or_cases _ _ d) [
-      | inr own ↦ both_ways _ (drains_not drain) own
-      | inl its ↦ both_ways _ (none x.unit low) (i.barriers x.unit ∙ and_from _ _ its (any_of_true is_open rows k x x.unit h refl u))
-    ])
+      (λ k x h u same less. not_open k x h (next.least k (let b = i.chained.back k x h in omega (arith, b, same)) less) u)
+      (λ k x h u low d. elim (or_cases _ _ d) [
+        | inr own ↦ both_ways _ (drains_not drain) own
+        | inl its ↦ both_ways _ (none x.unit low) (i.barriers x.unit ∙ and_from _ _ its (any_of_true is_open rows k x x.unit h refl u))
+      ])
 
 -- what isn't queued, or is a guard, isn't issued
 pub not_eligible : (rows : List Row) (r : ℕ) (row : Row) → slice_get rows r ≡ Some row → (is_queued row.phase ≡ true → is_guard row ≡ true) → false ≡ is_eligible rows r

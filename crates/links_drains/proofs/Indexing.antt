@@ -1,12 +1,11 @@
 -- What the sets beside the rows have, once the rows are changed.
-use Rattle.std.proofs.Common.{◌≡◌, ◌≢◌, ℕ, zero, suc, Bool, true, false, cond, refl, sym, ◌∙◌, ap, subst, List, [], ◌∷◌, ◌++◌, length, take, ◌+◌, ◌-◌, ◌*◌, ◌<◌, ◌≤◌, ◌⊎◌, inl, inr, arith}
-use Rattle.std.specs.Prelude.{Option, Some, None, slice_get, slice_set, ◌==◌, ◌&&◌}
+use Rattle.std.proofs.Common.{◌≡◌, ◌≢◌, ℕ, zero, suc, Bool, true, false, cond, refl, sym, ◌∙◌, ap, subst, List, [], ◌∷◌, ◌++◌, length, take, ◌+◌, ◌-◌, ◌<◌, ◌≤◌, ◌⊎◌, inl, inr, arith}
+use Rattle.std.specs.Prelude.{Some, slice_get, slice_set, ◌==◌, ◌&&◌}
 use Rattle.std.specs.Option.{option_map_or}
 use Rattle.std.proofs.lemmas.Bool.{cases_eq, cases_lt, eq-eqb, eqb-true, ne_eqb, and_left}
 use Rattle.std.proofs.lemmas.List.{length-set, length-take}
-use Rattle.std.proofs.lemmas.Option.{slice_get_within, slice_get_past, get_or_from_slice_get}
+use Rattle.std.proofs.lemmas.Option.{slice_get_within, slice_get_past}
 use Rattle.entries.specs.declared.row.Row.{Row}
-use Rattle.places.specs.Lists.{updated}
 use Rattle.places.proofs.ListLemmas.{slice_get-set, slice_get-push, slice_get-take_below, slice_get-take_above, updated_set}
 use Rattle.links_drains.specs.Links.{asks_to_drain, Chained, GoesOn}
 use Rattle.links_drains.specs.Indexes.{HasRoom, Indexed, IndexedBut, Cleared, Forgotten}
@@ -16,7 +15,7 @@ use Rattle.links_drains.specs.declared.index.Index.{Index}
 use Rattle.links_drains.proofs.Chains.{chained-none, chained-take, chained-updated}
 use Rattle.links_drains.proofs.Numbers.{has_past}
 use Rattle.links_drains.proofs.RowsKept.{length-push}
-use Rattle.links_drains.proofs.Units.{any_of, any_of_set, any_of_push, any_of_take, any_of_none, passes_within}
+use Rattle.links_drains.proofs.Units.{any_of_set, any_of_push, any_of_take, any_of_none}
 
 -- ---- units
 
@@ -182,11 +181,11 @@ pub indexed_take : (rows : List Row) (old new : Index) (n : ℕ) (last : Row) �
 indexed_take rows old new n last i some h f = record {
   chained = chained-take rows n i.chained;
   room = let t = length-take n rows in let a = i.room.unfinished in let b = i.room.flagged in let d = i.room.barriers in let x = f.unfinished.len in let y = f.flagged.len in let z = f.barriers.len in
-    record { unfinished = omega (arith, t, a, x); flagged = omega (arith, t, b, y); barriers = omega (arith, t, d, z) };
+      record { unfinished = omega (arith, t, a, x); flagged = omega (arith, t, b, y); barriers = omega (arith, t, d, z) };
   unfinished = λ q other. tie_dropped is_open rows n old.unfinished new.unfinished i.unfinished f.unfinished q;
   flagged = λ q other. tie_dropped asks_to_drain rows n old.flagged new.flagged i.flagged f.flagged q;
   barriers = λ u other. barrier_dropped rows n u old.barriers new.barriers i.chained i.barriers f.barriers
-    (λ less r x past g e. other (sym e ∙ sym (i.chained.run (n - 1) r last x h g (omega (arith, past)) (omega (arith, e, less)))));
+      (λ less r x past g e. other (sym e ∙ sym (i.chained.run (n - 1) r last x h g (omega (arith, past)) (omega (arith, e, less)))));
 }
 
 -- no row, and no number in any set

@@ -4,6 +4,7 @@ pub mod Chains
 pub mod Counting
 pub mod DirectPairs
 pub mod Eligibility
+pub mod FailingRows
 pub mod Indexing
 pub mod Listing
 pub mod Numbers

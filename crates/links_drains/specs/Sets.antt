@@ -1,5 +1,5 @@
 -- Sets of numbers, as bits of words.
-use Rattle.std.specs.Prelude.{◌≡◌, ℕ, Bool, true, false, not, List, ◌/◌, ◌%◌, ◌*◌, ◌==◌, ◌≤◌, ◌<◌, length, slice_index}
+use Rattle.std.specs.Prelude.{◌≡◌, ℕ, Bool, true, false, not, List, ◌/◌, ◌%◌, ◌==◌, ◌≤◌, ◌<◌, length, slice_index}
 use Rattle.std.specs.Int.{bit_at}
 
 -- whether words have a number: 64 to a word, from the lowest bit on

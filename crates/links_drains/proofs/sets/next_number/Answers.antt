@@ -1,4 +1,4 @@
-use Rattle.std.proofs.Common.{arith, ◌/◌, ◌%◌, ◌+◌, ◌*◌, inl, inr}
+use Rattle.std.proofs.Common.{arith, ◌/◌, ◌%◌, ◌*◌, inl, inr}
 use Rattle.std.proofs.lemmas.Bool.{cases_lt}
 use Rattle.links_drains.proofs.Numbers.{has_past, next_in_word, none_further, none_more}
 use Rattle.links_drains.proofs.sets.next_number.Goals as goal

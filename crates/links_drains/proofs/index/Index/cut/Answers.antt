@@ -1,5 +1,4 @@
-use Rattle.std.proofs.Common.{◌≡◌, refl, ap, take, arith}
-use Rattle.links_drains.specs.Indexes.{Indexed}
+use Rattle.std.proofs.Common.{◌≡◌, arith}
 use Rattle.links_drains.proofs.Indexing.{indexed_none, indexed_take, last_kept}
 use Rattle.links_drains.proofs.index.Index.cut.Goals as goal
 

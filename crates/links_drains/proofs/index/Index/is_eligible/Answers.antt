@@ -1,7 +1,7 @@
 use Rattle.std.proofs.Common.{sym, inl}
 use Rattle.std.proofs.Common.{refl}
 use Rattle.std.proofs.lemmas.Option.{slice_get-get_or}
-use Rattle.links_drains.proofs.Eligibility.{member, unit_before, eligible_in_drain, eligible_behind, waits_for_least}
+use Rattle.links_drains.proofs.Eligibility.{eligible_in_drain, eligible_behind, waits_for_least}
 use Rattle.links_drains.proofs.index.Index.is_eligible.Goals as goal
 
 pub returns-then-contains : goal.returns-then-contains

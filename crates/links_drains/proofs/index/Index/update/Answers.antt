@@ -1,4 +1,3 @@
-use Rattle.std.proofs.Common.{ℕ, ◌≡◌, ◌∙◌, ap, refl}
 use Rattle.std.proofs.lemmas.Option.{get_or_from_slice_get}
 use Rattle.links_drains.specs.Links.{asks_to_drain}
 use Rattle.links_drains.specs.Units.{is_open}

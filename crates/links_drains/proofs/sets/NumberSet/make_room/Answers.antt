@@ -1,5 +1,4 @@
-use Rattle.std.proofs.Common.{arith}
-use Rattle.links_drains.proofs.Numbers.{has_grown, summed_grown}
+use Rattle.links_drains.proofs.Numbers.{has_grown}
 use Rattle.links_drains.proofs.sets.NumberSet.make_room.Goals as goal
 
 pub returns-in_ok-push-clause-has : goal.returns-in_ok-push-clause-has
