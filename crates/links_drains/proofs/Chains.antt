@@ -41,7 +41,7 @@ enumerated_from n [] i = refl
 enumerated_from {X} n (x ∷ xs) zero = let m : n ≡ n + zero = omega arith in ap (λ k. option_map (λ (y : X). (k, y)) (Some x)) m
 enumerated_from {X} n (x ∷ xs) (suc i) = let m : n + 1 + i ≡ n + suc i = omega arith in enumerated_from (n + 1) xs i ∙ ap (λ k. option_map (λ (y : X). (k, y)) (slice_get xs i)) m
 
-enumerated : {X : Type 0} (xs : List X) (i : ℕ) → slice_get (enumerate_from 0 xs) i ≡ option_map (λ x. (i, x)) (slice_get xs i)
+pub enumerated : {X : Type 0} (xs : List X) (i : ℕ) → slice_get (enumerate_from 0 xs) i ≡ option_map (λ x. (i, x)) (slice_get xs i)
 enumerated {X} xs i = let m : 0 + i ≡ i = omega arith in enumerated_from 0 xs i ∙ ap (λ k. option_map (λ (y : X). (k, y)) (slice_get xs i)) m
 
 pub get-batch : (first : ℕ) (es : List Sqe) (i : ℕ) → slice_get (rows_of first es) i ≡ option_map (λ e. new_row e (first + chain_of es i)) (slice_get es i)

@@ -1,10 +1,16 @@
 pub mod Batching
+pub mod Bits
 pub mod Chains
 pub mod Counting
 pub mod DirectPairs
+pub mod Eligibility
+pub mod FailingRows
+pub mod Indexing
 pub mod Listing
+pub mod Numbers
 pub mod Rising
 pub mod Remaining
 pub mod RowsKept
 pub mod Seen
 pub mod Tallying
+pub mod Units

@@ -1,12 +1,11 @@
 -- What a submission makes of the entries that it is offered (io_uring_enter(2)).
-use Rattle.std.specs.Prelude.{ℕ, zero, suc, ℤ, ◌+◌, ◌==◌, Bool, false, not, ◌&&◌, if◌then◌else◌, Option, None, option_map, is_ok, slice_get, List, map, take}
-use Rattle.std.specs.Option.{option_and_then, option_map_or}
+use Rattle.std.specs.Prelude.{ℕ, zero, suc, ℤ, ◌+◌, ◌==◌, Bool, false, not, ◌&&◌, if◌then◌else◌, Option, None, is_ok, slice_get, List, map, take}
+use Rattle.std.specs.Option.{option_map_or}
 use Rattle.std.specs.Result.{result_err}
 use Rattle.std.specs.List.{prefix_len, list_any, enumerate_from}
 use Rattle.entries.specs.declared.entry.Sqe.{Sqe}
 use Rattle.entries.specs.declared.row.Row.{Row}
 use Rattle.opcodes.specs.Check.{check_of}
-use Rattle.links_drains.specs.declared.submission.Failure.{Failure}
 use Rattle.links_drains.specs.Endings.{Ending, ecanceled, given, or_else, endings_from}
 use Rattle.links_drains.specs.Links.{is_linked}
 use Rattle.links_drains.specs.Rows.{new_row}
@@ -52,14 +51,3 @@ direct_result batch row = or_else (error_of row.entry) (given (unit_fails batch 
 -- the rows of a batch that end as it is submitted, in the order of their numbers
 abbrev pub direct_of : ℕ → List Sqe → List Ending
 direct_of first entries = let batch = rows_of first entries in endings_from (λ r row. direct_result batch row) first batch
-
--- ---- entries that each are a unit of their own
-
-abbrev pub single_rows : ℕ → List Sqe → List Row
-single_rows first entries = map (λ (p : ℕ × Sqe). new_row p.1 p.0) (enumerate_from first entries)
-
--- the row of the first that fails, if one does
-abbrev pub failed_of : ℕ → List Sqe → Option Failure
-failed_of first entries =
-    let before = prefix_len passes entries in
-    option_map (λ res. record { row = first + before; res = res }) (option_and_then error_of (slice_get entries before))

@@ -2,6 +2,9 @@ pub mod Batches
 pub mod Eligible
 pub mod Endings
 pub mod Holding
+pub mod Indexes
 pub mod Links
 pub mod Phases
 pub mod Rows
+pub mod Sets
+pub mod Units

@@ -1,12 +1,15 @@
 //! The table of all requests, and how entries come into it.
 #![tactic(auto)]
 
+mod failing;
 mod holding;
+mod index;
 pub mod laws;
 pub mod links;
+mod sets;
 pub mod submission;
 pub mod table;
 
 pub use links::is_soft_linked;
-pub use submission::{Batch, Failure};
+pub use submission::Batch;
 pub use table::{Table, new_row};

@@ -1,8 +1,12 @@
 //! Links between the requests of a chain (io_uring_enter(2)).
 ghost use Rattle.std.specs.Prelude.{◌≡◌};
-ghost use Rattle.links_drains.specs.Links.{is_soft_linked};
+ghost use Rattle.links_drains.specs.Links.{is_soft_linked, is_linked, is_guard, asks_to_drain};
+ghost use Rattle.links_drains.specs.Phases.{is_queued, is_unfinished};
 
-use entries::Row;
+use entries::{Phase, Row, Sqe};
+use opcodes::Op;
+
+const IO_DRAIN: u8 = 2;
 
 const IO_LINK: u8 = 4;
 
@@ -13,4 +17,37 @@ pub fn is_soft_linked(row: &Row) -> bool
     ensures { result ≡ is_soft_linked row.now }
 {
     row.entry.flags & IO_LINK != 0 && !(row.entry.flags & IO_HARDLINK != 0)
+}
+
+/// Whether the next entry is of the same chain.
+pub(crate) fn is_linked(entry: &Sqe) -> bool
+    ensures { result ≡ is_linked entry.now }
+{
+    entry.flags & IO_LINK != 0 || entry.flags & IO_HARDLINK != 0
+}
+
+/// Whether a row has IO_DRAIN.
+pub(crate) fn asks_to_drain(row: &Row) -> bool
+    ensures { result ≡ asks_to_drain row.now }
+{
+    row.entry.flags & IO_DRAIN != 0
+}
+
+/// Whether a row is a LINK_TIMEOUT.
+pub(crate) fn is_guard(row: &Row) -> bool
+    ensures { result ≡ is_guard row.now }
+{
+    row.entry.opcode == Op::LinkTimeout as u8
+}
+
+pub(crate) fn is_queued(row: &Row) -> bool
+    ensures { result ≡ is_queued row.now.phase }
+{
+    matches!(row.phase, Phase::Queued)
+}
+
+pub(crate) fn is_unfinished(row: &Row) -> bool
+    ensures { result ≡ is_unfinished row.now.phase }
+{
+    !matches!(row.phase, Phase::Ended(_))
 }

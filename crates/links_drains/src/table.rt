@@ -101,6 +101,12 @@ impl Table {
         self.rows.get(r as usize).copied()
     }
 
+    pub(crate) fn rows(&self) -> &[Row]
+        ensures { result.now ≡ self.now }
+    {
+        &self.rows
+    }
+
     /// The phase of a row.
     pub fn phase(&self, r: u32) -> Option<Phase>
         ensures { result ≡ option_map (λ row. row.phase) (slice_get self.now r) }

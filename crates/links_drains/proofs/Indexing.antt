@@ -1,0 +1,199 @@
+-- What the sets beside the rows have, once the rows are changed.
+use Rattle.std.proofs.Common.{◌≡◌, ◌≢◌, ℕ, zero, suc, Bool, true, false, cond, refl, sym, ◌∙◌, ap, subst, List, [], ◌∷◌, ◌++◌, length, take, ◌+◌, ◌-◌, ◌<◌, ◌≤◌, ◌⊎◌, inl, inr, arith}
+use Rattle.std.specs.Prelude.{Some, slice_get, slice_set, ◌==◌, ◌&&◌}
+use Rattle.std.specs.Option.{option_map_or}
+use Rattle.std.proofs.lemmas.Bool.{cases_eq, cases_lt, eq-eqb, eqb-true, ne_eqb, and_left}
+use Rattle.std.proofs.lemmas.List.{length-set, length-take}
+use Rattle.std.proofs.lemmas.Option.{slice_get_within, slice_get_past}
+use Rattle.entries.specs.declared.row.Row.{Row}
+use Rattle.places.proofs.ListLemmas.{slice_get-set, slice_get-push, slice_get-take_below, slice_get-take_above, updated_set}
+use Rattle.links_drains.specs.Links.{asks_to_drain, Chained, GoesOn}
+use Rattle.links_drains.specs.Indexes.{HasRoom, Indexed, IndexedBut, Cleared, Forgotten}
+use Rattle.links_drains.specs.Sets.{has}
+use Rattle.links_drains.specs.Units.{passes_at, is_open, is_barrier}
+use Rattle.links_drains.specs.declared.index.Index.{Index}
+use Rattle.links_drains.proofs.Chains.{chained-none, chained-take, chained-updated}
+use Rattle.links_drains.proofs.Numbers.{has_past}
+use Rattle.links_drains.proofs.RowsKept.{length-push}
+use Rattle.links_drains.proofs.Units.{any_of_set, any_of_push, any_of_take, any_of_none}
+
+-- ---- units
+
+chained_set : (rows : List Row) (r : ℕ) (before row : Row) → Chained rows → slice_get rows r ≡ Some before → row.unit ≡ before.unit → Chained (slice_set rows r row)
+chained_set rows r before row c h same =
+    let f : Row → Row = λ x. record row { unit = x.unit } in
+    let e : f before ≡ row = ap (λ u. record row { unit = u }) (sym same) in
+    subst Chained (updated_set f rows r before h ∙ ap (slice_set rows r) e) (chained-updated f rows r (λ x. refl) c)
+
+-- a row of the longer list is one of the rows, or the new one
+pushed : (rows : List Row) (row : Row) (q : ℕ) (x : Row) → slice_get (rows ++ row ∷ []) q ≡ Some x → (slice_get rows q ≡ Some x) ⊎ ((q ≡ length rows) × (row ≡ x))
+pushed rows row q x h = by (length rows == q) refl (sym (slice_get-push rows q row) ∙ h)
+  where
+    by : (b : Bool) → (length rows == q) ≡ b → cond b (Some row) (slice_get rows q) ≡ Some x → (slice_get rows q ≡ Some x) ⊎ ((q ≡ length rows) × (row ≡ x))
+    by true e k = inr (sym (eqb-true (length rows) q e), cc)
+    by false e k = inl k
+
+unit_within : (rows : List Row) (row : Row) → Chained rows → GoesOn rows row → row.unit ≤ length rows
+unit_within rows row c (inl new) = omega (arith, new)
+unit_within rows row c (inr on) = let b = c.back on.1 on.0 on.3 in let k = on.2 in let e = on.4 in omega (arith, b, k, e)
+
+-- all from its first on are of the unit
+of_last_unit : (rows : List Row) (row : Row) → Chained rows → GoesOn rows row → (q : ℕ) (x : Row) → slice_get rows q ≡ Some x → row.unit ≤ q → x.unit ≡ row.unit
+of_last_unit rows row c (inl new) q x h low = absurd (let w = slice_get_within rows q x h in omega (arith, w, new, low))
+of_last_unit rows row c (inr on) q x h low =
+    let w = slice_get_within rows q x h in
+    let k = on.2 in
+    let e = on.4 in
+    c.run q on.1 x on.0 h on.3 (omega (arith, w, k)) (omega (arith, low, e)) ∙ sym e
+
+pub chained_push : (rows : List Row) (row : Row) → Chained rows → GoesOn rows row → Chained (rows ++ row ∷ [])
+chained_push rows row c on = record {
+  back = λ r x h. back r x (pushed rows row r x h);
+  run = λ q r y x g h l k. run q r y x (pushed rows row q y g) (pushed rows row r x h) l k;
+}
+  where
+    back : (r : ℕ) (x : Row) → (slice_get rows r ≡ Some x) ⊎ ((r ≡ length rows) × (row ≡ x)) → x.unit ≤ r
+    back r x (inl h) = c.back r x h
+    back r x (inr h) = let e = h.0 in let u = ap (λ (y : Row). y.unit) h.1 in omega (arith, unit_within rows row c on, e, u)
+
+    run : (q r : ℕ) (y x : Row) → (slice_get rows q ≡ Some y) ⊎ ((q ≡ length rows) × (row ≡ y)) → (slice_get rows r ≡ Some x) ⊎ ((r ≡ length rows) × (row ≡ x)) → q ≤ r → x.unit ≤ q → y.unit ≡ x.unit
+    run q r y x (inl g) (inl h) l k = c.run q r y x g h l k
+    run q r y x (inr g) (inl h) l k = absurd (let w = slice_get_within rows r x h in let e = g.0 in omega (arith, w, e, l))
+    run q r y x (inl g) (inr h) l k = let u = ap (λ (z : Row). z.unit) h.1 in of_last_unit rows row c on q y g (omega (arith, u, k)) ∙ u
+    run q r y x (inr g) (inr h) l k = ap (λ (z : Row). z.unit) (sym g.1 ∙ h.1)
+
+-- ---- one row is written into the sets
+
+pub tied : (test : Row → Bool) (rows : List Row) (r : ℕ) (x row : Row) (b : Bool) (old new : List ℕ) → x ≡ row → slice_get rows r ≡ Some row → b ≡ test x
+    → ((q : ℕ) → q ≢ r → has old q ≡ passes_at test rows q) → ((q : ℕ) → has new q ≡ cond (q == r) b (has old q)) → (q : ℕ) → has new q ≡ passes_at test rows q
+tied test rows r x row b old new e h t others written q = elim (cases_eq q r) [
+  | inl same ↦ written q ∙ ap (λ d. cond d b (has old q)) (eq-eqb q r same) ∙ t ∙ ap test e ∙ sym (ap (λ o. option_map_or test o false) (ap (slice_get rows) same ∙ h))
+  | inr other ↦ written q ∙ ap (λ d. cond d b (has old q)) (ne_eqb q r other) ∙ others q other
+]
+
+tied_barriers : (rows : List Row) (unit : ℕ) (b : Bool) (old new : List ℕ) → b ≡ is_barrier rows unit → ((u : ℕ) → u ≢ unit → has old u ≡ is_barrier rows u)
+    → ((u : ℕ) → has new u ≡ cond (u == unit) b (has old u)) → (u : ℕ) → has new u ≡ is_barrier rows u
+tied_barriers rows unit b old new t others written u = elim (cases_eq u unit) [
+  | inl same ↦ written u ∙ ap (λ d. cond d b (has old u)) (eq-eqb u unit same) ∙ t ∙ ap (is_barrier rows) (sym same)
+  | inr other ↦ written u ∙ ap (λ d. cond d b (has old u)) (ne_eqb u unit other) ∙ others u other
+]
+
+pub updated_index : (rows : List Row) (r : ℕ) (x row : Row) (b : Bool) (old new : Index) → x ≡ row → b ≡ is_barrier rows x.unit → IndexedBut r row.unit rows old
+    → length new.unfinished ≡ length old.unfinished → length new.flagged ≡ length old.flagged → length new.barriers ≡ length old.barriers
+    → ((q : ℕ) → has new.unfinished q ≡ passes_at is_open rows q) → ((q : ℕ) → has new.flagged q ≡ passes_at asks_to_drain rows q)
+    → ((u : ℕ) → has new.barriers u ≡ cond (u == x.unit) b (has old.barriers u)) → Indexed rows new
+updated_index rows r x row stands old new e t i la lb lc a b c = record {
+  chained = i.chained;
+  room = let x = i.room.unfinished in let y = i.room.flagged in let z = i.room.barriers in record { unfinished = omega (arith, la, x); flagged = omega (arith, lb, y); barriers = omega (arith, lc, z) };
+  unfinished = a;
+  flagged = b;
+  barriers = tied_barriers rows x.unit stands old.barriers new.barriers t (λ u other. i.barriers u (λ same. other (same ∙ sym (ap (λ (y : Row). y.unit) e)))) c;
+}
+
+-- ---- the rows change
+
+both : (a b c d : Bool) → a ≡ b → c ≡ d → (a && c) ≡ (b && d)
+both a b c d h k = cc
+
+get_other : (rows : List Row) (r q : ℕ) (row : Row) → r < length rows → q ≢ r → slice_get (slice_set rows r row) q ≡ slice_get rows q
+get_other rows r q row h other = slice_get-set rows r q row h ∙ ap (λ b. cond b (Some row) (slice_get rows q)) (ne_eqb r q (λ e. other (sym e)))
+
+-- a row is written over by one of its unit
+pub indexed_set : (rows : List Row) (index : Index) (r : ℕ) (before row : Row) → Indexed rows index → slice_get rows r ≡ Some before → row.unit ≡ before.unit → IndexedBut r row.unit (slice_set rows r row) index
+indexed_set rows index r before row i h same = record {
+  chained = chained_set rows r before row i.chained h same;
+  room = subst (λ n. HasRoom n index) (sym (length-set rows r row)) i.room;
+  unfinished = λ q other. i.unfinished q ∙ ap (λ o. option_map_or is_open o false) (sym (get_other rows r q row (slice_get_within rows r before h) other));
+  flagged = λ q other. i.flagged q ∙ ap (λ o. option_map_or asks_to_drain o false) (sym (get_other rows r q row (slice_get_within rows r before h) other));
+  barriers = λ u other. i.barriers u ∙ both _ _ _ _ (sym (any_of_set asks_to_drain rows r u before row h same other)) (sym (any_of_set is_open rows r u before row h same other));
+}
+
+-- a row is added behind the others
+get_before : (rows : List Row) (row : Row) (q : ℕ) → q ≢ length rows → slice_get (rows ++ row ∷ []) q ≡ slice_get rows q
+get_before rows row q other = slice_get-push rows q row ∙ ap (λ b. cond b (Some row) (slice_get rows q)) (ne_eqb (length rows) q (λ e. other (sym e)))
+
+pub indexed_push : (rows : List Row) (index : Index) (row : Row) → Indexed rows index → HasRoom (length rows + 1) index → GoesOn rows row → IndexedBut (length rows) row.unit (rows ++ row ∷ []) index
+indexed_push rows index row i room on = record {
+  chained = chained_push rows row i.chained on;
+  room = subst (λ n. HasRoom n index) (sym (length-push rows row)) room;
+  unfinished = λ q other. i.unfinished q ∙ ap (λ o. option_map_or is_open o false) (sym (get_before rows row q other));
+  flagged = λ q other. i.flagged q ∙ ap (λ o. option_map_or asks_to_drain o false) (sym (get_before rows row q other));
+  barriers = λ u other. i.barriers u ∙ both _ _ _ _ (sym (any_of_push asks_to_drain rows u row other)) (sym (any_of_push is_open rows u row other));
+}
+
+-- rows are dropped
+
+tie_dropped : (test : Row → Bool) (rows : List Row) (n : ℕ) (old new : List ℕ) → ((r : ℕ) → has old r ≡ passes_at test rows r) → Cleared n (length rows) old new → (r : ℕ) → has new r ≡ passes_at test (take n rows) r
+tie_dropped test rows n old new h c r = elim (cases_lt r n) [
+  | inl less ↦ c.below r less ∙ h r ∙ ap (λ o. option_map_or test o false) (sym (slice_get-take_below rows n r less))
+  | inr past ↦ elim (cases_lt r (length rows)) [
+    | inl inside ↦ c.inside r past inside ∙ gone past
+    | inr out ↦ c.past r out ∙ h r ∙ ap (λ o. option_map_or test o false) (slice_get_past rows r out) ∙ gone past
+  ]
+]
+  where
+    gone : n ≤ r → false ≡ passes_at test (take n rows) r
+    gone past = sym (ap (λ o. option_map_or test o false) (slice_get-take_above rows n r past))
+
+kept_row : (rows : List Row) (n r : ℕ) (x : Row) → slice_get (take n rows) r ≡ Some x → (r < n) × (slice_get rows r ≡ Some x)
+kept_row rows n r x h = by (cases_lt r n)
+  where
+    by : (r < n) ⊎ (n ≤ r) → (r < n) × (slice_get rows r ≡ Some x)
+    by (inl less) = (less, sym (slice_get-take_below rows n r less) ∙ h)
+    by (inr past) = absurd (let e = slice_get-take_above rows n r past in cc)
+
+-- a unit that no row is of
+no_barrier : (rows : List Row) (u : ℕ) → ((r : ℕ) (x : Row) → slice_get rows r ≡ Some x → x.unit ≢ u) → is_barrier rows u ≡ false
+no_barrier rows u h = and_left _ _ (any_of_none asks_to_drain rows u h)
+
+barrier_dropped : (rows : List Row) (n u : ℕ) (old new : List ℕ) → Chained rows → ((v : ℕ) → has old v ≡ is_barrier rows v) → Cleared n (length rows) old new
+    → (u < n → (r : ℕ) (x : Row) → n ≤ r → slice_get rows r ≡ Some x → x.unit ≢ u) → has new u ≡ is_barrier (take n rows) u
+barrier_dropped rows n u old new chained h c others = elim (cases_lt u n) [
+  | inl less ↦ c.below u less ∙ h u ∙ both _ _ _ _ (sym (any_of_take asks_to_drain rows n u (others less))) (sym (any_of_take is_open rows n u (others less)))
+  | inr past ↦ elim (cases_lt u (length rows)) [
+    | inl inside ↦ c.inside u past inside ∙ sym (gone past)
+    | inr out ↦ c.past u out ∙ h u ∙ no_barrier rows u (λ r x g e. absurd (let w = slice_get_within rows r x g in let b = chained.back r x g in omega (arith, w, b, e, out))) ∙ sym (gone past)
+  ]
+]
+  where
+    gone : n ≤ u → is_barrier (take n rows) u ≡ false
+    gone past = no_barrier (take n rows) u (λ r x g e. absurd (let k = kept_row rows n r x g in let l = k.0 in let b = chained.back r x k.1 in omega (arith, l, b, e, past)))
+
+pub indexed_none : (rows : List Row) (old new : Index) → Indexed rows old → Forgotten 0 (length rows) old new → Indexed [] new
+indexed_none rows old new i f = record {
+  chained = chained-none;
+  room = record { unfinished = omega arith; flagged = omega arith; barriers = omega arith };
+  unfinished = tie_dropped is_open rows 0 old.unfinished new.unfinished i.unfinished f.unfinished;
+  flagged = tie_dropped asks_to_drain rows 0 old.flagged new.flagged i.flagged f.flagged;
+  barriers = λ u. barrier_dropped rows 0 u old.barriers new.barriers i.chained i.barriers f.barriers (λ less. absurd (omega (arith, less)));
+}
+
+-- the last row that is kept
+pub last_kept : (rows : List Row) (n : ℕ) → 0 < n → n ≤ length rows → (last : Row) × (slice_get rows (n - 1) ≡ Some last) × (slice_get (take n rows) (n - 1) ≡ Some last)
+last_kept rows n some h = let w = element rows (n - 1) (omega (arith, some, h)) in (w.0, w.1, slice_get-take_below rows n (n - 1) (omega (arith, some)) ∙ w.1)
+  where
+    element : (xs : List Row) (i : ℕ) → i < length xs → (x : Row) × (slice_get xs i ≡ Some x)
+    element [] i l = absurd (omega (arith, l))
+    element (x ∷ xs) zero l = (x, refl)
+    element (x ∷ xs) (suc i) l = element xs i (omega (arith, l))
+
+pub indexed_take : (rows : List Row) (old new : Index) (n : ℕ) (last : Row) → Indexed rows old → 0 < n → slice_get rows (n - 1) ≡ Some last → Forgotten n (length rows) old new → IndexedBut (n - 1) last.unit (take n rows) new
+indexed_take rows old new n last i some h f = record {
+  chained = chained-take rows n i.chained;
+  room = let t = length-take n rows in let a = i.room.unfinished in let b = i.room.flagged in let d = i.room.barriers in let x = f.unfinished.len in let y = f.flagged.len in let z = f.barriers.len in
+      record { unfinished = omega (arith, t, a, x); flagged = omega (arith, t, b, y); barriers = omega (arith, t, d, z) };
+  unfinished = λ q other. tie_dropped is_open rows n old.unfinished new.unfinished i.unfinished f.unfinished q;
+  flagged = λ q other. tie_dropped asks_to_drain rows n old.flagged new.flagged i.flagged f.flagged q;
+  barriers = λ u other. barrier_dropped rows n u old.barriers new.barriers i.chained i.barriers f.barriers
+      (λ less r x past g e. other (sym e ∙ sym (i.chained.run (n - 1) r last x h g (omega (arith, past)) (omega (arith, e, less)))));
+}
+
+-- no row, and no number in any set
+pub indexed_empty : (index : Index) → index.unfinished ≡ [] → index.flagged ≡ [] → index.barriers ≡ [] → Indexed [] index
+indexed_empty index a b c = record {
+  chained = chained-none;
+  room = record { unfinished = omega arith; flagged = omega arith; barriers = omega arith };
+  unfinished = λ r. ap (λ w. has w r) a ∙ has_past [] r (omega arith);
+  flagged = λ r. ap (λ w. has w r) b ∙ has_past [] r (omega arith);
+  barriers = λ u. ap (λ w. has w u) c ∙ has_past [] u (omega arith);
+}

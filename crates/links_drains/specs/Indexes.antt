@@ -1,0 +1,41 @@
+-- What the sets beside the rows have.
+use Rattle.std.specs.Prelude.{◌≡◌, ◌≢◌, ℕ, ◌*◌, ◌≤◌, ◌<◌, false, List, length}
+use Rattle.entries.specs.declared.row.Row.{Row}
+use Rattle.links_drains.specs.Links.{asks_to_drain, Chained}
+use Rattle.links_drains.specs.Sets.{has}
+use Rattle.links_drains.specs.Units.{passes_at, is_open, is_barrier}
+use Rattle.links_drains.specs.declared.index.Index.{Index}
+
+-- There is room for so many numbers.
+pub record HasRoom (n : ℕ) (index : Index) : Type 0 where
+  pub unfinished : n ≤ 64 * length index.unfinished
+  pub flagged : n ≤ 64 * length index.flagged
+  pub barriers : n ≤ 64 * length index.barriers
+
+pub record Indexed (rows : List Row) (index : Index) : Type 0 where
+  pub chained : Chained rows
+  pub room : HasRoom (length rows) index
+  pub unfinished : (r : ℕ) → has index.unfinished r ≡ passes_at is_open rows r
+  pub flagged : (r : ℕ) → has index.flagged r ≡ passes_at asks_to_drain rows r
+  pub barriers : (unit : ℕ) → has index.barriers unit ≡ is_barrier rows unit
+
+-- All but what the sets say of one row, and of its unit.
+pub record IndexedBut (r unit : ℕ) (rows : List Row) (index : Index) : Type 0 where
+  pub chained : Chained rows
+  pub room : HasRoom (length rows) index
+  pub unfinished : (q : ℕ) → q ≢ r → has index.unfinished q ≡ passes_at is_open rows q
+  pub flagged : (q : ℕ) → q ≢ r → has index.flagged q ≡ passes_at asks_to_drain rows q
+  pub barriers : (u : ℕ) → u ≢ unit → has index.barriers u ≡ is_barrier rows u
+
+-- The numbers from one up to another were taken out of a set.
+pub record Cleared (from to : ℕ) (old new : List ℕ) : Type 0 where
+  pub len : length new ≡ length old
+  pub below : (i : ℕ) → i < from → has new i ≡ has old i
+  pub inside : (i : ℕ) → from ≤ i → i < to → has new i ≡ false
+  pub past : (i : ℕ) → to ≤ i → has new i ≡ has old i
+
+-- They were taken out of each set.
+pub record Forgotten (from to : ℕ) (old new : Index) : Type 0 where
+  pub unfinished : Cleared from to old.unfinished new.unfinished
+  pub flagged : Cleared from to old.flagged new.flagged
+  pub barriers : Cleared from to old.barriers new.barriers

@@ -1,0 +1,146 @@
+//! Sets beside the rows that tell at once which of them may be issued.
+ghost use Rattle.std.specs.Prelude.{◌≡◌, ℕ, ◌+◌, ◌*◌, ◌<◌, ◌≤◌, [], true, Some, IfOk, OnOk, MatchBool, length, slice_get, take};
+ghost use Rattle.entries.specs.declared.row.Row.{Row};
+ghost use Rattle.links_drains.specs.Eligible.{is_eligible, GuardsFollow};
+ghost use Rattle.links_drains.specs.Links.{asks_to_drain as has_drain, Chained};
+ghost use Rattle.links_drains.specs.Sets.{has};
+ghost use Rattle.links_drains.specs.Units.{passes_at, is_open, is_barrier as stands_before, HasRowOf, HasNoRowOf};
+
+use crate::links::{asks_to_drain, is_guard, is_queued, is_unfinished};
+use crate::sets::NumberSet;
+use entries::Row;
+use std::alloc::{AllocError, Global};
+
+/// Which rows and units others wait for.
+#[derive(Drop)]
+pub(crate) struct Index {
+    /// The rows that haven't ended.
+    unfinished: NumberSet,
+    /// The rows with IO_DRAIN.
+    flagged: NumberSet,
+    /// The units that drain and haven't ended, by the numbers of their first rows.
+    barriers: NumberSet,
+}
+
+impl Index {
+    ghost use Rattle.links_drains.specs.Indexes.{Indexed, IndexedBut, HasRoom, Forgotten};
+
+    /// The index of no rows. It takes no memory.
+    pub(crate) fn new(alloc: Global) -> Index
+        ensures { Indexed [] result }
+    {
+        Index {
+            unfinished: NumberSet::new(alloc),
+            flagged: NumberSet::new(alloc),
+            barriers: NumberSet::new(alloc),
+        }
+    }
+
+    /// Makes room for one row more.
+    pub(crate) fn make_room(&mut self, rows: &[Row]) -> Result<(), AllocError>
+        requires indexed { Indexed rows.now self.old }
+        requires few { length rows.now < 65536 }
+        ensures ok { OnOk result (HasRoom (length rows.now + 1) self.new) }
+        ensures indexed { Indexed rows.now self.new }
+    {
+        self.unfinished.make_room(rows.len())?;
+        self.flagged.make_room(rows.len())?;
+        self.barriers.make_room(rows.len())
+    }
+
+    /// A row has come, or has changed within its unit, or has become the last.
+    pub(crate) fn update(&mut self, rows: &[Row], r: usize)
+        requires { (row : Row) × (slice_get rows.now r ≡ Some row) × IndexedBut r row.unit rows.now self.old }
+        ensures { Indexed rows.now self.new }
+    {
+        let row = &rows[r];
+        self.unfinished.write(r, is_unfinished(row));
+        self.flagged.write(r, asks_to_drain(row));
+        let stands = is_barrier(&self.flagged, &self.unfinished, rows, row.unit);
+        self.barriers.write(row.unit as usize, stands);
+    }
+
+    /// The rows from a number on go. It takes time by how many they are.
+    pub(crate) fn cut(&mut self, rows: &[Row], n: usize)
+        requires indexed { Indexed rows.now self.old }
+        requires within { n ≤ length rows.now }
+        ensures { Indexed (take n rows.now) self.new }
+    {
+        self.forget(n, rows.len());
+        if n > 0 {
+            self.update(&rows[..n], n - 1);
+        }
+    }
+
+    fn forget(&mut self, from: usize, to: usize)
+        requires order { from ≤ to }
+        requires room { HasRoom to self.old }
+        ensures { Forgotten from to self.old self.new }
+    {
+        for r in from..to {
+            self.unfinished.write(r, false);
+            self.flagged.write(r, false);
+            self.barriers.write(r, false);
+        }
+    }
+
+    /// Whether a row may be issued. It takes constant time.
+    pub(crate) fn is_eligible(&self, rows: &[Row], r: usize) -> bool
+        requires indexed { Indexed rows.now self.now }
+        requires guards { GuardsFollow rows.now }
+        ensures { result ≡ is_eligible rows.now r }
+    {
+        if r >= rows.len() {
+            return false;
+        }
+        let row = &rows[r];
+        if !is_queued(row) || is_guard(row) {
+            return false;
+        }
+        let unit = row.unit as usize;
+        if self.barriers.contains(unit) {
+            self.unfinished.is_next(0, r)
+        } else if self.unfinished.is_next(unit, r) {
+            self.barriers.has_none_below(unit)
+        } else {
+            false
+        }
+    }
+
+    /// An index of the same rows.
+    pub(crate) fn copy(&self, alloc: Global) -> Result<Index, AllocError>
+        ensures { IfOk result (λ index. index ≡ self.now) }
+    {
+        Ok(Index {
+            unfinished: self.unfinished.copy(alloc)?,
+            flagged: self.flagged.copy(alloc)?,
+            barriers: self.barriers.copy(alloc)?,
+        })
+    }
+}
+
+// Whether a unit drains and hasn't ended, by the rows that drain and those that haven't ended.
+fn is_barrier(flagged: &NumberSet, unfinished: &NumberSet, rows: &[Row], unit: u32) -> bool
+    requires chained { Chained rows.now }
+    requires flagged { (r : ℕ) → has flagged.now r ≡ passes_at has_drain rows.now r }
+    requires unfinished { (r : ℕ) → has unfinished.now r ≡ passes_at is_open rows.now r }
+    ensures { result ≡ stands_before rows.now unit }
+{
+    if has_row_of(flagged, rows, unit) {
+        has_row_of(unfinished, rows, unit)
+    } else {
+        false
+    }
+}
+
+// Whether a set of row numbers has a row of a unit.
+fn has_row_of(set: &NumberSet, rows: &[Row], unit: u32) -> bool
+    requires chained { Chained rows.now }
+    requires within { (r : ℕ) → has set.now r ≡ true → r < length rows.now }
+    ensures { MatchBool result (HasRowOf set.now rows.now unit) (HasNoRowOf set.now rows.now unit) }
+{
+    match set.next(unit as usize) {
+        Some(r) => rows[r].unit == unit,
+        None => false,
+    }
+}
