@@ -16,32 +16,35 @@ use Rattle.script.specs.Memory.{memory_of}
 use Rattle.script.specs.Objects.{objects_of, fds_of}
 use Rattle.script.specs.Scripts.{Plan, is_script_key, entries_of, cq_of, flag_of, base_of, threads_of, schedule_of, script_of}
 
-abbrev pub planned : ℕ → Option ℕ → Bool → ℕ → List ℕ → List Object → List Descriptor → List (List Instruction) → List Event → Plan
-planned entries cq sqpoll base memory objects fds threads schedule = record {
-  setup = record { entries = entries; cq = cq; sqpoll = sqpoll; submit_all = false; base = base; memory = memory; objects = objects; fds = fds; threads = threads };
+abbrev pub planned : ℕ → Option ℕ → Bool → Bool → ℕ → List ℕ → List Object → List Descriptor → List (List Instruction) → List Event → Plan
+planned entries cq sqpoll submit_all base memory objects fds threads schedule = record {
+  setup = record { entries = entries; cq = cq; sqpoll = sqpoll; submit_all = submit_all; base = base; memory = memory; objects = objects; fds = fds; threads = threads };
   schedule = schedule;
 }
 
-abbrev pub with_schedule : Data → ℕ → Option ℕ → Bool → ℕ → List ℕ → List Object → List Descriptor → List (List Instruction) → List Event → Result Plan ScriptFault
-with_schedule d entries cq sqpoll base memory objects fds threads schedule = Ok (planned entries cq sqpoll base memory objects fds threads schedule)
+abbrev pub with_schedule : Data → ℕ → Option ℕ → Bool → Bool → ℕ → List ℕ → List Object → List Descriptor → List (List Instruction) → List Event → Result Plan ScriptFault
+with_schedule d entries cq sqpoll submit_all base memory objects fds threads schedule = Ok (planned entries cq sqpoll submit_all base memory objects fds threads schedule)
 
-abbrev pub with_threads : Data → ℕ → Option ℕ → Bool → ℕ → List ℕ → List Object → List Descriptor → List (List Instruction) → Result Plan ScriptFault
-with_threads d entries cq sqpoll base memory objects fds threads = schedule_of (get (codes "schedule") d) >>= with_schedule d entries cq sqpoll base memory objects fds threads
+abbrev pub with_threads : Data → ℕ → Option ℕ → Bool → Bool → ℕ → List ℕ → List Object → List Descriptor → List (List Instruction) → Result Plan ScriptFault
+with_threads d entries cq sqpoll submit_all base memory objects fds threads = schedule_of (get (codes "schedule") d) >>= with_schedule d entries cq sqpoll submit_all base memory objects fds threads
 
-abbrev pub with_fds : Data → ℕ → Option ℕ → Bool → ℕ → List ℕ → List Object → List Descriptor → Result Plan ScriptFault
-with_fds d entries cq sqpoll base memory objects fds = threads_of (rounded entries) (get (codes "threads") d) >>= with_threads d entries cq sqpoll base memory objects fds
+abbrev pub with_fds : Data → ℕ → Option ℕ → Bool → Bool → ℕ → List ℕ → List Object → List Descriptor → Result Plan ScriptFault
+with_fds d entries cq sqpoll submit_all base memory objects fds = threads_of (rounded entries) (get (codes "threads") d) >>= with_threads d entries cq sqpoll submit_all base memory objects fds
 
-abbrev pub with_objects : Data → ℕ → Option ℕ → Bool → ℕ → List ℕ → List Object → Result Plan ScriptFault
-with_objects d entries cq sqpoll base memory objects = fds_of objects (get (codes "fds") d) >>= with_fds d entries cq sqpoll base memory objects
+abbrev pub with_objects : Data → ℕ → Option ℕ → Bool → Bool → ℕ → List ℕ → List Object → Result Plan ScriptFault
+with_objects d entries cq sqpoll submit_all base memory objects = fds_of objects (get (codes "fds") d) >>= with_fds d entries cq sqpoll submit_all base memory objects
 
-abbrev pub with_memory : Data → ℕ → Option ℕ → Bool → ℕ → List ℕ → Result Plan ScriptFault
-with_memory d entries cq sqpoll base memory = objects_of (get (codes "objects") d) >>= with_objects d entries cq sqpoll base memory
+abbrev pub with_memory : Data → ℕ → Option ℕ → Bool → Bool → ℕ → List ℕ → Result Plan ScriptFault
+with_memory d entries cq sqpoll submit_all base memory = objects_of (get (codes "objects") d) >>= with_objects d entries cq sqpoll submit_all base memory
 
-abbrev pub with_base : Data → ℕ → Option ℕ → Bool → ℕ → Result Plan ScriptFault
-with_base d entries cq sqpoll base = memory_of (get (codes "memory") d) >>= with_memory d entries cq sqpoll base
+abbrev pub with_base : Data → ℕ → Option ℕ → Bool → Bool → ℕ → Result Plan ScriptFault
+with_base d entries cq sqpoll submit_all base = memory_of (get (codes "memory") d) >>= with_memory d entries cq sqpoll submit_all base
+
+abbrev pub with_submit_all : Data → ℕ → Option ℕ → Bool → Bool → Result Plan ScriptFault
+with_submit_all d entries cq sqpoll submit_all = base_of (get (codes "base") d) >>= with_base d entries cq sqpoll submit_all
 
 abbrev pub with_sqpoll : Data → ℕ → Option ℕ → Bool → Result Plan ScriptFault
-with_sqpoll d entries cq sqpoll = base_of (get (codes "base") d) >>= with_base d entries cq sqpoll
+with_sqpoll d entries cq sqpoll = flag_of key.SubmitAll (get (codes "submit_all") d) >>= with_submit_all d entries cq sqpoll
 
 abbrev pub with_cq : Data → ℕ → Option ℕ → Result Plan ScriptFault
 with_cq d entries cq = flag_of key.Sqpoll (get (codes "sqpoll") d) >>= with_sqpoll d entries cq
@@ -56,26 +59,28 @@ bound : {A B : Type 0} → (r : Result A ScriptFault) (x : A) (f : A → Result 
 bound r x f h = ap (λ q. q >>= f) h
 
 -- what each key gives makes the script
-pub scripted : (d : Data) (u : Unit {0}) (entries : ℕ) (cq : Option ℕ) (sqpoll : Bool) (base : ℕ) (memory : List ℕ) (objects : List Object) (fds : List Descriptor) (threads : List (List Instruction)) (schedule : List Event)
+pub scripted : (d : Data) (u : Unit {0}) (entries : ℕ) (cq : Option ℕ) (sqpoll submit_all : Bool) (base : ℕ) (memory : List ℕ) (objects : List Object) (fds : List Descriptor) (threads : List (List Instruction)) (schedule : List Event)
     → keyed is_script_key (at_key key.Document) d ≡ Ok u
     → entries_of (get (codes "entries") d) ≡ Ok entries
     → cq_of entries (get (codes "cq") d) ≡ Ok cq
     → flag_of key.Sqpoll (get (codes "sqpoll") d) ≡ Ok sqpoll
+    → flag_of key.SubmitAll (get (codes "submit_all") d) ≡ Ok submit_all
     → base_of (get (codes "base") d) ≡ Ok base
     → memory_of (get (codes "memory") d) ≡ Ok memory
     → objects_of (get (codes "objects") d) ≡ Ok objects
     → fds_of objects (get (codes "fds") d) ≡ Ok fds
     → threads_of (rounded entries) (get (codes "threads") d) ≡ Ok threads
     → schedule_of (get (codes "schedule") d) ≡ Ok schedule
-    → script_of d ≡ Ok (planned entries cq sqpoll base memory objects fds threads schedule)
-scripted d u entries cq sqpoll base memory objects fds threads schedule hk he hq hs hb hm ho hf ht hh =
+    → script_of d ≡ Ok (planned entries cq sqpoll submit_all base memory objects fds threads schedule)
+scripted d u entries cq sqpoll submit_all base memory objects fds threads schedule hk he hq hs ha hb hm ho hf ht hh =
     bound (keyed is_script_key (at_key key.Document) d) u (with_keys d) hk
     ∙ bound (entries_of (get (codes "entries") d)) entries (with_entries d) he
     ∙ bound (cq_of entries (get (codes "cq") d)) cq (with_cq d entries) hq
     ∙ bound (flag_of key.Sqpoll (get (codes "sqpoll") d)) sqpoll (with_sqpoll d entries cq) hs
-    ∙ bound (base_of (get (codes "base") d)) base (with_base d entries cq sqpoll) hb
-    ∙ bound (memory_of (get (codes "memory") d)) memory (with_memory d entries cq sqpoll base) hm
-    ∙ bound (objects_of (get (codes "objects") d)) objects (with_objects d entries cq sqpoll base memory) ho
-    ∙ bound (fds_of objects (get (codes "fds") d)) fds (with_fds d entries cq sqpoll base memory objects) hf
-    ∙ bound (threads_of (rounded entries) (get (codes "threads") d)) threads (with_threads d entries cq sqpoll base memory objects fds) ht
-    ∙ bound (schedule_of (get (codes "schedule") d)) schedule (with_schedule d entries cq sqpoll base memory objects fds threads) hh
+    ∙ bound (flag_of key.SubmitAll (get (codes "submit_all") d)) submit_all (with_submit_all d entries cq sqpoll) ha
+    ∙ bound (base_of (get (codes "base") d)) base (with_base d entries cq sqpoll submit_all) hb
+    ∙ bound (memory_of (get (codes "memory") d)) memory (with_memory d entries cq sqpoll submit_all base) hm
+    ∙ bound (objects_of (get (codes "objects") d)) objects (with_objects d entries cq sqpoll submit_all base memory) ho
+    ∙ bound (fds_of objects (get (codes "fds") d)) fds (with_fds d entries cq sqpoll submit_all base memory objects) hf
+    ∙ bound (threads_of (rounded entries) (get (codes "threads") d)) threads (with_threads d entries cq sqpoll submit_all base memory objects fds) ht
+    ∙ bound (schedule_of (get (codes "schedule") d)) schedule (with_schedule d entries cq sqpoll submit_all base memory objects fds threads) hh

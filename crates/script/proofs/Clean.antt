@@ -21,7 +21,7 @@ use Rattle.script.specs.Objects.{object_form, is_small, object_in_range, object_
 use Rattle.script.specs.Numbers.{whole_of, between, number_between}
 use Rattle.script.specs.Instructions.{instruction_form, keeps_limits, instruction_in_range, instruction_at, thread_at}
 use Rattle.script.specs.Events.{event_form, event_in_range, event_at}
-use Rattle.script.proofs.Chain.{with_schedule, with_threads, with_fds, with_objects, with_memory, with_base, with_sqpoll, with_cq, with_entries, with_keys}
+use Rattle.script.proofs.Chain.{with_schedule, with_threads, with_fds, with_objects, with_memory, with_base, with_submit_all, with_sqpoll, with_cq, with_entries, with_keys}
 use Rattle.script.specs.Scripts.{Plan, is_script_key, entries_of, large_enough, cq_of, flag_of, base_of, threads_of, schedule_of, script_of, IsNoJson}
 
 abbrev Clean : {A : Type 0} → Result A ScriptFault → Type 0
@@ -137,12 +137,13 @@ script_clean d =
     bind_clean (entries_of (get (codes "entries") d)) (with_entries d) (entries_clean (get (codes "entries") d)) (λ entries.
     bind_clean (cq_of entries (get (codes "cq") d)) (with_cq d entries) (cq_clean entries (get (codes "cq") d)) (λ cq.
     bind_clean (flag_of key.Sqpoll (get (codes "sqpoll") d)) (with_sqpoll d entries cq) (flag_clean key.Sqpoll (get (codes "sqpoll") d)) (λ sqpoll.
-    bind_clean (base_of (get (codes "base") d)) (with_base d entries cq sqpoll) (base_clean (get (codes "base") d)) (λ base.
-    bind_clean (memory_of (get (codes "memory") d)) (with_memory d entries cq sqpoll base) (memory_clean (get (codes "memory") d)) (λ memory.
-    bind_clean (objects_of (get (codes "objects") d)) (with_objects d entries cq sqpoll base memory) (objects_clean (get (codes "objects") d)) (λ objects.
-    bind_clean (fds_of objects (get (codes "fds") d)) (with_fds d entries cq sqpoll base memory objects) (fds_clean objects (get (codes "fds") d)) (λ fds.
-    bind_clean (threads_of (rounded entries) (get (codes "threads") d)) (with_threads d entries cq sqpoll base memory objects fds) (threads_clean (rounded entries) (get (codes "threads") d)) (λ threads.
-    bind_clean (schedule_of (get (codes "schedule") d)) (with_schedule d entries cq sqpoll base memory objects fds threads) (schedule_clean (get (codes "schedule") d)) (λ schedule. tt))))))))))
+    bind_clean (flag_of key.SubmitAll (get (codes "submit_all") d)) (with_submit_all d entries cq sqpoll) (flag_clean key.SubmitAll (get (codes "submit_all") d)) (λ submit_all.
+    bind_clean (base_of (get (codes "base") d)) (with_base d entries cq sqpoll submit_all) (base_clean (get (codes "base") d)) (λ base.
+    bind_clean (memory_of (get (codes "memory") d)) (with_memory d entries cq sqpoll submit_all base) (memory_clean (get (codes "memory") d)) (λ memory.
+    bind_clean (objects_of (get (codes "objects") d)) (with_objects d entries cq sqpoll submit_all base memory) (objects_clean (get (codes "objects") d)) (λ objects.
+    bind_clean (fds_of objects (get (codes "fds") d)) (with_fds d entries cq sqpoll submit_all base memory objects) (fds_clean objects (get (codes "fds") d)) (λ fds.
+    bind_clean (threads_of (rounded entries) (get (codes "threads") d)) (with_threads d entries cq sqpoll submit_all base memory objects fds) (threads_clean (rounded entries) (get (codes "threads") d)) (λ threads.
+    bind_clean (schedule_of (get (codes "schedule") d)) (with_schedule d entries cq sqpoll submit_all base memory objects fds threads) (schedule_clean (get (codes "schedule") d)) (λ schedule. tt)))))))))))
 
 clean_is : {A : Type 0} → (r : Result A ScriptFault) → Clean r → r ≢ Err NotJson
 clean_is (Ok x) h e = absurd (cc)

@@ -31,7 +31,7 @@ pub record Plan : Type 0 where
 
 abbrev pub is_script_key : List ℕ → Bool
 is_script_key k =
-    bytes_eq k (codes "entries") || bytes_eq k (codes "cq") || bytes_eq k (codes "sqpoll") || bytes_eq k (codes "base") || bytes_eq k (codes "memory")
+    bytes_eq k (codes "entries") || bytes_eq k (codes "cq") || bytes_eq k (codes "sqpoll") || bytes_eq k (codes "submit_all") || bytes_eq k (codes "base") || bytes_eq k (codes "memory")
     || bytes_eq k (codes "objects") || bytes_eq k (codes "fds") || bytes_eq k (codes "threads") || bytes_eq k (codes "schedule")
 
 abbrev pub entries_of : Option Data → Result ℕ ScriptFault
@@ -67,6 +67,7 @@ script_of d = do
   entries ← entries_of (get (codes "entries") d)
   cq ← cq_of entries (get (codes "cq") d)
   sqpoll ← flag_of key.Sqpoll (get (codes "sqpoll") d)
+  submit_all ← flag_of key.SubmitAll (get (codes "submit_all") d)
   base ← base_of (get (codes "base") d)
   memory ← memory_of (get (codes "memory") d)
   objects ← objects_of (get (codes "objects") d)
@@ -78,7 +79,7 @@ script_of d = do
       entries = entries;
       cq = cq;
       sqpoll = sqpoll;
-      submit_all = false;
+      submit_all = submit_all;
       base = base;
       memory = memory;
       objects = objects;

@@ -67,7 +67,16 @@ fn is_script_key(key: &str) -> bool
 {
     matches!(
         key,
-        "entries" | "cq" | "sqpoll" | "base" | "memory" | "objects" | "fds" | "threads" | "schedule"
+        "entries"
+            | "cq"
+            | "sqpoll"
+            | "submit_all"
+            | "base"
+            | "memory"
+            | "objects"
+            | "fds"
+            | "threads"
+            | "schedule"
     )
 }
 

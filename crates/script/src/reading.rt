@@ -146,6 +146,7 @@ fn script_from(alloc: Global, value: &Value) -> Result<Script, ScriptFault>
     let entries = read_entries(value.get("entries"))?;
     let cq = read_cq(entries, value.get("cq"))?;
     let sqpoll = read_flag(Key::Sqpoll, value.get("sqpoll"))?;
+    let submit_all = read_flag(Key::SubmitAll, value.get("submit_all"))?;
     let base = read_base(value.get("base"))?;
     let memory = read_memory(alloc, value.get("memory"))?;
     let objects = read_objects(alloc, value.get("objects"))?;
@@ -156,7 +157,7 @@ fn script_from(alloc: Global, value: &Value) -> Result<Script, ScriptFault>
         entries,
         cq,
         sqpoll,
-        submit_all: false,
+        submit_all,
         base,
         memory,
         objects: objects.into_items(),
