@@ -1,5 +1,5 @@
 -- The table of all requests, and what is seen of it.
-use Rattle.std.specs.Prelude.{◌≡◌, ℕ, ◌+◌, ◌<◌, Bool, true, false, Option, Some, None, option_map, slice_get, List, length}
+use Rattle.std.specs.Prelude.{◌≡◌, ℕ, ◌+◌, Bool, true, false, Option, Some, None, option_map, slice_get, List, length}
 use Rattle.entries.specs.declared.entry.Sqe.{Sqe}
 use Rattle.entries.specs.declared.row.Row.{Row}
 use Rattle.entries.specs.declared.row.Phase.TheVariants.{Queued}
@@ -19,9 +19,13 @@ abbrev pub table_seen : List Row → View
 table_seen rows (Request i) = option_map Requested (slice_get rows i)
 table_seen rows _ = None
 
--- A row can be written over, and the last one taken out.
+-- what of a row never changes
+abbrev pub fixed_of : Row → Sqe × ℕ
+fixed_of row = (row.entry, row.unit)
+
+-- A row can be written over by one of the same entry and unit, and the last one taken out.
 abbrev pub table_can_put : List Row → Place → Option Value → Type 0
-table_can_put rows (Request i) (Some (Requested row)) = i < length rows
+table_can_put rows (Request i) (Some (Requested row)) = option_map fixed_of (slice_get rows i) ≡ Some (fixed_of row)
 table_can_put rows (Request i) None = i + 1 ≡ length rows
 table_can_put rows place value = ⊥
 
