@@ -1,5 +1,5 @@
 -- How far a batch of entries has been taken.
-use Rattle.std.proofs.Common.{◌≡◌, ℕ, zero, suc, Bool, true, false, not, cond, refl, sym, ◌∙◌, ap, List, [], ◌∷◌, ◌++◌, take, length, ◌<◌, ◌≤◌, ◌+◌, ◌⊎◌, inl, inr, ◌-◌, drop, append_assoc, length-append, get_or, map, arith}
+use Rattle.std.proofs.Common.{◌≡◌, ℕ, zero, suc, Bool, true, false, not, cond, refl, sym, ◌∙◌, ap, List, [], ◌∷◌, ◌++◌, take, length, ◌<◌, ◌≤◌, ◌+◌, ◌⊎◌, inl, inr, ◌-◌, drop, append_assoc, length-append, get_or, map, subst, arith}
 use Rattle.std.specs.Prelude.{Option, Some, None, option_map, is_ok, Result, Ok, Err, slice_get, ◌==◌}
 use Rattle.std.specs.Option.{option_map_or}
 use Rattle.std.specs.Result.{result_err}
@@ -18,9 +18,10 @@ use Rattle.places.specs.View.{Keeps, named}
 use Rattle.places.proofs.Keeping.{keeps_same, keeps_then}
 use Rattle.places.proofs.ListLemmas.{same_list, slice_get-push, slice_get-take_below, slice_get-take_above}
 use Rattle.links_drains.specs.Batches.{passes, up_to_failure, chain_of, rows_of}
-use Rattle.links_drains.specs.Links.{is_linked}
+use Rattle.links_drains.specs.Links.{is_linked, GoesOn}
 use Rattle.links_drains.specs.Rows.{table_owns, table_seen, new_row}
 use Rattle.links_drains.proofs.Chains.{get-batch}
+use Rattle.links_drains.proofs.RowsKept.{length-push, get-pushed}
 
 -- ---- the entries up to the first that fails
 
@@ -114,10 +115,15 @@ rows_more first es i e g = same_list _ _ (λ j. at j (cases_lt j i) ∙ sym (sli
         ∙ sym (ap (λ b. cond b (Some last) (slice_get (rows_of first (take i es)) j)) (ne_eqb _ j (λ k. absurd (omega (arith, k, len, less)))))
     at j (inr le) = late j (cases_eq i j) le
 
+-- The last row is of a unit.
+abbrev LastOf : List Row → ℕ → Type 0
+LastOf rows unit = (last : Row) × (k : ℕ) × (k + 1 ≡ length rows) × (slice_get rows k ≡ Some last) × (unit ≡ last.unit)
+
 -- The first i entries have become rows. The next is in the unit, or begins one.
 pub record Adding (before now : List Row) (old new : Notes) (entries : List Sqe) (i unit : ℕ) (begins : Bool) : Type 0 where
   pub rows : now ≡ before ++ rows_of (length before) (take i entries)
   pub next_unit : cond begins (length before + i) unit ≡ length before + chain_of entries i
+  pub last : (begins ≡ true) ⊎ LastOf now unit
   pub keeps : Keeps table_owns (table_seen before) (table_seen now) old.made new.made
   pub names : (p : Place) → named new.made p ≡ None → named old.made p ≡ None
   pub numbers : old.numbers ≤ new.numbers
@@ -128,6 +134,15 @@ count_added before now old new es i unit begins t h =
     ap length t.rows ∙ length-append before (rows_of (length before) (take i es))
     ∙ ap (λ n. length before + n) (length-rows_of (length before) (take i es) ∙ length-take-le i es h)
 
+-- the next row begins a unit, or is of the last row's
+pub next_goes_on : (before now : List Row) (old new : Notes) (es : List Sqe) (i unit here : ℕ) (begins : Bool) (row : Row) → Adding before now old new es i unit begins → here ≡ cond begins (length now) unit → row.unit ≡ here → GoesOn now row
+next_goes_on before now old new es i unit here begins row t u e = by begins t.last (e ∙ u)
+  where
+    by : (b : Bool) → (b ≡ true) ⊎ LastOf now unit → row.unit ≡ cond b (length now) unit → GoesOn now row
+    by true l k = inl k
+    by false (inl l) k = absurd cc
+    by false (inr l) k = inr (l.0, l.1, l.2, l.3, k ∙ l.4)
+
 -- one row more
 pub adding_on : (before now later : List Row) (old new newer : Notes) (es : List Sqe) (i unit here : ℕ) (begins : Bool) (e : Sqe) → Adding before now old new es i unit begins → slice_get es i ≡ Some e
     → here ≡ cond begins (length now) unit → later ≡ now ++ new_row e here ∷ [] → Keeps table_owns (table_seen now) (table_seen later) new.made newer.made → ((p : Place) → named newer.made p ≡ None → named new.made p ≡ None)
@@ -136,6 +151,7 @@ adding_on before now later old new newer es i unit here begins e t g u h k names
   rows = h ∙ ap (λ rs. rs ++ new_row e here ∷ []) t.rows ∙ append_assoc before (rows_of (length before) (take i es)) (new_row e here ∷ [])
       ∙ ap (λ n. before ++ (rows_of (length before) (take i es) ++ new_row e n ∷ [])) unit_is ∙ ap (λ rs. before ++ rs) (sym (rows_more (length before) es i e g));
   next_unit = next (is_linked e) refl;
+  last = inr (subst (λ rs. LastOf rs here) (sym h) (new_row e here, length now, sym (length-push now (new_row e here)), get-pushed now (new_row e here), refl));
   keeps = keeps_then table_owns (table_seen before) (table_seen now) (table_seen later) old.made new.made newer.made t.keeps k;
   names = λ p n. t.names p (names p n);
   numbers = let n = t.numbers in omega (arith, n, numbers);
@@ -163,6 +179,7 @@ pub adding_none : (before : List Row) (notes : Notes) (es : List Sqe) (unit : �
 adding_none before notes es unit = record {
   rows = sym (append-nil before);
   next_unit = refl;
+  last = inl refl;
   keeps = keeps_same table_owns (table_seen before) notes.made;
   names = λ p n. n;
   numbers = omega arith;

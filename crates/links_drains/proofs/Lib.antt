@@ -5,6 +5,7 @@ pub mod Counting
 pub mod DirectPairs
 pub mod Eligibility
 pub mod FailingRows
+pub mod Fixed
 pub mod Indexing
 pub mod Listing
 pub mod Numbers

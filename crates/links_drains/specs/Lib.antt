@@ -7,4 +7,5 @@ pub mod Links
 pub mod Phases
 pub mod Rows
 pub mod Sets
+pub mod Tables
 pub mod Units

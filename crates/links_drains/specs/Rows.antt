@@ -27,7 +27,7 @@ fixed_of row = (row.entry, row.unit)
 abbrev pub Stay : List Row → List Row → Type 0
 Stay rows next = (r : ℕ) → r < length rows → option_map fixed_of (slice_get next r) ≡ option_map fixed_of (slice_get rows r)
 
--- A row of the same entry and unit can be written over one, and the last one taken out.
+-- A row can be written over by one of the same entry and unit, and the last one taken out.
 abbrev pub table_can_put : List Row → Place → Option Value → Type 0
 table_can_put rows (Request i) (Some (Requested row)) = option_map fixed_of (slice_get rows i) ≡ Some (fixed_of row)
 table_can_put rows (Request i) None = i + 1 ≡ length rows

@@ -1,5 +1,5 @@
 //! The table of all rows that were ever submitted.
-ghost use Rattle.std.specs.Prelude.{◌≡◌, ℕ, ◌+◌, ◌<◌, ◌≤◌, ◌^◌, ◌++◌, ◌∷◌, [], take, None, IfOk, OnOk, OnErr, OnSome, length, map, option_map, slice_get, slice_set};
+ghost use Rattle.std.specs.Prelude.{◌≡◌, ℕ, ◌+◌, ◌<◌, ◌≤◌, ◌^◌, ◌++◌, ◌∷◌, [], take, map, Some, None, IfOk, OnOk, OnErr, OnSome, length, option_map, slice_get, slice_set};
 ghost use Rattle.entries.specs.declared.row.Row.{Row};
 ghost use Rattle.entries.specs.declared.row.Phase.TheVariants.{Issued};
 ghost use Rattle.places.specs.Lists.{updated};
@@ -8,9 +8,11 @@ ghost use Rattle.places.specs.declared.place.Place.{Place};
 ghost use Rattle.model_files.specs.Holders.{is_held};
 ghost use Rattle.links_drains.specs.Eligible.{is_eligible, GuardsFollow};
 ghost use Rattle.links_drains.specs.Holding.{is_held_by};
+ghost use Rattle.links_drains.specs.Links.{GoesOn};
 ghost use Rattle.links_drains.specs.Rows.{fixed_of, table_owns, table_seen, table_can_put, new_row as new_row_of};
 
 use crate::holding::{count, take_all_off, take_off};
+use crate::index::Index;
 use entries::{Phase, Row, Sqe};
 use model_files::Held;
 use places::{At, Part, Place, Recorder, Value};
@@ -23,6 +25,8 @@ pub struct Table {
     rows: Vec<Row>,
     /// Which descriptors the issued rows hold.
     held: Held,
+    /// Which rows others wait for.
+    index: Index,
 }
 
 impl Model for Table {
@@ -33,9 +37,9 @@ impl Model for Table {
 
     ghost view = { λ a. a.rows.items };
 
-    ghost use Rattle.links_drains.specs.Holding.{Tallied};
+    ghost use Rattle.links_drains.specs.Tables.{Formed};
 
-    ghost invariant = { λ a. Tallied a.rows.items a.held };
+    ghost invariant = { λ a. Formed a.rows.items a.held a.index };
 }
 
 impl At for Table {
@@ -60,6 +64,7 @@ impl Part for Table {
     fn put(&mut self, place: Place, value: Option<Value>)
         requires { table_can_put self.old place value }
         ensures put { (q : Place) → table_seen self.new q ≡ put_at (table_seen self.old) place value q }
+        ensures len { OnSome value (length self.new ≡ length self.old) }
         ensures fixed { OnSome value (map fixed_of self.new ≡ map fixed_of self.old) }
     {
         match (place, value) {
@@ -78,6 +83,7 @@ impl Table {
         Table {
             rows: Vec::new(alloc),
             held: Held::new(),
+            index: Index::new(alloc),
         }
     }
 
@@ -137,14 +143,6 @@ impl Table {
         }
     }
 
-    /// Whether a row may be issued. It takes constant time.
-    pub fn is_eligible(&self, r: u32) -> bool
-        requires { GuardsFollow self.now }
-        ensures { result ≡ is_eligible self.now r }
-    {
-        false
-    }
-
     /// Which descriptors issued rows hold. It takes constant time.
     pub fn held(&self) -> &Held
         ensures { (fd : ℕ) → is_held result.now fd ≡ is_held_by self.now fd }
@@ -152,9 +150,18 @@ impl Table {
         &self.held
     }
 
+    /// Whether a row may be issued. It takes constant time.
+    pub fn is_eligible(&self, r: usize) -> bool
+        requires guards { GuardsFollow self.now }
+        ensures { result ≡ is_eligible self.now r }
+    {
+        self.index.is_eligible(&self.rows, r)
+    }
+
     /// Adds a row behind the others.
     pub fn push(&mut self, row: Row, notes: &mut Recorder) -> Result<(), AllocError>
-        requires { length self.old < 65536 }
+        requires room { length self.old < 65536 }
+        requires goes_on { GoesOn self.old row }
         ensures ok { OnOk result (self.new ≡ self.old ++ row ∷ []) }
         ensures err { OnErr result (self.new ≡ self.old) }
         ensures len { OnOk result (length self.new ≡ length self.old + 1) }
@@ -164,10 +171,13 @@ impl Table {
         ensures completions { notes.old.completions ≤ notes.new.completions }
         ensures others { notes.old.others ≤ notes.new.others + 1 }
     {
+        let r = self.rows.len();
         self.rows.reserve(1)?;
-        notes.note_row(self.rows.len() as u32, None)?;
+        self.index.make_room(&self.rows)?;
+        notes.note_row(r as u32, None)?;
         self.rows.push(row)?;
         count(&mut self.held, &row);
+        self.index.update(&self.rows, r);
         Ok(())
     }
 
@@ -224,12 +234,13 @@ impl Table {
 
     /// Writes a row over the one of a number.
     fn set(&mut self, r: usize, after: Row)
-        requires { r < length self.old }
+        requires { option_map fixed_of (slice_get self.old r) ≡ Some (fixed_of after) }
         ensures { self.new ≡ slice_set self.old r after }
     {
         take_off(&mut self.held, &self.rows[r]);
         count(&mut self.held, &after);
         self.rows[r] = after;
+        self.index.update(&self.rows, r);
     }
 
     /// Drops the rows from a number on. It takes no memory, and time by the rows that it drops.
@@ -238,6 +249,7 @@ impl Table {
     {
         if n < self.rows.len() {
             take_all_off(&mut self.held, &self.rows[n..]);
+            self.index.cut(&self.rows, n);
             self.rows.truncate(n);
         }
     }
@@ -249,6 +261,7 @@ impl Table {
         Ok(Table {
             rows: Vec::from_slice(alloc, &self.rows)?,
             held: self.held,
+            index: self.index.copy(alloc)?,
         })
     }
 }

@@ -1,5 +1,5 @@
 use Rattle.std.proofs.Common.{◌≡◌, ◌∙◌, ◌++◌, ◌∷◌, [], sym, ap, length, cond, arith}
-use Rattle.links_drains.proofs.Batching.{element, count_added, adding_on}
+use Rattle.links_drains.proofs.Batching.{element, count_added, next_goes_on, adding_on}
 use Rattle.links_drains.proofs.table.Table.add_rows.Goals as goal
 use Rattle.links_drains.proofs.table.Table.add_rows.Goals.{then-begins, else-begins}
 
@@ -11,7 +11,15 @@ overflow_cast-unit c =
 pub push-requires : goal.push-requires
 push-requires c =
     let n = count_added _ _ _ _ _ _ _ _ c.loop-entry.invariant c.loop-entry.auto.entry-index-end in
-    omega (arith, n, c.requires, c.loop-entry-test.true)
+    let unit : c.if-begins.unit ≡ cond c.loop-entry.begins (length c.loop-entry.self) c.loop-entry.unit = elim c.if-begins.branch [
+      | then-begins w ↦ w.unit-is ∙ w.len-unit.ensures.len ∙ sym (ap (λ b. cond b (length c.loop-entry.self) c.loop-entry.unit) w.if-begins.true)
+      | else-begins w ↦ w.unit-is ∙ sym (ap (λ b. cond b (length c.loop-entry.self) c.loop-entry.unit) w.if-begins.false)
+    ] in
+    record {
+      room = omega (arith, n, c.requires, c.loop-entry-test.true);
+      goes_on = next_goes_on c.args.self.now c.loop-entry.self c.args.notes.now c.loop-entry.notes c.args.entries.now c.loop-entry.entry-index c.loop-entry.unit c.if-begins.unit c.loop-entry.begins c.new_row.result
+          c.loop-entry.invariant unit (ap (λ row. row.unit) c.new_row.ensures);
+    }
 
 pub loop-entry-preserved : goal.loop-entry-preserved
 loop-entry-preserved c =

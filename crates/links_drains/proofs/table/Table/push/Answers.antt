@@ -1,24 +1,40 @@
-use Rattle.std.proofs.Common.{◌≡◌, refl, ◌∙◌, ap, length, arith}
+use Rattle.std.proofs.Common.{◌≡◌, refl, ◌∙◌, ap, length, [], ◌∷◌, ◌++◌, arith}
 use Rattle.std.specs.Prelude.{None, option_map, slice_get}
 use Rattle.std.proofs.lemmas.Option.{slice_get_past}
 use Rattle.places.specs.declared.value.Value.TheVariants.{Requested}
 use Rattle.places.proofs.Keeping.{keeps_noted}
+use Rattle.links_drains.proofs.Indexing.{indexed_push}
+use Rattle.links_drains.proofs.RowsKept.{get-pushed}
 use Rattle.links_drains.proofs.Seen.{seen_push}
 use Rattle.links_drains.proofs.Tallying.{room, tallied_push}
 use Rattle.links_drains.proofs.table.Table.push.Goals as goal
 
 pub count-requires : goal.count-requires
-count-requires c = room _ _ c.self.invariant
+count-requires c = room _ _ c.self.invariant.tallied
+
+pub update-requires : goal.update-requires
+update-requires c =
+    let before = c.deref.ensures.value ∙ c.in_ok-reserve.ensures.items in
+    let after = c.deref-2.ensures.value ∙ c.in_ok-push.ensures.items ∙ ap (λ rows. rows ++ c.args.row ∷ []) c.in_ok-reserve.ensures.items in
+    let count : c.len-r.result ≡ length c.self.inside.rows.items = c.len-r.ensures ∙ c.self.inside.rows.ok.0 in
+    let made = rw before at c.in_ok-make_room.ensures.ok in
+    let indexed = rw before at c.in_ok-make_room.ensures.indexed in
+    let on = rw (← c.self.view_is) at c.requires.goes_on in
+    rw (after, count) (c.args.row, get-pushed c.self.inside.rows.items c.args.row, indexed_push c.self.inside.rows.items c.make_room.new.self c.args.row indexed made on)
 
 pub invariant_of-self-2 : goal.invariant_of-self-2
 invariant_of-self-2 c =
-    let few = rw (← c.self.view_is) at c.requires in
-    rw (c.in_ok-push.ensures.items, c.in_ok-reserve.ensures.items) (tallied_push _ _ _ _ c.self.invariant few c.count.ensures)
+    let few = rw (← c.self.view_is) at c.requires.room in
+    let after = c.deref-2.ensures.value ∙ c.in_ok-push.ensures.items ∙ ap (λ rows. rows ++ c.args.row ∷ []) c.in_ok-reserve.ensures.items in
+    rw (c.in_ok-push.ensures.items, c.in_ok-reserve.ensures.items) (record {
+      tallied = tallied_push _ _ _ _ c.self.invariant.tallied few c.count.ensures;
+      indexed = rw after at c.update.ensures;
+    })
 
 pub returns-clause-keeps : goal.returns-clause-keeps
 returns-clause-keeps c =
     let items = c.in_ok-reserve.ensures.items in
-    let count : c.len.result ≡ length c.self.inside.rows.items = c.len.ensures ∙ c.in_ok-reserve.ensures.len ∙ c.self.inside.rows.ok.0 in
+    let count : c.len-r.result ≡ length c.self.inside.rows.items = c.len-r.ensures ∙ c.self.inside.rows.ok.0 in
     let absent : option_map Requested (slice_get c.self.inside.rows.items (length c.self.inside.rows.items)) ≡ None = ap (option_map Requested) (slice_get_past c.self.inside.rows.items (length c.self.inside.rows.items) (omega arith)) in
     let noted = rw count at c.in_ok-note_row.ensures.ok in
     rw (← c.self.view_is, c.in_ok-push.ensures.items, items) (keeps_noted _ _ _ _ _ _ _ refl (rw absent noted) (seen_push _ _))

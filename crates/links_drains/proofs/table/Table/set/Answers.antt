@@ -1,17 +1,42 @@
-use Rattle.std.proofs.Common.{refl}
+use Rattle.std.proofs.Common.{refl, length}
 use Rattle.std.proofs.lemmas.Option.{slice_get_read}
+use Rattle.places.proofs.ListLemmas.{slice_get-set_same}
+use Rattle.links_drains.proofs.Fixed.{fixed_at, fixed_within, same_unit}
+use Rattle.links_drains.proofs.Indexing.{indexed_set}
 use Rattle.links_drains.proofs.Tallying.{room_less, counts_row, tallied_set}
 use Rattle.links_drains.proofs.table.Table.set.Goals as goal
 
+pub index-requires : goal.index-requires
+index-requires c =
+    let fixed = rw (← c.self.view_is) at c.requires in
+    rw c.self.inside.rows.ok.0 (fixed_within c.self.inside.rows.items c.args.r c.args.after fixed)
+
 pub take_off-requires : goal.take_off-requires
 take_off-requires c =
-    let r = rw (← c.self.view_is) at c.requires in
-    counts_row _ _ _ _ c.self.invariant (slice_get_read _ _ _ _ refl r c.index.ensures)
+    let fixed = rw (← c.self.view_is) at c.requires in
+    let within = fixed_within c.self.inside.rows.items c.args.r c.args.after fixed in
+    counts_row c.self.inside.rows.items c.self.inside.held c.args.r c.index.result.now c.self.invariant.tallied (slice_get_read c.self.inside.rows.items (length c.self.inside.rows.items) c.args.r c.index.result.now refl within c.index.ensures)
 
 pub count-requires : goal.count-requires
-count-requires c = room_less c.self.inside.rows.items c.self.inside.held c.take_off.new.held c.index.result.now c.self.invariant c.take_off.ensures
+count-requires c = room_less c.self.inside.rows.items c.self.inside.held c.take_off.new.held c.index.result.now c.self.invariant.tallied c.take_off.ensures
+
+pub update-requires : goal.update-requires
+update-requires c =
+    let fixed = rw (← c.self.view_is) at c.requires in
+    let within = fixed_within c.self.inside.rows.items c.args.r c.args.after fixed in
+    let f = fixed_at c.self.inside.rows.items c.args.r c.args.after fixed in
+    rw c.deref.ensures.value (
+      c.args.after,
+      slice_get-set_same c.self.inside.rows.items c.args.r c.args.after within,
+      indexed_set c.self.inside.rows.items c.self.inside.index c.args.r f.before c.args.after c.self.invariant.indexed f.there (same_unit c.args.after f.before f.same),
+    )
 
 pub invariant_of-self : goal.invariant_of-self
 invariant_of-self c =
-    let r = rw (← c.self.view_is) at c.requires in
-    tallied_set _ _ _ _ _ _ _ c.self.invariant (slice_get_read _ _ _ _ refl r c.index.ensures) c.take_off.ensures c.count.ensures
+    let fixed = rw (← c.self.view_is) at c.requires in
+    let within = fixed_within c.self.inside.rows.items c.args.r c.args.after fixed in
+    record {
+      tallied = tallied_set c.self.inside.rows.items c.self.inside.held c.take_off.new.held c.count.new.held c.args.r c.index.result.now c.args.after c.self.invariant.tallied
+          (slice_get_read c.self.inside.rows.items (length c.self.inside.rows.items) c.args.r c.index.result.now refl within c.index.ensures) c.take_off.ensures c.count.ensures;
+      indexed = rw c.deref.ensures.value at c.update.ensures;
+    }

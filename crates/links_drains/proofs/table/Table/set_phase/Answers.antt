@@ -1,9 +1,15 @@
-use Rattle.std.proofs.Common.{refl, sym, ◌∙◌}
+use Rattle.std.proofs.Common.{refl, sym, ◌∙◌, length}
 use Rattle.std.proofs.lemmas.Option.{slice_get_read}
 use Rattle.places.proofs.ListLemmas.{updated_set}
 use Rattle.places.proofs.Keeping.{keeps_noted}
+use Rattle.links_drains.proofs.Fixed.{fixed_here}
 use Rattle.links_drains.proofs.Seen.{seen_row}
 use Rattle.links_drains.proofs.table.Table.set_phase.Goals as goal
+
+pub set-requires : goal.set-requires
+set-requires c =
+    let r = rw (← c.self.view_is) at c.requires in
+    rw (← c.self.view_is) (fixed_here c.self.inside.rows.items c.args.r c.index-row.result.now (slice_get_read c.self.inside.rows.items (length c.self.inside.rows.items) c.args.r c.index-row.result.now refl r c.index-row.ensures))
 
 pub returns-clause-ok : goal.returns-clause-ok
 returns-clause-ok c =

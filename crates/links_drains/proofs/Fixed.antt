@@ -1,0 +1,33 @@
+-- What of a row never changes.
+use Rattle.std.proofs.Common.{◌≡◌, ℕ, refl, sym, ap, List, map, length, ◌<◌}
+use Rattle.std.specs.Prelude.{Option, Some, None, option_map, slice_get, slice_set}
+use Rattle.std.proofs.lemmas.Option.{slice_get_within}
+use Rattle.entries.specs.declared.entry.Sqe.{Sqe}
+use Rattle.entries.specs.declared.row.Row.{Row}
+use Rattle.places.proofs.ListLemmas.{map_same}
+use Rattle.links_drains.specs.Rows.{fixed_of}
+
+-- a row that can be written over
+pub record Fixed (rows : List Row) (i : ℕ) (row : Row) : Type 0 where
+  pub before : Row
+  pub there : slice_get rows i ≡ Some before
+  pub same : fixed_of row ≡ fixed_of before
+
+pub fixed_at : (rows : List Row) (i : ℕ) (row : Row) → option_map fixed_of (slice_get rows i) ≡ Some (fixed_of row) → Fixed rows i row
+fixed_at rows i row h = by (slice_get rows i) refl h
+  where
+    by : (o : Option Row) → slice_get rows i ≡ o → option_map fixed_of o ≡ Some (fixed_of row) → Fixed rows i row
+    by None e k = absurd cc
+    by (Some before) e k = record { before = before; there = e; same = let m : fixed_of before ≡ fixed_of row = cc in sym m }
+
+pub fixed_within : (rows : List Row) (i : ℕ) (row : Row) → option_map fixed_of (slice_get rows i) ≡ Some (fixed_of row) → i < length rows
+fixed_within rows i row h = let f = fixed_at rows i row h in slice_get_within rows i f.before f.there
+
+pub same_unit : (row before : Row) → fixed_of row ≡ fixed_of before → row.unit ≡ before.unit
+same_unit row before h = ap (λ (p : Sqe × ℕ). p.1) h
+
+pub fixed_here : (rows : List Row) (i : ℕ) (before : Row) → slice_get rows i ≡ Some before → option_map fixed_of (slice_get rows i) ≡ Some (fixed_of before)
+fixed_here rows i before h = ap (option_map fixed_of) h
+
+pub fixed_all : (rows : List Row) (i : ℕ) (row : Row) → option_map fixed_of (slice_get rows i) ≡ Some (fixed_of row) → map fixed_of (slice_set rows i row) ≡ map fixed_of rows
+fixed_all rows i row h = let f = fixed_at rows i row h in map_same fixed_of rows i f.before row f.there f.same

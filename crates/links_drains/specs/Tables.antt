@@ -1,0 +1,11 @@
+-- What stands beside the rows of a table.
+use Rattle.std.specs.Prelude.{List}
+use Rattle.entries.specs.declared.row.Row.{Row}
+use Rattle.model_files.specs.declared.held.Held.{Held}
+use Rattle.links_drains.specs.Holding.{Tallied}
+use Rattle.links_drains.specs.Indexes.{Indexed}
+use Rattle.links_drains.specs.declared.index.Index.{Index}
+
+pub record Formed (rows : List Row) (held : Held) (index : Index) : Type 0 where
+  pub tallied : Tallied rows held
+  pub indexed : Indexed rows index
