@@ -153,7 +153,7 @@ threads_stand s a w t x h = by (slice_get s.threads t) refl (sym (slice_get-map 
     all = (both_true (leb (length s.threads) 16) (list_all (is_program (rounded s.entries)) s.threads) a.programs).1
 
     built : list_any (list_any is_unbuilt) s.threads ≡ false
-    built = (both_false (s.submit_all || list_any is_unbuilt_object s.objects) (list_any (list_any is_unbuilt) s.threads) a.built).1
+    built = (both_false (list_any is_unbuilt_object s.objects) (list_any (list_any is_unbuilt) s.threads) a.built).1
 
     by : (o : Option (List Instruction)) → slice_get s.threads t ≡ o → option_map thread_start o ≡ Some x → Stands (rounded s.entries) x
     by None g k = absurd cc

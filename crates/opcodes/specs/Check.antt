@@ -9,9 +9,9 @@ use Rattle.opcodes.specs.declared.op.Op.TheVariants.{Nop, Fsync, Read, Write}
 abbrev pub invalid : Result Op ℤ
 invalid = Err (negsuc 21)
 
--- every entry flag but IOSQE_ASYNC, which is 16
+-- every entry flag but IOSQE_IO_DRAIN, which is 2, IOSQE_IO_LINK, 4, IOSQE_IO_HARDLINK, 8, and IOSQE_ASYNC, 16
 abbrev pub refused_flags : ℕ
-refused_flags = 239
+refused_flags = 225
 
 -- the opcodes that are supported
 abbrev pub op_of : ℕ → Option Op

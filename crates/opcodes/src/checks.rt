@@ -6,8 +6,8 @@ use crate::errno::EINVAL;
 use crate::op::Op;
 use entries::Sqe;
 
-/// The entry flags that may stand: IOSQE_ASYNC, which changes nothing.
-const ALLOWED_FLAGS: u8 = 16;
+/// The entry flags that may stand: IOSQE_IO_DRAIN, IOSQE_IO_LINK, IOSQE_IO_HARDLINK, and IOSQE_ASYNC, which changes nothing.
+const ALLOWED_FLAGS: u8 = 30;
 
 /// What stands before an entry.
 #[derive(Clone, Copy, Debug)]
@@ -72,7 +72,9 @@ mod tests {
             (0, 16, Ok(Op::Nop)),
             (0, 1, Err(-22)),
             (0, 128, Err(-22)),
-            (0, 20, Err(-22)),
+            (0, 30, Ok(Op::Nop)),
+            (0, 32, Err(-22)),
+            (0, 64, Err(-22)),
             (1, 0, Err(-22)),
             (255, 16, Err(-22)),
         ];

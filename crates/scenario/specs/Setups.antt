@@ -95,7 +95,7 @@ is_descriptor objects d = option_map_or (λ (o : Object). is_end o.contents d.en
 abbrev pub has_descriptors : Setup → Bool
 has_descriptors s = nat_le (length s.fds) 64 && list_all (is_descriptor s.objects) s.fds
 
--- ---- parts that aren't built yet: submission past a failing entry, pipes, eventfds and Close
+-- ---- parts that aren't built yet: pipes, eventfds and Close
 
 abbrev pub is_unbuilt : Instruction → Bool
 is_unbuilt (Close fd) = true
@@ -110,7 +110,7 @@ abbrev pub is_unbuilt_object : Object → Bool
 is_unbuilt_object o = is_unbuilt_contents o.contents
 
 abbrev pub asks_for_unbuilt : Setup → Bool
-asks_for_unbuilt s = s.submit_all || list_any is_unbuilt_object s.objects || list_any (list_any is_unbuilt) s.threads
+asks_for_unbuilt s = list_any is_unbuilt_object s.objects || list_any (list_any is_unbuilt) s.threads
 
 -- ---- the whole
 

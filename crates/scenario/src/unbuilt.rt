@@ -6,13 +6,11 @@ ghost use Rattle.scenario.specs.Setups.{is_unbuilt, is_unbuilt_contents, is_unbu
 use crate::setup::{Instruction, Setup};
 use places::{Contents, Items, Object};
 
-/// Whether a setup asks for submission past a failing entry, a pipe, an eventfd or a Close.
+/// Whether a setup asks for a pipe, an eventfd or a Close.
 pub(crate) fn asks_for_unbuilt(setup: &Setup) -> bool
     ensures { result ≡ asks_for_unbuilt setup.now }
 {
-    setup.submit_all
-        || have_unbuilt_objects(setup.objects.as_slice())
-        || have_unbuilt(setup.threads.as_slice())
+    have_unbuilt_objects(setup.objects.as_slice()) || have_unbuilt(setup.threads.as_slice())
 }
 
 fn have_unbuilt_objects(objects: &[Object]) -> bool

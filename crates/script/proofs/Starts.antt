@@ -170,12 +170,12 @@ fds_ok os d fds h =
 
 -- ---- the whole
 
-abbrev setup_of : ℕ → Option ℕ → Bool → ℕ → List ℕ → List Object → List Descriptor → List (List Instruction) → Setup
-setup_of entries cq sqpoll base memory objects fds threads = record {
+abbrev setup_of : ℕ → Option ℕ → Bool → Bool → ℕ → List ℕ → List Object → List Descriptor → List (List Instruction) → Setup
+setup_of entries cq sqpoll submit_all base memory objects fds threads = record {
   entries = entries;
   cq = cq;
   sqpoll = sqpoll;
-  submit_all = false;
+  submit_all = submit_all;
   base = base;
   memory = memory;
   objects = objects;
@@ -183,26 +183,26 @@ setup_of entries cq sqpoll base memory objects fds threads = record {
   threads = threads;
 }
 
-starts : (entries : ℕ) (cq : Option ℕ) (sqpoll : Bool) (base : ℕ) (memory : List ℕ) (os : List Object) (fds : List Descriptor) (ts : List (List Instruction))
+starts : (entries : ℕ) (cq : Option ℕ) (sqpoll submit_all : Bool) (base : ℕ) (memory : List ℕ) (os : List Object) (fds : List Descriptor) (ts : List (List Instruction))
     → is_between 1 4096 entries ≡ true → is_completion_size entries cq ≡ true → length memory ≤ 65536 → AreFew os → length fds ≤ 64 → list_all (is_descriptor os) fds ≡ true → AreBuilt (rounded entries) ts
-    → setup_refusal (setup_of entries cq sqpoll base memory os fds ts) ≡ None
-starts entries cq sqpoll base memory os fds ts e q m o l f b =
+    → setup_refusal (setup_of entries cq sqpoll submit_all base memory os fds ts) ≡ None
+starts entries cq sqpoll submit_all base memory os fds ts e q m o l f b =
     let small = le_true (length memory) 65536 m in
     let few_objects = le_true (length os) 32 o.few in
     let few_fds = le_true (length fds) 64 l in
     let few = le_true (length ts) 16 b.few in
     rw (e, q, small, few_objects, o.objects.each, o.objects.once, few_fds, f, few, b.programs, o.objects.built, b.built) refl
 
-pub startable : (d1 d2 d3 d4 d5 d6 d7 : Option Data) (entries size : ℕ) (cq : Option ℕ) (sqpoll : Bool) (base : ℕ) (memory : List ℕ) (os : List Object) (fds : List Descriptor) (ts : List (List Instruction)) (es : List Event)
+pub startable : (d1 d2 d3 d4 d5 d6 d7 : Option Data) (entries size : ℕ) (cq : Option ℕ) (sqpoll submit_all : Bool) (base : ℕ) (memory : List ℕ) (os : List Object) (fds : List Descriptor) (ts : List (List Instruction)) (es : List Event)
     → Ok entries ≡ entries_of d1 → Ok cq ≡ cq_of entries d2 → memory_of d3 ≡ Ok memory → objects_of d4 ≡ Ok os → fds_of os d5 ≡ Ok fds → size ≡ rounded entries → threads_of size d6 ≡ Ok ts → schedule_of d7 ≡ Ok es
-    → Startable (record { setup = setup_of entries cq sqpoll base memory os fds ts; schedule = es })
-startable d1 d2 d3 d4 d5 d6 d7 entries size cq sqpoll base memory os fds ts es e q m o f s t h =
+    → Startable (record { setup = setup_of entries cq sqpoll submit_all base memory os fds ts; schedule = es })
+startable d1 d2 d3 d4 d5 d6 d7 entries size cq sqpoll submit_all base memory os fds ts es e q m o f s t h =
     let built = threads_built (rounded entries) d6 ts (ap (λ n. threads_of n d6) (sym s) ∙ t) in
     let events = schedule_ok d7 es h in
     let l = memory_length d3 memory m in
     let ends = fds_ok os d5 fds f in
     record {
-      setup = starts entries cq sqpoll base memory os fds ts (entries_ok d1 entries (sym e)) (cq_ok entries d2 cq (sym q)) (omega (arith, l)) (objects_ok d4 os o) ends.0 ends.1 built;
+      setup = starts entries cq sqpoll submit_all base memory os fds ts (entries_ok d1 entries (sym e)) (cq_ok entries d2 cq (sym q)) (omega (arith, l)) (objects_ok d4 os o) ends.0 ends.1 built;
       events = events.0;
       transfers = events.1;
     }
