@@ -47,4 +47,4 @@ stood_there rows now i x e h = sym (slice_get-map fixed_of now i) ∙ ap (λ fs.
 
 -- as many rows
 pub as_many : (rows now : List Row) → map fixed_of rows ≡ map fixed_of now → length rows ≡ length now
-as_many rows now e = sym (length-map fixed_of rows) ∙ ap length e ∙ length-map fixed_of now
+as_many rows now e = simp length-map at (ap length e)

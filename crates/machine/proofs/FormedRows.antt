@@ -2,8 +2,6 @@
 use Rattle.std.proofs.Common.{◌≡◌, ℕ, zero, suc, Bool, true, false, cond, refl, sym, ◌∙◌, ap, subst, List, [], ◌∷◌, ◌++◌, length, take, ◌+◌, ◌≤◌, ◌⊎◌, inl, inr, length-take, arith}
 use Rattle.std.specs.Prelude.{Option, Some, None, IsSome, is_some, option_map, slice_get, not, is_ok, bit_and, ◌==◌, ◌&&◌, ◌||◌, if◌then◌else◌}
 use Rattle.std.specs.List.{filter, prefix_len, enumerate_from}
-use Rattle.std.proofs.lemmas.List.{length-map}
-use Rattle.std.proofs.lemmas.List.FromFn.{length-enumerate_from}
 use Rattle.entries.specs.declared.entry.Sqe.{Sqe}
 use Rattle.entries.specs.declared.row.Row.{Row}
 use Rattle.entries.specs.declared.row.Phase.{Phase}
@@ -65,9 +63,6 @@ batch_queued first es i x e = by (slice_get es i) (sym (get-batch first es i) �
 
 pub counted-rows_of : (first : ℕ) (es : List Sqe) → counted_of (rows_of first es) ≡ 0
 counted-rows_of first es = queued_none (λ row. is_ended row.phase && counts row) (rows_of first es) (λ i x e. ap (λ b. b && counts x) (batch_queued first es i x e))
-
-pub length-rows_of : (first : ℕ) (es : List Sqe) → length (rows_of first es) ≡ length es
-length-rows_of first es = length-map (λ (p : ℕ × Sqe). new_row p.1 (first + chain_of es p.0)) (enumerate_from 0 es) ∙ length-enumerate_from 0 es
 
 -- ---- what holds of each row
 

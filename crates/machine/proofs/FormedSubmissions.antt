@@ -11,6 +11,7 @@ use Rattle.ring_words.proofs.Order.{waiting_behind}
 use Rattle.links_drains.specs.Batches.{rows_of, direct_of}
 use Rattle.links_drains.specs.Endings.{result_in, Direct}
 use Rattle.links_drains.specs.Phases.{is_ended, is_issued, counts, counted_of, ended_of}
+use Rattle.links_drains.proofs.Batching.{length-rows_of}
 use Rattle.links_drains.proofs.Chains.{chained-batch, get-behind}
 use Rattle.links_drains.proofs.Counting.{counted-append, ended-append}
 use Rattle.links_drains.proofs.DirectPairs.{direct-batch, unlisted_passes}
@@ -22,7 +23,7 @@ use Rattle.machine.specs.declared.whole.Machine.{Machine}
 use Rattle.machine.proofs.FormedMachines.{mostly}
 use Rattle.machine.proofs.Endings.{formed_fallen_but}
 use Rattle.machine.proofs.Untimed.{untimed_but}
-use Rattle.machine.proofs.FormedRows.{length-batch_of, length-entries_at, counted-rows_of, length-rows_of, batch_row, batch_untimed}
+use Rattle.machine.proofs.FormedRows.{length-batch_of, length-entries_at, counted-rows_of, batch_row, batch_untimed}
 
 -- ---- how many
 
