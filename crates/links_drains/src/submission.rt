@@ -135,7 +135,7 @@ mod tests {
     fn stops_behind_a_failure(rt: HostRuntime) -> Result<(), AllocError> {
         let mut table = Table::new(rt.alloc());
         let mut notes = Recorder::new(rt.alloc());
-        table.push(new_row(entry(0, 1), 0), &mut notes)?;
+        table.take_batch(&[entry(0, 1)], false, &mut notes)?;
         let offered = [entry(0, 2), entry(99, 3), entry(0, 4)];
         let batch = table.take_batch(&offered, false, &mut notes)?;
         assert_eq!(rt; batch.taken, 2);
