@@ -316,7 +316,8 @@ mod tests {
         let alloc = rt.alloc();
         let mut table = Table::new(alloc);
         let mut notes = Recorder::new(alloc);
-        table.take_batch(&[nop(7), nop(8)], false, &mut notes)?;
+        let batch = table.take_batch(&[nop(7), nop(8)], false, &mut notes)?;
+        assert_eq!(rt; batch.taken, 2);
         table.set_phase(1, Phase::Ended(-22), &mut notes)?;
         assert_eq!(rt; table.len(), 2);
         assert_eq!(rt; table.phase(0), Some(Phase::Queued));
@@ -339,7 +340,8 @@ mod tests {
     fn an_issued_row_holds(rt: HostRuntime) -> Result<(), AllocError> {
         let mut table = Table::new(rt.alloc());
         let mut notes = Recorder::new(rt.alloc());
-        table.take_batch(&[nop(7)], false, &mut notes)?;
+        let batch = table.take_batch(&[nop(7)], false, &mut notes)?;
+        assert_eq!(rt; batch.taken, 1);
         table.issue(0, Some(3), &mut notes)?;
         assert_eq!(rt; table.phase(0), Some(Phase::Issued));
         assert_eq!(rt; held_by(&table, 0), Some(3));
@@ -352,7 +354,8 @@ mod tests {
     fn held_until_the_last_row_ends(rt: HostRuntime) -> Result<(), AllocError> {
         let mut table = Table::new(rt.alloc());
         let mut notes = Recorder::new(rt.alloc());
-        table.take_batch(&[nop(7), nop(8)], false, &mut notes)?;
+        let batch = table.take_batch(&[nop(7), nop(8)], false, &mut notes)?;
+        assert_eq!(rt; batch.taken, 2);
         table.issue(0, Some(66), &mut notes)?;
         table.issue(1, Some(66), &mut notes)?;
         table.set_phase(0, Phase::Ended(-9), &mut notes)?;
@@ -367,7 +370,8 @@ mod tests {
         let alloc = rt.alloc();
         let mut table = Table::new(alloc);
         let mut notes = Recorder::new(alloc);
-        table.take_batch(&[nop(7)], false, &mut notes)?;
+        let batch = table.take_batch(&[nop(7)], false, &mut notes)?;
+        assert_eq!(rt; batch.taken, 1);
         table.issue(0, Some(5), &mut notes)?;
         assert_eq!(rt; table.held().holds(5), true);
         table.set_phase(0, Phase::Ended(-9), &mut notes)?;
