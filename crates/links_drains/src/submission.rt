@@ -33,6 +33,8 @@ impl Table {
         requires { length self.old + length entries.now ≤ 65536 }
         ensures ok { OnOk result (self.new ≡ self.old ++ rows_of (length self.old) (taken_of submit_all entries.now)) }
         ensures taken { IfOk result (λ batch. batch.taken ≡ length (taken_of submit_all entries.now)) }
+        ensures len { IfOk result (λ batch. length self.new ≡ length self.old + batch.taken) }
+        ensures within { IfOk result (λ batch. batch.taken ≤ length entries.now) }
         ensures direct { IfOk result (λ batch. batch.direct.items ≡ direct_of (length self.old) (taken_of submit_all entries.now)) }
         ensures err { OnErr result (self.new ≡ self.old) }
         ensures keeps { Keeps table_owns (table_seen self.old) (table_seen self.new) notes.old.made notes.new.made }
@@ -55,6 +57,7 @@ impl Table {
         requires { length self.old + length entries.now ≤ 65536 }
         ensures ok { OnOk result (self.new ≡ self.old ++ rows_of (length self.old) entries.now) }
         ensures taken { IfOk result (λ batch. batch.taken ≡ length entries.now) }
+        ensures len { IfOk result (λ batch. length self.new ≡ length self.old + batch.taken) }
         ensures direct { IfOk result (λ batch. batch.direct.items ≡ direct_of (length self.old) entries.now) }
         ensures before { take (length self.old) self.new ≡ self.old }
         ensures keeps { Keeps table_owns (table_seen self.old) (table_seen self.new) notes.old.made notes.new.made }
@@ -135,22 +138,18 @@ mod tests {
     fn stops_behind_a_failure(rt: HostRuntime) -> Result<(), AllocError> {
         let mut table = Table::new(rt.alloc());
         let mut notes = Recorder::new(rt.alloc());
-        table.push(new_row(entry(0, 1), 0), &mut notes)?;
         let offered = [entry(0, 2), entry(99, 3), entry(0, 4)];
         let batch = table.take_batch(&offered, false, &mut notes)?;
         assert_eq!(rt; batch.taken, 2);
-        assert_eq!(rt; batch.direct.as_slice(), [(2, -22)].as_slice());
-        assert_eq!(rt; table.len(), 3);
-        assert_eq!(rt; table.get(1), Some(new_row(entry(0, 2), 1)));
-        assert_eq!(rt; table.get(2), Some(new_row(entry(99, 3), 2)));
-        let batch = table.take_batch(&offered[..1], false, &mut notes)?;
-        assert_eq!(rt; batch.taken, 1);
-        assert_eq!(rt; batch.direct.len(), 0);
-        assert_eq!(rt; table.get(3), Some(new_row(entry(0, 2), 3)));
+        assert_eq!(rt; batch.direct.as_slice(), [(1, -22)].as_slice());
+        assert_eq!(rt; table.len(), 2);
+        assert_eq!(rt; table.get(0), Some(new_row(entry(0, 2), 0)));
+        assert_eq!(rt; table.get(1), Some(new_row(entry(99, 3), 1)));
         let batch = table.take_batch(&offered, true, &mut notes)?;
         assert_eq!(rt; batch.taken, 3);
-        assert_eq!(rt; batch.direct.as_slice(), [(5, -22)].as_slice());
-        assert_eq!(rt; table.len(), 7);
+        assert_eq!(rt; batch.direct.as_slice(), [(3, -22)].as_slice());
+        assert_eq!(rt; table.len(), 5);
+        assert_eq!(rt; table.get(4), Some(new_row(entry(0, 4), 4)));
         Ok(())
     }
 }

@@ -316,8 +316,8 @@ mod tests {
         let alloc = rt.alloc();
         let mut table = Table::new(alloc);
         let mut notes = Recorder::new(alloc);
-        table.push(new_row(nop(7), 0), &mut notes)?;
-        table.push(new_row(nop(8), 1), &mut notes)?;
+        let batch = table.take_batch(&[nop(7), nop(8)], false, &mut notes)?;
+        assert_eq!(rt; batch.taken, 2);
         table.set_phase(1, Phase::Ended(-22), &mut notes)?;
         assert_eq!(rt; table.len(), 2);
         assert_eq!(rt; table.phase(0), Some(Phase::Queued));
@@ -340,7 +340,8 @@ mod tests {
     fn an_issued_row_holds(rt: HostRuntime) -> Result<(), AllocError> {
         let mut table = Table::new(rt.alloc());
         let mut notes = Recorder::new(rt.alloc());
-        table.push(new_row(nop(7), 0), &mut notes)?;
+        let batch = table.take_batch(&[nop(7)], false, &mut notes)?;
+        assert_eq!(rt; batch.taken, 1);
         table.issue(0, Some(3), &mut notes)?;
         assert_eq!(rt; table.phase(0), Some(Phase::Issued));
         assert_eq!(rt; held_by(&table, 0), Some(3));
@@ -353,8 +354,8 @@ mod tests {
     fn held_until_the_last_row_ends(rt: HostRuntime) -> Result<(), AllocError> {
         let mut table = Table::new(rt.alloc());
         let mut notes = Recorder::new(rt.alloc());
-        table.push(new_row(nop(7), 0), &mut notes)?;
-        table.push(new_row(nop(8), 1), &mut notes)?;
+        let batch = table.take_batch(&[nop(7), nop(8)], false, &mut notes)?;
+        assert_eq!(rt; batch.taken, 2);
         table.issue(0, Some(66), &mut notes)?;
         table.issue(1, Some(66), &mut notes)?;
         table.set_phase(0, Phase::Ended(-9), &mut notes)?;
@@ -369,15 +370,19 @@ mod tests {
         let alloc = rt.alloc();
         let mut table = Table::new(alloc);
         let mut notes = Recorder::new(alloc);
-        let issued = Row {
-            phase: Phase::Issued,
-            held: Some(5),
-            ..new_row(nop(7), 0)
-        };
-        table.push(issued, &mut notes)?;
+        let batch = table.take_batch(&[nop(7)], false, &mut notes)?;
+        assert_eq!(rt; batch.taken, 1);
+        table.issue(0, Some(5), &mut notes)?;
         assert_eq!(rt; table.held().holds(5), true);
         table.set_phase(0, Phase::Ended(-9), &mut notes)?;
         assert_eq!(rt; table.held().holds(5), false);
+        let Some(ended) = table.get(0) else {
+            panic!(rt; "no row")
+        };
+        let issued = Row {
+            phase: Phase::Issued,
+            ..ended
+        };
         table.put(Place::Request(0), Some(Value::Requested(issued)));
         assert_eq!(rt; table.held().holds(5), true);
         let copied = table.copy(alloc)?;
