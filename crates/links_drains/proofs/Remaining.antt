@@ -1,14 +1,15 @@
 -- Rows stay where they are, with their entries and units.
 use Rattle.std.proofs.Common.{◌≡◌, ℕ, Bool, true, false, cond, refl, sym, ◌∙◌, ap, List, ◌++◌, length, map, take, ◌<◌, ◌≤◌, ◌⊎◌, inl, inr, length-take, arith}
-use Rattle.std.specs.Prelude.{Option, Some, None, option_map, slice_get, ◌==◌}
+use Rattle.std.specs.Prelude.{Option, Some, None, option_map, slice_get, slice_set, ◌==◌}
 use Rattle.std.proofs.lemmas.Bool.{cases_lt}
 use Rattle.std.proofs.lemmas.Grind.{common_steps}
 use Rattle.std.proofs.lemmas.List.{length-map}
 use Rattle.std.proofs.lemmas.Option.{gets, slice_get-map}
 use Rattle.entries.specs.declared.row.Row.{Row}
 use Rattle.places.specs.Lists.{updated}
-use Rattle.places.proofs.ListLemmas.{same_list, slice_get-take_below, slice_get-take_above}
+use Rattle.places.proofs.ListLemmas.{same_list, field_same, slice_get-take_below, slice_get-take_above}
 use Rattle.links_drains.specs.Rows.{fixed_of, Stay}
+use Rattle.links_drains.proofs.Fixed.{fixed_at}
 use Rattle.links_drains.proofs.RowsKept.{get-updated}
 
 pub stay_then : (a b c : List Row) → length a ≤ length b → Stay a b → Stay b c → Stay a c
@@ -22,6 +23,10 @@ stay_updated f rows i same r l = ap (option_map fixed_of) (get-updated f rows i 
     by false o = refl
     by true None = refl
     by true (Some x) = ap Some (same x)
+
+-- a row is written over by one of the same entry and unit
+pub stay_set : (rows : List Row) (i : ℕ) (row : Row) → option_map fixed_of (slice_get rows i) ≡ Some (fixed_of row) → Stay rows (slice_set rows i row)
+stay_set rows i row h r l = let f = fixed_at rows i row h in field_same fixed_of rows i r f.before row f.there f.same
 
 get_before : (rows more : List Row) (r : ℕ) → r < length rows → slice_get (rows ++ more) r ≡ slice_get rows r
 get_before rows more r h = grind (arith, common_steps, gets)

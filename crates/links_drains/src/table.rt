@@ -9,7 +9,7 @@ ghost use Rattle.model_files.specs.Holders.{is_held};
 ghost use Rattle.links_drains.specs.Eligible.{is_eligible, GuardsFollow};
 ghost use Rattle.links_drains.specs.Holding.{is_held_by};
 ghost use Rattle.links_drains.specs.Links.{GoesOn};
-ghost use Rattle.links_drains.specs.Rows.{fixed_of, table_owns, table_seen, table_can_put, new_row as new_row_of};
+ghost use Rattle.links_drains.specs.Rows.{fixed_of, Stay, table_owns, table_seen, table_can_put, new_row as new_row_of};
 
 use crate::holding::{count, take_all_off, take_off};
 use crate::index::Index;
@@ -192,6 +192,7 @@ impl Table {
         ensures ok { OnOk result (self.new ≡ updated (λ row. record row { phase = phase }) self.old r) }
         ensures err { OnErr result (self.new ≡ self.old) }
         ensures len { length self.new ≡ length self.old }
+        ensures stay { Stay self.old self.new }
         ensures keeps { Keeps table_owns (table_seen self.old) (table_seen self.new) notes.old.made notes.new.made }
         ensures numbers { notes.old.numbers ≤ notes.new.numbers }
         ensures completions { notes.old.completions ≤ notes.new.completions }
@@ -214,6 +215,7 @@ impl Table {
         ensures ok { OnOk result (self.new ≡ updated (λ row. record row { phase = Issued; held = held }) self.old r) }
         ensures err { OnErr result (self.new ≡ self.old) }
         ensures len { length self.new ≡ length self.old }
+        ensures stay { Stay self.old self.new }
         ensures keeps { Keeps table_owns (table_seen self.old) (table_seen self.new) notes.old.made notes.new.made }
         ensures numbers { notes.old.numbers ≤ notes.new.numbers }
         ensures completions { notes.old.completions ≤ notes.new.completions }

@@ -51,7 +51,7 @@ queued_none p [] h = refl
 queued_none p (x ∷ rows) h =
     let a = matching-more p x rows in
     let b = queued_none p rows (λ i y e. h (suc i) y e) in
-    let n = ap (λ t. cond t 1 0) (h 0 x refl) in
+    let n : cond (p x) 1 0 ≡ 0 = ap {B = ℕ} (λ t. cond t 1 0) (h 0 x refl) in
     omega (arith, a, b, n)
 
 batch_queued : (first : ℕ) (es : List Sqe) (i : ℕ) (x : Row) → slice_get (rows_of first es) i ≡ Some x → is_ended x.phase ≡ false

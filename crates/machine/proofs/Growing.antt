@@ -1,5 +1,5 @@
 -- Accepted events leave a setup as it is, and take no row and no item of the backlog away.
-use Rattle.std.proofs.Common.{◌≡◌, ℕ, ℤ, pos, Bool, true, false, refl, sym, ap, List, [], ◌∷◌, length, map, take, drop, ◌+◌, ◌-◌, ◌%◌, ◌≤◌, arith, length-set, length-append, le_refl}
+use Rattle.std.proofs.Common.{◌≡◌, ℕ, ℤ, pos, Bool, true, false, refl, sym, ap, List, [], ◌∷◌, ◌++◌, length, map, take, drop, ◌+◌, ◌-◌, ◌%◌, ◌≤◌, arith, length-set, length-append, le_refl}
 use Rattle.std.specs.Prelude.{Option, Some, None, is_some, min, slice_get, nat_lt, ◌==◌, ◌&&◌, ◌||◌, if◌then◌else◌}
 use Rattle.entries.specs.declared.completion.Cqe.{Cqe}
 use Rattle.entries.specs.declared.row.Row.{Row}
@@ -86,7 +86,16 @@ grows_fallen m direct = grows_all_ended m (fall_of m.table m.counted direct)
 
 -- ---- submissions
 
-grows_taken : (m : Machine) (k : ℕ) → Grows m (taken m k)
+-- rows come behind the others
+pub grows_more : (m : Machine) (more : List Row) → Grows m (record m { table = m.table ++ more })
+grows_more m more = record {
+  setup = record { array = refl; slots = refl; completions = refl; world = worlds.setup_self _; programs = refl; poller = refl; submit_all = refl };
+  rows = let a = length-append m.table more in omega (arith, a);
+  stay = stay_append m.table more;
+  backlog = le_refl _;
+}
+
+pub grows_taken : (m : Machine) (k : ℕ) → Grows m (taken m k)
 grows_taken m k = record {
   setup = record { array = refl; slots = refl; completions = refl; world = worlds.setup_self _; programs = refl; poller = refl; submit_all = refl };
   rows = let a = length-append m.table (rows_of (length m.table) (taken_entries m.submit_all m.submissions k)) in omega (arith, a);

@@ -13,7 +13,6 @@ use Rattle.entries.specs.declared.entry.Sqe.{Sqe}
 use Rattle.places.proofs.ListLemmas.{slice_get-take_below}
 use Rattle.ring_words.specs.Rings.{SubWords, sub_list}
 use Rattle.links_drains.specs.Batches.{passes, up_to_failure, taken_of}
-use Rattle.links_drains.proofs.Batching.{up_to_failure-passes, up_to_failure-fails}
 use Rattle.machine.specs.Submission.{offered, passes_at, batch_of, entries_at, taken_entries}
 
 -- ---- how many pass
@@ -66,6 +65,18 @@ entries-named slots words x e h = filter_map-append (slice_get slots) words (x �
 pub entries-skipped : (slots : List Sqe) (words : List ℕ) (x : ℕ) → slice_get slots x ≡ None → entries_at slots (words ++ x ∷ []) ≡ entries_at slots words
 entries-skipped slots words x h = filter_map-append (slice_get slots) words (x ∷ []) ∙ ap (λ es. entries_at slots words ++ es) (rw h refl) ∙ append-nil (entries_at slots words)
 
+-- ---- up to the first that fails
+
+-- an entry that passes is not the last
+up_to_failure-passes : (e : Sqe) (es : List Sqe) → passes e ≡ true → up_to_failure (e ∷ es) ≡ e ∷ up_to_failure es
+up_to_failure-passes e es h =
+    let n : 1 + prefix_len passes es + 1 ≡ suc (prefix_len passes es + 1) = omega arith in
+    rw h (ap (λ k. take k (e ∷ es)) n)
+
+-- one that fails is
+up_to_failure-fails : (e : Sqe) (es : List Sqe) → passes e ≡ false → up_to_failure (e ∷ es) ≡ e ∷ []
+up_to_failure-fails e es h = rw h refl
+
 -- the words that a submission takes name the entries up to and with the first that fails
 pub entries_cut : (slots : List Sqe) (ws : List ℕ) → entries_at slots (batch_of slots ws) ≡ up_to_failure (entries_at slots ws)
 entries_cut slots [] = refl
@@ -76,6 +87,9 @@ entries_cut slots (w ∷ ws) = by (slice_get slots w) refl (entries_cut slots ws
 
     goes_on : passes_at slots w ≡ true → batch_of slots (w ∷ ws) ≡ w ∷ batch_of slots ws
     goes_on h = rw h (ap (λ k. take k (w ∷ ws)) n)
+
+    listed : (e : Sqe) → slice_get slots w ≡ Some e → entries_at slots (w ∷ ws) ≡ e ∷ entries_at slots ws
+    listed e h = rw h refl
 
     named : (e : Sqe) → slice_get slots w ≡ Some e → (b : Bool) → passes e ≡ b → entries_at slots (batch_of slots ws) ≡ up_to_failure (entries_at slots ws) → entries_at slots (batch_of slots (w ∷ ws)) ≡ up_to_failure (entries_at slots (w ∷ ws))
     named e h true p k =
@@ -89,9 +103,6 @@ entries_cut slots (w ∷ ws) = by (slice_get slots w) refl (entries_cut slots ws
       where
         stops : passes_at slots w ≡ false → batch_of slots (w ∷ ws) ≡ w ∷ []
         stops f = rw f refl
-
-    listed : (e : Sqe) → slice_get slots w ≡ Some e → entries_at slots (w ∷ ws) ≡ e ∷ entries_at slots ws
-    listed e h = rw h refl
 
     by : (o : Option Sqe) → slice_get slots w ≡ o → entries_at slots (batch_of slots ws) ≡ up_to_failure (entries_at slots ws) → entries_at slots (batch_of slots (w ∷ ws)) ≡ up_to_failure (entries_at slots (w ∷ ws))
     by None h k =

@@ -3,6 +3,7 @@ use Rattle.std.proofs.lemmas.Option.{slice_get_read}
 use Rattle.places.proofs.ListLemmas.{updated_set}
 use Rattle.places.proofs.Keeping.{keeps_noted}
 use Rattle.links_drains.proofs.Fixed.{fixed_here}
+use Rattle.links_drains.proofs.Remaining.{stay_set}
 use Rattle.links_drains.proofs.Seen.{seen_row}
 use Rattle.links_drains.proofs.table.Table.set_phase.Goals as goal
 
@@ -23,3 +24,9 @@ returns-clause-keeps c =
     let before = slice_get_read _ _ _ _ refl r c.index-row.ensures in
     let s = rw (← c.self.view_is) at c.set.ensures in
     rw (← c.self.view_is, s) (keeps_noted _ _ _ _ _ _ _ refl (rw before c.in_ok-note_row.ensures.ok) (seen_row _ _ _ r))
+
+pub returns-clause-stay : goal.returns-clause-stay
+returns-clause-stay c =
+    let r = rw (← c.self.view_is) at c.requires in
+    let s = rw (← c.self.view_is) at c.set.ensures in
+    rw (← c.self.view_is, s) (stay_set c.self.inside.rows.items c.args.r _ (fixed_here c.self.inside.rows.items c.args.r c.index-row.result.now (slice_get_read c.self.inside.rows.items (length c.self.inside.rows.items) c.args.r c.index-row.result.now refl r c.index-row.ensures)))

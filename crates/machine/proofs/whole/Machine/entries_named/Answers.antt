@@ -1,5 +1,4 @@
-use Rattle.std.proofs.Common.{◌≡◌, ◌∙◌, sym, ap}
-use Rattle.std.specs.Prelude.{Some, None, slice_get}
+use Rattle.std.proofs.Common.{◌∙◌, sym, ap, [], ◌∷◌, ◌++◌}
 use Rattle.ring_words.specs.Rings.{sub_list}
 use Rattle.machine.specs.Submission.{entries_at}
 use Rattle.machine.proofs.TakingWords.{one_more, entries-named, entries-skipped}
@@ -11,6 +10,11 @@ loop-i-preserved c =
     let slots = c.args.self.now.submissions.slots in
     let words = sub_list c.args.self.now.submissions in
     elim c.match-entry.branch [
-      | in-Some+in_ok-push w ↦ rw w.entries-is (w.in_ok-push.ensures.items ∙ sym (ap (entries_at slots) (one_more words c.loop-i.i c.word.result c.word.ensures) ∙ entries-named slots _ c.word.result _ (sym c.entry.ensures ∙ w.in-Some.is)))
-      | in_default w ↦ rw w.entries-is (c.loop-i.invariant ∙ sym (ap (entries_at slots) (one_more words c.loop-i.i c.word.result c.word.ensures) ∙ entries-skipped slots _ c.word.result (sym c.entry.ensures ∙ w.in_default.is)))
+      | in-Some+in_ok-push w ↦
+          rw w.entries-is
+          (w.in_ok-push.ensures.items ∙ ap (λ es. es ++ w.in-Some.entry ∷ []) c.loop-i.invariant
+          ∙ sym (ap (entries_at slots) (one_more words c.loop-i.i c.word.result c.word.ensures) ∙ entries-named slots _ c.word.result _ (sym c.entry.ensures ∙ w.in-Some.is)))
+      | in_default w ↦
+          rw w.entries-is
+          (c.loop-i.invariant ∙ sym (ap (entries_at slots) (one_more words c.loop-i.i c.word.result c.word.ensures) ∙ entries-skipped slots _ c.word.result (sym c.entry.ensures ∙ w.in_default.is)))
     ]

@@ -1,21 +1,16 @@
-use Rattle.std.proofs.Common.{rules, ◌≡◌, ◌+◌, ◌≤◌, IfOk, OnOk, None, length, ℕ, ◌-◌, ◌*◌, ◌<◌, ◌/◌, ◌%◌, Bool, true, false, nat_eq, nat_lt, List, [], ◌∷◌, ◌++◌, slice_index_or, slice_set, bit_and, bit_or, Fits, w8, w32, w64, Bor, MutBor}
-use Rattle.std.specs.List.{prefix_len}
-use Rattle.places.specs.View.{Keeps}
-use Rattle.ring_words.specs.Rings.{sub_list}
-use Rattle.links_drains.specs.Batches.{direct_of}
-use Rattle.machine.specs.Submission.{offered, passes_at, entries_at, taken_words, taken_entries}
-use Rattle.machine.specs.Steps.{submission_refusal, submitted, taken}
-use Rattle.machine.specs.Whole.{view, everywhere, Grows, WellFormed}
+use Rattle.std.proofs.Common.{◌∙◌, ℕ, ℤ, List, sym, subst}
+use Rattle.links_drains.specs.Endings.{Direct}
+use Rattle.machine.proofs.FormedSubmissions.{falls_in}
+use Rattle.machine.proofs.SubmissionLemmas.{accepted_fits}
 use Rattle.machine.proofs.whole.Machine.submit.Goals as goal
 
--- src/submitting.rt:29:9
 pub fall-requires-clause-direct : goal.fall-requires-clause-direct
-fall-requires-clause-direct c = ?
+fall-requires-clause-direct c =
+    let f = falls_in c.args.self.now _ c.args.to_submit c.requires.formed (accepted_fits c.args.self.now c.args.to_submit c.requires.accepted) c.in_ok-batch.ensures.ok in
+    subst (λ (ds : List (ℕ × ℤ)). Direct c.take.new.self.table ds) (sym (c.deref.ensures.value ∙ c.in_ok-batch.ensures.direct)) f.direct_rows
 
--- src/submitting.rt:29:9
 pub fall-requires-clause-untimed : goal.fall-requires-clause-untimed
-fall-requires-clause-untimed c = ?
+fall-requires-clause-untimed c = (falls_in c.args.self.now _ c.args.to_submit c.requires.formed (accepted_fits c.args.self.now c.args.to_submit c.requires.accepted) c.in_ok-batch.ensures.ok).untimed
 
--- src/submitting.rt:29:9
 pub fall-requires-clause-mostly : goal.fall-requires-clause-mostly
-fall-requires-clause-mostly c = ?
+fall-requires-clause-mostly c = (falls_in c.args.self.now _ c.args.to_submit c.requires.formed (accepted_fits c.args.self.now c.args.to_submit c.requires.accepted) c.in_ok-batch.ensures.ok).mostly
