@@ -73,9 +73,10 @@ fn print_counts(rt: &(impl Print + Eprint), walker: &Walker) -> io::Result<()> {
     println!(rt; "ended {}", ended(walker))
 }
 
-// Adds the events, goes to the end, to the start and to the end again.
+// Adds the events, goes to the end, to the start and to the end again. Only the start is copied, and no
+// way back is too long for single steps: so each way is walked event by event.
 fn measure(rt: &(impl Print + Eprint + Clock + AllocGlobal), load: &Load) -> Result<(), Fault> {
-    let mut walker = Walker::new(rt.alloc(), &load.setup)?;
+    let mut walker = Walker::with(rt.alloc(), &load.setup, u32::MAX, u32::MAX)?;
     add(rt, &mut walker, load)?;
     let len = walker.len();
     go(rt, &mut walker, "forward", len)?;
