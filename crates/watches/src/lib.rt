@@ -5,7 +5,7 @@ pub mod stopping;
 mod watched;
 
 pub use stopping::{Stop, cont, rcont};
-pub use watched::{Break, Watches};
+pub use watched::{Break, LIMIT, Watches};
 
 #[cfg(test)]
 mod tests;

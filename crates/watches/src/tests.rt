@@ -59,6 +59,7 @@ fn stops_where_a_break_is_met(rt: HostRuntime) -> Result<(), Fail> {
 fn a_watch_is_not_added_twice(rt: HostRuntime) -> Result<(), Fail> {
     let mut watches = Watches::new(rt.alloc());
     assert_eq!(rt; watches.watch(Place::Clock)?, 1);
+    assert_eq!(rt; watches.watch(Place::Clock)?, 1);
     assert_eq!(rt; watches.places().len(), 1);
     watches.clear();
     assert_eq!(rt; watches.places().len(), 0);
