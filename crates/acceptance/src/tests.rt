@@ -9,6 +9,7 @@ mod notes;
 mod records;
 mod sessions;
 mod shown;
+mod stops;
 mod texts;
 
 /// One NOP with user_data 7: put, pushed, entered, issued, finished and reaped.

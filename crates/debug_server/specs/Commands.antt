@@ -8,7 +8,7 @@ use Rattle.scenario.specs.declared.names.PlaceFault.{PlaceFault}
 use Rattle.scenario.specs.declared.names.PlaceFault.TheVariants as missing
 use Rattle.scenario.specs.Names.{number_of, place_named}
 use Rattle.debug_server.specs.declared.commands.command.Command.{Command}
-use Rattle.debug_server.specs.declared.commands.command.Command.TheVariants.{Where, Show, Goto, Back, Quit}
+use Rattle.debug_server.specs.declared.commands.command.Command.TheVariants.{Where, Show, Goto, Back, On, Quit}
 use Rattle.debug_server.specs.declared.commands.command.CommandFault.{CommandFault}
 use Rattle.debug_server.specs.declared.commands.command.CommandFault.TheVariants as fault
 use Rattle.debug_server.specs.declared.commands.verb.Verb.{Verb}
@@ -24,6 +24,7 @@ verb_of word =
     else if bytes_eq word (codes "show") then verb.Show
     else if bytes_eq word (codes "goto") then verb.Goto
     else if bytes_eq word (codes "back") then verb.Back
+    else if bytes_eq word (codes "on") then verb.On
     else if bytes_eq word (codes "quit") then verb.Quit
     else verb.Other
 
@@ -47,6 +48,7 @@ command_by setup verb.Quit [] = Ok Quit
 command_by setup verb.Show ws = showing (place_named setup ws)
 command_by setup verb.Goto (n ∷ []) = numbered (number_of n) Goto
 command_by setup verb.Back (n ∷ []) = numbered (number_of n) Back
+command_by setup verb.On (n ∷ []) = numbered (number_of n) On
 command_by setup _ _ = Err fault.Command
 
 abbrev pub command_of_words : Setup → List (List ℕ) → Result Command CommandFault

@@ -1,12 +1,12 @@
 -- What is replied to a line, and where the session stands after it.
-use Rattle.std.specs.Prelude.{ℕ, ◌-◌, List, ◌++◌, length, codes, decimal, nat_le, Bool, true, false, if◌then◌else◌, Option, Some, None, Result, Ok, Err}
+use Rattle.std.specs.Prelude.{ℕ, ◌+◌, ◌-◌, min, List, ◌++◌, length, codes, decimal, nat_le, Bool, true, false, if◌then◌else◌, Option, Some, None, Result, Ok, Err}
 use Rattle.places.specs.declared.value.Value.{Value}
 use Rattle.places.specs.Text.{value_text}
 use Rattle.scenario.specs.declared.event.Event.{Event}
 use Rattle.machine.specs.Whole.{view}
 use Rattle.inverse_log.specs.Walks.{Walk, here, jumped}
 use Rattle.debug_server.specs.declared.commands.command.Command.{Command}
-use Rattle.debug_server.specs.declared.commands.command.Command.TheVariants.{Where, Show, Goto, Back, Quit}
+use Rattle.debug_server.specs.declared.commands.command.Command.TheVariants.{Where, Show, Goto, Back, On, Quit}
 use Rattle.debug_server.specs.declared.commands.command.CommandFault.{CommandFault}
 use Rattle.debug_server.specs.declared.commands.command.CommandFault.TheVariants as fault
 use Rattle.debug_server.specs.Commands.{command_of}
@@ -49,6 +49,7 @@ reply_to w (Ok Where) = stays w (at_text w.at (length w.events))
 reply_to w (Ok (Show p)) = stays w (shown_text (view (here w) p))
 reply_to w (Ok (Goto n)) = if nat_le n (length w.events) then goes w n else stays w (codes "refused 1 moment\n")
 reply_to w (Ok (Back n)) = goes w (w.at - n)
+reply_to w (Ok (On n)) = goes w (min (w.at + n) (length w.events))
 reply_to w (Ok Quit) = record { text = codes "bye\n"; next = w; quits = true }
 
 -- the reply to a line, with what the source answered

@@ -84,6 +84,11 @@ fn answer_to(
             let moment = walker.at().saturating_sub(n as usize);
             Ok((jump(alloc, walker, moment)?, false))
         }
+        Ok(Command::On(n)) => {
+            let len = walker.len();
+            let moment = (walker.at() + n as usize).min(len);
+            Ok((jump(alloc, walker, moment)?, false))
+        }
         Ok(Command::Quit) => Ok((Vec::from_slice(alloc, b"bye\n")?, true)),
     }
 }

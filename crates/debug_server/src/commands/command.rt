@@ -19,6 +19,7 @@ pub(crate) enum Command {
     Show(Place),
     Goto(u32),
     Back(u32),
+    On(u32),
     Quit,
 }
 
@@ -63,6 +64,7 @@ fn parse_command(setup: &Setup, words: &[&[u8]]) -> Result<Command, CommandFault
         (Verb::Show, name) => parse_show(setup, name),
         (Verb::Goto, [n]) => Ok(Command::Goto(read_number(n).ok_or(CommandFault::Number)?)),
         (Verb::Back, [n]) => Ok(Command::Back(read_number(n).ok_or(CommandFault::Number)?)),
+        (Verb::On, [n]) => Ok(Command::On(read_number(n).ok_or(CommandFault::Number)?)),
         _ => Err(CommandFault::Command),
     }
 }

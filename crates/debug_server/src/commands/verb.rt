@@ -9,6 +9,7 @@ pub(crate) enum Verb {
     Show,
     Goto,
     Back,
+    On,
     Quit,
     Other,
 }
@@ -21,6 +22,7 @@ pub(crate) fn parse_verb(word: &[u8]) -> Verb
         b"show" => Verb::Show,
         b"goto" => Verb::Goto,
         b"back" => Verb::Back,
+        b"on" => Verb::On,
         b"quit" => Verb::Quit,
         _ => Verb::Other,
     }
