@@ -1,5 +1,6 @@
 -- Where a walk stops. All is said of moments: what stood in a place before an event, and what stands there after it.
-use Rattle.std.specs.Prelude.{◌≡◌, ℕ, ◌+◌, ◌-◌, ◌<◌, ◌≤◌, List, [], ◌∷◌, length, Bool, is_some, Option, Some, None}
+use Rattle.std.specs.Prelude.{◌≡◌, ℕ, zero, suc, ◌+◌, ◌-◌, ◌<◌, ◌≤◌, List, [], ◌∷◌, length, Bool, not, ◌&&◌, if◌then◌else◌, is_some, Option, Some, None, unwrap_or}
+use Rattle.std.specs.List.{list_any, range_with_len}
 use Rattle.places.specs.declared.place.Place.{Place}
 use Rattle.places.specs.declared.value.Change.{Change as Noted}
 use Rattle.places.specs.View.{View, named}
@@ -10,6 +11,7 @@ use Rattle.watches.specs.declared.watched.Break.{Break}
 use Rattle.watches.specs.declared.stopping.Stop.{Stop}
 use Rattle.watches.specs.declared.stopping.Stop.TheVariants.{Change, Met, Start, End}
 use Rattle.watches.specs.Watching.{Watching}
+use Rattle.watches.specs.Sameness.{same}
 
 -- whether a record names a place
 abbrev pub names : List Noted → Place → Bool
@@ -18,6 +20,47 @@ names cs p = is_some (named cs p)
 -- what stands in each place at a moment
 abbrev pub seen : Walk → ℕ → View
 seen w m = view (moment w.setup w.events m)
+
+-- ---- which moment it is
+
+-- whether one of the places differs
+abbrev pub changes : View → View → List Place → Bool
+changes old new ps = list_any (λ p. not (same (old p) (new p))) ps
+
+-- whether the value of one of the breaks stands in its place that didn't before
+abbrev pub meets : View → View → List Break → Bool
+meets old new bs = list_any (λ b. same (new b.place) (Some b.value) && not (same (old b.place) (Some b.value))) bs
+
+-- where the event after a moment stops a walk back, if it does
+abbrev pub stop_before : Walk → List Place → ℕ → Option Stop
+stop_before w ps m = if changes (seen w m) (seen w (m + 1)) ps then Some (Change m) else None
+
+-- where the event before a moment stops a walk on, if it does: by a change, or else by a break that is met
+abbrev pub stop_behind : Walk → Watching → ℕ → Option Stop
+stop_behind w v m =
+    if changes (seen w (m - 1)) (seen w m) v.places then Some (Change m)
+    else if meets (seen w (m - 1)) (seen w m) v.breaks then Some (Met m)
+    else None
+
+-- the first of some moments that stops, or else where the walk ends
+abbrev pub first_stop : (ℕ → Option Stop) → Stop → List ℕ → Stop
+first_stop f otherwise [] = otherwise
+first_stop f otherwise (m ∷ ms) = unwrap_or (f m) (first_stop f otherwise ms)
+
+-- the moments before one, the latest first
+abbrev pub moments_before : ℕ → List ℕ
+moments_before zero = []
+moments_before (suc m) = m ∷ moments_before m
+
+-- where a walk back stops
+unfoldable pub earlier_of : Walk → List Place → Stop
+earlier_of w ps = first_stop (stop_before w ps) Start (moments_before w.at)
+
+-- where a walk on stops
+unfoldable pub later_of : Walk → Watching → Stop
+later_of w v = first_stop (stop_behind w v) End (range_with_len (w.at + 1) (length w.events - w.at))
+
+-- ---- what is said by it
 
 -- none of the places differs
 abbrev pub Stays : View → View → List Place → Type 0

@@ -1,5 +1,5 @@
 -- Watched places, and values to stop at.
-use Rattle.std.specs.Prelude.{ℕ, ◌≤◌, List, [], ◌∷◌, ◌++◌, length, Bool, if◌then◌else◌}
+use Rattle.std.specs.Prelude.{◌≤◌, List, [], ◌∷◌, ◌++◌, length, Bool, if◌then◌else◌}
 use Rattle.std.specs.List.{list_any}
 use Rattle.places.specs.declared.place.Place.{Place}
 use Rattle.places.specs.declared.value.Value.{Value}

@@ -4,7 +4,7 @@
 pub mod stopping;
 mod watched;
 
-pub use stopping::{Stop, cont, rcont};
+pub use stopping::{Stop, back_to, cont, earlier, rcont};
 pub use watched::{Break, LIMIT, Watches};
 
 #[cfg(test)]

@@ -4,7 +4,7 @@ ghost use Rattle.std.specs.List.{list_any};
 ghost use Rattle.places.specs.View.{View, Exact, named};
 ghost use Rattle.machine.specs.Whole.{view};
 ghost use Rattle.inverse_log.specs.Walks.{jumped, moved};
-ghost use Rattle.watches.specs.Stops.{Stays, NoneMet, names, seen, IsEarlier, IsLater, IsStop, position_of};
+ghost use Rattle.watches.specs.Stops.{Stays, NoneMet, names, seen, earlier_of, later_of, IsEarlier, IsLater, IsStop, position_of};
 
 use crate::watched::{Break, Watches};
 use inverse_log::Walker;
@@ -23,14 +23,24 @@ pub enum Stop {
     End,
 }
 
+/// The latest earlier moment whose event changes a watched place, or the start. It is found in the
+/// records, without moving.
+pub fn earlier(walker: &Walker, watches: &Watches) -> Stop
+    ensures stop { result ≡ earlier_of walker.now watches.now.places }
+    ensures meaning { IsEarlier walker.now watches.now.places result }
+{
+    earlier_among(walker, watches.places())
+}
+
 /// Goes back to the latest earlier moment whose event changes a watched place, or to the start. It is
 /// found in the records, without moving, and reached by a jump.
 pub fn rcont(walker: &mut Walker, watches: &Watches) -> Result<Stop, AllocError>
-    ensures stop { IfOk result (IsEarlier walker.old watches.now.places) }
+    ensures stop { IfOk result (λ stop. stop ≡ earlier_of walker.old watches.now.places) }
+    ensures meaning { IfOk result (IsEarlier walker.old watches.now.places) }
     ensures lands { IfOk result (λ stop. walker.new ≡ jumped walker.old (position_of walker.old stop)) }
     ensures err { OnErr result (walker.new ≡ walker.old) }
 {
-    let stop = earlier(walker, watches.places());
+    let stop = earlier(walker, watches);
     let moment = match stop {
         Stop::Change(moment) => moment,
         _ => 0,
@@ -44,7 +54,8 @@ pub fn rcont(walker: &mut Walker, watches: &Watches) -> Result<Stop, AllocError>
 /// Goes on to the first later moment at which a watched place has changed, or else a break's value is met
 /// that was not a moment before, or to the end. Where memory is refused it goes back to where it was.
 pub fn cont(walker: &mut Walker, watches: &Watches) -> Result<Stop, AllocError>
-    ensures stop { IfOk result (IsLater walker.old watches.now) }
+    ensures stop { IfOk result (λ stop. stop ≡ later_of walker.old watches.now) }
+    ensures meaning { IfOk result (IsLater walker.old watches.now) }
     ensures lands { IfOk result (λ stop. walker.new ≡ moved walker.old (position_of walker.old stop)) }
     ensures err { OnErr result (walker.new ≡ walker.old) }
 {
@@ -62,7 +73,7 @@ pub fn cont(walker: &mut Walker, watches: &Watches) -> Result<Stop, AllocError>
 }
 
 // The latest earlier moment whose event changes one of the places.
-fn earlier(walker: &Walker, places: &[Place]) -> Stop
+fn earlier_among(walker: &Walker, places: &[Place]) -> Stop
     ensures { IsEarlier walker.now places.now result }
 {
     let mut moment = walker.at();
@@ -101,8 +112,8 @@ fn stop_here(walker: &Walker, watches: &Watches) -> Option<Stop>
     None
 }
 
-// Back by single steps, which take no memory.
-fn back_to(walker: &mut Walker, moment: usize)
+/// Back to an earlier moment by single steps that aren't counted. It takes no memory.
+pub fn back_to(walker: &mut Walker, moment: usize)
     requires { moment ≤ walker.old.at }
     ensures { walker.new ≡ moved walker.old moment }
 {

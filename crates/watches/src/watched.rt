@@ -61,6 +61,19 @@ impl Watches {
         self.breaks.as_slice()
     }
 
+    /// How many watches there are once a place is watched.
+    pub fn count_with(&self, place: Place) -> usize
+        ensures value { result ≡ length (watched self.now place).places }
+        ensures few { result ≤ 65 }
+    {
+        let count = self.places.len();
+        if has_place(&self.places, place) {
+            count
+        } else {
+            count + 1
+        }
+    }
+
     /// Watches a place, and tells how many watches there are now. A watch that is there isn't added twice.
     pub fn watch(&mut self, place: Place) -> Result<u32, AllocError>
         requires { length self.old.places < 64 }

@@ -1,4 +1,4 @@
-use Rattle.std.proofs.Common.{◌≡◌, ◌<◌, length, refl, arith}
+use Rattle.std.proofs.Common.{◌≡◌, length, arith}
 use Rattle.machine.specs.Whole.{view}
 use Rattle.watches.proofs.Naming.{none_met_more, none_met_at, none_met_whole}
 use Rattle.watches.proofs.stopping.meets_any.Goals as goal
