@@ -5,3 +5,5 @@ pub mod Reading
 pub mod Writing
 pub mod Replying
 pub mod Stopping
+pub mod Breaking
+pub mod Numerals

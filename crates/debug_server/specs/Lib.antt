@@ -1,4 +1,6 @@
+pub mod Values
 pub mod Commands
+pub mod Visits
 pub mod Replies
 pub mod Lines
 pub mod Talks

@@ -9,7 +9,10 @@ mod memory;
 mod serving;
 mod session;
 mod source;
+mod stops;
 mod task;
+mod texts;
+mod visitor;
 mod walking;
 mod words;
 

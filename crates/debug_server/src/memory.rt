@@ -6,7 +6,7 @@ ghost use Rattle.script.specs.declared.fault.ScriptFault.{ScriptFault as Misread
 ghost use Rattle.script.specs.Scripts.{Plan, Reads};
 ghost use Rattle.debug_server.specs.Lines.{lines_of};
 ghost use Rattle.debug_server.specs.Talks.{talk, output};
-ghost use Rattle.debug_server.specs.Schedules.{walk_over, IsOfWalk};
+ghost use Rattle.debug_server.specs.Schedules.{visit_over, IsOfWalk};
 ghost use Rattle.debug_server.specs.declared.faults.ServeFault.TheVariants.{Closed};
 
 use crate::faults::RunFault;
@@ -17,8 +17,8 @@ use std::alloc::Global;
 pub fn replies(alloc: Global, script: &[u8], input: &[u8]) -> Result<Vec<u8>, RunFault>
     // It read a beginning of the input, the whole of it or past a line that quits, and wrote just the replies to that.
     ensures ok { IfOk result (λ out. (p : Plan) × Reads script.now (Ok p) × (taken : List ℕ) × (rest : List ℕ) × (input.now ≡ taken ++ rest)
-        × (out.items ≡ output (walk_over p.setup p.schedule) (lines_of taken) [])
-        × (((talk (walk_over p.setup p.schedule) (lines_of taken) []).quits ≡ true) ⊎ (rest ≡ []))) }
+        × (out.items ≡ output (visit_over p.setup p.schedule) (lines_of taken) [])
+        × (((talk (visit_over p.setup p.schedule) (lines_of taken) []).quits ≡ true) ⊎ (rest ≡ []))) }
     // A fault of the script is its first one, a fault of the schedule its first refused event.
     ensures script { IfErr result (λ e. (f : Misread) → e ≡ RunFault.Script f → Reads script.now (Err f)) }
     ensures schedule { IfErr result (λ e. (i : ℕ) → (n : Denial) → e ≡ RunFault.Schedule i n

@@ -11,7 +11,7 @@ use crate::faults::ServeFault;
 use crate::lines::Line;
 use crate::session::Session;
 use crate::source::Source;
-use inverse_log::Walker;
+use crate::visitor::Visitor;
 use std::alloc::Global;
 use std::io::{Read, Write};
 
@@ -48,17 +48,17 @@ fn write_out<W: Write>(writer: &mut W, bytes: &[u8]) -> Result<(), ServeFault>
 // Replies to one line, and says whether it quits.
 fn answer_line<W: Write>(
     alloc: Global,
-    walker: &mut Walker,
+    visitor: &mut Visitor,
     line: &[u8],
     writer: &mut W,
 ) -> Result<bool, ServeFault>
-    ensures written { OnOk result (Appends (W.contents writer.old) (W.contents writer.new) (reply walker.old line.now None).text) }
-    ensures next { OnOk result (walker.new ≡ (reply walker.old line.now None).next) }
-    ensures quits { IfOk result (λ q. q ≡ (reply walker.old line.now None).quits) }
-    ensures err { OnErr result (WritesFront (W.contents writer.old) (W.contents writer.new) (reply walker.old line.now None).text) }
+    ensures written { OnOk result (Appends (W.contents writer.old) (W.contents writer.new) (reply visitor.old line.now None).text) }
+    ensures next { OnOk result (visitor.new ≡ (reply visitor.old line.now None).next) }
+    ensures quits { IfOk result (λ q. q ≡ (reply visitor.old line.now None).quits) }
+    ensures err { OnErr result (WritesFront (W.contents writer.old) (W.contents writer.new) (reply visitor.old line.now None).text) }
     ensures open { result ≢ Err ServeFault.Closed }
 {
-    let Ok((text, quits)) = answer(alloc, walker, line) else {
+    let Ok((text, quits)) = answer(alloc, visitor, line) else {
         return Err(ServeFault::Memory);
     };
     write_out(writer, &text)?;
@@ -68,20 +68,20 @@ fn answer_line<W: Write>(
 // Takes a byte, and replies to the line that ends with it, if one does. Says whether it quits.
 fn take_byte<W: Write>(
     alloc: Global,
-    walker: &mut Walker,
+    visitor: &mut Visitor,
     line: &mut Line,
     byte: u8,
     writer: &mut W,
 ) -> Result<bool, ServeFault>
-    ensures ok { IfOk result (λ q. Fills walker.old (line.old ++ byte ∷ []) [] (W.contents writer.old) (W.contents writer.new) q walker.new line.new) }
-    ensures err { OnErr result (Breaks walker.old (line.old ++ byte ∷ []) [] (W.contents writer.old) (W.contents writer.new)) }
+    ensures ok { IfOk result (λ q. Fills visitor.old (line.old ++ byte ∷ []) [] (W.contents writer.old) (W.contents writer.new) q visitor.new line.new) }
+    ensures err { OnErr result (Breaks visitor.old (line.old ++ byte ∷ []) [] (W.contents writer.old) (W.contents writer.new)) }
     ensures open { result ≢ Err ServeFault.Closed }
 {
     if byte != b'\n' {
         line.push(byte);
         return Ok(false);
     }
-    let quits = answer_line(alloc, walker, line.as_slice(), writer)?;
+    let quits = answer_line(alloc, visitor, line.as_slice(), writer)?;
     line.clear();
     Ok(quits)
 }
@@ -89,17 +89,17 @@ fn take_byte<W: Write>(
 // Takes some bytes, up to a line that quits: the bytes behind it are passed over.
 fn feed<W: Write>(
     alloc: Global,
-    walker: &mut Walker,
+    visitor: &mut Visitor,
     line: &mut Line,
     bytes: &[u8],
     writer: &mut W,
 ) -> Result<bool, ServeFault>
-    ensures ok { IfOk result (λ q. Fills walker.old (line.old ++ bytes.now) [] (W.contents writer.old) (W.contents writer.new) q walker.new line.new) }
-    ensures err { OnErr result (Breaks walker.old (line.old ++ bytes.now) [] (W.contents writer.old) (W.contents writer.new)) }
+    ensures ok { IfOk result (λ q. Fills visitor.old (line.old ++ bytes.now) [] (W.contents writer.old) (W.contents writer.new) q visitor.new line.new) }
+    ensures err { OnErr result (Breaks visitor.old (line.old ++ bytes.now) [] (W.contents writer.old) (W.contents writer.new)) }
     ensures open { result ≢ Err ServeFault.Closed }
 {
     for byte in bytes {
-        if take_byte(alloc, walker, line, *byte, writer)? {
+        if take_byte(alloc, visitor, line, *byte, writer)? {
             return Ok(true);
         }
     }
@@ -109,31 +109,31 @@ fn feed<W: Write>(
 // Replies to the line that the input ends in, unless it is empty. Says whether it quits.
 fn finish<W: Write>(
     alloc: Global,
-    walker: &mut Walker,
+    visitor: &mut Visitor,
     line: &[u8],
     writer: &mut W,
 ) -> Result<bool, ServeFault>
     requires { IsPending line.now }
-    ensures ok { IfOk result (λ q. Ends walker.old line.now [] (W.contents writer.old) (W.contents writer.new) q walker.new) }
-    ensures err { OnErr result (WritesFront (W.contents writer.old) (W.contents writer.new) (output walker.old (lines_of line.now) [])) }
+    ensures ok { IfOk result (λ q. Ends visitor.old line.now [] (W.contents writer.old) (W.contents writer.new) q visitor.new) }
+    ensures err { OnErr result (WritesFront (W.contents writer.old) (W.contents writer.new) (output visitor.old (lines_of line.now) [])) }
     ensures open { result ≢ Err ServeFault.Closed }
 {
     if line.len() == 0 {
         return Ok(false);
     }
-    let quits = answer_line(alloc, walker, line, writer)?;
+    let quits = answer_line(alloc, visitor, line, writer)?;
     Ok(quits)
 }
 
 // Replies to lines to the end of the input or to one that quits, and says whether one did.
 fn converse<R: Read, W: Write>(
     alloc: Global,
-    walker: &mut Walker,
+    visitor: &mut Visitor,
     reader: &mut R,
     writer: &mut W,
 ) -> Result<bool, ServeFault>
-    ensures ok { IfOk result (λ q. Served walker.old (R.remaining reader.old) (R.remaining reader.new) (W.contents writer.old) (W.contents writer.new) [] walker.new q) }
-    ensures err { OnErr result (Broke walker.old (R.remaining reader.old) (R.remaining reader.new) (W.contents writer.old) (W.contents writer.new) []) }
+    ensures ok { IfOk result (λ q. Served visitor.old (R.remaining reader.old) (R.remaining reader.new) (W.contents writer.old) (W.contents writer.new) [] visitor.new q) }
+    ensures err { OnErr result (Broke visitor.old (R.remaining reader.old) (R.remaining reader.new) (W.contents writer.old) (W.contents writer.new) []) }
     ensures open { result ≢ Err ServeFault.Closed }
 {
     let mut line = Line::new();
@@ -143,9 +143,9 @@ fn converse<R: Read, W: Write>(
             return Err(ServeFault::Read);
         };
         if count == 0 {
-            return finish(alloc, walker, line.as_slice(), writer);
+            return finish(alloc, visitor, line.as_slice(), writer);
         }
-        if feed(alloc, walker, &mut line, &buffer[..count], writer)? {
+        if feed(alloc, visitor, &mut line, &buffer[..count], writer)? {
             return Ok(true);
         }
     }
@@ -161,16 +161,16 @@ pub(crate) fn serve_lines<R: Read, W: Write>(
     ensures closed { IsErrOf result ServeFault.Closed ↔ IsTrue session.old.is_closed }
     ensures untouched { session.old.is_closed ≡ true → (session.new ≡ session.old)
         × Keeps (R.remaining reader.old) (R.remaining reader.new) × Keeps (W.contents writer.old) (W.contents writer.new) }
-    ensures ok { OnOk result (Served session.old.walk (R.remaining reader.old) (R.remaining reader.new)
-        (W.contents writer.old) (W.contents writer.new) [] session.new.walk session.new.is_closed) }
+    ensures ok { OnOk result (Served session.old.visit (R.remaining reader.old) (R.remaining reader.new)
+        (W.contents writer.old) (W.contents writer.new) [] session.new.visit session.new.is_closed) }
     ensures err { OnErr result (session.new.is_closed ≡ true) }
-    ensures begins { session.old.is_closed ≡ false → OnErr result (Broke session.old.walk (R.remaining reader.old) (R.remaining reader.new)
+    ensures begins { session.old.is_closed ≡ false → OnErr result (Broke session.old.visit (R.remaining reader.old) (R.remaining reader.new)
         (W.contents writer.old) (W.contents writer.new) []) }
 {
     if session.is_closed {
         return Err(ServeFault::Closed);
     }
-    match converse(session.alloc, &mut session.walker, reader, writer) {
+    match converse(session.alloc, &mut session.visitor, reader, writer) {
         Ok(quits) => {
             session.is_closed = quits;
             Ok(())
@@ -199,13 +199,13 @@ pub fn serve<R: Read, W: Write, S: Source>(
 
     // What is written is the output of what was read, to the end or past a line that quits.
     ensures ok { OnOk result ((answers : List Told) × Asked S.gives source.old answers source.new
-        × Served session.old.walk (R.remaining reader.old) (R.remaining reader.new)
-        (W.contents writer.old) (W.contents writer.new) answers session.new.walk session.new.is_closed) }
+        × Served session.old.visit (R.remaining reader.old) (R.remaining reader.new)
+        (W.contents writer.old) (W.contents writer.new) answers session.new.visit session.new.is_closed) }
 
     // At an error it is a beginning of that.
     ensures err { OnErr result (session.new.is_closed ≡ true) }
     ensures begins { session.old.is_closed ≡ false → OnErr result ((answers : List Told) × (mid : S) × Asked S.gives source.old answers mid
-        × Broke session.old.walk (R.remaining reader.old) (R.remaining reader.new)
+        × Broke session.old.visit (R.remaining reader.old) (R.remaining reader.new)
         (W.contents writer.old) (W.contents writer.new) answers) }
 {
     let _ = source;

@@ -3,4 +3,4 @@ use Rattle.debug_server.specs.Pending.{Fills}
 use Rattle.debug_server.proofs.serving.feed.Given as goal
 
 abbrev pub invariant-loop-byte : goal.invariant-loop-byte
-invariant-loop-byte g l = Fills l.fn.walker (l.fn.line ++ take l.byte-index l.bytes) [] (g.W.Write.contents l.fn.writer) (g.W.Write.contents l.writer) false l.walker l.line
+invariant-loop-byte g l = Fills l.fn.visitor (l.fn.line ++ take l.byte-index l.bytes) [] (g.W.Write.contents l.fn.writer) (g.W.Write.contents l.writer) false l.visitor l.line

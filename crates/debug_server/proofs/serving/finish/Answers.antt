@@ -9,15 +9,15 @@ use Rattle.debug_server.proofs.serving.finish.Goals as goal
 pub returns-then-line-eq0-clause-ok : goal.returns-then-line-eq0-clause-ok
 returns-then-line-eq0-clause-ok g c =
     let none : length c.args.line.now ≡ 0 = grind (arith, nat_tests) in
-    ends_empty c.args.walker.now c.args.line.now _ (nil_from_length c.args.line.now none)
+    ends_empty c.args.visitor.now c.args.line.now _ (nil_from_length c.args.line.now none)
 
 pub returns-clause-ok : goal.returns-clause-ok
 returns-clause-ok g c =
     let some : 0 < length c.args.line.now = grind (arith, nat_tests) in
-    ends_here c.args.walker.now c.answer_line.new.walker c.args.line.now _ _ c.in_ok-quits.quits c.requires some c.in_ok-quits.ensures.written c.in_ok-quits.ensures.next c.in_ok-quits.ensures.quits
+    ends_here c.args.visitor.now c.answer_line.new.visitor c.args.line.now _ _ c.in_ok-quits.quits c.requires some c.in_ok-quits.ensures.written c.in_ok-quits.ensures.next c.in_ok-quits.ensures.quits
 
 pub returns-in_err-quits-clause-err : goal.returns-in_err-quits-clause-err
 returns-in_err-quits-clause-err g c =
     let p = err_from_is_err_and c.from_residual.result c.from_residual.ensures.1 in
     let some : 0 < length c.args.line.now = grind (arith, nat_tests) in
-    rw p.1 (front_here c.args.walker.now c.args.line.now _ _ c.requires some c.in_err-quits.ensures.err)
+    rw p.1 (front_here c.args.visitor.now c.args.line.now _ _ c.requires some c.in_err-quits.ensures.err)
