@@ -6,10 +6,10 @@ use Rattle.std.specs.Io.KnownBytes.{Appends}
 use Rattle.debug_server.specs.Visits.{Visit}
 use Rattle.debug_server.specs.Replies.{Told}
 use Rattle.debug_server.specs.Lines.{lines_of}
-use Rattle.debug_server.specs.Talks.{asks, Talk, talk, said, output}
+use Rattle.debug_server.specs.Talks.{asks, Fits, turn, Talk, talk, said, output}
 use Rattle.debug_server.specs.Pending.{IsPending, grown, rest_of, Fed, Fills, Breaks, WritesFront}
 use Rattle.debug_server.proofs.Bytes.{lines_of-ended}
-use Rattle.debug_server.proofs.Turns.{Fits, turn, talk_line, said_said, grown_alike}
+use Rattle.debug_server.proofs.Turns.{talk_line, said_said, grown_alike}
 
 pub fed_start : (w : Visit) (line : List ℕ) → Fed w line [] [] false w line
 fed_start w line = record { law = λ more others. refl }

@@ -5,10 +5,10 @@ use Rattle.std.specs.Io.KnownBytes.{Appends, Consumes, Keeps, IsAtEnd}
 use Rattle.debug_server.specs.Visits.{Visit}
 use Rattle.debug_server.specs.Replies.{Told, Reply}
 use Rattle.debug_server.specs.Lines.{lines_of}
-use Rattle.debug_server.specs.Talks.{asks, Talk, talk, said, silent, output, Served, Broke}
+use Rattle.debug_server.specs.Talks.{asks, Fits, turn, Talk, talk, said, silent, output, Served, Broke}
 use Rattle.debug_server.specs.Pending.{IsPending, rest_of, Fills, Breaks, WritesFront, Ends, Reads}
 use Rattle.debug_server.proofs.Bytes.{lines_of-last}
-use Rattle.debug_server.proofs.Turns.{Fits, turn, talk_line}
+use Rattle.debug_server.proofs.Turns.{talk_line}
 use Rattle.debug_server.proofs.Feeding.{fills_start, fills_trans, breaks_later, fed_whole}
 
 after_quit : (q : Bool) (r : Reply) → said r.text (cond q (silent r.next true (Some [])) (silent r.next false (Some []))) ≡ record { text = r.text; next = r.next; quits = q; left = Some [] }

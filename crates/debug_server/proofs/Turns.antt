@@ -1,26 +1,24 @@
 -- One line of a talk.
-use Rattle.std.proofs.Common.{◌≡◌, ◌⊎◌, inl, inr, ℕ, ◌==◌, ◌<◌, ◌≤◌, List, [], ◌∷◌, ◌++◌, length, nat_lt, Bool, true, false, cond, Some, None, refl, sym, ap, ◌∙◌, arith, rules, append_assoc, length-append}
+use Rattle.std.proofs.Common.{◌≡◌, ◌⊎◌, inl, inr, ℕ, ◌==◌, ◌<◌, ◌≤◌, List, [], ◌∷◌, ◌++◌, length, nat_lt, Bool, true, false, cond, Some, None, refl, sym, ap, ◌∙◌, subst, arith, codes, rules, append_assoc, length-append}
 use Rattle.std.proofs.lemmas.Bool.Decides.{nat_tests}
+use Rattle.std.specs.Cmp.Lexicographic.{bytes_decides}
+use Rattle.std.specs.Str.{bytes_eq}
 use Rattle.debug_server.specs.Visits.{Visit}
 use Rattle.debug_server.specs.Commands.{command_of}
 use Rattle.debug_server.specs.Replies.{Told, Reply, reply}
 use Rattle.debug_server.specs.Lines.{onto_line, lines_of}
-use Rattle.debug_server.specs.Talks.{asks, told, untold, lacks, Talk, talk, said, silent}
+use Rattle.debug_server.specs.Talks.{asks, told, untold, lacks, Fits, turn, Talk, talk, said, silent}
 use Rattle.debug_server.specs.Pending.{IsPending, grown}
 use Rattle.debug_server.proofs.Bytes.{onto_lines, onto_lines-cons, onto_lines-nil, lines_of-plain, grown_room, grown_full}
 
--- no line asks
-pub asks_none : (line : List ℕ) → asks line ≡ false
+-- only a short line asks
+pub asks_short : (line : List ℕ) → 256 < length line → asks line ≡ false
 unfolding asks
-asks_none line = refl
-
--- just the answers that a line asks for
-abbrev pub Fits : Bool → List Told → Type 0
-Fits false [] = Unit {0}
-Fits false (a ∷ ts) = ⊥
-Fits true [] = ⊥
-Fits true (a ∷ []) = Unit {0}
-Fits true (a ∷ b ∷ ts) = ⊥
+asks_short line h = by (bytes_eq line (codes "sync")) refl
+  where
+    by : (q : Bool) → bytes_eq line (codes "sync") ≡ q → bytes_eq line (codes "sync") ≡ false
+    by true e = absurd (let n : length line ≡ 4 = ap length ((bytes_decides line (codes "sync")).0 e) in omega arith)
+    by false e = e
 
 lacks_fits : (q : Bool) (given others : List Told) → Fits q given → lacks q (given ++ others) ≡ false
 lacks_fits false [] others h = refl
@@ -41,10 +39,6 @@ untold_fits true [] others h = absurd h
 untold_fits true (a ∷ []) others h = refl
 untold_fits true (a ∷ b ∷ ts) others h = absurd h
 
--- the reply to a line with the answers that it asks for
-abbrev pub turn : Visit → List ℕ → List Told → Reply
-turn w l given = reply w l (told (asks l) given)
-
 -- what is said after a reply
 abbrev pub then_said : Reply → List (List ℕ) → List Told → Talk
 then_said r ls ts = said r.text (cond r.quits (silent r.next true (Some ts)) (talk r.next ls ts))
@@ -63,12 +57,15 @@ reply_long w a b t p q =
     let y : nat_lt 256 (length b) ≡ true = search (rules, nat_tests) in
     rw (x, y)
 
+fits_short : (line : List ℕ) → 256 < length line → Fits (asks line) []
+fits_short line h = let P : Bool → Type 0 = λ q. Fits q [] in subst P (sym (asks_short line h)) tt
+
 -- a talk goes by the first line's reply
 talk_first : (w : Visit) (a b : List ℕ) (ls : List (List ℕ)) (ts : List Told) → 256 < length a → 256 < length b → talk w (a ∷ ls) ts ≡ talk w (b ∷ ls) ts
 talk_first w a b ls ts p q =
-    talk_line w a ls [] ts (rw (asks_none a) tt)
-    ∙ ap (λ r. then_said r ls ts) (ap (reply w a) (ap (λ z. told z []) (asks_none a)) ∙ reply_long w a b None p q ∙ ap (reply w b) (ap (λ z. told z []) (sym (asks_none b))))
-    ∙ sym (talk_line w b ls [] ts (rw (asks_none b) tt))
+    talk_line w a ls [] ts (fits_short a p)
+    ∙ ap (λ r. then_said r ls ts) (ap (reply w a) (ap (λ z. told z []) (asks_short a p)) ∙ reply_long w a b None p q ∙ ap (reply w b) (ap (λ z. told z []) (sym (asks_short b q))))
+    ∙ sym (talk_line w b ls [] ts (fits_short b q))
 
 -- one byte more or less of a line past the limit
 long_byte : (w : Visit) (line : List ℕ) (b : ℕ) (ls : List (List ℕ)) (ts : List Told) → length line ≡ 257 → talk w (onto_lines line (onto_line b ls)) ts ≡ talk w (onto_lines line ls) ts

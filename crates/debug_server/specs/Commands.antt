@@ -9,7 +9,7 @@ use Rattle.scenario.specs.declared.names.PlaceFault.{PlaceFault}
 use Rattle.scenario.specs.declared.names.PlaceFault.TheVariants as missing
 use Rattle.scenario.specs.Names.{number_of, place_named}
 use Rattle.debug_server.specs.declared.commands.command.Command.{Command}
-use Rattle.debug_server.specs.declared.commands.command.Command.TheVariants.{Where, Show, Goto, Back, On, Watch, Break, Unwatch, Cont, Rcont, Quit}
+use Rattle.debug_server.specs.declared.commands.command.Command.TheVariants.{Where, Show, Goto, Back, On, Watch, Break, Unwatch, Cont, Rcont, Sync, Quit}
 use Rattle.debug_server.specs.declared.commands.command.CommandFault.{CommandFault}
 use Rattle.debug_server.specs.declared.commands.command.CommandFault.TheVariants as fault
 use Rattle.debug_server.specs.declared.commands.verb.Verb.{Verb}
@@ -32,6 +32,7 @@ verb_of word =
     else if bytes_eq word (codes "unwatch") then verb.Unwatch
     else if bytes_eq word (codes "cont") then verb.Cont
     else if bytes_eq word (codes "rcont") then verb.Rcont
+    else if bytes_eq word (codes "sync") then verb.Sync
     else if bytes_eq word (codes "quit") then verb.Quit
     else verb.Other
 
@@ -98,6 +99,7 @@ command_by setup verb.Break ws = breaking setup ws
 command_by setup verb.Unwatch [] = Ok Unwatch
 command_by setup verb.Cont [] = Ok Cont
 command_by setup verb.Rcont [] = Ok Rcont
+command_by setup verb.Sync [] = Ok Sync
 command_by setup _ _ = Err fault.Command
 
 abbrev pub command_of_words : Setup → List (List ℕ) → Result Command CommandFault

@@ -5,7 +5,7 @@ use Rattle.std.specs.Io.KnownBytes.{Appends, Consumes}
 use Rattle.debug_server.specs.Visits.{Visit}
 use Rattle.debug_server.specs.Replies.{Told}
 use Rattle.debug_server.specs.Lines.{lines_of}
-use Rattle.debug_server.specs.Talks.{Talk, talk, said, silent, output}
+use Rattle.debug_server.specs.Talks.{asks, told, Fits, Talk, talk, said, silent, output, Asked}
 
 -- no newline, and no byte past the limit
 pub record IsPending (line : List ℕ) : Type 0 where
@@ -54,3 +54,40 @@ pub record Reads (v : Visit) (unread unread' held held' : Option (List ℕ)) (an
   pub taken : List ℕ
   pub read : Consumes unread unread' taken
   pub fills : Fills v taken answers held held' false v' line
+
+-- ---- the same with a source, and what it answered
+
+-- The source was asked just what a line asks.
+pub record Gave {S : Type 0} (gives : S → Told → S → Type 0) (line : List ℕ) (before : S) (answer : Told) (after : S) : Type 0 where
+  pub answers : List Told
+  pub asked : Asked gives before answers after
+  pub fits : Fits (asks line) answers
+  pub same : answer ≡ told (asks line) answers
+
+pub record FillsBy {S : Type 0} (gives : S → Told → S → Type 0) (before after : S) (v : Visit) (bytes : List ℕ) (held held' : Option (List ℕ)) (q : Bool) (v' : Visit) (line : List ℕ) : Type 0 where
+  pub answers : List Told
+  pub asked : Asked gives before answers after
+  pub fills : Fills v bytes answers held held' q v' line
+
+pub record BreaksBy {S : Type 0} (gives : S → Told → S → Type 0) (before : S) (v : Visit) (bytes : List ℕ) (held held' : Option (List ℕ)) : Type 0 where
+  pub answers : List Told
+  pub mid : S
+  pub asked : Asked gives before answers mid
+  pub breaks : Breaks v bytes answers held held'
+
+pub record EndsBy {S : Type 0} (gives : S → Told → S → Type 0) (before after : S) (v : Visit) (line : List ℕ) (held held' : Option (List ℕ)) (q : Bool) (v' : Visit) : Type 0 where
+  pub answers : List Told
+  pub asked : Asked gives before answers after
+  pub ends : Ends v line answers held held' q v'
+
+-- A beginning of the replies to the line that the input ends in was written.
+pub record FrontBy {S : Type 0} (gives : S → Told → S → Type 0) (before : S) (v : Visit) (line : List ℕ) (held held' : Option (List ℕ)) : Type 0 where
+  pub answers : List Told
+  pub mid : S
+  pub asked : Asked gives before answers mid
+  pub front : WritesFront held held' (output v (lines_of line) answers)
+
+pub record ReadsBy {S : Type 0} (gives : S → Told → S → Type 0) (before after : S) (v : Visit) (unread unread' held held' : Option (List ℕ)) (v' : Visit) (line : List ℕ) : Type 0 where
+  pub answers : List Told
+  pub asked : Asked gives before answers after
+  pub reads : Reads v unread unread' held held' answers v' line

@@ -1,20 +1,21 @@
 -- What is replied to a line, and where the session stands after it.
-use Rattle.std.specs.Prelude.{ℕ, ◌+◌, ◌-◌, min, List, ◌++◌, length, codes, decimal, nat_le, Bool, true, false, if◌then◌else◌, Option, Some, None, Result, Ok, Err}
+use Rattle.std.specs.Prelude.{ℕ, ◌+◌, ◌-◌, min, List, ◌++◌, length, codes, decimal, drop, nat_lt, nat_le, Bool, true, false, if◌then◌else◌, Option, Some, None, Result, Ok, Err}
 use Rattle.places.specs.declared.place.Place.{Place}
 use Rattle.places.specs.declared.value.Value.{Value}
 use Rattle.places.specs.Text.{value_text}
 use Rattle.scenario.specs.declared.event.Event.{Event}
 use Rattle.machine.specs.Whole.{view}
-use Rattle.inverse_log.specs.Walks.{here, moved, jumped}
+use Rattle.inverse_log.specs.Walks.{here, ending, moved, jumped, extended}
 use Rattle.watches.specs.declared.stopping.Stop.{Stop}
 use Rattle.watches.specs.declared.stopping.Stop.TheVariants as stop
 use Rattle.watches.specs.Stops.{earlier_of, later_of, position_of}
 use Rattle.watches.specs.Watching.{nothing, watched, broken}
 use Rattle.debug_server.specs.declared.commands.command.Command.{Command}
-use Rattle.debug_server.specs.declared.commands.command.Command.TheVariants.{Where, Show, Goto, Back, On, Watch, Break, Unwatch, Cont, Rcont, Quit}
+use Rattle.debug_server.specs.declared.commands.command.Command.TheVariants.{Where, Show, Goto, Back, On, Watch, Break, Unwatch, Cont, Rcont, Sync, Quit}
 use Rattle.debug_server.specs.declared.commands.command.CommandFault.{CommandFault}
 use Rattle.debug_server.specs.declared.commands.command.CommandFault.TheVariants as fault
 use Rattle.debug_server.specs.Commands.{command_of}
+use Rattle.debug_server.specs.Syncs.{torn_from, refused_from}
 use Rattle.debug_server.specs.Visits.{Visit, walked_to, minding}
 
 -- what a source can answer: a trace, or none
@@ -60,6 +61,18 @@ stop_text len (stop.Met m) = codes "met at " ++ (decimal m ++ codes "\n")
 stop_text len stop.Start = codes "start at 0\n"
 stop_text len stop.End = codes "end at " ++ (decimal len ++ codes "\n")
 
+-- how many events there are now
+abbrev pub synced_text : ℕ → List ℕ
+synced_text n = codes "synced " ++ (decimal n ++ codes "\n")
+
+-- where the run and the source's trace part
+abbrev pub torn_text : ℕ → List ℕ
+torn_text i = codes "refused 3 torn " ++ (decimal i ++ codes "\n")
+
+-- which of the source's events is refused
+abbrev pub event_text : ℕ → List ℕ
+event_text i = codes "refused 4 event " ++ (decimal i ++ codes "\n")
+
 -- ---- replies
 
 abbrev pub stays : Visit → List ℕ → Reply
@@ -90,20 +103,36 @@ stops_on v s = record { text = stop_text (length v.walk.events) s; next = walked
 abbrev pub stops_back : Visit → Stop → Reply
 stops_back v s = record { text = stop_text (length v.walk.events) s; next = walked_to v (jumped v.walk (position_of v.walk s)); quits = false }
 
-abbrev pub reply_to : Visit → Result Command CommandFault → Reply
-reply_to v (Err f) = stays v (fault_text f)
-reply_to v (Ok Where) = stays v (at_text v.walk.at (length v.walk.events))
-reply_to v (Ok (Show p)) = stays v (shown_text (view (here v.walk) p))
-reply_to v (Ok (Goto n)) = if nat_le n (length v.walk.events) then goes v n else stays v (codes "refused 1 moment\n")
-reply_to v (Ok (Back n)) = goes v (v.walk.at - n)
-reply_to v (Ok (On n)) = goes v (min (v.walk.at + n) (length v.walk.events))
-reply_to v (Ok (Watch p)) = watches v p
-reply_to v (Ok (Break p x)) = breaks v p x
-reply_to v (Ok Unwatch) = record { text = watching_text 0; next = minding v nothing; quits = false }
-reply_to v (Ok Cont) = stops_on v (later_of v.walk v.watching)
-reply_to v (Ok Rcont) = stops_back v (earlier_of v.walk v.watching.places)
-reply_to v (Ok Quit) = record { text = codes "bye\n"; next = v; quits = true }
+-- the events that the source has more, unless one is refused
+abbrev pub takes_over : Visit → List Event → Option ℕ → Reply
+takes_over v es (Some i) = stays v (event_text i)
+takes_over v es None = record { text = synced_text (length es); next = walked_to v (extended v.walk (drop (length v.walk.events) es)); quits = false }
+
+-- the same, unless the run is no beginning of the source's trace
+abbrev pub agrees : Visit → List Event → Option ℕ → Reply
+agrees v es (Some i) = stays v (torn_text i)
+agrees v es None = takes_over v es (refused_from (length v.walk.events) (ending v.walk) (drop (length v.walk.events) es))
+
+-- what the source told is taken over, unless it told nothing, or more events than a trace has
+abbrev pub syncs : Visit → Told → Reply
+syncs v None = stays v (codes "refused 2 source\n")
+syncs v (Some es) = if nat_lt 1048576 (length es) then stays v (codes "refused 5 full\n") else agrees v es (torn_from 0 v.walk.events es)
+
+abbrev pub reply_to : Visit → Result Command CommandFault → Told → Reply
+reply_to v (Err f) told = stays v (fault_text f)
+reply_to v (Ok Where) told = stays v (at_text v.walk.at (length v.walk.events))
+reply_to v (Ok (Show p)) told = stays v (shown_text (view (here v.walk) p))
+reply_to v (Ok (Goto n)) told = if nat_le n (length v.walk.events) then goes v n else stays v (codes "refused 1 moment\n")
+reply_to v (Ok (Back n)) told = goes v (v.walk.at - n)
+reply_to v (Ok (On n)) told = goes v (min (v.walk.at + n) (length v.walk.events))
+reply_to v (Ok (Watch p)) told = watches v p
+reply_to v (Ok (Break p x)) told = breaks v p x
+reply_to v (Ok Unwatch) told = record { text = watching_text 0; next = minding v nothing; quits = false }
+reply_to v (Ok Cont) told = stops_on v (later_of v.walk v.watching)
+reply_to v (Ok Rcont) told = stops_back v (earlier_of v.walk v.watching.places)
+reply_to v (Ok Sync) told = syncs v told
+reply_to v (Ok Quit) told = record { text = codes "bye\n"; next = v; quits = true }
 
 -- the reply to a line, with what the source answered
 unfoldable pub reply : Visit → List ℕ → Told → Reply
-reply v line told = reply_to v (command_of v.walk.setup line)
+reply v line told = reply_to v (command_of v.walk.setup line) told

@@ -1,13 +1,14 @@
 -- What a session replies to lines, one after another.
-use Rattle.std.specs.Prelude.{◌≡◌, ◌⊎◌, ℕ, List, [], ◌∷◌, ◌++◌, Bool, true, false, if◌then◌else◌, Option, Some, None}
+use Rattle.std.specs.Prelude.{◌≡◌, ◌⊎◌, ℕ, List, [], ◌∷◌, ◌++◌, map, codes, Bool, true, false, if◌then◌else◌, Option, Some, None}
+use Rattle.std.specs.Str.{bytes_eq}
 use Rattle.std.specs.Io.KnownBytes.{Appends, Consumes, IsAtEnd}
 use Rattle.debug_server.specs.Visits.{Visit}
-use Rattle.debug_server.specs.Replies.{Told, reply}
+use Rattle.debug_server.specs.Replies.{Told, Reply, reply}
 use Rattle.debug_server.specs.Lines.{lines_of}
 
--- whether the source is asked for a line: no command asks it yet
+-- whether the source is asked for a line
 unfoldable pub asks : List ℕ → Bool
-asks line = false
+asks line = bytes_eq line (codes "sync")
 
 -- The answer to a line that asks or doesn't, from the answers that are left.
 abbrev pub told : Bool → List Told → Told
@@ -23,6 +24,18 @@ untold _ ts = ts
 abbrev pub lacks : Bool → List Told → Bool
 lacks true [] = true
 lacks _ _ = false
+
+-- just the answers that a line asks for
+abbrev pub Fits : Bool → List Told → Type 0
+Fits false [] = Unit {0}
+Fits false (a ∷ ts) = ⊥
+Fits true [] = ⊥
+Fits true (a ∷ []) = Unit {0}
+Fits true (a ∷ b ∷ ts) = ⊥
+
+-- the reply to a line with the answers that it asks for
+abbrev pub turn : Visit → List ℕ → List Told → Reply
+turn v l given = reply v l (told (asks l) given)
 
 -- What lines come to: the replies in a row, where the session stands after them, whether one of them quit, and
 -- the source's answers that are left, if none was lacking.
@@ -57,6 +70,15 @@ output v ls ts = (talk v ls ts).text
 abbrev pub Asked : {S : Type 0} → (S → Told → S → Type 0) → S → List Told → S → Type 0
 Asked gives before [] after = after ≡ before
 Asked {S} gives before (a ∷ ts) after = (mid : S) × gives before a mid × Asked gives mid ts after
+
+-- Each answer is that there is no source.
+abbrev pub Unanswered : List Told → Type 0
+Unanswered [] = Unit {0}
+Unanswered (a ∷ ts) = (a ≡ None) × Unanswered ts
+
+-- no source, whichever of the lines asks
+abbrev pub unanswered : List (List ℕ) → List Told
+unanswered ls = map (λ l. None) ls
 
 -- Some bytes were read, to the end or past a line that quits, and just the replies to them were written.
 pub record Served (v : Visit) (unread unread' held held' : Option (List ℕ)) (answers : List Told) (v' : Visit) (q : Bool) : Type 0 where

@@ -1,13 +1,15 @@
 //! Replies to lines.
-ghost use Rattle.std.specs.Prelude.{◌≡◌, ◌≤◌, length, IfOk, OnOk, OnErr};
+ghost use Rattle.std.specs.Prelude.{◌≡◌, ◌≤◌, length, option_map, IfOk, OnOk, OnErr};
 ghost use Rattle.inverse_log.specs.Walks.{jumped};
-ghost use Rattle.debug_server.specs.Replies.{Told, at_text, reply_to, reply};
+ghost use Rattle.debug_server.specs.Replies.{at_text, reply_to, reply};
 
 use crate::commands::{Command, CommandFault, parse_line};
 use crate::stops::{break_at, jump_to, stop_back, stop_on, unwatch, watch};
+use crate::syncing::sync;
 use crate::texts::{at_line, fault_line, value_line};
 use crate::visitor::Visitor;
 use inverse_log::Walker;
+use machine::Event;
 use std::alloc::{AllocError, Global};
 
 // Goes to a moment, and says so. An `Err` changes nothing: the text is made first.
@@ -27,10 +29,11 @@ fn answer_to(
     alloc: Global,
     visitor: &mut Visitor,
     command: Result<Command, CommandFault>,
+    told: Option<&[Event]>,
 ) -> Result<(Vec<u8>, bool), AllocError>
-    ensures text { IfOk result (λ r. r.0.items ≡ (reply_to visitor.old command).text) }
-    ensures next { OnOk result (visitor.new ≡ (reply_to visitor.old command).next) }
-    ensures quits { IfOk result (λ r. r.1 ≡ (reply_to visitor.old command).quits) }
+    ensures text { IfOk result (λ r. r.0.items ≡ (reply_to visitor.old command (option_map (λ es. es.now) told.entry)).text) }
+    ensures next { OnOk result (visitor.new ≡ (reply_to visitor.old command (option_map (λ es. es.now) told.entry)).next) }
+    ensures quits { IfOk result (λ r. r.1 ≡ (reply_to visitor.old command (option_map (λ es. es.now) told.entry)).quits) }
     ensures err { OnErr result (visitor.new ≡ visitor.old) }
 {
     let (at, len) = (visitor.walker.at(), visitor.walker.len());
@@ -62,22 +65,24 @@ fn answer_to(
         Ok(Command::Unwatch) => Ok((unwatch(alloc, visitor)?, false)),
         Ok(Command::Cont) => Ok((stop_on(alloc, visitor)?, false)),
         Ok(Command::Rcont) => Ok((stop_back(alloc, visitor)?, false)),
+        Ok(Command::Sync) => Ok((sync(alloc, visitor, told)?, false)),
         Ok(Command::Quit) => Ok((Vec::from_slice(alloc, b"bye\n")?, true)),
     }
 }
 
-// Replies to one line, and says whether no later one is answered.
+// Replies to one line, with what the source told, and says whether no later line is answered.
 #[tactic(auto, unfolding(crate::specs::Replies::reply))]
 pub(crate) fn answer(
     alloc: Global,
     visitor: &mut Visitor,
     line: &[u8],
+    told: Option<&[Event]>,
 ) -> Result<(Vec<u8>, bool), AllocError>
-    ensures text { IfOk result (λ r. (told : Told) → r.0.items ≡ (reply visitor.old line.now told).text) }
-    ensures next { OnOk result ((told : Told) → visitor.new ≡ (reply visitor.old line.now told).next) }
-    ensures quits { IfOk result (λ r. (told : Told) → r.1 ≡ (reply visitor.old line.now told).quits) }
+    ensures text { IfOk result (λ r. r.0.items ≡ (reply visitor.old line.now (option_map (λ es. es.now) told.entry)).text) }
+    ensures next { OnOk result (visitor.new ≡ (reply visitor.old line.now (option_map (λ es. es.now) told.entry)).next) }
+    ensures quits { IfOk result (λ r. r.1 ≡ (reply visitor.old line.now (option_map (λ es. es.now) told.entry)).quits) }
     ensures err { OnErr result (visitor.new ≡ visitor.old) }
 {
     let command = parse_line(alloc, visitor.walker.setup(), line)?;
-    answer_to(alloc, visitor, command)
+    answer_to(alloc, visitor, command, told)
 }

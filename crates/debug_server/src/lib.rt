@@ -10,6 +10,7 @@ mod serving;
 mod session;
 mod source;
 mod stops;
+mod syncing;
 mod task;
 mod texts;
 mod visitor;

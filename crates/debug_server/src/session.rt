@@ -50,8 +50,7 @@ impl Session {
         ensures next { OnOk result (self.new ≡ record { visit = (reply self.old.visit line.now (option_map (λ es. es.now) answer.entry)).next; is_closed = self.old.is_closed }) }
         ensures err { OnErr result (self.new ≡ self.old) }
     {
-        let _ = answer;
-        let (text, _) = answering::answer(self.alloc, &mut self.visitor, line)?;
+        let (text, _) = answering::answer(self.alloc, &mut self.visitor, line, answer)?;
         Ok(text)
     }
 }

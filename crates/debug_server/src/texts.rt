@@ -1,6 +1,6 @@
 //! The texts of replies.
 ghost use Rattle.std.specs.Prelude.{◌≡◌, codes, IfOk};
-ghost use Rattle.debug_server.specs.Replies.{fault_text, shown_text, at_text, watching_text, breaks_text, stop_text};
+ghost use Rattle.debug_server.specs.Replies.{fault_text, shown_text, at_text, watching_text, breaks_text, stop_text, synced_text, torn_text, event_text};
 
 use crate::commands::CommandFault;
 use places::Value;
@@ -68,5 +68,29 @@ pub(crate) fn stop_line(alloc: Global, stop: Stop, len: usize) -> Result<Vec<u8>
         Stop::Start => format!(in alloc; "start at 0\n")?,
         Stop::End => format!(in alloc; "end at {len}\n")?,
     };
+    Ok(text.into_bytes())
+}
+
+// How many events there are now.
+pub(crate) fn synced_line(alloc: Global, count: usize) -> Result<Vec<u8>, AllocError>
+    ensures { IfOk result (λ v. v.items ≡ synced_text count) }
+{
+    let text = format!(in alloc; "synced {count}\n")?;
+    Ok(text.into_bytes())
+}
+
+// Where the run and the trace of a source part.
+pub(crate) fn torn_line(alloc: Global, index: usize) -> Result<Vec<u8>, AllocError>
+    ensures { IfOk result (λ v. v.items ≡ torn_text index) }
+{
+    let text = format!(in alloc; "refused 3 torn {index}\n")?;
+    Ok(text.into_bytes())
+}
+
+// Which event of a source is refused.
+pub(crate) fn event_line(alloc: Global, index: usize) -> Result<Vec<u8>, AllocError>
+    ensures { IfOk result (λ v. v.items ≡ event_text index) }
+{
+    let text = format!(in alloc; "refused 4 event {index}\n")?;
     Ok(text.into_bytes())
 }

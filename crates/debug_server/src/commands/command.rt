@@ -26,6 +26,7 @@ pub(crate) enum Command {
     Unwatch,
     Cont,
     Rcont,
+    Sync,
     Quit,
 }
 
@@ -87,6 +88,7 @@ fn parse_command(setup: &Setup, words: &[&[u8]]) -> Result<Command, CommandFault
         (Verb::Unwatch, []) => Ok(Command::Unwatch),
         (Verb::Cont, []) => Ok(Command::Cont),
         (Verb::Rcont, []) => Ok(Command::Rcont),
+        (Verb::Sync, []) => Ok(Command::Sync),
         (Verb::Goto, [n]) => Ok(Command::Goto(read_number(n).ok_or(CommandFault::Number)?)),
         (Verb::Back, [n]) => Ok(Command::Back(read_number(n).ok_or(CommandFault::Number)?)),
         (Verb::On, [n]) => Ok(Command::On(read_number(n).ok_or(CommandFault::Number)?)),

@@ -15,6 +15,7 @@ pub(crate) enum Verb {
     Unwatch,
     Cont,
     Rcont,
+    Sync,
     Quit,
     Other,
 }
@@ -42,6 +43,8 @@ pub(crate) fn parse_verb(word: &[u8]) -> Verb
         Verb::Cont
     } else if word == b"rcont".as_slice() {
         Verb::Rcont
+    } else if word == b"sync".as_slice() {
+        Verb::Sync
     } else if word == b"quit".as_slice() {
         Verb::Quit
     } else {
