@@ -9,6 +9,7 @@ mod notes;
 mod records;
 mod sessions;
 mod shown;
+mod sources;
 mod stops;
 mod texts;
 

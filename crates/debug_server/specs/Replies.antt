@@ -81,6 +81,10 @@ stays v text = record { text = text; next = v; quits = false }
 abbrev pub goes : Visit → ℕ → Reply
 goes v m = record { text = at_text m (length v.walk.events); next = walked_to v (jumped v.walk m); quits = false }
 
+-- the same, unless the run has no such moment
+abbrev pub goes_to : Visit → ℕ → Reply
+goes_to v m = if nat_le m (length v.walk.events) then goes v m else stays v (codes "refused 1 moment\n")
+
 -- as many as there can be
 abbrev pub is_full : {X : Type 0} → List X → Bool
 is_full xs = nat_le 64 (length xs)
@@ -122,7 +126,7 @@ abbrev pub reply_to : Visit → Result Command CommandFault → Told → Reply
 reply_to v (Err f) told = stays v (fault_text f)
 reply_to v (Ok Where) told = stays v (at_text v.walk.at (length v.walk.events))
 reply_to v (Ok (Show p)) told = stays v (shown_text (view (here v.walk) p))
-reply_to v (Ok (Goto n)) told = if nat_le n (length v.walk.events) then goes v n else stays v (codes "refused 1 moment\n")
+reply_to v (Ok (Goto n)) told = goes_to v n
 reply_to v (Ok (Back n)) told = goes v (v.walk.at - n)
 reply_to v (Ok (On n)) told = goes v (min (v.walk.at + n) (length v.walk.events))
 reply_to v (Ok (Watch p)) told = watches v p

@@ -1,7 +1,7 @@
 //! Replies to lines.
 ghost use Rattle.std.specs.Prelude.{◌≡◌, ◌≤◌, length, option_map, IfOk, OnOk, OnErr};
 ghost use Rattle.inverse_log.specs.Walks.{jumped};
-ghost use Rattle.debug_server.specs.Replies.{at_text, reply_to, reply};
+ghost use Rattle.debug_server.specs.Replies.{at_text, goes_to, reply_to, reply};
 
 use crate::commands::{Command, CommandFault, parse_line};
 use crate::stops::{break_at, jump_to, stop_back, stop_on, unwatch, watch};
@@ -24,6 +24,19 @@ fn jump(alloc: Global, walker: &mut Walker, moment: usize) -> Result<Vec<u8>, Al
     Ok(text)
 }
 
+// The same, unless the run has no such moment.
+fn go_to(alloc: Global, visitor: &mut Visitor, moment: usize) -> Result<Vec<u8>, AllocError>
+    ensures text { IfOk result (λ text. text.items ≡ (goes_to visitor.old moment).text) }
+    ensures next { OnOk result (visitor.new ≡ (goes_to visitor.old moment).next) }
+    ensures err { OnErr result (visitor.new ≡ visitor.old) }
+{
+    if moment <= visitor.walker.len() {
+        jump(alloc, &mut visitor.walker, moment)
+    } else {
+        Vec::from_slice(alloc, b"refused 1 moment\n")
+    }
+}
+
 // Does what a command says. Answers the reply, and whether no later line is answered.
 fn answer_to(
     alloc: Global,
@@ -44,14 +57,7 @@ fn answer_to(
             let value = visitor.walker.state().value(place);
             Ok((value_line(alloc, value)?, false))
         }
-        Ok(Command::Goto(n)) => {
-            let moment = n as usize;
-            if moment <= len {
-                Ok((jump(alloc, &mut visitor.walker, moment)?, false))
-            } else {
-                Ok((Vec::from_slice(alloc, b"refused 1 moment\n")?, false))
-            }
-        }
+        Ok(Command::Goto(n)) => Ok((go_to(alloc, visitor, n as usize)?, false)),
         Ok(Command::Back(n)) => {
             let moment = at.saturating_sub(n as usize);
             Ok((jump(alloc, &mut visitor.walker, moment)?, false))
