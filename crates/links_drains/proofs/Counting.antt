@@ -10,20 +10,20 @@ use Rattle.links_drains.specs.Phases.{is_ended, counts, counted_of, ended_of}
 
 -- ---- rows of a kind
 
-matching-more : (p : Row → Bool) (row : Row) (rows : List Row) → length (filter p (row ∷ rows)) ≡ cond (p row) 1 0 + length (filter p rows)
+pub matching-more : (p : Row → Bool) (row : Row) (rows : List Row) → length (filter p (row ∷ rows)) ≡ cond (p row) 1 0 + length (filter p rows)
 matching-more p row rows = by (p row)
   where
     by : (b : Bool) → length (cond b (row ∷ filter p rows) (filter p rows)) ≡ cond b 1 0 + length (filter p rows)
     by true = omega arith
     by false = omega arith
 
-matching-append : (p : Row → Bool) (rows others : List Row) → length (filter p (rows ++ others)) ≡ length (filter p rows) + length (filter p others)
+pub matching-append : (p : Row → Bool) (rows others : List Row) → length (filter p (rows ++ others)) ≡ length (filter p rows) + length (filter p others)
 matching-append p [] others = omega arith
 matching-append p (row ∷ rows) others =
     matching-more p row (rows ++ others) ∙ ap (λ n. cond (p row) 1 0 + n) (matching-append p rows others)
     ∙ omega (arith, matching-more p row rows)
 
-matching-updated : (p : Row → Bool) (f : Row → Row) (rows : List Row) (i : ℕ) (row : Row) → slice_get rows i ≡ Some row →
+pub matching-updated : (p : Row → Bool) (f : Row → Row) (rows : List Row) (i : ℕ) (row : Row) → slice_get rows i ≡ Some row →
     length (filter p (updated f rows i)) + cond (p row) 1 0 ≡ length (filter p rows) + cond (p (f row)) 1 0
 matching-updated p f [] i row h = absurd cc
 matching-updated p f (x ∷ rows) zero row h =
@@ -37,7 +37,7 @@ matching-updated p f (x ∷ rows) (suc i) row h =
     let k = matching-updated p f rows i row h in
     omega (arith, a, b, k)
 
-matching-le-length : (p : Row → Bool) (rows : List Row) → length (filter p rows) ≤ length rows
+pub matching-le-length : (p : Row → Bool) (rows : List Row) → length (filter p rows) ≤ length rows
 matching-le-length p rows = omega (arith, length-filter p rows, count_by-le-length p rows)
 
 -- ---- rows that have ended and count

@@ -1,3 +1,5 @@
 pub mod Batches
+pub mod Holding
+pub mod Links
 pub mod Phases
 pub mod Rows

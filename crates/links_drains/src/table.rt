@@ -1,13 +1,17 @@
 //! The table of all rows that were ever submitted.
-ghost use Rattle.std.specs.Prelude.{◌≡◌, ◌+◌, ◌<◌, ◌≤◌, ◌^◌, ◌++◌, ◌∷◌, [], take, None, IfOk, OnOk, OnErr, OnSome, length, option_map, slice_get};
+ghost use Rattle.std.specs.Prelude.{◌≡◌, ℕ, ◌+◌, ◌<◌, ◌≤◌, ◌^◌, ◌++◌, ◌∷◌, [], take, None, IfOk, OnOk, OnErr, OnSome, length, option_map, slice_get, slice_set};
 ghost use Rattle.entries.specs.declared.row.Row.{Row};
 ghost use Rattle.entries.specs.declared.row.Phase.TheVariants.{Issued};
 ghost use Rattle.places.specs.Lists.{updated};
 ghost use Rattle.places.specs.View.{Keeps, named, put_at};
 ghost use Rattle.places.specs.declared.place.Place.{Place};
+ghost use Rattle.model_files.specs.Holders.{is_held};
+ghost use Rattle.links_drains.specs.Holding.{is_held_by};
 ghost use Rattle.links_drains.specs.Rows.{table_owns, table_seen, table_can_put, new_row as new_row_of};
 
+use crate::holding::{count, take_all_off, take_off};
 use entries::{Phase, Row, Sqe};
+use model_files::Held;
 use places::{At, Part, Place, Recorder, Value};
 use std::alloc::{AllocError, Global};
 use std::marker::Model;
@@ -16,6 +20,8 @@ use std::marker::Model;
 #[derive(Drop)]
 pub struct Table {
     rows: Vec<Row>,
+    /// Which descriptors the issued rows hold.
+    held: Held,
 }
 
 impl Model for Table {
@@ -25,6 +31,10 @@ impl Model for Table {
     ghost Value = { List Row };
 
     ghost view = { λ a. a.rows.items };
+
+    ghost use Rattle.links_drains.specs.Holding.{Tallied};
+
+    ghost invariant = { λ a. Tallied a.rows.items a.held };
 }
 
 impl At for Table {
@@ -52,8 +62,8 @@ impl Part for Table {
         ensures len { OnSome value (length self.new ≡ length self.old) }
     {
         match (place, value) {
-            (Place::Request(i), Some(Value::Requested(row))) => self.rows[i as usize] = row,
-            (Place::Request(i), None) => self.rows.truncate(i as usize),
+            (Place::Request(i), Some(Value::Requested(row))) => self.set(i as usize, row),
+            (Place::Request(i), None) => self.truncate(i as usize),
             _ => unreachable!(),
         }
     }
@@ -66,7 +76,13 @@ impl Table {
     {
         Table {
             rows: Vec::new(alloc),
+            held: Held::new(),
         }
+    }
+
+    /// Where the table has its memory from.
+    pub fn allocator(&self) -> Global {
+        *self.rows.allocator()
     }
 
     /// How many rows there are.
@@ -114,6 +130,13 @@ impl Table {
         }
     }
 
+    /// Which descriptors issued rows hold. It takes constant time.
+    pub fn held(&self) -> &Held
+        ensures { (fd : ℕ) → is_held result.now fd ≡ is_held_by self.now fd }
+    {
+        &self.held
+    }
+
     /// Adds a row behind the others.
     pub fn push(&mut self, row: Row, notes: &mut Recorder) -> Result<(), AllocError>
         requires { length self.old < 65536 }
@@ -129,6 +152,7 @@ impl Table {
         self.rows.reserve(1)?;
         notes.note_row(self.rows.len() as u32, None)?;
         self.rows.push(row)?;
+        count(&mut self.held, &row);
         Ok(())
     }
 
@@ -150,7 +174,7 @@ impl Table {
     {
         let row = self.rows[r as usize];
         notes.note_row(r, Some(row))?;
-        self.rows[r as usize].phase = phase;
+        self.set(r as usize, Row { phase, ..row });
         Ok(())
     }
 
@@ -172,19 +196,35 @@ impl Table {
     {
         let queued = self.rows[r as usize];
         notes.note_row(r, Some(queued))?;
-        self.rows[r as usize] = Row {
-            phase: Phase::Issued,
-            held,
-            ..queued
-        };
+        self.set(
+            r as usize,
+            Row {
+                phase: Phase::Issued,
+                held,
+                ..queued
+            },
+        );
         Ok(())
     }
 
-    /// Drops the rows from a number on. It takes no memory.
+    /// Writes a row over the one of a number.
+    fn set(&mut self, r: usize, after: Row)
+        requires { r < length self.old }
+        ensures { self.new ≡ slice_set self.old r after }
+    {
+        take_off(&mut self.held, &self.rows[r]);
+        count(&mut self.held, &after);
+        self.rows[r] = after;
+    }
+
+    /// Drops the rows from a number on. It takes no memory, and time by the rows that it drops.
     pub fn truncate(&mut self, n: usize)
         ensures { self.new ≡ take n self.old }
     {
-        self.rows.truncate(n);
+        if n < self.rows.len() {
+            take_all_off(&mut self.held, &self.rows[n..]);
+            self.rows.truncate(n);
+        }
     }
 
     /// A table of the same rows.
@@ -193,6 +233,7 @@ impl Table {
     {
         Ok(Table {
             rows: Vec::from_slice(alloc, &self.rows)?,
+            held: self.held,
         })
     }
 }
@@ -275,6 +316,46 @@ mod tests {
         table.issue(0, Some(3), &mut notes)?;
         assert_eq!(rt; table.phase(0), Some(Phase::Issued));
         assert_eq!(rt; held_by(&table, 0), Some(3));
+        assert_eq!(rt; table.held().holds(3), true);
+        assert_eq!(rt; table.held().holds(4), false);
+        Ok(())
+    }
+
+    #[test]
+    fn held_until_the_last_row_ends(rt: HostRuntime) -> Result<(), AllocError> {
+        let mut table = Table::new(rt.alloc());
+        let mut notes = Recorder::new(rt.alloc());
+        table.push(new_row(nop(7), 0), &mut notes)?;
+        table.push(new_row(nop(8), 1), &mut notes)?;
+        table.issue(0, Some(66), &mut notes)?;
+        table.issue(1, Some(66), &mut notes)?;
+        table.set_phase(0, Phase::Ended(-9), &mut notes)?;
+        assert_eq!(rt; table.held().holds(66), true);
+        table.set_phase(1, Phase::Ended(-9), &mut notes)?;
+        assert_eq!(rt; table.held().holds(66), false);
+        Ok(())
+    }
+
+    #[test]
+    fn held_again_once_put_back(rt: HostRuntime) -> Result<(), AllocError> {
+        let alloc = rt.alloc();
+        let mut table = Table::new(alloc);
+        let mut notes = Recorder::new(alloc);
+        let issued = Row {
+            phase: Phase::Issued,
+            held: Some(5),
+            ..new_row(nop(7), 0)
+        };
+        table.push(issued, &mut notes)?;
+        assert_eq!(rt; table.held().holds(5), true);
+        table.set_phase(0, Phase::Ended(-9), &mut notes)?;
+        assert_eq!(rt; table.held().holds(5), false);
+        table.put(Place::Request(0), Some(Value::Requested(issued)));
+        assert_eq!(rt; table.held().holds(5), true);
+        let copied = table.copy(alloc)?;
+        table.truncate(0);
+        assert_eq!(rt; table.held().holds(5), false);
+        assert_eq!(rt; copied.held().holds(5), true);
         Ok(())
     }
 }

@@ -1,5 +1,5 @@
 -- What an Enter finds, and what room completions have.
-use Rattle.std.proofs.Common.{◌≡◌, ℕ, ℤ, Bool, true, false, cond, refl, sym, ◌∙◌, ap, List, length, ◌+◌, ◌<◌, ◌≤◌, arith}
+use Rattle.std.proofs.Common.{◌≡◌, ℕ, ℤ, Bool, true, false, cond, refl, sym, ◌∙◌, ap, List, [], ◌∷◌, length, ◌+◌, ◌<◌, ◌≤◌, arith}
 use Rattle.std.specs.Result.{OnOk}
 use Rattle.std.specs.Prelude.{Option, Some, None, Result, Ok, Err, not, ◌&&◌, ◌||◌, nat_lt, slice_get, slice_set}
 use Rattle.entries.specs.declared.row.Row.{Row}
@@ -14,7 +14,7 @@ use Rattle.links_drains.proofs.Counting.{ended-le-length, ended-lt-length}
 use Rattle.ring_words.specs.Rings.{sub_list}
 use Rattle.overflow.specs.Backlogs.{is_clear}
 use Rattle.machine.specs.Submission.{taken_entries, einval, ebusy, ebadf}
-use Rattle.machine.specs.Steps.{flushed, gets_events, before_submission, is_unknown, is_busy, submission_refusal, alone_refusal, issue_refusal, outcome_refusal, issued, held_by, lacks_descriptor, ended, phase_refusal, finish_refusal, answered, submitted, awaited, submitting, entered, entered_alone, entered_beside}
+use Rattle.machine.specs.Steps.{flushed, gets_events, before_submission, is_unknown, is_busy, submission_refusal, alone_refusal, issue_refusal, outcome_refusal, issued, held_by, lacks_descriptor, phase_refusal, finish_refusal, answered, submitted, awaited, submitting, entered, entered_alone, entered_beside, fallen}
 use Rattle.sqpoll.specs.declared.poller.Poller.{Poller}
 use Rattle.places.specs.Lists.{updated}
 use Rattle.places.proofs.ListLemmas.{updated_set}
@@ -140,4 +140,4 @@ issued_told (Err e) m r x held rows h l k o = o
 issued_told (Ok y) m r x held rows h l k o = ap (λ ts. record m { table = ts }) (o ∙ updated_alike _ _ m.table r x h (ap (λ n. record x { phase = Issued; held = n }) k)) ∙ sym told
   where
     told : issued m r (slice_get m.table r) ≡ record m { table = updated (λ row. record row { phase = Issued; held = held_by row }) m.table r }
-    told = ap (issued m r) h ∙ ap (λ b. cond b (ended m r ebadf) (record m { table = updated (λ row. record row { phase = Issued; held = held_by row }) m.table r })) l
+    told = ap (issued m r) h ∙ ap (λ b. cond b (fallen m ((r, ebadf) ∷ [])) (record m { table = updated (λ row. record row { phase = Issued; held = held_by row }) m.table r })) l

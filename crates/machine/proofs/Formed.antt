@@ -1,12 +1,11 @@
 -- Accepted events keep machines well formed.
-use Rattle.std.proofs.Common.{◌≡◌, ◌≢◌, ℕ, ℤ, zero, suc, pos, Bool, true, false, cond, refl, sym, ◌∙◌, ap, subst, List, [], ◌∷◌, ◌++◌, length, map, ◌+◌, ◌-◌, ◌%◌, ◌<◌, ◌≤◌, ◌^◌, ◌⊎◌, inl, inr, arith, length-set, length-append, le_refl, FitsSigned}
+use Rattle.std.proofs.Common.{◌≡◌, ℕ, ℤ, zero, suc, pos, Bool, true, false, cond, refl, sym, ◌∙◌, ap, List, [], ◌∷◌, length, ◌+◌, ◌-◌, ◌%◌, ◌<◌, ◌≤◌, ◌^◌, ◌⊎◌, inl, inr, arith, FitsSigned}
 use Rattle.std.specs.Prelude.{Option, Some, None, not, min, slice_get, slice_set, nat_lt, ◌==◌, ◌&&◌, ◌||◌, if◌then◌else◌}
 use Rattle.std.specs.Int.{w64}
-use Rattle.std.proofs.lemmas.Bool.{eqb-true, eq-eqb}
+use Rattle.std.proofs.lemmas.Bool.{eq-eqb}
 use Rattle.std.proofs.lemmas.Bool.Decides.{leb_tells}
-use Rattle.std.proofs.Math.Dec.{leb, ltb}
+use Rattle.std.proofs.Math.Dec.{ltb}
 use Rattle.entries.specs.declared.completion.Cqe.{Cqe}
-use Rattle.entries.specs.declared.entry.Sqe.{Sqe}
 use Rattle.entries.specs.declared.row.Row.{Row}
 use Rattle.entries.specs.declared.row.Phase.{Phase}
 use Rattle.entries.specs.declared.row.Phase.TheVariants.{Queued, Issued, Ended}
@@ -20,7 +19,6 @@ use Rattle.model_files.specs.Worlds.{world_stored}
 use Rattle.model_files.proofs.Fixing as worlds
 use Rattle.model_files.proofs.Forming.{world_stored_formed}
 use Rattle.places.specs.Lists.{updated}
-use Rattle.places.proofs.ListLemmas.{length-updated}
 use Rattle.places.specs.declared.value.Stage.{Stage}
 use Rattle.places.specs.declared.value.Stage.TheVariants.{Ready, Waiting}
 use Rattle.ring_words.specs.Rings.{waiting, with_flag}
@@ -30,13 +28,11 @@ use Rattle.overflow.specs.Backlogs.{is_clear}
 use Rattle.sqpoll.specs.declared.poller.Poller.{Poller}
 use Rattle.sqpoll.specs.declared.poller.Poller.TheVariants.{Awake, Asleep}
 use Rattle.sqpoll.specs.Pollers.{is_awake}
-use Rattle.links_drains.specs.Batches.{rows_of}
 use Rattle.links_drains.specs.Phases.{is_ended, counts}
 use Rattle.machine.specs.Submission.{offered, some_fails, taken_entries, einval, ebusy, ebadf}
-use Rattle.machine.specs.Steps.{refusal, after, stepped, executed, entered, entered_alone, entered_beside, submitting, before_submission, is_busy, is_unknown, gets_events, wakes, woken, shown, awaited, ready_count, held_back, with_poller, flushed, submission_refusal, alone_refusal, enter_refusal, instruction_refusal, next_refusal, thread_refusal, take_refusal, issue_refusal, phase_refusal, finish_refusal, ended, taken, submitted, answered, gone_on, issued, finished, finished_as, lacks_descriptor, held_by}
-use Rattle.machine.specs.Threads.{ThreadState, program_of}
-use Rattle.scenario.specs.Programs.{IsDone}
-use Rattle.machine.specs.Whole.{is_asleep, flag_word, WellFormed, Stands}
+use Rattle.machine.specs.Steps.{refusal, after, stepped, executed, entered, entered_alone, entered_beside, submitting, before_submission, is_busy, is_unknown, gets_events, wakes, woken, shown, awaited, ready_count, held_back, with_poller, flushed, submission_refusal, alone_refusal, enter_refusal, instruction_refusal, next_refusal, thread_refusal, take_refusal, issue_refusal, phase_refusal, finish_refusal, taken, submitted, answered, gone_on, issued, finished, finished_as, lacks_descriptor, held_by, fallen}
+use Rattle.machine.specs.Threads.{ThreadState}
+use Rattle.machine.specs.Whole.{is_asleep, flag_word, WellFormed}
 use Rattle.scenario.specs.declared.setup.Instruction.{Instruction}
 use Rattle.scenario.specs.declared.setup.Instruction.TheVariants.{Put, Push, Store, Enter, Reap, Close}
 use Rattle.machine.specs.declared.whole.Machine.{Machine}
@@ -44,8 +40,10 @@ use Rattle.scenario.specs.declared.event.Event.{Event}
 use Rattle.scenario.specs.declared.event.Event.TheVariants.{Step, Take, Sleep, Issue, Finish, Expire, Tick}
 use Rattle.scenario.specs.declared.event.Refusal.{Refusal}
 use Rattle.scenario.specs.declared.event.Refusal.TheVariants.{SqFull, NothingToReap, WrongPhase, ClockFull, RequestsFull}
-use Rattle.machine.proofs.FormedThreads.{stands_on, stands_held, fits_count, formed_thread}
-use Rattle.machine.proofs.FormedMachines.{formed_ended, formed_issued, formed_world, formed_flushed, wakeup_flag, formed_taken_all, formed_taken_last, formed_put, formed_push, formed_taken_out, length-offered, length-taken_entries}
+use Rattle.machine.proofs.FormedThreads.{stands_on, stands_held, formed_thread}
+use Rattle.machine.proofs.FormedMachines.{formed_issued, formed_world, formed_flushed, wakeup_flag, formed_put, formed_push, formed_taken_out}
+use Rattle.machine.proofs.FormedSubmissions.{formed_taken_all, formed_taken_last, length-taken_entries}
+use Rattle.machine.proofs.Endings.{formed_fallen, threads_fallen}
 
 ltb_tells : (a b : ℕ) → ((ltb a b ≡ true) × (a < b)) ⊎ ((ltb a b ≡ false) × (b ≤ a))
 ltb_tells a b = elim (leb_tells (suc a) b) [ inl k ↦ inl (k.0, k.1) | inr k ↦ inr (k.0, let l = k.1 in omega arith) ]
@@ -62,6 +60,7 @@ formed_tick m d f h = record {
   front = f.front;
   overflowed = f.overflowed;
   rows = f.rows;
+  chained = f.chained;
   world = f.world;
   requests = f.requests;
   counted = f.counted;
@@ -77,8 +76,8 @@ formed_issue : (m : Machine) (r : ℕ) → WellFormed m → refusal m (Issue r) 
 formed_issue m r f h = by (slice_get m.table r) refl h
   where
     lacking : (x : Row) → slice_get m.table r ≡ Some x → is_ended x.phase ≡ false → (b : Bool) → lacks_descriptor m.world x ≡ b
-        → WellFormed (if b then ended m r ebadf else record m { table = updated (λ row. record row { phase = Issued; held = held_by row }) m.table r })
-    lacking x e q true l = formed_ended m r x ebadf f e q
+        → WellFormed (if b then fallen m ((r, ebadf) ∷ []) else record m { table = updated (λ row. record row { phase = Issued; held = held_by row }) m.table r })
+    lacking x e q true l = formed_fallen m ((r, ebadf) ∷ []) f
     lacking x e q false l = formed_issued m r x f e q l
 
     at : (x : Row) → slice_get m.table r ≡ Some x → (p : Phase) → x.phase ≡ p → elim p as (λ q. Option Refusal) [ Queued ↦ None | Issued ↦ Some WrongPhase | Ended res ↦ Some WrongPhase ] ≡ None → WellFormed (issued m r (Some x))
@@ -96,7 +95,7 @@ formed_finish m r c f h = by (slice_get m.table r) refl h
     ending : (x : Row) → slice_get m.table r ≡ Some x → is_ended x.phase ≡ false → (o : Outcome) → outcome_of m.world x c ≡ o → WellFormed (finished_as m r x o)
     ending x e q (Res res) g =
         let s = stays_after m.world x res c f.world g in
-        formed_ended (record m { world = world_after x res m.world }) r x res (formed_world m (world_after x res m.world) f s.formed s.setup) e q
+        formed_fallen (record m { world = world_after x res m.world }) ((r, res) ∷ []) (formed_world m (world_after x res m.world) f s.formed s.setup)
     ending x e q Waits g = f
     ending x e q BadChoice g = f
 
@@ -128,7 +127,7 @@ pub formed_submitted : (m : Machine) (k : ℕ) → WellFormed m → submission_r
 formed_submitted m k f h = by (some_fails m.submissions k) refl
   where
     last : Machine
-    last = ended (taken m k) (length (taken m k).table - 1) einval
+    last = fallen (taken m k) ((length (taken m k).table - 1, einval) ∷ [])
 
     by : (b : Bool) → some_fails m.submissions k ≡ b → WellFormed (if b then last else taken m k)
     by true e = formed_taken_last m k f (submission_room m k h) e
@@ -138,8 +137,8 @@ formed_submitted m k f h = by (some_fails m.submissions k) refl
 pub submitted_threads : (m : Machine) (k : ℕ) → (submitted m k).threads ≡ m.threads
 submitted_threads m k = by (some_fails m.submissions k)
   where
-    by : (b : Bool) → (if b then ended (taken m k) (length (taken m k).table - 1) einval else taken m k).threads ≡ m.threads
-    by true = refl
+    by : (b : Bool) → (if b then fallen (taken m k) ((length (taken m k).table - 1, einval) ∷ []) else taken m k).threads ≡ m.threads
+    by true = threads_fallen (taken m k) ((length (taken m k).table - 1, einval) ∷ [])
     by false = refl
 
 fits_einval : FitsSigned w64 einval
@@ -191,6 +190,7 @@ formed_poller m p h =
       world = h.world;
       requests = h.requests;
       counted = h.counted;
+      chained = h.chained;
       clock = h.clock;
       threads = h.threads;
     }

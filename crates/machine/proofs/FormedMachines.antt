@@ -1,58 +1,36 @@
 -- What each change of the machine keeps.
-use Rattle.std.proofs.Common.{◌≡◌, ◌≢◌, ℕ, ℤ, zero, suc, pos, negsuc, Bool, true, false, cond, refl, sym, ◌∙◌, ap, subst, List, [], ◌∷◌, ◌++◌, length, take, drop, ◌+◌, ◌-◌, ◌%◌, ◌<◌, ◌≤◌, ◌^◌, ◌⊎◌, inl, inr, append_assoc, length-append, length-take, length-set, arith}
+use Rattle.std.proofs.Common.{◌≡◌, ℕ, ℤ, pos, negsuc, Bool, true, false, cond, refl, sym, ◌∙◌, ap, subst, [], ◌∷◌, length, drop, ◌+◌, ◌%◌, ◌<◌, ◌≤◌, ◌^◌, length-append, length-set, arith}
 use Rattle.std.proofs.lemmas.List.{length-drop}
 use Rattle.std.specs.Prelude.{Option, Some, None, slice_get, slice_set, not, ◌&&◌, if◌then◌else◌}
 use Rattle.model_files.specs.declared.descriptor.DescriptorState.{DescriptorState}
 use Rattle.model_files.specs.Worlds.{WorldState, WorldFormed, descriptor_of, descriptor_at, OneSetup as OneWorldSetup}
 use Rattle.opcodes.specs.Opcodes.{uses_descriptor, fits_end}
-use Rattle.std.specs.List.{list_any}
 use Rattle.entries.specs.declared.completion.Cqe.{Cqe}
 use Rattle.entries.specs.declared.entry.Sqe.{Sqe}
 use Rattle.entries.specs.declared.row.Row.{Row}
-use Rattle.entries.specs.declared.row.Phase.{Phase}
-use Rattle.entries.specs.declared.row.Phase.TheVariants.{Queued, Issued, Ended}
+use Rattle.entries.specs.declared.row.Phase.TheVariants.{Issued, Ended}
 use Rattle.places.specs.Lists.{updated}
 use Rattle.places.proofs.ListLemmas.{length-updated}
-use Rattle.ring_words.specs.Rings.{SubWords, SubFormed, ComWords, ComFormed, waiting, sub_list, with_flag}
+use Rattle.ring_words.specs.Rings.{waiting, with_flag}
 use Rattle.ring_words.specs.declared.flag.RingFlag.TheVariants.{NeedWakeup, CqOverflow}
-use Rattle.ring_words.proofs.Laws.{formed_pushed, formed_taken, formed_entry, formed_flag, formed_reaped, sub_length}
-use Rattle.ring_words.proofs.Order.{waiting_less, waiting_more, waiting_behind}
+use Rattle.ring_words.proofs.Laws.{formed_pushed, formed_entry, formed_flag, formed_reaped}
+use Rattle.ring_words.proofs.Order.{waiting_less, waiting_more}
 use Rattle.ring_words.proofs.Sizes.{size_most}
-use Rattle.links_drains.specs.Batches.{rows_of}
-use Rattle.links_drains.specs.Rows.{new_row}
-use Rattle.links_drains.specs.Phases.{is_ended, is_unfinished, counts, counted_of, ended_of}
-use Rattle.links_drains.proofs.Batching.{length-rows_of, rows_of-more}
-use Rattle.links_drains.proofs.Counting.{counted-append, counted-ended, counted-unfinished, ended-ended, ended-unfinished, ended-append}
+use Rattle.links_drains.specs.Phases.{is_ended, counts, counted_of}
+use Rattle.links_drains.proofs.Counting.{counted-ended, counted-unfinished, ended-ended, ended-unfinished}
 use Rattle.overflow.specs.Backlogs.{BacklogState, is_clear, fits, Delivery, DeliveryFormed, all_posted, flushed as flushed_delivery}
 use Rattle.overflow.proofs.KeptInOrder.{posted_formed, flushed_formed}
-use Rattle.links_drains.proofs.RowsKept.{get-pushed, length-push}
-use Rattle.machine.specs.Submission.{offered, some_fails, passes_at, batch_of, entries_at, taken_words, taken_entries, einval}
-use Rattle.machine.specs.Steps.{delivery, flushed, ended, posted, count_of, taken_by, taken, submitted, held_by, is_usable, lacks_descriptor, number_in}
-use Rattle.machine.specs.Threads.{ThreadState}
-use Rattle.machine.specs.Whole.{is_asleep, flag_word, HoldsDescriptor, RowFormed, WellFormed, Stands}
+use Rattle.machine.specs.Steps.{delivery, flushed, ended, held_by, is_usable, lacks_descriptor, number_in}
+use Rattle.machine.specs.Whole.{Mostly, is_asleep, flag_word, HoldsDescriptor, RowFormed, WellFormed, Stands}
 use Rattle.machine.specs.declared.whole.Machine.{Machine}
-use Rattle.machine.proofs.FormedRows.{LastFails, FormedRows, all_pass, one_fails, length-batch_of, length-entries_at, counted-rows_of, formed_rows_of, formed_rows-append, formed_rows-updated, formed_rows-moved, ended_row, updated-last}
-
--- What holds of a well formed machine, but for what holds of its rows.
-pub record Mostly (m : Machine) : Type 0 where
-  pub submissions : SubFormed m.submissions
-  pub completions : ComFormed m.completions
-  pub entries_wait : waiting m.submissions.head m.submissions.tail ≤ length m.submissions.array
-  pub completions_wait : waiting m.completions.head m.completions.tail ≤ length m.completions.slots
-  pub flags : m.submissions.flags ≡ flag_word (is_asleep m.poller) (not (is_clear m.backlog))
-  pub front : m.backlog.front ≤ length m.backlog.items
-  pub overflowed : length m.backlog.items ≤ ended_of m.table
-  pub rows : length m.table ≤ 65536
-  pub world : WorldFormed m.world
-  pub counted : m.counted ≡ counted_of m.table
-  pub clock : m.clock < 2 ^ 64
-  pub threads : (t : ℕ) (x : ThreadState) → slice_get m.threads t ≡ Some x → Stands (length m.submissions.slots) x
+use Rattle.machine.proofs.Chaining.{chained-updated}
+use Rattle.machine.proofs.FormedRows.{FormedRows, formed_rows-updated, formed_rows-moved, ended_row}
 
 pub mostly : (m : Machine) → WellFormed m → Mostly m
-mostly m h = record { submissions = h.submissions; completions = h.completions; entries_wait = h.entries_wait; completions_wait = h.completions_wait; flags = h.flags; front = h.front; overflowed = h.overflowed; rows = h.rows; world = h.world; counted = h.counted; clock = h.clock; threads = h.threads }
+mostly m h = record { submissions = h.submissions; completions = h.completions; entries_wait = h.entries_wait; completions_wait = h.completions_wait; flags = h.flags; front = h.front; overflowed = h.overflowed; rows = h.rows; chained = h.chained; world = h.world; counted = h.counted; clock = h.clock; threads = h.threads }
 
 pub formed_of : (m : Machine) → Mostly m → FormedRows m.world m.table → WellFormed m
-formed_of m h k = record { submissions = h.submissions; completions = h.completions; entries_wait = h.entries_wait; completions_wait = h.completions_wait; flags = h.flags; front = h.front; overflowed = h.overflowed; rows = h.rows; world = h.world; requests = k.each; counted = h.counted; clock = h.clock; threads = h.threads }
+formed_of m h k = record { submissions = h.submissions; completions = h.completions; entries_wait = h.entries_wait; completions_wait = h.completions_wait; flags = h.flags; front = h.front; overflowed = h.overflowed; rows = h.rows; chained = h.chained; world = h.world; requests = k.each; counted = h.counted; clock = h.clock; threads = h.threads }
 
 -- ---- completions
 
@@ -100,6 +78,7 @@ mostly_flushed m h =
       rows = h.rows;
       world = h.world;
       counted = h.counted;
+      chained = h.chained;
       clock = h.clock;
       threads = h.threads;
     }
@@ -137,6 +116,7 @@ mostly_ended m r x res h e u =
       rows = let a = length-updated (λ (row : Row). record row { phase = Ended res }) m.table r in let b = h.rows in omega (arith, a, b);
       world = h.world;
       counted = ap (λ n. n + cond (counts x) 1 0) h.counted ∙ sym (count_one (counted_of m.table) (counts x)) ∙ sym (counted-ended m.table r x res e u);
+      chained = chained-updated (λ (row : Row). record row { phase = Ended res }) m.table r (λ y. refl) h.chained;
       clock = h.clock;
       threads = h.threads;
     })
@@ -172,7 +152,7 @@ issued_holds w x l u = by x.entry.fd refl
     by (negsuc n) e = absurd (let k = sym (ap (λ n. is_usable x (descriptor_at w n)) e) ∙ usable in cc)
 
 issued_row : (w : WorldState) (x : Row) → is_ended x.phase ≡ false → lacks_descriptor w x ≡ false → RowFormed w x → RowFormed w (record x { phase = Issued; held = held_by x })
-issued_row w x q l h = record { opcode = λ u. h.opcode (ap not q); holds = λ i u. issued_holds w x l u }
+issued_row w x q l h = record { opcode = λ u. h.opcode (ap not q); holds = λ i u. issued_holds w x l u; untargeted = λ u. h.untargeted (ap not q) }
 
 pub formed_issued : (m : Machine) (r : ℕ) (x : Row) → WellFormed m → slice_get m.table r ≡ Some x → is_ended x.phase ≡ false → lacks_descriptor m.world x ≡ false
     → WellFormed (record m { table = updated (λ row. record row { phase = Issued; held = held_by row }) m.table r })
@@ -190,6 +170,7 @@ formed_issued m r x h e q l =
       world = h.world;
       requests = (formed_rows-updated m.world f m.table r here (record { each = h.requests })).each;
       counted = h.counted ∙ sym (counted-unfinished f m.table r x e q refl);
+      chained = chained-updated f m.table r (λ y. refl) h.chained;
       clock = h.clock;
       threads = h.threads;
     }
@@ -214,94 +195,10 @@ formed_world m w h f s = record {
   world = f;
   requests = (formed_rows-moved m.world w m.table s (record { each = h.requests })).each;
   counted = h.counted;
+  chained = h.chained;
   clock = h.clock;
   threads = h.threads;
 }
-
--- ---- a submission
-
-pub length-offered : (w : SubWords) (k : ℕ) → SubFormed w → length (offered w k) ≤ waiting w.head w.tail
-length-offered w k f = let a = length-take k (sub_list w) in let b = sub_length w f in omega (arith, a, b)
-
-pub length-taken_words : (w : SubWords) (k : ℕ) → length (taken_words w k) ≤ length (offered w k)
-length-taken_words w k = length-batch_of w.slots (offered w k)
-
-pub length-taken_entries : (w : SubWords) (k : ℕ) → length (taken_entries w k) ≤ length (offered w k)
-length-taken_entries w k =
-    let a = length-entries_at w.slots (taken_words w k) in
-    let b = length-taken_words w k in
-    omega (arith, a, b)
-
-pub waits_behind : (h t k n : ℕ) → h < 2 ^ 32 → t < 2 ^ 32 → k ≤ waiting h t → waiting h t ≤ n → waiting ((h + k) % 2 ^ 32) t ≤ n
-waits_behind h t k n a b c d = let e = waiting_behind h t k a b c in omega (arith, e, d)
-
-pub below_wrap : (n : ℕ) → n % 2 ^ 32 < 2 ^ 32
-below_wrap n = omega arith
-
-pub mostly_taken : (m : Machine) (k : ℕ) → Mostly m → length m.table + length (offered m.submissions k) ≤ 65536 → Mostly (taken m k)
-mostly_taken m k h l = record {
-  submissions = formed_taken m.submissions _ _ h.submissions (below_wrap _) (below_wrap _);
-  completions = h.completions;
-  entries_wait = waits_behind m.submissions.head m.submissions.tail (length (taken_words m.submissions k)) (length m.submissions.array) h.submissions.head h.submissions.tail (within (length-taken_words m.submissions k) (length-offered m.submissions k h.submissions)) h.entries_wait;
-  completions_wait = h.completions_wait;
-  flags = h.flags;
-  front = h.front;
-  overflowed = let a = ended-append m.table (rows_of (length m.table) (taken_entries m.submissions k)) in let b = h.overflowed in omega (arith, a, b);
-  rows = count (length-append m.table (rows_of (length m.table) (taken_entries m.submissions k))) (length-rows_of (length m.table) (taken_entries m.submissions k)) (length-taken_entries m.submissions k);
-  world = h.world;
-  counted = h.counted ∙ more (counted-append m.table (rows_of (length m.table) (taken_entries m.submissions k))) (counted-rows_of (length m.table) (taken_entries m.submissions k));
-  clock = h.clock;
-  threads = h.threads;
-}
-  where
-    within : {a b c : ℕ} → a ≤ b → b ≤ c → a ≤ c
-    within x y = omega arith
-
-    count : {a b c : ℕ} → a ≡ length m.table + b → b ≡ c → c ≤ length (offered m.submissions k) → a ≤ 65536
-    count x y z = omega (arith, x, y, z, l)
-
-    more : {a b c : ℕ} → a ≡ b + c → c ≡ 0 → b ≡ a
-    more x y = omega arith
-
--- where no entry fails
-pub formed_taken_all : (m : Machine) (k : ℕ) → WellFormed m → length m.table + length (offered m.submissions k) ≤ 65536 → some_fails m.submissions k ≡ false → WellFormed (taken m k)
-formed_taken_all m k h l e =
-    formed_of (taken m k) (mostly_taken m k (mostly m h) l)
-    (formed_rows-append m.world m.table (rows_of (length m.table) (taken_entries m.submissions k)) (record { each = h.requests }) (formed_rows_of m.world (length m.table) (taken_entries m.submissions k) (all_pass m.submissions.slots (offered m.submissions k) e)))
-
--- where one does, it is the last row
-pub table_last : (m : Machine) (k : ℕ) (f : LastFails (taken_entries m.submissions k)) → (taken m k).table ≡ (m.table ++ rows_of (length m.table) f.before) ++ new_row f.last (length m.table + length f.before) ∷ []
-table_last m k f =
-    ap (λ es. m.table ++ rows_of (length m.table) es) f.is
-    ∙ ap (λ rs. m.table ++ rs) (rows_of-more (length m.table) f.before f.last)
-    ∙ sym (append_assoc m.table (rows_of (length m.table) f.before) (new_row f.last (length m.table + length f.before) ∷ []))
-
-last_row : (rows : List Row) (others : List Row) (x : Row) → rows ≡ others ++ x ∷ [] → slice_get rows (length rows - 1) ≡ Some x
-last_row rows others x e =
-    let n : length rows - 1 ≡ length others = let a = ap length e in let b = length-push others x in omega (arith, a, b) in
-    ap (slice_get rows) n ∙ ap (λ rs. slice_get rs (length others)) e ∙ get-pushed others x
-
-last_ended : (w : WorldState) (rows : List Row) (others : List Row) (x : Row) (res : ℤ) → rows ≡ others ++ x ∷ [] → FormedRows w others → FormedRows w (updated (λ (row : Row). record row { phase = Ended res }) rows (length rows - 1))
-last_ended w rows others x res e h =
-    let n : length rows - 1 ≡ length others = let a = ap length e in let b = length-push others x in omega (arith, a, b) in
-    let f : Row → Row = λ (row : Row). record row { phase = Ended res } in
-    let s : updated f rows (length rows - 1) ≡ others ++ f x ∷ [] = ap (updated f rows) n ∙ ap (λ rs. updated f rs (length others)) e ∙ updated-last f others x in
-    subst (FormedRows w) (sym s) (formed_rows-append w others (f x ∷ []) h (record { each = one }))
-  where
-    one : (r : ℕ) (y : Row) → slice_get (record x { phase = Ended res } ∷ []) r ≡ Some y → RowFormed w y
-    one zero y g = let same : record x { phase = Ended res } ≡ y = cc in subst (RowFormed w) same (ended_row w (record x { phase = Ended res }) refl)
-    one (suc r) y g = absurd cc
-
-pub formed_taken_last : (m : Machine) (k : ℕ) → WellFormed m → length m.table + length (offered m.submissions k) ≤ 65536 → some_fails m.submissions k ≡ true
-    → WellFormed (ended (taken m k) (length (taken m k).table - 1) einval)
-formed_taken_last m k h l e =
-    let f : LastFails (taken_entries m.submissions k) = one_fails m.submissions.slots (offered m.submissions k) e in
-    let others : List Row = m.table ++ rows_of (length m.table) f.before in
-    let x : Row = new_row f.last (length m.table + length f.before) in
-    let t = table_last m k f in
-    formed_of (ended (taken m k) (length (taken m k).table - 1) einval)
-    (mostly_ended (taken m k) (length (taken m k).table - 1) x einval (mostly_taken m k (mostly m h) l) (last_row (taken m k).table others x t) refl)
-    (last_ended m.world (taken m k).table others x einval t (formed_rows-append m.world m.table (rows_of (length m.table) f.before) (record { each = h.requests }) (formed_rows_of m.world (length m.table) f.before f.supported)))
 
 -- ---- words of the rings
 
@@ -318,6 +215,7 @@ formed_put m slot entry h = record {
   world = h.world;
   requests = h.requests;
   counted = h.counted;
+  chained = h.chained;
   clock = h.clock;
   threads = λ t x e. subst (λ n. Stands n x) (sym (length-set m.submissions.slots slot entry)) (h.threads t x e);
 }
@@ -340,6 +238,7 @@ formed_push m x h b l = record {
   world = h.world;
   requests = h.requests;
   counted = h.counted;
+  chained = h.chained;
   clock = h.clock;
   threads = h.threads;
 }
@@ -360,6 +259,7 @@ formed_taken_out m h l = record {
   world = h.world;
   requests = h.requests;
   counted = h.counted;
+  chained = h.chained;
   clock = h.clock;
   threads = h.threads;
 }

@@ -1,8 +1,7 @@
 -- The rows that a submission adds, and what holds of each row.
-use Rattle.std.proofs.Common.{◌≡◌, ◌≢◌, ℕ, zero, suc, Bool, true, false, cond, refl, sym, ◌∙◌, ap, subst, List, [], ◌∷◌, ◌++◌, length, take, ◌+◌, ◌-◌, ◌<◌, ◌≤◌, ◌⊎◌, inl, inr, append_assoc, length-append, length-take, arith}
+use Rattle.std.proofs.Common.{◌≡◌, ℕ, zero, suc, Bool, true, false, cond, refl, sym, ◌∙◌, ap, subst, List, [], ◌∷◌, ◌++◌, length, take, ◌+◌, ◌≤◌, ◌⊎◌, inl, inr, length-take, arith}
 use Rattle.std.specs.Prelude.{Option, Some, None, IsSome, is_some, slice_get, not, is_ok, bit_and, ◌==◌, ◌||◌, if◌then◌else◌}
-use Rattle.std.specs.Option.{option_map_or}
-use Rattle.std.specs.List.{prefix_len, list_any, filter_map}
+use Rattle.std.specs.List.{prefix_len, list_any}
 use Rattle.entries.specs.declared.entry.Sqe.{Sqe}
 use Rattle.entries.specs.declared.row.Row.{Row}
 use Rattle.entries.specs.declared.row.Phase.{Phase}
@@ -137,10 +136,10 @@ ended_row w x h = by x.phase refl h
     by : (p : Phase) → x.phase ≡ p → is_ended p ≡ true → RowFormed w x
     by Queued e k = absurd cc
     by Issued e k = absurd cc
-    by (Ended n) e k = record { opcode = λ u. absurd (let o = ap is_unfinished (sym e) ∙ u in cc); holds = λ i. absurd (let o = ap is_issued (sym e) ∙ i in cc) }
+    by (Ended n) e k = record { opcode = λ u. absurd (let o = ap is_unfinished (sym e) ∙ u in cc); holds = λ i. absurd (let o = ap is_issued (sym e) ∙ i in cc); untargeted = λ u. absurd (let o = ap is_unfinished (sym e) ∙ u in cc) }
 
 queued_row : (w : WorldState) (e : Sqe) (n : ℕ) → IsSome (op_of e.opcode) → RowFormed w (new_row e n)
-queued_row w e n h = record { opcode = λ u. h; holds = λ i. absurd cc }
+queued_row w e n h = record { opcode = λ u. h; holds = λ i. absurd cc; untargeted = λ u. refl }
 
 pub formed_rows_of : (w : WorldState) (first : ℕ) (es : List Sqe) → AllSupported es → FormedRows w (rows_of first es)
 formed_rows_of w first es h = record { each = at first es h.each }
@@ -168,7 +167,7 @@ formed_rows-updated w f rows r g h = record { each = λ j y e. by j y (updated_g
 
 -- in another world of the setup
 row_moved : (w v : WorldState) (x : Row) → OneWorldSetup w v → RowFormed w x → RowFormed v x
-row_moved w v x s h = record { opcode = h.opcode; holds = λ i u. there (h.holds i u) }
+row_moved w v x s h = record { opcode = h.opcode; holds = λ i u. there (h.holds i u); untargeted = h.untargeted }
   where
     there : HoldsDescriptor w x → HoldsDescriptor v x
     there d = let e = descriptor_alike w v s d.fd d.descriptor d.there in record { fd = d.fd; held = d.held; descriptor = e.0; there = e.1; fits = ap (fits_end x.entry.opcode) e.2 ∙ d.fits }

@@ -1,6 +1,6 @@
 -- Threads that go on stand within their programs, and setups stay.
-use Rattle.std.proofs.Common.{◌≡◌, ◌≢◌, ℕ, ℤ, zero, suc, pos, negsuc, refl, sym, ◌∙◌, ap, subst, List, [], ◌∷◌, length, map, ◌+◌, ◌<◌, ◌≤◌, ◌^◌, ◌⊎◌, inl, inr, arith, FitsSigned}
-use Rattle.std.specs.Prelude.{Option, Some, None, slice_get}
+use Rattle.std.proofs.Common.{◌≡◌, ℕ, ℤ, pos, sym, ◌∙◌, ap, subst, List, length, ◌+◌, ◌<◌, ◌≤◌, ◌^◌, ◌⊎◌, inl, inr, arith, FitsSigned}
+use Rattle.std.specs.Prelude.{Option, Some, slice_get}
 use Rattle.std.specs.Int.{w64}
 use Rattle.std.proofs.lemmas.Option.{slice_get_within}
 use Rattle.entries.specs.declared.completion.Cqe.{Cqe}
@@ -69,6 +69,7 @@ formed_thread m f t x h e s = record {
   world = h.world;
   requests = h.requests;
   counted = h.counted;
+  chained = h.chained;
   clock = h.clock;
   threads = stands_updated (length m.submissions.slots) m.threads f t x h.threads e s;
 }

@@ -1,5 +1,5 @@
 -- Accepted events leave a setup as it is, and take no row and no item of the backlog away.
-use Rattle.std.proofs.Common.{◌≡◌, ℕ, ℤ, pos, Bool, true, false, refl, sym, ◌∙◌, ap, subst, List, [], ◌∷◌, ◌++◌, length, map, take, drop, ◌+◌, ◌-◌, ◌%◌, ◌≤◌, arith, length-set, length-append, le_refl}
+use Rattle.std.proofs.Common.{◌≡◌, ℕ, ℤ, pos, Bool, true, false, refl, sym, ap, List, [], ◌∷◌, length, map, take, drop, ◌+◌, ◌-◌, ◌%◌, ◌≤◌, arith, length-set, length-append, le_refl}
 use Rattle.std.specs.Prelude.{Option, Some, None, is_some, min, slice_get, nat_lt, ◌==◌, ◌&&◌, ◌||◌, if◌then◌else◌}
 use Rattle.entries.specs.declared.completion.Cqe.{Cqe}
 use Rattle.entries.specs.declared.row.Row.{Row}
@@ -22,9 +22,10 @@ use Rattle.sqpoll.specs.declared.poller.Poller.{Poller}
 use Rattle.sqpoll.specs.declared.poller.Poller.TheVariants.{Awake, Asleep}
 use Rattle.model_files.proofs.Fixing as worlds
 use Rattle.machine.specs.Submission.{some_fails, taken_entries, einval, ebusy, ebadf}
-use Rattle.machine.specs.Steps.{refusal, sleep_refusal, after, stepped, executed, entered, entered_alone, entered_beside, submitting, before_submission, is_busy, is_unknown, gets_events, wakes, woken, shown, awaited, ready_count, held_back, with_poller, posted, flushed, completions_of, ended, taken, submitted, answered, issued, finished, finished_as, lacks_descriptor, held_by}
+use Rattle.timeouts_cancel.specs.Falls.{fall_of}
+use Rattle.machine.specs.Steps.{refusal, sleep_refusal, after, stepped, executed, entered, entered_alone, entered_beside, submitting, before_submission, is_busy, is_unknown, gets_events, wakes, woken, shown, awaited, ready_count, held_back, with_poller, posted, flushed, completions_of, ended, all_ended, fallen, taken, submitted, answered, issued, finished, finished_as, lacks_descriptor, held_by}
 use Rattle.machine.specs.Threads.{ThreadState, program_of}
-use Rattle.machine.specs.Whole.{OneSetup, Grows, WellFormed}
+use Rattle.machine.specs.Whole.{Grows, WellFormed}
 use Rattle.scenario.specs.declared.setup.Instruction.{Instruction}
 use Rattle.scenario.specs.declared.setup.Instruction.TheVariants.{Put, Push, Store, Enter, Reap, Close}
 use Rattle.machine.specs.declared.whole.Machine.{Machine}
@@ -70,6 +71,14 @@ grows_ended m r res =
       backlog = p.backlog;
     }
 
+pub grows_all_ended : (m : Machine) (ps : List (ℕ × ℤ)) → Grows m (all_ended m ps)
+grows_all_ended m [] = grows_self m
+grows_all_ended m (p ∷ ps) = grows_then m (ended m p.0 p.1) (all_ended (ended m p.0 p.1) ps) (grows_ended m p.0 p.1) (grows_all_ended (ended m p.0 p.1) ps)
+
+pub grows_fallen : (m : Machine) (direct : List (ℕ × ℤ)) → Grows m (fallen m direct)
+unfolding fallen
+grows_fallen m direct = grows_all_ended m (fall_of m.table m.counted direct)
+
 -- ---- submissions
 
 grows_taken : (m : Machine) (k : ℕ) → Grows m (taken m k)
@@ -83,10 +92,10 @@ pub grows_submitted : (m : Machine) (k : ℕ) → Grows m (submitted m k)
 grows_submitted m k = by (some_fails m.submissions k)
   where
     last : Machine
-    last = ended (taken m k) (length (taken m k).table - 1) einval
+    last = fallen (taken m k) ((length (taken m k).table - 1, einval) ∷ [])
 
     by : (b : Bool) → Grows m (if b then last else taken m k)
-    by true = grows_then m (taken m k) last (grows_taken m k) (grows_ended (taken m k) (length (taken m k).table - 1) einval)
+    by true = grows_then m (taken m k) last (grows_taken m k) (grows_fallen (taken m k) ((length (taken m k).table - 1, einval) ∷ []))
     by false = grows_taken m k
 
 -- ---- threads
@@ -229,8 +238,8 @@ pub grows_issued : (m : Machine) (r : ℕ) (o : Option Row) → Grows m (issued 
 grows_issued m r None = grows_self m
 grows_issued m r (Some x) = by (lacks_descriptor m.world x)
   where
-    by : (b : Bool) → Grows m (if b then ended m r ebadf else record m { table = updated (λ row. record row { phase = Issued; held = held_by row }) m.table r })
-    by true = grows_ended m r ebadf
+    by : (b : Bool) → Grows m (if b then fallen m ((r, ebadf) ∷ []) else record m { table = updated (λ row. record row { phase = Issued; held = held_by row }) m.table r })
+    by true = grows_fallen m ((r, ebadf) ∷ [])
     by false = record {
       setup = record { array = refl; slots = refl; completions = refl; world = worlds.setup_self _; programs = refl; poller = refl };
       rows = let a = length-updated (λ (row : Row). record row { phase = Issued; held = held_by row }) m.table r in omega (arith, a);
@@ -244,7 +253,7 @@ grows_finished m r c f (Some x) = by (outcome_of m.world x c) refl
     by : (o : Outcome) → outcome_of m.world x c ≡ o → Grows m (finished_as m r x o)
     by (Res res) e =
         let after_it = record m { world = world_after x res m.world } in
-        grows_then m after_it _ (grows_world m (world_after x res m.world) (stays_after m.world x res c f.world e).setup) (grows_ended after_it r res)
+        grows_then m after_it _ (grows_world m (world_after x res m.world) (stays_after m.world x res c f.world e).setup) (grows_fallen after_it ((r, res) ∷ []))
     by Waits e = grows_self m
     by BadChoice e = grows_self m
 

@@ -2,7 +2,6 @@
 use Rattle.std.proofs.Common.{◌≡◌, ℕ, refl, sym, ◌∙◌, ap, subst, List, length, ◌+◌, ◌<◌, ◌^◌, arith}
 use Rattle.std.specs.Prelude.{Option, Some, None, slice_get}
 use Rattle.std.proofs.lemmas.Option.{slice_get_within}
-use Rattle.entries.specs.declared.entry.Sqe.{Sqe}
 use Rattle.scenario.specs.Programs.{IsDone}
 use Rattle.machine.specs.Threads.{ThreadState}
 use Rattle.machine.specs.Steps.{next_of}

@@ -8,10 +8,14 @@ pub mod SubmissionLemmas
 pub mod InstructionLemmas
 pub mod EnterLemmas
 pub mod ListsChanged
+pub mod Chaining
 pub mod FormedRows
 pub mod FormedThreads
 pub mod FormedMachines
 pub mod Growing
+pub mod Untimed
+pub mod Endings
+pub mod FormedSubmissions
 pub mod Formed
 pub mod Linking
 pub mod StartLemmas

@@ -1,20 +1,17 @@
 -- What a list of changes puts back.
-use Rattle.std.proofs.Common.{◌≡◌, ◌≢◌, ℕ, Bool, true, false, cond, refl, sym, ◌∙◌, ap, subst, List, [], ◌∷◌, length, map, ◌<◌, ◌≤◌, ◌^◌, arith}
+use Rattle.std.proofs.Common.{◌≡◌, ℕ, Bool, true, false, cond, refl, sym, ◌∙◌, ap, subst, List, ◌∷◌, length, map, arith}
 use Rattle.std.specs.Prelude.{Option, Some, None, is_some, option_map, slice_get, unwrap_or}
-use Rattle.std.proofs.lemmas.Option.{slice_get_within, slice_get_past, slice_get-map}
+use Rattle.std.proofs.lemmas.Option.{slice_get-map}
 use Rattle.std.proofs.lemmas.List.{length-map}
-use Rattle.entries.specs.declared.completion.Cqe.{Cqe}
-use Rattle.entries.specs.declared.row.Row.{Row}
 use Rattle.places.specs.declared.place.Place.{Place}
 use Rattle.places.specs.declared.place.Place.TheVariants.{SubmissionHead, SubmissionTail, SubmissionFlags, SubmissionDropped, CompletionHead, CompletionTail, Array, Slot, Completion, MemoryByte, FileByte, DurableByte, FileLength, DurableLength, Position, OpenMark, PipeByte, PutCount, TakenCount, EventCount, Request, Backlog, BacklogFront, Clock, Counted, PollerStage, ProgramCounter, ThreadStage, Last, Got}
 use Rattle.places.specs.declared.value.Value.{Value}
-use Rattle.places.specs.declared.value.Value.TheVariants.{Number, Signed, Entry, Completed, Requested, Staged, Reaped, Awake as StandsAwake}
+use Rattle.places.specs.declared.value.Value.TheVariants.{Number, Signed, Requested, Staged, Reaped, Awake as StandsAwake}
 use Rattle.places.specs.declared.value.Change.{Change}
 use Rattle.places.specs.Places.{same_place}
 use Rattle.places.specs.View.{View, named, undo, put_at, LeadsBack, Exact}
 use Rattle.places.proofs.SamePlace.{same_place_is, same_place_self}
-use Rattle.places.proofs.ListLemmas.{same_list, slice_get_none}
-use Rattle.links_drains.specs.Phases.{counted_of, ended_of}
+use Rattle.places.proofs.ListLemmas.{same_list}
 use Rattle.links_drains.proofs.Counting.{counted-le-length, ended-le-length}
 use Rattle.ring_words.specs.Rings.{sub_seen, com_seen}
 use Rattle.ring_words.proofs.Restoring.{none_here, some_here, same_through, sub_seen_can_put, com_seen_can_put, sub_absent_same, com_absent_same, same_sub, same_com}
@@ -24,10 +21,9 @@ use Rattle.overflow.specs.Backlogs.{BacklogFormed, backlog_seen}
 use Rattle.overflow.proofs.Restoring.{backlog_seen_can_put, backlog_absent_same, same_backlog}
 use Rattle.sqpoll.proofs.Restoring.{same_poller}
 use Rattle.sqpoll.specs.declared.poller.Poller.{Poller}
-use Rattle.sqpoll.specs.declared.poller.Poller.TheVariants.{Awake, Asleep}
 use Rattle.sqpoll.specs.Pollers.{is_awake, poller_seen}
 use Rattle.machine.specs.Threads.{ThreadState, program_of}
-use Rattle.machine.specs.Whole.{view, can_put, stage_of, OneSetup, WellFormed, Stands}
+use Rattle.machine.specs.Whole.{view, can_put, stage_of, OneSetup, WellFormed}
 use Rattle.machine.specs.declared.whole.Machine.{Machine}
 
 -- an exact record leads back

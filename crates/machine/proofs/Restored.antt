@@ -5,10 +5,10 @@ use Rattle.places.specs.declared.place.Place.{Place}
 use Rattle.places.specs.declared.value.Value.{Value}
 use Rattle.places.specs.declared.value.Change.{Change}
 use Rattle.places.specs.Places.{same_place}
-use Rattle.places.specs.View.{View, named, undo, put_at, NamesOnce}
+use Rattle.places.specs.View.{named, undo, put_at, NamesOnce}
 use Rattle.places.proofs.SamePlace.{same_place_is}
 use Rattle.model_files.proofs.Fixing as worlds
-use Rattle.machine.specs.Whole.{view, can_put, OneSetup, WellFormed, Overwrites}
+use Rattle.machine.specs.Whole.{view, can_put, OneSetup, Overwrites}
 use Rattle.machine.specs.declared.whole.Machine.{Machine}
 use Rattle.machine.proofs.PuttingBack.{undo-cons, undo-cons_at, seen_can_put, absent_same, same_machine}
 

@@ -1,8 +1,8 @@
 -- The machine that a setup starts with is well formed.
-use Rattle.std.proofs.Common.{◌≡◌, ℕ, Bool, true, false, cond, refl, sym, ◌∙◌, ap, subst, List, [], ◌∷◌, length, map, ◌+◌, ◌*◌, ◌<◌, ◌≤◌, ◌^◌, ◌⊎◌, inl, inr, arith}
-use Rattle.std.specs.Prelude.{Option, Some, None, slice_get, nat_lt, ◌&&◌, ◌||◌, not, nat_le}
+use Rattle.std.proofs.Common.{◌≡◌, ℕ, Bool, true, false, cond, refl, sym, ◌∙◌, ap, subst, List, [], ◌∷◌, length, map, ◌+◌, ◌<◌, ◌≤◌, ◌^◌, ◌⊎◌, inl, inr, arith}
+use Rattle.std.specs.Prelude.{Option, Some, None, slice_get, ◌&&◌, ◌||◌, not}
 use Rattle.std.specs.List.{list_all, list_any}
-use Rattle.std.proofs.Math.Dec.{leb, ltb}
+use Rattle.std.proofs.Math.Dec.{leb}
 use Rattle.std.proofs.lemmas.Bool.Decides.{nat_tests, leb_tells}
 use Rattle.std.proofs.lemmas.Option.{slice_get_within, slice_get-map}
 use Rattle.std.proofs.lemmas.List.{length-replicate, take_more, map-append}
@@ -11,11 +11,12 @@ use Rattle.std.proofs.Common.{take, ◌++◌}
 use Rattle.std.specs.Prelude.{option_map}
 use Rattle.std.proofs.Common.{zero, suc, rules}
 use Rattle.entries.specs.declared.row.Row.{Row}
-use Rattle.ring_words.specs.Rings.{rounded, first_not_below, sizes, zero_entry, waiting}
+use Rattle.ring_words.specs.Rings.{rounded, zero_entry}
 use Rattle.ring_words.proofs.Order.{waiting_none}
 use Rattle.ring_words.proofs.Sizes.{rounded_size, size_most}
 use Rattle.ring_words.proofs.Laws.{formed_sub_start, formed_com_start}
 use Rattle.scenario.specs.Programs.{HasWidths, HaveWidths, IsDone, IsProgram}
+use Rattle.machine.proofs.Chaining.{chained_none}
 use Rattle.machine.specs.Threads.{ThreadState, thread_start}
 use Rattle.scenario.specs.Setups.{setup_refusal, has_ring_sizes, is_between, is_completion_size, has_programs, is_program, is_instruction, has_memory, has_objects, has_descriptors, is_object, is_name, is_contents, names_once, keeps_limits, is_unbuilt, is_unbuilt_object, asks_for_unbuilt}
 use Rattle.places.specs.declared.object.Contents.{Contents}
@@ -187,6 +188,7 @@ formed_start s h b w =
       rows = omega arith;
       world = world_start_formed s.memory s.objects s.fds (memory_fits s a) (objects_fit s a);
       requests = λ r x k. absurd (none_there x k);
+      chained = chained_none;
       counted = refl;
       clock = omega arith;
       threads = λ t x k. subst (λ (i : ℕ). Stands i x) (sym size) (threads_stand s a w t x k);

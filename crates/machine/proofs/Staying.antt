@@ -1,5 +1,5 @@
 -- How many rows, and items of the backlog, stay when a record is put back.
-use Rattle.std.proofs.Common.{◌≡◌, refl, sym, ◌∙◌, List, length, take, ◌≤◌}
+use Rattle.std.proofs.Common.{◌≡◌, sym, ◌∙◌, List, length, take}
 use Rattle.std.proofs.lemmas.List.{length-take-le}
 use Rattle.places.specs.declared.listed.Listed.TheVariants.{Requests, Overflowed}
 use Rattle.places.specs.declared.place.Place.{Place}

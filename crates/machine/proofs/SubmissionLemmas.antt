@@ -1,5 +1,5 @@
 -- What a submission takes, told by how many words stand before one that fails.
-use Rattle.std.proofs.Common.{◌≡◌, ℕ, ℤ, zero, suc, Bool, true, false, cond, refl, sym, ◌∙◌, ap, subst, List, [], ◌∷◌, ◌++◌, length, take, ◌+◌, ◌-◌, ◌<◌, ◌≤◌, ◌^◌, length-append, arith}
+use Rattle.std.proofs.Common.{◌≡◌, ℕ, suc, Bool, true, false, cond, refl, sym, ◌∙◌, ap, List, [], ◌∷◌, length, take, ◌+◌, ◌-◌, ◌<◌, ◌≤◌, ◌^◌, length-append, arith}
 use Rattle.std.specs.Prelude.{Option, Some, None, slice_get, min}
 use Rattle.std.specs.Option.{option_map_or}
 use Rattle.std.specs.List.{prefix_len}
@@ -12,15 +12,13 @@ use Rattle.places.proofs.ListLemmas.{slice_get-take_below}
 use Rattle.ring_words.specs.Rings.{SubWords, sub_list}
 use Rattle.links_drains.specs.Batches.{passes, rows_of}
 use Rattle.links_drains.proofs.Batching.{length-rows_of}
-use Rattle.links_drains.specs.Phases.{counted_of}
 use Rattle.links_drains.proofs.Counting.{counted-le-length}
-use Rattle.machine.specs.Submission.{offered, passes_at, some_fails, taken_words, entries_at, batch_of, einval}
-use Rattle.machine.specs.Steps.{submission_refusal, taken_by, taken, submitted, ended}
+use Rattle.machine.specs.Submission.{offered, passes_at, some_fails, taken_words, entries_at, einval}
+use Rattle.machine.specs.Steps.{submission_refusal, taken_by, taken, submitted, fallen}
 use Rattle.machine.specs.Whole.{WellFormed}
 use Rattle.machine.specs.declared.whole.Machine.{Machine}
-use Rattle.scenario.specs.declared.event.Refusal.{Refusal}
 use Rattle.scenario.specs.declared.event.Refusal.TheVariants.{RequestsFull}
-use Rattle.machine.proofs.TakingWords.{prefix_most, fails_told, take_least, one_more, entries-named}
+use Rattle.machine.proofs.TakingWords.{take_least, one_more, entries-named}
 
 pub ltb_not : (a b : ℕ) → b ≤ a → ltb a b ≡ false
 ltb_not a b h = grind (arith, nat_tests)
@@ -93,10 +91,10 @@ one_taken w count passing l e f =
 -- ---- the machine after it
 
 pub submitted_all : (m : Machine) (k : ℕ) (words : List ℕ) → some_fails m.submissions k ≡ false → taken_words m.submissions k ≡ words → taken_by m words ≡ submitted m k
-submitted_all m k words s e = ap (taken_by m) (sym e) ∙ sym (ap (λ b. cond b (ended (taken m k) (length (taken m k).table - 1) einval) (taken m k)) s)
+submitted_all m k words s e = ap (taken_by m) (sym e) ∙ sym (ap (λ b. cond b (fallen (taken m k) ((length (taken m k).table - 1, einval) ∷ [])) (taken m k)) s)
 
-pub submitted_some : (m n : Machine) (k : ℕ) (words : List ℕ) → some_fails m.submissions k ≡ true → taken_words m.submissions k ≡ words → n ≡ taken_by m words → ended n (length n.table - 1) einval ≡ submitted m k
-submitted_some m n k words s e h = ap (λ (x : Machine). ended x (length x.table - 1) einval) (h ∙ ap (taken_by m) (sym e)) ∙ sym (ap (λ b. cond b (ended (taken m k) (length (taken m k).table - 1) einval) (taken m k)) s)
+pub submitted_some : (m n : Machine) (k : ℕ) (words : List ℕ) → some_fails m.submissions k ≡ true → taken_words m.submissions k ≡ words → n ≡ taken_by m words → fallen n ((length n.table - 1, einval) ∷ []) ≡ submitted m k
+submitted_some m n k words s e h = ap (λ (x : Machine). fallen x ((length x.table - 1, einval) ∷ [])) (h ∙ ap (taken_by m) (sym e)) ∙ sym (ap (λ b. cond b (fallen (taken m k) ((length (taken m k).table - 1, einval) ∷ [])) (taken m k)) s)
 
 pub counted_low : (m : Machine) → WellFormed m → m.counted + 1 < 2 ^ 32
 counted_low m f = let k = counted-le-length m.table in omega (arith, f.counted, f.rows, k)

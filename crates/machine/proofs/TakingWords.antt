@@ -1,11 +1,11 @@
 -- How far the words of the submission ring have been read, and what became of their entries.
 use Rattle.std.proofs.Common.{◌≡◌, ℕ, zero, suc, Bool, true, false, cond, refl, sym, ◌∙◌, ap, subst, List, [], ◌∷◌, ◌++◌, length, take, ◌+◌, ◌<◌, ◌≤◌, append_assoc, length-append, arith}
-use Rattle.std.specs.Prelude.{Option, Some, None, slice_get, not, ◌||◌, min}
+use Rattle.std.specs.Prelude.{Some, None, slice_get, not, ◌||◌, min}
 use Rattle.std.proofs.lemmas.Grind.{common_steps}
-use Rattle.std.specs.List.{prefix_len, filter_map, list_any}
+use Rattle.std.specs.List.{prefix_len, list_any}
 use Rattle.std.proofs.Math.Dec.{ltb}
 use Rattle.std.proofs.lemmas.Bool.Decides.{nat_tests}
-use Rattle.std.proofs.lemmas.List.{append-nil, take_more, length-take-le}
+use Rattle.std.proofs.lemmas.List.{append-nil, take_more}
 use Rattle.std.proofs.lemmas.List.Elements.{filter_map-append}
 use Rattle.std.proofs.lemmas.Option.{slice_get_within, get_or_from_slice_get}
 use Rattle.entries.specs.declared.entry.Sqe.{Sqe}
@@ -23,7 +23,6 @@ use Rattle.machine.specs.Submission.{offered, passes_at, some_fails, entries_at}
 use Rattle.machine.specs.Whole.{view, everywhere, OneSetup}
 use Rattle.machine.specs.declared.whole.Machine.{Machine}
 use Rattle.machine.proofs.Lifting.{lift_table}
-use Rattle.machine.proofs.Restored.{setup_self}
 
 -- ---- how many pass
 

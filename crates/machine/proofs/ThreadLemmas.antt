@@ -1,12 +1,11 @@
 -- What is seen of changed threads.
-use Rattle.std.proofs.Common.{◌≡◌, ℕ, zero, suc, ℤ, Bool, true, false, cond, refl, sym, ◌∙◌, ap, List, [], ◌∷◌, length, ◌<◌, ◌+◌}
-use Rattle.std.specs.Prelude.{Option, Some, None, option_map, slice_get, slice_set, ◌==◌, ◌&&◌}
+use Rattle.std.proofs.Common.{◌≡◌, ℕ, zero, suc, ℤ, Bool, true, false, cond, refl, sym, ◌∙◌, ap, List, [], ◌∷◌}
+use Rattle.std.specs.Prelude.{Option, Some, option_map, slice_get, slice_set, ◌==◌, ◌&&◌}
 use Rattle.std.proofs.lemmas.Option.{slice_get_within}
 use Rattle.entries.specs.declared.completion.Cqe.{Cqe}
 use Rattle.places.specs.declared.value.Stage.{Stage}
 use Rattle.places.specs.declared.place.Place.{Place}
 use Rattle.places.specs.declared.place.Place.TheVariants.{ProgramCounter, ThreadStage, Last, Got}
-use Rattle.places.specs.declared.value.Value.{Value}
 use Rattle.places.specs.declared.value.Value.TheVariants.{Number, Signed, Staged, Reaped}
 use Rattle.places.specs.Places.{same_place}
 use Rattle.places.specs.View.{put_at}

@@ -1,5 +1,5 @@
 -- Starts, runs with their records, and moments.
-use Rattle.std.specs.Prelude.{◌≡◌, ◌*◌, ℕ, Bool, true, false, Option, Some, None, List, [], ◌∷◌, length, map, take, slice_get}
+use Rattle.std.specs.Prelude.{◌≡◌, ℕ, Bool, true, false, Option, Some, None, List, [], ◌∷◌, map, take, slice_get}
 use Rattle.places.specs.declared.value.Change.{Change}
 use Rattle.places.specs.View.{LeadsBack}
 use Rattle.ring_words.specs.Rings.{sub_start, com_start}
@@ -8,7 +8,7 @@ use Rattle.model_files.specs.Worlds.{world_start}
 use Rattle.sqpoll.specs.declared.poller.Poller.{Poller}
 use Rattle.sqpoll.specs.declared.poller.Poller.TheVariants.{Awake}
 pub use Rattle.scenario.specs.Setups.{setup_refusal, completion_entries}
-use Rattle.machine.specs.Threads.{ThreadState, thread_start}
+use Rattle.machine.specs.Threads.{thread_start}
 use Rattle.machine.specs.Whole.{view, WellFormed}
 use Rattle.machine.specs.Steps.{refusal, after, Next}
 use Rattle.scenario.specs.declared.setup.Setup.{Setup}

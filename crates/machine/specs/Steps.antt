@@ -1,5 +1,5 @@
 -- Which events are refused, and what the others change.
-use Rattle.std.specs.Prelude.{◌≡◌, ℤ, pos, negsuc, ℕ, ◌+◌, ◌-◌, ◌%◌, ◌<◌, ◌^◌, ◌==◌, Bool, true, false, not, ◌&&◌, ◌||◌, nat_lt, min, if◌then◌else◌, Option, Some, None, slice_get, slice_set, List, [], ◌∷◌, ◌++◌, length}
+use Rattle.std.specs.Prelude.{◌≡◌, ℤ, pos, negsuc, ℕ, ◌+◌, ◌-◌, ◌%◌, ◌^◌, ◌==◌, Bool, false, not, ◌&&◌, ◌||◌, nat_lt, min, if◌then◌else◌, Option, Some, None, slice_get, slice_set, List, [], ◌∷◌, ◌++◌, length}
 use Rattle.std.specs.Int.Bits.{bit_and}
 use Rattle.entries.specs.declared.completion.Cqe.{Cqe}
 use Rattle.entries.specs.declared.row.Row.{Row}
@@ -24,6 +24,7 @@ use Rattle.sqpoll.specs.declared.poller.Poller.TheVariants.{Awake, Asleep}
 use Rattle.sqpoll.specs.Pollers.{is_awake}
 use Rattle.links_drains.specs.Batches.{rows_of}
 use Rattle.links_drains.specs.Phases.{counts}
+use Rattle.timeouts_cancel.specs.Falls.{fall_of}
 use Rattle.machine.specs.Submission.{offered, some_fails, entries_at, taken_words, taken_entries, einval, ebusy, ebadf}
 use Rattle.machine.specs.Threads.{ThreadState}
 use Rattle.scenario.specs.declared.setup.Instruction.{Instruction}
@@ -174,6 +175,15 @@ ended m r res = record (posted m (completions_of (slice_get m.table r) res)) {
   counted = m.counted + count_of (slice_get m.table r);
 }
 
+-- the machine once rows have ended, one after the other, each with its result
+abbrev pub all_ended : Machine → List (ℕ × ℤ) → Machine
+all_ended m [] = m
+all_ended m (p ∷ ps) = all_ended (ended m p.0 p.1) ps
+
+-- the machine once rows have ended, and those that fall with them
+unfoldable pub fallen : Machine → List (ℕ × ℤ) → Machine
+fallen m direct = all_ended m (fall_of m.table m.counted direct)
+
 -- the machine once words were taken from the ring, and the entries that they name have become rows
 abbrev pub taken_by : Machine → List ℕ → Machine
 taken_by m words = record m {
@@ -190,7 +200,7 @@ taken m k = taken_by m (taken_words m.submissions k)
 
 -- the machine once a submission has ended the row that failed, which is the last
 abbrev pub submitted : Machine → ℕ → Machine
-submitted m k = if some_fails m.submissions k then ended (taken m k) (length (taken m k).table - 1) einval else taken m k
+submitted m k = if some_fails m.submissions k then fallen (taken m k) ((length (taken m k).table - 1, einval) ∷ []) else taken m k
 
 -- the machine once a thread has an answer, and goes on
 abbrev pub answered : Machine → ℕ → ℤ → Machine
@@ -280,11 +290,11 @@ lacks_descriptor w row = uses_descriptor row.entry.opcode && not (is_usable row 
 -- the machine once a row is issued; one without its descriptor ends
 abbrev pub issued : Machine → ℕ → Option Row → Machine
 issued m r None = m
-issued m r (Some row) = if lacks_descriptor m.world row then ended m r ebadf else record m { table = updated (λ x. record x { phase = Issued; held = held_by x }) m.table r }
+issued m r (Some row) = if lacks_descriptor m.world row then fallen m ((r, ebadf) ∷ []) else record m { table = updated (λ x. record x { phase = Issued; held = held_by x }) m.table r }
 
 -- the machine once a row has ended as its outcome says, with what it did
 abbrev pub finished_as : Machine → ℕ → Row → Outcome → Machine
-finished_as m r row (Res res) = ended (record m { world = world_after row res m.world }) r res
+finished_as m r row (Res res) = fallen (record m { world = world_after row res m.world }) ((r, res) ∷ [])
 finished_as m r row Waits = m
 finished_as m r row BadChoice = m
 

@@ -1,5 +1,5 @@
 -- The whole machine: what stands in each place, and which machines are well formed.
-use Rattle.std.specs.Prelude.{◌≡◌, ℕ, ℤ, ◌+◌, ◌<◌, ◌≤◌, ◌^◌, Bool, true, false, not, if◌then◌else◌, Option, Some, None, is_some, IsSome, slice_get, map, List, length, FitsSigned}
+use Rattle.std.specs.Prelude.{◌≡◌, ℕ, ◌+◌, ◌<◌, ◌≤◌, ◌^◌, Bool, true, false, not, if◌then◌else◌, Option, Some, None, is_some, IsSome, slice_get, map, List, length, FitsSigned}
 use Rattle.std.specs.Int.{w64}
 use Rattle.entries.specs.declared.row.Row.{Row}
 use Rattle.places.specs.declared.place.Place.{Place}
@@ -10,13 +10,14 @@ use Rattle.places.specs.declared.value.Stage.TheVariants.{Waiting}
 use Rattle.places.specs.declared.value.Change.{Change}
 use Rattle.places.specs.View.{View, LeadsBack}
 use Rattle.ring_words.specs.Rings.{waiting, sub_seen, sub_can_put, SubFormed, com_seen, com_can_put, ComFormed}
+use Rattle.links_drains.specs.Links.{Chained}
 use Rattle.links_drains.specs.Rows.{table_seen, table_can_put}
 use Rattle.links_drains.specs.Phases.{is_issued, is_unfinished, counted_of, ended_of}
 use Rattle.model_files.specs.declared.descriptor.DescriptorState.{DescriptorState}
 use Rattle.model_files.specs.Worlds.{WorldState, WorldFormed, world_seen, world_can_put, descriptor_of, OneSetup as OneWorldSetup}
 use Rattle.opcodes.specs.Check.{op_of}
 use Rattle.opcodes.specs.Opcodes.{uses_descriptor, fits_end}
-use Rattle.overflow.specs.Backlogs.{BacklogState, is_clear, backlog_seen, backlog_can_put}
+use Rattle.overflow.specs.Backlogs.{is_clear, backlog_seen, backlog_can_put}
 use Rattle.sqpoll.specs.declared.poller.Poller.{Poller}
 use Rattle.sqpoll.specs.Pollers.{is_awake, poller_seen}
 use Rattle.scenario.specs.Programs.{IsProgram}
@@ -144,10 +145,11 @@ pub record HoldsDescriptor (w : WorldState) (x : Row) : Type 0 where
   pub there : descriptor_of w fd ≡ Some descriptor
   pub fits : fits_end x.entry.opcode descriptor.end ≡ true
 
--- While a row is unfinished its opcode is a supported one; while it is issued it holds its descriptor, if it uses one.
+-- While a row is unfinished its opcode is a supported one, and it guards no other; while it is issued it holds its descriptor, if it uses one.
 pub record RowFormed (w : WorldState) (x : Row) : Type 0 where
   pub opcode : is_unfinished x.phase ≡ true → IsSome (op_of x.entry.opcode)
   pub holds : is_issued x.phase ≡ true → uses_descriptor x.entry.opcode ≡ true → HoldsDescriptor w x
+  pub untargeted : is_unfinished x.phase ≡ true → x.target ≡ None
 
 -- What holds of every machine between steps, with the range of each number.
 pub record WellFormed (m : Machine) : Type 0 where
@@ -159,8 +161,25 @@ pub record WellFormed (m : Machine) : Type 0 where
   pub front : m.backlog.front ≤ length m.backlog.items
   pub overflowed : length m.backlog.items ≤ ended_of m.table
   pub rows : length m.table ≤ 65536
+  pub chained : Chained m.table
   pub world : WorldFormed m.world
   pub requests : (r : ℕ) (x : Row) → slice_get m.table r ≡ Some x → RowFormed m.world x
+  pub counted : m.counted ≡ counted_of m.table
+  pub clock : m.clock < 2 ^ 64
+  pub threads : (t : ℕ) (x : ThreadState) → slice_get m.threads t ≡ Some x → Stands (length m.submissions.slots) x
+
+-- What holds of a well formed machine, but for what holds of its rows.
+pub record Mostly (m : Machine) : Type 0 where
+  pub submissions : SubFormed m.submissions
+  pub completions : ComFormed m.completions
+  pub entries_wait : waiting m.submissions.head m.submissions.tail ≤ length m.submissions.array
+  pub completions_wait : waiting m.completions.head m.completions.tail ≤ length m.completions.slots
+  pub flags : m.submissions.flags ≡ flag_word (is_asleep m.poller) (not (is_clear m.backlog))
+  pub front : m.backlog.front ≤ length m.backlog.items
+  pub overflowed : length m.backlog.items ≤ ended_of m.table
+  pub rows : length m.table ≤ 65536
+  pub chained : Chained m.table
+  pub world : WorldFormed m.world
   pub counted : m.counted ≡ counted_of m.table
   pub clock : m.clock < 2 ^ 64
   pub threads : (t : ℕ) (x : ThreadState) → slice_get m.threads t ≡ Some x → Stands (length m.submissions.slots) x

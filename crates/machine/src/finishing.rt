@@ -26,7 +26,7 @@ impl Machine {
             unreachable!()
         };
         if lacks_descriptor(&self.world, &row) {
-            return self.end(r, -EBADF, notes);
+            return self.fall(&[(r, -EBADF)], notes);
         }
         self.table.issue(r, held_by(&row), notes)
     }
@@ -48,11 +48,11 @@ impl Machine {
         let Some(row) = self.table.get(r) else {
             unreachable!()
         };
-        let Outcome::Res(res) = outcome(&self.world, &row, choice) else {
+        let Outcome::Res(res) = outcome(&self.world, self.table.held(), &row, choice) else {
             unreachable!()
         };
         carry_out(&mut self.world, &row, res, notes)?;
-        self.end(r, res, notes)
+        self.fall(&[(r, res)], notes)
     }
 }
 

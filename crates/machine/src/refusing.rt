@@ -175,7 +175,7 @@ impl Machine {
             return Some(Refusal::WrongPhase);
         }
         match row.phase {
-            Phase::Issued => refuses_outcome(outcome(&self.world, &row, choice)),
+            Phase::Issued => refuses_outcome(outcome(&self.world, self.table.held(), &row, choice)),
             _ => Some(Refusal::WrongPhase),
         }
     }

@@ -5,16 +5,13 @@ ghost use Rattle.places.specs.View.{Keeps};
 ghost use Rattle.ring_words.specs.Rings.{sub_list};
 ghost use Rattle.links_drains.specs.Batches.{rows_of};
 ghost use Rattle.machine.specs.Submission.{offered, passes_at, some_fails, entries_at, taken_entries};
-ghost use Rattle.machine.specs.Steps.{submission_refusal, delivery, ended, submitted, taken_by};
-ghost use Rattle.overflow.specs.Backlogs.{DeliveryFormed};
+ghost use Rattle.machine.specs.Steps.{submission_refusal, submitted, taken_by};
 ghost use Rattle.machine.specs.Whole.{view, everywhere, Grows, WellFormed};
 
 use crate::whole::Machine;
-use entries::{Cqe, Phase};
 use links_drains::new_row;
-use opcodes::{Context, EINVAL, check, is_timer};
-use overflow::post_all;
-use places::{Place, Recorder};
+use opcodes::{Context, EINVAL, check};
+use places::Recorder;
 use std::alloc::AllocError;
 
 impl Machine {
@@ -63,40 +60,6 @@ impl Machine {
         Ok(dropped)
     }
 
-    /// A row ends with a result: its completion is posted, and it is counted unless it is a timer.
-    pub(crate) fn end(&mut self, r: u32, res: i32, notes: &mut Recorder) -> Result<(), AllocError>
-        requires there { r < length self.old.table }
-        requires room { length self.old.backlog.items < 65536 }
-        requires delivery { DeliveryFormed (delivery self.old) }
-        requires counts { self.old.counted + 1 < 2 ^ 32 }
-        ensures ok { OnOk result (self.new ≡ ended self.old r res) }
-        ensures grows { Grows self.old self.new }
-        ensures keeps { Keeps everywhere (view self.old) (view self.new) notes.old.made notes.new.made }
-    {
-        let Some(row) = self.table.get(r) else {
-            unreachable!()
-        };
-        self.table.set_phase(r, Phase::Ended(res), notes)?;
-        let completion = Cqe {
-            user_data: row.entry.user_data,
-            res,
-            flags: 0,
-        };
-        post_all(
-            &mut self.submissions,
-            &mut self.completions,
-            &mut self.backlog,
-            &[completion],
-            notes,
-        )?;
-        if is_timer(row.entry.opcode) {
-            return Ok(());
-        }
-        notes.note_number(Place::Counted, self.counted as u64)?;
-        self.counted += 1;
-        Ok(())
-    }
-
     /// A submission of at most so many entries. Says how many became rows.
     pub(crate) fn submit(&mut self, to_submit: u32, notes: &mut Recorder) -> Result<u32, AllocError>
         requires accepted { submission_refusal self.old to_submit ≡ None }
@@ -114,7 +77,7 @@ impl Machine {
         }
         let taken = self.take(passing + 1, notes)?;
         let last = self.table.len() as u32 - 1;
-        self.end(last, -EINVAL, notes)?;
+        self.fall(&[(last, -EINVAL)], notes)?;
         Ok(taken)
     }
 

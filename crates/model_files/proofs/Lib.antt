@@ -1,6 +1,8 @@
 pub mod Overwriting
 pub mod Setting
 pub mod Noting
+pub mod Comparing
+pub mod Among
 pub mod Transfers
 pub mod Paging
 pub mod Lifting

@@ -13,9 +13,10 @@ use Rattle.places.specs.View.{named, put_at, Keeps}
 use Rattle.places.proofs.ListLemmas.{slice_get-set, map_same, updated_set}
 use Rattle.places.proofs.SamePlace.{same_place_is}
 use Rattle.model_files.specs.declared.body.Body.{Body}
+use Rattle.model_files.specs.declared.body.Body.TheVariants.{File}
 use Rattle.model_files.specs.Objects.{object_owns, object_in, CanPut, PutsIn}
-use Rattle.model_files.specs.Files.{FileState, FileFormed, part}
-use Rattle.model_files.specs.Worlds.{WorldState, world_owns, world_seen, object_seen, body_seen, kind_of_body, file_in, file_of, on_file, with_file, OneSetup}
+use Rattle.model_files.specs.Files.{FileState, FileFormed, overwritten, part}
+use Rattle.model_files.specs.Worlds.{WorldState, bytes_of, world_read, world_owns, world_seen, object_seen, body_seen, kind_of_body, file_in, file_of, on_file, with_file, OneSetup}
 
 -- the world with another object at a number
 abbrev pub with_body : WorldState → ℕ → Body → WorldState
@@ -154,3 +155,10 @@ body_there w o b _ h k r = absurd cc
 -- what can be put into the world can be put into the object
 pub can_put_body : (w : WorldState) (o : ℕ) (b : Body) (p : Place) (v : Value) → slice_get w.objects o ≡ Some b → object_owns o p ≡ true → CanPut (world_seen w) p v → CanPut (body_seen b) p v
 can_put_body w o b p v h e k = record { there = subst (λ (x : Option Value). IsSome x) (own_seen w o b p h e) k.there; fits = k.fits }
+
+-- bytes of a file stand in memory
+pub read_is : (w : WorldState) (o offset k addr : ℕ) (b : Body) (f : FileState) (bytes memory : List ℕ) → slice_get w.objects o ≡ Some b → b ≡ File f → bytes ≡ f.bytes → memory ≡ overwritten w.memory addr (part bytes offset ((offset + k) - offset)) → record w { memory = memory } ≡ world_read o offset k addr w
+read_is w o offset k addr b f bytes memory h e g m =
+    let file : file_of w o ≡ Some f = ap (option_and_then file_in) (h ∙ ap Some e) in
+    ap (λ (xs : List ℕ). record w { memory = xs })
+    (m ∙ ap (overwritten w.memory addr) (range_is bytes offset k ∙ ap (λ xs. part xs offset k) (g ∙ sym (ap bytes_of file))))

@@ -19,7 +19,7 @@ use Rattle.model_files.specs.Objects.{NamesChanges}
 use Rattle.model_files.specs.Files.{part, overwritten}
 
 -- what bytes that stand from s on say of an index
-byte_from_before : (s : ℕ) (bs : List ℕ) (i : ℕ) → i < s → byte_from s bs i ≡ None
+pub byte_from_before : (s : ℕ) (bs : List ℕ) (i : ℕ) → i < s → byte_from s bs i ≡ None
 byte_from_before s [] i h = refl
 byte_from_before s (b ∷ bs) i h = by (s == i) refl (byte_from_before (s + 1) bs i (omega arith))
   where
@@ -93,14 +93,6 @@ unnamed_byte cs ds g s bs n q h = by (named cs q) (byte_in g s bs q) (sym (n q) 
   where
     by : (m b : Option (Option Value)) → first_note m b ≡ None → b ≡ None
     by None b k = k
-    by (Some x) b k = absurd cc
-
--- noting bytes un-notes no place
-pub noted_bytes_keep : (cs ds : List Change) (g : Region) (s : ℕ) (bs : List ℕ) → NotedBytes cs ds g s bs → (q : Place) → named ds q ≡ None → named cs q ≡ None
-noted_bytes_keep cs ds g s bs n q h = by (named cs q) (byte_in g s bs q) (sym (n q) ∙ h)
-  where
-    by : (m b : Option (Option Value)) → first_note m b ≡ None → m ≡ None
-    by None b k = refl
     by (Some x) b k = absurd cc
 
 -- a noted place is named

@@ -12,14 +12,17 @@ use Rattle.places.specs.declared.value.Value.{Value}
 use Rattle.places.specs.declared.value.Value.TheVariants.{Number, Byte}
 use Rattle.places.specs.declared.notes.runs.Region.TheVariants.{Durable}
 use Rattle.places.specs.Notes.{Notes, HasAsMuch}
-use Rattle.places.specs.Runs.{byte_from, byte_in, NotedBytes}
-use Rattle.places.specs.View.{named, first_note, Keeps, Noted}
-use Rattle.places.proofs.Keeping.{keeps_noted_bytes, keeps_then, keeps_unchanged, noted_keeps}
+use Rattle.places.specs.Runs.{byte_from, byte_in}
+use Rattle.places.specs.View.{named, Keeps, Noted}
+use Rattle.places.proofs.Keeping.{keeps_then, keeps_unchanged, noted_keeps}
 use Rattle.places.proofs.ListLemmas.{same_list, slice_get-set}
+use Rattle.model_files.specs.Differing.{NotedAmong, NamesDiffering}
 use Rattle.model_files.specs.Objects.{object_owns, NamesChanges}
 use Rattle.model_files.specs.Files.{FileState, FileSized, file_seen, part, synced}
 use Rattle.model_files.specs.Pages.{Agree, NamesUpTo}
-use Rattle.model_files.proofs.Noting.{below_or_not, byte_from_at, bytes_there, bytes_elsewhere, get_part, length-part, noted_bytes_keep, noted_named, unnamed_byte}
+use Rattle.model_files.proofs.Among.{among_fresh, among_named, as_much, keeps_among}
+use Rattle.model_files.proofs.Comparing.{slice_get-part}
+use Rattle.model_files.proofs.Noting.{below_or_not, bytes_there, get_part, length-part, noted_named}
 
 -- ---- marks
 
@@ -96,37 +99,25 @@ durable_there f o at k (DurableByte y j) x e = by (o == y) refl e
 durable_there f o at k _ x e = absurd cc
 
 -- bytes on the device were noted, and nothing changed yet
-pub keeps_durable_bytes : (f : FileState) (o at k : ℕ) (cs ds : List Change) → NotedBytes cs ds (Durable o) at (part f.durable at k) → Keeps (object_owns o) (file_seen f) (file_seen f) cs ds
-keeps_durable_bytes f o at k cs ds n = keeps_noted_bytes (object_owns o) (file_seen f) (file_seen f) cs ds (Durable o) at (part f.durable at k) n (durable_there f o at k) (λ q e. refl)
+pub keeps_durable_bytes : (f : FileState) (o at k : ℕ) (cs ds : List Change) → NotedAmong cs ds (Durable o) at (part f.durable at k) → Keeps (object_owns o) (file_seen f) (file_seen f) cs ds
+keeps_durable_bytes f o at k cs ds n = keeps_among (object_owns o) (file_seen f) cs ds (Durable o) at (part f.durable at k) n (durable_there f o at k)
 
--- a page was noted, behind those that are noted where they differ
-pub page_noted : (f : FileState) (o at k : ℕ) (cs ds : List Change) → FileSized f → at + k ≤ 65536 → k ≡ 4096 → NotedBytes cs ds (Durable o) at (part f.durable at k) → NamesUpTo o f cs at → NamesUpTo o f ds (at + 4096)
-page_noted f o at k cs ds sized within e n before i h unnamed = by (below_or_not i at)
+-- a page was noted where it differs, behind those that are noted where they differ
+pub page_noted : (f : FileState) (o at k : ℕ) (cs ds : List Change) → k ≡ 4096 → NotedAmong cs ds (Durable o) at (part f.durable at k) → NamesDiffering ds (Durable o) at (part f.durable at k) (part f.bytes at k) → NamesUpTo o f cs at → NamesUpTo o f ds (at + 4096)
+page_noted f o at k cs ds e n d before i h unnamed = by (below_or_not i at)
   where
-    size : length (part f.durable at k) ≡ k
-    size = length-part f.durable at k (let d = sized.durable in omega arith)
-
-    past : (i < at) ⊎ (at + length (part f.durable at k) ≤ i) → at ≤ i → slice_get f.bytes i ≡ slice_get f.durable i
-    past (inl l) r = absurd (omega arith)
-    past (inr l) r = absurd (let s = size in omega arith)
+    here : (j : ℕ) → i ≡ at + j → j < k → slice_get f.bytes i ≡ slice_get f.durable i
+    here j g l =
+        ap (slice_get f.bytes) g ∙ sym (slice_get-part f.bytes at k j l) ∙ sym (d j (ap (λ z. named ds (DurableByte o z)) (sym g) ∙ unnamed)) ∙ slice_get-part f.durable at k j l ∙ ap (slice_get f.durable) (sym g)
 
     by : (i < at) ⊎ (at ≤ i) → slice_get f.bytes i ≡ slice_get f.durable i
-    by (inl l) = before i l (noted_bytes_keep cs ds (Durable o) at (part f.durable at k) n (DurableByte o i) unnamed)
-    by (inr r) = past (bytes_elsewhere (part f.durable at k) at i (rw (eq-eqb o o refl) at (unnamed_byte cs ds (Durable o) at (part f.durable at k) n (DurableByte o i) unnamed))) r
+    by (inl l) = before i l (among_named cs ds (Durable o) at (part f.durable at k) n (DurableByte o i) unnamed)
+    by (inr l) = here (i - at) (omega arith) (omega arith)
 
 -- what stands behind a page that was noted is not
-pub page_fresh : (f : FileState) (o at k : ℕ) (cs ds : List Change) → FileSized f → at + k ≤ 65536 → NotedBytes cs ds (Durable o) at (part f.durable at k) → (i : ℕ) → at + k ≤ i → named cs (DurableByte o i) ≡ None → named ds (DurableByte o i) ≡ None
-page_fresh f o at k cs ds sized within n i h unnamed = n (DurableByte o i) ∙ ap (λ m. first_note m (byte_in (Durable o) at (part f.durable at k) (DurableByte o i))) unnamed ∙ by (o == o)
-  where
-    size : length (part f.durable at k) ≡ k
-    size = length-part f.durable at k (let d = sized.durable in omega arith)
-
-    none : byte_from at (part f.durable at k) i ≡ None
-    none = byte_from_at at (part f.durable at k) (i - at) i (omega arith) ∙ ap (option_map (λ b. Some (Byte b))) (slice_get_past (part f.durable at k) (i - at) (let s = size in omega arith))
-
-    by : (t : Bool) → cond t (byte_from at (part f.durable at k) i) None ≡ None
-    by true = none
-    by false = refl
+pub page_fresh : (f : FileState) (o at k : ℕ) (cs ds : List Change) → FileSized f → at + k ≤ 65536 → NotedAmong cs ds (Durable o) at (part f.durable at k) → (i : ℕ) → at + k ≤ i → named cs (DurableByte o i) ≡ None → named ds (DurableByte o i) ≡ None
+page_fresh f o at k cs ds sized within n i h unnamed =
+    among_fresh cs ds (Durable o) at (part f.durable at k) n i (let s = length-part f.durable at k (let d = sized.durable in omega arith) in omega arith) unnamed
 
 -- The pages before one are noted where they differ.
 pub record NotingPages (o : ℕ) (f : FileState) (before notes : Notes) (page : ℕ) : Type 0 where
@@ -135,13 +126,6 @@ pub record NotingPages (o : ℕ) (f : FileState) (before notes : Notes) (page : 
   pub noted : NamesUpTo o f notes.made (page * 4096)
   pub named : (p : Place) → named notes.made p ≡ None → named before.made p ≡ None
   pub room : HasAsMuch before notes
-
-as_much : (a b c : Notes) → HasAsMuch a b → HasAsMuch b c → HasAsMuch a c
-as_much a b c h k = record {
-  numbers = let x = h.numbers in let y = k.numbers in omega arith;
-  completions = let x = h.completions in let y = k.completions in omega arith;
-  others = let x = h.others in let y = k.others in omega arith;
-}
 
 pub noting_on : (o : ℕ) (f : FileState) (before notes next : Notes) (page : ℕ) → NotingPages o f before notes page → ((i : ℕ) → page * 4096 + 4096 ≤ i → i < 65536 → named next.made (DurableByte o i) ≡ None)
     → Keeps (object_owns o) (file_seen f) (file_seen f) notes.made next.made → (NamesUpTo o f notes.made (page * 4096) → NamesUpTo o f next.made (page * 4096 + 4096)) → ((p : Place) → named next.made p ≡ None → named notes.made p ≡ None) → HasAsMuch notes next

@@ -4,16 +4,21 @@
 pub mod body;
 pub mod bytes;
 pub mod descriptor;
+mod differing;
 pub mod file;
+pub mod held;
 pub mod laws;
 mod pages;
 pub mod pipe;
 mod start;
+#[cfg(test)]
+mod tests;
 mod transfer;
 pub mod world;
 
 pub use body::Body;
 pub use descriptor::DescriptorState;
 pub use file::RegularFile;
+pub use held::Held;
 pub use pipe::PipeBuffer;
 pub use world::World;

@@ -8,6 +8,7 @@ ghost use Rattle.model_files.specs.Pages.{NamesUpTo};
 ghost use Rattle.places.specs.Notes.{HasAsMuch};
 ghost use Rattle.model_files.specs.Files.{file_seen, synced, written, FileFormed};
 
+use crate::differing::note_differing;
 use crate::file::RegularFile;
 use crate::pages::{PAGE, PAGES};
 use places::{Place, Recorder, Region};
@@ -58,7 +59,8 @@ impl RegularFile {
     {
         let start = offset as usize;
         let end = start + others.len();
-        notes.note_bytes(Region::File(object), offset, &self.bytes()[start..end])?;
+        let old = &self.bytes()[start..end];
+        note_differing(Region::File(object), offset, old, others, notes)?;
         if end <= self.len() as usize {
             return Ok(());
         }
@@ -124,7 +126,8 @@ impl RegularFile {
         }
         let start = page as usize * PAGE;
         let old = &self.durable()[start..start + PAGE];
-        notes.note_bytes(Region::Durable(object), start as u32, old)?;
+        let others = &self.bytes()[start..start + PAGE];
+        note_differing(Region::Durable(object), start as u32, old, others, notes)?;
         Ok(())
     }
 }

@@ -11,6 +11,7 @@ ghost use Rattle.model_files.specs.Worlds.{world_owns, world_seen, world_can_put
 use crate::body::Body;
 use crate::bytes::{overwrite, pad};
 use crate::descriptor::DescriptorState;
+use crate::differing::note_differing;
 use crate::start::{copy_objects, start_descriptors, start_objects};
 use places::{At, Descriptor, Object, Part, Place, Recorder, Region, Value};
 use std::alloc::{AllocError, Global};
@@ -183,7 +184,8 @@ impl World {
         ensures others { notes.old.others ≤ notes.new.others }
     {
         let to = address as usize;
-        notes.note_bytes(Region::Memory, address, &self.memory[to..to + bytes.len()])?;
+        let old = &self.memory[to..to + bytes.len()];
+        note_differing(Region::Memory, address, old, bytes, notes)?;
         overwrite(&mut self.memory, to, bytes);
         Ok(())
     }
@@ -215,8 +217,10 @@ impl World {
         let Body::File(file) = &self.objects[object as usize] else {
             unreachable!()
         };
-        notes.note_bytes(Region::Memory, address, &self.memory[to..to + count])?;
-        overwrite(&mut self.memory, to, &file.bytes()[from..from + count]);
+        let others = &file.bytes()[from..from + count];
+        let old = &self.memory[to..to + count];
+        note_differing(Region::Memory, address, old, others, notes)?;
+        overwrite(&mut self.memory, to, others);
         Ok(())
     }
 

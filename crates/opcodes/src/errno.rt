@@ -17,3 +17,6 @@ pub const EINVAL: i32 = 22;
 
 /// File too large.
 pub const EFBIG: i32 = 27;
+
+/// The operation was canceled.
+pub const ECANCELED: i32 = 125;

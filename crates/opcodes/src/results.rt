@@ -7,10 +7,11 @@ use crate::ending::Outcome;
 use crate::errno::{EFAULT, EFBIG, EINVAL, EIO};
 use crate::op::Op;
 use entries::{Row, Sqe};
-use model_files::{DescriptorState, World};
+use model_files::{DescriptorState, Held, World};
 
-/// What an issued request comes to. It takes no memory.
-pub fn outcome(world: &World, row: &Row, choice: Choice) -> Outcome
+/// What an issued request comes to. It takes no memory. Which descriptors are held, requests on pipes and
+/// eventfds will ask; those on files don't.
+pub fn outcome(world: &World, _held: &Held, row: &Row, choice: Choice) -> Outcome
     ensures { result ≡ outcome_of world.now row.now choice }
 {
     let descriptor = held_descriptor(world, row);

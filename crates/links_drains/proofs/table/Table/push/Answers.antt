@@ -4,7 +4,16 @@ use Rattle.std.proofs.lemmas.Option.{slice_get_past}
 use Rattle.places.specs.declared.value.Value.TheVariants.{Requested}
 use Rattle.places.proofs.Keeping.{keeps_noted}
 use Rattle.links_drains.proofs.Seen.{seen_push}
+use Rattle.links_drains.proofs.Tallying.{room, tallied_push}
 use Rattle.links_drains.proofs.table.Table.push.Goals as goal
+
+pub count-requires : goal.count-requires
+count-requires c = room _ _ c.self.invariant
+
+pub invariant_of-self-2 : goal.invariant_of-self-2
+invariant_of-self-2 c =
+    let few = rw (← c.self.view_is) at c.requires in
+    rw (c.in_ok-push.ensures.items, c.in_ok-reserve.ensures.items) (tallied_push _ _ _ _ c.self.invariant few c.count.ensures)
 
 pub returns-clause-keeps : goal.returns-clause-keeps
 returns-clause-keeps c =

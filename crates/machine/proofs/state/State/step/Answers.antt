@@ -1,6 +1,6 @@
 use Rattle.std.proofs.Common.{◌≡◌, sym, subst, ◌∙◌}
 use Rattle.std.specs.Prelude.{None}
-use Rattle.machine.specs.Whole.{view, WellFormed, GoesBack}
+use Rattle.machine.specs.Whole.{WellFormed}
 use Rattle.machine.specs.Steps.{refusal}
 use Rattle.machine.proofs.Formed.{formed_after}
 use Rattle.machine.proofs.PuttingBack.{back_from_exact}

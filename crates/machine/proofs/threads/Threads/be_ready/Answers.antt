@@ -1,4 +1,4 @@
-use Rattle.std.proofs.Common.{◌≡◌, sym, ap, refl}
+use Rattle.std.proofs.Common.{sym, ap, refl}
 use Rattle.std.proofs.lemmas.Option.{slice_get_read}
 use Rattle.places.specs.declared.value.Stage.TheVariants.{Ready}
 use Rattle.machine.specs.Threads.{ThreadState}

@@ -1,11 +1,8 @@
-use Rattle.std.proofs.Common.{◌≡◌, ◌∙◌, sym, refl, ap, ◌<◌, ◌+◌, arith, set-set}
-use Rattle.std.specs.Prelude.{Some, slice_get, slice_set}
-use Rattle.machine.specs.Threads.{ThreadState, threads_seen}
-use Rattle.places.specs.declared.place.Place.TheVariants.{ProgramCounter, Got}
+use Rattle.std.proofs.Common.{sym, refl, arith}
 use Rattle.std.proofs.lemmas.Option.{slice_get_read}
-use Rattle.places.proofs.ListLemmas.{map_same, updated_set, slice_get-set_same}
-use Rattle.places.proofs.Keeping.{keeps_noted, keeps_then, keeps_unchanged}
-use Rattle.machine.proofs.ThreadLemmas.{seen_counter, seen_got}
+use Rattle.places.proofs.ListLemmas.{map_same, updated_set}
+use Rattle.places.proofs.Keeping.{keeps_noted}
+use Rattle.machine.proofs.ThreadLemmas.{seen_counter}
 use Rattle.machine.proofs.threads.Threads.go_on.Goals as goal
 
 pub overflow_add-thread : goal.overflow_add-thread

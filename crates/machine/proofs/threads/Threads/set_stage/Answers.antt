@@ -1,4 +1,4 @@
-use Rattle.std.proofs.Common.{◌≡◌, sym, refl}
+use Rattle.std.proofs.Common.{sym, refl}
 use Rattle.std.proofs.lemmas.Option.{slice_get_read}
 use Rattle.places.specs.declared.place.Place.TheVariants.{ThreadStage}
 use Rattle.places.proofs.ListLemmas.{map_same, updated_set}

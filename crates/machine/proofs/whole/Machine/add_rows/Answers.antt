@@ -1,10 +1,10 @@
-use Rattle.std.proofs.Common.{◌≡◌, ◌∙◌, sym, ap, subst, ◌≤◌, ◌+◌, length, take, arith}
-use Rattle.std.specs.Prelude.{Some, None, slice_get}
+use Rattle.std.proofs.Common.{◌≡◌, ◌∙◌, sym, ap, subst, ◌+◌, length, take, arith}
+use Rattle.std.specs.Prelude.{Some, slice_get}
 use Rattle.std.proofs.lemmas.List.{length-take-le}
 use Rattle.ring_words.specs.Rings.{SubWords, sub_list}
-use Rattle.machine.specs.Submission.{offered, entries_at}
+use Rattle.machine.specs.Submission.{entries_at}
 use Rattle.machine.specs.declared.whole.Machine.{Machine}
-use Rattle.machine.proofs.TakingWords.{Adding, adding_from, adding_on, adding_skip, adding_keeps, adding_setup, count_added}
+use Rattle.machine.proofs.TakingWords.{adding_on, adding_skip, count_added}
 use Rattle.machine.proofs.whole.Machine.add_rows.Goals as goal
 use Rattle.machine.proofs.whole.Machine.add_rows.Goals.{in-Some+in_ok-push-in-Some, in-None}
 

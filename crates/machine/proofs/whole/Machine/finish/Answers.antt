@@ -1,9 +1,49 @@
-use Rattle.machine.proofs.EnterLemmas.{finished_row, backlog_room}
-use Rattle.machine.proofs.SubmissionLemmas.{counted_low}
+use Rattle.std.proofs.Common.{◌≡◌, sym, ◌∙◌, ap, subst, w32, FitsSigned, to_z, of_z, rules, [], ◌∷◌, OnOk}
+use Rattle.std.specs.Prelude.{slice_get, Some}
+use Rattle.std.proofs.lemmas.Int.{to_z-of_z}
+use Rattle.model_files.specs.Worlds.{WorldState}
+use Rattle.opcodes.specs.Effects.{world_after}
+use Rattle.opcodes.specs.Outcomes.{outcome_of}
+use Rattle.opcodes.specs.declared.ending.Outcome.TheVariants.{Res}
+use Rattle.scenario.specs.declared.event.Event.TheVariants.{Finish}
+use Rattle.machine.specs.Steps.{fallen, finished, finished_as, after}
+use Rattle.machine.specs.Whole.{Mostly}
+use Rattle.machine.specs.declared.whole.Machine.{Machine}
+use Rattle.machine.proofs.EnterLemmas.{finished_row}
+use Rattle.machine.proofs.Endings.{direct_one}
+use Rattle.machine.proofs.FormedMachines.{mostly, formed_world}
+use Rattle.opcodes.proofs.Staying.{stays_after}
+use Rattle.machine.proofs.Untimed.{untimed}
 use Rattle.machine.proofs.whole.Machine.finish.Goals as goal
 
-pub end-requires-clause-counts : goal.end-requires-clause-counts
-end-requires-clause-counts c = counted_low _ c.requires.formed
+pub fall-requires-clause-untimed : goal.fall-requires-clause-untimed
+fall-requires-clause-untimed c = untimed c.args.self.now c.requires.formed
 
-pub end-requires-clause-room : goal.end-requires-clause-room
-end-requires-clause-room c = let x = finished_row c.args.self.now c.args.r c.args.choice c.requires.accepted in backlog_room c.args.self.now c.args.r x.0 c.requires.formed x.1 x.2
+pub fall-requires-clause-direct : goal.fall-requires-clause-direct
+fall-requires-clause-direct c = let x = finished_row c.args.self.now c.args.r c.args.choice c.requires.accepted in direct_one c.args.self.now.table c.args.r _ x.0 x.1 x.2
+
+pub fall-requires-clause-mostly : goal.fall-requires-clause-mostly
+fall-requires-clause-mostly c =
+    let fits : FitsSigned w32 c.in-Res.res = search rules in
+    let same = to_z-of_z w32 c.in-Res.res fits in
+    let told : outcome_of c.args.self.now.world c.in-Some.row c.args.choice ≡ Res c.in-Res.res = sym c.outcome.ensures ∙ c.in-Res.is in
+    let s = stays_after c.args.self.now.world c.in-Some.row c.in-Res.res c.args.choice c.requires.formed.world told in
+    let after : c.carry_out.new.world ≡ world_after c.in-Some.row c.in-Res.res c.args.self.now.world = c.in_ok-carry_out.ensures.ok ∙ ap (λ z. world_after c.in-Some.row z c.args.self.now.world) same in
+    subst (λ (w : WorldState). Mostly (record c.args.self.now { world = w })) (sym after)
+    (mostly _ (formed_world c.args.self.now (world_after c.in-Some.row c.in-Res.res c.args.self.now.world) c.requires.formed s.formed s.setup))
+
+-- the machine after it, as the fall leaves it
+pub returns-clause-ok : goal.returns-clause-ok
+returns-clause-ok c =
+    let m : Machine = c.args.self.now in
+    let fits : FitsSigned w32 c.in-Res.res = search rules in
+    let same = to_z-of_z w32 c.in-Res.res fits in
+    let there : slice_get m.table c.args.r ≡ Some c.in-Some.row = sym c.get.ensures ∙ c.in-Some.is in
+    let told : outcome_of m.world c.in-Some.row c.args.choice ≡ Res c.in-Res.res = sym c.outcome.ensures ∙ c.in-Res.is in
+    let moved : c.carry_out.new.world ≡ world_after c.in-Some.row c.in-Res.res m.world = c.in_ok-carry_out.ensures.ok ∙ ap (λ z. world_after c.in-Some.row z m.world) same in
+    let is : fallen (record m { world = c.carry_out.new.world }) ((c.args.r, to_z w32 (of_z w32 c.in-Res.res)) ∷ []) ≡ after m (Finish c.args.r c.args.choice) =
+    ap (λ (w : WorldState). fallen (record m { world = w }) ((c.args.r, to_z w32 (of_z w32 c.in-Res.res)) ∷ [])) moved
+    ∙ ap (λ z. fallen (record m { world = world_after c.in-Some.row c.in-Res.res m.world }) ((c.args.r, z) ∷ [])) same
+    ∙ sym (ap (finished_as m c.args.r c.in-Some.row) told)
+    ∙ sym (ap (λ o. finished m c.args.r o c.args.choice) there) in
+    subst (λ (n : Machine). OnOk c.fall.result (c.fall.new.self ≡ n)) is c.fall.ensures.ok

@@ -1,14 +1,19 @@
 use Rattle.std.proofs.Common.{sym, ◌∙◌}
 use Rattle.std.proofs.lemmas.Option.{slice_get_within}
-use Rattle.machine.proofs.EnterLemmas.{issued_row, issued_told, backlog_room}
-use Rattle.machine.proofs.SubmissionLemmas.{counted_low}
+use Rattle.machine.proofs.EnterLemmas.{issued_row, issued_told}
+use Rattle.machine.proofs.Endings.{direct_one}
+use Rattle.machine.proofs.FormedMachines.{mostly}
+use Rattle.machine.proofs.Untimed.{untimed}
 use Rattle.machine.proofs.whole.Machine.issue.Goals as goal
 
-pub end-requires-clause-counts : goal.end-requires-clause-counts
-end-requires-clause-counts c = counted_low _ c.requires.formed
+pub fall-requires-clause-direct : goal.fall-requires-clause-direct
+fall-requires-clause-direct c = let x = issued_row c.args.self.now c.args.r c.requires.accepted in direct_one c.args.self.now.table c.args.r _ x.0 x.1 x.2
 
-pub end-requires-clause-room : goal.end-requires-clause-room
-end-requires-clause-room c = let x = issued_row c.args.self.now c.args.r c.requires.accepted in backlog_room c.args.self.now c.args.r x.0 c.requires.formed x.1 x.2
+pub fall-requires-clause-untimed : goal.fall-requires-clause-untimed
+fall-requires-clause-untimed c = untimed c.args.self.now c.requires.formed
+
+pub fall-requires-clause-mostly : goal.fall-requires-clause-mostly
+fall-requires-clause-mostly c = mostly c.args.self.now c.requires.formed
 
 pub issue-requires : goal.issue-requires
 issue-requires c = let x = issued_row c.args.self.now c.args.r c.requires.accepted in slice_get_within c.args.self.now.table c.args.r x.0 x.1

@@ -1,6 +1,3 @@
-use Rattle.std.proofs.Common.{subst}
-use Rattle.std.specs.Prelude.{List}
-use Rattle.places.specs.declared.object.Object.{Object}
 use Rattle.machine.proofs.StartLemmas.{accepted, objects_fit}
 use Rattle.machine.proofs.whole.Machine.new.Goals as goal
 

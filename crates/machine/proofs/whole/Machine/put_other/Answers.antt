@@ -1,7 +1,7 @@
 use Rattle.std.proofs.Common.{◌≡◌}
 use Rattle.std.specs.Prelude.{Some}
 use Rattle.places.specs.declared.value.Value.TheVariants.{Number}
-use Rattle.machine.proofs.Lifting.{seen_clock, seen_counted, seen_poller}
+use Rattle.machine.proofs.Lifting.{seen_clock, seen_counted}
 use Rattle.machine.proofs.whole.Machine.put_other.Goals as goal
 
 pub returns-in-Clock-Some-Number-clause-put : goal.returns-in-Clock-Some-Number-clause-put

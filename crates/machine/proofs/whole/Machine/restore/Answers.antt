@@ -1,5 +1,4 @@
 use Rattle.std.proofs.Common.{sym, ◌∙◌, ap}
-use Rattle.places.specs.View.{NamesOnce}
 use Rattle.machine.specs.Whole.{view}
 use Rattle.machine.proofs.Staying.{overwrites}
 use Rattle.machine.proofs.whole.Machine.restore.Goals as goal

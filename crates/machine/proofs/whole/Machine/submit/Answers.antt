@@ -1,15 +1,12 @@
-use Rattle.std.proofs.Common.{◌≡◌, ◌∙◌, sym, true, false, ap, arith, length, ◌+◌, length-append}
-use Rattle.std.specs.Prelude.{min}
+use Rattle.std.proofs.Common.{subst, [], ◌∷◌, ◌-◌, ◌≡◌, ◌∙◌, sym, true, false, ap, arith, length, ◌+◌}
 use Rattle.machine.specs.Submission.{some_fails, offered, entries_at}
-use Rattle.machine.specs.Steps.{taken_by}
-use Rattle.machine.specs.declared.whole.Machine.{Machine}
-use Rattle.links_drains.specs.Batches.{rows_of}
-use Rattle.links_drains.proofs.Batching.{length-rows_of}
 use Rattle.std.proofs.lemmas.List.{length-take}
 use Rattle.ring_words.specs.Rings.{sub_list}
 use Rattle.machine.proofs.TakingWords.{fails_told}
-use Rattle.machine.proofs.SubmissionLemmas.{accepted_fits, words_all, words_some, one_taken, entries_most, length-taken, submitted_all, submitted_some, counted_low, ltb_not, ltb_lt}
-use Rattle.machine.proofs.EnterLemmas.{backlog_most}
+use Rattle.machine.proofs.SubmissionLemmas.{accepted_fits, words_all, words_some, one_taken, entries_most, length-taken, submitted_all, submitted_some, ltb_not, ltb_lt}
+use Rattle.timeouts_cancel.specs.Falls.{Direct}
+use Rattle.machine.specs.Submission.{einval}
+use Rattle.machine.proofs.FormedSubmissions.{FallsLast, falls_last}
 use Rattle.machine.proofs.whole.Machine.submit.Goals as goal
 
 pub returns-then-passing-offered-clause-ok : goal.returns-then-passing-offered-clause-ok
@@ -33,35 +30,28 @@ overflow_sub-last c =
     let some = one_taken c.args.self.now.submissions _ _ (omega (arith, c.offered-offered.ensures.least)) c.passing-passing.ensures.passing (omega (arith, c.passing-passing.ensures.within, c.if-passing-offered.false)) in
     omega (arith, n, some, c.len.ensures.len)
 
-pub end-requires-clause-there : goal.end-requires-clause-there
-end-requires-clause-there c =
-    let n = length-taken c.args.self.now _ _ c.in_ok-taken-2.ensures.ok in
-    let some = one_taken c.args.self.now.submissions _ _ (omega (arith, c.offered-offered.ensures.least)) c.passing-passing.ensures.passing (omega (arith, c.passing-passing.ensures.within, c.if-passing-offered.false)) in
-    omega (arith, n, some, c.len.ensures.len)
-
-pub end-requires-clause-counts : goal.end-requires-clause-counts
-end-requires-clause-counts c =
-    let same = ap (λ (m : Machine). m.counted) c.in_ok-taken-2.ensures.ok in
-    let low = counted_low c.args.self.now c.requires.formed in
-    omega (arith, same, low)
-
 pub returns-clause-ok : goal.returns-clause-ok
 returns-clause-ok c =
     let told = fails_told c.args.self.now.submissions c.args.to_submit _ _ c.offered-offered.ensures.least c.passing-passing.ensures.passing in
     let some : some_fails c.args.self.now.submissions c.args.to_submit ≡ true = told ∙ ltb_lt _ _ (omega (arith, c.passing-passing.ensures.within, c.if-passing-offered.false, c.offered-offered.ensures.offered)) in
     let words = words_some c.args.self.now.submissions c.args.to_submit _ _ c.offered-offered.ensures.least c.passing-passing.ensures.passing (omega (arith, c.passing-passing.ensures.within, c.if-passing-offered.false)) in
-    rw c.len.ensures.len at c.in_ok-end.ensures.ok ∙ submitted_some c.args.self.now _ c.args.to_submit _ some words c.in_ok-taken-2.ensures.ok
+    rw c.len.ensures.len at c.in_ok-fall.ensures.ok ∙ submitted_some c.args.self.now _ c.args.to_submit _ some words c.in_ok-taken-2.ensures.ok
 
-pub end-requires-clause-room : goal.end-requires-clause-room
-end-requires-clause-room c =
-    let n = length-taken c.args.self.now _ _ c.in_ok-taken-2.ensures.ok in
-    let some = one_taken c.args.self.now.submissions _ _ (omega (arith, c.offered-offered.ensures.least)) c.passing-passing.ensures.passing (omega (arith, c.passing-passing.ensures.within, c.if-passing-offered.false)) in
-    let fits = accepted_fits c.args.self.now c.args.to_submit c.requires.accepted in
-    let most = entries_most c.args.self.now.submissions.slots (offered c.args.self.now.submissions (c.passing-passing.result + 1)) in
-    let words = length-take (c.passing-passing.result + 1) (sub_list c.args.self.now.submissions) in
-    let items = backlog_most c.args.self.now c.requires.formed in
-    let same = ap (λ (m : Machine). length m.backlog.items) c.in_ok-taken-2.ensures.ok in
-    omega (arith, n, some, fits, most, words, items, same, c.offered-offered.ensures.offered, c.passing-passing.ensures.within, c.if-passing-offered.false)
+falls : (c : goal.After-fall-arg-3-1) → FallsLast c.take-2.new.self
+falls c =
+    let told = fails_told c.args.self.now.submissions c.args.to_submit _ _ c.offered-offered.ensures.least c.passing-passing.ensures.passing in
+    let some : some_fails c.args.self.now.submissions c.args.to_submit ≡ true = told ∙ ltb_lt _ _ (omega (arith, c.passing-passing.ensures.within, c.if-passing-offered.false, c.offered-offered.ensures.offered)) in
+    let words = words_some c.args.self.now.submissions c.args.to_submit _ _ c.offered-offered.ensures.least c.passing-passing.ensures.passing (omega (arith, c.passing-passing.ensures.within, c.if-passing-offered.false)) in
+    falls_last c.args.self.now _ c.args.to_submit _ c.requires.formed (accepted_fits c.args.self.now c.args.to_submit c.requires.accepted) some words c.in_ok-taken-2.ensures.ok
+
+pub fall-requires-clause-direct : goal.fall-requires-clause-direct
+fall-requires-clause-direct c = subst (λ n. Direct c.take-2.new.self.table ((n - 1, einval) ∷ [])) (sym c.len.ensures.len) (falls c).direct
+
+pub fall-requires-clause-untimed : goal.fall-requires-clause-untimed
+fall-requires-clause-untimed c = (falls c).untimed
+
+pub fall-requires-clause-mostly : goal.fall-requires-clause-mostly
+fall-requires-clause-mostly c = (falls c).mostly
 
 pub returns-clause-count : goal.returns-clause-count
 returns-clause-count c =

@@ -1,5 +1,5 @@
 use Rattle.std.proofs.Common.{sym, ◌∙◌}
-use Rattle.machine.proofs.Lifting.{seen_submissions, seen_completions, seen_world, seen_table, seen_backlog, seen_threads, can_put_submissions, can_put_completions, can_put_table, can_put_backlog, can_put_threads}
+use Rattle.machine.proofs.Lifting.{seen_submissions, seen_world, seen_table, seen_backlog, seen_threads}
 use Rattle.machine.proofs.whole.MachinePart.put.Goals as goal
 
 pub returns-then-is_of_table-clause-put : goal.returns-then-is_of_table-clause-put

@@ -1,0 +1,122 @@
+-- The counts of held descriptors, once the rows are changed.
+use Rattle.std.proofs.Common.{◌≡◌, ℕ, zero, suc, Bool, true, false, cond, refl, sym, ◌∙◌, ap, List, [], ◌∷◌, ◌++◌, length, take, drop, get_or, ◌+◌, ◌-◌, ◌^◌, ◌<◌, ◌≤◌, arith}
+use Rattle.std.specs.Prelude.{Some, slice_get, slice_set, nat_lt, ◌||◌}
+use Rattle.std.specs.List.{filter, list_any}
+use Rattle.std.proofs.lemmas.List.{take-append-drop}
+use Rattle.std.proofs.lemmas.List.Filters.{length-filter_more}
+use Rattle.std.proofs.lemmas.Bool.Decides.{nat_tests}
+use Rattle.std.proofs.lemmas.Grind.{common_steps}
+use Rattle.entries.specs.declared.row.Row.{Row}
+use Rattle.model_files.specs.declared.held.Held.{Held}
+use Rattle.model_files.specs.Holders.{holders, is_held}
+use Rattle.places.proofs.ListLemmas.{updated_set}
+use Rattle.links_drains.specs.Holding.{holds, holders_of, is_held_by, Tallied}
+use Rattle.links_drains.proofs.Counting.{matching-more, matching-append, matching-updated, matching-le-length}
+use Rattle.links_drains.proofs.RowsKept.{length-dropped, length-push}
+
+-- ---- how many rows hold a descriptor
+
+cut : (rows : List Row) (n fd : ℕ) → holders_of rows fd ≡ holders_of (take n rows) fd + holders_of (drop n rows) fd
+cut rows n fd = ap (λ rs. holders_of rs fd) (sym (take-append-drop n rows)) ∙ matching-append (holds fd) (take n rows) (drop n rows)
+
+one_more : (rows : List Row) (i : ℕ) (d : Row) (fd : ℕ) → i < length rows → holders_of (take (i + 1) rows) fd ≡ holders_of (take i rows) fd + cond (holds fd (get_or rows i d)) 1 0
+one_more rows i d fd h = length-filter_more (holds fd) rows i d h
+
+-- one row is written over
+written : (rows : List Row) (r : ℕ) (before row : Row) (fd : ℕ) → slice_get rows r ≡ Some before → holders_of (slice_set rows r row) fd + cond (holds fd before) 1 0 ≡ holders_of rows fd + cond (holds fd row) 1 0
+written rows r before row fd h = ap (λ rs. holders_of rs fd + cond (holds fd before) 1 0) (sym (updated_set (λ x. row) rows r before h)) ∙ matching-updated (holds fd) (λ x. row) rows r before h
+
+-- ---- rows go from the counts one after the other
+
+-- the next one is among those that are counted
+pub next_counted : (rows : List Row) (i : ℕ) (d : Row) (fd before now : ℕ) → i < length rows → holders_of rows fd ≤ before → before ≡ now + holders_of (take i rows) fd → holds fd (get_or rows i d) ≡ true → 0 < now
+next_counted rows i d fd before now h most e t =
+    let a = cut rows (i + 1) fd in
+    let b = rw t at (one_more rows i d fd h) in
+    omega (arith, a, b, most, e)
+
+pub next_gone : (rows : List Row) (i : ℕ) (d : Row) (fd before now later : ℕ) → i < length rows → before ≡ now + holders_of (take i rows) fd → now ≡ later + cond (holds fd (get_or rows i d)) 1 0 → before ≡ later + holders_of (take (i + 1) rows) fd
+next_gone rows i d fd before now later h e g = omega (arith, one_more rows i d fd h, e, g)
+
+-- ---- the counts of a table
+
+-- the rows are too few to fill a count
+pub room : (rows : List Row) (held : Held) → Tallied rows held → (fd : ℕ) → holders held fd < 2 ^ 32 - 1
+room rows held t fd =
+    let a = t.counts fd in
+    let b = t.most in
+    omega (arith, a, b, matching-le-length (holds fd) rows)
+
+pub room_less : (rows : List Row) (held between : Held) (row : Row) → Tallied rows held → ((fd : ℕ) → holders held fd ≡ holders between fd + cond (holds fd row) 1 0) → (fd : ℕ) → holders between fd < 2 ^ 32 - 1
+room_less rows held between row t off fd = let a = room rows held t fd in let b = off fd in omega (arith, a, b)
+
+positive : (n : ℕ) (b : Bool) (m : ℕ) → n ≡ cond b 1 0 + m → b ≡ true → 0 < n
+positive n true m h e = omega (arith, h)
+positive n false m h e = absurd cc
+
+-- each row that holds is counted
+pub counts_row : (rows : List Row) (held : Held) (r : ℕ) (row : Row) → Tallied rows held → slice_get rows r ≡ Some row → (fd : ℕ) → holds fd row ≡ true → 0 < holders held fd
+counts_row rows held r row t h fd e =
+    let a = t.counts fd in
+    omega (arith, a, among rows r h)
+  where
+    among : (xs : List Row) (i : ℕ) → slice_get xs i ≡ Some row → 0 < holders_of xs fd
+    among [] i g = absurd cc
+    among (x ∷ xs) zero g =
+        let k : x ≡ row = cc in
+        positive _ (holds fd x) _ (matching-more (holds fd) x xs) (ap (holds fd) k ∙ e)
+    among (x ∷ xs) (suc i) g =
+        let m = matching-more (holds fd) x xs in
+        let n = among xs i g in
+        omega (arith, m, n)
+
+-- no rows
+pub tallied_none : (held : Held) → ((fd : ℕ) → holders held fd ≡ 0) → Tallied [] held
+tallied_none held h = record { most = omega arith; counts = h }
+
+-- a row was written over
+pub tallied_set : (rows : List Row) (held between after : Held) (r : ℕ) (before row : Row) → Tallied rows held → slice_get rows r ≡ Some before →
+    ((fd : ℕ) → holders held fd ≡ holders between fd + cond (holds fd before) 1 0) → ((fd : ℕ) → holders after fd ≡ holders between fd + cond (holds fd row) 1 0) → Tallied (slice_set rows r row) after
+tallied_set rows held between after r before row t h off on = record {
+  most = let m = t.most in let l = length-set_row rows r row in omega (arith, m, l);
+  counts = λ fd. let a = t.counts fd in let b = off fd in let c = on fd in let d = written rows r before row fd h in omega (arith, a, b, c, d);
+}
+  where
+    length-set_row : (xs : List Row) (i : ℕ) (x : Row) → length (slice_set xs i x) ≡ length xs
+    length-set_row [] i x = refl
+    length-set_row (y ∷ ys) zero x = refl
+    length-set_row (y ∷ ys) (suc i) x = ap suc (length-set_row ys i x)
+
+-- a row was added behind the others
+pub tallied_push : (rows : List Row) (held after : Held) (row : Row) → Tallied rows held → length rows < 65536 →
+    ((fd : ℕ) → holders after fd ≡ holders held fd + cond (holds fd row) 1 0) → Tallied (rows ++ row ∷ []) after
+tallied_push rows held after row t h on = record {
+  most = let l = length-push rows row in omega (arith, h, l);
+  counts = λ fd. let a = t.counts fd in let b = on fd in let c = matching-append (holds fd) rows (row ∷ []) in let d = matching-more (holds fd) row [] in omega (arith, a, b, c, d);
+}
+
+-- rows were dropped
+pub rest : (rows : List Row) (n : ℕ) → take (length rows - n) (drop n rows) ≡ drop n rows
+rest rows n = grind (arith, common_steps)
+
+pub counts_dropped : (rows : List Row) (held : Held) (n : ℕ) → Tallied rows held → (fd : ℕ) → holders_of (drop n rows) fd ≤ holders held fd
+counts_dropped rows held n t fd = let a = t.counts fd in omega (arith, a, cut rows n fd)
+
+pub tallied_cut : (rows : List Row) (held after : Held) (n : ℕ) → Tallied rows held → ((fd : ℕ) → holders held fd ≡ holders after fd + holders_of (drop n rows) fd) → Tallied (take n rows) after
+tallied_cut rows held after n t off = record {
+  most = let m = t.most in let l = length-dropped rows n in omega (arith, m, l);
+  counts = λ fd. let a = t.counts fd in let b = off fd in omega (arith, a, b, cut rows n fd);
+}
+
+-- ---- what the counts tell
+
+pub tells : (rows : List Row) (held : Held) → Tallied rows held → (fd : ℕ) → is_held held fd ≡ is_held_by rows fd
+tells rows held t fd = ap (λ n. nat_lt 0 n) (t.counts fd) ∙ some rows
+  where
+    some : (xs : List Row) → nat_lt 0 (length (filter (holds fd) xs)) ≡ list_any (holds fd) xs
+    some [] = refl
+    some (x ∷ xs) = by (holds fd x) (some xs)
+      where
+        by : (b : Bool) → nat_lt 0 (length (filter (holds fd) xs)) ≡ list_any (holds fd) xs → nat_lt 0 (length (cond b (x ∷ filter (holds fd) xs) (filter (holds fd) xs))) ≡ (b || list_any (holds fd) xs)
+        by true k = grind (arith, nat_tests)
+        by false k = k

@@ -1,0 +1,7 @@
+use Rattle.std.proofs.Common.{◌≡◌, ℕ, ◌+◌, take}
+use Rattle.model_files.specs.Holders.{holders}
+use Rattle.links_drains.specs.Holding.{holders_of}
+use Rattle.links_drains.proofs.holding.take_all_off.Given as goal
+
+abbrev pub invariant-loop-row : goal.invariant-loop-row
+invariant-loop-row l = (fd : ℕ) → holders l.fn.held fd ≡ holders l.held fd + holders_of (take l.row-index l.rows) fd

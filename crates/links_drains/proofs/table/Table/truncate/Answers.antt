@@ -1,0 +1,10 @@
+use Rattle.links_drains.proofs.Tallying.{counts_dropped, tallied_cut, rest}
+use Rattle.links_drains.proofs.table.Table.truncate.Goals as goal
+
+pub take_all_off-requires : goal.take_all_off-requires
+take_all_off-requires c = rw (c.deref.ensures.value, rest) (counts_dropped _ _ _ c.self.invariant)
+
+pub invariant_of-self : goal.invariant_of-self
+invariant_of-self c =
+    let off = rw (c.deref.ensures.value, rest) at c.take_all_off.ensures in
+    rw c.truncate.ensures.items (tallied_cut _ _ _ _ c.self.invariant off)

@@ -1,0 +1,37 @@
+//! The counts of held descriptors follow the rows.
+ghost use Rattle.std.specs.Prelude.{◌≡◌, ℕ, ◌+◌, ◌-◌, ◌<◌, ◌≤◌, ◌^◌, true, if◌then◌else◌};
+ghost use Rattle.model_files.specs.Holders.{holders};
+ghost use Rattle.links_drains.specs.Holding.{holds, holders_of};
+
+use entries::{Phase, Row};
+use model_files::Held;
+
+/// A row comes to what is counted.
+pub(crate) fn count(held: &mut Held, row: &Row)
+    requires { (fd : ℕ) → holders held.old fd < 2 ^ 32 - 1 }
+    ensures { (fd : ℕ) → holders held.new fd ≡ holders held.old fd + (if holds fd row.now then 1 else 0) }
+{
+    if let (Phase::Issued, Some(fd)) = (row.phase, row.held) {
+        held.add(fd);
+    }
+}
+
+/// A row goes from what is counted.
+pub(crate) fn take_off(held: &mut Held, row: &Row)
+    requires { (fd : ℕ) → holds fd row.now ≡ true → 0 < holders held.old fd }
+    ensures { (fd : ℕ) → holders held.old fd ≡ holders held.new fd + (if holds fd row.now then 1 else 0) }
+{
+    if let (Phase::Issued, Some(fd)) = (row.phase, row.held) {
+        held.remove(fd);
+    }
+}
+
+/// Rows go from what is counted.
+pub(crate) fn take_all_off(held: &mut Held, rows: &[Row])
+    requires { (fd : ℕ) → holders_of rows.now fd ≤ holders held.old fd }
+    ensures { (fd : ℕ) → holders held.old fd ≡ holders held.new fd + holders_of rows.now fd }
+{
+    for row in rows {
+        take_off(held, row);
+    }
+}

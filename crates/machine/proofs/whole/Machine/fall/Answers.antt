@@ -1,0 +1,21 @@
+use Rattle.std.proofs.Common.{◌≡◌, ◌∙◌, ℕ, ℤ, ap, sym, List, length, arith}
+use Rattle.std.specs.Prelude.{slice_get}
+use Rattle.timeouts_cancel.specs.Falls.{fall_of}
+use Rattle.machine.proofs.Endings.{fall_within, can_fall, can_end_room, can_end_counts}
+use Rattle.machine.proofs.whole.Machine.fall.Goals as goal
+
+listed : (c : goal.After-end_all-arg-2-1) → c.deref.result.now ≡ fall_of c.args.self.now.table c.args.self.now.counted c.args.direct.now
+listed c = c.deref.ensures.value ∙ c.in_ok-endings.ensures
+
+pub end_all-requires-clause-there : goal.end_all-requires-clause-there
+end_all-requires-clause-there c = λ i p h. fall_within c.args.self.now.table c.args.self.now.counted c.args.direct.now i p (ap (λ (es : List (ℕ × ℤ)). slice_get es i) (sym (listed c)) ∙ h)
+
+pub end_all-requires-clause-room : goal.end_all-requires-clause-room
+end_all-requires-clause-room c =
+    let k = can_end_room c.args.self.now (fall_of c.args.self.now.table c.args.self.now.counted c.args.direct.now) c.requires.mostly (can_fall c.args.self.now.table c.args.self.now.counted c.args.direct.now) in
+    let n = ap length (listed c) in omega (arith, k, n)
+
+pub end_all-requires-clause-counts : goal.end_all-requires-clause-counts
+end_all-requires-clause-counts c =
+    let k = can_end_counts c.args.self.now (fall_of c.args.self.now.table c.args.self.now.counted c.args.direct.now) c.requires.mostly (can_fall c.args.self.now.table c.args.self.now.counted c.args.direct.now) in
+    let n = ap length (listed c) in omega (arith, k, n)

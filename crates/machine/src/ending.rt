@@ -1,0 +1,90 @@
+//! Requests end: their completions are posted, and they are counted.
+ghost use Rattle.std.specs.Prelude.{◌≡◌, ◌+◌, ◌<◌, ◌≤◌, ◌^◌, ℕ, ℤ, OnOk, Some, length, slice_get};
+ghost use Rattle.places.specs.View.{Keeps};
+ghost use Rattle.machine.specs.Steps.{delivery, ended, all_ended, fallen};
+ghost use Rattle.timeouts_cancel.specs.Falls.{Direct, NoTimers};
+ghost use Rattle.overflow.specs.Backlogs.{DeliveryFormed};
+ghost use Rattle.machine.specs.Whole.{view, everywhere, Grows, Mostly};
+
+use crate::whole::Machine;
+use entries::{Cqe, Phase};
+use opcodes::is_timer;
+use overflow::post_all;
+use places::{Place, Recorder};
+use std::alloc::AllocError;
+use timeouts_cancel::fall;
+
+impl Machine {
+    /// A row ends with a result: its completion is posted, and it is counted unless it is a timer.
+    pub(crate) fn end(&mut self, r: u32, res: i32, notes: &mut Recorder) -> Result<(), AllocError>
+        requires there { r < length self.old.table }
+        requires room { length self.old.backlog.items < 65536 }
+        requires delivery { DeliveryFormed (delivery self.old) }
+        requires counts { self.old.counted + 1 < 2 ^ 32 }
+        ensures ok { OnOk result (self.new ≡ ended self.old r res) }
+        ensures grows { Grows self.old self.new }
+        ensures keeps { Keeps everywhere (view self.old) (view self.new) notes.old.made notes.new.made }
+    {
+        let Some(row) = self.table.get(r) else {
+            unreachable!()
+        };
+        self.table.set_phase(r, Phase::Ended(res), notes)?;
+        let completion = Cqe {
+            user_data: row.entry.user_data,
+            res,
+            flags: 0,
+        };
+        post_all(
+            &mut self.submissions,
+            &mut self.completions,
+            &mut self.backlog,
+            &[completion],
+            notes,
+        )?;
+        if is_timer(row.entry.opcode) {
+            return Ok(());
+        }
+        notes.note_number(Place::Counted, self.counted as u64)?;
+        self.counted += 1;
+        Ok(())
+    }
+
+    /// Rows end that a step ends of itself, and those that fall with them.
+    #[tactic(auto, unfolding(crate::specs::Steps::fallen))]
+    pub(crate) fn fall(
+        &mut self,
+        direct: &[(u32, i32)],
+        notes: &mut Recorder,
+    ) -> Result<(), AllocError>
+        requires direct { Direct self.old.table direct.now }
+        requires untimed { NoTimers self.old.table }
+        requires mostly { Mostly self.old }
+        ensures ok { OnOk result (self.new ≡ fallen self.old direct.now) }
+        ensures grows { Grows self.old self.new }
+        ensures keeps { Keeps everywhere (view self.old) (view self.new) notes.old.made notes.new.made }
+    {
+        let endings = fall(&self.table, self.counted, direct)?;
+        self.end_all(&endings, notes)
+    }
+
+    /// Rows end with their results, one after the other.
+    pub(crate) fn end_all(
+        &mut self,
+        endings: &[(u32, i32)],
+        notes: &mut Recorder,
+    ) -> Result<(), AllocError>
+        requires there { (i : ℕ) (p : ℕ × ℤ) → slice_get endings.now i ≡ Some p → p.0 < length self.old.table }
+        requires room { length self.old.backlog.items + length endings.now ≤ 65536 }
+        requires delivery { DeliveryFormed (delivery self.old) }
+        requires counts { self.old.counted + length endings.now < 2 ^ 32 }
+        ensures ok { OnOk result (self.new ≡ all_ended self.old endings.now) }
+        ensures grows { Grows self.old self.new }
+        ensures keeps { Keeps everywhere (view self.old) (view self.new) notes.old.made notes.new.made }
+    {
+        for i in 0..endings.len() {
+            let (r, res) = endings[i];
+            self.end(r, res, notes)?;
+        }
+        Ok(())
+    }
+}

@@ -1,0 +1,136 @@
+//! Notes of the bytes that are to change, without those that stay.
+ghost use Rattle.std.specs.Prelude.{◌≡◌, ◌+◌, ◌-◌, ◌<◌, ◌≤◌, ◌↔◌, ℕ, IsTrue, MatchOption, OnOk, None, length};
+ghost use Rattle.places.specs.Notes.{HasAsMuch};
+ghost use Rattle.places.specs.Runs.{place_in};
+ghost use Rattle.places.specs.View.{named};
+ghost use Rattle.model_files.specs.Differing.{Alike, DifferAt, IsFirst, IsSpanEnd, NotedAmong, NamesDiffering, Spares};
+
+use places::{Recorder, Region};
+use std::alloc::AllocError;
+
+/// How many bytes in a row that are alike end a span. To keep as many takes more memory than another run.
+const GAP: usize = 16;
+
+/// How many bytes are compared at once while none differs.
+const STRIDE: usize = 1024;
+
+/// Bytes from one that differs up to behind another that does.
+#[derive(Clone, Copy)]
+struct Span {
+    from: usize,
+    end: usize,
+}
+
+/// Notes the old bytes of a region from an index on that differ from what is to stand there, none of which
+/// is noted. Of those that are alike it notes fewer than sixteen in a row, between two that differ.
+pub(crate) fn note_differing(
+    region: Region,
+    start: u32,
+    old: &[u8],
+    others: &[u8],
+    notes: &mut Recorder,
+) -> Result<(), AllocError>
+    requires len { length others.now ≡ length old.now }
+    requires fits { start + length old.now ≤ 65536 }
+    requires fresh { (i : ℕ) → i < length old.now → named notes.old.made (place_in region (start + i)) ≡ None }
+    ensures noted { OnOk result (NamesDiffering notes.new.made region start old.now others.now) }
+    ensures spared { Spares notes.new.made region start old.now others.now }
+    ensures among { NotedAmong notes.old.made notes.new.made region start old.now }
+    ensures room { HasAsMuch notes.old notes.new }
+{
+    let mut done = 0;
+    while let Some(span) = next_span(old, others, done) {
+        let changed = &old[span.from..span.end];
+        notes.note_bytes(region, start + span.from as u32, changed)?;
+        done = span.end;
+    }
+    Ok(())
+}
+
+/// The next bytes that differ, from an index on.
+fn next_span(old: &[u8], others: &[u8], done: usize) -> Option<Span>
+    requires len { length others.now ≡ length old.now }
+    requires within { done ≤ length old.now }
+    ensures { MatchOption result (Alike old.now others.now done (length old.now)) (λ s. IsFirst old.now others.now done s.from × IsSpanEnd old.now others.now s.from s.end) }
+{
+    let from = first_difference(old, others, done)?;
+    let end = span_end(old, others, from);
+    Some(Span { from, end })
+}
+
+/// The first index from one on at which two lists of bytes differ.
+fn first_difference(old: &[u8], others: &[u8], done: usize) -> Option<usize>
+    requires len { length others.now ≡ length old.now }
+    requires within { done ≤ length old.now }
+    ensures { MatchOption result (Alike old.now others.now done (length old.now)) (λ at. IsFirst old.now others.now done at) }
+{
+    let near = skip_alike(old, others, done, STRIDE);
+    let from = skip_alike(old, others, near, GAP);
+    for at in from..old.len() {
+        if old[at] != others[at] {
+            return Some(at);
+        }
+    }
+    None
+}
+
+/// How far two lists of bytes are alike from an index on, in whole steps.
+fn skip_alike(old: &[u8], others: &[u8], from: usize, step: usize) -> usize
+    requires some { 0 < step }
+    requires len { length others.now ≡ length old.now }
+    requires within { from ≤ length old.now }
+    ensures from { from ≤ result }
+    ensures within { result ≤ length old.now }
+    ensures alike { Alike old.now others.now from result }
+    ensures stops { result + step ≤ length old.now → ¬ Alike old.now others.now result (result + step) }
+{
+    let mut at = from;
+    while step <= old.len() - at && are_alike(old, others, at, at + step) {
+        at += step;
+    }
+    at
+}
+
+/// Behind the last byte that differs before sixteen in a row that are alike, or before the end.
+fn span_end(old: &[u8], others: &[u8], from: usize) -> usize
+    requires len { length others.now ≡ length old.now }
+    requires within { from < length old.now }
+    requires differs { DifferAt old.now others.now from }
+    ensures { IsSpanEnd old.now others.now from result }
+{
+    let mut end = from + 1;
+    loop {
+        let next = last_end(old, others, end, old.len().min(end + GAP));
+        if next == end {
+            return end;
+        }
+        end = next;
+    }
+}
+
+/// Behind the last byte that differs between two indexes, or the first of these.
+fn last_end(old: &[u8], others: &[u8], from: usize, to: usize) -> usize
+    requires len { length others.now ≡ length old.now }
+    requires order { from ≤ to }
+    requires within { to ≤ length old.now }
+    ensures from { from ≤ result }
+    ensures within { result ≤ to }
+    ensures last { from < result → DifferAt old.now others.now (result - 1) }
+    ensures behind { Alike old.now others.now result to }
+{
+    let mut end = to;
+    while from < end && old[end - 1] == others[end - 1] {
+        end -= 1;
+    }
+    end
+}
+
+/// Whether two lists of bytes have the same from an index up to another.
+fn are_alike(old: &[u8], others: &[u8], from: usize, to: usize) -> bool
+    requires order { from ≤ to }
+    requires old { to ≤ length old.now }
+    requires others { to ≤ length others.now }
+    ensures { IsTrue result ↔ Alike old.now others.now from to }
+{
+    old[from..to] == others[from..to]
+}

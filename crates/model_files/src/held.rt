@@ -1,0 +1,92 @@
+//! Which descriptors are held by requests under way.
+ghost use Rattle.std.specs.Prelude.{◌≡◌, ℕ, ◌+◌, ◌-◌, ◌<◌, ◌^◌, None, Some, true, if◌then◌else◌};
+ghost use Rattle.model_files.specs.Holders.{counted, holders, is_descriptor_number, is_held};
+
+/// How many requests hold each of the 64 descriptors, numbered from 3.
+#[derive(Clone, Copy, Debug)]
+pub struct Held {
+    counts: [u32; 64],
+}
+
+impl Held {
+    /// None is held.
+    pub fn new() -> Held
+        ensures { (fd : ℕ) → holders result fd ≡ 0 }
+    {
+        Held { counts: [0; 64] }
+    }
+
+    /// Whether a descriptor is held.
+    pub fn holds(&self, fd: u32) -> bool
+        ensures { result ≡ is_held self.now fd }
+    {
+        match index_of(fd) {
+            Some(index) => self.counts[index] > 0,
+            None => false,
+        }
+    }
+
+    /// One more request holds a descriptor. A number that none of them has isn't counted.
+    pub fn add(&mut self, fd: u32)
+        requires { holders self.old fd < 2 ^ 32 - 1 }
+        ensures { (other : ℕ) → holders self.new other ≡ holders self.old other + counted fd other }
+    {
+        if let Some(index) = index_of(fd) {
+            self.counts[index] += 1;
+        }
+    }
+
+    /// One request fewer holds a descriptor.
+    pub fn remove(&mut self, fd: u32)
+        requires { is_descriptor_number fd ≡ true → 0 < holders self.old fd }
+        ensures { (other : ℕ) → holders self.old other ≡ holders self.new other + counted fd other }
+    {
+        if let Some(index) = index_of(fd) {
+            self.counts[index] -= 1;
+        }
+    }
+}
+
+// Where the count of a descriptor stands.
+fn index_of(fd: u32) -> Option<usize>
+    ensures { result ≡ (if is_descriptor_number fd then Some (fd - 3) else None) }
+{
+    if 3 <= fd && fd < 67 {
+        Some(fd as usize - 3)
+    } else {
+        None
+    }
+}
+
+#[cfg(test)]
+mod tests {
+    use super::*;
+
+    #[test]
+    fn counts_each_of_them(rt: HostRuntime) {
+        let mut held = Held::new();
+        assert_eq!(rt; held.holds(3), false);
+        held.add(3);
+        held.add(66);
+        held.add(66);
+        assert_eq!(rt; held.holds(3), true);
+        assert_eq!(rt; held.holds(4), false);
+        held.remove(66);
+        assert_eq!(rt; held.holds(66), true);
+        held.remove(66);
+        assert_eq!(rt; held.holds(66), false);
+        assert_eq!(rt; held.holds(3), true);
+    }
+
+    #[test]
+    fn other_numbers_count_nothing(rt: HostRuntime) {
+        let mut held = Held::new();
+        for fd in [0, 2, 67, u32::MAX] {
+            held.add(fd);
+            assert_eq!(rt; held.holds(fd), false);
+            held.remove(fd);
+        }
+        assert_eq!(rt; held.holds(3), false);
+        assert_eq!(rt; held.holds(66), false);
+    }
+}

@@ -1,0 +1,87 @@
+-- Running the filters of a fall again adds nothing.
+use Rattle.std.proofs.Common.{◌≡◌, ℕ, ℤ, zero, suc, Bool, true, false, cond, refl, ◌∙◌, ap, List, [], ◌∷◌}
+use Rattle.std.specs.Prelude.{Option, Some, None, slice_get, ◌==◌, ◌||◌}
+use Rattle.std.specs.Option.{option_and_then}
+use Rattle.std.specs.List.{list_any}
+use Rattle.std.proofs.lemmas.Bool.{eqb-true}
+use Rattle.entries.specs.declared.row.Row.{Row}
+use Rattle.links_drains.specs.Phases.{is_unfinished}
+use Rattle.timeouts_cancel.specs.Falls.{Ending, result_in, endings, joined, or_else, given}
+use Rattle.timeouts_cancel.proofs.Listing.{result_of, listed_at, alike}
+use Rattle.timeouts_cancel.proofs.Rising.{ends_at}
+
+-- ---- some element passes a test
+
+pub any_at : {X : Type 0} (p : X → Bool) (xs : List X) (i : ℕ) (x : X) → slice_get xs i ≡ Some x → p x ≡ true → list_any p xs ≡ true
+any_at p [] i x h k = absurd cc
+any_at p (y ∷ ys) zero x h k = let e : y ≡ x = cc in ap (λ b. b || list_any p ys) (ap p e ∙ k)
+any_at {X} p (y ∷ ys) (suc i) x h k = by (p y) (any_at p ys i x h k)
+  where
+    by : (b : Bool) → list_any p ys ≡ true → (b || list_any p ys) ≡ true
+    by true e = refl
+    by false e = e
+
+pub any_found : {X : Type 0} (p : X → Bool) (xs : List X) → list_any p xs ≡ true → (i : ℕ) × (x : X) × (slice_get xs i ≡ Some x) × (p x ≡ true)
+any_found p [] h = absurd cc
+any_found {X} p (y ∷ ys) h = by (p y) refl h (any_found p ys)
+  where
+    by : (b : Bool) → p y ≡ b → (b || list_any p ys) ≡ true → (list_any p ys ≡ true → (i : ℕ) × (x : X) × (slice_get ys i ≡ Some x) × (p x ≡ true)) → (i : ℕ) × (x : X) × (slice_get (y ∷ ys) i ≡ Some x) × (p x ≡ true)
+    by true e k more = (0, y, refl, e)
+    by false e k more = let r = more k in (suc r.0, r.1, r.2, r.3)
+
+-- ---- what is listed
+
+-- the result that a list has stands in it
+pub result_there : (es : List Ending) (r : ℕ) (res : ℤ) → result_in es r ≡ Some res → (i : ℕ) × (slice_get es i ≡ Some (r, res))
+result_there [] r res h = absurd cc
+result_there (e ∷ es) r res h = by (e.0 == r) refl h (result_there es r res)
+  where
+    by : (b : Bool) → (e.0 == r) ≡ b → cond b (Some e.1) (result_in es r) ≡ Some res → (result_in es r ≡ Some res → (i : ℕ) × (slice_get es i ≡ Some (r, res))) → (i : ℕ) × (slice_get (e ∷ es) i ≡ Some (r, res))
+    by true g k more =
+        let a : e.0 ≡ r = eqb-true e.0 r g in
+        let b : e.1 ≡ res = cc in
+        (0, ap (λ x. Some (x, e.1)) a ∙ ap (λ y. Some (r, y)) b)
+    by false g k more = let w = more k in (suc w.0, w.1)
+
+-- what a test lists, row by row
+pub listed_row : (f : ℕ → Row → Option ℤ) (rows : List Row) (r : ℕ) (row : Row) → slice_get rows r ≡ Some row → is_unfinished row.phase ≡ true → result_in (endings f rows) r ≡ f r row
+listed_row f rows r row h u = listed_at f rows r ∙ ap (option_and_then (result_of f r)) h ∙ ap (λ b. cond b (f r row) None) u
+
+pub listed_is : (f : ℕ → Row → Option ℤ) (rows : List Row) (i : ℕ) (e : Ending) → slice_get (endings f rows) i ≡ Some e → result_in (endings f rows) e.0 ≡ Some e.1
+listed_is f rows i e h = let w = ends_at f rows i e h in listed_row f rows e.0 w.0 w.1 w.2 ∙ w.3
+
+some_none : {X : Type 0} (o : Option X) (x : X) → o ≡ Some x → o ≡ None → ⊥
+some_none o x h k = cc
+
+-- what stands first, or else second
+pub or_else_is : (a b : Option ℤ) (res : ℤ) → or_else a b ≡ Some res → (a ≡ None → b ≡ Some res)
+or_else_is None b res h k = h
+or_else_is (Some x) b res h k = absurd cc
+
+pub or_else_none : (a b : Option ℤ) → or_else a b ≡ None → (a ≡ None) × (b ≡ None)
+or_else_none None b h = (refl, h)
+or_else_none (Some x) b h = absurd cc
+
+pub given_none : (b : Bool) (res : ℤ) → given b res ≡ None → b ≡ false
+given_none true res h = absurd cc
+given_none false res h = refl
+
+pub given_is : (b : Bool) (res got : ℤ) → given b res ≡ Some got → (b ≡ true) × (got ≡ res)
+given_is true res got h = (refl, cc)
+given_is false res got h = absurd cc
+
+-- ---- a test that gives nothing to rows that aren't listed adds nothing
+
+pub joined_nothing : (f g : ℕ → Row → Option ℤ) (rows : List Row)
+    → ((r : ℕ) (row : Row) → slice_get rows r ≡ Some row → is_unfinished row.phase ≡ true → g r row ≡ None → f r row ≡ None) → joined rows f (endings g rows) ≡ endings g rows
+joined_nothing f g rows h = alike (λ r row. or_else (result_in (endings g rows) r) (f r row)) g rows (λ r row e. by r row e (is_unfinished row.phase) refl)
+  where
+    at : (r : ℕ) (row : Row) → (o : Option ℤ) → (o ≡ None → f r row ≡ None) → or_else o (f r row) ≡ o
+    at r row None k = k refl
+    at r row (Some res) k = refl
+
+    by : (r : ℕ) (row : Row) → slice_get rows r ≡ Some row → (b : Bool) → is_unfinished row.phase ≡ b → cond b (or_else (result_in (endings g rows) r) (f r row)) None ≡ cond b (g r row) None
+    by r row e true u =
+        let l = listed_row g rows r row e u in
+        ap (λ o. or_else o (f r row)) l ∙ at r row (g r row) (h r row e u)
+    by r row e false u = refl

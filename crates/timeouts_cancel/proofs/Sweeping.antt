@@ -1,0 +1,182 @@
+-- Walking over the rest of a unit that a row severs.
+use Rattle.std.proofs.Common.{Bool, ◌≡◌, ℕ, pos, zero, suc, true, false, cond, refl, sym, ◌∙◌, ap, List, [], ◌∷◌, ◌++◌, length, ◌+◌, ◌<◌, ◌≤◌, ◌⊎◌, inl, inr, arith}
+use Rattle.std.specs.Prelude.{Option, Some, None, slice_get, ◌&&◌, nat_le}
+use Rattle.std.specs.Option.{option_map_or}
+use Rattle.std.proofs.lemmas.List.{take_all}
+use Rattle.std.proofs.lemmas.Option.{slice_get_within}
+use Rattle.entries.specs.declared.row.Row.{Row}
+use Rattle.links_drains.specs.Links.{is_soft_linked, Chained}
+use Rattle.links_drains.specs.Phases.{is_unfinished}
+use Rattle.timeouts_cancel.specs.Falls.{Ending, paired, endings, given, with_met, with_guards, is_severed, is_bad, is_guard, is_count_timeout, guards_listed, is_met, counted_in, fall_of, ecanceled, is_listed, Direct, NoTimers}
+use Rattle.timeouts_cancel.proofs.Again.{joined_nothing}
+use Rattle.timeouts_cancel.specs.Walks.{Severs, Walked, Sweeping, ds, ss, test, upto}
+use Rattle.timeouts_cancel.proofs.Walking.{of_one, upto_more, upto_gap, test_direct, test_other, severed_if, NotDirect, split, between, listed_direct, below_next, above_next}
+
+pub none_within : {X : Type 0} (zs : List X) (n : ℕ) → slice_get zs n ≡ None → n < length zs → ⊥
+none_within [] n e l = omega (arith, l)
+none_within (z ∷ zs) zero e l = cc
+none_within (z ∷ zs) (suc n) e l = none_within zs n e (omega (arith, l))
+
+pub same_row : (a b : Row) → Some a ≡ Some b → a ≡ b
+same_row a b k = cc
+
+pub same_ending : (a b : Ending) → Some a ≡ Some b → a ≡ b
+same_ending a b k = cc
+
+pub sweep_start : (rows : List Row) (direct : List Ending) (k i : ℕ) (es : List Ending) (e : Ending) (row : Row) → Direct rows direct → Walked rows direct k i es → slice_get direct i ≡ Some e → slice_get rows e.0 ≡ Some row
+    → is_soft_linked row ≡ true → is_bad row e.1 ≡ true → Sweeping rows direct (e.0 + 1) (i + 1) (es ++ e ∷ []) row.unit
+sweep_start rows direct k i es e row d w h t s b = record {
+  listed = listed_direct rows direct k i es e row d w h t;
+  below = below_next rows direct k i es e d w h;
+  above = above_next rows direct i e d h;
+  at = i;
+  cause = e;
+  there = h;
+  passed = omega arith;
+  head = row;
+  is_head = t;
+  soft = s;
+  bad = b;
+  unit_is = refl;
+  run = λ q y l m g. let n : q ≡ e.0 = omega (arith, l, m) in ap (λ (x : Row). x.unit) (same_row y row (sym g ∙ ap (slice_get rows) n ∙ t));
+  clear = λ r x j p l g q a z. w.clear r x j p (let low = w.above i e h (omega arith) in omega (arith, low, l)) g q a z;
+}
+
+-- one more row of the unit
+run_more : (rows : List Row) (from k unit : ℕ) (row : Row) → slice_get rows k ≡ Some row → row.unit ≡ unit → ((q : ℕ) (y : Row) → from ≤ q → q < k → slice_get rows q ≡ Some y → y.unit ≡ unit) → (q : ℕ) (y : Row) → from ≤ q → q < k + 1 → slice_get rows q ≡ Some y → y.unit ≡ unit
+run_more rows from k unit row h u run q y l m g = by (split q k)
+  where
+    by : (q < k) ⊎ (k ≤ q) → y.unit ≡ unit
+    by (inl a) = run q y l a g
+    by (inr a) = let n : q ≡ k = omega (arith, a, m) in ap (λ (x : Row). x.unit) (same_row y row (sym g ∙ ap (slice_get rows) n ∙ h)) ∙ u
+
+pub sweep_direct : (rows : List Row) (direct : List Ending) (k i : ℕ) (es : List Ending) (unit : ℕ) (e : Ending) (row : Row) → Direct rows direct → Sweeping rows direct k i es unit → slice_get direct i ≡ Some e → e.0 ≡ k → slice_get rows k ≡ Some row → row.unit ≡ unit
+    → Sweeping rows direct (k + 1) (i + 1) (es ++ e ∷ []) unit
+sweep_direct rows direct k i es unit e row d w h m t u =
+    let t2 : slice_get rows e.0 ≡ Some row = ap (slice_get rows) m ∙ t in
+    let one = test_direct rows direct i e row d h t2 in
+    record {
+      listed = ap (λ xs. xs ++ e ∷ []) w.listed ∙ ap (λ r. upto (test rows direct) rows r ++ e ∷ []) (sym m) ∙ ap (λ o. upto (test rows direct) rows e.0 ++ of_one (paired e.0 o)) (sym one) ∙ sym (upto_more (test rows direct) rows e.0 row t2) ∙ ap (λ r. upto (test rows direct) rows (r + 1)) m;
+      below = λ j p q l. below j p q l (split j i);
+      above = λ j p q l. let x = d.rising i j e p h q (omega (arith, l)) in omega (arith, x, m);
+      at = w.at;
+      cause = w.cause;
+      there = w.there;
+      passed = let l = w.passed in omega (arith, l);
+      head = w.head;
+      is_head = w.is_head;
+      soft = w.soft;
+      bad = w.bad;
+      unit_is = w.unit_is;
+      run = run_more rows w.cause.0 k unit row t u w.run;
+      clear = w.clear;
+    }
+  where
+    below : (j : ℕ) (p : Ending) → slice_get direct j ≡ Some p → j < i + 1 → (j < i) ⊎ (i ≤ j) → p.0 < k + 1
+    below j p q l (inl a) = let x = w.below j p q a in omega (arith, x)
+    below j p q l (inr a) = let n : j ≡ i = omega (arith, a, l) in let x = ap (λ (z : Ending). z.0) (same_ending p e (sym q ∙ ap (slice_get direct) n ∙ h)) in omega (arith, x, m)
+
+-- a row of the unit that is no direct one
+above_other : (direct : List Ending) (k i : ℕ) → ((j : ℕ) (e : Ending) → slice_get direct j ≡ Some e → i ≤ j → k ≤ e.0) → ((j : ℕ) (e : Ending) → slice_get direct j ≡ Some e → i ≤ j → e.0 ≡ k → ⊥) → (j : ℕ) (e : Ending) → slice_get direct j ≡ Some e → i ≤ j → k + 1 ≤ e.0
+above_other direct k i above other j e h l = let a = above j e h l in by (split k e.0) a
+  where
+    by : (k < e.0) ⊎ (e.0 ≤ k) → k ≤ e.0 → k + 1 ≤ e.0
+    by (inl b) a = omega (arith, b)
+    by (inr b) a = absurd (other j e h l (omega (arith, a, b)))
+
+not_direct : (rows : List Row) (direct : List Ending) (k i : ℕ) (es : List Ending) (unit : ℕ) → Sweeping rows direct k i es unit → ((j : ℕ) (e : Ending) → slice_get direct j ≡ Some e → i ≤ j → e.0 ≡ k → ⊥) → NotDirect direct k
+not_direct rows direct k i es unit w other j e h m = by (split j i)
+  where
+    by : (j < i) ⊎ (i ≤ j) → ⊥
+    by (inl a) = let x = w.below j e h a in absurd (omega (arith, x, m))
+    by (inr a) = other j e h a m
+
+pub sweep_other : (rows : List Row) (direct : List Ending) (k i : ℕ) (es fs : List Ending) (unit : ℕ) (row : Row) → Direct rows direct → Sweeping rows direct k i es unit → ((j : ℕ) (e : Ending) → slice_get direct j ≡ Some e → i ≤ j → e.0 ≡ k → ⊥)
+    → slice_get rows k ≡ Some row → row.unit ≡ unit → fs ≡ es ++ of_one (paired k (cond (is_unfinished row.phase) (Some ecanceled) None)) → Sweeping rows direct (k + 1) i fs unit
+sweep_other rows direct k i es fs unit row d w other t u f =
+    let lower : w.cause.0 < k = w.below w.at w.cause w.there w.passed in
+    let severs : Severs rows k row w.cause = record { before = w.head; there = w.is_head; less = lower; unit = w.unit_is ∙ sym u; soft = w.soft; bad = w.bad } in
+    let b : is_severed rows (ds rows direct) k row ≡ true = severed_if rows direct k row w.at w.cause d w.there severs in
+    let one = test_other rows direct k row t (not_direct rows direct k i es unit w other) ∙ ap (λ x. cond (is_unfinished row.phase) (given x ecanceled) None) b in
+    record {
+      listed = f ∙ ap (λ xs. xs ++ of_one (paired k (cond (is_unfinished row.phase) (Some ecanceled) None))) w.listed ∙ ap (λ o. upto (test rows direct) rows k ++ of_one (paired k o)) (sym one) ∙ sym (upto_more (test rows direct) rows k row t);
+      below = λ j p q l. let x = w.below j p q l in omega (arith, x);
+      above = above_other direct k i w.above other;
+      at = w.at;
+      cause = w.cause;
+      there = w.there;
+      passed = w.passed;
+      head = w.head;
+      is_head = w.is_head;
+      soft = w.soft;
+      bad = w.bad;
+      unit_is = w.unit_is;
+      run = run_more rows w.cause.0 k unit row t u w.run;
+      clear = w.clear;
+    }
+
+-- where the next direct pair isn't of a row, no later one is
+pub others_later : (rows : List Row) (direct : List Ending) (k i : ℕ) → Direct rows direct → ((j : ℕ) (e : Ending) → slice_get direct j ≡ Some e → i ≤ j → k ≤ e.0) → ((e : Ending) → slice_get direct i ≡ Some e → e.0 ≡ k → ⊥) → (j : ℕ) (e : Ending) → slice_get direct j ≡ Some e → i ≤ j → e.0 ≡ k → ⊥
+others_later rows direct k i d above none j e h l m = by (slice_get direct i) refl (split i j)
+  where
+    by : (o : Option Ending) → slice_get direct i ≡ o → (i < j) ⊎ (j ≤ i) → ⊥
+    by o q (inr a) = let n : j ≡ i = omega (arith, a, l) in none e (ap (slice_get direct) (sym n) ∙ h) m
+    by None q (inl a) = let b = slice_get_within direct j e h in none_within direct i q (omega (arith, a, b))
+    by (Some p) q (inl a) = let x = d.rising i j p e q h a in let y = above i p q (omega arith) in omega (arith, x, y, m)
+
+-- where another unit begins, or the rows end, nothing more is severed
+pub sweep_end : (rows : List Row) (direct : List Ending) (k i : ℕ) (es : List Ending) (unit : ℕ) → Chained rows → Direct rows direct → Sweeping rows direct k i es unit → ((row : Row) → slice_get rows k ≡ Some row → row.unit ≡ unit → ⊥) → Walked rows direct k i es
+sweep_end rows direct k i es unit c d w stop = record {
+  listed = w.listed;
+  below = w.below;
+  above = w.above;
+  clear = λ r x j p l g q a s. by r x j p l g q a s (split j w.at);
+}
+  where
+    -- the row at k is of the unit of a later one that a row before k severs
+    here : (r : ℕ) (x : Row) (p : Ending) → k ≤ r → slice_get rows r ≡ Some x → p.0 < k → Severs rows r x p → (o : Option Row) → slice_get rows k ≡ o → (y : Row) × (slice_get rows k ≡ Some y) × (y.unit ≡ x.unit)
+    here r x p l g a s None e = absurd (let b = slice_get_within rows r x g in none_within rows k e (omega (arith, l, b)))
+    here r x p l g a s (Some y) e =
+        let low = c.back p.0 s.before s.there in
+        let n : x.unit ≤ k = let u = s.unit in omega (arith, low, a, u) in
+        (y, e, c.run k r y x e g l n)
+
+    by : (r : ℕ) (x : Row) (j : ℕ) (p : Ending) → k ≤ r → slice_get rows r ≡ Some x → slice_get direct j ≡ Some p → j < i → Severs rows r x p → (j < w.at) ⊎ (w.at ≤ j) → ⊥
+    by r x j p l g q a s (inl b) = w.clear r x j p (let low = w.below w.at w.cause w.there w.passed in omega (arith, l, low)) g q b s
+    by r x j p l g q a s (inr b) =
+        let lower = w.below j p q a in
+        let y = here r x p l g lower s (slice_get rows k) refl in
+        let u = w.run p.0 s.before (high j p q b (split w.at j)) lower s.there in
+        stop y.0 y.1 (y.2 ∙ sym s.unit ∙ u)
+      where
+        high : (j : ℕ) (p : Ending) → slice_get direct j ≡ Some p → w.at ≤ j → (w.at < j) ⊎ (j ≤ w.at) → w.cause.0 ≤ p.0
+        high j p q b (inl a) = let z = d.rising w.at j w.cause p w.there q a in omega (arith, z)
+        high j p q b (inr a) = let n : j ≡ w.at = omega (arith, a, b) in let z = ap (λ (e : Ending). e.0) (same_ending p w.cause (sym q ∙ ap (slice_get direct) n ∙ w.there)) in omega (arith, z)
+
+-- ---- the end of the walk
+
+pub walked_all : (rows : List Row) (direct : List Ending) (k i : ℕ) (es : List Ending) → Walked rows direct k i es → length direct ≤ i → es ≡ ss rows direct
+walked_all rows direct k i es w l =
+    let gap = upto_gap (test rows direct) rows k (length rows) (λ r x a b g. between rows direct k i es r x w a (λ j p q m. let n = slice_get_within direct j p q in absurd (omega (arith, n, l, m))) g) in
+    w.listed ∙ sym gap ∙ ap (endings (test rows direct)) (take_all (k + length rows) rows (omega arith))
+
+-- no TIMEOUT and no guard falls where there is none
+pub fall_untimed : (rows : List Row) (c : ℕ) (direct : List Ending) → NoTimers rows → fall_of rows c direct ≡ ss rows direct
+fall_untimed rows c direct n =
+    ap (with_guards rows) met ∙ guards
+  where
+    met : with_met rows c (ss rows direct) ≡ ss rows direct
+    met = joined_nothing (λ r row. given (is_met (c + counted_in rows (ss rows direct)) row) (pos 0)) (test rows direct) rows (λ r row h u k. by r row (n r row h u).0)
+      where
+        by : (r : ℕ) (row : Row) → is_count_timeout row ≡ false → given (is_met (c + counted_in rows (ss rows direct)) row) (pos 0) ≡ None
+        by r row e = ap (λ b. given (b && nat_le (row.base + row.entry.off) (c + counted_in rows (ss rows direct))) (pos 0)) e
+
+    guards : with_guards rows (ss rows direct) ≡ ss rows direct
+    guards = joined_nothing (λ r row. given (guards_listed (ss rows direct) row) ecanceled) (test rows direct) rows (λ r row h u k. by row (n r row h u).1)
+      where
+        both_false : (b : Bool) → (b && false) ≡ false
+        both_false true = refl
+        both_false false = refl
+
+        by : (row : Row) → row.target ≡ None → given (guards_listed (ss rows direct) row) ecanceled ≡ None
+        by row e = ap (λ (o : Option ℕ). given (is_guard row && option_map_or (is_listed (ss rows direct)) o false) ecanceled) e ∙ ap (λ b. given b ecanceled) (both_false (is_guard row))

@@ -1,0 +1,98 @@
+-- How many listed rows count.
+use Rattle.std.proofs.Common.{◌≡◌, ℕ, ℤ, zero, suc, Bool, true, false, cond, refl, sym, ◌∙◌, ap, subst, List, [], ◌∷◌, length, ◌+◌, arith}
+use Rattle.std.specs.Prelude.{Option, Some, None, slice_get, is_some, ◌==◌, ◌&&◌, nat_lt, nat_le}
+use Rattle.std.specs.Option.{option_map_or}
+use Rattle.std.specs.List.{filter, cons_option}
+use Rattle.std.proofs.lemmas.Bool.{eqb-true}
+use Rattle.entries.specs.declared.row.Row.{Row}
+use Rattle.links_drains.specs.Phases.{is_unfinished, is_issued, counts}
+use Rattle.timeouts_cancel.specs.Falls.{Ending, result_in, paired, endings, or_else, given, is_guard, is_count_timeout, is_met, counted_in}
+use Rattle.timeouts_cancel.proofs.Listing.{endings_from, endings_step, result_of}
+use Rattle.timeouts_cancel.proofs.Again.{listed_row}
+use Rattle.timeouts_cancel.proofs.Severing.{both}
+
+-- how many rows, numbered from a first one, count and are given a result
+abbrev pub tally : (ℕ → Row → Option ℤ) → ℕ → List Row → ℕ
+tally f n [] = 0
+tally f n (row ∷ rows) = cond (counts row && is_some (result_of f n row)) 1 0 + tally f (n + 1) rows
+
+tallied : (look : ℕ → Bool) (f : ℕ → Row → Option ℤ) (n : ℕ) (rows : List Row) → ((i : ℕ) (row : Row) → slice_get rows i ≡ Some row → look (n + i) ≡ counts row)
+    → length (filter (λ (e : Ending). look e.0) (endings_from f n rows)) ≡ tally f n rows
+tallied look f n [] h = refl
+tallied look f n (row ∷ rows) h =
+    let m : n + zero ≡ n = omega arith in
+    let here : look n ≡ counts row = subst (λ k. look k ≡ counts row) m (h zero row refl) in
+    let more = tallied look f (n + 1) rows (λ i x e. let k : n + suc i ≡ n + 1 + i = omega arith in subst (λ j. look j ≡ counts x) k (h (suc i) x e)) in
+    ap (λ (es : List Ending). length (filter (λ (e : Ending). look e.0) es)) (endings_step f n row rows)
+    ∙ by (result_of f n row) (look n) (counts row) refl here more
+  where
+    by : (o : Option ℤ) (a b : Bool) → look n ≡ a → a ≡ b → length (filter (λ (e : Ending). look e.0) (endings_from f (n + 1) rows)) ≡ tally f (n + 1) rows
+        → length (filter (λ (e : Ending). look e.0) (cons_option (paired n o) (endings_from f (n + 1) rows))) ≡ cond (b && is_some o) 1 0 + tally f (n + 1) rows
+    by None a true g e k = omega (arith, k)
+    by None a false g e k = omega (arith, k)
+    by (Some res) true true g e k = rw g (omega (arith, k))
+    by (Some res) false false g e k = rw g (omega (arith, k))
+    by (Some res) true false g e k = absurd cc
+    by (Some res) false true g e k = absurd cc
+
+tally_alike : (f g : ℕ → Row → Option ℤ) (n : ℕ) (rows : List Row) → ((i : ℕ) (row : Row) → slice_get rows i ≡ Some row → counts row ≡ true → is_some (result_of f (n + i) row) ≡ is_some (result_of g (n + i) row)) → tally f n rows ≡ tally g n rows
+tally_alike f g n [] h = refl
+tally_alike f g n (row ∷ rows) h =
+    let m : n + zero ≡ n = omega arith in
+    let here : counts row ≡ true → is_some (result_of f n row) ≡ is_some (result_of g n row) = subst (λ k. counts row ≡ true → is_some (result_of f k row) ≡ is_some (result_of g k row)) m (h zero row refl) in
+    let more = tally_alike f g (n + 1) rows (λ i x e. let k : n + suc i ≡ n + 1 + i = omega arith in subst (λ j. counts x ≡ true → is_some (result_of f j x) ≡ is_some (result_of g j x)) k (h (suc i) x e)) in
+    by (counts row) refl here more
+  where
+    by : (b : Bool) → counts row ≡ b → (counts row ≡ true → is_some (result_of f n row) ≡ is_some (result_of g n row)) → tally f (n + 1) rows ≡ tally g (n + 1) rows
+        → cond (b && is_some (result_of f n row)) 1 0 + tally f (n + 1) rows ≡ cond (b && is_some (result_of g n row)) 1 0 + tally g (n + 1) rows
+    by true e k more = ap (λ c. cond c 1 0 + tally f (n + 1) rows) (k e) ∙ ap (λ t. cond (is_some (result_of g n row)) 1 0 + t) more
+    by false e k more = ap (λ t. 0 + t) more
+
+-- tests that give a result to the same rows that count list as many that count
+pub counted_alike : (f g : ℕ → Row → Option ℤ) (rows : List Row) → ((r : ℕ) (row : Row) → slice_get rows r ≡ Some row → is_unfinished row.phase ≡ true → counts row ≡ true → is_some (f r row) ≡ is_some (g r row))
+    → counted_in rows (endings f rows) ≡ counted_in rows (endings g rows)
+counted_alike f g rows h = tallied look f 0 rows at ∙ tally_alike f g 0 rows both_ways ∙ sym (tallied look g 0 rows at)
+  where
+    look : ℕ → Bool
+    look r = option_map_or counts (slice_get rows r) false
+
+    at : (i : ℕ) (row : Row) → slice_get rows i ≡ Some row → option_map_or counts (slice_get rows (0 + i)) false ≡ counts row
+    at i row e = let m : 0 + i ≡ i = omega arith in ap (λ k. option_map_or counts (slice_get rows k) false) m ∙ ap (λ (o : Option Row). option_map_or counts o false) e
+
+    both_ways : (i : ℕ) (row : Row) → slice_get rows i ≡ Some row → counts row ≡ true → is_some (result_of f (0 + i) row) ≡ is_some (result_of g (0 + i) row)
+    both_ways i row e c = let m : 0 + i ≡ i = omega arith in subst (λ k. is_some (result_of f k row) ≡ is_some (result_of g k row)) (sym m) (by (is_unfinished row.phase) refl)
+      where
+        by : (b : Bool) → is_unfinished row.phase ≡ b → is_some (cond b (f i row) None) ≡ is_some (cond b (g i row) None)
+        by true u = h i row e u c
+        by false u = refl
+
+-- ---- what doesn't count
+
+timer_counts : (row : Row) (n : ℕ) → row.entry.opcode ≡ n → (n ≡ 11) → counts row ≡ false
+timer_counts row n e k = rw (e ∙ k) refl
+
+pub guard_counts : (row : Row) → is_guard row ≡ true → counts row ≡ false
+guard_counts row h = let o : row.entry.opcode ≡ 15 = eqb-true row.entry.opcode 15 h in rw o refl
+
+pub met_counts : (total : ℕ) (row : Row) → is_met total row ≡ true → counts row ≡ false
+met_counts total row h =
+    let t = both (is_count_timeout row) (nat_le (row.base + row.entry.off) total) h in
+    let a = both (is_issued row.phase) ((row.entry.opcode == 11) && nat_lt 0 row.entry.off) t.0 in
+    let b = both (row.entry.opcode == 11) (nat_lt 0 row.entry.off) a.1 in
+    timer_counts row 11 (eqb-true row.entry.opcode 11 b.0) refl
+
+-- a test that gives a result to no row that counts doesn't change whether one is listed
+same_listed : (o : Option ℤ) (b : Bool) (res : ℤ) → b ≡ false → is_some (or_else o (given b res)) ≡ is_some o
+same_listed None false res h = refl
+same_listed None true res h = absurd cc
+same_listed (Some x) b res h = refl
+
+not_both : (a b : Bool) → (a ≡ true → b ≡ false) → b ≡ true → a ≡ false
+not_both true b h k = absurd (let e = h refl in cc)
+not_both false b h k = refl
+
+-- the TIMEOUTs and guards that a filter adds don't count
+pub joined_counts : (rows : List Row) (g : ℕ → Row → Option ℤ) (test : ℕ → Row → Bool) (res : ℤ) → ((r : ℕ) (row : Row) → test r row ≡ true → counts row ≡ false)
+    → counted_in rows (endings (λ r row. or_else (result_in (endings g rows) r) (given (test r row) res)) rows) ≡ counted_in rows (endings g rows)
+joined_counts rows g test res h = counted_alike (λ r row. or_else (result_in (endings g rows) r) (given (test r row) res)) g rows (λ r row e u c.
+    same_listed (result_in (endings g rows) r) (test r row) res (not_both (test r row) (counts row) (h r row) c) ∙ ap is_some (listed_row g rows r row e u))

@@ -1,0 +1,235 @@
+-- Walking over the rows that a step ends, and over those that they sever.
+use Rattle.std.proofs.Common.{◌≡◌, ℕ, ℤ, zero, suc, Bool, true, false, cond, refl, sym, ◌∙◌, ap, subst, List, [], ◌∷◌, ◌++◌, take, ◌+◌, ◌-◌, ◌<◌, ◌≤◌, ◌⊎◌, inl, inr, arith}
+use Rattle.std.specs.Prelude.{Option, Some, None, slice_get, ◌==◌, ◌&&◌, nat_lt}
+use Rattle.std.specs.List.{cons_option}
+use Rattle.std.proofs.lemmas.Bool.{eqb-true, eq-eqb}
+use Rattle.std.proofs.lemmas.Bool.Decides.{nat_tests}
+use Rattle.std.proofs.lemmas.List.{append-nil}
+use Rattle.entries.specs.declared.row.Row.{Row}
+use Rattle.links_drains.specs.Links.{is_soft_linked}
+use Rattle.links_drains.specs.Phases.{is_unfinished}
+use Rattle.timeouts_cancel.specs.Falls.{Ending, result_in, paired, endings, or_else, given, is_severed, is_bad, ecanceled, severs_by, Direct}
+use Rattle.timeouts_cancel.proofs.Listing.{endings_from, endings_step, result_of}
+use Rattle.timeouts_cancel.proofs.Rising.{ends_at}
+use Rattle.timeouts_cancel.proofs.Again.{any_found, result_there, listed_row}
+use Rattle.timeouts_cancel.specs.Walks.{Severs, Walked, ds, test, upto}
+use Rattle.timeouts_cancel.proofs.Severing.{severs_is, severed_by}
+
+-- ---- the endings of the first rows
+
+-- a list of what there is
+abbrev pub of_one : Option Ending → List Ending
+of_one o = cons_option o []
+
+cons_append : (o : Option Ending) (xs ys : List Ending) → cons_option o xs ++ ys ≡ cons_option o (xs ++ ys)
+cons_append None xs ys = refl
+cons_append (Some e) xs ys = refl
+
+more_from : (f : ℕ → Row → Option ℤ) (n : ℕ) (rows : List Row) (k : ℕ) (row : Row) → slice_get rows k ≡ Some row → endings_from f n (take (k + 1) rows) ≡ endings_from f n (take k rows) ++ of_one (paired (n + k) (result_of f (n + k) row))
+more_from f n [] k row h = absurd cc
+more_from f n (x ∷ rows) zero row h =
+    let e : x ≡ row = cc in
+    let m : n ≡ n + zero = omega arith in
+    let one : zero + 1 ≡ suc zero = omega arith in
+    ap (λ i. endings_from f n (take i (x ∷ rows))) one
+    ∙ ap (λ zs. endings_from f n (x ∷ zs)) (none rows)
+    ∙ endings_step f n x []
+    ∙ ap (λ (y : Row). of_one (paired n (result_of f n y))) e
+    ∙ ap (λ i. of_one (paired i (result_of f i row))) m
+  where
+    none : (zs : List Row) → take zero zs ≡ []
+    none [] = refl
+    none (z ∷ zs) = refl
+more_from f n (x ∷ rows) (suc k) row h =
+    let m : n + 1 + k ≡ n + suc k = omega arith in
+    let i : suc k + 1 ≡ suc (k + 1) = omega arith in
+    ap (λ j. endings_from f n (take j (x ∷ rows))) i
+    ∙ endings_step f n x (take (k + 1) rows)
+    ∙ ap (cons_option (paired n (result_of f n x))) (more_from f (n + 1) rows k row h ∙ ap (λ j. endings_from f (n + 1) (take k rows) ++ of_one (paired j (result_of f j row))) m)
+    ∙ sym (cons_append (paired n (result_of f n x)) (endings_from f (n + 1) (take k rows)) (of_one (paired (n + suc k) (result_of f (n + suc k) row))))
+    ∙ ap (λ es. es ++ of_one (paired (n + suc k) (result_of f (n + suc k) row))) (sym (endings_step f n x (take k rows)))
+
+pub upto_more : (f : ℕ → Row → Option ℤ) (rows : List Row) (k : ℕ) (row : Row) → slice_get rows k ≡ Some row → upto f rows (k + 1) ≡ upto f rows k ++ of_one (paired k (result_of f k row))
+upto_more f rows k row h = let m : 0 + k ≡ k = omega arith in subst (λ j. upto f rows (k + 1) ≡ upto f rows k ++ of_one (paired j (result_of f j row))) m (more_from f 0 rows k row h)
+
+take_behind : (rows : List Row) (k : ℕ) → slice_get rows k ≡ None → take (k + 1) rows ≡ take k rows
+take_behind [] zero h = refl
+take_behind [] (suc k) h = let m : suc k + 1 ≡ suc (k + 1) = omega arith in let none : List Row = [] in ap (λ n. take n none) m
+take_behind (x ∷ rows) zero h = absurd cc
+take_behind (x ∷ rows) (suc k) h = let m : suc k + 1 ≡ suc (k + 1) = omega arith in ap (λ n. take n (x ∷ rows)) m ∙ ap (λ zs. x ∷ zs) (take_behind rows k h)
+
+-- rows that a test gives nothing add none
+pub upto_gap : (f : ℕ → Row → Option ℤ) (rows : List Row) (k d : ℕ) → ((r : ℕ) (row : Row) → k ≤ r → r < k + d → slice_get rows r ≡ Some row → result_of f r row ≡ None) → upto f rows (k + d) ≡ upto f rows k
+upto_gap f rows k zero h = let m : k + zero ≡ k = omega arith in ap (upto f rows) m
+upto_gap f rows k (suc d) h =
+    let m : k + suc d ≡ k + d + 1 = omega arith in
+    ap (upto f rows) m ∙ by (slice_get rows (k + d)) refl ∙ upto_gap f rows k d (λ r row a b e. h r row a (omega (arith, b)) e)
+  where
+    by : (o : Option Row) → slice_get rows (k + d) ≡ o → upto f rows (k + d + 1) ≡ upto f rows (k + d)
+    by None e = ap (endings f) (take_behind rows (k + d) e)
+    by (Some row) e =
+        upto_more f rows (k + d) row e
+        ∙ ap (λ o. upto f rows (k + d) ++ of_one (paired (k + d) o)) (h (k + d) row (omega arith) (omega arith) e)
+        ∙ append-nil (upto f rows (k + d))
+
+-- ---- what the second filter gives a row
+
+result_at : (es : List Ending) (i : ℕ) (e : Ending) → ((i j : ℕ) (p q : Ending) → slice_get es i ≡ Some p → slice_get es j ≡ Some q → i < j → p.0 < q.0) → slice_get es i ≡ Some e → result_in es e.0 ≡ Some e.1
+result_at [] i e h k = absurd cc
+result_at (x ∷ es) zero e h k =
+    let same : x ≡ e = cc in
+    ap (λ b. cond b (Some x.1) (result_in es e.0)) (eq-eqb x.0 e.0 (ap (λ (y : Ending). y.0) same)) ∙ ap (λ (y : Ending). Some y.1) same
+result_at (x ∷ es) (suc i) e h k = by (x.0 == e.0) refl (result_at es i e (λ a b p q c d l. h (suc a) (suc b) p q c d (omega arith)) k)
+  where
+    by : (b : Bool) → (x.0 == e.0) ≡ b → result_in es e.0 ≡ Some e.1 → cond b (Some x.1) (result_in es e.0) ≡ Some e.1
+    by true g m = absurd (let l = h 0 (suc i) x e refl k (omega arith) in let a = eqb-true x.0 e.0 g in omega (arith, l, a))
+    by false g m = m
+
+-- what a direct pair gives
+pub test_direct : (rows : List Row) (direct : List Ending) (i : ℕ) (e : Ending) (row : Row) → Direct rows direct → slice_get direct i ≡ Some e → slice_get rows e.0 ≡ Some row → result_of (test rows direct) e.0 row ≡ Some e.1
+test_direct rows direct i e row d h t =
+    let w = d.each i e h in
+    let same : w.0 ≡ row = some_same w.0 row (sym w.1 ∙ t) in
+    let u : is_unfinished row.phase ≡ true = subst (λ (x : Row). is_unfinished x.phase ≡ true) same w.2 in
+    let l = listed_row (λ r row. result_in direct r) rows e.0 row t u ∙ result_at direct i e d.rising h in
+    ap (λ b. cond b (test rows direct e.0 row) None) u ∙ ap (λ o. or_else o (given (is_severed rows (ds rows direct) e.0 row) ecanceled)) l
+  where
+    some_same : (a b : Row) → Some a ≡ Some b → a ≡ b
+    some_same a b k = cc
+
+-- a row is none of the direct ones
+abbrev pub NotDirect : List Ending → ℕ → Type 0
+NotDirect direct r = (j : ℕ) (e : Ending) → slice_get direct j ≡ Some e → e.0 ≡ r → ⊥
+
+undirected : (direct : List Ending) (r : ℕ) → NotDirect direct r → result_in direct r ≡ None
+undirected direct r n = by (result_in direct r) refl
+  where
+    by : (o : Option ℤ) → result_in direct r ≡ o → o ≡ None
+    by None e = refl
+    by (Some res) e = absurd (let t = result_there direct r res e in n t.0 (r, res) t.1 refl)
+
+-- what severs a row is a direct pair
+pub severed_so : (rows : List Row) (direct : List Ending) (r : ℕ) (row : Row) → is_severed rows (ds rows direct) r row ≡ true → (i : ℕ) × (e : Ending) × (slice_get direct i ≡ Some e) × Severs rows r row e
+severed_so rows direct r row h =
+    let f = any_found (λ (x : Ending). severs_by r row (slice_get rows x.0) x) (ds rows direct) h in
+    let w = ends_at (λ r row. result_in direct r) rows f.0 f.1 f.2 in
+    let t = result_there direct f.1.0 f.1.1 w.3 in
+    let s = severs_is rows r row f.1 f.3 in
+    (t.0, (f.1.0, f.1.1), t.1, record { before = s.before; there = s.there; less = s.less; unit = s.unit; soft = s.soft; bad = s.bad })
+
+pub severed_if : (rows : List Row) (direct : List Ending) (r : ℕ) (row : Row) (i : ℕ) (e : Ending) → Direct rows direct → slice_get direct i ≡ Some e → Severs rows r row e → is_severed rows (ds rows direct) r row ≡ true
+severed_if rows direct r row i e d h s =
+    let w = d.each i e h in
+    let l = listed_row (λ r row. result_in direct r) rows e.0 w.0 w.1 w.2 ∙ result_at direct i e d.rising h in
+    let t = result_there (ds rows direct) e.0 e.1 l in
+    severed_by rows (ds rows direct) r row t.0 (e.0, e.1) t.1 (record { before = s.before; there = s.there; less = s.less; unit = s.unit; soft = s.soft; bad = s.bad })
+
+-- what the second filter gives a row that is no direct one
+pub test_other : (rows : List Row) (direct : List Ending) (r : ℕ) (row : Row) → slice_get rows r ≡ Some row → NotDirect direct r → result_of (test rows direct) r row ≡ (cond (is_unfinished row.phase) (given (is_severed rows (ds rows direct) r row) ecanceled) None)
+test_other rows direct r row h n = by (is_unfinished row.phase) refl
+  where
+    by : (b : Bool) → is_unfinished row.phase ≡ b → cond b (test rows direct r row) None ≡ cond b (given (is_severed rows (ds rows direct) r row) ecanceled) None
+    by false u = refl
+    by true u = ap (λ o. or_else o (given (is_severed rows (ds rows direct) r row) ecanceled)) (listed_row (λ r row. result_in direct r) rows r row h u ∙ undirected direct r n)
+
+-- ---- the walk
+
+pub walked_none : (rows : List Row) (direct : List Ending) → Walked rows direct 0 0 []
+walked_none rows direct = record {
+  listed = ap (endings (test rows direct)) (sym (none rows));
+  below = λ j e h l. absurd (omega (arith, l));
+  above = λ j e h l. omega arith;
+  clear = λ r row j e g h k l s. absurd (omega (arith, l));
+}
+  where
+    none : (zs : List Row) → take 0 zs ≡ []
+    none [] = refl
+    none (z ∷ zs) = refl
+
+pub split : (j i : ℕ) → (j < i) ⊎ (i ≤ j)
+split j i = by (nat_lt j i) refl
+  where
+    by : (t : Bool) → nat_lt j i ≡ t → (j < i) ⊎ (i ≤ j)
+    by true e = inl (grind (arith, nat_tests))
+    by false e = inr (grind (arith, nat_tests))
+
+-- between the walked rows and the next direct one none is listed
+pub between : (rows : List Row) (direct : List Ending) (k i : ℕ) (es : List Ending) (r : ℕ) (row : Row) → Walked rows direct k i es → k ≤ r → ((j : ℕ) (e : Ending) → slice_get direct j ≡ Some e → i ≤ j → r < e.0) → slice_get rows r ≡ Some row
+    → result_of (test rows direct) r row ≡ None
+between rows direct k i es r row w l next h =
+    test_other rows direct r row h (λ j e g same. by j e g same (split j i)) ∙ none (is_unfinished row.phase) (is_severed rows (ds rows direct) r row) refl
+  where
+    by : (j : ℕ) (e : Ending) → slice_get direct j ≡ Some e → e.0 ≡ r → (j < i) ⊎ (i ≤ j) → ⊥
+    by j e g same (inl a) = let b = w.below j e g a in absurd (omega (arith, b, same, l))
+    by j e g same (inr a) = let b = next j e g a in absurd (omega (arith, b, same))
+
+    none : (u b : Bool) → is_severed rows (ds rows direct) r row ≡ b → cond u (given b ecanceled) None ≡ None
+    none true false e = refl
+    none false b e = refl
+    none true true e = absurd (let f = severed_so rows direct r row e in sever f.0 f.1 f.2 f.3 (split f.0 i))
+      where
+        sever : (j : ℕ) (e : Ending) → slice_get direct j ≡ Some e → Severs rows r row e → (j < i) ⊎ (i ≤ j) → ⊥
+        sever j e g s (inl a) = w.clear r row j e l h g a s
+        sever j e g s (inr a) = let b = next j e g a in let c = s.less in absurd (omega (arith, b, c))
+
+-- the rows up to a direct one, and that one
+pub listed_direct : (rows : List Row) (direct : List Ending) (k i : ℕ) (es : List Ending) (e : Ending) (row : Row) → Direct rows direct → Walked rows direct k i es → slice_get direct i ≡ Some e → slice_get rows e.0 ≡ Some row
+    → es ++ e ∷ [] ≡ upto (test rows direct) rows (e.0 + 1)
+listed_direct rows direct k i es e row d w h t =
+    let low = w.above i e h (omega arith) in
+    let m : k + (e.0 - k) ≡ e.0 = omega (arith, low) in
+    let gap = upto_gap (test rows direct) rows k (e.0 - k) (λ r x a b g. between rows direct k i es r x w a (λ j p q l. later r b j p q l) g) in
+    ap (λ xs. xs ++ e ∷ []) (w.listed ∙ sym gap ∙ ap (upto (test rows direct) rows) m)
+    ∙ ap (λ o. upto (test rows direct) rows e.0 ++ of_one (paired e.0 o)) (sym (test_direct rows direct i e row d h t))
+    ∙ sym (upto_more (test rows direct) rows e.0 row t)
+  where
+    later : (r : ℕ) → r < k + (e.0 - k) → (j : ℕ) (p : Ending) → slice_get direct j ≡ Some p → i ≤ j → r < p.0
+    later r b j p q l = by (split i j)
+      where
+        by : (i < j) ⊎ (j ≤ i) → r < p.0
+        by (inl a) = let x = d.rising i j e p h q a in let low = w.above i e h (omega arith) in omega (arith, x, b, low)
+        by (inr a) = let same : i ≡ j = omega (arith, a, l) in let k2 : Some e ≡ Some p = sym h ∙ ap (slice_get direct) same ∙ q in let n : e.0 ≡ p.0 = first e p k2 in let low = w.above i e h (omega arith) in omega (arith, n, b, low)
+          where
+            first : (e p : Ending) → Some e ≡ Some p → e.0 ≡ p.0
+            first e p g = cc
+
+pub below_next : (rows : List Row) (direct : List Ending) (k i : ℕ) (es : List Ending) (e : Ending) → Direct rows direct → Walked rows direct k i es → slice_get direct i ≡ Some e → (j : ℕ) (p : Ending) → slice_get direct j ≡ Some p → j < i + 1 → p.0 < e.0 + 1
+below_next rows direct k i es e d w h j p g l = by (split j i)
+  where
+    first : (e p : Ending) → Some e ≡ Some p → e.0 ≡ p.0
+    first e p x = cc
+
+    by : (j < i) ⊎ (i ≤ j) → p.0 < e.0 + 1
+    by (inl a) = let x = d.rising j i p e g h a in omega (arith, x)
+    by (inr a) = let same : j ≡ i = omega (arith, a, l) in let x = first p e (sym g ∙ ap (slice_get direct) same ∙ h) in omega (arith, x)
+
+pub above_next : (rows : List Row) (direct : List Ending) (i : ℕ) (e : Ending) → Direct rows direct → slice_get direct i ≡ Some e → (j : ℕ) (p : Ending) → slice_get direct j ≡ Some p → i + 1 ≤ j → e.0 + 1 ≤ p.0
+above_next rows direct i e d h j p g l = let x = d.rising i j e p h g (omega (arith, l)) in omega (arith, x)
+
+-- a direct row that severs none
+pub walked_direct : (rows : List Row) (direct : List Ending) (k i : ℕ) (es : List Ending) (e : Ending) (row : Row) → Direct rows direct → Walked rows direct k i es → slice_get direct i ≡ Some e → slice_get rows e.0 ≡ Some row
+    → (is_soft_linked row && is_bad row e.1) ≡ false → Walked rows direct (e.0 + 1) (i + 1) (es ++ e ∷ [])
+walked_direct rows direct k i es e row d w h t n = record {
+  listed = listed_direct rows direct k i es e row d w h t;
+  below = below_next rows direct k i es e d w h;
+  above = above_next rows direct i e d h;
+  clear = λ r x j p l g q a s. let low = w.above i e h (omega arith) in by r x j p l g q s low (split j i) a;
+}
+  where
+    same_end : (p : Ending) → Some p ≡ Some e → p ≡ e
+    same_end p g = cc
+
+    by : (r : ℕ) (x : Row) (j : ℕ) (p : Ending) → e.0 + 1 ≤ r → slice_get rows r ≡ Some x → slice_get direct j ≡ Some p → Severs rows r x p → k ≤ e.0 → (j < i) ⊎ (i ≤ j) → j < i + 1 → ⊥
+    by r x j p l g q s low (inl b) a = w.clear r x j p (omega (arith, l, low)) g q b s
+    by r x j p l g q s low (inr b) a =
+        let m : j ≡ i = omega (arith, a, b) in
+        let o = same_end p (sym q ∙ ap (slice_get direct) m ∙ h) in
+        let z : s.before ≡ row = rows_same s.before row (sym s.there ∙ ap (λ (y : Ending). slice_get rows y.0) o ∙ t) in
+        let f : (is_soft_linked row && is_bad row e.1) ≡ true = ap (λ b. b && is_bad row e.1) (sym (ap is_soft_linked z) ∙ s.soft) ∙ sym (ap (λ (y : Ending). is_bad row y.1) o) ∙ sym (ap (λ (y : Row). is_bad y p.1) z) ∙ s.bad in
+        not_both f
+      where
+        rows_same : (a b : Row) → Some a ≡ Some b → a ≡ b
+        rows_same a b k = cc
+
+        not_both : (is_soft_linked row && is_bad row e.1) ≡ true → ⊥
+        not_both f = let y = sym n ∙ f in cc

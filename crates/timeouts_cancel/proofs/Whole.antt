@@ -1,0 +1,184 @@
+-- A fall is whole: running its filters again adds nothing.
+use Rattle.std.proofs.Common.{◌≡◌, ℕ, ℤ, pos, Bool, true, false, refl, sym, ◌∙◌, ap, subst, List, ◌+◌, ◌<◌}
+use Rattle.std.specs.Prelude.{Option, Some, None, slice_get, ◌==◌, ◌&&◌, nat_le}
+use Rattle.std.specs.Option.{option_map_or}
+use Rattle.std.proofs.lemmas.Bool.{eqb-true, eq-eqb}
+use Rattle.entries.specs.declared.row.Row.{Row}
+use Rattle.links_drains.specs.Phases.{is_unfinished}
+use Rattle.timeouts_cancel.specs.Falls.{Ending, result_in, joined, given, or_else, with_severed, with_met, with_guards, is_severed, is_bad, is_guard, is_count_timeout, is_listed, guards_listed, is_met, counted_in, fall_of, ecanceled, severs_by, GuardsFormed, IsWhole}
+use Rattle.timeouts_cancel.specs.Walks.{Severs, ds, ss}
+use Rattle.timeouts_cancel.proofs.Rising.{ends_at, rising}
+use Rattle.timeouts_cancel.proofs.Again.{any_at, any_found, result_there, listed_row, or_else_none, given_none, given_is, joined_nothing}
+use Rattle.timeouts_cancel.proofs.Tallying.{joined_counts, guard_counts, met_counts}
+use Rattle.timeouts_cancel.proofs.Severing.{both, guard_not_bad, timeout_not_bad, severs_is, severed_by, severs_then}
+
+-- ---- the lists, one filter after another
+
+abbrev pub ms : List Row → ℕ → List Ending → List Ending
+ms rows c direct = with_met rows c (ss rows direct)
+
+-- what they have for an unfinished row
+in_ds : (rows : List Row) (direct : List Ending) (r : ℕ) (row : Row) → slice_get rows r ≡ Some row → is_unfinished row.phase ≡ true → result_in (ds rows direct) r ≡ result_in direct r
+in_ds rows direct r row h u = listed_row (λ r row. result_in direct r) rows r row h u
+
+in_ss : (rows : List Row) (direct : List Ending) (r : ℕ) (row : Row) → slice_get rows r ≡ Some row → is_unfinished row.phase ≡ true
+    → result_in (ss rows direct) r ≡ or_else (result_in (ds rows direct) r) (given (is_severed rows (ds rows direct) r row) ecanceled)
+in_ss rows direct r row h u = listed_row (λ r row. or_else (result_in (ds rows direct) r) (given (is_severed rows (ds rows direct) r row) ecanceled)) rows r row h u
+
+in_ms : (rows : List Row) (c : ℕ) (direct : List Ending) (r : ℕ) (row : Row) → slice_get rows r ≡ Some row → is_unfinished row.phase ≡ true
+    → result_in (ms rows c direct) r ≡ or_else (result_in (ss rows direct) r) (given (is_met (c + counted_in rows (ss rows direct)) row) (pos 0))
+in_ms rows c direct r row h u = listed_row (λ r row. or_else (result_in (ss rows direct) r) (given (is_met (c + counted_in rows (ss rows direct)) row) (pos 0))) rows r row h u
+
+in_fall : (rows : List Row) (c : ℕ) (direct : List Ending) (r : ℕ) (row : Row) → slice_get rows r ≡ Some row → is_unfinished row.phase ≡ true
+    → result_in (fall_of rows c direct) r ≡ or_else (result_in (ms rows c direct) r) (given (guards_listed (ms rows c direct) row) ecanceled)
+in_fall rows c direct r row h u = listed_row (λ r row. or_else (result_in (ms rows c direct) r) (given (guards_listed (ms rows c direct) row) ecanceled)) rows r row h u
+
+-- a row that the fall doesn't list: no filter gives it a result
+pub record Unlisted (rows : List Row) (c : ℕ) (direct : List Ending) (r : ℕ) (row : Row) : Type 0 where
+  pub undirected : result_in direct r ≡ None
+  pub severed : is_severed rows (ds rows direct) r row ≡ false
+  pub met : is_met (c + counted_in rows (ss rows direct)) row ≡ false
+  pub guards : guards_listed (ms rows c direct) row ≡ false
+
+pub unlisted : (rows : List Row) (c : ℕ) (direct : List Ending) (r : ℕ) (row : Row) → slice_get rows r ≡ Some row → is_unfinished row.phase ≡ true → result_in (fall_of rows c direct) r ≡ None → Unlisted rows c direct r row
+unlisted rows c direct r row h u n =
+    let a = or_else_none (result_in (ms rows c direct) r) _ (sym (in_fall rows c direct r row h u) ∙ n) in
+    let b = or_else_none (result_in (ss rows direct) r) _ (sym (in_ms rows c direct r row h u) ∙ a.0) in
+    let d = or_else_none (result_in (ds rows direct) r) _ (sym (in_ss rows direct r row h u) ∙ b.0) in
+    record {
+      undirected = sym (in_ds rows direct r row h u) ∙ d.0;
+      severed = given_none _ ecanceled d.1;
+      met = given_none _ (pos 0) b.1;
+      guards = given_none _ ecanceled a.1;
+    }
+
+-- ---- what severs is direct
+
+true_false : (b : Bool) → b ≡ true → b ≡ false → ⊥
+true_false b h k = cc
+
+-- a row that ends badly in the fall is a direct one, or is severed by one
+from_direct : (rows : List Row) (c : ℕ) (direct : List Ending) (r : ℕ) (row : Row) (e : Ending) (i : ℕ) → slice_get (fall_of rows c direct) i ≡ Some e → Severs rows r row e → is_severed rows (ds rows direct) r row ≡ true
+from_direct rows c direct r row e i h s =
+    let w = ends_at (λ r row. or_else (result_in (ms rows c direct) r) (given (guards_listed (ms rows c direct) row) ecanceled)) rows i e h in
+    let same : w.0 ≡ s.before = some_same w.0 s.before (sym w.1 ∙ s.there) in
+    let u : is_unfinished s.before.phase ≡ true = subst (λ (x : Row). is_unfinished x.phase ≡ true) same w.2 in
+    let g : or_else (result_in (ms rows c direct) e.0) (given (guards_listed (ms rows c direct) s.before) ecanceled) ≡ Some e.1 = subst (λ (x : Row). or_else (result_in (ms rows c direct) e.0) (given (guards_listed (ms rows c direct) x) ecanceled) ≡ Some e.1) same w.3 in
+    guarded u (result_in (ms rows c direct) e.0) refl g
+  where
+    some_same : (a b : Row) → Some a ≡ Some b → a ≡ b
+    some_same a b k = cc
+
+    of_direct : (x : ℤ) → x ≡ e.1 → result_in (ds rows direct) e.0 ≡ Some x → is_severed rows (ds rows direct) r row ≡ true
+    of_direct x k d = let t = result_there (ds rows direct) e.0 e.1 (d ∙ ap Some k) in severed_by rows (ds rows direct) r row t.0 (e.0, e.1) t.1 (record { before = s.before; there = s.there; less = s.less; unit = s.unit; soft = s.soft; bad = s.bad })
+
+    of_severed : is_severed rows (ds rows direct) e.0 s.before ≡ true → is_severed rows (ds rows direct) r row ≡ true
+    of_severed k =
+        let f = any_found (λ (x : Ending). severs_by e.0 s.before (slice_get rows x.0) x) (ds rows direct) k in
+        severed_by rows (ds rows direct) r row f.0 f.1 f.2 (severs_then rows e.0 r s.before row f.1 s.less s.unit (severs_is rows e.0 s.before f.1 f.3))
+
+    severed : is_unfinished s.before.phase ≡ true → (o : Option ℤ) → result_in (ds rows direct) e.0 ≡ o → or_else o (given (is_severed rows (ds rows direct) e.0 s.before) ecanceled) ≡ Some e.1 → is_severed rows (ds rows direct) r row ≡ true
+    severed u None d k = of_severed (given_is (is_severed rows (ds rows direct) e.0 s.before) ecanceled e.1 k).0
+    severed u (Some x) d k = let y : x ≡ e.1 = cc in of_direct x y d
+
+    met : is_unfinished s.before.phase ≡ true → (o : Option ℤ) → result_in (ss rows direct) e.0 ≡ o → or_else o (given (is_met (c + counted_in rows (ss rows direct)) s.before) (pos 0)) ≡ Some e.1 → is_severed rows (ds rows direct) r row ≡ true
+    met u None d k =
+        let y = given_is (is_met (c + counted_in rows (ss rows direct)) s.before) (pos 0) e.1 k in
+        let t = both (is_count_timeout s.before) (nat_le (s.before.base + s.before.entry.off) (c + counted_in rows (ss rows direct))) y.0 in
+        absurd (true_false (is_bad s.before e.1) s.bad (ap (is_bad s.before) y.1 ∙ timeout_not_bad s.before t.0))
+    met u (Some x) d k = severed u (result_in (ds rows direct) e.0) refl (sym (in_ss rows direct e.0 s.before s.there u) ∙ d ∙ k)
+
+    guarded : is_unfinished s.before.phase ≡ true → (o : Option ℤ) → result_in (ms rows c direct) e.0 ≡ o → or_else o (given (guards_listed (ms rows c direct) s.before) ecanceled) ≡ Some e.1 → is_severed rows (ds rows direct) r row ≡ true
+    guarded u None d k =
+        let y = given_is (guards_listed (ms rows c direct) s.before) ecanceled e.1 k in
+        let t = both (is_guard s.before) (option_map_or (is_listed (ms rows c direct)) s.before.target false) y.0 in
+        absurd (true_false (is_bad s.before e.1) s.bad (guard_not_bad s.before e.1 t.0))
+    guarded u (Some x) d k = met u (result_in (ss rows direct) e.0) refl (sym (in_ms rows c direct e.0 s.before s.there u) ∙ d ∙ k)
+
+pub severed_again : (rows : List Row) (c : ℕ) (direct : List Ending) → with_severed rows (fall_of rows c direct) ≡ fall_of rows c direct
+severed_again rows c direct =
+    joined_nothing (λ r row. given (is_severed rows (fall_of rows c direct) r row) ecanceled) (λ r row. or_else (result_in (ms rows c direct) r) (given (guards_listed (ms rows c direct) row) ecanceled)) rows
+    (λ r row h u n. none r row h u (in_fall rows c direct r row h u ∙ n))
+  where
+    none : (r : ℕ) (row : Row) → slice_get rows r ≡ Some row → is_unfinished row.phase ≡ true → result_in (fall_of rows c direct) r ≡ None → given (is_severed rows (fall_of rows c direct) r row) ecanceled ≡ None
+    none r row h u n = by (is_severed rows (fall_of rows c direct) r row) refl
+      where
+        by : (b : Bool) → is_severed rows (fall_of rows c direct) r row ≡ b → given b ecanceled ≡ None
+        by false e = refl
+        by true e =
+            let f = any_found (λ (x : Ending). severs_by r row (slice_get rows x.0) x) (fall_of rows c direct) e in
+            let k = from_direct rows c direct r row f.1 f.0 f.2 (severs_is rows r row f.1 f.3) in
+            absurd (true_false (is_severed rows (ds rows direct) r row) k (unlisted rows c direct r row h u n).severed)
+
+pub direct_again : (rows : List Row) (c : ℕ) (direct : List Ending) → joined rows (λ r row. result_in direct r) (fall_of rows c direct) ≡ fall_of rows c direct
+direct_again rows c direct =
+    joined_nothing (λ r row. result_in direct r) (λ r row. or_else (result_in (ms rows c direct) r) (given (guards_listed (ms rows c direct) row) ecanceled)) rows
+    (λ r row h u n. (unlisted rows c direct r row h u (in_fall rows c direct r row h u ∙ n)).undirected)
+
+-- ---- what is counted
+
+-- the TIMEOUTs and guards that fall don't count
+pub counted_fall : (rows : List Row) (c : ℕ) (direct : List Ending) → counted_in rows (fall_of rows c direct) ≡ counted_in rows (ss rows direct)
+counted_fall rows c direct =
+    joined_counts rows (λ r row. or_else (result_in (ss rows direct) r) (given (is_met (c + counted_in rows (ss rows direct)) row) (pos 0))) (λ r row. guards_listed (ms rows c direct) row) ecanceled
+    (λ r row h. guard_counts row (both (is_guard row) (option_map_or (is_listed (ms rows c direct)) row.target false) h).0)
+    ∙ joined_counts rows (λ r row. or_else (result_in (ds rows direct) r) (given (is_severed rows (ds rows direct) r row) ecanceled)) (λ r row. is_met (c + counted_in rows (ss rows direct)) row) (pos 0)
+    (λ r row h. met_counts (c + counted_in rows (ss rows direct)) row h)
+
+pub met_again : (rows : List Row) (c : ℕ) (direct : List Ending) → with_met rows c (fall_of rows c direct) ≡ fall_of rows c direct
+met_again rows c direct =
+    joined_nothing (λ r row. given (is_met (c + counted_in rows (fall_of rows c direct)) row) (pos 0)) (λ r row. or_else (result_in (ms rows c direct) r) (given (guards_listed (ms rows c direct) row) ecanceled)) rows
+    (λ r row h u n. ap (λ k. given (is_met (c + k) row) (pos 0)) (counted_fall rows c direct) ∙ ap (λ b. given b (pos 0)) (unlisted rows c direct r row h u (in_fall rows c direct r row h u ∙ n)).met)
+
+-- ---- guards
+
+-- a listed row that is no guard was listed before the guards were
+listed_before : (rows : List Row) (c : ℕ) (direct : List Ending) (t : ℕ) → ((target : Row) → slice_get rows t ≡ Some target → is_guard target ≡ false) → is_listed (fall_of rows c direct) t ≡ true → is_listed (ms rows c direct) t ≡ true
+listed_before rows c direct t g h =
+    let f = any_found (λ (e : Ending). e.0 == t) (fall_of rows c direct) h in
+    let same : f.1.0 ≡ t = eqb-true f.1.0 t f.3 in
+    let w = ends_at (λ r row. or_else (result_in (ms rows c direct) r) (given (guards_listed (ms rows c direct) row) ecanceled)) rows f.0 f.1 f.2 in
+    let there : slice_get rows t ≡ Some w.0 = ap (slice_get rows) (sym same) ∙ w.1 in
+    let gives : or_else (result_in (ms rows c direct) t) (given (guards_listed (ms rows c direct) w.0) ecanceled) ≡ Some f.1.1 = subst (λ r. or_else (result_in (ms rows c direct) r) (given (guards_listed (ms rows c direct) w.0) ecanceled) ≡ Some f.1.1) same w.3 in
+    by w.0 f.1.1 there (result_in (ms rows c direct) t) refl gives
+  where
+    by : (row : Row) (res : ℤ) → slice_get rows t ≡ Some row → (o : Option ℤ) → result_in (ms rows c direct) t ≡ o → or_else o (given (guards_listed (ms rows c direct) row) ecanceled) ≡ Some res → is_listed (ms rows c direct) t ≡ true
+    by row res there (Some x) e k = let s = result_there (ms rows c direct) t x e in any_at (λ (e : Ending). e.0 == t) (ms rows c direct) s.0 (t, x) s.1 (eq-eqb t t refl)
+    by row res there None e k =
+        let y = given_is (guards_listed (ms rows c direct) row) ecanceled res k in
+        let z = both (is_guard row) (option_map_or (is_listed (ms rows c direct)) row.target false) y.0 in
+        absurd (true_false (is_guard row) z.0 (g row there))
+
+pub guards_again : (rows : List Row) (c : ℕ) (direct : List Ending) → GuardsFormed rows → with_guards rows (fall_of rows c direct) ≡ fall_of rows c direct
+guards_again rows c direct formed =
+    joined_nothing (λ r row. given (guards_listed (fall_of rows c direct) row) ecanceled) (λ r row. or_else (result_in (ms rows c direct) r) (given (guards_listed (ms rows c direct) row) ecanceled)) rows
+    (λ r row h u n. none r row h (unlisted rows c direct r row h u (in_fall rows c direct r row h u ∙ n)).guards (is_guard row) refl row.target refl)
+  where
+    none : (r : ℕ) (row : Row) → slice_get rows r ≡ Some row → guards_listed (ms rows c direct) row ≡ false → (b : Bool) → is_guard row ≡ b → (o : Option ℕ) → row.target ≡ o → given (guards_listed (fall_of rows c direct) row) ecanceled ≡ None
+    none r row h k false g o t = ap (λ b. given (b && option_map_or (is_listed (fall_of rows c direct)) row.target false) ecanceled) g
+    none r row h k true g None t = ap (λ (o : Option ℕ). given (is_guard row && option_map_or (is_listed (fall_of rows c direct)) o false) ecanceled) t ∙ ap (λ b. given (b && false) ecanceled) g
+    none r row h k true g (Some x) t = by (is_listed (fall_of rows c direct) x) refl
+      where
+        as_told : guards_listed (fall_of rows c direct) row ≡ is_listed (fall_of rows c direct) x
+        as_told = ap (λ (o : Option ℕ). is_guard row && option_map_or (is_listed (fall_of rows c direct)) o false) t ∙ ap (λ b. b && is_listed (fall_of rows c direct) x) g
+
+        before : guards_listed (ms rows c direct) row ≡ is_listed (ms rows c direct) x
+        before = ap (λ (o : Option ℕ). is_guard row && option_map_or (is_listed (ms rows c direct)) o false) t ∙ ap (λ b. b && is_listed (ms rows c direct) x) g
+
+        by : (b : Bool) → is_listed (fall_of rows c direct) x ≡ b → given (guards_listed (fall_of rows c direct) row) ecanceled ≡ None
+        by false e = ap (λ b. given b ecanceled) (as_told ∙ e)
+        by true e = absurd (true_false (is_listed (ms rows c direct) x) (listed_before rows c direct x (λ target there. formed r x row target h g t there) e) (sym before ∙ k))
+
+pub whole : (rows : List Row) (c : ℕ) (direct : List Ending) → GuardsFormed rows → IsWhole rows c direct (fall_of rows c direct)
+whole rows c direct formed = record { listed = direct_again rows c direct; severed = severed_again rows c direct; met = met_again rows c direct; guards = guards_again rows c direct formed }
+
+-- ---- the rows that fall
+
+abbrev pub last_test : List Row → ℕ → List Ending → ℕ → Row → Option ℤ
+last_test rows c direct r row = or_else (result_in (ms rows c direct) r) (given (guards_listed (ms rows c direct) row) ecanceled)
+
+pub fall_unfinished : (rows : List Row) (c : ℕ) (direct : List Ending) (i : ℕ) (e : Ending) → slice_get (fall_of rows c direct) i ≡ Some e → (row : Row) × (slice_get rows e.0 ≡ Some row) × (is_unfinished row.phase ≡ true)
+fall_unfinished rows c direct i e h = let w = ends_at (last_test rows c direct) rows i e h in (w.0, w.1, w.2)
+
+pub fall_rising : (rows : List Row) (c : ℕ) (direct : List Ending) (i j : ℕ) (p q : Ending) → slice_get (fall_of rows c direct) i ≡ Some p → slice_get (fall_of rows c direct) j ≡ Some q → i < j → p.0 < q.0
+fall_rising rows c direct = rising (last_test rows c direct) rows

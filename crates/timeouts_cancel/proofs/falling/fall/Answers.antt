@@ -1,0 +1,8 @@
+use Rattle.std.proofs.Common.{sym, ◌∙◌}
+use Rattle.timeouts_cancel.proofs.Sweeping.{walked_all, fall_untimed}
+use Rattle.timeouts_cancel.proofs.falling.fall.Goals as goal
+
+pub returns : goal.returns
+returns c =
+    let w = c.loop-at.invariant in
+    walked_all c.args.table.now c.args.direct.now w.0 c.loop-at.at c.loop-at.endings.items w.1 c.loop-at-test.false ∙ sym (fall_untimed c.args.table.now c.args.counted c.args.direct.now c.requires.untimed)

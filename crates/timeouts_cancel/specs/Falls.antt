@@ -1,0 +1,137 @@
+-- Which rows a step ends, and with what results: those that it ends of itself, and those that fall with them (io_uring_enter(2)).
+use Rattle.std.specs.Prelude.{◌≡◌, ℕ, ℤ, pos, negsuc, ◌+◌, ◌<◌, ◌==◌, Bool, true, false, not, ◌&&◌, ◌||◌, nat_lt, nat_le, if◌then◌else◌, Option, Some, None, slice_get, List, [], ◌∷◌, length}
+use Rattle.std.specs.Option.{option_map_or}
+use Rattle.std.specs.List.{filter, filter_map, list_any, enumerate_from}
+use Rattle.entries.specs.declared.row.Row.{Row}
+use Rattle.links_drains.specs.Links.{is_soft_linked}
+use Rattle.links_drains.specs.Phases.{is_issued, is_unfinished, counts}
+
+-- a row's number, with the result that it ends with
+abbrev pub Ending : Type 0
+Ending = ℕ × ℤ
+
+-- ECANCELED (errno(3))
+abbrev pub ecanceled : ℤ
+ecanceled = negsuc 124
+
+-- ---- rows and results
+
+abbrev pub is_transfer : ℕ → Bool
+is_transfer opcode = (opcode == 22) || (opcode == 23)
+
+abbrev pub is_negative : ℤ → Bool
+is_negative (pos n) = false
+is_negative (negsuc n) = true
+
+-- a LINK_TIMEOUT guards the row before it
+abbrev pub is_guard : Row → Bool
+is_guard row = row.entry.opcode == 15
+
+-- whether a result is a whole number
+abbrev pub is_number : ℤ → ℕ → Bool
+is_number (pos n) m = n == m
+is_number (negsuc n) m = false
+
+-- whether a row ends badly with a result: a transfer that moves fewer bytes than asked for, a LINK_TIMEOUT never, any other with an error
+abbrev pub is_bad : Row → ℤ → Bool
+is_bad row res =
+    if is_transfer row.entry.opcode then not (is_number res row.entry.len)
+    else not (is_guard row) && is_negative res
+
+-- a TIMEOUT that ends once so many completions were counted
+abbrev pub is_count_timeout : Row → Bool
+is_count_timeout row = is_issued row.phase && ((row.entry.opcode == 11) && nat_lt 0 row.entry.off)
+
+-- ---- lists of endings
+
+-- the result that a list has for a row, if it has one
+abbrev pub result_in : List Ending → ℕ → Option ℤ
+result_in [] r = None
+result_in (e ∷ es) r = if e.0 == r then Some e.1 else result_in es r
+
+abbrev pub paired : ℕ → Option ℤ → Option Ending
+paired r None = None
+paired r (Some res) = Some (r, res)
+
+-- the endings of all unfinished rows that are given a result, in the order of their numbers
+abbrev pub endings : (ℕ → Row → Option ℤ) → List Row → List Ending
+endings f rows = filter_map (λ (p : ℕ × Row). if is_unfinished p.1.phase then paired p.0 (f p.0 p.1) else None) (enumerate_from 0 rows)
+
+-- a list of endings, and those that a test adds to it: a row that is listed keeps its result
+abbrev pub or_else : Option ℤ → Option ℤ → Option ℤ
+or_else (Some res) other = Some res
+or_else None other = other
+
+abbrev pub joined : List Row → (ℕ → Row → Option ℤ) → List Ending → List Ending
+joined rows f es = endings (λ r row. or_else (result_in es r) (f r row)) rows
+
+abbrev pub given : Bool → ℤ → Option ℤ
+given b res = if b then Some res else None
+
+-- ---- the four filters
+
+-- whether a listed row, before a row and of its unit, is soft-linked and ends badly
+abbrev pub severs_by : ℕ → Row → Option Row → Ending → Bool
+severs_by r row None e = false
+severs_by r row (Some before) e = nat_lt e.0 r && ((before.unit == row.unit) && (is_soft_linked before && is_bad before e.1))
+
+abbrev pub is_severed : List Row → List Ending → ℕ → Row → Bool
+is_severed rows es r row = list_any (λ (e : Ending). severs_by r row (slice_get rows e.0) e) es
+
+-- how many listed rows count
+abbrev pub counted_in : List Row → List Ending → ℕ
+counted_in rows es = length (filter (λ (e : Ending). option_map_or counts (slice_get rows e.0) false) es)
+
+-- whether as many completions were counted as a TIMEOUT waits for
+abbrev pub is_met : ℕ → Row → Bool
+is_met total row = is_count_timeout row && nat_le (row.base + row.entry.off) total
+
+-- whether a row is listed
+abbrev pub is_listed : List Ending → ℕ → Bool
+is_listed es r = list_any (λ (e : Ending). e.0 == r) es
+
+-- whether a row guards one that is listed
+abbrev pub guards_listed : List Ending → Row → Bool
+guards_listed es row = is_guard row && option_map_or (is_listed es) row.target false
+
+-- the rows that a step ends of itself
+abbrev pub first_listed : List Row → List Ending → List Ending
+first_listed rows direct = endings (λ r row. result_in direct r) rows
+
+-- and the later rows of a unit of which a soft-linked row ended badly
+abbrev pub with_severed : List Row → List Ending → List Ending
+with_severed rows es = joined rows (λ r row. given (is_severed rows es r row) ecanceled) es
+
+-- and the TIMEOUTs whose count of completions is met
+abbrev pub with_met : List Row → ℕ → List Ending → List Ending
+with_met rows counted es = joined rows (λ r row. given (is_met (counted + counted_in rows es) row) (pos 0)) es
+
+-- and the guards whose target ends
+abbrev pub with_guards : List Row → List Ending → List Ending
+with_guards rows es = joined rows (λ r row. given (guards_listed es row) ecanceled) es
+
+-- the rows that end, in the order of their numbers
+abbrev pub fall_of : List Row → ℕ → List Ending → List Ending
+fall_of rows counted direct = with_guards rows (with_met rows counted (with_severed rows (first_listed rows direct)))
+
+-- No guard's target is a guard.
+abbrev pub GuardsFormed : List Row → Type 0
+GuardsFormed rows = (r t : ℕ) (row target : Row) → slice_get rows r ≡ Some row → is_guard row ≡ true → row.target ≡ Some t → slice_get rows t ≡ Some target → is_guard target ≡ false
+
+-- The filters, run again over a list, add nothing.
+pub record IsWhole (rows : List Row) (counted : ℕ) (direct es : List Ending) : Type 0 where
+  pub listed : joined rows (λ r row. result_in direct r) es ≡ es
+  pub severed : with_severed rows es ≡ es
+  pub met : with_met rows counted es ≡ es
+  pub guards : with_guards rows es ≡ es
+
+-- ---- what a step ends of itself
+
+-- Unfinished rows, in the order of their numbers, each once.
+pub record Direct (rows : List Row) (direct : List Ending) : Type 0 where
+  pub each : (i : ℕ) (e : Ending) → slice_get direct i ≡ Some e → (row : Row) × (slice_get rows e.0 ≡ Some row) × (is_unfinished row.phase ≡ true)
+  pub rising : (i j : ℕ) (p q : Ending) → slice_get direct i ≡ Some p → slice_get direct j ≡ Some q → i < j → p.0 < q.0
+
+-- No unfinished row is a TIMEOUT that counts completions, and none guards another.
+abbrev pub NoTimers : List Row → Type 0
+NoTimers rows = (r : ℕ) (row : Row) → slice_get rows r ≡ Some row → is_unfinished row.phase ≡ true → (is_count_timeout row ≡ false) × (row.target ≡ None)
