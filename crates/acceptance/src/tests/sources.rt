@@ -36,6 +36,7 @@ impl Source for Answers {
 }
 
 /// A source for which there is no memory.
+#[derive(Drop)]
 struct Starved;
 
 impl Source for Starved {
@@ -53,7 +54,7 @@ fn session_of(alloc: Global) -> Result<Session, Fail> {
 }
 
 // One step, two, a tick, one step, three.
-fn answers(alloc: Global) -> Result<Answers, Fail> {
+fn five_answers(alloc: Global) -> Result<Answers, Fail> {
     let (step, tick) = (Event::Step(0), Event::Tick(1));
     let mut traces = Vec::new(alloc);
     traces.push(Vec::from_slice(alloc, &[step])?)?;
@@ -69,7 +70,7 @@ fn syncs_with_a_list_of_answers(rt: HostRuntime) -> Result<(), Fail> {
     let mut session = session_of(rt.alloc())?;
     let mut reader = SlowReader::new(LINES.as_bytes(), SOUND);
     let mut writer = SlowWriter::new(rt.alloc(), SOUND);
-    let mut source = answers(rt.alloc())?;
+    let mut source = five_answers(rt.alloc())?;
     assert!(rt; serve(&mut session, &mut reader, &mut writer, &mut source) == Ok(()));
     assert!(rt; writer.written.as_slice() == REPLIES.as_bytes());
     Ok(())
