@@ -9,6 +9,8 @@ mod notes;
 mod records;
 mod sessions;
 mod shown;
+mod sources;
+mod stops;
 mod texts;
 
 /// One NOP with user_data 7: put, pushed, entered, issued, finished and reaped.

@@ -3,25 +3,25 @@ use Rattle.std.proofs.lemmas.List.{take_more}
 use Rattle.std.proofs.Common.{◌≡◌, ℕ, ◌+◌, take, drop, get_or, take-append-drop, ◌==◌, ◌<◌, List, [], ◌∷◌, ◌++◌, length, Bool, true, false, Option, refl, sym, ap, ◌∙◌, subst, append_assoc, append-nil}
 use Rattle.std.proofs.KnownBytes.{Appends-nil, Appends-trans}
 use Rattle.std.specs.Io.KnownBytes.{Appends}
-use Rattle.inverse_log.specs.Walks.{Walk}
+use Rattle.debug_server.specs.Visits.{Visit}
 use Rattle.debug_server.specs.Replies.{Told}
 use Rattle.debug_server.specs.Lines.{lines_of}
-use Rattle.debug_server.specs.Talks.{asks, Talk, talk, said, output}
+use Rattle.debug_server.specs.Talks.{asks, Fits, turn, Talk, talk, said, output}
 use Rattle.debug_server.specs.Pending.{IsPending, grown, rest_of, Fed, Fills, Breaks, WritesFront}
 use Rattle.debug_server.proofs.Bytes.{lines_of-ended}
-use Rattle.debug_server.proofs.Turns.{Fits, turn, talk_line, said_said, grown_alike}
+use Rattle.debug_server.proofs.Turns.{talk_line, said_said, grown_alike}
 
-pub fed_start : (w : Walk) (line : List ℕ) → Fed w line [] [] false w line
+pub fed_start : (w : Visit) (line : List ℕ) → Fed w line [] [] false w line
 fed_start w line = record { law = λ more others. refl }
 
 -- a byte that ends no line
-pub fed_byte : (w w' : Walk) (bytes : List ℕ) (ts : List Told) (written line : List ℕ) (b : ℕ) → Fed w bytes ts written false w' line → IsPending line → (b == 10) ≡ false → Fed w (bytes ++ b ∷ []) ts written false w' (grown line b)
+pub fed_byte : (w w' : Visit) (bytes : List ℕ) (ts : List Told) (written line : List ℕ) (b : ℕ) → Fed w bytes ts written false w' line → IsPending line → (b == 10) ≡ false → Fed w (bytes ++ b ∷ []) ts written false w' (grown line b)
 fed_byte w w' bytes ts written line b f p e = record {
   law = λ more others. ap (λ l. talk w (lines_of l) (ts ++ others)) (append_assoc bytes (b ∷ []) more) ∙ f.law (b ∷ more) others ∙ ap (said written) (grown_alike w' line b more others p e);
 }
 
 -- a newline
-pub fed_ended : (w w' : Walk) (bytes : List ℕ) (ts given : List Told) (written line : List ℕ) → Fed w bytes ts written false w' line → IsPending line → Fits (asks line) given → Fed w (bytes ++ 10 ∷ []) (ts ++ given) (written ++ (turn w' line given).text) (turn w' line given).quits (turn w' line given).next []
+pub fed_ended : (w w' : Visit) (bytes : List ℕ) (ts given : List Told) (written line : List ℕ) → Fed w bytes ts written false w' line → IsPending line → Fits (asks line) given → Fed w (bytes ++ 10 ∷ []) (ts ++ given) (written ++ (turn w' line given).text) (turn w' line given).quits (turn w' line given).next []
 fed_ended w w' bytes ts given written line f p fits = record {
   law = λ more others.
       ap (λ l. talk w (lines_of l) ((ts ++ given) ++ others)) (append_assoc bytes (10 ∷ []) more)
@@ -33,13 +33,13 @@ fed_ended w w' bytes ts given written line f p fits = record {
 }
 
 -- bytes behind a line that quits
-pub fed_past : (w w' : Walk) (bytes rest : List ℕ) (ts : List Told) (written line line' : List ℕ) → Fed w bytes ts written true w' line → Fed w (bytes ++ rest) ts written true w' line'
+pub fed_past : (w w' : Visit) (bytes rest : List ℕ) (ts : List Told) (written line line' : List ℕ) → Fed w bytes ts written true w' line → Fed w (bytes ++ rest) ts written true w' line'
 fed_past w w' bytes rest ts written line line' f = record {
   law = λ more others. ap (λ l. talk w (lines_of l) (ts ++ others)) (append_assoc bytes rest more) ∙ f.law (rest ++ more) others;
 }
 
 -- one run after another
-pub fed_trans : (w v u : Walk) (bytes line bytes' line' : List ℕ) (ts ts' : List Told) (written written' : List ℕ) (q : Bool) → Fed w bytes ts written false v line → Fed v (line ++ bytes') ts' written' q u line' → Fed w (bytes ++ bytes') (ts ++ ts') (written ++ written') q u line'
+pub fed_trans : (w v u : Visit) (bytes line bytes' line' : List ℕ) (ts ts' : List Told) (written written' : List ℕ) (q : Bool) → Fed w bytes ts written false v line → Fed v (line ++ bytes') ts' written' q u line' → Fed w (bytes ++ bytes') (ts ++ ts') (written ++ written') q u line'
 fed_trans w v u bytes line bytes' line' ts ts' written written' q f g = record {
   law = λ more others.
       ap (λ l. talk w (lines_of l) ((ts ++ ts') ++ others)) (append_assoc bytes bytes' more)
@@ -51,7 +51,7 @@ fed_trans w v u bytes line bytes' line' ts ts' written written' q f g = record {
 }
 
 -- the bytes alone, with nothing behind them
-pub fed_whole : (w w' : Walk) (bytes : List ℕ) (ts : List Told) (written : List ℕ) (q : Bool) (line : List ℕ) → Fed w bytes ts written q w' line → talk w (lines_of bytes) ts ≡ said written (rest_of q w' line [])
+pub fed_whole : (w w' : Visit) (bytes : List ℕ) (ts : List Told) (written : List ℕ) (q : Bool) (line : List ℕ) → Fed w bytes ts written q w' line → talk w (lines_of bytes) ts ≡ said written (rest_of q w' line [])
 fed_whole w w' bytes ts written q line f =
     ap (λ l. talk w (lines_of l) ts) (sym (append-nil bytes))
     ∙ ap (talk w (lines_of (bytes ++ []))) (sym (append-nil ts))
@@ -60,27 +60,27 @@ fed_whole w w' bytes ts written q line f =
 
 -- ---- the same, with what the writer holds
 
-pub fills_start : (w : Walk) (line : List ℕ) (h : Option (List ℕ)) → Fills w line [] h h false w line
+pub fills_start : (w : Visit) (line : List ℕ) (h : Option (List ℕ)) → Fills w line [] h h false w line
 fills_start w line h = record { written = []; appended = Appends-nil h; fed = fed_start w line }
 
-pub fills_byte : (w : Walk) (line : List ℕ) (b : ℕ) (h : Option (List ℕ)) → IsPending line → (b == 10) ≡ false → Fills w (line ++ b ∷ []) [] h h false w (grown line b)
+pub fills_byte : (w : Visit) (line : List ℕ) (b : ℕ) (h : Option (List ℕ)) → IsPending line → (b == 10) ≡ false → Fills w (line ++ b ∷ []) [] h h false w (grown line b)
 fills_byte w line b h p e = record { written = []; appended = Appends-nil h; fed = fed_byte w w line [] [] line b (fed_start w line) p e }
 
-pub fills_ended : (w : Walk) (line : List ℕ) (given : List Told) (h h' : Option (List ℕ)) → IsPending line → Fits (asks line) given → Appends h h' (turn w line given).text → Fills w (line ++ 10 ∷ []) given h h' (turn w line given).quits (turn w line given).next []
+pub fills_ended : (w : Visit) (line : List ℕ) (given : List Told) (h h' : Option (List ℕ)) → IsPending line → Fits (asks line) given → Appends h h' (turn w line given).text → Fills w (line ++ 10 ∷ []) given h h' (turn w line given).quits (turn w line given).next []
 fills_ended w line given h h' p fits a = record { written = (turn w line given).text; appended = a; fed = fed_ended w w line [] given [] line (fed_start w line) p fits }
 
-pub fills_trans : (w v u : Walk) (bytes line bytes' line' : List ℕ) (ts ts' : List Told) (h h' h'' : Option (List ℕ)) (q : Bool) → Fills w bytes ts h h' false v line → Fills v (line ++ bytes') ts' h' h'' q u line' → Fills w (bytes ++ bytes') (ts ++ ts') h h'' q u line'
+pub fills_trans : (w v u : Visit) (bytes line bytes' line' : List ℕ) (ts ts' : List Told) (h h' h'' : Option (List ℕ)) (q : Bool) → Fills w bytes ts h h' false v line → Fills v (line ++ bytes') ts' h' h'' q u line' → Fills w (bytes ++ bytes') (ts ++ ts') h h'' q u line'
 fills_trans w v u bytes line bytes' line' ts ts' h h' h'' q f g = record {
   written = f.written ++ g.written;
   appended = Appends-trans h h' h'' f.written g.written f.appended g.appended;
   fed = fed_trans w v u bytes line bytes' line' ts ts' f.written g.written q f.fed g.fed;
 }
 
-pub fills_past : (w w' : Walk) (bytes rest : List ℕ) (ts : List Told) (line line' : List ℕ) (h h' : Option (List ℕ)) → Fills w bytes ts h h' true w' line → Fills w (bytes ++ rest) ts h h' true w' line'
+pub fills_past : (w w' : Visit) (bytes rest : List ℕ) (ts : List Told) (line line' : List ℕ) (h h' : Option (List ℕ)) → Fills w bytes ts h h' true w' line → Fills w (bytes ++ rest) ts h h' true w' line'
 fills_past w w' bytes rest ts line line' h h' f = record { written = f.written; appended = f.appended; fed = fed_past w w' bytes rest ts f.written line line' f.fed }
 
 -- the reply to the line was cut short
-pub breaks_ended : (w : Walk) (line : List ℕ) (given : List Told) (h h' : Option (List ℕ)) → IsPending line → Fits (asks line) given → WritesFront h h' (turn w line given).text → Breaks w (line ++ 10 ∷ []) given h h'
+pub breaks_ended : (w : Visit) (line : List ℕ) (given : List Told) (h h' : Option (List ℕ)) → IsPending line → Fits (asks line) given → WritesFront h h' (turn w line given).text → Breaks w (line ++ 10 ∷ []) given h h'
 breaks_ended w line given h h' p fits f = record {
   front = f.front;
   appended = f.appended;
@@ -90,14 +90,14 @@ breaks_ended w line given h h' p fits f = record {
   );
 }
 
-pub breaks_more : (w : Walk) (bytes rest : List ℕ) (ts : List Told) (h h' : Option (List ℕ)) → Breaks w bytes ts h h' → Breaks w (bytes ++ rest) ts h h'
+pub breaks_more : (w : Visit) (bytes rest : List ℕ) (ts : List Told) (h h' : Option (List ℕ)) → Breaks w bytes ts h h' → Breaks w (bytes ++ rest) ts h h'
 breaks_more w bytes rest ts h h' b = record {
   front = b.front;
   appended = b.appended;
   begins = λ more others. ((b.begins (rest ++ more) others).0, ap (λ l. output w (lines_of l) (ts ++ others)) (append_assoc bytes rest more) ∙ (b.begins (rest ++ more) others).1);
 }
 
-pub breaks_later : (w v : Walk) (bytes line bytes' : List ℕ) (ts ts' : List Told) (h h' h'' : Option (List ℕ)) → Fills w bytes ts h h' false v line → Breaks v (line ++ bytes') ts' h' h'' → Breaks w (bytes ++ bytes') (ts ++ ts') h h''
+pub breaks_later : (w v : Visit) (bytes line bytes' : List ℕ) (ts ts' : List Told) (h h' h'' : Option (List ℕ)) → Fills w bytes ts h h' false v line → Breaks v (line ++ bytes') ts' h' h'' → Breaks w (bytes ++ bytes') (ts ++ ts') h h''
 breaks_later w v bytes line bytes' ts ts' h h' h'' f b = record {
   front = f.written ++ b.front;
   appended = Appends-trans h h' h'' f.written b.front f.appended b.appended;
@@ -114,21 +114,21 @@ breaks_later w v bytes line bytes' ts ts' h h' h'' f b = record {
 
 -- ---- as the code has them
 
-pub byte_at : (w : Walk) (line line' : List ℕ) (b : ℕ) (h : Option (List ℕ)) → IsPending line → (b == 10) ≡ false → line' ≡ grown line b → Fills w (line ++ b ∷ []) [] h h false w line'
+pub byte_at : (w : Visit) (line line' : List ℕ) (b : ℕ) (h : Option (List ℕ)) → IsPending line → (b == 10) ≡ false → line' ≡ grown line b → Fills w (line ++ b ∷ []) [] h h false w line'
 byte_at w line line' b h p e g = let P : List ℕ → Type 0 = λ l. Fills w (line ++ b ∷ []) [] h h false w l in subst P (sym g) (fills_byte w line b h p e)
 
-pub ended_at : (w w' : Walk) (line text line' : List ℕ) (given : List Told) (b : ℕ) (q : Bool) (h h' : Option (List ℕ)) → IsPending line → Fits (asks text) given → b ≡ 10 → text ≡ line → Appends h h' (turn w text given).text → w' ≡ (turn w text given).next → q ≡ (turn w text given).quits → line' ≡ [] → Fills w (line ++ b ∷ []) given h h' q w' line'
+pub ended_at : (w w' : Visit) (line text line' : List ℕ) (given : List Told) (b : ℕ) (q : Bool) (h h' : Option (List ℕ)) → IsPending line → Fits (asks text) given → b ≡ 10 → text ≡ line → Appends h h' (turn w text given).text → w' ≡ (turn w text given).next → q ≡ (turn w text given).quits → line' ≡ [] → Fills w (line ++ b ∷ []) given h h' q w' line'
 ended_at w w' line text line' given b q h h' p fits e t a n s l =
     let here : Fills w (text ++ 10 ∷ []) given h h' (turn w text given).quits (turn w text given).next [] =
     let P : List ℕ → Type 0 = λ x. IsPending x in fills_ended w text given h h' (subst P (sym t) p) fits a in
     let P1 : List ℕ → Type 0 = λ x. Fills w (x ++ 10 ∷ []) given h h' (turn w text given).quits (turn w text given).next [] in
     let P2 : ℕ → Type 0 = λ x. Fills w (line ++ x ∷ []) given h h' (turn w text given).quits (turn w text given).next [] in
     let P3 : Bool → Type 0 = λ x. Fills w (line ++ b ∷ []) given h h' x (turn w text given).next [] in
-    let P4 : Walk → Type 0 = λ x. Fills w (line ++ b ∷ []) given h h' q x [] in
+    let P4 : Visit → Type 0 = λ x. Fills w (line ++ b ∷ []) given h h' q x [] in
     let P5 : List ℕ → Type 0 = λ x. Fills w (line ++ b ∷ []) given h h' q w' x in
     subst P5 (sym l) (subst P4 (sym n) (subst P3 (sym s) (subst P2 (sym e) (subst P1 t here))))
 
-pub cut_at : (w : Walk) (line text : List ℕ) (given : List Told) (b : ℕ) (h h' : Option (List ℕ)) → IsPending line → Fits (asks text) given → b ≡ 10 → text ≡ line → WritesFront h h' (turn w text given).text → Breaks w (line ++ b ∷ []) given h h'
+pub cut_at : (w : Visit) (line text : List ℕ) (given : List Told) (b : ℕ) (h h' : Option (List ℕ)) → IsPending line → Fits (asks text) given → b ≡ 10 → text ≡ line → WritesFront h h' (turn w text given).text → Breaks w (line ++ b ∷ []) given h h'
 cut_at w line text given b h h' p fits e t f =
     let P : ℕ → Type 0 = λ x. Breaks w (line ++ x ∷ []) given h h' in
     let Q : List ℕ → Type 0 = λ x. WritesFront h h' (turn w x given).text in
@@ -142,17 +142,17 @@ seam line bytes i h = append_assoc line (take i bytes) (get_or bytes i 0 ∷ [])
 behind : (line bytes : List ℕ) (i : ℕ) → (line ++ take (i + 1) bytes) ++ drop (i + 1) bytes ≡ line ++ bytes
 behind line bytes i = append_assoc line (take (i + 1) bytes) (drop (i + 1) bytes) ∙ ap (λ l. line ++ l) (take-append-drop (i + 1) bytes)
 
-pub fed_on : (w v u : Walk) (line bytes now line' : List ℕ) (ts ts' : List Told) (i : ℕ) (h h' h'' : Option (List ℕ)) (q : Bool) → i < length bytes → Fills w (line ++ take i bytes) ts h h' false v now → Fills v (now ++ get_or bytes i 0 ∷ []) ts' h' h'' q u line' → Fills w (line ++ take (i + 1) bytes) (ts ++ ts') h h'' q u line'
+pub fed_on : (w v u : Visit) (line bytes now line' : List ℕ) (ts ts' : List Told) (i : ℕ) (h h' h'' : Option (List ℕ)) (q : Bool) → i < length bytes → Fills w (line ++ take i bytes) ts h h' false v now → Fills v (now ++ get_or bytes i 0 ∷ []) ts' h' h'' q u line' → Fills w (line ++ take (i + 1) bytes) (ts ++ ts') h h'' q u line'
 fed_on w v u line bytes now line' ts ts' i h h' h'' q lt f g =
     let P : List ℕ → Type 0 = λ l. Fills w l (ts ++ ts') h h'' q u line' in
     subst P (seam line bytes i lt) (fills_trans w v u (line ++ take i bytes) now (get_or bytes i 0 ∷ []) line' ts ts' h h' h'' q f g)
 
-pub fed_quit : (w v u : Walk) (line bytes now line' : List ℕ) (ts ts' : List Told) (i : ℕ) (h h' h'' : Option (List ℕ)) → i < length bytes → Fills w (line ++ take i bytes) ts h h' false v now → Fills v (now ++ get_or bytes i 0 ∷ []) ts' h' h'' true u line' → Fills w (line ++ bytes) (ts ++ ts') h h'' true u line'
+pub fed_quit : (w v u : Visit) (line bytes now line' : List ℕ) (ts ts' : List Told) (i : ℕ) (h h' h'' : Option (List ℕ)) → i < length bytes → Fills w (line ++ take i bytes) ts h h' false v now → Fills v (now ++ get_or bytes i 0 ∷ []) ts' h' h'' true u line' → Fills w (line ++ bytes) (ts ++ ts') h h'' true u line'
 fed_quit w v u line bytes now line' ts ts' i h h' h'' lt f g =
     let P : List ℕ → Type 0 = λ l. Fills w l (ts ++ ts') h h'' true u line' in
     subst P (behind line bytes i) (fills_past w u (line ++ take (i + 1) bytes) (drop (i + 1) bytes) (ts ++ ts') line' line' h h'' (fed_on w v u line bytes now line' ts ts' i h h' h'' true lt f g))
 
-pub cut_on : (w v : Walk) (line bytes now : List ℕ) (ts ts' : List Told) (i : ℕ) (h h' h'' : Option (List ℕ)) → i < length bytes → Fills w (line ++ take i bytes) ts h h' false v now → Breaks v (now ++ get_or bytes i 0 ∷ []) ts' h' h'' → Breaks w (line ++ bytes) (ts ++ ts') h h''
+pub cut_on : (w v : Visit) (line bytes now : List ℕ) (ts ts' : List Told) (i : ℕ) (h h' h'' : Option (List ℕ)) → i < length bytes → Fills w (line ++ take i bytes) ts h h' false v now → Breaks v (now ++ get_or bytes i 0 ∷ []) ts' h' h'' → Breaks w (line ++ bytes) (ts ++ ts') h h''
 cut_on w v line bytes now ts ts' i h h' h'' lt f b =
     let P : List ℕ → Type 0 = λ l. Breaks w l (ts ++ ts') h h'' in
     subst P (behind line bytes i) (breaks_more w (line ++ take (i + 1) bytes) (drop (i + 1) bytes) (ts ++ ts') h h''

@@ -3,5 +3,9 @@ pub mod Turns
 pub mod Feeding
 pub mod Reading
 pub mod Writing
-pub mod Replying
+pub mod Asking
+pub mod Alone
+pub mod Torn
 pub mod Stopping
+pub mod Breaking
+pub mod Numerals

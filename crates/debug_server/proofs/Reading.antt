@@ -2,13 +2,13 @@
 use Rattle.std.proofs.Common.{◌≡◌, ◌⊎◌, inl, inr, ℕ, take, ◌<◌, List, [], ◌∷◌, ◌++◌, length, Bool, true, false, cond, Option, Some, refl, sym, ap, ◌∙◌, subst, append_assoc, append-nil}
 use Rattle.std.proofs.KnownBytes.{Appends-nil, Appends-trans, Consumes-nil, Consumes-trans, Consumes-kept}
 use Rattle.std.specs.Io.KnownBytes.{Appends, Consumes, Keeps, IsAtEnd}
-use Rattle.inverse_log.specs.Walks.{Walk}
+use Rattle.debug_server.specs.Visits.{Visit}
 use Rattle.debug_server.specs.Replies.{Told, Reply}
 use Rattle.debug_server.specs.Lines.{lines_of}
-use Rattle.debug_server.specs.Talks.{asks, Talk, talk, said, silent, output, Served, Broke}
+use Rattle.debug_server.specs.Talks.{asks, Fits, turn, Talk, talk, said, silent, output, Served, Broke}
 use Rattle.debug_server.specs.Pending.{IsPending, rest_of, Fills, Breaks, WritesFront, Ends, Reads}
 use Rattle.debug_server.proofs.Bytes.{lines_of-last}
-use Rattle.debug_server.proofs.Turns.{Fits, turn, talk_line}
+use Rattle.debug_server.proofs.Turns.{talk_line}
 use Rattle.debug_server.proofs.Feeding.{fills_start, fills_trans, breaks_later, fed_whole}
 
 after_quit : (q : Bool) (r : Reply) → said r.text (cond q (silent r.next true (Some [])) (silent r.next false (Some []))) ≡ record { text = r.text; next = r.next; quits = q; left = Some [] }
@@ -16,37 +16,37 @@ after_quit true r = ap (λ (x : List ℕ). let u : Talk = record { text = x; nex
 after_quit false r = ap (λ (x : List ℕ). let u : Talk = record { text = x; next = r.next; quits = false; left = Some [] } in u) (append-nil r.text)
 
 -- a last line alone
-pub last_line : (w : Walk) (line : List ℕ) (given : List Told) → IsPending line → 0 < length line → Fits (asks line) given → talk w (lines_of line) given ≡ record { text = (turn w line given).text; next = (turn w line given).next; quits = (turn w line given).quits; left = Some [] }
+pub last_line : (w : Visit) (line : List ℕ) (given : List Told) → IsPending line → 0 < length line → Fits (asks line) given → talk w (lines_of line) given ≡ record { text = (turn w line given).text; next = (turn w line given).next; quits = (turn w line given).quits; left = Some [] }
 last_line w line given p some fits =
     ap (λ ls. talk w ls given) (lines_of-last line p.plain some)
     ∙ ap (talk w (line ∷ [])) (sym (append-nil given))
     ∙ talk_line w line [] given [] fits
     ∙ after_quit (turn w line given).quits (turn w line given)
 
-pub ends_line : (w w' : Walk) (line : List ℕ) (given : List Told) (h h' : Option (List ℕ)) (q : Bool) → IsPending line → 0 < length line → Fits (asks line) given → Appends h h' (turn w line given).text → w' ≡ (turn w line given).next → q ≡ (turn w line given).quits → Ends w line given h h' q w'
+pub ends_line : (w w' : Visit) (line : List ℕ) (given : List Told) (h h' : Option (List ℕ)) (q : Bool) → IsPending line → 0 < length line → Fits (asks line) given → Appends h h' (turn w line given).text → w' ≡ (turn w line given).next → q ≡ (turn w line given).quits → Ends w line given h h' q w'
 ends_line w w' line given h h' q p some fits a n s = record {
   text = (turn w line given).text;
   written = a;
   whole = last_line w line given p some fits
-      ∙ ap (λ (v : Walk). let u : Talk = record { text = (turn w line given).text; next = v; quits = (turn w line given).quits; left = Some [] } in u) (sym n)
+      ∙ ap (λ (v : Visit). let u : Talk = record { text = (turn w line given).text; next = v; quits = (turn w line given).quits; left = Some [] } in u) (sym n)
       ∙ ap (λ (z : Bool). let u : Talk = record { text = (turn w line given).text; next = w'; quits = z; left = Some [] } in u) (sym s);
 }
 
 -- an empty line
-pub ends_empty : (w : Walk) (line : List ℕ) (h : Option (List ℕ)) → line ≡ [] → Ends w line [] h h false w
+pub ends_empty : (w : Visit) (line : List ℕ) (h : Option (List ℕ)) → line ≡ [] → Ends w line [] h h false w
 ends_empty w line h e = record { text = []; written = Appends-nil h; whole = ap (λ l. talk w (lines_of l) []) e }
 
-pub front_line : (w : Walk) (line : List ℕ) (given : List Told) (h h' : Option (List ℕ)) → IsPending line → 0 < length line → Fits (asks line) given → WritesFront h h' (turn w line given).text → WritesFront h h' (output w (lines_of line) given)
+pub front_line : (w : Visit) (line : List ℕ) (given : List Told) (h h' : Option (List ℕ)) → IsPending line → 0 < length line → Fits (asks line) given → WritesFront h h' (turn w line given).text → WritesFront h h' (output w (lines_of line) given)
 front_line w line given h h' p some fits f =
     let P : List ℕ → Type 0 = λ t. WritesFront h h' t in
     subst P (sym (ap (λ (x : Talk). x.text) (last_line w line given p some fits))) f
 
 -- ---- reads
 
-pub reads_start : (w : Walk) (r h : Option (List ℕ)) → Reads w r r h h [] w []
+pub reads_start : (w : Visit) (r h : Option (List ℕ)) → Reads w r r h h [] w []
 reads_start w r h = record { taken = []; read = Consumes-nil r; fills = fills_start w [] h }
 
-pub reads_on : (w v u : Walk) (r r' r'' h h' h'' : Option (List ℕ)) (ts ts' : List Told) (line bytes line' : List ℕ) → Reads w r r' h h' ts v line → Consumes r' r'' bytes → Fills v (line ++ bytes) ts' h' h'' false u line' → Reads w r r'' h h'' (ts ++ ts') u line'
+pub reads_on : (w v u : Visit) (r r' r'' h h' h'' : Option (List ℕ)) (ts ts' : List Told) (line bytes line' : List ℕ) → Reads w r r' h h' ts v line → Consumes r' r'' bytes → Fills v (line ++ bytes) ts' h' h'' false u line' → Reads w r r'' h h'' (ts ++ ts') u line'
 reads_on w v u r r' r'' h h' h'' ts ts' line bytes line' f c g = record {
   taken = f.taken ++ bytes;
   read = Consumes-trans r r' r'' f.taken bytes f.read c;
@@ -54,7 +54,7 @@ reads_on w v u r r' r'' h h' h'' ts ts' line bytes line' f c g = record {
 }
 
 -- what was read comes to a talk that is known
-served_by : (w u : Walk) (r r' h h' : Option (List ℕ)) (ts : List Told) (taken text : List ℕ) (q : Bool) → Consumes r r' taken → Appends h h' text → talk w (lines_of taken) ts ≡ record { text = text; next = u; quits = q; left = Some [] } → (q ≡ true) ⊎ IsAtEnd r' → Served w r r' h h' ts u q
+served_by : (w u : Visit) (r r' h h' : Option (List ℕ)) (ts : List Told) (taken text : List ℕ) (q : Bool) → Consumes r r' taken → Appends h h' text → talk w (lines_of taken) ts ≡ record { text = text; next = u; quits = q; left = Some [] } → (q ≡ true) ⊎ IsAtEnd r' → Served w r r' h h' ts u q
 served_by w u r r' h h' ts taken text q c a e over = record {
   taken = taken;
   read = c;
@@ -66,7 +66,7 @@ served_by w u r r' h h' ts taken text q c a e over = record {
 }
 
 -- a line quit
-pub served_quit : (w v u : Walk) (r r' r'' h h' h'' : Option (List ℕ)) (ts ts' : List Told) (line bytes line' : List ℕ) → Reads w r r' h h' ts v line → Consumes r' r'' bytes → Fills v (line ++ bytes) ts' h' h'' true u line' → Served w r r'' h h'' (ts ++ ts') u true
+pub served_quit : (w v u : Visit) (r r' r'' h h' h'' : Option (List ℕ)) (ts ts' : List Told) (line bytes line' : List ℕ) → Reads w r r' h h' ts v line → Consumes r' r'' bytes → Fills v (line ++ bytes) ts' h' h'' true u line' → Served w r r'' h h'' (ts ++ ts') u true
 served_quit w v u r r' r'' h h' h'' ts ts' line bytes line' f c g =
     let all = fills_trans w v u f.taken line bytes line' ts ts' h h' h'' true f.fills g in
     served_by w u r r'' h h'' (ts ++ ts') (f.taken ++ bytes) all.written true
@@ -75,7 +75,7 @@ served_quit w v u r r' r'' h h' h'' ts ts' line bytes line' f c g =
     (inl refl)
 
 -- the input ended
-pub served_end : (w v u : Walk) (r r' r'' h h' h'' : Option (List ℕ)) (ts ts' : List Told) (line : List ℕ) (q : Bool) → Reads w r r' h h' ts v line → Consumes r' r'' [] → IsAtEnd r'' → Ends v line ts' h' h'' q u → Served w r r'' h h'' (ts ++ ts') u q
+pub served_end : (w v u : Visit) (r r' r'' h h' h'' : Option (List ℕ)) (ts ts' : List Told) (line : List ℕ) (q : Bool) → Reads w r r' h h' ts v line → Consumes r' r'' [] → IsAtEnd r'' → Ends v line ts' h' h'' q u → Served w r r'' h h'' (ts ++ ts') u q
 served_end w v u r r' r'' h h' h'' ts ts' line q f c e g =
     served_by w u r r'' h h'' (ts ++ ts') (f.taken ++ []) (f.fills.written ++ g.text) q
     (Consumes-trans r r' r'' f.taken [] f.read c)
@@ -84,7 +84,7 @@ served_end w v u r r' r'' h h' h'' ts ts' line q f c e g =
     (inr e)
 
 -- no more could be read
-pub broke_read : (w v : Walk) (r r' r'' h h' : Option (List ℕ)) (ts : List Told) (line : List ℕ) → Reads w r r' h h' ts v line → Keeps r' r'' → Broke w r r'' h h' ts
+pub broke_read : (w v : Visit) (r r' r'' h h' : Option (List ℕ)) (ts : List Told) (line : List ℕ) → Reads w r r' h h' ts v line → Keeps r' r'' → Broke w r r'' h h' ts
 broke_read w v r r' r'' h h' ts line f k = record {
   taken = f.taken;
   front = f.fills.written;
@@ -95,7 +95,7 @@ broke_read w v r r' r'' h h' ts line f k = record {
 }
 
 -- the last line was answered in part
-pub broke_end : (w v : Walk) (r r' r'' h h' h'' : Option (List ℕ)) (ts ts' : List Told) (line : List ℕ) → Reads w r r' h h' ts v line → Consumes r' r'' [] → WritesFront h' h'' (output v (lines_of line) ts') → Broke w r r'' h h'' (ts ++ ts')
+pub broke_end : (w v : Visit) (r r' r'' h h' h'' : Option (List ℕ)) (ts ts' : List Told) (line : List ℕ) → Reads w r r' h h' ts v line → Consumes r' r'' [] → WritesFront h' h'' (output v (lines_of line) ts') → Broke w r r'' h h'' (ts ++ ts')
 broke_end w v r r' r'' h h' h'' ts ts' line f c g = record {
   taken = f.taken ++ [];
   front = f.fills.written ++ g.front;
@@ -106,7 +106,7 @@ broke_end w v r r' r'' h h' h'' ts ts' line f c g = record {
 }
 
 -- some line was answered in part
-pub broke_feed : (w v : Walk) (r r' r'' h h' h'' : Option (List ℕ)) (ts ts' : List Told) (line bytes : List ℕ) → Reads w r r' h h' ts v line → Consumes r' r'' bytes → Breaks v (line ++ bytes) ts' h' h'' → Broke w r r'' h h'' (ts ++ ts')
+pub broke_feed : (w v : Visit) (r r' r'' h h' h'' : Option (List ℕ)) (ts ts' : List Told) (line bytes : List ℕ) → Reads w r r' h h' ts v line → Consumes r' r'' bytes → Breaks v (line ++ bytes) ts' h' h'' → Broke w r r'' h h'' (ts ++ ts')
 broke_feed w v r r' r'' h h' h'' ts ts' line bytes f c g =
     let all = breaks_later w v f.taken line bytes ts ts' h h' h'' f.fills g in
     record {
@@ -126,8 +126,8 @@ pub record AtEnd (r r' : Option (List ℕ)) : Type 0 where
 pub at_end : (r r' : Option (List ℕ)) (buffer : List ℕ) (n : ℕ) → n ≡ 0 → 0 < length buffer → Consumes r r' (take n buffer) × (n ≡ 0 → 0 < length buffer → IsAtEnd r') → AtEnd r r'
 at_end r r' buffer n e room h = record { none = subst (Consumes r r') (ap (λ m. take m buffer) e) h.0; over = h.1 e room }
 
-pub ends_at : (v u : Walk) (line text : List ℕ) (ts : List Told) (h h' : Option (List ℕ)) (q : Bool) → text ≡ line → Ends v text ts h h' q u → Ends v line ts h h' q u
+pub ends_at : (v u : Visit) (line text : List ℕ) (ts : List Told) (h h' : Option (List ℕ)) (q : Bool) → text ≡ line → Ends v text ts h h' q u → Ends v line ts h h' q u
 ends_at v u line text ts h h' q e f = let P : List ℕ → Type 0 = λ l. Ends v l ts h h' q u in subst P e f
 
-pub front_at : (v : Walk) (line text : List ℕ) (ts : List Told) (h h' : Option (List ℕ)) → text ≡ line → WritesFront h h' (output v (lines_of text) ts) → WritesFront h h' (output v (lines_of line) ts)
+pub front_at : (v : Visit) (line text : List ℕ) (ts : List Told) (h h' : Option (List ℕ)) → text ≡ line → WritesFront h h' (output v (lines_of text) ts) → WritesFront h h' (output v (lines_of line) ts)
 front_at v line text ts h h' e f = let P : List ℕ → Type 0 = λ l. WritesFront h h' (output v (lines_of l) ts) in subst P e f

@@ -1,26 +1,24 @@
 -- One line of a talk.
-use Rattle.std.proofs.Common.{◌≡◌, ◌⊎◌, inl, inr, ℕ, ◌==◌, ◌<◌, ◌≤◌, List, [], ◌∷◌, ◌++◌, length, nat_lt, Bool, true, false, cond, Some, None, refl, sym, ap, ◌∙◌, arith, rules, append_assoc, length-append}
+use Rattle.std.proofs.Common.{◌≡◌, ◌⊎◌, inl, inr, ℕ, ◌==◌, ◌<◌, ◌≤◌, List, [], ◌∷◌, ◌++◌, length, nat_lt, Bool, true, false, cond, Some, None, refl, sym, ap, ◌∙◌, subst, arith, codes, rules, append_assoc, length-append}
 use Rattle.std.proofs.lemmas.Bool.Decides.{nat_tests}
-use Rattle.inverse_log.specs.Walks.{Walk}
+use Rattle.std.specs.Cmp.Lexicographic.{bytes_decides}
+use Rattle.std.specs.Str.{bytes_eq}
+use Rattle.debug_server.specs.Visits.{Visit}
 use Rattle.debug_server.specs.Commands.{command_of}
 use Rattle.debug_server.specs.Replies.{Told, Reply, reply}
 use Rattle.debug_server.specs.Lines.{onto_line, lines_of}
-use Rattle.debug_server.specs.Talks.{asks, told, untold, lacks, Talk, talk, said, silent}
+use Rattle.debug_server.specs.Talks.{asks, told, untold, lacks, Fits, turn, Talk, talk, said, silent}
 use Rattle.debug_server.specs.Pending.{IsPending, grown}
 use Rattle.debug_server.proofs.Bytes.{onto_lines, onto_lines-cons, onto_lines-nil, lines_of-plain, grown_room, grown_full}
 
--- no line asks
-pub asks_none : (line : List ℕ) → asks line ≡ false
+-- only a short line asks
+pub asks_short : (line : List ℕ) → 256 < length line → asks line ≡ false
 unfolding asks
-asks_none line = refl
-
--- just the answers that a line asks for
-abbrev pub Fits : Bool → List Told → Type 0
-Fits false [] = Unit {0}
-Fits false (a ∷ ts) = ⊥
-Fits true [] = ⊥
-Fits true (a ∷ []) = Unit {0}
-Fits true (a ∷ b ∷ ts) = ⊥
+asks_short line h = by (bytes_eq line (codes "sync")) refl
+  where
+    by : (q : Bool) → bytes_eq line (codes "sync") ≡ q → bytes_eq line (codes "sync") ≡ false
+    by true e = absurd (let n : length line ≡ 4 = ap length ((bytes_decides line (codes "sync")).0 e) in omega arith)
+    by false e = e
 
 lacks_fits : (q : Bool) (given others : List Told) → Fits q given → lacks q (given ++ others) ≡ false
 lacks_fits false [] others h = refl
@@ -41,37 +39,36 @@ untold_fits true [] others h = absurd h
 untold_fits true (a ∷ []) others h = refl
 untold_fits true (a ∷ b ∷ ts) others h = absurd h
 
--- the reply to a line with the answers that it asks for
-abbrev pub turn : Walk → List ℕ → List Told → Reply
-turn w l given = reply w l (told (asks l) given)
-
 -- what is said after a reply
 abbrev pub then_said : Reply → List (List ℕ) → List Told → Talk
 then_said r ls ts = said r.text (cond r.quits (silent r.next true (Some ts)) (talk r.next ls ts))
 
-pub talk_line : (w : Walk) (l : List ℕ) (ls : List (List ℕ)) (given others : List Told) → Fits (asks l) given → talk w (l ∷ ls) (given ++ others) ≡ then_said (turn w l given) ls others
+pub talk_line : (w : Visit) (l : List ℕ) (ls : List (List ℕ)) (given others : List Told) → Fits (asks l) given → talk w (l ∷ ls) (given ++ others) ≡ then_said (turn w l given) ls others
 talk_line w l ls given others h = rw (lacks_fits (asks l) given others h, told_fits (asks l) given others h, untold_fits (asks l) given others h) refl
 
 pub said_said : (a b : List ℕ) (t : Talk) → said a (said b t) ≡ said (a ++ b) t
 said_said a b t = ap (λ (x : List ℕ). let u : Talk = record { text = x; next = t.next; quits = t.quits; left = t.left } in u) (sym (append_assoc a b t.text))
 
 -- lines past the limit have one reply
-reply_long : (w : Walk) (a b : List ℕ) (t : Told) → 256 < length a → 256 < length b → reply w a t ≡ reply w b t
+reply_long : (w : Visit) (a b : List ℕ) (t : Told) → 256 < length a → 256 < length b → reply w a t ≡ reply w b t
 unfolding reply command_of
 reply_long w a b t p q =
     let x : nat_lt 256 (length a) ≡ true = search (rules, nat_tests) in
     let y : nat_lt 256 (length b) ≡ true = search (rules, nat_tests) in
     rw (x, y)
 
+fits_short : (line : List ℕ) → 256 < length line → Fits (asks line) []
+fits_short line h = let P : Bool → Type 0 = λ q. Fits q [] in subst P (sym (asks_short line h)) tt
+
 -- a talk goes by the first line's reply
-talk_first : (w : Walk) (a b : List ℕ) (ls : List (List ℕ)) (ts : List Told) → 256 < length a → 256 < length b → talk w (a ∷ ls) ts ≡ talk w (b ∷ ls) ts
+talk_first : (w : Visit) (a b : List ℕ) (ls : List (List ℕ)) (ts : List Told) → 256 < length a → 256 < length b → talk w (a ∷ ls) ts ≡ talk w (b ∷ ls) ts
 talk_first w a b ls ts p q =
-    talk_line w a ls [] ts (rw (asks_none a) tt)
-    ∙ ap (λ r. then_said r ls ts) (ap (reply w a) (ap (λ z. told z []) (asks_none a)) ∙ reply_long w a b None p q ∙ ap (reply w b) (ap (λ z. told z []) (sym (asks_none b))))
-    ∙ sym (talk_line w b ls [] ts (rw (asks_none b) tt))
+    talk_line w a ls [] ts (fits_short a p)
+    ∙ ap (λ r. then_said r ls ts) (ap (reply w a) (ap (λ z. told z []) (asks_short a p)) ∙ reply_long w a b None p q ∙ ap (reply w b) (ap (λ z. told z []) (sym (asks_short b q))))
+    ∙ sym (talk_line w b ls [] ts (fits_short b q))
 
 -- one byte more or less of a line past the limit
-long_byte : (w : Walk) (line : List ℕ) (b : ℕ) (ls : List (List ℕ)) (ts : List Told) → length line ≡ 257 → talk w (onto_lines line (onto_line b ls)) ts ≡ talk w (onto_lines line ls) ts
+long_byte : (w : Visit) (line : List ℕ) (b : ℕ) (ls : List (List ℕ)) (ts : List Told) → length line ≡ 257 → talk w (onto_lines line (onto_line b ls)) ts ≡ talk w (onto_lines line ls) ts
 long_byte w line b [] ts h =
     ap (λ x. talk w x ts) (onto_lines-cons line (b ∷ []) [])
     ∙ talk_first w (line ++ b ∷ []) line [] ts (omega (arith, length-append line (b ∷ []))) (omega arith)
@@ -85,7 +82,7 @@ cases_room : (n : ℕ) → n ≤ 257 → (n ≤ 256) ⊎ (n ≡ 257)
 cases_room n h = grind arith
 
 -- a byte goes onto a line, kept or not
-pub grown_alike : (w : Walk) (line : List ℕ) (b : ℕ) (more : List ℕ) (ts : List Told) → IsPending line → (b == 10) ≡ false → talk w (lines_of (line ++ b ∷ more)) ts ≡ talk w (lines_of (grown line b ++ more)) ts
+pub grown_alike : (w : Visit) (line : List ℕ) (b : ℕ) (more : List ℕ) (ts : List Told) → IsPending line → (b == 10) ≡ false → talk w (lines_of (line ++ b ∷ more)) ts ≡ talk w (lines_of (grown line b ++ more)) ts
 grown_alike w line b more ts p e =
     elim (cases_room (length line) p.short) as (λ _. talk w (lines_of (line ++ b ∷ more)) ts ≡ talk w (lines_of (grown line b ++ more)) ts) [
       | inl room ↦ ap (λ x. talk w (lines_of x) ts) (sym (append_assoc line (b ∷ []) more) ∙ ap (λ l. l ++ more) (sym (grown_room line b room)))

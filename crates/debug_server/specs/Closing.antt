@@ -1,7 +1,7 @@
 -- A session: where it stands, and whether it takes no more lines.
 use Rattle.std.specs.Prelude.{Bool}
-use Rattle.inverse_log.specs.Walks.{Walk}
+use Rattle.debug_server.specs.Visits.{Visit}
 
 pub record Standing : Type 0 where
-  pub walk : Walk
+  pub visit : Visit
   pub is_closed : Bool

@@ -1,18 +1,20 @@
 -- Which command a line is, or which fault it has.
-use Rattle.std.specs.Prelude.{ℕ, ◌==◌, List, [], ◌∷◌, length, codes, nat_lt, if◌then◌else◌, Option, Some, None, Result, Ok, Err}
-use Rattle.std.specs.List.{slice_split}
+use Rattle.std.specs.Prelude.{ℕ, ◌+◌, ◌-◌, ◌==◌, List, [], ◌∷◌, length, take, drop, count_by, codes, nat_lt, Bool, if◌then◌else◌, Option, Some, None, Result, Ok, Err}
+use Rattle.std.specs.List.{slice_split, position}
 use Rattle.std.specs.Str.{bytes_eq}
 use Rattle.places.specs.declared.place.Place.{Place}
+use Rattle.places.specs.declared.value.Value.{Value}
 use Rattle.scenario.specs.declared.setup.Setup.{Setup}
 use Rattle.scenario.specs.declared.names.PlaceFault.{PlaceFault}
 use Rattle.scenario.specs.declared.names.PlaceFault.TheVariants as missing
 use Rattle.scenario.specs.Names.{number_of, place_named}
 use Rattle.debug_server.specs.declared.commands.command.Command.{Command}
-use Rattle.debug_server.specs.declared.commands.command.Command.TheVariants.{Where, Show, Goto, Back, Quit}
+use Rattle.debug_server.specs.declared.commands.command.Command.TheVariants.{Where, Show, Goto, Back, On, Watch, Break, Unwatch, Cont, Rcont, Sync, Quit}
 use Rattle.debug_server.specs.declared.commands.command.CommandFault.{CommandFault}
 use Rattle.debug_server.specs.declared.commands.command.CommandFault.TheVariants as fault
 use Rattle.debug_server.specs.declared.commands.verb.Verb.{Verb}
 use Rattle.debug_server.specs.declared.commands.verb.Verb.TheVariants as verb
+use Rattle.debug_server.specs.Values.{value_of}
 
 -- the words of a line, which stand one space apart
 abbrev pub words_of : List ℕ → List (List ℕ)
@@ -24,6 +26,13 @@ verb_of word =
     else if bytes_eq word (codes "show") then verb.Show
     else if bytes_eq word (codes "goto") then verb.Goto
     else if bytes_eq word (codes "back") then verb.Back
+    else if bytes_eq word (codes "on") then verb.On
+    else if bytes_eq word (codes "watch") then verb.Watch
+    else if bytes_eq word (codes "break") then verb.Break
+    else if bytes_eq word (codes "unwatch") then verb.Unwatch
+    else if bytes_eq word (codes "cont") then verb.Cont
+    else if bytes_eq word (codes "rcont") then verb.Rcont
+    else if bytes_eq word (codes "sync") then verb.Sync
     else if bytes_eq word (codes "quit") then verb.Quit
     else verb.Other
 
@@ -36,17 +45,61 @@ abbrev pub fault_at : PlaceFault → CommandFault
 fault_at missing.Place = fault.Place
 fault_at missing.Number = fault.Number
 
-abbrev pub showing : Result Place PlaceFault → Result Command CommandFault
-showing (Ok p) = Ok (Show p)
-showing (Err f) = Err (fault_at f)
+-- the place, or the fault of its words
+abbrev pub placed : {X : Type 0} → Result Place PlaceFault → (Place → Result X CommandFault) → Result X CommandFault
+placed (Ok p) f = f p
+placed (Err e) f = Err (fault_at e)
+
+-- ---- breaks
+
+abbrev pub is_mark : List ℕ → Bool
+is_mark word = bytes_eq word (codes "=")
+
+-- the words that another one follows
+abbrev pub followed : List (List ℕ) → List (List ℕ)
+followed ws = take (length ws - 1) ws
+
+-- where the mark stands between a place and a value, if there is just one that a word follows
+abbrev pub mark_of : List (List ℕ) → Option ℕ
+mark_of ws = if count_by is_mark (followed ws) == 1 then position is_mark (followed ws) else None
+
+-- the value that is the one word behind the mark
+abbrev pub value_in : Place → List (List ℕ) → Option Value
+value_in p (w ∷ []) = value_of p w
+value_in p _ = None
+
+abbrev pub stopping_at : Place → Option Value → Result Command CommandFault
+stopping_at p None = Err fault.Value
+stopping_at p (Some x) = Ok (Break p x)
+
+-- the words of a place, and those behind the mark
+abbrev pub break_named : Setup → List (List ℕ) → List (List ℕ) → Result Command CommandFault
+break_named setup name ws = placed (place_named setup name) (λ p. stopping_at p (value_in p ws))
+
+abbrev pub breaking_by : Setup → List (List ℕ) → Option ℕ → Result Command CommandFault
+breaking_by setup ws None = Err fault.Command
+breaking_by setup ws (Some i) = break_named setup (take i ws) (drop (i + 1) ws)
+
+-- a place, a mark and a value
+abbrev pub breaking : Setup → List (List ℕ) → Result Command CommandFault
+breaking setup ws = breaking_by setup ws (mark_of ws)
+
+-- ---- lines
 
 -- a command by its first word and the words after it
 abbrev pub command_by : Setup → Verb → List (List ℕ) → Result Command CommandFault
 command_by setup verb.Where [] = Ok Where
 command_by setup verb.Quit [] = Ok Quit
-command_by setup verb.Show ws = showing (place_named setup ws)
+command_by setup verb.Show ws = placed (place_named setup ws) (λ p. Ok (Show p))
 command_by setup verb.Goto (n ∷ []) = numbered (number_of n) Goto
 command_by setup verb.Back (n ∷ []) = numbered (number_of n) Back
+command_by setup verb.On (n ∷ []) = numbered (number_of n) On
+command_by setup verb.Watch ws = placed (place_named setup ws) (λ p. Ok (Watch p))
+command_by setup verb.Break ws = breaking setup ws
+command_by setup verb.Unwatch [] = Ok Unwatch
+command_by setup verb.Cont [] = Ok Cont
+command_by setup verb.Rcont [] = Ok Rcont
+command_by setup verb.Sync [] = Ok Sync
 command_by setup _ _ = Err fault.Command
 
 abbrev pub command_of_words : Setup → List (List ℕ) → Result Command CommandFault

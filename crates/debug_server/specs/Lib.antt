@@ -1,5 +1,9 @@
+pub mod Values
 pub mod Commands
+pub mod Visits
+pub mod Syncs
 pub mod Replies
+pub mod Refusing
 pub mod Lines
 pub mod Talks
 pub mod Pending

@@ -2,10 +2,10 @@
 use Rattle.std.specs.Prelude.{◌≡◌, ◌≤◌, ℕ, ◌==◌, not, List, [], ◌∷◌, ◌++◌, length, take, Bool, true, false, if◌then◌else◌, Option, Some}
 use Rattle.std.specs.List.{list_all}
 use Rattle.std.specs.Io.KnownBytes.{Appends, Consumes}
-use Rattle.inverse_log.specs.Walks.{Walk}
+use Rattle.debug_server.specs.Visits.{Visit}
 use Rattle.debug_server.specs.Replies.{Told}
 use Rattle.debug_server.specs.Lines.{lines_of}
-use Rattle.debug_server.specs.Talks.{Talk, talk, said, silent, output}
+use Rattle.debug_server.specs.Talks.{asks, told, Fits, Talk, talk, said, silent, output, Asked}
 
 -- no newline, and no byte past the limit
 pub record IsPending (line : List ℕ) : Type 0 where
@@ -17,24 +17,24 @@ abbrev pub grown : List ℕ → ℕ → List ℕ
 grown line b = take 257 (line ++ b ∷ [])
 
 -- what is still to be said, unless a line has quit
-abbrev pub rest_of : Bool → Walk → List ℕ → List Told → Talk
-rest_of q w bytes answers = if q then silent w true (Some answers) else talk w (lines_of bytes) answers
+abbrev pub rest_of : Bool → Visit → List ℕ → List Told → Talk
+rest_of q v bytes answers = if q then silent v true (Some answers) else talk v (lines_of bytes) answers
 
 -- Whatever follows them, the bytes were answered by what was written and by what is left to say.
-pub record Fed (w : Walk) (bytes : List ℕ) (answers : List Told) (written : List ℕ) (q : Bool) (w' : Walk) (line : List ℕ) : Type 0 where
-  pub law : (more : List ℕ) (others : List Told) → talk w (lines_of (bytes ++ more)) (answers ++ others) ≡ said written (rest_of q w' (line ++ more) others)
+pub record Fed (v : Visit) (bytes : List ℕ) (answers : List Told) (written : List ℕ) (q : Bool) (v' : Visit) (line : List ℕ) : Type 0 where
+  pub law : (more : List ℕ) (others : List Told) → talk v (lines_of (bytes ++ more)) (answers ++ others) ≡ said written (rest_of q v' (line ++ more) others)
 
 -- Some bytes were fed, and the replies stand in the writer.
-pub record Fills (w : Walk) (bytes : List ℕ) (answers : List Told) (held held' : Option (List ℕ)) (q : Bool) (w' : Walk) (line : List ℕ) : Type 0 where
+pub record Fills (v : Visit) (bytes : List ℕ) (answers : List Told) (held held' : Option (List ℕ)) (q : Bool) (v' : Visit) (line : List ℕ) : Type 0 where
   pub written : List ℕ
   pub appended : Appends held held' written
-  pub fed : Fed w bytes answers written q w' line
+  pub fed : Fed v bytes answers written q v' line
 
 -- A beginning of the replies stands in the writer, whatever follows the bytes.
-pub record Breaks (w : Walk) (bytes : List ℕ) (answers : List Told) (held held' : Option (List ℕ)) : Type 0 where
+pub record Breaks (v : Visit) (bytes : List ℕ) (answers : List Told) (held held' : Option (List ℕ)) : Type 0 where
   pub front : List ℕ
   pub appended : Appends held held' front
-  pub begins : (more : List ℕ) (others : List Told) → (rest : List ℕ) × (output w (lines_of (bytes ++ more)) (answers ++ others) ≡ front ++ rest)
+  pub begins : (more : List ℕ) (others : List Told) → (rest : List ℕ) × (output v (lines_of (bytes ++ more)) (answers ++ others) ≡ front ++ rest)
 
 -- A beginning of the text was written.
 pub record WritesFront (held held' : Option (List ℕ)) (text : List ℕ) : Type 0 where
@@ -44,13 +44,50 @@ pub record WritesFront (held held' : Option (List ℕ)) (text : List ℕ) : Type
   pub appended : Appends held held' front
 
 -- The input ends in this line, which was answered unless it is empty.
-pub record Ends (w : Walk) (line : List ℕ) (answers : List Told) (held held' : Option (List ℕ)) (q : Bool) (w' : Walk) : Type 0 where
+pub record Ends (v : Visit) (line : List ℕ) (answers : List Told) (held held' : Option (List ℕ)) (q : Bool) (v' : Visit) : Type 0 where
   pub text : List ℕ
   pub written : Appends held held' text
-  pub whole : talk w (lines_of line) answers ≡ record { text = text; next = w'; quits = q; left = Some [] }
+  pub whole : talk v (lines_of line) answers ≡ record { text = text; next = v'; quits = q; left = Some [] }
 
 -- Some bytes were read, and answered by what was written and what is left to say.
-pub record Reads (w : Walk) (unread unread' held held' : Option (List ℕ)) (answers : List Told) (w' : Walk) (line : List ℕ) : Type 0 where
+pub record Reads (v : Visit) (unread unread' held held' : Option (List ℕ)) (answers : List Told) (v' : Visit) (line : List ℕ) : Type 0 where
   pub taken : List ℕ
   pub read : Consumes unread unread' taken
-  pub fills : Fills w taken answers held held' false w' line
+  pub fills : Fills v taken answers held held' false v' line
+
+-- ---- the same with a source, and what it answered
+
+-- The source was asked just what a line asks.
+pub record Gave {S : Type 0} (gives : S → Told → S → Type 0) (line : List ℕ) (before : S) (answer : Told) (after : S) : Type 0 where
+  pub answers : List Told
+  pub asked : Asked gives before answers after
+  pub fits : Fits (asks line) answers
+  pub same : answer ≡ told (asks line) answers
+
+pub record FillsBy {S : Type 0} (gives : S → Told → S → Type 0) (before after : S) (v : Visit) (bytes : List ℕ) (held held' : Option (List ℕ)) (q : Bool) (v' : Visit) (line : List ℕ) : Type 0 where
+  pub answers : List Told
+  pub asked : Asked gives before answers after
+  pub fills : Fills v bytes answers held held' q v' line
+
+pub record BreaksBy {S : Type 0} (gives : S → Told → S → Type 0) (before : S) (v : Visit) (bytes : List ℕ) (held held' : Option (List ℕ)) : Type 0 where
+  pub answers : List Told
+  pub mid : S
+  pub asked : Asked gives before answers mid
+  pub breaks : Breaks v bytes answers held held'
+
+pub record EndsBy {S : Type 0} (gives : S → Told → S → Type 0) (before after : S) (v : Visit) (line : List ℕ) (held held' : Option (List ℕ)) (q : Bool) (v' : Visit) : Type 0 where
+  pub answers : List Told
+  pub asked : Asked gives before answers after
+  pub ends : Ends v line answers held held' q v'
+
+-- A beginning of the replies to the line that the input ends in was written.
+pub record FrontBy {S : Type 0} (gives : S → Told → S → Type 0) (before : S) (v : Visit) (line : List ℕ) (held held' : Option (List ℕ)) : Type 0 where
+  pub answers : List Told
+  pub mid : S
+  pub asked : Asked gives before answers mid
+  pub front : WritesFront held held' (output v (lines_of line) answers)
+
+pub record ReadsBy {S : Type 0} (gives : S → Told → S → Type 0) (before after : S) (v : Visit) (unread unread' held held' : Option (List ℕ)) (v' : Visit) (line : List ℕ) : Type 0 where
+  pub answers : List Told
+  pub asked : Asked gives before answers after
+  pub reads : Reads v unread unread' held held' answers v' line

@@ -1,15 +1,22 @@
 -- What is replied to a line, and where the session stands after it.
-use Rattle.std.specs.Prelude.{ℕ, ◌-◌, List, ◌++◌, length, codes, decimal, nat_le, Bool, true, false, if◌then◌else◌, Option, Some, None, Result, Ok, Err}
+use Rattle.std.specs.Prelude.{ℕ, ◌+◌, ◌-◌, min, List, ◌++◌, length, codes, decimal, drop, nat_lt, nat_le, Bool, true, false, if◌then◌else◌, Option, Some, None, Result, Ok, Err}
+use Rattle.places.specs.declared.place.Place.{Place}
 use Rattle.places.specs.declared.value.Value.{Value}
 use Rattle.places.specs.Text.{value_text}
 use Rattle.scenario.specs.declared.event.Event.{Event}
 use Rattle.machine.specs.Whole.{view}
-use Rattle.inverse_log.specs.Walks.{Walk, here, jumped}
+use Rattle.inverse_log.specs.Walks.{here, ending, moved, jumped, extended}
+use Rattle.watches.specs.declared.stopping.Stop.{Stop}
+use Rattle.watches.specs.declared.stopping.Stop.TheVariants as stop
+use Rattle.watches.specs.Stops.{earlier_of, later_of, position_of}
+use Rattle.watches.specs.Watching.{nothing, watched, broken}
 use Rattle.debug_server.specs.declared.commands.command.Command.{Command}
-use Rattle.debug_server.specs.declared.commands.command.Command.TheVariants.{Where, Show, Goto, Back, Quit}
+use Rattle.debug_server.specs.declared.commands.command.Command.TheVariants.{Where, Show, Goto, Back, On, Watch, Break, Unwatch, Cont, Rcont, Sync, Quit}
 use Rattle.debug_server.specs.declared.commands.command.CommandFault.{CommandFault}
 use Rattle.debug_server.specs.declared.commands.command.CommandFault.TheVariants as fault
 use Rattle.debug_server.specs.Commands.{command_of}
+use Rattle.debug_server.specs.Syncs.{torn_from, refused_from}
+use Rattle.debug_server.specs.Visits.{Visit, walked_to, minding}
 
 -- what a source can answer: a trace, or none
 abbrev pub Told : Type 0
@@ -18,8 +25,10 @@ Told = Option (List Event)
 -- a reply, where the session stands after it, and whether no later line is answered
 pub record Reply : Type 0 where
   pub text : List ℕ
-  pub next : Walk
+  pub next : Visit
   pub quits : Bool
+
+-- ---- texts
 
 abbrev pub fault_text : CommandFault → List ℕ
 fault_text fault.Command = codes "fault 1 command\n"
@@ -37,20 +46,97 @@ shown_text (Some v) = value_text v ++ codes "\n"
 abbrev pub at_text : ℕ → ℕ → List ℕ
 at_text at len = codes "at " ++ (decimal at ++ (codes " of " ++ (decimal len ++ codes "\n")))
 
-abbrev pub stays : Walk → List ℕ → Reply
-stays w text = record { text = text; next = w; quits = false }
+-- how many watches there are
+abbrev pub watching_text : ℕ → List ℕ
+watching_text n = codes "watching " ++ (decimal n ++ codes "\n")
 
-abbrev pub goes : Walk → ℕ → Reply
-goes w m = record { text = at_text m (length w.events); next = jumped w m; quits = false }
+-- how many breaks there are
+abbrev pub breaks_text : ℕ → List ℕ
+breaks_text n = codes "breaks " ++ (decimal n ++ codes "\n")
 
-abbrev pub reply_to : Walk → Result Command CommandFault → Reply
-reply_to w (Err f) = stays w (fault_text f)
-reply_to w (Ok Where) = stays w (at_text w.at (length w.events))
-reply_to w (Ok (Show p)) = stays w (shown_text (view (here w) p))
-reply_to w (Ok (Goto n)) = if nat_le n (length w.events) then goes w n else stays w (codes "refused 1 moment\n")
-reply_to w (Ok (Back n)) = goes w (w.at - n)
-reply_to w (Ok Quit) = record { text = codes "bye\n"; next = w; quits = true }
+-- where a walk through a run of so many events stopped
+abbrev pub stop_text : ℕ → Stop → List ℕ
+stop_text len (stop.Change m) = codes "change at " ++ (decimal m ++ codes "\n")
+stop_text len (stop.Met m) = codes "met at " ++ (decimal m ++ codes "\n")
+stop_text len stop.Start = codes "start at 0\n"
+stop_text len stop.End = codes "end at " ++ (decimal len ++ codes "\n")
+
+-- how many events there are now
+abbrev pub synced_text : ℕ → List ℕ
+synced_text n = codes "synced " ++ (decimal n ++ codes "\n")
+
+-- where the run and the source's trace part
+abbrev pub torn_text : ℕ → List ℕ
+torn_text i = codes "refused 3 torn " ++ (decimal i ++ codes "\n")
+
+-- which of the source's events is refused
+abbrev pub event_text : ℕ → List ℕ
+event_text i = codes "refused 4 event " ++ (decimal i ++ codes "\n")
+
+-- ---- replies
+
+abbrev pub stays : Visit → List ℕ → Reply
+stays v text = record { text = text; next = v; quits = false }
+
+abbrev pub goes : Visit → ℕ → Reply
+goes v m = record { text = at_text m (length v.walk.events); next = walked_to v (jumped v.walk m); quits = false }
+
+-- the same, unless the run has no such moment
+abbrev pub goes_to : Visit → ℕ → Reply
+goes_to v m = if nat_le m (length v.walk.events) then goes v m else stays v (codes "refused 1 moment\n")
+
+-- as many as there can be
+abbrev pub is_full : {X : Type 0} → List X → Bool
+is_full xs = nat_le 64 (length xs)
+
+abbrev pub watches : Visit → Place → Reply
+watches v p =
+    if is_full v.watching.places then stays v (fault_text fault.Many)
+    else record { text = watching_text (length (watched v.watching p).places); next = minding v (watched v.watching p); quits = false }
+
+abbrev pub breaks : Visit → Place → Value → Reply
+breaks v p x =
+    if is_full v.watching.breaks then stays v (fault_text fault.Many)
+    else record { text = breaks_text (length v.watching.breaks + 1); next = minding v (broken v.watching p x); quits = false }
+
+-- by single steps, which aren't counted
+abbrev pub stops_on : Visit → Stop → Reply
+stops_on v s = record { text = stop_text (length v.walk.events) s; next = walked_to v (moved v.walk (position_of v.walk s)); quits = false }
+
+-- by a jump
+abbrev pub stops_back : Visit → Stop → Reply
+stops_back v s = record { text = stop_text (length v.walk.events) s; next = walked_to v (jumped v.walk (position_of v.walk s)); quits = false }
+
+-- the events that the source has more, unless one is refused
+abbrev pub takes_over : Visit → List Event → Option ℕ → Reply
+takes_over v es (Some i) = stays v (event_text i)
+takes_over v es None = record { text = synced_text (length es); next = walked_to v (extended v.walk (drop (length v.walk.events) es)); quits = false }
+
+-- the same, unless the run is no beginning of the source's trace
+abbrev pub agrees : Visit → List Event → Option ℕ → Reply
+agrees v es (Some i) = stays v (torn_text i)
+agrees v es None = takes_over v es (refused_from (length v.walk.events) (ending v.walk) (drop (length v.walk.events) es))
+
+-- what the source told is taken over, unless it told nothing, or more events than a trace has
+abbrev pub syncs : Visit → Told → Reply
+syncs v None = stays v (codes "refused 2 source\n")
+syncs v (Some es) = if nat_lt 1048576 (length es) then stays v (codes "refused 5 full\n") else agrees v es (torn_from 0 v.walk.events es)
+
+abbrev pub reply_to : Visit → Result Command CommandFault → Told → Reply
+reply_to v (Err f) told = stays v (fault_text f)
+reply_to v (Ok Where) told = stays v (at_text v.walk.at (length v.walk.events))
+reply_to v (Ok (Show p)) told = stays v (shown_text (view (here v.walk) p))
+reply_to v (Ok (Goto n)) told = goes_to v n
+reply_to v (Ok (Back n)) told = goes v (v.walk.at - n)
+reply_to v (Ok (On n)) told = goes v (min (v.walk.at + n) (length v.walk.events))
+reply_to v (Ok (Watch p)) told = watches v p
+reply_to v (Ok (Break p x)) told = breaks v p x
+reply_to v (Ok Unwatch) told = record { text = watching_text 0; next = minding v nothing; quits = false }
+reply_to v (Ok Cont) told = stops_on v (later_of v.walk v.watching)
+reply_to v (Ok Rcont) told = stops_back v (earlier_of v.walk v.watching.places)
+reply_to v (Ok Sync) told = syncs v told
+reply_to v (Ok Quit) told = record { text = codes "bye\n"; next = v; quits = true }
 
 -- the reply to a line, with what the source answered
-unfoldable pub reply : Walk → List ℕ → Told → Reply
-reply w line told = reply_to w (command_of w.setup line)
+unfoldable pub reply : Visit → List ℕ → Told → Reply
+reply v line told = reply_to v (command_of v.walk.setup line) told

@@ -1,13 +1,14 @@
 -- What a session replies to lines, one after another.
-use Rattle.std.specs.Prelude.{◌≡◌, ◌⊎◌, ℕ, List, [], ◌∷◌, ◌++◌, Bool, true, false, if◌then◌else◌, Option, Some, None}
+use Rattle.std.specs.Prelude.{◌≡◌, ◌⊎◌, ℕ, List, [], ◌∷◌, ◌++◌, map, codes, Bool, true, false, if◌then◌else◌, Option, Some, None}
+use Rattle.std.specs.Str.{bytes_eq}
 use Rattle.std.specs.Io.KnownBytes.{Appends, Consumes, IsAtEnd}
-use Rattle.inverse_log.specs.Walks.{Walk}
-use Rattle.debug_server.specs.Replies.{Told, reply}
+use Rattle.debug_server.specs.Visits.{Visit}
+use Rattle.debug_server.specs.Replies.{Told, Reply, reply}
 use Rattle.debug_server.specs.Lines.{lines_of}
 
--- whether the source is asked for a line: no command asks it yet
+-- whether the source is asked for a line
 unfoldable pub asks : List ℕ → Bool
-asks line = false
+asks line = bytes_eq line (codes "sync")
 
 -- The answer to a line that asks or doesn't, from the answers that are left.
 abbrev pub told : Bool → List Told → Told
@@ -24,11 +25,23 @@ abbrev pub lacks : Bool → List Told → Bool
 lacks true [] = true
 lacks _ _ = false
 
+-- just the answers that a line asks for
+abbrev pub Fits : Bool → List Told → Type 0
+Fits false [] = Unit {0}
+Fits false (a ∷ ts) = ⊥
+Fits true [] = ⊥
+Fits true (a ∷ []) = Unit {0}
+Fits true (a ∷ b ∷ ts) = ⊥
+
+-- the reply to a line with the answers that it asks for
+abbrev pub turn : Visit → List ℕ → List Told → Reply
+turn v l given = reply v l (told (asks l) given)
+
 -- What lines come to: the replies in a row, where the session stands after them, whether one of them quit, and
 -- the source's answers that are left, if none was lacking.
 pub record Talk : Type 0 where
   pub text : List ℕ
-  pub next : Walk
+  pub next : Visit
   pub quits : Bool
   pub left : Option (List Told)
 
@@ -37,42 +50,51 @@ abbrev pub said : List ℕ → Talk → Talk
 said text t = record { text = text ++ t.text; next = t.next; quits = t.quits; left = t.left }
 
 -- nothing more is said
-abbrev pub silent : Walk → Bool → Option (List Told) → Talk
-silent w q left = record { text = []; next = w; quits = q; left = left }
+abbrev pub silent : Visit → Bool → Option (List Told) → Talk
+silent v q left = record { text = []; next = v; quits = q; left = left }
 
 -- The talk over some lines, up to one that quits, or to one that asks the source where no answer is left.
-abbrev pub talk : Walk → List (List ℕ) → List Told → Talk
-talk w [] ts = silent w false (Some ts)
-talk w (l ∷ ls) ts =
-    if lacks (asks l) ts then silent w false None
-    else said (reply w l (told (asks l) ts)).text
-    (if (reply w l (told (asks l) ts)).quits then silent (reply w l (told (asks l) ts)).next true (Some (untold (asks l) ts))
-    else talk (reply w l (told (asks l) ts)).next ls (untold (asks l) ts))
+abbrev pub talk : Visit → List (List ℕ) → List Told → Talk
+talk v [] ts = silent v false (Some ts)
+talk v (l ∷ ls) ts =
+    if lacks (asks l) ts then silent v false None
+    else said (reply v l (told (asks l) ts)).text
+    (if (reply v l (told (asks l) ts)).quits then silent (reply v l (told (asks l) ts)).next true (Some (untold (asks l) ts))
+    else talk (reply v l (told (asks l) ts)).next ls (untold (asks l) ts))
 
 -- the replies in a row
-abbrev pub output : Walk → List (List ℕ) → List Told → List ℕ
-output w ls ts = (talk w ls ts).text
+abbrev pub output : Visit → List (List ℕ) → List Told → List ℕ
+output v ls ts = (talk v ls ts).text
 
 -- The source gave just these answers, in order.
 abbrev pub Asked : {S : Type 0} → (S → Told → S → Type 0) → S → List Told → S → Type 0
 Asked gives before [] after = after ≡ before
 Asked {S} gives before (a ∷ ts) after = (mid : S) × gives before a mid × Asked gives mid ts after
 
+-- Each answer is that there is no source.
+abbrev pub Unanswered : List Told → Type 0
+Unanswered [] = Unit {0}
+Unanswered (a ∷ ts) = (a ≡ None) × Unanswered ts
+
+-- no source, whichever of the lines asks
+abbrev pub unanswered : List (List ℕ) → List Told
+unanswered ls = map (λ l. None) ls
+
 -- Some bytes were read, to the end or past a line that quits, and just the replies to them were written.
-pub record Served (w : Walk) (unread unread' held held' : Option (List ℕ)) (answers : List Told) (w' : Walk) (q : Bool) : Type 0 where
+pub record Served (v : Visit) (unread unread' held held' : Option (List ℕ)) (answers : List Told) (v' : Visit) (q : Bool) : Type 0 where
   pub taken : List ℕ
   pub read : Consumes unread unread' taken
-  pub written : Appends held held' (output w (lines_of taken) answers)
-  pub next : w' ≡ (talk w (lines_of taken) answers).next
-  pub quit : q ≡ (talk w (lines_of taken) answers).quits
-  pub asked : (talk w (lines_of taken) answers).left ≡ Some []
+  pub written : Appends held held' (output v (lines_of taken) answers)
+  pub next : v' ≡ (talk v (lines_of taken) answers).next
+  pub quit : q ≡ (talk v (lines_of taken) answers).quits
+  pub asked : (talk v (lines_of taken) answers).left ≡ Some []
   pub whole : (q ≡ true) ⊎ IsAtEnd unread'
 
 -- Some bytes were read, and a beginning of the replies to them was written.
-pub record Broke (w : Walk) (unread unread' held held' : Option (List ℕ)) (answers : List Told) : Type 0 where
+pub record Broke (v : Visit) (unread unread' held held' : Option (List ℕ)) (answers : List Told) : Type 0 where
   pub taken : List ℕ
   pub front : List ℕ
   pub rest : List ℕ
   pub read : Consumes unread unread' taken
-  pub begins : output w (lines_of taken) answers ≡ front ++ rest
+  pub begins : output v (lines_of taken) answers ≡ front ++ rest
   pub written : Appends held held' front

@@ -1,47 +1,16 @@
 //! Replies to lines.
-ghost use Rattle.std.specs.Prelude.{◌≡◌, ◌≤◌, ◌++◌, length, codes, IfOk, OnOk, OnErr};
+ghost use Rattle.std.specs.Prelude.{◌≡◌, ◌≤◌, length, option_map, IfOk, OnOk, OnErr};
 ghost use Rattle.inverse_log.specs.Walks.{jumped};
-ghost use Rattle.debug_server.specs.Replies.{Told, fault_text, shown_text, at_text, reply_to, reply};
+ghost use Rattle.debug_server.specs.Replies.{at_text, goes_to, reply_to, reply};
 
 use crate::commands::{Command, CommandFault, parse_line};
+use crate::stops::{break_at, jump_to, stop_back, stop_on, unwatch, watch};
+use crate::syncing::sync;
+use crate::texts::{at_line, fault_line, value_line};
+use crate::visitor::Visitor;
 use inverse_log::Walker;
-use places::Value;
+use machine::Event;
 use std::alloc::{AllocError, Global};
-
-// A position of a run of so many events.
-fn at_line(alloc: Global, at: usize, len: usize) -> Result<Vec<u8>, AllocError>
-    ensures { IfOk result (λ v. v.items ≡ at_text at len) }
-{
-    let text = format!(in alloc; "at {at} of {len}\n")?;
-    Ok(text.into_bytes())
-}
-
-fn fault_line(alloc: Global, fault: CommandFault) -> Result<Vec<u8>, AllocError>
-    ensures { IfOk result (λ v. v.items ≡ fault_text fault) }
-{
-    let text = match fault {
-        CommandFault::Command => "fault 1 command\n",
-        CommandFault::Number => "fault 2 number\n",
-        CommandFault::Place => "fault 3 place\n",
-        CommandFault::Long => "fault 4 long\n",
-        CommandFault::Value => "fault 5 value\n",
-        CommandFault::Many => "fault 6 many\n",
-    };
-    Vec::from_slice(alloc, text.as_bytes())
-}
-
-fn value_line(alloc: Global, value: Option<Value>) -> Result<Vec<u8>, AllocError>
-    ensures { IfOk result (λ v. v.items ≡ shown_text value) }
-{
-    match value {
-        None => Vec::from_slice(alloc, b"absent\n"),
-        Some(value) => {
-            let mut text = Vec::from_slice(alloc, value.text(alloc)?.as_slice())?;
-            text.extend_from_slice(b"\n")?;
-            Ok(text)
-        }
-    }
-}
 
 // Goes to a moment, and says so. An `Err` changes nothing: the text is made first.
 fn jump(alloc: Global, walker: &mut Walker, moment: usize) -> Result<Vec<u8>, AllocError>
@@ -51,55 +20,75 @@ fn jump(alloc: Global, walker: &mut Walker, moment: usize) -> Result<Vec<u8>, Al
     ensures err { OnErr result (walker.new ≡ walker.old) }
 {
     let text = at_line(alloc, moment, walker.len())?;
-    match walker.goto(moment) {
-        Ok(()) => Ok(text),
-        Err(_) => Err(AllocError),
+    jump_to(walker, moment)?;
+    Ok(text)
+}
+
+// The same, unless the run has no such moment.
+fn go_to(alloc: Global, visitor: &mut Visitor, moment: usize) -> Result<Vec<u8>, AllocError>
+    ensures text { IfOk result (λ text. text.items ≡ (goes_to visitor.old moment).text) }
+    ensures next { OnOk result (visitor.new ≡ (goes_to visitor.old moment).next) }
+    ensures err { OnErr result (visitor.new ≡ visitor.old) }
+{
+    if moment <= visitor.walker.len() {
+        jump(alloc, &mut visitor.walker, moment)
+    } else {
+        Vec::from_slice(alloc, b"refused 1 moment\n")
     }
 }
 
 // Does what a command says. Answers the reply, and whether no later line is answered.
 fn answer_to(
     alloc: Global,
-    walker: &mut Walker,
+    visitor: &mut Visitor,
     command: Result<Command, CommandFault>,
+    told: Option<&[Event]>,
 ) -> Result<(Vec<u8>, bool), AllocError>
-    ensures text { IfOk result (λ r. r.0.items ≡ (reply_to walker.old command).text) }
-    ensures next { OnOk result (walker.new ≡ (reply_to walker.old command).next) }
-    ensures quits { IfOk result (λ r. r.1 ≡ (reply_to walker.old command).quits) }
-    ensures err { OnErr result (walker.new ≡ walker.old) }
+    ensures text { IfOk result (λ r. r.0.items ≡ (reply_to visitor.old command (option_map (λ es. es.now) told.entry)).text) }
+    ensures next { OnOk result (visitor.new ≡ (reply_to visitor.old command (option_map (λ es. es.now) told.entry)).next) }
+    ensures quits { IfOk result (λ r. r.1 ≡ (reply_to visitor.old command (option_map (λ es. es.now) told.entry)).quits) }
+    ensures err { OnErr result (visitor.new ≡ visitor.old) }
 {
+    let (at, len) = (visitor.walker.at(), visitor.walker.len());
     match command {
         Err(fault) => Ok((fault_line(alloc, fault)?, false)),
-        Ok(Command::Where) => Ok((at_line(alloc, walker.at(), walker.len())?, false)),
-        Ok(Command::Show(place)) => { Ok((value_line(alloc, walker.state().value(place))?, false)) }
-        Ok(Command::Goto(n)) => {
-            let moment = n as usize;
-            if moment <= walker.len() {
-                Ok((jump(alloc, walker, moment)?, false))
-            } else {
-                Ok((Vec::from_slice(alloc, b"refused 1 moment\n")?, false))
-            }
+        Ok(Command::Where) => Ok((at_line(alloc, at, len)?, false)),
+        Ok(Command::Show(place)) => {
+            let value = visitor.walker.state().value(place);
+            Ok((value_line(alloc, value)?, false))
         }
+        Ok(Command::Goto(n)) => Ok((go_to(alloc, visitor, n as usize)?, false)),
         Ok(Command::Back(n)) => {
-            let moment = walker.at().saturating_sub(n as usize);
-            Ok((jump(alloc, walker, moment)?, false))
+            let moment = at.saturating_sub(n as usize);
+            Ok((jump(alloc, &mut visitor.walker, moment)?, false))
         }
+        Ok(Command::On(n)) => {
+            let moment = (at + n as usize).min(len);
+            Ok((jump(alloc, &mut visitor.walker, moment)?, false))
+        }
+        Ok(Command::Watch(place)) => Ok((watch(alloc, visitor, place)?, false)),
+        Ok(Command::Break(place, value)) => Ok((break_at(alloc, visitor, place, value)?, false)),
+        Ok(Command::Unwatch) => Ok((unwatch(alloc, visitor)?, false)),
+        Ok(Command::Cont) => Ok((stop_on(alloc, visitor)?, false)),
+        Ok(Command::Rcont) => Ok((stop_back(alloc, visitor)?, false)),
+        Ok(Command::Sync) => Ok((sync(alloc, visitor, told)?, false)),
         Ok(Command::Quit) => Ok((Vec::from_slice(alloc, b"bye\n")?, true)),
     }
 }
 
-// Replies to one line, and says whether no later one is answered.
+// Replies to one line, with what the source told, and says whether no later line is answered.
 #[tactic(auto, unfolding(crate::specs::Replies::reply))]
 pub(crate) fn answer(
     alloc: Global,
-    walker: &mut Walker,
+    visitor: &mut Visitor,
     line: &[u8],
+    told: Option<&[Event]>,
 ) -> Result<(Vec<u8>, bool), AllocError>
-    ensures text { IfOk result (λ r. (told : Told) → r.0.items ≡ (reply walker.old line.now told).text) }
-    ensures next { OnOk result ((told : Told) → walker.new ≡ (reply walker.old line.now told).next) }
-    ensures quits { IfOk result (λ r. (told : Told) → r.1 ≡ (reply walker.old line.now told).quits) }
-    ensures err { OnErr result (walker.new ≡ walker.old) }
+    ensures text { IfOk result (λ r. r.0.items ≡ (reply visitor.old line.now (option_map (λ es. es.now) told.entry)).text) }
+    ensures next { OnOk result (visitor.new ≡ (reply visitor.old line.now (option_map (λ es. es.now) told.entry)).next) }
+    ensures quits { IfOk result (λ r. r.1 ≡ (reply visitor.old line.now (option_map (λ es. es.now) told.entry)).quits) }
+    ensures err { OnErr result (visitor.new ≡ visitor.old) }
 {
-    let command = parse_line(alloc, walker.setup(), line)?;
-    answer_to(alloc, walker, command)
+    let command = parse_line(alloc, visitor.walker.setup(), line)?;
+    answer_to(alloc, visitor, command, told)
 }

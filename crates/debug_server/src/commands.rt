@@ -1,6 +1,8 @@
 //! The command language.
 
+mod breaks;
 pub(crate) mod command;
+mod values;
 mod verb;
 mod words;
 

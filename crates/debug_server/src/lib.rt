@@ -9,7 +9,11 @@ mod memory;
 mod serving;
 mod session;
 mod source;
+mod stops;
+mod syncing;
 mod task;
+mod texts;
+mod visitor;
 mod walking;
 mod words;
 

@@ -5,8 +5,8 @@ ghost use Rattle.scenario.specs.declared.event.Refusal.{Refusal as Denial};
 ghost use Rattle.script.specs.declared.fault.ScriptFault.{ScriptFault as Misread};
 ghost use Rattle.script.specs.Scripts.{Plan, Reads};
 ghost use Rattle.debug_server.specs.Lines.{lines_of};
-ghost use Rattle.debug_server.specs.Talks.{talk, output};
-ghost use Rattle.debug_server.specs.Schedules.{walk_over, IsOfWalk};
+ghost use Rattle.debug_server.specs.Talks.{unanswered, talk, output};
+ghost use Rattle.debug_server.specs.Schedules.{visit_over, IsOfWalk};
 ghost use Rattle.debug_server.specs.declared.faults.ServeFault.TheVariants.{Closed};
 
 use crate::faults::RunFault;
@@ -15,10 +15,10 @@ use std::alloc::Global;
 
 /// What the session of a script replies to its input.
 pub fn replies(alloc: Global, script: &[u8], input: &[u8]) -> Result<Vec<u8>, RunFault>
-    // It read a beginning of the input, the whole of it or past a line that quits, and wrote just the replies to that.
+    // It read a beginning of the input, the whole of it or past a line that quits, and wrote just the replies to that, without a source.
     ensures ok { IfOk result (λ out. (p : Plan) × Reads script.now (Ok p) × (taken : List ℕ) × (rest : List ℕ) × (input.now ≡ taken ++ rest)
-        × (out.items ≡ output (walk_over p.setup p.schedule) (lines_of taken) [])
-        × (((talk (walk_over p.setup p.schedule) (lines_of taken) []).quits ≡ true) ⊎ (rest ≡ []))) }
+        × (out.items ≡ output (visit_over p.setup p.schedule) (lines_of taken) (unanswered (lines_of taken)))
+        × (((talk (visit_over p.setup p.schedule) (lines_of taken) (unanswered (lines_of taken))).quits ≡ true) ⊎ (rest ≡ []))) }
     // A fault of the script is its first one, a fault of the schedule its first refused event.
     ensures script { IfErr result (λ e. (f : Misread) → e ≡ RunFault.Script f → Reads script.now (Err f)) }
     ensures schedule { IfErr result (λ e. (i : ℕ) → (n : Denial) → e ≡ RunFault.Schedule i n

@@ -1,17 +1,17 @@
 //! Serving lines from a reader to a writer.
-ghost use Rattle.std.specs.Prelude.{◌≡◌, ◌≢◌, ◌↔◌, ◌++◌, ◌∷◌, [], List, true, false, None, IsTrue, IfOk, OnOk, OnErr, IsErrOf};
+ghost use Rattle.std.specs.Prelude.{◌≡◌, ◌≢◌, ◌↔◌, ◌++◌, ◌∷◌, [], List, true, false, option_map, IsTrue, IfOk, OnOk, OnErr, IsErrOf};
 ghost use Rattle.std.specs.Io.KnownBytes.{Appends, Keeps};
 ghost use Rattle.debug_server.specs.Replies.{Told, reply};
-ghost use Rattle.debug_server.specs.Lines.{lines_of};
-ghost use Rattle.debug_server.specs.Talks.{Asked, Served, Broke, output};
-ghost use Rattle.debug_server.specs.Pending.{Fills, Breaks, WritesFront, Ends, IsPending};
+ghost use Rattle.debug_server.specs.Talks.{Asked, Served, Broke};
+ghost use Rattle.debug_server.specs.Pending.{IsPending, WritesFront, Gave, FillsBy, BreaksBy, EndsBy, FrontBy};
 
 use crate::answering::answer;
 use crate::faults::ServeFault;
 use crate::lines::Line;
 use crate::session::Session;
 use crate::source::Source;
-use inverse_log::Walker;
+use crate::visitor::Visitor;
+use machine::Event;
 use std::alloc::Global;
 use std::io::{Read, Write};
 
@@ -45,20 +45,44 @@ fn write_out<W: Write>(writer: &mut W, bytes: &[u8]) -> Result<(), ServeFault>
     }
 }
 
-// Replies to one line, and says whether it quits.
-fn answer_line<W: Write>(
-    alloc: Global,
-    walker: &mut Walker,
-    line: &[u8],
-    writer: &mut W,
-) -> Result<bool, ServeFault>
-    ensures written { OnOk result (Appends (W.contents writer.old) (W.contents writer.new) (reply walker.old line.now None).text) }
-    ensures next { OnOk result (walker.new ≡ (reply walker.old line.now None).next) }
-    ensures quits { IfOk result (λ q. q ≡ (reply walker.old line.now None).quits) }
-    ensures err { OnErr result (WritesFront (W.contents writer.old) (W.contents writer.new) (reply walker.old line.now None).text) }
+// What the source has, for a line that asks it.
+fn ask<S: Source>(source: &mut S, line: &[u8]) -> Result<Option<Vec<Event>>, ServeFault>
+    ensures ok { IfOk result (λ answer. Gave S.gives line.now source.old (option_map (λ v. v.items) answer) source.new) }
     ensures open { result ≢ Err ServeFault.Closed }
 {
-    let Ok((text, quits)) = answer(alloc, walker, line) else {
+    if line != b"sync".as_slice() {
+        return Ok(None);
+    }
+    match source.trace() {
+        Ok(answer) => Ok(answer),
+        Err(_) => Err(ServeFault::Memory),
+    }
+}
+
+fn lent(answer: &Option<Vec<Event>>) -> Option<&[Event]>
+    ensures { option_map (λ es. es.now) result ≡ option_map (λ v. v.items) answer.now }
+{
+    match answer {
+        Some(events) => Some(events.as_slice()),
+        None => None,
+    }
+}
+
+// Replies to one line, with what the source told, and says whether it quits.
+fn answer_line<W: Write>(
+    alloc: Global,
+    visitor: &mut Visitor,
+    line: &[u8],
+    told: Option<&[Event]>,
+    writer: &mut W,
+) -> Result<bool, ServeFault>
+    ensures written { OnOk result (Appends (W.contents writer.old) (W.contents writer.new) (reply visitor.old line.now (option_map (λ es. es.now) told.entry)).text) }
+    ensures next { OnOk result (visitor.new ≡ (reply visitor.old line.now (option_map (λ es. es.now) told.entry)).next) }
+    ensures quits { IfOk result (λ q. q ≡ (reply visitor.old line.now (option_map (λ es. es.now) told.entry)).quits) }
+    ensures err { OnErr result (WritesFront (W.contents writer.old) (W.contents writer.new) (reply visitor.old line.now (option_map (λ es. es.now) told.entry)).text) }
+    ensures open { result ≢ Err ServeFault.Closed }
+{
+    let Ok((text, quits)) = answer(alloc, visitor, line, told) else {
         return Err(ServeFault::Memory);
     };
     write_out(writer, &text)?;
@@ -66,40 +90,44 @@ fn answer_line<W: Write>(
 }
 
 // Takes a byte, and replies to the line that ends with it, if one does. Says whether it quits.
-fn take_byte<W: Write>(
+fn take_byte<W: Write, S: Source>(
     alloc: Global,
-    walker: &mut Walker,
+    visitor: &mut Visitor,
     line: &mut Line,
     byte: u8,
     writer: &mut W,
+    source: &mut S,
 ) -> Result<bool, ServeFault>
-    ensures ok { IfOk result (λ q. Fills walker.old (line.old ++ byte ∷ []) [] (W.contents writer.old) (W.contents writer.new) q walker.new line.new) }
-    ensures err { OnErr result (Breaks walker.old (line.old ++ byte ∷ []) [] (W.contents writer.old) (W.contents writer.new)) }
+    ensures ok { IfOk result (λ q. FillsBy S.gives source.old source.new visitor.old (line.old ++ byte ∷ []) (W.contents writer.old) (W.contents writer.new) q visitor.new line.new) }
+    ensures err { OnErr result (BreaksBy S.gives source.old visitor.old (line.old ++ byte ∷ []) (W.contents writer.old) (W.contents writer.new)) }
     ensures open { result ≢ Err ServeFault.Closed }
 {
     if byte != b'\n' {
         line.push(byte);
         return Ok(false);
     }
-    let quits = answer_line(alloc, walker, line.as_slice(), writer)?;
+    let text = line.as_slice();
+    let told = ask(source, text)?;
+    let quits = answer_line(alloc, visitor, text, lent(&told), writer)?;
     line.clear();
     Ok(quits)
 }
 
 // Takes some bytes, up to a line that quits: the bytes behind it are passed over.
-fn feed<W: Write>(
+fn feed<W: Write, S: Source>(
     alloc: Global,
-    walker: &mut Walker,
+    visitor: &mut Visitor,
     line: &mut Line,
     bytes: &[u8],
     writer: &mut W,
+    source: &mut S,
 ) -> Result<bool, ServeFault>
-    ensures ok { IfOk result (λ q. Fills walker.old (line.old ++ bytes.now) [] (W.contents writer.old) (W.contents writer.new) q walker.new line.new) }
-    ensures err { OnErr result (Breaks walker.old (line.old ++ bytes.now) [] (W.contents writer.old) (W.contents writer.new)) }
+    ensures ok { IfOk result (λ q. FillsBy S.gives source.old source.new visitor.old (line.old ++ bytes.now) (W.contents writer.old) (W.contents writer.new) q visitor.new line.new) }
+    ensures err { OnErr result (BreaksBy S.gives source.old visitor.old (line.old ++ bytes.now) (W.contents writer.old) (W.contents writer.new)) }
     ensures open { result ≢ Err ServeFault.Closed }
 {
     for byte in bytes {
-        if take_byte(alloc, walker, line, *byte, writer)? {
+        if take_byte(alloc, visitor, line, *byte, writer, source)? {
             return Ok(true);
         }
     }
@@ -107,33 +135,38 @@ fn feed<W: Write>(
 }
 
 // Replies to the line that the input ends in, unless it is empty. Says whether it quits.
-fn finish<W: Write>(
+fn finish<W: Write, S: Source>(
     alloc: Global,
-    walker: &mut Walker,
+    visitor: &mut Visitor,
     line: &[u8],
     writer: &mut W,
+    source: &mut S,
 ) -> Result<bool, ServeFault>
     requires { IsPending line.now }
-    ensures ok { IfOk result (λ q. Ends walker.old line.now [] (W.contents writer.old) (W.contents writer.new) q walker.new) }
-    ensures err { OnErr result (WritesFront (W.contents writer.old) (W.contents writer.new) (output walker.old (lines_of line.now) [])) }
+    ensures ok { IfOk result (λ q. EndsBy S.gives source.old source.new visitor.old line.now (W.contents writer.old) (W.contents writer.new) q visitor.new) }
+    ensures err { OnErr result (FrontBy S.gives source.old visitor.old line.now (W.contents writer.old) (W.contents writer.new)) }
     ensures open { result ≢ Err ServeFault.Closed }
 {
     if line.len() == 0 {
         return Ok(false);
     }
-    let quits = answer_line(alloc, walker, line, writer)?;
+    let told = ask(source, line)?;
+    let quits = answer_line(alloc, visitor, line, lent(&told), writer)?;
     Ok(quits)
 }
 
 // Replies to lines to the end of the input or to one that quits, and says whether one did.
-fn converse<R: Read, W: Write>(
+fn converse<R: Read, W: Write, S: Source>(
     alloc: Global,
-    walker: &mut Walker,
+    visitor: &mut Visitor,
     reader: &mut R,
     writer: &mut W,
+    source: &mut S,
 ) -> Result<bool, ServeFault>
-    ensures ok { IfOk result (λ q. Served walker.old (R.remaining reader.old) (R.remaining reader.new) (W.contents writer.old) (W.contents writer.new) [] walker.new q) }
-    ensures err { OnErr result (Broke walker.old (R.remaining reader.old) (R.remaining reader.new) (W.contents writer.old) (W.contents writer.new) []) }
+    ensures ok { IfOk result (λ q. (answers : List Told) × Asked S.gives source.old answers source.new
+        × Served visitor.old (R.remaining reader.old) (R.remaining reader.new) (W.contents writer.old) (W.contents writer.new) answers visitor.new q) }
+    ensures err { OnErr result ((answers : List Told) × (mid : S) × Asked S.gives source.old answers mid
+        × Broke visitor.old (R.remaining reader.old) (R.remaining reader.new) (W.contents writer.old) (W.contents writer.new) answers) }
     ensures open { result ≢ Err ServeFault.Closed }
 {
     let mut line = Line::new();
@@ -143,43 +176,13 @@ fn converse<R: Read, W: Write>(
             return Err(ServeFault::Read);
         };
         if count == 0 {
-            return finish(alloc, walker, line.as_slice(), writer);
+            return finish(alloc, visitor, line.as_slice(), writer, source);
         }
-        if feed(alloc, walker, &mut line, &buffer[..count], writer)? {
+        if feed(alloc, visitor, &mut line, &buffer[..count], writer, source)? {
             return Ok(true);
         }
     }
     Err(ServeFault::Read)
-}
-
-// The same over a session, which is closed after an `Err` and after a line that quits.
-pub(crate) fn serve_lines<R: Read, W: Write>(
-    session: &mut Session,
-    reader: &mut R,
-    writer: &mut W,
-) -> Result<(), ServeFault>
-    ensures closed { IsErrOf result ServeFault.Closed ↔ IsTrue session.old.is_closed }
-    ensures untouched { session.old.is_closed ≡ true → (session.new ≡ session.old)
-        × Keeps (R.remaining reader.old) (R.remaining reader.new) × Keeps (W.contents writer.old) (W.contents writer.new) }
-    ensures ok { OnOk result (Served session.old.walk (R.remaining reader.old) (R.remaining reader.new)
-        (W.contents writer.old) (W.contents writer.new) [] session.new.walk session.new.is_closed) }
-    ensures err { OnErr result (session.new.is_closed ≡ true) }
-    ensures begins { session.old.is_closed ≡ false → OnErr result (Broke session.old.walk (R.remaining reader.old) (R.remaining reader.new)
-        (W.contents writer.old) (W.contents writer.new) []) }
-{
-    if session.is_closed {
-        return Err(ServeFault::Closed);
-    }
-    match converse(session.alloc, &mut session.walker, reader, writer) {
-        Ok(quits) => {
-            session.is_closed = quits;
-            Ok(())
-        }
-        Err(fault) => {
-            session.is_closed = true;
-            Err(fault)
-        }
-    }
 }
 
 /// Replies to lines to the end of the input or to one that quits. Each reply is written and flushed
@@ -199,18 +202,26 @@ pub fn serve<R: Read, W: Write, S: Source>(
 
     // What is written is the output of what was read, to the end or past a line that quits.
     ensures ok { OnOk result ((answers : List Told) × Asked S.gives source.old answers source.new
-        × Served session.old.walk (R.remaining reader.old) (R.remaining reader.new)
-        (W.contents writer.old) (W.contents writer.new) answers session.new.walk session.new.is_closed) }
+        × Served session.old.visit (R.remaining reader.old) (R.remaining reader.new)
+        (W.contents writer.old) (W.contents writer.new) answers session.new.visit session.new.is_closed) }
 
     // At an error it is a beginning of that.
     ensures err { OnErr result (session.new.is_closed ≡ true) }
     ensures begins { session.old.is_closed ≡ false → OnErr result ((answers : List Told) × (mid : S) × Asked S.gives source.old answers mid
-        × Broke session.old.walk (R.remaining reader.old) (R.remaining reader.new)
+        × Broke session.old.visit (R.remaining reader.old) (R.remaining reader.new)
         (W.contents writer.old) (W.contents writer.new) answers) }
 {
-    let _ = source;
-    match serve_lines(session, reader, writer) {
-        Ok(()) => Ok(()),
-        Err(fault) => Err(fault),
+    if session.is_closed {
+        return Err(ServeFault::Closed);
+    }
+    match converse(session.alloc, &mut session.visitor, reader, writer, source) {
+        Ok(quits) => {
+            session.is_closed = quits;
+            Ok(())
+        }
+        Err(fault) => {
+            session.is_closed = true;
+            Err(fault)
+        }
     }
 }

@@ -4,21 +4,23 @@ ghost use Rattle.machine.specs.Runs.{start, Accepts, IsRefused};
 ghost use Rattle.scenario.specs.declared.event.Refusal.{Refusal as Denial};
 ghost use Rattle.scenario.specs.Setups.{setup_refusal};
 ghost use Rattle.debug_server.specs.Replies.{reply};
-ghost use Rattle.debug_server.specs.Schedules.{walk_over, IsOfSchedule, fault_of};
+ghost use Rattle.debug_server.specs.Schedules.{visit_over, IsOfSchedule, fault_of};
 
 use crate::answering;
 use crate::faults::RunFault;
+use crate::visitor::Visitor;
 use inverse_log::{ExtendRefusal, Walker};
 use machine::{Event, Refusal, Setup};
 use script::Script;
 use std::alloc::{AllocError, Global};
 use std::marker::Model;
+use watches::Watches;
 
 /// A run that lines of commands walk through.
 #[derive(Drop)]
 pub struct Session {
     pub(crate) alloc: Global,
-    pub(crate) walker: Walker,
+    pub(crate) visitor: Visitor,
     pub(crate) is_closed: bool,
 }
 
@@ -27,13 +29,13 @@ impl Model for Session {
 
     ghost Value = { Standing };
 
-    ghost view = { λ s. record { walk = s.walker; is_closed = s.is_closed } };
+    ghost view = { λ s. record { visit = s.visitor; is_closed = s.is_closed } };
 }
 
 impl Session {
     /// Runs the schedule of a script, and stands at its end. A new session is open.
     pub fn new(alloc: Global, script: &Script) -> Result<Session, RunFault>
-        ensures ok { IfOk result (λ s. s ≡ record { walk = walk_over script.now.setup script.now.schedule; is_closed = false }) }
+        ensures ok { IfOk result (λ s. s ≡ record { visit = visit_over script.now.setup script.now.schedule; is_closed = false }) }
         ensures accepts { OnOk result (Accepts (start script.now.setup) script.now.schedule) }
         ensures schedule { IfErr result (λ e. (i : ℕ) → (n : Denial) → e ≡ RunFault.Schedule i n → IsRefused script.now.setup script.now.schedule i n) }
         ensures other { IfErr result IsOfSchedule }
@@ -44,12 +46,11 @@ impl Session {
     /// Replies to one line. An `Err` changes nothing. The answer, what a source gave, counts for the
     /// commands that ask it. Whether the session is closed is neither asked nor changed.
     pub fn line(&mut self, line: &[u8], answer: Option<&[Event]>) -> Result<Vec<u8>, AllocError>
-        ensures text { IfOk result (λ text. text.items ≡ (reply self.old.walk line.now (option_map (λ es. es.now) answer.entry)).text) }
-        ensures next { OnOk result (self.new ≡ record { walk = (reply self.old.walk line.now (option_map (λ es. es.now) answer.entry)).next; is_closed = self.old.is_closed }) }
+        ensures text { IfOk result (λ text. text.items ≡ (reply self.old.visit line.now (option_map (λ es. es.now) answer.entry)).text) }
+        ensures next { OnOk result (self.new ≡ record { visit = (reply self.old.visit line.now (option_map (λ es. es.now) answer.entry)).next; is_closed = self.old.is_closed }) }
         ensures err { OnErr result (self.new ≡ self.old) }
     {
-        let _ = answer;
-        let (text, _) = answering::answer(self.alloc, &mut self.walker, line)?;
+        let (text, _) = answering::answer(self.alloc, &mut self.visitor, line, answer)?;
         Ok(text)
     }
 }
@@ -69,7 +70,7 @@ fn fault_of(refusal: ExtendRefusal) -> RunFault
 fn session_of(alloc: Global, setup: &Setup, events: &[Event]) -> Result<Session, RunFault>
     requires starts { setup_refusal setup.now ≡ None }
     requires most { length events.now ≤ 1048576 }
-    ensures ok { IfOk result (λ s. s ≡ record { walk = walk_over setup.now events.now; is_closed = false }) }
+    ensures ok { IfOk result (λ s. s ≡ record { visit = visit_over setup.now events.now; is_closed = false }) }
     ensures accepts { OnOk result (Accepts (start setup.now) events.now) }
     ensures schedule { IfErr result (λ e. (i : ℕ) → (n : Denial) → e ≡ RunFault.Schedule i n → IsRefused setup.now events.now i n) }
     ensures other { IfErr result IsOfSchedule }
@@ -83,9 +84,10 @@ fn session_of(alloc: Global, setup: &Setup, events: &[Event]) -> Result<Session,
     if walker.goto(events.len()).is_err() {
         return Err(RunFault::Memory);
     }
+    let watches = Watches::new(alloc);
     Ok(Session {
         alloc,
-        walker,
+        visitor: Visitor { walker, watches },
         is_closed: false,
     })
 }

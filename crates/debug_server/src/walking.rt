@@ -1,19 +1,21 @@
 //! Walking a script.
-ghost use Rattle.std.specs.Prelude.{◌≡◌, ◌≢◌, ℕ, Bool, [], Ok, Err, OnOk, IfErr};
+ghost use Rattle.std.specs.Prelude.{◌≡◌, ◌≢◌, ℕ, Bool, List, Ok, Err, OnOk, IfErr};
 ghost use Rattle.std.specs.Io.KnownBytes.{Keeps};
 ghost use Rattle.machine.specs.Runs.{IsRefused};
 ghost use Rattle.scenario.specs.declared.event.Refusal.{Refusal as Denial};
-ghost use Rattle.inverse_log.specs.Walks.{Walk};
 ghost use Rattle.script.specs.Scripts.{Plan, Reads};
 ghost use Rattle.script.specs.declared.fault.ScriptFault.{ScriptFault as Misread};
 ghost use Rattle.debug_server.specs.declared.faults.ServeFault.{ServeFault as Serving};
 ghost use Rattle.debug_server.specs.declared.faults.ServeFault.TheVariants.{Closed};
-ghost use Rattle.debug_server.specs.Talks.{Served, Broke};
-ghost use Rattle.debug_server.specs.Schedules.{walk_over, IsOfWalk};
+ghost use Rattle.debug_server.specs.Visits.{Visit};
+ghost use Rattle.debug_server.specs.Replies.{Told};
+ghost use Rattle.debug_server.specs.Talks.{Unanswered, Served, Broke};
+ghost use Rattle.debug_server.specs.Schedules.{visit_over, IsOfWalk};
 
 use crate::faults::RunFault;
-use crate::serving::serve_lines;
+use crate::serving::serve;
 use crate::session::Session;
+use crate::source::NoSource;
 use script::{Script, ScriptFault, read_script};
 use std::alloc::Global;
 use std::io::{Read, Write};
@@ -25,17 +27,17 @@ pub fn walk<R: Read, W: Write>(
     reader: &mut R,
     writer: &mut W,
 ) -> Result<(), RunFault>
-    // What is written is the output of the session of the script.
-    ensures ok { OnOk result ((p : Plan) × Reads text.now (Ok p) × (w : Walk) × (q : Bool)
-        × Served (walk_over p.setup p.schedule) (R.remaining reader.old) (R.remaining reader.new) (W.contents writer.old) (W.contents writer.new) [] w q) }
+    // What is written is the output of the session of the script, without a source.
+    ensures ok { OnOk result ((p : Plan) × Reads text.now (Ok p) × (answers : List Told) × Unanswered answers × (v : Visit) × (q : Bool)
+        × Served (visit_over p.setup p.schedule) (R.remaining reader.old) (R.remaining reader.new) (W.contents writer.old) (W.contents writer.new) answers v q) }
     // A fault of the script is its first one, a fault of the schedule its first refused event. Nothing was written then.
     ensures script { IfErr result (λ e. (f : Misread) → e ≡ RunFault.Script f → Reads text.now (Err f) × Keeps (W.contents writer.old) (W.contents writer.new)) }
     ensures schedule { IfErr result (λ e. (i : ℕ) → (n : Denial) → e ≡ RunFault.Schedule i n
         → (p : Plan) × Reads text.now (Ok p) × IsRefused p.setup p.schedule i n × Keeps (W.contents writer.old) (W.contents writer.new)) }
     ensures memory { IfErr result (λ e. e ≡ RunFault.Memory → Keeps (W.contents writer.old) (W.contents writer.new)) }
     // At a fault of serving a beginning of that output was written.
-    ensures begins { IfErr result (λ e. (f : Serving) → e ≡ RunFault.Serve f → (p : Plan) × Reads text.now (Ok p)
-        × Broke (walk_over p.setup p.schedule) (R.remaining reader.old) (R.remaining reader.new) (W.contents writer.old) (W.contents writer.new) []) }
+    ensures begins { IfErr result (λ e. (f : Serving) → e ≡ RunFault.Serve f → (p : Plan) × Reads text.now (Ok p) × (answers : List Told) × Unanswered answers
+        × Broke (visit_over p.setup p.schedule) (R.remaining reader.old) (R.remaining reader.new) (W.contents writer.old) (W.contents writer.new) answers) }
     ensures open { result ≢ Err (RunFault.Serve Closed) }
     ensures other { IfErr result IsOfWalk }
 {
@@ -57,14 +59,14 @@ fn walk_script<R: Read, W: Write>(
     reader: &mut R,
     writer: &mut W,
 ) -> Result<(), RunFault>
-    ensures ok { OnOk result ((w : Walk) × (q : Bool)
-        × Served (walk_over script.now.setup script.now.schedule) (R.remaining reader.old) (R.remaining reader.new) (W.contents writer.old) (W.contents writer.new) [] w q) }
+    ensures ok { OnOk result ((answers : List Told) × Unanswered answers × (v : Visit) × (q : Bool)
+        × Served (visit_over script.now.setup script.now.schedule) (R.remaining reader.old) (R.remaining reader.new) (W.contents writer.old) (W.contents writer.new) answers v q) }
     ensures script { IfErr result (λ e. (f : Misread) → e ≢ RunFault.Script f) }
     ensures schedule { IfErr result (λ e. (i : ℕ) → (n : Denial) → e ≡ RunFault.Schedule i n
         → IsRefused script.now.setup script.now.schedule i n × Keeps (W.contents writer.old) (W.contents writer.new)) }
     ensures memory { IfErr result (λ e. e ≡ RunFault.Memory → Keeps (W.contents writer.old) (W.contents writer.new)) }
-    ensures begins { IfErr result (λ e. (f : Serving) → e ≡ RunFault.Serve f
-        → Broke (walk_over script.now.setup script.now.schedule) (R.remaining reader.old) (R.remaining reader.new) (W.contents writer.old) (W.contents writer.new) []) }
+    ensures begins { IfErr result (λ e. (f : Serving) → e ≡ RunFault.Serve f → (answers : List Told) × Unanswered answers
+        × Broke (visit_over script.now.setup script.now.schedule) (R.remaining reader.old) (R.remaining reader.new) (W.contents writer.old) (W.contents writer.new) answers) }
     ensures open { result ≢ Err (RunFault.Serve Closed) }
     ensures other { IfErr result IsOfWalk }
 {
@@ -72,7 +74,7 @@ fn walk_script<R: Read, W: Write>(
         Ok(session) => session,
         Err(fault) => return Err(fault),
     };
-    match serve_lines(&mut session, reader, writer) {
+    match serve(&mut session, reader, writer, &mut NoSource) {
         Ok(()) => Ok(()),
         Err(fault) => Err(RunFault::Serve(fault)),
     }

@@ -100,6 +100,13 @@ impl Trail {
         &self.state
     }
 
+    /// The events, in order.
+    pub fn events(&self) -> &[Event]
+        ensures { result.now ≡ self.now.events }
+    {
+        self.events.as_slice()
+    }
+
     /// The records of the events, in order.
     pub fn records(&self) -> &[Record]
         ensures linked { Linked (start self.now.setup) self.now.events result.now (ends self.now) }

@@ -101,6 +101,13 @@ impl Walker {
         self.trail.state()
     }
 
+    /// The trace's events, in order.
+    pub fn events(&self) -> &[Event]
+        ensures { result.now ≡ self.now.events }
+    {
+        self.trail.events()
+    }
+
     /// The records of the trace's events, in order.
     pub fn records(&self) -> &[Record]
         ensures linked { Linked (start self.now.setup) self.now.events result.now (ending self.now) }

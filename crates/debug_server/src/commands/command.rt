@@ -1,12 +1,13 @@
 //! Commands, and what can be wrong with a line.
-ghost use Rattle.std.specs.Prelude.{◌≡◌, map, IfOk};
+ghost use Rattle.std.specs.Prelude.{◌≡◌, map, Ok, IfOk};
 ghost use Rattle.scenario.specs.Names.{place_named};
-ghost use Rattle.debug_server.specs.Commands.{showing, command_of_words, command_of};
+ghost use Rattle.debug_server.specs.Commands.{placed, command_of_words, command_of};
 
+use super::breaks::parse_break;
 use super::verb::{Verb, parse_verb};
 use super::words::words;
 use machine::{PlaceFault, Setup, place_of, read_number};
-use places::Place;
+use places::{Place, Value};
 use std::alloc::{AllocError, Global};
 
 /// The most bytes of a line that is answered.
@@ -19,6 +20,13 @@ pub(crate) enum Command {
     Show(Place),
     Goto(u32),
     Back(u32),
+    On(u32),
+    Watch(Place),
+    Break(Place, Value),
+    Unwatch,
+    Cont,
+    Rcont,
+    Sync,
     Quit,
 }
 
@@ -39,15 +47,29 @@ pub(crate) enum CommandFault {
     Many = 6,
 }
 
-// The command that some words show a place by.
-fn parse_show(setup: &Setup, name: &[&[u8]]) -> Result<Command, CommandFault>
-    ensures { result ≡ showing (place_named setup.now (map (λ w. w.now) name.now)) }
+// The place that some words name.
+pub(crate) fn parse_place(setup: &Setup, name: &[&[u8]]) -> Result<Place, CommandFault>
+    ensures { result ≡ placed (place_named setup.now (map (λ w. w.now) name.now)) (λ p. Ok p) }
 {
     match place_of(setup, name) {
-        Ok(place) => Ok(Command::Show(place)),
+        Ok(place) => Ok(place),
         Err(PlaceFault::Place) => Err(CommandFault::Place),
         Err(PlaceFault::Number) => Err(CommandFault::Number),
     }
+}
+
+// The command that some words show a place by.
+fn parse_show(setup: &Setup, name: &[&[u8]]) -> Result<Command, CommandFault>
+    ensures { result ≡ placed (place_named setup.now (map (λ w. w.now) name.now)) (λ p. Ok (Command.Show p)) }
+{
+    Ok(Command::Show(parse_place(setup, name)?))
+}
+
+// The command that some words watch a place by.
+fn parse_watch(setup: &Setup, name: &[&[u8]]) -> Result<Command, CommandFault>
+    ensures { result ≡ placed (place_named setup.now (map (λ w. w.now) name.now)) (λ p. Ok (Command.Watch p)) }
+{
+    Ok(Command::Watch(parse_place(setup, name)?))
 }
 
 // The command that some words are.
@@ -61,8 +83,15 @@ fn parse_command(setup: &Setup, words: &[&[u8]]) -> Result<Command, CommandFault
         (Verb::Where, []) => Ok(Command::Where),
         (Verb::Quit, []) => Ok(Command::Quit),
         (Verb::Show, name) => parse_show(setup, name),
+        (Verb::Watch, name) => parse_watch(setup, name),
+        (Verb::Break, words) => parse_break(setup, words),
+        (Verb::Unwatch, []) => Ok(Command::Unwatch),
+        (Verb::Cont, []) => Ok(Command::Cont),
+        (Verb::Rcont, []) => Ok(Command::Rcont),
+        (Verb::Sync, []) => Ok(Command::Sync),
         (Verb::Goto, [n]) => Ok(Command::Goto(read_number(n).ok_or(CommandFault::Number)?)),
         (Verb::Back, [n]) => Ok(Command::Back(read_number(n).ok_or(CommandFault::Number)?)),
+        (Verb::On, [n]) => Ok(Command::On(read_number(n).ok_or(CommandFault::Number)?)),
         _ => Err(CommandFault::Command),
     }
 }

@@ -1,0 +1,93 @@
+-- A talk without a source: each answer is none, however many there are.
+use Rattle.std.proofs.Common.{◌≡◌, ◌⊎◌, inl, inr, ℕ, suc, ◌≤◌, List, [], ◌∷◌, ◌++◌, length, Bool, true, false, cond, Option, Some, None, refl, sym, ap, ◌∙◌, subst, arith}
+use Rattle.std.specs.Io.KnownBytes.{Appends, Consumes, IsAtEnd}
+use Rattle.debug_server.specs.Visits.{Visit}
+use Rattle.debug_server.specs.Replies.{Told, Reply, reply}
+use Rattle.debug_server.specs.Lines.{lines_of}
+use Rattle.debug_server.specs.Talks.{asks, told, untold, lacks, Talk, talk, said, silent, output, Asked, Unanswered, unanswered, Served, Broke}
+use Rattle.debug_server.specs.Closing.{Standing}
+
+-- a source that is none answers so each time
+pub none_asked : {S : Type 0} (a c : S) (ts : List Told) → Asked (λ _ answer _. answer ≡ None) a ts c → Unanswered ts
+none_asked a c [] h = tt
+none_asked a c (t ∷ ts) h = (h.1, none_asked h.0 c ts h.2)
+
+pub unanswered_all : (ls : List (List ℕ)) → Unanswered (unanswered ls)
+unanswered_all [] = tt
+unanswered_all (l ∷ ls) = (refl, unanswered_all ls)
+
+length_unanswered : (ls : List (List ℕ)) → length (unanswered ls) ≡ length ls
+length_unanswered [] = refl
+length_unanswered (l ∷ ls) = ap suc (length_unanswered ls)
+
+-- two talks say the same, and quit alike
+pub record Alike (t u : Talk) : Type 0 where
+  pub text : t.text ≡ u.text
+  pub quits : t.quits ≡ u.quits
+
+-- the talk over a line and those behind it, where the source is asked for it or not
+abbrev first : Bool → Visit → List ℕ → List (List ℕ) → List Told → Talk
+first q v l ls ts = cond (lacks q ts) (silent v false None) (said (reply v l (told q ts)).text (cond (reply v l (told q ts)).quits (silent (reply v l (told q ts)).next true (Some (untold q ts))) (talk (reply v l (told q ts)).next ls (untold q ts))))
+
+-- where all of the first answers are used up
+abbrev Same : List (List ℕ) → Type 0
+Same ls = (v : Visit) (ts us : List Told) → Unanswered ts → Unanswered us → length ls ≤ length us → (talk v ls ts).left ≡ Some [] → Alike (talk v ls us) (talk v ls ts)
+
+-- behind a reply
+behind : (r : Reply) (ls : List (List ℕ)) (ts us : List Told) → Same ls → Unanswered ts → Unanswered us → length ls ≤ length us → (q : Bool) → (cond q (silent r.next true (Some ts)) (talk r.next ls ts)).left ≡ Some [] → Alike (said r.text (cond q (silent r.next true (Some us)) (talk r.next ls us))) (said r.text (cond q (silent r.next true (Some ts)) (talk r.next ls ts)))
+behind r ls ts us f a b n true h = record { text = refl; quits = refl }
+behind r ls ts us f a b n false h = let k = f r.next ts us a b n h in record { text = ap (λ x. r.text ++ x) k.text; quits = k.quits }
+
+first_alike : (q : Bool) (v : Visit) (l : List ℕ) (ls : List (List ℕ)) (ts us : List Told) → Same ls → Unanswered ts → Unanswered us → length (l ∷ ls) ≤ length us → (first q v l ls ts).left ≡ Some [] → Alike (first q v l ls us) (first q v l ls ts)
+first_alike false v l ls ts us f a b n h = behind (reply v l None) ls ts us f a b (omega arith) (reply v l None).quits h
+first_alike true v l ls [] us f a b n h = absurd (cc)
+first_alike true v l ls (t ∷ ts) [] f a b n h = absurd (omega arith)
+first_alike true v l ls (t ∷ ts) (u ∷ us) f a b n h =
+    let P : Told → Type 0 = λ x. (first true v l ls (x ∷ ts)).left ≡ Some [] in
+    let Q : Told → Type 0 = λ x. Alike (first true v l ls (u ∷ us)) (first true v l ls (x ∷ ts)) in
+    let R : Told → Type 0 = λ x. Alike (first true v l ls (x ∷ us)) (first true v l ls (None ∷ ts)) in
+    subst Q (sym a.0) (subst R (sym b.0) (behind (reply v l None) ls ts us f a.1 b.1 (omega arith) (reply v l None).quits (subst P a.0 h)))
+
+alike : (ls : List (List ℕ)) → Same ls
+alike [] v ts us a b n h = record { text = refl; quits = refl }
+alike (l ∷ ls) v ts us a b n h = first_alike (asks l) v l ls ts us (λ w xs ys c d m k. alike ls w xs ys c d m k) a b n h
+
+-- What was read and written without a source.
+pub record ServedAlone (v : Visit) (unread unread' held held' : Option (List ℕ)) (q : Bool) : Type 0 where
+  pub taken : List ℕ
+  pub read : Consumes unread unread' taken
+  pub written : Appends held held' (output v (lines_of taken) (unanswered (lines_of taken)))
+  pub quit : q ≡ (talk v (lines_of taken) (unanswered (lines_of taken))).quits
+  pub whole : (q ≡ true) ⊎ IsAtEnd unread'
+
+pub served_alone : (v v' : Visit) (r r' h h' : Option (List ℕ)) (ts : List Told) (q : Bool) → Unanswered ts → Served v r r' h h' ts v' q → ServedAlone v r r' h h' q
+served_alone v v' r r' h h' ts q a s =
+    let ls = lines_of s.taken in
+    let k : Alike (talk v ls (unanswered ls)) (talk v ls ts) = alike ls v ts (unanswered ls) a (unanswered_all ls) (let n = length_unanswered ls in omega (arith, n)) s.asked in
+    record {
+      taken = s.taken;
+      read = s.read;
+      written = subst (Appends h h') (sym k.text) s.written;
+      quit = s.quit ∙ sym k.quits;
+      whole = s.whole;
+    }
+
+-- the same over lists
+pub replied : (v : Visit) (input rest before out : List ℕ) (q : Bool) → before ≡ [] → ServedAlone v (Some input) (Some rest) (Some before) (Some out) q → (taken : List ℕ) × (left : List ℕ) × (input ≡ taken ++ left) × (out ≡ output v (lines_of taken) (unanswered (lines_of taken))) × (((talk v (lines_of taken) (unanswered (lines_of taken))).quits ≡ true) ⊎ (left ≡ []))
+replied v input rest before out q e s = (
+  s.taken,
+  rest,
+  s.read,
+  s.written ∙ ap (λ l. l ++ output v (lines_of s.taken) (unanswered (lines_of s.taken))) e,
+  elim s.whole [ inl t ↦ inl (sym s.quit ∙ t) | inr n ↦ inr n ],
+)
+
+-- of a session that is known
+pub served_at : (t : Standing) (v v' : Visit) (r r' h h' : Option (List ℕ)) (ts : List Told) (q : Bool) → t ≡ record { visit = v; is_closed = false } → Served t.visit r r' h h' ts v' q → Served v r r' h h' ts v' q
+served_at t v v' r r' h h' ts q e s = let P : Standing → Type 0 = λ x. Served x.visit r r' h h' ts v' q in subst P e s
+
+pub broke_at : (t : Standing) (v : Visit) (r r' h h' : Option (List ℕ)) (ts : List Told) → t ≡ record { visit = v; is_closed = false } → Broke t.visit r r' h h' ts → Broke v r r' h h' ts
+broke_at t v r r' h h' ts e s = let P : Standing → Type 0 = λ x. Broke x.visit r r' h h' ts in subst P e s
+
+pub open_at : (t : Standing) (v : Visit) → t ≡ record { visit = v; is_closed = false } → t.is_closed ≡ false
+open_at t v e = ap (λ (x : Standing). x.is_closed) e

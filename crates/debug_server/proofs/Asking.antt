@@ -1,0 +1,205 @@
+-- What is fed, with what the source was asked by then.
+use Rattle.std.proofs.Common.{◌≡◌, ℕ, ◌+◌, ◌==◌, ◌<◌, List, [], ◌∷◌, ◌++◌, length, take, get_or, not, codes, Bool, true, false, Option, None, refl, sym, ap, ◌∙◌, subst}
+use Rattle.std.proofs.KnownBytes.{Appends-nil}
+use Rattle.std.specs.Str.{bytes_eq}
+use Rattle.std.specs.Io.KnownBytes.{Appends, Consumes, Keeps, IsAtEnd}
+use Rattle.debug_server.specs.Visits.{Visit}
+use Rattle.debug_server.specs.Replies.{Told, Reply, reply}
+use Rattle.debug_server.specs.Lines.{lines_of}
+use Rattle.debug_server.specs.Talks.{asks, told, turn, Fits, output, Asked, Served, Broke}
+use Rattle.debug_server.specs.Pending.{IsPending, grown, WritesFront, Gave, FillsBy, BreaksBy, EndsBy, FrontBy, ReadsBy}
+use Rattle.debug_server.proofs.Feeding.{byte_at, ended_at, cut_at, fed_on, fed_quit, cut_on, fills_start}
+use Rattle.debug_server.proofs.Reading.{reads_start, reads_on, served_quit, served_end, broke_read, broke_end, broke_feed, ends_empty, ends_line, front_line, ends_at, front_at}
+
+-- a line that the code tells from the one that asks
+pub silent_line : (line text : List ℕ) (r : Bool) → r ≡ not (bytes_eq line text) → text ≡ codes "sync" → r ≡ true → asks line ≡ false
+unfolding asks
+silent_line line text r e t h = ap (bytes_eq line) (sym t) ∙ no (bytes_eq line text) (sym e ∙ h)
+  where
+    no : (q : Bool) → not q ≡ true → q ≡ false
+    no true k = absurd (cc)
+    no false k = refl
+
+pub asking_line : (line text : List ℕ) (r : Bool) → r ≡ not (bytes_eq line text) → text ≡ codes "sync" → r ≡ false → asks line ≡ true
+unfolding asks
+asking_line line text r e t h = ap (bytes_eq line) (sym t) ∙ yes (bytes_eq line text) (sym e ∙ h)
+  where
+    yes : (q : Bool) → not q ≡ false → q ≡ true
+    yes true k = refl
+    yes false k = absurd (cc)
+
+module _ {S : Type 0} (gives : S → Told → S → Type 0) where
+  -- one list of answers after another
+  pub asked_trans : (a b c : S) (ts us : List Told) → Asked gives a ts b → Asked gives b us c → Asked gives a (ts ++ us) c
+  asked_trans a b c [] us h k = subst (λ (x : S). Asked gives x us c) h k
+  asked_trans a b c (t ∷ ts) us h k = (h.0, h.1, asked_trans h.0 b c ts us h.2 k)
+
+  -- ---- one line
+
+  -- the reply, by what the source gave
+  given : (v : Visit) (line : List ℕ) (s s' : S) (answer : Told) (g : Gave gives line s answer s') → reply v line answer ≡ turn v line g.answers
+  given v line s s' answer g = ap (reply v line) g.same
+
+  pub asked_none : (line : List ℕ) (s : S) → asks line ≡ false → Gave gives line s None s
+  asked_none line s h = record {
+    answers = [];
+    asked = refl;
+    fits = let P : Bool → Type 0 = λ q. Fits q [] in subst P (sym h) tt;
+    same = ap (λ q. told q []) (sym h);
+  }
+
+  pub asked_once : (line : List ℕ) (s s' : S) (answer : Told) → asks line ≡ true → gives s answer s' → Gave gives line s answer s'
+  asked_once line s s' answer h g = record {
+    answers = answer ∷ [];
+    asked = (s', g, refl);
+    fits = let P : Bool → Type 0 = λ q. Fits q (answer ∷ []) in subst P (sym h) tt;
+    same = ap (λ q. told q (answer ∷ [])) (sym h);
+  }
+
+  -- the same answer, lent
+  pub lent_gave : (line : List ℕ) (s s' : S) (t answer : Told) → t ≡ answer → Gave gives line s answer s' → Gave gives line s t s'
+  lent_gave line s s' t answer e g = record { answers = g.answers; asked = g.asked; fits = g.fits; same = e ∙ g.same }
+
+  pub byte_by : (s : S) (v : Visit) (line line' : List ℕ) (b : ℕ) (h : Option (List ℕ)) → IsPending line → (b == 10) ≡ false → line' ≡ grown line b → FillsBy gives s s v (line ++ b ∷ []) h h false v line'
+  byte_by s v line line' b h p e g = record { answers = []; asked = refl; fills = byte_at v line line' b h p e g }
+
+  pub ended_by : (s s' : S) (v v' : Visit) (line text line' : List ℕ) (b : ℕ) (q : Bool) (answer : Told) (h h' : Option (List ℕ)) → IsPending line → b ≡ 10 → text ≡ line → Gave gives text s answer s' → Appends h h' (reply v text answer).text → v' ≡ (reply v text answer).next → q ≡ (reply v text answer).quits → line' ≡ [] → FillsBy gives s s' v (line ++ b ∷ []) h h' q v' line'
+  ended_by s s' v v' line text line' b q answer h h' p e t g a n k l =
+      let same = given v text s s' answer g in
+      record {
+        answers = g.answers;
+        asked = g.asked;
+        fills = ended_at v v' line text line' g.answers b q h h' p g.fits e t
+            (subst (Appends h h') (ap (λ (r : Reply). r.text) same) a)
+            (n ∙ ap (λ (r : Reply). r.next) same)
+            (k ∙ ap (λ (r : Reply). r.quits) same) l;
+      }
+
+  pub cut_by : (s s' : S) (v : Visit) (line text : List ℕ) (b : ℕ) (answer : Told) (h h' : Option (List ℕ)) → IsPending line → b ≡ 10 → text ≡ line → Gave gives text s answer s' → WritesFront h h' (reply v text answer).text → BreaksBy gives s v (line ++ b ∷ []) h h'
+  cut_by s s' v line text b answer h h' p e t g f =
+      let P : List ℕ → Type 0 = λ x. WritesFront h h' x in
+      record {
+        answers = g.answers;
+        mid = s';
+        asked = g.asked;
+        breaks = cut_at v line text g.answers b h h' p g.fits e t (subst P (ap (λ (r : Reply). r.text) (given v text s s' answer g)) f);
+      }
+
+  -- the source gave nothing, so nothing was written
+  pub unasked_by : (s : S) (v : Visit) (bytes : List ℕ) (h : Option (List ℕ)) → BreaksBy gives s v bytes h h
+  unasked_by s v bytes h = record {
+    answers = [];
+    mid = s;
+    asked = refl;
+    breaks = record { front = []; appended = Appends-nil h; begins = λ more others. (output v (lines_of (bytes ++ more)) others, refl) };
+  }
+
+  -- ---- some bytes
+
+  pub fed_none : (s : S) (v : Visit) (line : List ℕ) (h : Option (List ℕ)) → FillsBy gives s s v line h h false v line
+  fed_none s v line h = record { answers = []; asked = refl; fills = fills_start v line h }
+
+  pub fed_more : (s m s' : S) (w v u : Visit) (line bytes now line' : List ℕ) (i : ℕ) (h h' h'' : Option (List ℕ)) (q : Bool) → i < length bytes → FillsBy gives s m w (line ++ take i bytes) h h' false v now → FillsBy gives m s' v (now ++ get_or bytes i 0 ∷ []) h' h'' q u line' → FillsBy gives s s' w (line ++ take (i + 1) bytes) h h'' q u line'
+  fed_more s m s' w v u line bytes now line' i h h' h'' q lt f g = record {
+    answers = f.answers ++ g.answers;
+    asked = asked_trans s m s' f.answers g.answers f.asked g.asked;
+    fills = fed_on w v u line bytes now line' f.answers g.answers i h h' h'' q lt f.fills g.fills;
+  }
+
+  pub fed_past : (s m s' : S) (w v u : Visit) (line bytes now line' : List ℕ) (i : ℕ) (h h' h'' : Option (List ℕ)) → i < length bytes → FillsBy gives s m w (line ++ take i bytes) h h' false v now → FillsBy gives m s' v (now ++ get_or bytes i 0 ∷ []) h' h'' true u line' → FillsBy gives s s' w (line ++ bytes) h h'' true u line'
+  fed_past s m s' w v u line bytes now line' i h h' h'' lt f g = record {
+    answers = f.answers ++ g.answers;
+    asked = asked_trans s m s' f.answers g.answers f.asked g.asked;
+    fills = fed_quit w v u line bytes now line' f.answers g.answers i h h' h'' lt f.fills g.fills;
+  }
+
+  pub cut_more : (s m : S) (w v : Visit) (line bytes now : List ℕ) (i : ℕ) (h h' h'' : Option (List ℕ)) → i < length bytes → FillsBy gives s m w (line ++ take i bytes) h h' false v now → BreaksBy gives m v (now ++ get_or bytes i 0 ∷ []) h' h'' → BreaksBy gives s w (line ++ bytes) h h''
+  cut_more s m w v line bytes now i h h' h'' lt f b = record {
+    answers = f.answers ++ b.answers;
+    mid = b.mid;
+    asked = asked_trans s m b.mid f.answers b.answers f.asked b.asked;
+    breaks = cut_on w v line bytes now f.answers b.answers i h h' h'' lt f.fills b.breaks;
+  }
+
+  -- ---- the last line
+
+  pub ends_none : (s : S) (v : Visit) (line : List ℕ) (h : Option (List ℕ)) → line ≡ [] → EndsBy gives s s v line h h false v
+  ends_none s v line h e = record { answers = []; asked = refl; ends = ends_empty v line h e }
+
+  pub ends_by : (s s' : S) (v v' : Visit) (line : List ℕ) (q : Bool) (answer : Told) (h h' : Option (List ℕ)) → IsPending line → 0 < length line → Gave gives line s answer s' → Appends h h' (reply v line answer).text → v' ≡ (reply v line answer).next → q ≡ (reply v line answer).quits → EndsBy gives s s' v line h h' q v'
+  ends_by s s' v v' line q answer h h' p some g a n k =
+      let same = given v line s s' answer g in
+      record {
+        answers = g.answers;
+        asked = g.asked;
+        ends = ends_line v v' line g.answers h h' q p some g.fits
+            (subst (Appends h h') (ap (λ (r : Reply). r.text) same) a)
+            (n ∙ ap (λ (r : Reply). r.next) same)
+            (k ∙ ap (λ (r : Reply). r.quits) same);
+      }
+
+  pub front_by : (s s' : S) (v : Visit) (line : List ℕ) (answer : Told) (h h' : Option (List ℕ)) → IsPending line → 0 < length line → Gave gives line s answer s' → WritesFront h h' (reply v line answer).text → FrontBy gives s v line h h'
+  front_by s s' v line answer h h' p some g f =
+      let P : List ℕ → Type 0 = λ x. WritesFront h h' x in
+      record {
+        answers = g.answers;
+        mid = s';
+        asked = g.asked;
+        front = front_line v line g.answers h h' p some g.fits (subst P (ap (λ (r : Reply). r.text) (given v line s s' answer g)) f);
+      }
+
+  pub front_none : (s : S) (v : Visit) (line : List ℕ) (h : Option (List ℕ)) → FrontBy gives s v line h h
+  front_none s v line h = record { answers = []; mid = s; asked = refl; front = record { front = []; rest = output v (lines_of line) []; whole = refl; appended = Appends-nil h } }
+
+  -- ---- reads
+
+  pub read_none : (s : S) (v : Visit) (r h : Option (List ℕ)) → ReadsBy gives s s v r r h h v []
+  read_none s v r h = record { answers = []; asked = refl; reads = reads_start v r h }
+
+  pub read_more : (s m s' : S) (w v u : Visit) (r r' r'' h h' h'' : Option (List ℕ)) (line bytes line' : List ℕ) → ReadsBy gives s m w r r' h h' v line → Consumes r' r'' bytes → FillsBy gives m s' v (line ++ bytes) h' h'' false u line' → ReadsBy gives s s' w r r'' h h'' u line'
+  read_more s m s' w v u r r' r'' h h' h'' line bytes line' f c g = record {
+    answers = f.answers ++ g.answers;
+    asked = asked_trans s m s' f.answers g.answers f.asked g.asked;
+    reads = reads_on w v u r r' r'' h h' h'' f.answers g.answers line bytes line' f.reads c g.fills;
+  }
+
+  -- what a conversation ensures at Ok
+  abbrev pub Ok_by : S → S → Visit → Option (List ℕ) → Option (List ℕ) → Option (List ℕ) → Option (List ℕ) → Visit → Bool → Type 0
+  Ok_by s s' w r r' h h' u q = (answers : List Told) × Asked gives s answers s' × Served w r r' h h' answers u q
+
+  -- and at Err
+  abbrev pub Err_by : S → Visit → Option (List ℕ) → Option (List ℕ) → Option (List ℕ) → Option (List ℕ) → Type 0
+  Err_by s w r r' h h' = (answers : List Told) × (mid : S) × Asked gives s answers mid × Broke w r r' h h' answers
+
+  pub quit_by : (s m s' : S) (w v u : Visit) (r r' r'' h h' h'' : Option (List ℕ)) (line bytes line' : List ℕ) → ReadsBy gives s m w r r' h h' v line → Consumes r' r'' bytes → FillsBy gives m s' v (line ++ bytes) h' h'' true u line' → Ok_by s s' w r r'' h h'' u true
+  quit_by s m s' w v u r r' r'' h h' h'' line bytes line' f c g = (
+    f.answers ++ g.answers,
+    asked_trans s m s' f.answers g.answers f.asked g.asked,
+    served_quit w v u r r' r'' h h' h'' f.answers g.answers line bytes line' f.reads c g.fills,
+  )
+
+  pub end_by : (s m s' : S) (w v u : Visit) (r r' r'' h h' h'' : Option (List ℕ)) (line text : List ℕ) (q : Bool) → ReadsBy gives s m w r r' h h' v line → Consumes r' r'' [] → IsAtEnd r'' → text ≡ line → EndsBy gives m s' v text h' h'' q u → Ok_by s s' w r r'' h h'' u q
+  end_by s m s' w v u r r' r'' h h' h'' line text q f c e t g = (
+    f.answers ++ g.answers,
+    asked_trans s m s' f.answers g.answers f.asked g.asked,
+    served_end w v u r r' r'' h h' h'' f.answers g.answers line q f.reads c e (ends_at v u line text g.answers h' h'' q t g.ends),
+  )
+
+  pub broke_by : (s m : S) (w v : Visit) (r r' r'' h h' : Option (List ℕ)) (line : List ℕ) → ReadsBy gives s m w r r' h h' v line → Keeps r' r'' → Err_by s w r r'' h h'
+  broke_by s m w v r r' r'' h h' line f k = (f.answers, m, f.asked, broke_read w v r r' r'' h h' f.answers line f.reads k)
+
+  pub broke_end_by : (s m : S) (w v : Visit) (r r' r'' h h' h'' : Option (List ℕ)) (line text : List ℕ) → ReadsBy gives s m w r r' h h' v line → Consumes r' r'' [] → text ≡ line → FrontBy gives m v text h' h'' → Err_by s w r r'' h h''
+  broke_end_by s m w v r r' r'' h h' h'' line text f c t g = (
+    f.answers ++ g.answers,
+    g.mid,
+    asked_trans s m g.mid f.answers g.answers f.asked g.asked,
+    broke_end w v r r' r'' h h' h'' f.answers g.answers line f.reads c (front_at v line text g.answers h' h'' t g.front),
+  )
+
+  pub broke_feed_by : (s m : S) (w v : Visit) (r r' r'' h h' h'' : Option (List ℕ)) (line bytes : List ℕ) → ReadsBy gives s m w r r' h h' v line → Consumes r' r'' bytes → BreaksBy gives m v (line ++ bytes) h' h'' → Err_by s w r r'' h h''
+  broke_feed_by s m w v r r' r'' h h' h'' line bytes f c g = (
+    f.answers ++ g.answers,
+    g.mid,
+    asked_trans s m g.mid f.answers g.answers f.asked g.asked,
+    broke_feed w v r r' r'' h h' h'' f.answers g.answers line bytes f.reads c g.breaks,
+  )

@@ -1,0 +1,35 @@
+-- What a run and the trace of a source have in common, and what is refused of the rest.
+use Rattle.std.specs.Prelude.{ℕ, ◌+◌, ◌==◌, ◌&&◌, List, [], ◌∷◌, Bool, true, false, if◌then◌else◌, Option, Some, None, is_some}
+use Rattle.opcodes.specs.declared.choice.Choice.{Choice}
+use Rattle.opcodes.specs.declared.choice.Choice.TheVariants.{Full, Short, Eio}
+use Rattle.scenario.specs.declared.event.Event.{Event}
+use Rattle.scenario.specs.declared.event.Event.TheVariants.{Step, Take, Sleep, Issue, Finish, Expire, Tick}
+use Rattle.machine.specs.declared.whole.Machine.{Machine}
+use Rattle.machine.specs.Steps.{refusal, after}
+
+abbrev pub same_choice : Choice → Choice → Bool
+same_choice Full Full = true
+same_choice (Short a) (Short b) = a == b
+same_choice Eio Eio = true
+same_choice _ _ = false
+
+abbrev pub same_event : Event → Event → Bool
+same_event (Step a) (Step b) = a == b
+same_event (Take a) (Take b) = a == b
+same_event Sleep Sleep = true
+same_event (Issue a) (Issue b) = a == b
+same_event (Finish a c) (Finish b d) = (a == b) && same_choice c d
+same_event (Expire a) (Expire b) = a == b
+same_event (Tick a) (Tick b) = a == b
+same_event _ _ = false
+
+-- The least index, of those from i on, at which a trace differs from another or at which that one ends.
+unfoldable pub torn_from : ℕ → List Event → List Event → Option ℕ
+torn_from i [] fs = None
+torn_from i (e ∷ es) [] = Some i
+torn_from i (e ∷ es) (f ∷ fs) = if same_event e f then torn_from (i + 1) es fs else Some i
+
+-- The least index, of those from i on, of an event that is refused in its turn.
+unfoldable pub refused_from : ℕ → Machine → List Event → Option ℕ
+refused_from i m [] = None
+refused_from i m (e ∷ es) = if is_some (refusal m e) then Some i else refused_from (i + 1) (after m e) es

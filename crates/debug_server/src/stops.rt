@@ -1,0 +1,110 @@
+//! Replies to the commands that set stops and walk to them.
+ghost use Rattle.std.specs.Prelude.{◌≡◌, ◌≤◌, length, IfOk, OnOk, OnErr};
+ghost use Rattle.inverse_log.specs.Walks.{jumped};
+ghost use Rattle.watches.specs.Stops.{earlier_of, later_of};
+ghost use Rattle.watches.specs.Watching.{nothing};
+ghost use Rattle.debug_server.specs.Visits.{minding};
+ghost use Rattle.debug_server.specs.Replies.{watching_text, watches as watched_by, breaks as broken_by, stops_on, stops_back};
+
+use crate::commands::CommandFault;
+use crate::texts::{breaks_line, fault_line, stop_line, watching_line};
+use crate::visitor::Visitor;
+use inverse_log::Walker;
+use places::{Place, Value};
+use std::alloc::{AllocError, Global};
+use watches::{LIMIT, Stop, back_to, cont, earlier};
+
+// Watches a place. An `Err` changes nothing: the text is made first.
+pub(crate) fn watch(
+    alloc: Global,
+    visitor: &mut Visitor,
+    place: Place,
+) -> Result<Vec<u8>, AllocError>
+    ensures text { IfOk result (λ text. text.items ≡ (watched_by visitor.old place).text) }
+    ensures next { OnOk result (visitor.new ≡ (watched_by visitor.old place).next) }
+    ensures err { OnErr result (visitor.new ≡ visitor.old) }
+{
+    if visitor.watches.places().len() >= LIMIT {
+        return fault_line(alloc, CommandFault::Many);
+    }
+    let text = watching_line(alloc, visitor.watches.count_with(place))?;
+    visitor.watches.watch(place)?;
+    Ok(text)
+}
+
+// Stops at a value of a place from now on. An `Err` changes nothing: the text is made first.
+pub(crate) fn break_at(
+    alloc: Global,
+    visitor: &mut Visitor,
+    place: Place,
+    value: Value,
+) -> Result<Vec<u8>, AllocError>
+    ensures text { IfOk result (λ text. text.items ≡ (broken_by visitor.old place value).text) }
+    ensures next { OnOk result (visitor.new ≡ (broken_by visitor.old place value).next) }
+    ensures err { OnErr result (visitor.new ≡ visitor.old) }
+{
+    let count = visitor.watches.breaks().len();
+    if count >= LIMIT {
+        return fault_line(alloc, CommandFault::Many);
+    }
+    let text = breaks_line(alloc, count + 1)?;
+    visitor.watches.break_at(place, value)?;
+    Ok(text)
+}
+
+// Takes all watches and breaks away.
+pub(crate) fn unwatch(alloc: Global, visitor: &mut Visitor) -> Result<Vec<u8>, AllocError>
+    ensures text { IfOk result (λ text. text.items ≡ watching_text 0) }
+    ensures next { OnOk result (visitor.new ≡ minding visitor.old nothing) }
+    ensures err { OnErr result (visitor.new ≡ visitor.old) }
+{
+    let text = watching_line(alloc, 0)?;
+    visitor.watches.clear();
+    Ok(text)
+}
+
+// Goes to a moment by a jump.
+pub(crate) fn jump_to(walker: &mut Walker, moment: usize) -> Result<(), AllocError>
+    requires { moment ≤ length walker.old.events }
+    ensures moved { OnOk result (walker.new ≡ jumped walker.old moment) }
+    ensures err { OnErr result (walker.new ≡ walker.old) }
+{
+    match walker.goto(moment) {
+        Ok(()) => Ok(()),
+        Err(_) => Err(AllocError),
+    }
+}
+
+// Walks back to where a watch stops it. An `Err` changes nothing: the text is made first.
+pub(crate) fn stop_back(alloc: Global, visitor: &mut Visitor) -> Result<Vec<u8>, AllocError>
+    ensures text { IfOk result (λ text. text.items ≡ (stops_back visitor.old (earlier_of visitor.old.walk visitor.old.watching.places)).text) }
+    ensures next { OnOk result (visitor.new ≡ (stops_back visitor.old (earlier_of visitor.old.walk visitor.old.watching.places)).next) }
+    ensures err { OnErr result (visitor.new ≡ visitor.old) }
+{
+    let stop = earlier(&visitor.walker, &visitor.watches);
+    let text = stop_line(alloc, stop, visitor.walker.len())?;
+    let moment = match stop {
+        Stop::Change(moment) => moment,
+        _ => 0,
+    };
+    jump_to(&mut visitor.walker, moment)?;
+    Ok(text)
+}
+
+// Walks on to where a watch or a break stops it. Where memory for the text is refused it goes back to
+// where it was, which takes none.
+pub(crate) fn stop_on(alloc: Global, visitor: &mut Visitor) -> Result<Vec<u8>, AllocError>
+    ensures text { IfOk result (λ text. text.items ≡ (stops_on visitor.old (later_of visitor.old.walk visitor.old.watching)).text) }
+    ensures next { OnOk result (visitor.new ≡ (stops_on visitor.old (later_of visitor.old.walk visitor.old.watching)).next) }
+    ensures err { OnErr result (visitor.new ≡ visitor.old) }
+{
+    let (from, len) = (visitor.walker.at(), visitor.walker.len());
+    let stop = cont(&mut visitor.walker, &visitor.watches)?;
+    match stop_line(alloc, stop, len) {
+        Ok(text) => Ok(text),
+        Err(_) => {
+            back_to(&mut visitor.walker, from);
+            Err(AllocError)
+        }
+    }
+}

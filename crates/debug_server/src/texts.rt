@@ -1,0 +1,96 @@
+//! The texts of replies.
+ghost use Rattle.std.specs.Prelude.{◌≡◌, codes, IfOk};
+ghost use Rattle.debug_server.specs.Replies.{fault_text, shown_text, at_text, watching_text, breaks_text, stop_text, synced_text, torn_text, event_text};
+
+use crate::commands::CommandFault;
+use places::Value;
+use std::alloc::{AllocError, Global};
+use watches::Stop;
+
+// A position of a run of so many events.
+pub(crate) fn at_line(alloc: Global, at: usize, len: usize) -> Result<Vec<u8>, AllocError>
+    ensures { IfOk result (λ v. v.items ≡ at_text at len) }
+{
+    let text = format!(in alloc; "at {at} of {len}\n")?;
+    Ok(text.into_bytes())
+}
+
+pub(crate) fn fault_line(alloc: Global, fault: CommandFault) -> Result<Vec<u8>, AllocError>
+    ensures { IfOk result (λ v. v.items ≡ fault_text fault) }
+{
+    let text = match fault {
+        CommandFault::Command => "fault 1 command\n",
+        CommandFault::Number => "fault 2 number\n",
+        CommandFault::Place => "fault 3 place\n",
+        CommandFault::Long => "fault 4 long\n",
+        CommandFault::Value => "fault 5 value\n",
+        CommandFault::Many => "fault 6 many\n",
+    };
+    Vec::from_slice(alloc, text.as_bytes())
+}
+
+pub(crate) fn value_line(alloc: Global, value: Option<Value>) -> Result<Vec<u8>, AllocError>
+    ensures { IfOk result (λ v. v.items ≡ shown_text value) }
+{
+    match value {
+        None => Vec::from_slice(alloc, b"absent\n"),
+        Some(value) => {
+            let mut text = Vec::from_slice(alloc, value.text(alloc)?.as_slice())?;
+            text.extend_from_slice(b"\n")?;
+            Ok(text)
+        }
+    }
+}
+
+// How many watches there are.
+pub(crate) fn watching_line(alloc: Global, count: usize) -> Result<Vec<u8>, AllocError>
+    ensures { IfOk result (λ v. v.items ≡ watching_text count) }
+{
+    let text = format!(in alloc; "watching {count}\n")?;
+    Ok(text.into_bytes())
+}
+
+// How many breaks there are.
+pub(crate) fn breaks_line(alloc: Global, count: usize) -> Result<Vec<u8>, AllocError>
+    ensures { IfOk result (λ v. v.items ≡ breaks_text count) }
+{
+    let text = format!(in alloc; "breaks {count}\n")?;
+    Ok(text.into_bytes())
+}
+
+// Where a walk through a run of so many events stopped.
+pub(crate) fn stop_line(alloc: Global, stop: Stop, len: usize) -> Result<Vec<u8>, AllocError>
+    ensures { IfOk result (λ v. v.items ≡ stop_text len stop) }
+{
+    let text = match stop {
+        Stop::Change(moment) => format!(in alloc; "change at {moment}\n")?,
+        Stop::Met(moment) => format!(in alloc; "met at {moment}\n")?,
+        Stop::Start => format!(in alloc; "start at 0\n")?,
+        Stop::End => format!(in alloc; "end at {len}\n")?,
+    };
+    Ok(text.into_bytes())
+}
+
+// How many events there are now.
+pub(crate) fn synced_line(alloc: Global, count: usize) -> Result<Vec<u8>, AllocError>
+    ensures { IfOk result (λ v. v.items ≡ synced_text count) }
+{
+    let text = format!(in alloc; "synced {count}\n")?;
+    Ok(text.into_bytes())
+}
+
+// Where the run and the trace of a source part.
+pub(crate) fn torn_line(alloc: Global, index: usize) -> Result<Vec<u8>, AllocError>
+    ensures { IfOk result (λ v. v.items ≡ torn_text index) }
+{
+    let text = format!(in alloc; "refused 3 torn {index}\n")?;
+    Ok(text.into_bytes())
+}
+
+// Which event of a source is refused.
+pub(crate) fn event_line(alloc: Global, index: usize) -> Result<Vec<u8>, AllocError>
+    ensures { IfOk result (λ v. v.items ≡ event_text index) }
+{
+    let text = format!(in alloc; "refused 4 event {index}\n")?;
+    Ok(text.into_bytes())
+}

@@ -1,0 +1,114 @@
+-- Where a walk stops. All is said of moments: what stood in a place before an event, and what stands there after it.
+use Rattle.std.specs.Prelude.{◌≡◌, ℕ, zero, suc, ◌+◌, ◌-◌, ◌<◌, ◌≤◌, List, [], ◌∷◌, length, Bool, not, ◌&&◌, if◌then◌else◌, is_some, Option, Some, None, unwrap_or}
+use Rattle.std.specs.List.{list_any, range_with_len}
+use Rattle.places.specs.declared.place.Place.{Place}
+use Rattle.places.specs.declared.value.Change.{Change as Noted}
+use Rattle.places.specs.View.{View, named}
+use Rattle.machine.specs.Whole.{view}
+use Rattle.machine.specs.Runs.{moment}
+use Rattle.inverse_log.specs.Walks.{Walk}
+use Rattle.watches.specs.declared.watched.Break.{Break}
+use Rattle.watches.specs.declared.stopping.Stop.{Stop}
+use Rattle.watches.specs.declared.stopping.Stop.TheVariants.{Change, Met, Start, End}
+use Rattle.watches.specs.Watching.{Watching}
+use Rattle.watches.specs.Sameness.{same}
+
+-- whether a record names a place
+abbrev pub names : List Noted → Place → Bool
+names cs p = is_some (named cs p)
+
+-- what stands in each place at a moment
+abbrev pub seen : Walk → ℕ → View
+seen w m = view (moment w.setup w.events m)
+
+-- ---- which moment it is
+
+-- whether one of the places differs
+abbrev pub changes : View → View → List Place → Bool
+changes old new ps = list_any (λ p. not (same (old p) (new p))) ps
+
+-- whether the value of one of the breaks stands in its place that didn't before
+abbrev pub meets : View → View → List Break → Bool
+meets old new bs = list_any (λ b. same (new b.place) (Some b.value) && not (same (old b.place) (Some b.value))) bs
+
+-- where the event after a moment stops a walk back, if it does
+abbrev pub stop_before : Walk → List Place → ℕ → Option Stop
+stop_before w ps m = if changes (seen w m) (seen w (m + 1)) ps then Some (Change m) else None
+
+-- where the event before a moment stops a walk on, if it does: by a change, or else by a break that is met
+abbrev pub stop_behind : Walk → Watching → ℕ → Option Stop
+stop_behind w v m =
+    if changes (seen w (m - 1)) (seen w m) v.places then Some (Change m)
+    else if meets (seen w (m - 1)) (seen w m) v.breaks then Some (Met m)
+    else None
+
+-- the first of some moments that stops, or else where the walk ends
+abbrev pub first_stop : (ℕ → Option Stop) → Stop → List ℕ → Stop
+first_stop f otherwise [] = otherwise
+first_stop f otherwise (m ∷ ms) = unwrap_or (f m) (first_stop f otherwise ms)
+
+-- the moments before one, the latest first
+abbrev pub moments_before : ℕ → List ℕ
+moments_before zero = []
+moments_before (suc m) = m ∷ moments_before m
+
+-- where a walk back stops
+unfoldable pub earlier_of : Walk → List Place → Stop
+earlier_of w ps = first_stop (stop_before w ps) Start (moments_before w.at)
+
+-- where a walk on stops
+unfoldable pub later_of : Walk → Watching → Stop
+later_of w v = first_stop (stop_behind w v) End (range_with_len (w.at + 1) (length w.events - w.at))
+
+-- ---- what is said by it
+
+-- none of the places differs
+abbrev pub Stays : View → View → List Place → Type 0
+Stays old new [] = Unit {0}
+Stays old new (p ∷ ps) = (old p ≡ new p) × Stays old new ps
+
+-- no break's value stands in its place that didn't before
+abbrev pub NoneMet : View → View → List Break → Type 0
+NoneMet old new [] = Unit {0}
+NoneMet old new (b ∷ bs) = (new b.place ≡ Some b.value → old b.place ≡ Some b.value) × NoneMet old new bs
+
+-- the event after a moment changes none of the places
+abbrev pub Unchanged : Walk → List Place → ℕ → Type 0
+Unchanged w ps m = Stays (seen w m) (seen w (m + 1)) ps
+
+-- the event after a moment meets none of the breaks
+abbrev pub Unmet : Walk → List Break → ℕ → Type 0
+Unmet w bs m = NoneMet (seen w m) (seen w (m + 1)) bs
+
+-- The greatest moment before the position whose event changes one of the places; or the start, where there is none.
+abbrev pub IsEarlier : Walk → List Place → Stop → Type 0
+IsEarlier w ps (Change m) = (m < w.at) × (Unchanged w ps m → ⊥) × ((k : ℕ) → m < k → k < w.at → Unchanged w ps k)
+IsEarlier w ps Start = (k : ℕ) → k < w.at → Unchanged w ps k
+IsEarlier w ps (Met m) = ⊥
+IsEarlier w ps End = ⊥
+
+-- from one moment on up to another nothing stops
+abbrev pub Quiet : Walk → Watching → ℕ → ℕ → Type 0
+Quiet w v from to = (k : ℕ) → from ≤ k → k < to → Unchanged w v.places k × Unmet w v.breaks k
+
+-- The least moment past the position to which an event has changed one of the places, or else met one of the breaks; or the end, where there is none.
+abbrev pub IsLater : Walk → Watching → Stop → Type 0
+IsLater w v (Change m) = (w.at < m) × (m ≤ length w.events) × (Unchanged w v.places (m - 1) → ⊥) × Quiet w v w.at (m - 1)
+IsLater w v (Met m) = (w.at < m) × (m ≤ length w.events) × Unchanged w v.places (m - 1) × (Unmet w v.breaks (m - 1) → ⊥) × Quiet w v w.at (m - 1)
+IsLater w v End = Quiet w v w.at (length w.events)
+IsLater w v Start = ⊥
+
+-- whether the event before the position stops there
+abbrev pub IsStop : Walk → Watching → Option Stop → Type 0
+IsStop w v None = Unchanged w v.places (w.at - 1) × Unmet w v.breaks (w.at - 1)
+IsStop w v (Some (Change m)) = (m ≡ w.at) × (Unchanged w v.places (w.at - 1) → ⊥)
+IsStop w v (Some (Met m)) = (m ≡ w.at) × Unchanged w v.places (w.at - 1) × (Unmet w v.breaks (w.at - 1) → ⊥)
+IsStop w v (Some Start) = ⊥
+IsStop w v (Some End) = ⊥
+
+-- the moment of a stop
+abbrev pub position_of : Walk → Stop → ℕ
+position_of w (Change m) = m
+position_of w (Met m) = m
+position_of w Start = 0
+position_of w End = length w.events

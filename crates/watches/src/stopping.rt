@@ -1,0 +1,177 @@
+//! Walks to where a watch or a break stops.
+ghost use Rattle.std.specs.Prelude.{◌≡◌, ◌≢◌, ◌+◌, ◌-◌, ◌<◌, ◌≤◌, ◌↔◌, true, false, Some, None, length, IsTrue, IfOk, OnOk, OnErr};
+ghost use Rattle.std.specs.List.{list_any};
+ghost use Rattle.places.specs.View.{View, Exact, named};
+ghost use Rattle.machine.specs.Whole.{view};
+ghost use Rattle.inverse_log.specs.Walks.{jumped, moved};
+ghost use Rattle.watches.specs.Stops.{Stays, NoneMet, names, seen, earlier_of, later_of, IsEarlier, IsLater, IsStop, position_of};
+
+use crate::watched::{Break, Watches};
+use inverse_log::Walker;
+use machine::State;
+use places::{Place, Record};
+use std::alloc::AllocError;
+
+/// Where a walk stops.
+#[derive(Clone, Copy, Debug, PartialEq, Eq)]
+pub enum Stop {
+    /// A watched place changes at this moment.
+    Change(usize),
+    /// A break's value is met at this moment.
+    Met(usize),
+    Start,
+    End,
+}
+
+/// The latest earlier moment whose event changes a watched place, or the start. It is found in the
+/// records, without moving.
+pub fn earlier(walker: &Walker, watches: &Watches) -> Stop
+    ensures stop { result ≡ earlier_of walker.now watches.now.places }
+    ensures meaning { IsEarlier walker.now watches.now.places result }
+{
+    earlier_among(walker, watches.places())
+}
+
+/// Goes back to the latest earlier moment whose event changes a watched place, or to the start. It is
+/// found in the records, without moving, and reached by a jump.
+pub fn rcont(walker: &mut Walker, watches: &Watches) -> Result<Stop, AllocError>
+    ensures stop { IfOk result (λ stop. stop ≡ earlier_of walker.old watches.now.places) }
+    ensures meaning { IfOk result (IsEarlier walker.old watches.now.places) }
+    ensures lands { IfOk result (λ stop. walker.new ≡ jumped walker.old (position_of walker.old stop)) }
+    ensures err { OnErr result (walker.new ≡ walker.old) }
+{
+    let stop = earlier(walker, watches);
+    let moment = match stop {
+        Stop::Change(moment) => moment,
+        _ => 0,
+    };
+    match walker.goto(moment) {
+        Ok(()) => Ok(stop),
+        Err(_) => Err(AllocError),
+    }
+}
+
+/// Goes on to the first later moment at which a watched place has changed, or else a break's value is met
+/// that was not a moment before, or to the end. Where memory is refused it goes back to where it was.
+pub fn cont(walker: &mut Walker, watches: &Watches) -> Result<Stop, AllocError>
+    ensures stop { IfOk result (λ stop. stop ≡ later_of walker.old watches.now) }
+    ensures meaning { IfOk result (IsLater walker.old watches.now) }
+    ensures lands { IfOk result (λ stop. walker.new ≡ moved walker.old (position_of walker.old stop)) }
+    ensures err { OnErr result (walker.new ≡ walker.old) }
+{
+    let (from, len) = (walker.at(), walker.len());
+    for _moment in from..len {
+        if let Err(_) = walker.on() {
+            back_to(walker, from);
+            return Err(AllocError);
+        }
+        if let Some(stop) = stop_here(walker, watches) {
+            return Ok(stop);
+        }
+    }
+    Ok(Stop::End)
+}
+
+// The latest earlier moment whose event changes one of the places.
+fn earlier_among(walker: &Walker, places: &[Place]) -> Stop
+    ensures { IsEarlier walker.now places.now result }
+{
+    let mut moment = walker.at();
+    while moment > 0 {
+        moment -= 1;
+        if names_any(record_of(walker, moment), places) {
+            return Stop::Change(moment);
+        }
+    }
+    Stop::Start
+}
+
+// The record of the event after a moment.
+fn record_of(walker: &Walker, moment: usize) -> &Record
+    requires { moment < length walker.now.events }
+    ensures { Exact (seen walker.now moment) (seen walker.now (moment + 1)) result.now }
+{
+    // A trace has so few events that the index fits.
+    let _len = walker.len();
+    &walker.records()[moment]
+}
+
+// Whether the walker stops where it has come to by one event.
+fn stop_here(walker: &Walker, watches: &Watches) -> Option<Stop>
+    requires { 0 < walker.now.at }
+    ensures { IsStop walker.now watches.now result }
+{
+    let moment = walker.at();
+    let past = record_of(walker, moment - 1);
+    if names_any(past, watches.places()) {
+        return Some(Stop::Change(moment));
+    }
+    if meets_any(walker.state(), past, watches.breaks()) {
+        return Some(Stop::Met(moment));
+    }
+    None
+}
+
+/// Back to an earlier moment by single steps that aren't counted. It takes no memory.
+pub fn back_to(walker: &mut Walker, moment: usize)
+    requires { moment ≤ walker.old.at }
+    ensures { walker.new ≡ moved walker.old moment }
+{
+    for _step in 0..walker.at() - moment {
+        walker.back();
+    }
+}
+
+// Whether a record names one of the places.
+fn names_any(past: &Record, places: &[Place]) -> bool
+    ensures { result ≡ list_any (names past.now) places.now }
+{
+    places.iter().any(|place| names_place(past, *place))
+}
+
+// Whether a record names a place.
+fn names_place(past: &Record, place: Place) -> bool
+    ensures { result ≡ names past.now place }
+{
+    let mut changes = past.changes();
+    while let Some(change) = changes.next() {
+        if change.place.is(&place) {
+            return true;
+        }
+    }
+    false
+}
+
+// Whether the event of a record brought a place to the value of one of the breaks.
+fn meets_any(state: &State, past: &Record, breaks: &[Break]) -> bool
+    ensures no { result ≡ false → (old : View) → Exact old (view state.now) past.now → NoneMet old (view state.now) breaks.now }
+    ensures yes { result ≡ true → (old : View) → Exact old (view state.now) past.now → NoneMet old (view state.now) breaks.now → ⊥ }
+{
+    for stop in breaks {
+        if meets(state, past, stop) {
+            return true;
+        }
+    }
+    false
+}
+
+// Whether the event of a record brought a place to the value of a break.
+fn meets(state: &State, past: &Record, stop: &Break) -> bool
+    ensures no { result ≡ false → (old : View) → Exact old (view state.now) past.now → view state.now stop.now.place ≡ Some stop.now.value → old stop.now.place ≡ Some stop.now.value }
+    ensures yes { result ≡ true → (old : View) → Exact old (view state.now) past.now → (view state.now stop.now.place ≡ Some stop.now.value → old stop.now.place ≡ Some stop.now.value) → ⊥ }
+{
+    if !names_place(past, stop.place) {
+        return false;
+    }
+    has_value(state, stop)
+}
+
+// Whether the value of a break stands in its place.
+fn has_value(state: &State, stop: &Break) -> bool
+    ensures { IsTrue result ↔ (view state.now stop.now.place ≡ Some stop.now.value) }
+{
+    match state.value(stop.place) {
+        Some(value) => value.is(&stop.value),
+        None => false,
+    }
+}

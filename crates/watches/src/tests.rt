@@ -1,0 +1,68 @@
+//! Each public call once, with ample memory.
+
+use crate::{Stop, Watches, cont, rcont};
+use inverse_log::Walker;
+use machine::{Event, Setup};
+use places::{Items, Place, Value};
+use std::alloc::Global;
+use std::test::Fail;
+
+fn quiet(alloc: Global) -> Setup {
+    Setup {
+        entries: 1,
+        cq: None,
+        sqpoll: false,
+        submit_all: false,
+        base: 0,
+        memory: Items::new(alloc),
+        objects: Items::new(alloc),
+        fds: Items::new(alloc),
+        threads: Items::new(alloc),
+    }
+}
+
+// A walker at the start of ticks of 1, 0 and 2.
+fn over_ticks(alloc: Global) -> Result<Walker, Fail> {
+    let mut walker = Walker::new(alloc, &quiet(alloc))?;
+    walker.extend(&[Event::Tick(1), Event::Tick(0), Event::Tick(2)])?;
+    Ok(walker)
+}
+
+#[test]
+fn stops_at_changes_both_ways(rt: HostRuntime) -> Result<(), Fail> {
+    let mut walker = over_ticks(rt.alloc())?;
+    let mut watches = Watches::new(rt.alloc());
+    watches.watch(Place::Clock)?;
+    assert_eq!(rt; cont(&mut walker, &watches)?, Stop::Change(1));
+    assert_eq!(rt; cont(&mut walker, &watches)?, Stop::Change(3));
+    assert_eq!(rt; cont(&mut walker, &watches)?, Stop::End);
+    assert_eq!(rt; rcont(&mut walker, &watches)?, Stop::Change(2));
+    assert_eq!(rt; walker.at(), 2);
+    assert_eq!(rt; rcont(&mut walker, &watches)?, Stop::Change(0));
+    assert_eq!(rt; rcont(&mut walker, &watches)?, Stop::Start);
+    assert_eq!(rt; walker.walked(), 3);
+    Ok(())
+}
+
+#[test]
+fn stops_where_a_break_is_met(rt: HostRuntime) -> Result<(), Fail> {
+    let mut walker = over_ticks(rt.alloc())?;
+    let mut watches = Watches::new(rt.alloc());
+    assert_eq!(rt; watches.break_at(Place::Clock, Value::Number(3))?, 1);
+    assert_eq!(rt; cont(&mut walker, &watches)?, Stop::Met(3));
+    assert_eq!(rt; cont(&mut walker, &watches)?, Stop::End);
+    assert_eq!(rt; rcont(&mut walker, &watches)?, Stop::Start);
+    Ok(())
+}
+
+#[test]
+fn a_watch_is_not_added_twice(rt: HostRuntime) -> Result<(), Fail> {
+    let mut watches = Watches::new(rt.alloc());
+    assert_eq!(rt; watches.watch(Place::Clock)?, 1);
+    assert_eq!(rt; watches.watch(Place::Clock)?, 1);
+    assert_eq!(rt; watches.places().len(), 1);
+    watches.clear();
+    assert_eq!(rt; watches.places().len(), 0);
+    assert_eq!(rt; watches.breaks().len(), 0);
+    Ok(())
+}
