@@ -115,18 +115,19 @@ fn taken_count(entries: &[Sqe], submit_all: bool) -> usize
 #[cfg(test)]
 mod tests {
     use super::*;
+    use std::alloc::Global;
 
-    fn entry(opcode: u8, user_data: u64) -> Sqe {
+    fn entry(opcode: u8, flags: u8) -> Sqe {
         Sqe {
             opcode,
-            flags: 0,
+            flags,
             ioprio: 0,
             fd: 0,
             off: 0,
             addr: 0,
             len: 0,
             operation_flags: 0,
-            user_data,
+            user_data: 0,
             buf_index: 0,
             personality: 0,
             splice_fd_in: 0,
@@ -134,22 +135,45 @@ mod tests {
         }
     }
 
+    // How many of three entries become rows, and which of them end at once.
+    fn taken(
+        alloc: Global,
+        entries: &[Sqe],
+        submit_all: bool,
+    ) -> Result<(u32, Vec<(u32, i32)>), AllocError>
+        requires { length entries.now ≤ 65536 }
+    {
+        let mut table = Table::new(alloc);
+        let mut notes = Recorder::new(alloc);
+        let batch = table.take_batch(entries, submit_all, &mut notes)?;
+        Ok((batch.taken, batch.direct))
+    }
+
     #[test]
     fn stops_behind_a_failure(rt: HostRuntime) -> Result<(), AllocError> {
-        let mut table = Table::new(rt.alloc());
-        let mut notes = Recorder::new(rt.alloc());
-        let offered = [entry(0, 2), entry(99, 3), entry(0, 4)];
-        let batch = table.take_batch(&offered, false, &mut notes)?;
-        assert_eq!(rt; batch.taken, 2);
-        assert_eq!(rt; batch.direct.as_slice(), [(1, -22)].as_slice());
-        assert_eq!(rt; table.len(), 2);
-        assert_eq!(rt; table.get(0), Some(new_row(entry(0, 2), 0)));
-        assert_eq!(rt; table.get(1), Some(new_row(entry(99, 3), 1)));
-        let batch = table.take_batch(&offered, true, &mut notes)?;
-        assert_eq!(rt; batch.taken, 3);
-        assert_eq!(rt; batch.direct.as_slice(), [(3, -22)].as_slice());
-        assert_eq!(rt; table.len(), 5);
-        assert_eq!(rt; table.get(4), Some(new_row(entry(0, 4), 4)));
+        let entries = [entry(0, 0), entry(99, 0), entry(0, 0)];
+        let (count, direct) = taken(rt.alloc(), &entries, false)?;
+        assert_eq!(rt; count, 2);
+        assert_eq!(rt; direct.as_slice(), [(1, -22)].as_slice());
+        Ok(())
+    }
+
+    #[test]
+    fn goes_on_behind_a_failure(rt: HostRuntime) -> Result<(), AllocError> {
+        let entries = [entry(0, 0), entry(99, 0), entry(0, 0)];
+        let (count, direct) = taken(rt.alloc(), &entries, true)?;
+        assert_eq!(rt; count, 3);
+        assert_eq!(rt; direct.as_slice(), [(1, -22)].as_slice());
+        Ok(())
+    }
+
+    #[test]
+    fn a_chain_fails_as_a_whole(rt: HostRuntime) -> Result<(), AllocError> {
+        let entries = [entry(0, 8), entry(99, 4), entry(0, 0)];
+        let (count, direct) = taken(rt.alloc(), &entries, true)?;
+        assert_eq!(rt; count, 3);
+        let ends = [(0, -125), (1, -22), (2, -125)];
+        assert_eq!(rt; direct.as_slice(), ends.as_slice());
         Ok(())
     }
 }
