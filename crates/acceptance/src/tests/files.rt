@@ -18,6 +18,9 @@ const READ_AT_THE_POSITION: &str =
 const READ_OF_NO_DESCRIPTOR: &str =
     r#"{"entries":1,"threads":[[["put",0,{"op":22,"fd":3,"len":1,"ud":1}],["push",0],["enter",1,0,0]]],"schedule":[]}"#;
 
+const PAGE_WRITTEN_AND_READ: &str =
+    r#"{"entries":2,"memory":[[100,"01"]],"objects":[{"name":"f","file":""}],"fds":["f"],"threads":[[["put",0,{"op":23,"fd":3,"len":4096,"ud":1}],["push",0],["put",1,{"op":22,"fd":3,"addr":8192,"len":4096,"ud":2}],["push",1],["enter",2,0,0]]],"schedule":[]}"#;
+
 const STORES: &str =
     r#"{"entries":1,"memory":[[0,"0102"]],"threads":[[["store",0,"0102"],["store",0,"0103"]]],"schedule":[]}"#;
 
@@ -71,6 +74,21 @@ fn fsync_names_just_the_bytes_that_differ(rt: HostRuntime) -> Result<(), Fail> {
         Place::Counted,
     ];
     assert!(rt; names_just(&record, &places));
+    Ok(())
+}
+
+// Of a page of zeros written over zeros, and read over zeros, one byte is another.
+#[test]
+fn transfers_of_a_page_keep_what_differs(rt: HostRuntime) -> Result<(), Fail> {
+    let mut state = start_of(rt.alloc(), PAGE_WRITTEN_AND_READ)?;
+    for event in &UP_TO_WRITTEN[..6] {
+        step(&mut state, *event)?;
+    }
+    let written = step(&mut state, Event::Finish(0, Choice::Full))?;
+    assert!(rt; written.kept_bytes() <= 512);
+    step(&mut state, Event::Issue(1))?;
+    let read = step(&mut state, Event::Finish(1, Choice::Full))?;
+    assert!(rt; read.kept_bytes() <= 512);
     Ok(())
 }
 

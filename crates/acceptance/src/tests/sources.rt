@@ -12,8 +12,7 @@ use std::test::Fail;
 const TWO_STORES: &str =
     r#"{"entries":1,"threads":[[["store",0,"aa"],["store",1,"bb"]]],"schedule":[]}"#;
 
-const LINES: &str =
-    "sync\nwhere\ngoto 1\nshow mem 0\nsync\nsync\nsync\nsync\nsync\nwhere\n";
+const LINES: &str = "sync\nwhere\ngoto 1\nshow mem 0\nsync\nsync\nsync\nsync\nsync\nwhere\n";
 
 const REPLIES: &str =
     "synced 1\nat 0 of 1\nat 1 of 1\naa\nsynced 2\nrefused 3 torn 0\nrefused 3 torn 1\nrefused 4 event 2\nrefused 2 source\nat 1 of 2\n";
@@ -82,11 +81,17 @@ fn synced(session: &mut Session, answer: Option<&[Event]>) -> Result<Vec<u8>, Fa
     Ok(text)
 }
 
+fn ticks(alloc: Global, count: usize) -> Result<Vec<Event>, Fail> {
+    let events = vec![in alloc; Event::Tick(0); count]?;
+    Ok(events)
+}
+
 #[test]
 fn more_events_than_a_trace_has(rt: HostRuntime) -> Result<(), Fail> {
     let mut session = session_of(rt.alloc())?;
-    let events = vec![in rt.alloc(); Event::Tick(0); 1048577]?;
-    assert!(rt; synced(&mut session, Some(&events[..2]))?.as_slice() == b"synced 2\n".as_slice());
+    let two = [Event::Tick(0); 2];
+    let events = ticks(rt.alloc(), 1048577)?;
+    assert!(rt; synced(&mut session, Some(&two))?.as_slice() == b"synced 2\n".as_slice());
     assert!(rt; synced(&mut session, Some(&events))?.as_slice() == b"refused 5 full\n".as_slice());
     assert!(rt; synced(&mut session, None)?.as_slice() == b"refused 2 source\n".as_slice());
     Ok(())
