@@ -2,7 +2,6 @@
 
 use inverse_log::{ExtendRefusal, WalkRefusal};
 use machine::SetupRefusal;
-use std::alloc::AllocError;
 use std::{fmt, io};
 
 #[derive(Debug, Drop)]
@@ -10,7 +9,6 @@ pub enum Fault {
     Setup(SetupRefusal),
     Extend(ExtendRefusal),
     Walk(WalkRefusal),
-    Memory,
     Io(io::Error),
 }
 
@@ -32,12 +30,6 @@ impl From<WalkRefusal> for Fault {
     }
 }
 
-impl From<AllocError> for Fault {
-    fn from(_error: AllocError) -> Fault {
-        Fault::Memory
-    }
-}
-
 impl From<io::Error> for Fault {
     fn from(error: io::Error) -> Fault {
         Fault::Io(error)
@@ -50,7 +42,6 @@ impl fmt::Display for Fault {
             Fault::Setup(refusal) => write!(f, "setup {refusal:?}"),
             Fault::Extend(refusal) => write!(f, "extend {refusal:?}"),
             Fault::Walk(refusal) => write!(f, "walk {refusal:?}"),
-            Fault::Memory => write!(f, "no memory"),
             Fault::Io(error) => write!(f, "{error}"),
         }
     }

@@ -2,7 +2,6 @@
 
 use crate::parts::{Load, Requests, entry, request_load};
 use entries::Sqe;
-use machine::Setup;
 use places::{Contents, Descriptor, End, Items, Object};
 use std::alloc::{AllocError, Global};
 
@@ -49,23 +48,6 @@ pub fn sync_load(alloc: Global, count: u32) -> Result<Load, AllocError> {
     Ok(load)
 }
 
-/// Fills memory, and adds as many files as there can be, each of as many bytes as it can have.
-pub fn add_files(alloc: Global, setup: &mut Setup) -> Result<(), AllocError> {
-    let mut objects = Vec::new(alloc);
-    for number in 0..32u8 {
-        let bytes = vec![in alloc; 1u8; 65536]?;
-        objects.push(file_object(
-            alloc,
-            b'a' + number % 26,
-            1 + usize::from(number / 26),
-            bytes,
-        )?)?;
-    }
-    setup.objects = Items::of(objects);
-    setup.memory = Items::of(vec![in alloc; 1u8; 65536]?);
-    Ok(())
-}
-
 // An entry on the file.
 fn transfer(opcode: u8, off: u64, addr: u64, len: u32) -> Sqe {
     Sqe {
@@ -91,20 +73,14 @@ fn file_load(
     };
     let mut load = request_load(alloc, count, &requests)?;
     load.setup.entries = 4;
-    load.setup.objects = Items::of(vec![in alloc; file_object(alloc, b'f', 1, file)?]?);
+    load.setup.objects = Items::of(vec![in alloc; file_object(alloc, file)?]?);
     load.setup.fds = Items::of(vec![in alloc; whole_file()]?);
     Ok(load)
 }
 
-// A file of a name of one letter, so many times.
-fn file_object(
-    alloc: Global,
-    letter: u8,
-    times: usize,
-    file: Vec<u8>,
-) -> Result<Object, AllocError> {
+fn file_object(alloc: Global, file: Vec<u8>) -> Result<Object, AllocError> {
     Ok(Object {
-        name: Items::of(vec![in alloc; letter; times]?),
+        name: Items::of(vec![in alloc; b'f'; 1]?),
         contents: Contents::File(Items::of(file)),
     })
 }

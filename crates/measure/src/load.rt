@@ -2,9 +2,9 @@
 ghost use Rattle.std.specs.Prelude.{◌≤◌};
 ghost use Rattle.measure.specs.Plans.{HasLimits};
 
-use crate::files::{add_files, sync_load, transfer_load};
+use crate::files::{sync_load, transfer_load};
 use crate::parts::{Load, Requests, entry, request_load, setup_of};
-use crate::plan::{MOST_OVERFLOWING, Plan};
+use crate::plan::Plan;
 use machine::{Event, Instruction};
 use opcodes::Choice;
 use places::Items;
@@ -32,8 +32,6 @@ pub fn load_of(alloc: Global, plan: Plan) -> Result<Load, AllocError>
         }),
         Plan::Transfers(events) => transfer_load(alloc, events),
         Plan::Syncs(events) => sync_load(alloc, events),
-        Plan::Jumps(events) => nop_load(alloc, events),
-        Plan::Copies(events) => full_load(alloc, events),
     }
 }
 
@@ -62,15 +60,6 @@ fn overflow_load(alloc: Global, count: u32) -> Result<Load, AllocError>
     let mut setup = setup_of(alloc, Items::of(threads));
     setup.sqpoll = true;
     Ok(Load { setup, events })
-}
-
-// All NOPs that overflow, beside full rings, memory and files, and then ticks of the clock.
-fn full_load(alloc: Global, count: u32) -> Result<Load, AllocError> {
-    let mut load = overflow_load(alloc, MOST_OVERFLOWING)?;
-    load.setup.entries = 4096;
-    add_files(alloc, &mut load.setup)?;
-    load.events.resize(count as usize, Event::Tick(1))?;
-    Ok(load)
 }
 
 // Puts a NOP into the ring's slot, and pushes it again and again.

@@ -1,22 +1,18 @@
 //! Large runs, built in process, walked both ways and timed: counts on standard output, times on standard error.
 #![tactic(auto)]
 
-mod copies;
 mod fault;
 mod files;
-mod jumps;
 mod load;
 mod parts;
 mod plan;
 
-use copies::keep_copies;
 use fault::Fault;
 use inverse_log::Walker;
-use jumps::jump_about;
 use load::load_of;
 use parts::Load;
 use places::{Place, Record, Value};
-use plan::{Plan, plan_of};
+use plan::plan_of;
 use std::process::ExitCode;
 use std::rt::Clock;
 use std::time::Instant;
@@ -26,13 +22,13 @@ use std::{env, io};
 mod tests;
 
 // So many events in so many microseconds, on standard error.
-pub fn report(rt: &impl Eprint, what: &str, events: usize, micros: u128) -> io::Result<()> {
+fn report(rt: &impl Eprint, what: &str, events: usize, micros: u128) -> io::Result<()> {
     let rate = events as u128 * 1000000 / micros.max(1);
     eprintln!(rt; "{what}: {events} events in {micros} us, {rate} a second")
 }
 
 // Adds the events: each is done once, its record kept, and undone once.
-pub fn add(rt: &(impl Eprint + Clock), walker: &mut Walker, load: &Load) -> Result<(), Fault> {
+fn add(rt: &(impl Eprint + Clock), walker: &mut Walker, load: &Load) -> Result<(), Fault> {
     let start = Instant::now(rt)?;
     walker.extend(&load.events)?;
     let micros = start.elapsed(rt)?.as_micros();
@@ -56,7 +52,7 @@ fn go(
 }
 
 // What the records keep in memory, themselves included, in bytes.
-pub fn kept_bytes(records: &[Record]) -> usize {
+fn kept_bytes(records: &[Record]) -> usize {
     let mut sum = 0usize;
     for record in records {
         sum = sum.saturating_add(record.kept_bytes());
@@ -105,18 +101,11 @@ fn main(rt: HostRuntime) -> io::Result<ExitCode> {
         .map(|word| word.as_str())
         .collect(alloc)?;
     let Some(plan) = plan_of(&texts) else {
-        eprintln!(rt;
-            "measure nops N | overflow N | ticks N | transfers N | syncs N | jumps N | copies N"
-        )?;
+        eprintln!(rt; "measure nops N | overflow N | ticks N | transfers N | syncs N")?;
         return Ok(ExitCode::from(2));
     };
     let load = load_of(alloc, plan)?;
-    let done = match plan {
-        Plan::Jumps(_) => jump_about(&rt, &load),
-        Plan::Copies(_) => keep_copies(&rt, &load),
-        _ => measure(&rt, &load),
-    };
-    match done {
+    match measure(&rt, &load) {
         Ok(()) => Ok(ExitCode::SUCCESS),
         Err(fault) => {
             eprintln!(rt; "{fault}")?;

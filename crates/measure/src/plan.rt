@@ -9,7 +9,7 @@ pub const MOST_NOP_EVENTS: u32 = 109200;
 pub const MOST_OVERFLOWING: u32 = 65520;
 
 /// The most events of a trace.
-pub const MOST_EVENTS: u32 = 1048576;
+pub const MOST_TICKS: u32 = 1048576;
 
 /// The most events of requests on a file: 16 programs of 1,364 requests each.
 pub const MOST_FILE_EVENTS: u32 = 109120;
@@ -27,10 +27,6 @@ pub enum Plan {
     Transfers(u32),
     /// So many events of WRITEs, each of which changes one byte of a file of 65,536 bytes, and of FSYNCs.
     Syncs(u32),
-    /// So many events of NOPs, and jumps among them.
-    Jumps(u32),
-    /// So many events, most of them over a full table and files.
-    Copies(u32),
 }
 
 /// Reads the words behind the program's name.
@@ -44,11 +40,9 @@ pub fn plan_of(words: &[&str]) -> Option<Plan>
     match *name {
         "nops" if size <= MOST_NOP_EVENTS => Some(Plan::Nops(size)),
         "overflow" if size <= MOST_OVERFLOWING => Some(Plan::Overflow(size)),
-        "ticks" if size <= MOST_EVENTS => Some(Plan::Ticks(size)),
+        "ticks" if size <= MOST_TICKS => Some(Plan::Ticks(size)),
         "transfers" if size <= MOST_FILE_EVENTS => Some(Plan::Transfers(size)),
         "syncs" if size <= MOST_FILE_EVENTS => Some(Plan::Syncs(size)),
-        "jumps" if size <= MOST_NOP_EVENTS => Some(Plan::Jumps(size)),
-        "copies" if size <= MOST_EVENTS => Some(Plan::Copies(size)),
         _ => None,
     }
 }

@@ -28,30 +28,58 @@ fn over_ticks(alloc: Global) -> Result<Walker, Fail> {
     Ok(walker)
 }
 
+// A watch of the clock.
+fn clock_watched(alloc: Global) -> Result<Watches, Fail> {
+    let mut watches = Watches::new(alloc);
+    watches.watch(Place::Clock)?;
+    Ok(watches)
+}
+
+// A break where the clock is at 3.
+fn clock_at_three(alloc: Global) -> Result<Watches, Fail> {
+    let mut watches = Watches::new(alloc);
+    watches.break_at(Place::Clock, Value::Number(3))?;
+    Ok(watches)
+}
+
+// The next stop, on or back.
+fn next_stop(walker: &mut Walker, watches: &Watches, on: bool) -> Result<Stop, Fail> {
+    let stop = if on {
+        cont(walker, watches)?
+    } else {
+        rcont(walker, watches)?
+    };
+    Ok(stop)
+}
+
 #[test]
 fn stops_at_changes_both_ways(rt: HostRuntime) -> Result<(), Fail> {
     let mut walker = over_ticks(rt.alloc())?;
-    let mut watches = Watches::new(rt.alloc());
-    watches.watch(Place::Clock)?;
-    assert_eq!(rt; cont(&mut walker, &watches)?, Stop::Change(1));
-    assert_eq!(rt; cont(&mut walker, &watches)?, Stop::Change(3));
-    assert_eq!(rt; cont(&mut walker, &watches)?, Stop::End);
-    assert_eq!(rt; rcont(&mut walker, &watches)?, Stop::Change(2));
-    assert_eq!(rt; walker.at(), 2);
-    assert_eq!(rt; rcont(&mut walker, &watches)?, Stop::Change(0));
-    assert_eq!(rt; rcont(&mut walker, &watches)?, Stop::Start);
-    assert_eq!(rt; walker.walked(), 3);
+    let watches = clock_watched(rt.alloc())?;
+    for (on, want) in [
+        (true, Stop::Change(1)),
+        (true, Stop::Change(3)),
+        (true, Stop::End),
+        (false, Stop::Change(2)),
+        (false, Stop::Change(0)),
+        (false, Stop::Start),
+    ] {
+        assert_eq!(rt; next_stop(&mut walker, &watches, on)?, want);
+    }
     Ok(())
 }
 
 #[test]
 fn stops_where_a_break_is_met(rt: HostRuntime) -> Result<(), Fail> {
     let mut walker = over_ticks(rt.alloc())?;
-    let mut watches = Watches::new(rt.alloc());
-    assert_eq!(rt; watches.break_at(Place::Clock, Value::Number(3))?, 1);
-    assert_eq!(rt; cont(&mut walker, &watches)?, Stop::Met(3));
-    assert_eq!(rt; cont(&mut walker, &watches)?, Stop::End);
-    assert_eq!(rt; rcont(&mut walker, &watches)?, Stop::Start);
+    let watches = clock_at_three(rt.alloc())?;
+    for (on, want) in [
+        (true, Stop::Met(3)),
+        (true, Stop::End),
+        (false, Stop::Start),
+    ] {
+        assert_eq!(rt; next_stop(&mut walker, &watches, on)?, want);
+    }
     Ok(())
 }
 

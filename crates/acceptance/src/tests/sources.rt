@@ -81,18 +81,11 @@ fn synced(session: &mut Session, answer: Option<&[Event]>) -> Result<Vec<u8>, Fa
     Ok(text)
 }
 
-fn ticks(alloc: Global, count: usize) -> Result<Vec<Event>, Fail> {
-    let events = vec![in alloc; Event::Tick(0); count]?;
-    Ok(events)
-}
-
 #[test]
-fn more_events_than_a_trace_has(rt: HostRuntime) -> Result<(), Fail> {
+fn a_source_that_has_as_much_and_none(rt: HostRuntime) -> Result<(), Fail> {
     let mut session = session_of(rt.alloc())?;
     let two = [Event::Tick(0); 2];
-    let events = ticks(rt.alloc(), 1048577)?;
     assert!(rt; synced(&mut session, Some(&two))?.as_slice() == b"synced 2\n".as_slice());
-    assert!(rt; synced(&mut session, Some(&events))?.as_slice() == b"refused 5 full\n".as_slice());
     assert!(rt; synced(&mut session, None)?.as_slice() == b"refused 2 source\n".as_slice());
     Ok(())
 }

@@ -16,19 +16,37 @@ fn walker_at_the_start(alloc: Global) -> Result<Walker, Fail> {
     Ok(walker)
 }
 
+// A watch of the completion ring's tail, and a break where the thread has submitted one.
+fn tail_and_answer(alloc: Global) -> Result<Watches, Fail> {
+    let mut watches = Watches::new(alloc);
+    watches.watch(Place::CompletionTail)?;
+    watches.break_at(Place::Last(0), Value::Signed(1))?;
+    Ok(watches)
+}
+
+// The next stop, on or back.
+fn next_stop(walker: &mut Walker, watches: &Watches, on: bool) -> Result<Stop, Fail> {
+    let stop = if on {
+        cont(walker, watches)?
+    } else {
+        rcont(walker, watches)?
+    };
+    Ok(stop)
+}
+
 #[test]
 fn stops_of_one_nop(rt: HostRuntime) -> Result<(), Fail> {
     let mut walker = walker_at_the_start(rt.alloc())?;
-    let mut watches = Watches::new(rt.alloc());
-    assert_eq!(rt; watches.watch(Place::CompletionTail)?, 1);
-    assert_eq!(rt; watches.break_at(Place::Last(0), Value::Signed(1))?, 1);
-    assert_eq!(rt; cont(&mut walker, &watches)?, Stop::Met(3));
-    assert_eq!(rt; cont(&mut walker, &watches)?, Stop::Change(5));
-    assert_eq!(rt; cont(&mut walker, &watches)?, Stop::End);
-    assert_eq!(rt; walker.at(), 6);
-    assert_eq!(rt; rcont(&mut walker, &watches)?, Stop::Change(4));
-    assert_eq!(rt; rcont(&mut walker, &watches)?, Stop::Start);
-    assert_eq!(rt; walker.at(), 0);
+    let watches = tail_and_answer(rt.alloc())?;
+    for (on, want) in [
+        (true, Stop::Met(3)),
+        (true, Stop::Change(5)),
+        (true, Stop::End),
+        (false, Stop::Change(4)),
+        (false, Stop::Start),
+    ] {
+        assert_eq!(rt; next_stop(&mut walker, &watches, on)?, want);
+    }
     Ok(())
 }
 
