@@ -151,11 +151,11 @@ impl Table {
     }
 
     /// Whether a row may be issued. It takes constant time.
-    pub fn is_eligible(&self, r: usize) -> bool
+    pub fn eligible(&self, r: u32) -> bool
         requires guards { GuardsFollow self.now }
         ensures { result ≡ is_eligible self.now r }
     {
-        self.index.is_eligible(&self.rows, r)
+        self.index.is_eligible(&self.rows, r as usize)
     }
 
     /// Adds a row behind the others.

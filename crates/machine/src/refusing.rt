@@ -170,7 +170,7 @@ impl Machine {
         match self.table.phase(r) {
             None => Some(Refusal::NoSuchRequest),
             Some(Phase::Queued) => {
-                if self.table.is_eligible(r as usize) {
+                if self.table.eligible(r) {
                     None
                 } else {
                     Some(Refusal::NotEligible)
