@@ -4,6 +4,7 @@ pub mod Noting
 pub mod Comparing
 pub mod Among
 pub mod Transfers
+pub mod Wrapping
 pub mod Paging
 pub mod Lifting
 pub mod Remembering
