@@ -223,3 +223,23 @@ content_taken p k h = ap (bytes_from p.slots p.taken) (omega arith) ∙ split p.
     split : (at m n : ℕ) → bytes_from p.slots at (m + n) ≡ bytes_from p.slots at m ++ bytes_from p.slots (at + m) n
     split at zero n = let e : at ≡ at + 0 = omega arith in let z : 0 + n ≡ n = omega arith in ap (bytes_from p.slots at) z ∙ ap (λ a. bytes_from p.slots a n) e
     split at (suc m) n = let z : suc m + n ≡ suc (m + n) = omega arith in ap (bytes_from p.slots at) z ∙ ap (λ xs. get_or p.slots (at % length p.slots) 0 ∷ xs) (split (at + 1) m n ∙ (let e : (at + 1) + m ≡ at + suc m = omega arith in ap (λ a. bytes_from p.slots (at + 1) m ++ bytes_from p.slots a n) e))
+
+-- ---- the same, by the words that were read
+
+pub oldest_is : (slots xs ys : List ℕ) (taken count l m n : ℕ) → xs ≡ slots → ys ≡ slots → l ≡ length slots → m ≡ length slots → n ≡ min count (m - taken % l) → 0 < length slots → count ≤ length slots
+    → take ((taken % l + n) - taken % l) (drop (taken % l) xs) ++ take (count - n) ys ≡ bytes_from slots taken count
+oldest_is slots xs ys taken count l m n a b c d e some most =
+    let i : ℕ = taken % l in
+    let size : (i + n) - i ≡ n = omega arith in
+    ap (λ k. take k (drop i xs) ++ take (count - n) ys) size
+    ∙ ap (λ zs. take n (drop i zs) ++ take (count - n) ys) a
+    ∙ ap (λ zs. take n (drop i slots) ++ take (count - n) zs) b
+    ∙ in_parts slots taken count i n (count - n) some most (ap (λ k. taken % k) c) (omega (arith, d, e)) (omega (arith, e))
+
+pub pushed_is : (p : PipeState) (xs ys others first second : List ℕ) (l m n : ℕ) → l ≡ length p.slots → m ≡ length p.slots → n ≡ min (length others) (m - p.put % l) → first ≡ take n others → second ≡ drop n others → 0 < length p.slots → length others ≤ length p.slots
+    → xs ≡ overwritten p.slots (p.put % l) first → ys ≡ overwritten xs 0 second → record p { slots = ys; put = p.put + length others } ≡ put_in others p
+pushed_is p xs ys others first second l m n c d e f s some most x y =
+    let i : ℕ = p.put % l in
+    ap (λ (zs : List ℕ). record p { slots = zs; put = p.put + length others })
+    (y ∙ ap (λ zs. overwritten zs 0 second) x ∙ ap (λ zs. overwritten (overwritten p.slots i zs) 0 second) f ∙ ap (λ zs. overwritten (overwritten p.slots i (take n others)) 0 zs) s
+    ∙ put_in_parts p.slots others p.put i n some most (ap (λ k. p.put % k) c) (omega (arith, d, e)))

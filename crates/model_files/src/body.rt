@@ -3,7 +3,7 @@ ghost use Rattle.std.specs.Prelude.{◌≡◌, ◌≤◌, ◌+◌, ◌<◌, ◌^
 ghost use Rattle.places.specs.View.{Keeps, named};
 ghost use Rattle.places.specs.declared.place.Place.{Place};
 ghost use Rattle.places.specs.declared.place.Place.TheVariants.{FileByte, DurableByte, PipeByte};
-ghost use Rattle.model_files.specs.Pipes.{put_in, taken_out, TakesIn};
+ghost use Rattle.model_files.specs.Pipes.{put_in, taken_out, GivesOut, TakesIn};
 ghost use Rattle.model_files.specs.Objects.{CanPut, PutsIn, object_owns};
 ghost use Rattle.model_files.specs.Files.{synced, written, FileFormed};
 
@@ -132,7 +132,7 @@ impl Body {
 
     /// The oldest bytes of a pipe came out.
     pub(crate) fn take(&mut self, count: u32)
-        requires there { IsSomeAnd (pipe_in self.old) (λ p. p.taken + count < 2 ^ 64) }
+        requires there { IsSomeAnd (pipe_in self.old) (GivesOut count) }
         ensures { self.new ≡ on_pipe (taken_out count) self.old }
     {
         match self {

@@ -4,6 +4,9 @@ ghost use Rattle.places.specs.Notes.{HasAsMuch};
 ghost use Rattle.places.specs.View.{Keeps, named};
 ghost use Rattle.places.specs.declared.place.Place.{Place};
 ghost use Rattle.places.specs.declared.place.Place.TheVariants.{PipeByte};
+ghost use Rattle.places.specs.declared.notes.runs.Region.TheVariants.{Pipe};
+ghost use Rattle.model_files.specs.Differing.{NotedAmong, NamesDiffering};
+ghost use Rattle.model_files.specs.Files.{part};
 ghost use Rattle.model_files.specs.Objects.{object_owns, NamesChanges};
 ghost use Rattle.model_files.specs.Pipes.{pipe_seen, put_in, slots_with, TakesIn};
 
@@ -59,17 +62,29 @@ impl PipeBuffer {
         ensures named { (p : Place) → named notes.new.made p ≡ None → named notes.old.made p ≡ None }
         ensures room { HasAsMuch notes.old notes.new }
     {
-        let slots = self.slots();
-        let at = (self.put() % slots.len() as u64) as usize;
-        let (first, second) = others.split_at(others.len().min(slots.len() - at));
-        let old = &slots[at..at + first.len()];
-        note_differing(Region::Pipe(object), at as u32, old, first, notes)?;
-        note_differing(
-            Region::Pipe(object),
-            0,
-            &slots[..second.len()],
-            second,
-            notes,
-        )
+        let size = self.slots().len();
+        let at = (self.put() % size as u64) as usize;
+        let (first, second) = others.split_at(others.len().min(size - at));
+        self.note_part(object, at, first, notes)?;
+        self.note_part(object, 0, second, notes)
+    }
+
+    /// Notes slots from one on that bytes are to stand in.
+    fn note_part(
+        &self,
+        object: u32,
+        at: usize,
+        others: &[u8],
+        notes: &mut Recorder,
+    ) -> Result<(), AllocError>
+        requires most { length self.now.slots ≤ 65536 }
+        requires within { at + length others.now ≤ length self.now.slots }
+        requires fresh { (i : ℕ) → i < length others.now → named notes.old.made (PipeByte object (at + i)) ≡ None }
+        ensures noted { OnOk result (NamesDiffering notes.new.made (Pipe object) at (part self.now.slots at (length others.now)) others.now) }
+        ensures among { NotedAmong notes.old.made notes.new.made (Pipe object) at (part self.now.slots at (length others.now)) }
+        ensures room { HasAsMuch notes.old notes.new }
+    {
+        let old = &self.slots()[at..at + others.len()];
+        note_differing(Region::Pipe(object), at as u32, old, others, notes)
     }
 }

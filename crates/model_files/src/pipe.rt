@@ -2,7 +2,7 @@
 ghost use Rattle.std.specs.Prelude.{◌≡◌, ◌+◌, ◌-◌, ◌%◌, ◌<◌, ◌≤◌, ◌^◌, ◌++◌, min, IfOk, Some, length, take, drop};
 ghost use Rattle.model_files.specs.Files.{overwritten, part};
 ghost use Rattle.model_files.specs.Objects.{CanPut, PutsIn};
-ghost use Rattle.model_files.specs.Pipes.{pipe_seen, pipe_start, bytes_from, filled, room_in, put_in, taken_out, PipeFormed};
+ghost use Rattle.model_files.specs.Pipes.{pipe_seen, pipe_start, bytes_from, filled, room_in, put_in, taken_out, GivesOut};
 
 use crate::bytes::overwrite;
 use places::{At, Place, Value};
@@ -115,9 +115,10 @@ impl PipeBuffer {
 
     /// Its oldest bytes came out.
     pub(crate) fn take(&mut self, count: u32)
-        requires { self.old.taken + count < 2 ^ 64 }
+        requires { GivesOut count self.old }
         ensures { self.new ≡ taken_out count self.old }
     {
+        let _most = self.put;
         self.taken += count as u64;
     }
 
