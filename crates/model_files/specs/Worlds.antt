@@ -60,6 +60,12 @@ stock_in (File f) = FileStock f.len
 stock_in (Pipe p) = PipeStock (filled p) (length p.slots)
 stock_in (EventFd n) = EventStock n
 
+-- A file has no more bytes than the most.
+abbrev pub StockFits : Stock → Type 0
+StockFits (FileStock len) = len ≤ 65536
+StockFits (PipeStock n capacity) = Unit {0}
+StockFits (EventStock n) = Unit {0}
+
 abbrev pub stock_of : WorldState → ℕ → Option Stock
 stock_of w o = option_map stock_in (slice_get w.objects o)
 

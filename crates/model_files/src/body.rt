@@ -41,7 +41,7 @@ impl At for Body {
 }
 
 impl Body {
-    ghost use Rattle.model_files.specs.Worlds.{body_seen, file_in, pipe_in, stock_in, kind_of_body, counter_in, on_file, on_pipe, on_counter};
+    ghost use Rattle.model_files.specs.Worlds.{body_seen, file_in, pipe_in, stock_in, StockFits, kind_of_body, counter_in, on_file, on_pipe, on_counter};
 
     /// The same again.
     pub fn copy(&self, alloc: Global) -> Result<Body, AllocError>
@@ -56,7 +56,8 @@ impl Body {
 
     /// How much it holds.
     pub(crate) fn stock(&self) -> Stock
-        ensures { result ≡ stock_in self.now }
+        ensures value { result ≡ stock_in self.now }
+        ensures fits { StockFits result }
     {
         match self {
             Body::File(file) => Stock::File(file.len()),

@@ -1,5 +1,5 @@
 //! Which ends of pipes are alive, and what objects are ready for (pipe(7), poll(2)).
-ghost use Rattle.std.specs.Prelude.{◌≡◌, ◌+◌, Some};
+ghost use Rattle.std.specs.Prelude.{◌≡◌, ◌+◌, ◌<◌, ◌≤◌, Some};
 ghost use Rattle.places.specs.declared.object.End.TheVariants.{Read, Write};
 ghost use Rattle.model_files.specs.Holders.{is_held};
 ghost use Rattle.model_files.specs.Ends.{is_end, keeps_end, some_keeps, has_writer, has_reader, bit_if, pipe_mask, counter_mask, body_mask, ready_mask_of};
@@ -38,7 +38,8 @@ impl World {
     /// What a descriptor's object is ready for, by the bits of poll(2). It goes over no more than the
     /// descriptors.
     pub fn ready_mask(&self, fd: u32, held: &Held) -> u32
-        ensures { result ≡ ready_mask_of (is_held held.now) self.now fd }
+        ensures mask { result ≡ ready_mask_of (is_held held.now) self.now fd }
+        ensures few { result < 32 }
     {
         let Some(descriptor) = self.descriptor(fd) else {
             return 0;
@@ -53,7 +54,8 @@ impl World {
 }
 
 fn body_mask(body: &Body, end: End, writer: bool, reader: bool) -> u32
-    ensures { result ≡ body_mask end writer reader (Some body.now) }
+    ensures mask { result ≡ body_mask end writer reader (Some body.now) }
+    ensures few { result < 32 }
 {
     match body {
         Body::File(_) => POLLIN | POLLOUT,
@@ -63,7 +65,8 @@ fn body_mask(body: &Body, end: End, writer: bool, reader: bool) -> u32
 }
 
 fn pipe_mask(pipe: &PipeBuffer, end: End, writer: bool, reader: bool) -> u32
-    ensures { result ≡ pipe_mask pipe.now end writer reader }
+    ensures mask { result ≡ pipe_mask pipe.now end writer reader }
+    ensures few { result < 32 }
 {
     match end {
         End::Whole => 0,
@@ -75,13 +78,15 @@ fn pipe_mask(pipe: &PipeBuffer, end: End, writer: bool, reader: bool) -> u32
 }
 
 fn counter_mask(counter: u64) -> u32
-    ensures { result ≡ counter_mask counter }
+    ensures mask { result ≡ counter_mask counter }
+    ensures few { result < 32 }
 {
     bit_if(POLLIN, counter > 0) + bit_if(POLLOUT, counter < u64::MAX - 1)
 }
 
 fn bit_if(bit: u32, is_set: bool) -> u32
-    ensures { result ≡ bit_if bit is_set }
+    ensures bit { result ≡ bit_if bit is_set }
+    ensures most { result ≤ bit }
 {
     if is_set { bit } else { 0 }
 }

@@ -10,7 +10,7 @@ ghost use Rattle.model_files.specs.Differing.{NotedAmong, NamesDiffering};
 ghost use Rattle.model_files.specs.Files.{part, FileFormed};
 ghost use Rattle.model_files.specs.Objects.{object_in, NamesChanges};
 ghost use Rattle.model_files.specs.Pipes.{GivesOut, TakesIn};
-ghost use Rattle.model_files.specs.Worlds.{world_owns, world_seen, world_can_put, descriptor_of, descriptor_at, file_of, mark_of, world_read, world_written, world_synced, world_at, world_closed, world_stored, world_taken, world_put, world_added, world_cleared, world_start, oldest, number_at, pipe_of, counter_of, stock_of, ContentsFit, OneSetup};
+ghost use Rattle.model_files.specs.Worlds.{world_owns, world_seen, world_can_put, descriptor_of, descriptor_at, file_of, mark_of, world_read, world_written, world_synced, world_at, world_closed, world_stored, world_taken, world_put, world_added, world_cleared, world_start, oldest, number_at, pipe_of, counter_of, stock_of, StockFits, ContentsFit, OneSetup};
 
 use crate::body::Body;
 use crate::bytes::{overwrite, pad};
@@ -165,7 +165,8 @@ impl World {
 
     /// How much an object holds, by its number.
     pub fn stock(&self, object: u32) -> Option<Stock>
-        ensures { result ≡ stock_of self.now object }
+        ensures value { result ≡ stock_of self.now object }
+        ensures fits { IfSome result StockFits }
     {
         match self.objects.get(object as usize) {
             Some(body) => Some(body.stock()),
@@ -414,9 +415,9 @@ impl World {
         ensures completions { notes.old.completions ≤ notes.new.completions }
         ensures others { notes.old.others ≤ notes.new.others }
     {
-        let from = address as usize;
-        let others = &self.memory[from..from + count as usize];
-        self.objects[object as usize].put(object, others, notes)
+        let start = address as usize;
+        let bytes = &self.memory[start..start + count as usize];
+        self.objects[object as usize].put(object, bytes, notes)
     }
 
     /// Adds a number to the counter of an eventfd (eventfd(2)). Want of memory leaves it as it was.
