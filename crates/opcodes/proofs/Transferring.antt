@@ -11,9 +11,11 @@ use Rattle.model_files.specs.declared.descriptor.DescriptorState.{DescriptorStat
 use Rattle.model_files.specs.declared.stock.Stock.{Stock}
 use Rattle.model_files.specs.declared.stock.Stock.TheVariants.{File, Pipe, EventFd}
 use Rattle.model_files.specs.Pipes.{PipeState, PipeFormed, GivesOut, TakesIn, filled}
-use Rattle.model_files.specs.Worlds.{WorldState, WorldFormed, BodyFormed, StockFits, OneSetup, PutsWithin, descriptor_of, file_in, file_of, pipe_in, pipe_of, counter_in, counter_of, stock_in, stock_of, number_at, world_at, world_written}
+use Rattle.model_files.specs.Worlds.{WorldState, WorldFormed, BodyFormed, StockFits, OneSetup, PutsWithin, descriptor_of, file_in, file_of, pipe_in, pipe_of, counter_in, counter_of, stock_in, stock_of, number_at, world_at, world_put, world_taken, world_written}
 use Rattle.model_files.proofs.Describing.{number_from_three}
-use Rattle.model_files.proofs.Fixing.{setup_self, setup_at}
+use Rattle.model_files.specs.Files.{FileState, FileFormed}
+use Rattle.model_files.proofs.Forming.{file_formed}
+use Rattle.model_files.proofs.Fixing.{setup_self, setup_at, setup_taken, setup_put}
 use Rattle.opcodes.specs.declared.choice.Choice.{Choice}
 use Rattle.opcodes.specs.declared.choice.Choice.TheVariants.{Full, Short, Eio}
 use Rattle.opcodes.specs.declared.op.Op.{Op}
@@ -231,3 +233,18 @@ ok_written entry fd d k w v x (Err y) z h e = e
 pub some_bytes : (k : ℕ) → (k ≡ 0 → ⊥) → 0 < k
 some_bytes zero h = absurd (h refl)
 some_bytes (suc k) h = omega arith
+
+-- a file that is there is well formed
+pub file_there : (w : WorldState) → WorldFormed w → (o : ℕ) → IsSome (file_of w o) → IsSomeAnd (file_of w o) FileFormed
+file_there w f o h = by (file_of w o) refl h
+  where
+    by : (x : Option FileState) → file_of w o ≡ x → is_some x ≡ true → IsSomeAnd x FileFormed
+    by None e k = absurd cc
+    by (Some g) e k = file_formed w f o g e
+
+-- of worlds that a transfer leaves, or that stay for want of memory
+pub taken_setup : {T E : Type 0} (entry : Sqe) (o k : ℕ) (w b : WorldState) (r : Result T E) → WorldFormed w → entry.addr + k ≤ 65536 → IsSomeAnd (pipe_of w o) (GivesOut k) → OnOk r (b ≡ world_taken o k entry.addr w) → OnErr r (b ≡ w) → OneSetup w b
+taken_setup entry o k w b r f l g h e = setup_either w b (world_taken o k entry.addr w) r h e (setup_taken o k entry.addr w f l g)
+
+pub put_setup : {T E : Type 0} (entry : Sqe) (o k : ℕ) (w b : WorldState) (r : Result T E) → OnOk r (b ≡ world_put o k entry.addr w) → OnErr r (b ≡ w) → OneSetup w b
+put_setup entry o k w b r h e = setup_either w b (world_put o k entry.addr w) r h e (setup_put o k entry.addr w)

@@ -41,28 +41,23 @@ pub fn carry_out(
         return Ok(());
     }
     let (entry, object, count) = (&row.entry, descriptor.object, count_of(res));
-    match (Op::of(entry.opcode), world.stock(object)) {
-        (Some(Op::Fsync), Some(Stock::File(_))) => world.sync(object, notes),
-        (Some(Op::Read), Some(Stock::File(_))) => read_bytes(
-            world,
-            entry,
-            fd,
-            &descriptor,
-            count,
-            notes,
-        ),
-        (Some(Op::Write), Some(Stock::File(_))) => write_bytes(
-            world,
-            entry,
-            fd,
-            &descriptor,
-            count,
-            notes,
-        ),
-        (Some(Op::Read), Some(Stock::Pipe(_, _))) => take_bytes(world, entry, object, count, notes),
-        (Some(Op::Write), Some(Stock::Pipe(_, _))) => put_bytes(world, entry, object, count, notes),
-        (Some(Op::Read), Some(Stock::EventFd(_))) => clear(world, entry, object, notes),
-        (Some(Op::Write), Some(Stock::EventFd(_))) => add(world, entry, object, notes),
+    match Op::of(entry.opcode) {
+        Some(Op::Fsync) => match world.stock(object) {
+            Some(Stock::File(_)) => world.sync(object, notes),
+            _ => Ok(()),
+        },
+        Some(Op::Read) => match world.stock(object) {
+            Some(Stock::File(_)) => read_bytes(world, entry, fd, &descriptor, count, notes),
+            Some(Stock::Pipe(_, _)) => take_bytes(world, entry, object, count, notes),
+            Some(Stock::EventFd(_)) => clear(world, entry, object, notes),
+            None => Ok(()),
+        },
+        Some(Op::Write) => match world.stock(object) {
+            Some(Stock::File(_)) => write_bytes(world, entry, fd, &descriptor, count, notes),
+            Some(Stock::Pipe(_, _)) => put_bytes(world, entry, object, count, notes),
+            Some(Stock::EventFd(_)) => add(world, entry, object, notes),
+            None => Ok(()),
+        },
         _ => Ok(()),
     }
 }
@@ -212,12 +207,7 @@ fn clear(
 }
 
 // A number in memory is added to the counter of an eventfd.
-fn add(
-    world: &mut World,
-    entry: &Sqe,
-    object: u32,
-    notes: &mut Recorder,
-) -> Result<(), AllocError>
+fn add(world: &mut World, entry: &Sqe, object: u32, notes: &mut Recorder) -> Result<(), AllocError>
     requires formed { WorldFormed world.old }
     requires in_memory { entry.now.addr + 8 ≤ 65536 }
     requires room { IsSomeAnd (counter_of world.old object) (λ n. n + number_at world.old entry.now.addr < 2 ^ 64 - 1) }

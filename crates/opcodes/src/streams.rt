@@ -22,7 +22,11 @@ pub(crate) fn pipe_read(len: u32, writer: bool, filled: u64, choice: Choice) -> 
         return fixed(0, choice);
     }
     if filled == 0 {
-        return if writer { Outcome::Waits } else { fixed(0, choice) };
+        return if writer {
+            Outcome::Waits
+        } else {
+            fixed(0, choice)
+        };
     }
     fixed(least(len, filled), choice)
 }
