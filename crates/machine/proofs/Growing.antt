@@ -9,11 +9,13 @@ use Rattle.places.proofs.ListLemmas.{length-updated}
 use Rattle.places.specs.declared.value.Stage.{Stage}
 use Rattle.places.specs.declared.value.Stage.TheVariants.{Ready, Waiting}
 use Rattle.model_files.specs.Worlds.{WorldState, world_stored, OneSetup as OneWorldSetup}
+use Rattle.links_drains.specs.Holding.{is_held_by}
 use Rattle.opcodes.specs.declared.choice.Choice.{Choice}
 use Rattle.opcodes.specs.declared.ending.Outcome.{Outcome}
 use Rattle.opcodes.specs.declared.ending.Outcome.TheVariants.{Res, Waits, BadChoice}
 use Rattle.opcodes.specs.Outcomes.{outcome_of}
 use Rattle.opcodes.specs.Effects.{world_after}
+use Rattle.machine.proofs.PipeCounts.{puts_fit}
 use Rattle.opcodes.proofs.Staying.{stays_after}
 use Rattle.links_drains.specs.Batches.{rows_of, direct_of}
 use Rattle.overflow.specs.Backlogs.{fits, kept, free_slots}
@@ -264,12 +266,12 @@ grows_issued m r (Some x) = by (lacks_descriptor m.world x)
 
 pub grows_finished : (m : Machine) (r : ℕ) (c : Choice) → WellFormed m → (o : Option Row) → Grows m (finished m r o c)
 grows_finished m r c f None = grows_self m
-grows_finished m r c f (Some x) = by (outcome_of m.world x c) refl
+grows_finished m r c f (Some x) = by (outcome_of (is_held_by m.table) m.world x c) refl
   where
-    by : (o : Outcome) → outcome_of m.world x c ≡ o → Grows m (finished_as m r x o)
+    by : (o : Outcome) → outcome_of (is_held_by m.table) m.world x c ≡ o → Grows m (finished_as m r x o)
     by (Res res) e =
         let after_it = record m { world = world_after x res m.world } in
-        grows_then m after_it _ (grows_world m (world_after x res m.world) (stays_after m.world x res c f.world e).setup) (grows_fallen after_it ((r, res) ∷ []))
+        grows_then m after_it _ (grows_world m (world_after x res m.world) (stays_after (is_held_by m.table) m.world x res c f.world (puts_fit m f) e).setup) (grows_fallen after_it ((r, res) ∷ []))
     by Waits e = grows_self m
     by BadChoice e = grows_self m
 

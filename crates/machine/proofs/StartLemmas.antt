@@ -22,7 +22,10 @@ use Rattle.scenario.specs.Setups.{setup_refusal, has_ring_sizes, is_between, is_
 use Rattle.places.specs.declared.object.Contents.{Contents}
 use Rattle.places.specs.declared.object.Contents.TheVariants.{File, Pipe, EventFd}
 use Rattle.places.specs.declared.object.Object.{Object}
-use Rattle.model_files.specs.Worlds.{ContentsFit}
+use Rattle.std.specs.Option.{option_and_then}
+use Rattle.places.specs.declared.object.Descriptor.{Descriptor}
+use Rattle.model_files.specs.Pipes.{PipeState, pipe_start}
+use Rattle.model_files.specs.Worlds.{ContentsFit, PutsWithin, body_start, pipe_in, world_start}
 use Rattle.model_files.proofs.Forming.{world_start_formed}
 use Rattle.places.specs.declared.value.Stage.TheVariants.{Ready, Waiting}
 use Rattle.machine.specs.Whole.{is_asleep, flag_word, WellFormed, Stands}
@@ -116,14 +119,28 @@ memory_fits s a = grind (arith, nat_tests, a.memory)
 
 contents_fit : (c : Contents) → is_contents c ≡ true → ContentsFit c
 contents_fit (File bytes) h = grind (arith, nat_tests)
-contents_fit (Pipe capacity) h = tt
-contents_fit (EventFd counter) h = tt
+contents_fit (Pipe capacity) h = (grind (arith, nat_tests), grind (arith, nat_tests))
+contents_fit (EventFd counter) h = grind (arith, nat_tests)
 
 pub objects_fit : (s : Setup) → Accepted s → (i : ℕ) (o : Object) → slice_get s.objects i ≡ Some o → ContentsFit o.contents
 objects_fit s a i o h =
     let few = both_true (leb (length s.objects) 32 && list_all is_object s.objects) (names_once s.objects) a.objects in
     let each = both_true (leb (length s.objects) 32) (list_all is_object s.objects) few.0 in
     contents_fit o.contents (both_true (is_name o.name) (is_contents o.contents) (list_all_get is_object s.objects i o each.1 h)).1
+
+-- nothing went into the pipes of a setup
+puts_start : (memory : List ℕ) (os : List Object) (ds : List Descriptor) → PutsWithin 0 (world_start memory os ds)
+puts_start memory os ds o p h = by os o h
+  where
+    one : (c : Contents) → pipe_in (body_start c) ≡ Some p → p.put ≤ 0
+    one (File bytes) e = absurd cc
+    one (Pipe capacity) e = let same : pipe_start capacity ≡ p = cc in subst (λ (q : PipeState). q.put ≤ 0) same (omega arith)
+    one (EventFd counter) e = absurd cc
+
+    by : (xs : List Object) (i : ℕ) → option_and_then pipe_in (slice_get (map (λ (x : Object). body_start x.contents) xs) i) ≡ Some p → p.put ≤ 0
+    by [] i e = absurd cc
+    by (x ∷ xs) zero e = one x.contents e
+    by (x ∷ xs) (suc i) e = by xs i e
 
 entries_between : (s : Setup) → has_ring_sizes s ≡ true → (0 < s.entries) × (s.entries ≤ 4096)
 entries_between s h =
@@ -187,6 +204,7 @@ formed_start s h b w =
       overflowed = omega arith;
       rows = omega arith;
       world = world_start_formed s.memory s.objects s.fds (memory_fits s a) (objects_fit s a);
+      puts = puts_start s.memory s.objects s.fds;
       requests = λ r x k. absurd (none_there x k);
       chained = chained-none;
       counted = refl;
