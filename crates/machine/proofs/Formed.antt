@@ -1,5 +1,5 @@
 -- Accepted events keep machines well formed.
-use Rattle.std.proofs.Common.{◌≡◌, ℕ, ℤ, zero, suc, pos, Bool, true, false, cond, refl, sym, ◌∙◌, ap, List, [], ◌∷◌, length, ◌+◌, ◌*◌, ◌-◌, ◌%◌, ◌<◌, ◌≤◌, ◌^◌, ◌⊎◌, inl, inr, arith, FitsSigned}
+use Rattle.std.proofs.Common.{◌≡◌, ℕ, ℤ, zero, suc, pos, negsuc, Bool, true, false, cond, refl, sym, ◌∙◌, ap, List, [], ◌∷◌, length, ◌+◌, ◌*◌, ◌-◌, ◌%◌, ◌<◌, ◌≤◌, ◌^◌, ◌⊎◌, inl, inr, arith, FitsSigned}
 use Rattle.std.specs.Prelude.{Option, Some, None, not, min, slice_get, slice_set, nat_lt, ◌==◌, ◌&&◌, ◌||◌, if◌then◌else◌}
 use Rattle.std.specs.Int.{w64}
 use Rattle.std.proofs.lemmas.Bool.{eq-eqb}
@@ -16,9 +16,9 @@ use Rattle.opcodes.specs.declared.ending.Outcome.TheVariants.{Res, Waits, BadCho
 use Rattle.opcodes.specs.Outcomes.{outcome_of}
 use Rattle.opcodes.specs.Effects.{world_after}
 use Rattle.opcodes.proofs.Staying.{stays_after}
-use Rattle.model_files.specs.Worlds.{WorldState, world_stored}
+use Rattle.model_files.specs.Worlds.{WorldState, PutsWithin, descriptor_of, world_closed, world_stored}
 use Rattle.model_files.proofs.Fixing as worlds
-use Rattle.model_files.proofs.Forming.{world_stored_formed}
+use Rattle.model_files.proofs.Forming.{world_stored_formed, world_closed_formed}
 use Rattle.places.specs.Lists.{updated}
 use Rattle.places.specs.declared.value.Stage.{Stage}
 use Rattle.places.specs.declared.value.Stage.TheVariants.{Ready, Waiting}
@@ -33,7 +33,7 @@ use Rattle.links_drains.specs.Batches.{direct_of}
 use Rattle.links_drains.specs.Eligible.{is_eligible}
 use Rattle.links_drains.specs.Phases.{is_ended, counts}
 use Rattle.machine.specs.Submission.{offered, taken_entries, einval, ebusy, ebadf}
-use Rattle.machine.specs.Steps.{refusal, after, stepped, executed, entered, entered_alone, entered_beside, submitting, before_submission, is_busy, is_unknown, gets_events, wakes, woken, shown, awaited, ready_count, held_back, with_poller, flushed, submission_refusal, alone_refusal, enter_refusal, instruction_refusal, next_refusal, thread_refusal, take_refusal, issue_refusal, phase_refusal, finish_refusal, taken, submitted, answered, gone_on, issued, finished, finished_as, lacks_descriptor, held_by, fallen}
+use Rattle.machine.specs.Steps.{refusal, after, stepped, executed, entered, entered_alone, entered_beside, submitting, before_submission, is_busy, is_unknown, gets_events, wakes, woken, shown, awaited, ready_count, held_back, with_poller, flushed, submission_refusal, alone_refusal, enter_refusal, instruction_refusal, next_refusal, closed, is_open, thread_refusal, take_refusal, issue_refusal, phase_refusal, finish_refusal, taken, submitted, answered, gone_on, issued, finished, finished_as, lacks_descriptor, held_by, fallen}
 use Rattle.machine.specs.Threads.{ThreadState}
 use Rattle.machine.specs.Whole.{is_asleep, flag_word, WellFormed}
 use Rattle.scenario.specs.declared.setup.Instruction.{Instruction}
@@ -144,6 +144,9 @@ submitted_threads m k = threads_fallen (taken m k) (direct_of (length m.table) (
 
 fits_einval : FitsSigned w64 einval
 fits_einval = omega arith
+
+fits_ebadf : FitsSigned w64 ebadf
+fits_ebadf = omega arith
 
 formed_answered : (m : Machine) (t : ℕ) (x : ThreadState) (i : Instruction) (n : ℤ) → WellFormed m → slice_get m.threads t ≡ Some x → slice_get x.program x.counter ≡ Some i → FitsSigned w64 n → WellFormed (answered m t n)
 formed_answered m t x i n f e g l = formed_thread m (λ y. record y { counter = y.counter + 1; last = n; stage = Ready }) t x f e (stands_on (length m.submissions.slots) x i Ready n x.got (f.threads t x e) g refl l)
@@ -312,6 +315,19 @@ formed_storing m t x address bytes f e g r =
     formed_gone_on (record m { world = world_stored address bytes m.world }) t x (Store address bytes)
     (formed_world m (world_stored address bytes m.world) f (world_stored_formed address bytes m.world f.world within) f.puts (worlds.setup_stored address bytes m.world f.world within)) e g r
 
+closed_pipes : (fd : ℕ) (n : ℕ) (w : WorldState) → PutsWithin n w → PutsWithin n (world_closed fd w)
+closed_pipes fd n w h = h
+
+formed_closing : (m : Machine) (t : ℕ) (x : ThreadState) (fd : ℤ) → WellFormed m → slice_get m.threads t ≡ Some x → slice_get x.program x.counter ≡ Some (Close fd) → WellFormed (closed m t fd)
+formed_closing m t x (negsuc n) f e g = formed_answered m t x (Close (negsuc n)) ebadf f e g fits_ebadf
+formed_closing m t x (pos fd) f e g = by (is_open (descriptor_of m.world fd))
+  where
+    by : (b : Bool) → WellFormed (if b then answered (record m { world = world_closed fd m.world }) t (pos 0) else answered m t ebadf)
+    by true =
+        formed_answered (record m { world = world_closed fd m.world }) t x (Close (pos fd)) (pos 0)
+        (formed_world m (world_closed fd m.world) f (world_closed_formed fd m.world f.world) (closed_pipes fd (65536 * ended_of m.table) m.world f.puts) (worlds.setup_closed fd m.world)) e g (omega arith)
+    by false = formed_answered m t x (Close (pos fd)) ebadf f e g fits_ebadf
+
 formed_step : (m : Machine) (t : ℕ) → WellFormed m → refusal m (Step t) ≡ None → WellFormed (after m (Step t))
 formed_step m t f h = by (slice_get m.threads t) refl h
   where
@@ -321,7 +337,7 @@ formed_step m t f h = by (slice_get m.threads t) refl h
     next x e (Store address bytes) g r k = formed_storing m t x address bytes f e g r
     next x e (Enter to_submit min_complete flags) g r k = formed_enter m t x to_submit min_complete flags f e g k
     next x e Reap g r k = formed_reaping m t x f e g r k
-    next x e (Close fd) g r k = f
+    next x e (Close fd) g r k = formed_closing m t x fd f e g
 
     at : (x : ThreadState) → slice_get m.threads t ≡ Some x → (s : Stage) → x.stage ≡ s → (o : Option Instruction) → slice_get x.program x.counter ≡ o → next_refusal m s o ≡ None
         → WellFormed (elim s [ Ready ↦ executed m t o | Waiting n w ↦ answered m t (pos n) ])

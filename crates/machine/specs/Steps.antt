@@ -13,7 +13,7 @@ use Rattle.links_drains.specs.Holding.{is_held_by}
 use Rattle.opcodes.specs.Outcomes.{outcome_of}
 use Rattle.opcodes.specs.Effects.{world_after}
 use Rattle.model_files.specs.declared.descriptor.DescriptorState.{DescriptorState}
-use Rattle.model_files.specs.Worlds.{WorldState, descriptor_at, world_stored}
+use Rattle.model_files.specs.Worlds.{WorldState, descriptor_at, descriptor_of, world_closed, world_stored}
 use Rattle.places.specs.Lists.{updated}
 use Rattle.places.specs.declared.value.Stage.{Stage}
 use Rattle.places.specs.declared.value.Stage.TheVariants.{Ready, Waiting}
@@ -250,6 +250,15 @@ abbrev pub entered : Machine → Option Poller → ℕ → ℕ → ℕ → ℕ �
 entered m None t k w flags = if is_unknown flags then answered m t einval else entered_alone m t k w flags
 entered m (Some p) t k w flags = if is_unknown flags then answered m t einval else entered_beside m t k w flags
 
+abbrev pub is_open : Option DescriptorState → Bool
+is_open None = false
+is_open (Some d) = d.is_open
+
+-- a Close of a descriptor that is open, and of what is none (close(2))
+abbrev pub closed : Machine → ℕ → ℤ → Machine
+closed m t (negsuc n) = answered m t ebadf
+closed m t (pos fd) = if is_open (descriptor_of m.world fd) then answered (record m { world = world_closed fd m.world }) t (pos 0) else answered m t ebadf
+
 -- what an instruction changes
 abbrev pub executed : Machine → ℕ → Option Instruction → Machine
 executed m t None = m
@@ -261,7 +270,7 @@ executed m t (Some Reap) = record m {
   completions = record m.completions { head = (m.completions.head + 1) % 2 ^ 32 };
   threads = updated (λ x. record x { counter = x.counter + 1; got = slice_get m.completions.slots (m.completions.head % length m.completions.slots) }) m.threads t;
 }
-executed m t (Some (Close fd)) = m
+executed m t (Some (Close fd)) = closed m t fd
 
 abbrev pub next_of : Option ThreadState → Option Instruction
 next_of None = None

@@ -10,7 +10,6 @@ mod owned;
 pub mod setup;
 #[cfg(test)]
 mod tests;
-mod unbuilt;
 
 pub use event::{Event, Refusal};
 pub use holdings::{is_descriptor, is_name};

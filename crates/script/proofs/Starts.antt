@@ -13,7 +13,7 @@ use Rattle.places.specs.declared.object.Descriptor.{Descriptor}
 use Rattle.places.specs.declared.object.End.TheVariants.{Whole}
 use Rattle.places.specs.declared.object.Object.{Object}
 use Rattle.ring_words.specs.Rings.{rounded}
-use Rattle.scenario.specs.Setups.{is_between, is_completion_size, is_name, is_named, is_contents, is_object, names_once, is_descriptor, is_unbuilt_contents, is_unbuilt_object, setup_refusal}
+use Rattle.scenario.specs.Setups.{is_between, is_completion_size, is_name, is_named, is_contents, is_object, names_once, is_descriptor, setup_refusal}
 use Rattle.scenario.specs.declared.event.Event.{Event}
 use Rattle.scenario.specs.declared.setup.Instruction.{Instruction}
 use Rattle.scenario.specs.declared.setup.Setup.{Setup}
@@ -72,10 +72,9 @@ memory_length d m h =
 pub record AreObjects (os : List Object) : Type 0 where
   pub each : list_all is_object os ≡ true
   pub once : names_once os ≡ true
-  pub built : list_any is_unbuilt_object os ≡ false
 
-contents_ok : (w : ContentsForm) (c : Contents) → contents_keep_limits w ≡ true → contents_in_range w ≡ Some c → (is_contents c ≡ true) × (is_unbuilt_contents c ≡ false)
-contents_ok (form.File bytes) c k h = let e : File bytes ≡ c = cc in (ap is_contents (sym e) ∙ k, ap is_unbuilt_contents (sym e))
+contents_ok : (w : ContentsForm) (c : Contents) → contents_keep_limits w ≡ true → contents_in_range w ≡ Some c → is_contents c ≡ true
+contents_ok (form.File bytes) c k h = let e : File bytes ≡ c = cc in ap is_contents (sym e) ∙ k
 
 and_true : (a b : Bool) → (a && b) ≡ true → (a ≡ true) × (b ≡ true)
 and_true true b h = (refl, h)
@@ -90,7 +89,7 @@ chosen_some true o x h = (refl, h)
 chosen_some false o x h = absurd (cc)
 
 abbrev IsNext : List Object → Object → Type 0
-IsNext os o = (is_object o ≡ true) × (list_any (is_named o.name) os ≡ false) × (is_unbuilt_object o ≡ false)
+IsNext os o = (is_object o ≡ true) × (list_any (is_named o.name) os ≡ false)
 
 object_ok : (os : List Object) (w : ObjectForm) (o : Object) → is_small w ≡ true → object_in_range os w ≡ Some o → IsNext os o
 object_ok os w o k h =
@@ -98,9 +97,8 @@ object_ok os w o k h =
     let m = some_mapped (λ contents. record { name = w.name; contents = contents }) (contents_in_range w.contents) o t.1 in
     let n = and_true (is_name w.name) (not (list_any (is_named w.name) os)) t.0 in
     let c = contents_ok w.contents m.0 k m.1 in (
-      ap is_object m.2 ∙ ap (λ b. b && is_contents m.0) n.0 ∙ c.0,
+      ap is_object m.2 ∙ ap (λ b. b && is_contents m.0) n.0 ∙ c,
       ap (λ (x : Object). list_any (is_named x.name) os) m.2 ∙ not_false _ n.1,
-      ap is_unbuilt_object m.2 ∙ c.1,
     )
 
 one_all : (a b : Bool) → a ≡ true → b ≡ true → (a && (b && true)) ≡ true
@@ -113,7 +111,6 @@ more_objects : (os : List Object) (o : Object) → AreObjects os → IsNext os o
 more_objects os o a n = record {
   each = list_all-append is_object os (o ∷ []) ∙ one_all (list_all is_object os) (is_object o) a.each n.0;
   once = still_once os o a.once n.1;
-  built = list_any-append is_unbuilt_object os (o ∷ []) ∙ one_none (list_any is_unbuilt_object os) (is_unbuilt_object o) a.built n.2;
 }
 
 -- one object more
@@ -150,7 +147,7 @@ objects_ok d os h =
         let l = folded_length [] 0 ds os k in
         record {
           few = omega (arith, l);
-          objects = folded_keeps AreObjects object_at [] 0 ds os (λ r u j e p g. object_keeps r u j e p g) (record { each = refl; once = refl; built = refl }) k;
+          objects = folded_keeps AreObjects object_at [] 0 ds os (λ r u j e p g. object_keeps r u j e p g) (record { each = refl; once = refl }) k;
         }
 
 -- ---- descriptors
@@ -191,7 +188,7 @@ starts entries cq sqpoll submit_all base memory os fds ts e q m o l f b =
     let few_objects = le_true (length os) 32 o.few in
     let few_fds = le_true (length fds) 64 l in
     let few = le_true (length ts) 16 b.few in
-    rw (e, q, small, few_objects, o.objects.each, o.objects.once, few_fds, f, few, b.programs, o.objects.built, b.built) refl
+    rw (e, q, small, few_objects, o.objects.each, o.objects.once, few_fds, f, few, b.programs) refl
 
 pub startable : (d1 d2 d3 d4 d5 d6 d7 : Option Data) (entries size : ℕ) (cq : Option ℕ) (sqpoll submit_all : Bool) (base : ℕ) (memory : List ℕ) (os : List Object) (fds : List Descriptor) (ts : List (List Instruction)) (es : List Event)
     → Ok entries ≡ entries_of d1 → Ok cq ≡ cq_of entries d2 → memory_of d3 ≡ Ok memory → objects_of d4 ≡ Ok os → fds_of os d5 ≡ Ok fds → size ≡ rounded entries → threads_of size d6 ≡ Ok ts → schedule_of d7 ≡ Ok es
