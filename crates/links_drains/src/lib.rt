@@ -6,6 +6,7 @@ mod holding;
 mod index;
 pub mod laws;
 pub mod links;
+mod rest;
 mod sets;
 pub mod submission;
 pub mod table;

@@ -10,9 +10,11 @@ ghost use Rattle.links_drains.specs.Eligible.{is_eligible, GuardsFollow};
 ghost use Rattle.links_drains.specs.Holding.{is_held_by};
 ghost use Rattle.links_drains.specs.Links.{GoesOn};
 ghost use Rattle.links_drains.specs.Rows.{fixed_of, Stay, table_owns, table_seen, table_can_put, new_row as new_row_of};
+ghost use Rattle.links_drains.specs.Units.{rest_of as rest_of_unit};
 
 use crate::holding::{count, take_all_off, take_off};
 use crate::index::Index;
+use crate::rest::rest_in;
 use entries::{Phase, Row, Sqe};
 use model_files::Held;
 use places::{At, Part, Place, Recorder, Value};
@@ -156,6 +158,14 @@ impl Table {
         ensures { result ≡ is_eligible self.now r }
     {
         self.index.is_eligible(&self.rows, r as usize)
+    }
+
+    /// The later rows of a row's unit that haven't ended, in the order of their numbers; none where there
+    /// is no such row. It takes time by how many rows the unit has.
+    pub fn rest_of(&self, r: u32) -> Result<Vec<u32>, AllocError>
+        ensures { IfOk result (λ rest. rest.items ≡ rest_of_unit self.now r) }
+    {
+        rest_in(self.allocator(), &self.rows, r as usize)
     }
 
     /// Adds a row behind the others.
