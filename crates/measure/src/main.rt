@@ -9,10 +9,10 @@ mod plan;
 
 use fault::Fault;
 use inverse_log::Walker;
-use load::load_of;
+use load::{ISSUED, load_of};
 use parts::Load;
 use places::{Place, Record, Value};
-use plan::plan_of;
+use plan::{Plan, plan_of};
 use std::process::ExitCode;
 use std::rt::Clock;
 use std::time::Instant;
@@ -20,6 +20,9 @@ use std::{env, io};
 
 #[cfg(test)]
 mod tests;
+
+/// How often the requests are issued, and that is undone.
+const ROUNDS: usize = 200;
 
 // So many events in so many microseconds, on standard error.
 fn report(rt: &impl Eprint, what: &str, events: usize, micros: u128) -> io::Result<()> {
@@ -92,6 +95,34 @@ fn measure(rt: &(impl Print + Eprint + Clock + AllocGlobal), load: &Load) -> Res
     Ok(())
 }
 
+// How long it takes to go to a moment, in microseconds.
+fn timed(rt: &impl Clock, walker: &mut Walker, moment: usize) -> Result<u128, Fault> {
+    let start = Instant::now(rt)?;
+    walker.goto(moment)?;
+    Ok(start.elapsed(rt)?.as_micros())
+}
+
+// Adds the events, and walks the last of them on and back, again and again.
+fn measure_issues(
+    rt: &(impl Print + Eprint + Clock + AllocGlobal),
+    load: &Load,
+) -> Result<(), Fault> {
+    let mut walker = Walker::with(rt.alloc(), &load.setup, u32::MAX, u32::MAX)?;
+    add(rt, &mut walker, load)?;
+    let end = walker.len();
+    let start = end.saturating_sub(ISSUED as usize);
+    walker.goto(start)?;
+    let (mut on, mut back) = (0u128, 0u128);
+    for _round in 0..ROUNDS {
+        on = on.saturating_add(timed(rt, &mut walker, end)?);
+        back = back.saturating_add(timed(rt, &mut walker, start)?);
+    }
+    report(rt, "issue", ROUNDS * (end - start), on)?;
+    report(rt, "undo an issue", ROUNDS * (end - start), back)?;
+    print_counts(rt, &walker)?;
+    Ok(())
+}
+
 fn main(rt: HostRuntime) -> io::Result<ExitCode> {
     let alloc = rt.alloc();
     let words: Vec<String> = env::args(&rt)?.collect(alloc)?;
@@ -101,11 +132,15 @@ fn main(rt: HostRuntime) -> io::Result<ExitCode> {
         .map(|word| word.as_str())
         .collect(alloc)?;
     let Some(plan) = plan_of(&texts) else {
-        eprintln!(rt; "measure nops N | overflow N | ticks N | transfers N | syncs N")?;
+        eprintln!(rt; "measure nops N | overflow N | issues N | ticks N | transfers N | syncs N")?;
         return Ok(ExitCode::from(2));
     };
     let load = load_of(alloc, plan)?;
-    match measure(&rt, &load) {
+    let measured = match plan {
+        Plan::Issues(_) => measure_issues(&rt, &load),
+        _ => measure(&rt, &load),
+    };
+    match measured {
         Ok(()) => Ok(ExitCode::SUCCESS),
         Err(fault) => {
             eprintln!(rt; "{fault}")?;

@@ -21,6 +21,9 @@ pub enum Plan {
     Nops(u32),
     /// So many NOPs, all submitted before the first is issued: all completions but two are kept.
     Overflow(u32),
+    /// So many NOPs, all submitted before the first is issued: half of them end, and of the others some are
+    /// issued again and again.
+    Issues(u32),
     /// So many ticks of the clock.
     Ticks(u32),
     /// So many events of READs and WRITEs, each of which changes 4,096 bytes.
@@ -40,6 +43,7 @@ pub fn plan_of(words: &[&str]) -> Option<Plan>
     match *name {
         "nops" if size <= MOST_NOP_EVENTS => Some(Plan::Nops(size)),
         "overflow" if size <= MOST_OVERFLOWING => Some(Plan::Overflow(size)),
+        "issues" if size <= MOST_OVERFLOWING => Some(Plan::Issues(size)),
         "ticks" if size <= MOST_TICKS => Some(Plan::Ticks(size)),
         "transfers" if size <= MOST_FILE_EVENTS => Some(Plan::Transfers(size)),
         "syncs" if size <= MOST_FILE_EVENTS => Some(Plan::Syncs(size)),
