@@ -82,16 +82,18 @@ fn print_counts(rt: &(impl Print + Eprint), walker: &Walker) -> io::Result<()> {
     println!(rt; "ended {}", ended(walker))
 }
 
-// Adds the events, goes to the end, to the start and to the end again. Only the start is copied, and no
-// way back is too long for single steps: so each way is walked event by event.
-fn measure(rt: &(impl Print + Eprint + Clock + AllocGlobal), load: &Load) -> Result<(), Fault> {
-    let mut walker = Walker::with(rt.alloc(), &load.setup, u32::MAX, u32::MAX)?;
-    add(rt, &mut walker, load)?;
+// Adds the events, goes to the end, to the start and to the end again.
+fn walk_through(
+    rt: &(impl Print + Eprint + Clock),
+    walker: &mut Walker,
+    load: &Load,
+) -> Result<(), Fault> {
+    add(rt, walker, load)?;
     let len = walker.len();
-    go(rt, &mut walker, "forward", len)?;
-    go(rt, &mut walker, "back", 0)?;
-    go(rt, &mut walker, "on again", len)?;
-    print_counts(rt, &walker)?;
+    go(rt, walker, "forward", len)?;
+    go(rt, walker, "back", 0)?;
+    go(rt, walker, "on again", len)?;
+    print_counts(rt, walker)?;
     Ok(())
 }
 
@@ -102,25 +104,50 @@ fn timed(rt: &impl Clock, walker: &mut Walker, moment: usize) -> Result<u128, Fa
     Ok(start.elapsed(rt)?.as_micros())
 }
 
+// Walks between two moments, on and back, again and again.
+fn walk_rounds(
+    rt: &(impl Eprint + Clock),
+    walker: &mut Walker,
+    start: usize,
+    end: usize,
+) -> Result<(), Fault> {
+    let steps = ROUNDS.saturating_mul(end.abs_diff(start));
+    let (mut on, mut back) = (0u128, 0u128);
+    for _round in 0..ROUNDS {
+        on = on.saturating_add(timed(rt, walker, end)?);
+        back = back.saturating_add(timed(rt, walker, start)?);
+    }
+    report(rt, "issue", steps, on)?;
+    report(rt, "undo an issue", steps, back)?;
+    Ok(())
+}
+
 // Adds the events, and walks the last of them on and back, again and again.
-fn measure_issues(
-    rt: &(impl Print + Eprint + Clock + AllocGlobal),
+fn walk_issues(
+    rt: &(impl Print + Eprint + Clock),
+    walker: &mut Walker,
     load: &Load,
 ) -> Result<(), Fault> {
-    let mut walker = Walker::with(rt.alloc(), &load.setup, u32::MAX, u32::MAX)?;
-    add(rt, &mut walker, load)?;
+    add(rt, walker, load)?;
     let end = walker.len();
     let start = end.saturating_sub(ISSUED as usize);
     walker.goto(start)?;
-    let (mut on, mut back) = (0u128, 0u128);
-    for _round in 0..ROUNDS {
-        on = on.saturating_add(timed(rt, &mut walker, end)?);
-        back = back.saturating_add(timed(rt, &mut walker, start)?);
-    }
-    report(rt, "issue", ROUNDS * (end - start), on)?;
-    report(rt, "undo an issue", ROUNDS * (end - start), back)?;
-    print_counts(rt, &walker)?;
+    walk_rounds(rt, walker, start, end)?;
+    print_counts(rt, walker)?;
     Ok(())
+}
+
+// Only the start is copied, and no way back is too long for single steps: so each way is walked event by event.
+fn measure(
+    rt: &(impl Print + Eprint + Clock + AllocGlobal),
+    plan: Plan,
+    load: &Load,
+) -> Result<(), Fault> {
+    let mut walker = Walker::with(rt.alloc(), &load.setup, u32::MAX, u32::MAX)?;
+    match plan {
+        Plan::Issues(_) => walk_issues(rt, &mut walker, load),
+        _ => walk_through(rt, &mut walker, load),
+    }
 }
 
 fn main(rt: HostRuntime) -> io::Result<ExitCode> {
@@ -136,11 +163,7 @@ fn main(rt: HostRuntime) -> io::Result<ExitCode> {
         return Ok(ExitCode::from(2));
     };
     let load = load_of(alloc, plan)?;
-    let measured = match plan {
-        Plan::Issues(_) => measure_issues(&rt, &load),
-        _ => measure(&rt, &load),
-    };
-    match measured {
+    match measure(&rt, plan, &load) {
         Ok(()) => Ok(ExitCode::SUCCESS),
         Err(fault) => {
             eprintln!(rt; "{fault}")?;
