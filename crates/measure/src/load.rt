@@ -27,7 +27,7 @@ pub fn load_of(alloc: Global, plan: Plan) -> Result<Load, AllocError>
     requires { HasLimits plan }
 {
     match plan {
-        Plan::Nops(events) => nop_load(alloc, events),
+        Plan::Nops(events) | Plan::Jumps(events) => nop_load(alloc, events),
         Plan::Overflow(count) => overflow_load(alloc, count),
         Plan::Issues(count) => issue_load(alloc, count),
         Plan::Ticks(ticks) => Ok(Load {

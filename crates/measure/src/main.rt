@@ -3,12 +3,14 @@
 
 mod fault;
 mod files;
+mod jumps;
 mod load;
 mod parts;
 mod plan;
 
 use fault::Fault;
 use inverse_log::Walker;
+use jumps::{JUMPS, jump, search};
 use load::{ISSUED, load_of};
 use parts::Load;
 use places::{Place, Record, Value};
@@ -137,14 +139,39 @@ fn walk_issues(
     Ok(())
 }
 
-// Only the start is copied, and no way back is too long for single steps: so each way is walked event by event.
+// Adds the events, jumps between their moments, and searches them from the end to the start.
+fn walk_jumps(
+    rt: &(impl Print + Eprint + Clock + AllocGlobal),
+    walker: &mut Walker,
+    load: &Load,
+) -> Result<(), Fault> {
+    add(rt, walker, load)?;
+    let start = Instant::now(rt)?;
+    jump(walker)?;
+    report(rt, "jump", JUMPS, start.elapsed(rt)?.as_micros())?;
+    let len = walker.len();
+    walker.goto(len)?;
+    let start = Instant::now(rt)?;
+    search(rt.alloc(), walker)?;
+    report(rt, "search back", len, start.elapsed(rt)?.as_micros())?;
+    print_counts(rt, walker)?;
+    Ok(())
+}
+
+// Where the run jumps, a state is copied at each 1,024th moment; else only the start is, and no way back is
+// too long for single steps: so each way is walked event by event.
 fn measure(
     rt: &(impl Print + Eprint + Clock + AllocGlobal),
     plan: Plan,
     load: &Load,
 ) -> Result<(), Fault> {
-    let mut walker = Walker::with(rt.alloc(), &load.setup, u32::MAX, u32::MAX)?;
+    let (every, window) = match plan {
+        Plan::Jumps(_) => (1024, 256),
+        _ => (u32::MAX, u32::MAX),
+    };
+    let mut walker = Walker::with(rt.alloc(), &load.setup, every, window)?;
     match plan {
+        Plan::Jumps(_) => walk_jumps(rt, &mut walker, load),
         Plan::Issues(_) => walk_issues(rt, &mut walker, load),
         _ => walk_through(rt, &mut walker, load),
     }
@@ -159,7 +186,7 @@ fn main(rt: HostRuntime) -> io::Result<ExitCode> {
         .map(|word| word.as_str())
         .collect(alloc)?;
     let Some(plan) = plan_of(&texts) else {
-        eprintln!(rt; "measure nops N | overflow N | issues N | ticks N | transfers N | syncs N")?;
+        eprintln!(rt; "measure nops N | jumps N | overflow N | issues N | ticks N | transfers N | syncs N")?;
         return Ok(ExitCode::from(2));
     };
     let load = load_of(alloc, plan)?;
