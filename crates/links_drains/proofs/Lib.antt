@@ -11,6 +11,7 @@ pub mod Listing
 pub mod Numbers
 pub mod Rising
 pub mod Remaining
+pub mod RestOfUnit
 pub mod RowsKept
 pub mod Seen
 pub mod Tallying

@@ -1,7 +1,7 @@
 -- Units of rows, and which of them hold later ones.
-use Rattle.std.specs.Prelude.{◌≡◌, ℕ, ◌==◌, Bool, true, false, ◌&&◌, Some, List, slice_get}
+use Rattle.std.specs.Prelude.{◌≡◌, ℕ, ◌==◌, Bool, true, false, ◌&&◌, nat_lt, Some, List, map, slice_get}
 use Rattle.std.specs.Option.{option_map_or}
-use Rattle.std.specs.List.{list_any}
+use Rattle.std.specs.List.{filter, list_any, enumerate_from}
 use Rattle.entries.specs.declared.row.Row.{Row}
 use Rattle.links_drains.specs.Eligible.{drains}
 use Rattle.links_drains.specs.Phases.{is_unfinished}
@@ -13,6 +13,14 @@ passes_at test rows r = option_map_or test (slice_get rows r) false
 
 abbrev pub is_open : Row → Bool
 is_open row = is_unfinished row.phase
+
+-- whether a row stands behind another of its unit, and hasn't ended
+abbrev pub is_rest : List Row → ℕ → ℕ × Row → Bool
+is_rest rows r other = nat_lt r other.0 && (passes_at (λ (row : Row). other.1.unit == row.unit) rows r && is_open other.1)
+
+-- the later rows of a row's unit that haven't ended
+abbrev pub rest_of : List Row → ℕ → List ℕ
+rest_of rows r = map (λ (other : ℕ × Row). other.0) (filter (is_rest rows r) (enumerate_from 0 rows))
 
 -- whether some row of a unit hasn't ended
 abbrev pub is_under_way : List Row → ℕ → Bool

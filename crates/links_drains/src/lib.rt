@@ -6,10 +6,11 @@ mod holding;
 mod index;
 pub mod laws;
 pub mod links;
+mod rest;
 mod sets;
 pub mod submission;
 pub mod table;
 
-pub use links::is_soft_linked;
+pub use links::{is_soft_linked, is_unfinished};
 pub use submission::Batch;
 pub use table::{Table, new_row};

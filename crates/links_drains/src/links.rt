@@ -46,7 +46,8 @@ pub(crate) fn is_queued(row: &Row) -> bool
     matches!(row.phase, Phase::Queued)
 }
 
-pub(crate) fn is_unfinished(row: &Row) -> bool
+/// Whether a row hasn't ended.
+pub fn is_unfinished(row: &Row) -> bool
     ensures { result ≡ is_unfinished row.now.phase }
 {
     !matches!(row.phase, Phase::Ended(_))

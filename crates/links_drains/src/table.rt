@@ -10,9 +10,11 @@ ghost use Rattle.links_drains.specs.Eligible.{is_eligible, GuardsFollow};
 ghost use Rattle.links_drains.specs.Holding.{is_held_by};
 ghost use Rattle.links_drains.specs.Links.{GoesOn};
 ghost use Rattle.links_drains.specs.Rows.{fixed_of, Stay, table_owns, table_seen, table_can_put, new_row as new_row_of};
+ghost use Rattle.links_drains.specs.Units.{rest_of as rest_of_unit};
 
 use crate::holding::{count, take_all_off, take_off};
 use crate::index::Index;
+use crate::rest::rest_in;
 use entries::{Phase, Row, Sqe};
 use model_files::Held;
 use places::{At, Part, Place, Recorder, Value};
@@ -156,6 +158,14 @@ impl Table {
         ensures { result ≡ is_eligible self.now r }
     {
         self.index.is_eligible(&self.rows, r as usize)
+    }
+
+    /// The later rows of a row's unit that haven't ended, in the order of their numbers; none where there
+    /// is no such row. It takes time by how many rows the unit has.
+    pub fn rest_of(&self, r: u32) -> Result<Vec<u32>, AllocError>
+        ensures { IfOk result (λ rest. rest.items ≡ rest_of_unit self.now r) }
+    {
+        rest_in(self.allocator(), &self.rows, r as usize)
     }
 
     /// Adds a row behind the others.
@@ -313,38 +323,52 @@ mod tests {
         }
     }
 
+    // Whether a table has a queued row and one that ended, and no more.
+    fn tells_two_rows(table: &Table) -> bool {
+        let first = table.phase(0) == Some(Phase::Queued) && table.opcode(0) == Some(0);
+        let second = table.phase(1) == Some(Phase::Ended(-9)) && table.user_data(1) == Some(8);
+        first && second && table.phase(2).is_none() && table.len() == 2
+    }
+
     #[test]
-    fn two_rows(rt: HostRuntime) -> Result<(), AllocError> {
-        let alloc = rt.alloc();
-        let mut table = Table::new(alloc);
-        let mut notes = Recorder::new(alloc);
+    fn rows_are_told(rt: HostRuntime) -> Result<(), AllocError> {
+        let mut table = table_of(rt.alloc(), &[nop(7), nop(8)])?;
+        assert_eq!(rt; table.len(), 2);
+        assert!(rt; table.get(0) == Some(new_row(nop(7), 0)));
+        end(&mut table, 1)?;
+        assert!(rt; tells_two_rows(&table));
+        Ok(())
+    }
+
+    // Whether a copy keeps a row that its table lets go.
+    fn copy_keeps_the_last(table: &mut Table) -> Result<bool, AllocError> {
+        let copied = table.copy(table.allocator())?;
+        table.truncate(1);
+        Ok(table.len() == 1 && copied.len() == 2 && copied.user_data(1) == Some(8))
+    }
+
+    #[test]
+    fn copies_stay(rt: HostRuntime) -> Result<(), AllocError> {
+        let mut table = table_of(rt.alloc(), &[nop(7), nop(8)])?;
+        assert!(rt; copy_keeps_the_last(&mut table)?);
+        Ok(())
+    }
+
+    #[test]
+    fn records_leave_no_row_that_came(rt: HostRuntime) -> Result<(), AllocError> {
+        let mut table = Table::new(rt.alloc());
+        let mut notes = Recorder::new(rt.alloc());
         let batch = table.take_batch(&[nop(7), nop(8)], false, &mut notes)?;
         assert_eq!(rt; batch.taken, 2);
-        table.set_phase(1, Phase::Ended(-22), &mut notes)?;
-        assert_eq!(rt; table.len(), 2);
-        assert_eq!(rt; table.phase(0), Some(Phase::Queued));
-        assert_eq!(rt; table.phase(1), Some(Phase::Ended(-22)));
-        assert_eq!(rt; table.phase(2), None);
-        assert_eq!(rt; table.user_data(1), Some(8));
-        assert_eq!(rt; table.opcode(0), Some(0));
-        assert_eq!(rt; table.get(0), Some(new_row(nop(7), 0)));
-        let copied = table.copy(alloc)?;
-        let record = notes.close(&table);
-        assert_eq!(rt; record.rows_left(2), 0);
-        table.truncate(1);
-        assert_eq!(rt; table.len(), 1);
-        assert_eq!(rt; copied.len(), 2);
-        assert_eq!(rt; copied.user_data(1), Some(8));
+        assert_eq!(rt; notes.close(&table).rows_left(2), 0);
         Ok(())
     }
 
     #[test]
     fn an_issued_row_holds(rt: HostRuntime) -> Result<(), AllocError> {
-        let mut table = Table::new(rt.alloc());
-        let mut notes = Recorder::new(rt.alloc());
-        let batch = table.take_batch(&[nop(7)], false, &mut notes)?;
-        assert_eq!(rt; batch.taken, 1);
-        table.issue(0, Some(3), &mut notes)?;
+        let mut table = table_of(rt.alloc(), &[nop(7)])?;
+        assert_eq!(rt; table.len(), 1);
+        hold(&mut table, 0, 3)?;
         assert_eq!(rt; table.phase(0), Some(Phase::Issued));
         assert_eq!(rt; held_by(&table, 0), Some(3));
         assert_eq!(rt; table.held().holds(3), true);
@@ -354,43 +378,85 @@ mod tests {
 
     #[test]
     fn held_until_the_last_row_ends(rt: HostRuntime) -> Result<(), AllocError> {
-        let mut table = Table::new(rt.alloc());
-        let mut notes = Recorder::new(rt.alloc());
-        let batch = table.take_batch(&[nop(7), nop(8)], false, &mut notes)?;
-        assert_eq!(rt; batch.taken, 2);
-        table.issue(0, Some(66), &mut notes)?;
-        table.issue(1, Some(66), &mut notes)?;
-        table.set_phase(0, Phase::Ended(-9), &mut notes)?;
+        let mut table = table_of(rt.alloc(), &[nop(7), nop(8)])?;
+        assert_eq!(rt; table.len(), 2);
+        hold(&mut table, 0, 66)?;
+        hold(&mut table, 1, 66)?;
+        end(&mut table, 0)?;
         assert_eq!(rt; table.held().holds(66), true);
-        table.set_phase(1, Phase::Ended(-9), &mut notes)?;
+        end(&mut table, 1)?;
         assert_eq!(rt; table.held().holds(66), false);
         Ok(())
     }
 
-    #[test]
-    fn held_again_once_put_back(rt: HostRuntime) -> Result<(), AllocError> {
-        let alloc = rt.alloc();
-        let mut table = Table::new(alloc);
-        let mut notes = Recorder::new(alloc);
-        let batch = table.take_batch(&[nop(7)], false, &mut notes)?;
-        assert_eq!(rt; batch.taken, 1);
-        table.issue(0, Some(5), &mut notes)?;
-        assert_eq!(rt; table.held().holds(5), true);
-        table.set_phase(0, Phase::Ended(-9), &mut notes)?;
-        assert_eq!(rt; table.held().holds(5), false);
-        let Some(ended) = table.get(0) else {
-            panic!(rt; "no row")
+    // A row is issued, and holds a descriptor.
+    fn hold(table: &mut Table, r: u32, fd: u32) -> Result<(), AllocError>
+        requires { r < length table.old }
+        ensures len { length table.new ≡ length table.old }
+    {
+        let mut notes = Recorder::new(table.allocator());
+        table.issue(r, Some(fd), &mut notes)
+    }
+
+    fn end(table: &mut Table, r: u32) -> Result<(), AllocError>
+        requires { r < length table.old }
+        ensures len { length table.new ≡ length table.old }
+    {
+        let mut notes = Recorder::new(table.allocator());
+        table.set_phase(r, Phase::Ended(-9), &mut notes)
+    }
+
+    // Puts the first row back to where it was issued.
+    fn put_back_issued(table: &mut Table) {
+        let Some(row) = table.get(0) else {
+            return;
         };
         let issued = Row {
             phase: Phase::Issued,
-            ..ended
+            ..row
         };
         table.put(Place::Request(0), Some(Value::Requested(issued)));
+    }
+
+    // The table of a batch of no more than nine.
+    fn table_of(alloc: Global, entries: &[Sqe]) -> Result<Table, AllocError>
+        requires { length entries.now ≤ 9 }
+    {
+        let mut table = Table::new(alloc);
+        let mut notes = Recorder::new(alloc);
+        table.take_batch(entries, true, &mut notes)?;
+        Ok(table)
+    }
+
+    #[test]
+    fn held_again_once_put_back(rt: HostRuntime) -> Result<(), AllocError> {
+        let mut table = table_of(rt.alloc(), &[nop(7)])?;
+        assert_eq!(rt; table.len(), 1);
+        hold(&mut table, 0, 5)?;
+        end(&mut table, 0)?;
+        assert_eq!(rt; table.held().holds(5), false);
+        put_back_issued(&mut table);
         assert_eq!(rt; table.held().holds(5), true);
-        let copied = table.copy(alloc)?;
         table.truncate(0);
         assert_eq!(rt; table.held().holds(5), false);
-        assert_eq!(rt; copied.held().holds(5), true);
+        Ok(())
+    }
+
+    // Whether the rest of a row's unit is a list.
+    fn has_rest(table: &Table, r: u32, want: &[u32]) -> Result<bool, AllocError> {
+        Ok(table.rest_of(r)?.as_slice() == want)
+    }
+
+    #[test]
+    fn the_rest_of_a_unit(rt: HostRuntime) -> Result<(), AllocError> {
+        let linked = Sqe { flags: 4, ..nop(7) };
+        let mut table = table_of(rt.alloc(), &[linked, linked, nop(7), nop(7)])?;
+        assert_eq!(rt; table.len(), 4);
+        assert!(rt; has_rest(&table, 0, &[1, 2])?);
+        end(&mut table, 1)?;
+        assert!(rt; has_rest(&table, 0, &[2])?);
+        assert!(rt; has_rest(&table, 2, &[])?);
+        assert!(rt; has_rest(&table, 4, &[])?);
         Ok(())
     }
 }

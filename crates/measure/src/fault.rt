@@ -2,6 +2,7 @@
 
 use inverse_log::{ExtendRefusal, WalkRefusal};
 use machine::SetupRefusal;
+use std::alloc::AllocError;
 use std::{fmt, io};
 
 #[derive(Debug, Drop)]
@@ -9,6 +10,7 @@ pub enum Fault {
     Setup(SetupRefusal),
     Extend(ExtendRefusal),
     Walk(WalkRefusal),
+    Memory,
     Io(io::Error),
 }
 
@@ -30,6 +32,12 @@ impl From<WalkRefusal> for Fault {
     }
 }
 
+impl From<AllocError> for Fault {
+    fn from(_: AllocError) -> Fault {
+        Fault::Memory
+    }
+}
+
 impl From<io::Error> for Fault {
     fn from(error: io::Error) -> Fault {
         Fault::Io(error)
@@ -42,6 +50,7 @@ impl fmt::Display for Fault {
             Fault::Setup(refusal) => write!(f, "setup {refusal:?}"),
             Fault::Extend(refusal) => write!(f, "extend {refusal:?}"),
             Fault::Walk(refusal) => write!(f, "walk {refusal:?}"),
+            Fault::Memory => write!(f, "memory"),
             Fault::Io(error) => write!(f, "{error}"),
         }
     }

@@ -19,13 +19,17 @@ const PROGRAM_REQUESTS: u32 = 1365;
 /// How many pushes one program of 4,096 instructions holds, behind its Put.
 const PROGRAM_PUSHES: u32 = 4095;
 
+/// How many requests are issued again and again.
+pub const ISSUED: u32 = 500;
+
 /// What a plan asks for.
 pub fn load_of(alloc: Global, plan: Plan) -> Result<Load, AllocError>
     requires { HasLimits plan }
 {
     match plan {
-        Plan::Nops(events) => nop_load(alloc, events),
+        Plan::Nops(events) | Plan::Jumps(events) => nop_load(alloc, events),
         Plan::Overflow(count) => overflow_load(alloc, count),
+        Plan::Issues(count) => issue_load(alloc, count),
         Plan::Ticks(ticks) => Ok(Load {
             setup: setup_of(alloc, Items::new(alloc)),
             events: vec![in alloc; Event::Tick(1); ticks as usize]?,
@@ -44,8 +48,30 @@ fn nop_load(alloc: Global, count: u32) -> Result<Load, AllocError> {
     request_load(alloc, count, &requests)
 }
 
-// The poller takes each NOP as it is pushed; then each is issued and finished, into a ring of two.
+// All NOPs are submitted; then each is issued and finished, into a ring of two.
 fn overflow_load(alloc: Global, count: u32) -> Result<Load, AllocError>
+    requires { count ≤ 65520 }
+{
+    let mut load = submitted_load(alloc, count)?;
+    add_ends(&mut load.events, count)?;
+    Ok(load)
+}
+
+// All NOPs are submitted; then half of them are issued and finished, and of the others the first are issued.
+fn issue_load(alloc: Global, count: u32) -> Result<Load, AllocError>
+    requires { count ≤ 65520 }
+{
+    let mut load = submitted_load(alloc, count)?;
+    let half = count / 2;
+    add_ends(&mut load.events, half)?;
+    for row in half..count.min(half + ISSUED) {
+        load.events.push(Event::Issue(row))?;
+    }
+    Ok(load)
+}
+
+// The poller takes each NOP as it is pushed.
+fn submitted_load(alloc: Global, count: u32) -> Result<Load, AllocError>
     requires { count ≤ 65520 }
 {
     let mut threads = Vec::new(alloc);
@@ -56,7 +82,6 @@ fn overflow_load(alloc: Global, count: u32) -> Result<Load, AllocError>
         threads.push(push_program(alloc, here)?)?;
         add_takes(&mut events, thread, here)?;
     }
-    add_ends(&mut events, count)?;
     let mut setup = setup_of(alloc, Items::of(threads));
     setup.sqpoll = true;
     Ok(Load { setup, events })

@@ -3,16 +3,18 @@
 
 mod fault;
 mod files;
+mod jumps;
 mod load;
 mod parts;
 mod plan;
 
 use fault::Fault;
 use inverse_log::Walker;
-use load::load_of;
+use jumps::{JUMPS, jump, search};
+use load::{ISSUED, load_of};
 use parts::Load;
 use places::{Place, Record, Value};
-use plan::plan_of;
+use plan::{Plan, plan_of};
 use std::process::ExitCode;
 use std::rt::Clock;
 use std::time::Instant;
@@ -20,6 +22,9 @@ use std::{env, io};
 
 #[cfg(test)]
 mod tests;
+
+/// How often the requests are issued, and that is undone.
+const ROUNDS: usize = 200;
 
 // So many events in so many microseconds, on standard error.
 fn report(rt: &impl Eprint, what: &str, events: usize, micros: u128) -> io::Result<()> {
@@ -79,17 +84,97 @@ fn print_counts(rt: &(impl Print + Eprint), walker: &Walker) -> io::Result<()> {
     println!(rt; "ended {}", ended(walker))
 }
 
-// Adds the events, goes to the end, to the start and to the end again. Only the start is copied, and no
-// way back is too long for single steps: so each way is walked event by event.
-fn measure(rt: &(impl Print + Eprint + Clock + AllocGlobal), load: &Load) -> Result<(), Fault> {
-    let mut walker = Walker::with(rt.alloc(), &load.setup, u32::MAX, u32::MAX)?;
-    add(rt, &mut walker, load)?;
+// Adds the events, goes to the end, to the start and to the end again.
+fn walk_through(
+    rt: &(impl Print + Eprint + Clock),
+    walker: &mut Walker,
+    load: &Load,
+) -> Result<(), Fault> {
+    add(rt, walker, load)?;
     let len = walker.len();
-    go(rt, &mut walker, "forward", len)?;
-    go(rt, &mut walker, "back", 0)?;
-    go(rt, &mut walker, "on again", len)?;
-    print_counts(rt, &walker)?;
+    go(rt, walker, "forward", len)?;
+    go(rt, walker, "back", 0)?;
+    go(rt, walker, "on again", len)?;
+    print_counts(rt, walker)?;
     Ok(())
+}
+
+// How long it takes to go to a moment, in microseconds.
+fn timed(rt: &impl Clock, walker: &mut Walker, moment: usize) -> Result<u128, Fault> {
+    let start = Instant::now(rt)?;
+    walker.goto(moment)?;
+    Ok(start.elapsed(rt)?.as_micros())
+}
+
+// Walks between two moments, on and back, again and again.
+fn walk_rounds(
+    rt: &(impl Eprint + Clock),
+    walker: &mut Walker,
+    start: usize,
+    end: usize,
+) -> Result<(), Fault> {
+    let steps = ROUNDS.saturating_mul(end.abs_diff(start));
+    let (mut on, mut back) = (0u128, 0u128);
+    for _round in 0..ROUNDS {
+        on = on.saturating_add(timed(rt, walker, end)?);
+        back = back.saturating_add(timed(rt, walker, start)?);
+    }
+    report(rt, "issue", steps, on)?;
+    report(rt, "undo an issue", steps, back)?;
+    Ok(())
+}
+
+// Adds the events, and walks the last of them on and back, again and again.
+fn walk_issues(
+    rt: &(impl Print + Eprint + Clock),
+    walker: &mut Walker,
+    load: &Load,
+) -> Result<(), Fault> {
+    add(rt, walker, load)?;
+    let end = walker.len();
+    let start = end.saturating_sub(ISSUED as usize);
+    walker.goto(start)?;
+    walk_rounds(rt, walker, start, end)?;
+    print_counts(rt, walker)?;
+    Ok(())
+}
+
+// Adds the events, jumps between their moments, and searches them from the end to the start.
+fn walk_jumps(
+    rt: &(impl Print + Eprint + Clock + AllocGlobal),
+    walker: &mut Walker,
+    load: &Load,
+) -> Result<(), Fault> {
+    add(rt, walker, load)?;
+    let start = Instant::now(rt)?;
+    jump(walker)?;
+    report(rt, "jump", JUMPS, start.elapsed(rt)?.as_micros())?;
+    let len = walker.len();
+    walker.goto(len)?;
+    let start = Instant::now(rt)?;
+    search(rt.alloc(), walker)?;
+    report(rt, "search back", len, start.elapsed(rt)?.as_micros())?;
+    print_counts(rt, walker)?;
+    Ok(())
+}
+
+// Where the run jumps, a state is copied at each 1,024th moment; else only the start is, and no way back is
+// too long for single steps: so each way is walked event by event.
+fn measure(
+    rt: &(impl Print + Eprint + Clock + AllocGlobal),
+    plan: Plan,
+    load: &Load,
+) -> Result<(), Fault> {
+    let (every, window) = match plan {
+        Plan::Jumps(_) => (1024, 256),
+        _ => (u32::MAX, u32::MAX),
+    };
+    let mut walker = Walker::with(rt.alloc(), &load.setup, every, window)?;
+    match plan {
+        Plan::Jumps(_) => walk_jumps(rt, &mut walker, load),
+        Plan::Issues(_) => walk_issues(rt, &mut walker, load),
+        _ => walk_through(rt, &mut walker, load),
+    }
 }
 
 fn main(rt: HostRuntime) -> io::Result<ExitCode> {
@@ -101,11 +186,13 @@ fn main(rt: HostRuntime) -> io::Result<ExitCode> {
         .map(|word| word.as_str())
         .collect(alloc)?;
     let Some(plan) = plan_of(&texts) else {
-        eprintln!(rt; "measure nops N | overflow N | ticks N | transfers N | syncs N")?;
+        eprintln!(rt;
+            "measure nops N | jumps N | overflow N | issues N | ticks N | transfers N | syncs N"
+        )?;
         return Ok(ExitCode::from(2));
     };
     let load = load_of(alloc, plan)?;
-    match measure(&rt, &load) {
+    match measure(&rt, plan, &load) {
         Ok(()) => Ok(ExitCode::SUCCESS),
         Err(fault) => {
             eprintln!(rt; "{fault}")?;

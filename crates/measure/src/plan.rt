@@ -19,8 +19,13 @@ pub const MOST_FILE_EVENTS: u32 = 109120;
 pub enum Plan {
     /// So many events of NOPs.
     Nops(u32),
+    /// So many events of NOPs, between whose moments the run jumps.
+    Jumps(u32),
     /// So many NOPs, all submitted before the first is issued: all completions but two are kept.
     Overflow(u32),
+    /// So many NOPs, all submitted before the first is issued: half of them end, and of the others some are
+    /// issued again and again.
+    Issues(u32),
     /// So many ticks of the clock.
     Ticks(u32),
     /// So many events of READs and WRITEs, each of which changes 4,096 bytes.
@@ -39,7 +44,9 @@ pub fn plan_of(words: &[&str]) -> Option<Plan>
     let size = size.parse::<u32>().ok()?;
     match *name {
         "nops" if size <= MOST_NOP_EVENTS => Some(Plan::Nops(size)),
+        "jumps" if size <= MOST_NOP_EVENTS => Some(Plan::Jumps(size)),
         "overflow" if size <= MOST_OVERFLOWING => Some(Plan::Overflow(size)),
+        "issues" if size <= MOST_OVERFLOWING => Some(Plan::Issues(size)),
         "ticks" if size <= MOST_TICKS => Some(Plan::Ticks(size)),
         "transfers" if size <= MOST_FILE_EVENTS => Some(Plan::Transfers(size)),
         "syncs" if size <= MOST_FILE_EVENTS => Some(Plan::Syncs(size)),

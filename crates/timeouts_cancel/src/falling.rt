@@ -1,13 +1,12 @@
 //! Rows end with those that a step ends of itself (io_uring_enter(2)).
 ghost use Rattle.std.specs.Prelude.{◌≡◌, ◌≢◌, ◌&&◌, ◌+◌, ◌^◌, ◌<◌, ◌≤◌, ℕ, IfOk, IfSome, None, Some, length, slice_get};
 ghost use Rattle.links_drains.specs.Links.{is_soft_linked as has_soft_link, Chained};
-ghost use Rattle.links_drains.specs.Phases.{is_unfinished};
 ghost use Rattle.links_drains.specs.Endings.{Ending, Direct};
 ghost use Rattle.timeouts_cancel.specs.Falls.{fall_of, is_bad, NoTimers};
 ghost use Rattle.timeouts_cancel.specs.Walks.{Walked, Sweeping};
 
-use entries::{Phase, Row};
-use links_drains::{Table, is_soft_linked};
+use entries::Row;
+use links_drains::{Table, is_soft_linked, is_unfinished};
 use opcodes::ECANCELED;
 use std::alloc::AllocError;
 
@@ -105,12 +104,6 @@ fn result_at(direct: &[(u32, i32)], at: usize, row: u32) -> Option<i32>
     }
     let (r, res) = direct[at];
     if r == row { Some(res) } else { None }
-}
-
-fn is_unfinished(row: &Row) -> bool
-    ensures { result ≡ is_unfinished row.now.phase }
-{
-    !matches!(row.phase, Phase::Ended(_))
 }
 
 // Whether a row severs the rest of its unit as it ends with a result.

@@ -9,7 +9,7 @@ use machine::{
     ring_size, setup_refusal,
 };
 use opcodes::{Choice, Op};
-use places::{Place, Value};
+use places::{Items, Place, Value};
 use script::{Script, read_script};
 use std::alloc::Global;
 use std::test::Fail;
@@ -52,6 +52,8 @@ fn setups_are_refused(rt: HostRuntime) -> Result<(), Fail> {
     setup.sqpoll = true;
     assert!(rt; setup_refusal(&setup).is_none());
     setup.submit_all = true;
+    assert!(rt; setup_refusal(&setup).is_none());
+    setup.memory = Items::of(vec![in rt.alloc(); 0; 65537]?);
     assert!(rt; setup_refusal(&setup) == Some(SetupRefusal::Limit));
     setup.entries = 4097;
     assert!(rt; setup_refusal(&setup) == Some(SetupRefusal::RingSize));

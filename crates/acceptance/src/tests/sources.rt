@@ -75,21 +75,6 @@ fn syncs_with_a_list_of_answers(rt: HostRuntime) -> Result<(), Fail> {
     Ok(())
 }
 
-// The reply to a sync, by what the source has.
-fn synced(session: &mut Session, answer: Option<&[Event]>) -> Result<Vec<u8>, Fail> {
-    let text = session.line(b"sync", answer)?;
-    Ok(text)
-}
-
-#[test]
-fn a_source_that_has_as_much_and_none(rt: HostRuntime) -> Result<(), Fail> {
-    let mut session = session_of(rt.alloc())?;
-    let two = [Event::Tick(0); 2];
-    assert!(rt; synced(&mut session, Some(&two))?.as_slice() == b"synced 2\n".as_slice());
-    assert!(rt; synced(&mut session, None)?.as_slice() == b"refused 2 source\n".as_slice());
-    Ok(())
-}
-
 // What was asked for before is answered, and nothing behind it.
 #[test]
 fn a_source_without_memory_closes_the_session(rt: HostRuntime) -> Result<(), Fail> {

@@ -1,0 +1,97 @@
+-- The rest of a unit, row by row.
+use Rattle.std.proofs.Common.{◌≡◌, ℕ, zero, suc, Bool, true, false, cond, refl, sym, ◌∙◌, ap, List, [], ◌∷◌, ◌++◌, take, length, ◌<◌, ◌≤◌, ◌+◌, inl, inr, arith}
+use Rattle.std.specs.Prelude.{Option, Some, None, map, option_map, slice_get, ◌==◌, ◌&&◌, nat_lt}
+use Rattle.std.specs.Option.{option_map_or}
+use Rattle.std.specs.List.{filter, enumerate_from}
+use Rattle.std.proofs.lemmas.Bool.{eq-eqb, ltb-true, lt-ltb, and_left, cases_Bool, ne_eqb}
+use Rattle.std.proofs.lemmas.List.{map-append}
+use Rattle.std.proofs.lemmas.List.Elements.{filter-append}
+use Rattle.std.proofs.lemmas.Option.{slice_get_within, slice_get_past}
+use Rattle.entries.specs.declared.row.Row.{Row}
+use Rattle.links_drains.specs.Links.{Chained}
+use Rattle.links_drains.specs.Units.{is_open, is_rest, passes_at, rest_of}
+use Rattle.links_drains.proofs.Batching.{take_more}
+use Rattle.links_drains.proofs.Chains.{enumerated}
+use Rattle.links_drains.proofs.Units.{passes_here}
+
+-- ---- filters of a list's beginning
+
+none_before : {X : Type 0} (p : X → Bool) (k : ℕ) (xs : List X) → ((i : ℕ) (x : X) → i < k → slice_get xs i ≡ Some x → p x ≡ false) → filter p (take k xs) ≡ []
+none_before p zero xs h = refl
+none_before p (suc k) [] h = refl
+none_before p (suc k) (x ∷ xs) h = ap (λ b. cond b (x ∷ filter p (take k xs)) (filter p (take k xs))) (h 0 x (omega arith) refl) ∙ none_before p k xs (λ i y l e. h (suc i) y (omega (arith, l)) e)
+
+none_behind : {X : Type 0} (p : X → Bool) (k : ℕ) (xs : List X) → ((i : ℕ) (x : X) → k ≤ i → slice_get xs i ≡ Some x → p x ≡ false) → filter p (take k xs) ≡ filter p xs
+none_behind p zero [] h = refl
+none_behind p zero (x ∷ xs) h = sym (ap (λ b. cond b (x ∷ filter p xs) (filter p xs)) (h 0 x (omega arith) refl) ∙ sym (none_behind p zero xs (λ i y l e. h (suc i) y (omega arith) e)))
+none_behind p (suc k) [] h = refl
+none_behind p (suc k) (x ∷ xs) h = ap (λ ys. cond (p x) (x ∷ ys) ys) (none_behind p k xs (λ i y l e. h (suc i) y (omega (arith, l)) e))
+
+-- ---- the rest of a row's unit, among the first rows
+
+abbrev pub rest_to : List Row → ℕ → ℕ → List ℕ
+rest_to rows r k = map (λ (other : ℕ × Row). other.0) (filter (is_rest rows r) (take k (enumerate_from 0 rows)))
+
+-- a test of the numbered rows, row by row
+numbered : (test : ℕ × Row → Bool) (rows : List Row) (i : ℕ) (p : ℕ × Row) → ((row : Row) → slice_get rows i ≡ Some row → test (i, row) ≡ false) → slice_get (enumerate_from 0 rows) i ≡ Some p → test p ≡ false
+numbered test rows i p h e = by (slice_get rows i) refl (sym (enumerated rows i) ∙ e)
+  where
+    by : (o : Option Row) → slice_get rows i ≡ o → option_map (λ (y : Row). (i, y)) o ≡ Some p → test p ≡ false
+    by None g k = absurd cc
+    by (Some row) g k = let same : (i, row) ≡ p = cc in ap test (sym same) ∙ h row g
+
+pub rest_start : (rows : List Row) (r : ℕ) → [] ≡ rest_to rows r (r + 1)
+rest_start rows r = sym (ap (map (λ (other : ℕ × Row). other.0)) (none_before (is_rest rows r) (r + 1) (enumerate_from 0 rows)
+    (λ i p l e. numbered (is_rest rows r) rows i p (λ row g. and_left _ _ (late i l)) e)))
+  where
+    late : (i : ℕ) → i < r + 1 → nat_lt r i ≡ false
+    late i l = elim (cases_Bool (nat_lt r i)) [ inl t ↦ absurd (let x = ltb-true r i t in omega (arith, x, l)) | inr f ↦ f ]
+
+rest_more : (rows : List Row) (r k : ℕ) (row : Row) → slice_get rows k ≡ Some row → rest_to rows r (k + 1) ≡ rest_to rows r k ++ map (λ (other : ℕ × Row). other.0) (cond (is_rest rows r (k, row)) ((k, row) ∷ []) [])
+rest_more rows r k row h =
+    ap (λ xs. map (λ (other : ℕ × Row). other.0) (filter (is_rest rows r) xs)) (take_more (enumerate_from 0 rows) k (k, row) (enumerated rows k ∙ ap (option_map (λ (y : Row). (k, y))) h))
+    ∙ ap (map (λ (other : ℕ × Row). other.0)) (filter-append (is_rest rows r) (take k (enumerate_from 0 rows)) ((k, row) ∷ []))
+    ∙ map-append (λ (other : ℕ × Row). other.0) (filter (is_rest rows r) (take k (enumerate_from 0 rows))) (cond (is_rest rows r (k, row)) ((k, row) ∷ []) [])
+
+here_is_rest : (rows : List Row) (r k : ℕ) (head row : Row) (b : Bool) → slice_get rows r ≡ Some head → r + 1 ≤ k → row.unit ≡ head.unit → is_open row ≡ b → is_rest rows r (k, row) ≡ b
+here_is_rest rows r k head row b h l u e =
+    ap (λ c. c && (passes_at (λ (x : Row). row.unit == x.unit) rows r && is_open row)) (lt-ltb r k (omega (arith, l)))
+    ∙ ap (λ c. c && is_open row) (passes_here (λ (x : Row). row.unit == x.unit) rows r head h ∙ eq-eqb row.unit head.unit u) ∙ e
+
+-- a row of the unit
+pub rest_on : (rows : List Row) (r k : ℕ) (head row : Row) (b : Bool) → slice_get rows r ≡ Some head → slice_get rows k ≡ Some row → r + 1 ≤ k → row.unit ≡ head.unit → is_open row ≡ b → rest_to rows r (k + 1) ≡ rest_to rows r k ++ cond b (k ∷ []) []
+rest_on rows r k head row b h g l u e = rest_more rows r k row g ∙ ap (λ c. rest_to rows r k ++ map (λ (other : ℕ × Row). other.0) (cond c ((k, row) ∷ []) [])) (here_is_rest rows r k head row b h l u e) ∙ ap (λ xs. rest_to rows r k ++ xs) (by b)
+  where
+    by : (b : Bool) → map (λ (other : ℕ × Row). other.0) (cond b ((k, row) ∷ []) []) ≡ cond b (k ∷ []) []
+    by true = refl
+    by false = refl
+
+-- no row from one on is of the unit
+pub rest_end : (rows : List Row) (r k : ℕ) → ((i : ℕ) (row head : Row) → k ≤ i → slice_get rows i ≡ Some row → slice_get rows r ≡ Some head → row.unit ≡ head.unit → ⊥) → rest_to rows r k ≡ rest_of rows r
+rest_end rows r k other = ap (map (λ (other : ℕ × Row). other.0)) (none_behind (is_rest rows r) k (enumerate_from 0 rows) (λ i p l e. numbered (is_rest rows r) rows i p (λ row g. apart i row l g) e))
+  where
+    apart : (i : ℕ) (row : Row) → k ≤ i → slice_get rows i ≡ Some row → is_rest rows r (i, row) ≡ false
+    apart i row l g = by (nat_lt r i) (passes_at (λ (x : Row). row.unit == x.unit) rows r) (is_open row) (of_unit (slice_get rows r) refl)
+      where
+        of_unit : (o : Option Row) → slice_get rows r ≡ o → passes_at (λ (x : Row). row.unit == x.unit) rows r ≡ false
+        of_unit None e = ap (λ o. option_map_or (λ (x : Row). row.unit == x.unit) o false) e
+        of_unit (Some head) e = passes_here (λ (x : Row). row.unit == x.unit) rows r head e ∙ ne_eqb row.unit head.unit (λ u. other i row head l g e u)
+
+        by : (a b c : Bool) → b ≡ false → (a && (b && c)) ≡ false
+        by false b c e = refl
+        by true b c e = ap (λ d. d && c) e
+
+-- there is no such row
+pub rest_none : (rows : List Row) (r : ℕ) → length rows ≤ r → [] ≡ rest_of rows r
+rest_none rows r h = rest_end rows r 0 (λ i row head l g e u. let f = slice_get_past rows r h in let k = sym e ∙ f in cc)
+
+-- the rows have been walked over
+pub rest_past : (rows : List Row) (r k : ℕ) → length rows ≤ k → rest_to rows r k ≡ rest_of rows r
+rest_past rows r k h = rest_end rows r k (λ i row head l g e u. let f = slice_get_within rows i row g in omega (arith, f, h, l))
+
+-- a row of another unit ends it
+pub rest_left : (rows : List Row) (r k : ℕ) (head row : Row) → Chained rows → slice_get rows r ≡ Some head → slice_get rows k ≡ Some row → r + 1 ≤ k → (row.unit ≡ head.unit → ⊥) → rest_to rows r k ≡ rest_of rows r
+rest_left rows r k head row c h g l other = rest_end rows r k (λ i late first m e f u.
+    let same : head.unit ≡ first.unit = ap (λ (o : Option Row). option_map_or (λ (x : Row). x.unit) o 0) (sym h ∙ f) in
+    let b = c.back r head h in
+    other (c.run k i row late g e m (omega (arith, u, same, b, l)) ∙ u ∙ sym same))
