@@ -15,4 +15,4 @@ pub use event::{Event, Refusal};
 pub use holdings::{is_descriptor, is_name};
 pub use limits::{completion_entries, ring_size, setup_refusal};
 pub use names::{PlaceFault, place_of, read_number};
-pub use setup::{Instruction, Setup, SetupRefusal, copy_program};
+pub use setup::{Instruction, Setup, SetupRefusal};

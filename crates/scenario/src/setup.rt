@@ -117,7 +117,7 @@ fn copy_threads(
     Ok(Items::of(copies))
 }
 
-pub fn copy_program(
+fn copy_program(
     alloc: Global,
     program: &[Instruction],
 ) -> Result<Items<Instruction>, AllocError>
