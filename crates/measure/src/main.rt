@@ -164,12 +164,12 @@ fn measure(
     load: &Load,
 ) -> Result<(), Fault> {
     let (every, window) = match plan {
-        Plan::Jumps(_) => (1024, 256),
+        Plan::Jumps(_) | Plan::Full(_) => (1024, 256),
         _ => (u32::MAX, u32::MAX),
     };
     let mut walker = Walker::with(rt.alloc(), &load.setup, every, window)?;
     match plan {
-        Plan::Jumps(_) => walk_jumps(rt, &mut walker, load),
+        Plan::Jumps(_) | Plan::Full(_) => walk_jumps(rt, &mut walker, load),
         Plan::Issues(_) => walk_issues(rt, &mut walker, load),
         _ => walk_through(rt, &mut walker, load),
     }
@@ -185,7 +185,7 @@ fn main(rt: HostRuntime) -> io::Result<ExitCode> {
         .collect(alloc)?;
     let Some(plan) = plan_of(&texts) else {
         eprintln!(rt;
-            "measure nops N | jumps N | overflow N | issues N | ticks N | transfers N | syncs N"
+            "measure nops N | jumps N | overflow N | issues N | full N | ticks N | transfers N | syncs N"
         )?;
         return Ok(ExitCode::from(2));
     };
