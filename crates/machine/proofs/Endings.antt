@@ -12,7 +12,6 @@ use Rattle.places.proofs.Keeping.{keeps_then, keeps_same}
 use Rattle.places.proofs.ListLemmas.{length-updated}
 use Rattle.places.specs.Lists.{updated}
 use Rattle.model_files.specs.Worlds.{PutsWithin}
-use Rattle.opcodes.proofs.Counting.{puts_more}
 use Rattle.links_drains.specs.Phases.{is_ended, is_unfinished, ended_of}
 use Rattle.links_drains.proofs.Counting.{ended-ended, ended-le-length, counted-le-length}
 use Rattle.overflow.specs.Backlogs.{DeliveryFormed, all_posted, fits}

@@ -1,9 +1,9 @@
 -- What a submission keeps.
-use Rattle.std.proofs.Common.{◌≡◌, ℕ, ℤ, Bool, true, false, cond, refl, sym, ◌∙◌, ap, subst, List, [], ◌∷◌, ◌++◌, length, ◌+◌, ◌*◌, ◌-◌, ◌%◌, ◌<◌, ◌≤◌, ◌^◌, ◌⊎◌, inl, inr, length-append, length-take, arith}
+use Rattle.std.proofs.Common.{◌≡◌, ℕ, ℤ, Bool, true, false, refl, sym, ◌∙◌, ap, subst, List, ◌++◌, length, ◌+◌, ◌*◌, ◌-◌, ◌%◌, ◌<◌, ◌≤◌, ◌^◌, ◌⊎◌, inl, inr, length-append, length-take, arith}
 use Rattle.std.specs.Prelude.{Option, Some, None, slice_get, nat_lt}
 use Rattle.std.proofs.lemmas.Bool.Decides.{nat_tests}
 use Rattle.std.proofs.lemmas.Grind.{common_steps}
-use Rattle.std.proofs.lemmas.Option.{gets, slice_get_within}
+use Rattle.std.proofs.lemmas.Option.{gets}
 use Rattle.entries.specs.declared.row.Row.{Row}
 use Rattle.ring_words.specs.Rings.{SubWords, SubFormed, waiting, sub_list}
 use Rattle.ring_words.proofs.Laws.{formed_taken, sub_length}
@@ -13,14 +13,14 @@ use Rattle.links_drains.specs.Endings.{result_in, Direct}
 use Rattle.model_files.specs.Worlds.{PutsWithin}
 use Rattle.opcodes.proofs.Counting.{puts_more}
 use Rattle.timeouts_cancel.specs.Falls.{fall_of}
-use Rattle.links_drains.specs.Phases.{is_ended, is_issued, counts, counted_of, ended_of}
+use Rattle.links_drains.specs.Phases.{is_issued, ended_of}
 use Rattle.links_drains.proofs.Batching.{length-rows_of}
 use Rattle.links_drains.proofs.Chains.{chained-batch, get-behind}
 use Rattle.links_drains.proofs.Counting.{counted-append, ended-append}
 use Rattle.links_drains.proofs.DirectPairs.{direct-batch, unlisted_passes}
 use Rattle.timeouts_cancel.specs.Falls.{NoTimers}
-use Rattle.machine.specs.Submission.{offered, taken_words, taken_entries, batch_of}
-use Rattle.machine.specs.Steps.{taken_by, taken, submitted}
+use Rattle.machine.specs.Submission.{offered, taken_words, taken_entries}
+use Rattle.machine.specs.Steps.{taken, submitted}
 use Rattle.machine.specs.Whole.{Mostly, RowFormed, WellFormed}
 use Rattle.machine.specs.declared.whole.Machine.{Machine}
 use Rattle.machine.proofs.FormedMachines.{mostly}

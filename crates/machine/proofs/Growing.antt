@@ -1,5 +1,5 @@
 -- Accepted events leave a setup as it is, and take no row and no item of the backlog away.
-use Rattle.std.proofs.Common.{◌≡◌, ℕ, ℤ, pos, negsuc, Bool, true, false, refl, sym, ap, List, [], ◌∷◌, ◌++◌, length, map, take, drop, ◌+◌, ◌-◌, ◌%◌, ◌≤◌, arith, length-set, length-append, le_refl}
+use Rattle.std.proofs.Common.{◌≡◌, ℕ, ℤ, pos, negsuc, Bool, true, false, refl, sym, ap, List, [], ◌∷◌, ◌++◌, length, map, take, drop, ◌+◌, ◌%◌, ◌≤◌, arith, length-set, length-append, le_refl}
 use Rattle.std.specs.Prelude.{Option, Some, None, is_some, min, slice_get, nat_lt, ◌==◌, ◌&&◌, ◌||◌, if◌then◌else◌}
 use Rattle.entries.specs.declared.completion.Cqe.{Cqe}
 use Rattle.entries.specs.declared.row.Row.{Row}

@@ -1,5 +1,5 @@
 -- How many bytes go into pipes over a whole run.
-use Rattle.std.proofs.Common.{ℕ, ◌*◌, ◌^◌, arith}
+use Rattle.std.proofs.Common.{◌*◌, ◌^◌, arith}
 use Rattle.links_drains.specs.Phases.{ended_of}
 use Rattle.links_drains.proofs.Counting.{ended-le-length}
 use Rattle.model_files.specs.Worlds.{PutsWithin}
