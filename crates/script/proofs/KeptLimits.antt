@@ -7,7 +7,7 @@ use Rattle.serde_json.specs.Data.{Data}
 use Rattle.opcodes.specs.declared.choice.Choice.{Choice}
 use Rattle.scenario.specs.declared.event.Event.{Event}
 use Rattle.scenario.specs.declared.setup.Instruction.{Instruction}
-use Rattle.scenario.specs.declared.setup.Instruction.TheVariants.{Put, Push, Store, Enter, Reap}
+use Rattle.scenario.specs.declared.setup.Instruction.TheVariants.{Put, Push, Store, Enter, Reap, Close}
 use Rattle.ring_words.specs.Rings.{rounded}
 use Rattle.scenario.specs.Setups.{is_between, is_completion_size, is_instruction, is_program}
 use Rattle.script.specs.declared.fault.Path.{Path}
@@ -25,7 +25,7 @@ use Rattle.script.specs.Faults.{◌>>=◌, ranged, shaped, limits_then_ranges, f
 use Rattle.script.specs.Entries as entries
 use Rattle.script.specs.Lists.{listed, each, folded, at_most, required}
 use Rattle.script.specs.Memory.{placed}
-use Rattle.script.specs.Numbers.{whole_of, between, below, number_between}
+use Rattle.script.specs.Numbers.{whole_of, between, below, signed_word, number_between}
 use Rattle.script.specs.Instructions.{instruction_form, keeps_limits, instruction_in_range, instruction_at, thread_at}
 use Rattle.script.specs.Events.{event_form, choice_in_range, event_in_range, event_at}
 use Rattle.script.specs.Scripts.{entries_of, large_enough, cq_of, threads_of, schedule_of, is_short_of_nothing}
@@ -81,7 +81,7 @@ pub tested : {A : Type 0} → (b : Bool) (x y : A) → cond b (Some x) None ≡ 
 tested true x y h = let e : x ≡ y = cc in (refl, e)
 tested false x y h = absurd (cc)
 
-between_ok : (low high : ℕ) (w : Whole) (n : ℕ) → between low high w ≡ Some n → is_between low high n ≡ true
+pub between_ok : (low high : ℕ) (w : Whole) (n : ℕ) → between low high w ≡ Some n → is_between low high n ≡ true
 between_ok low high (Natural m) n h =
     let t = tested (is_between low high m) m n h in
     ap (is_between low high) (sym t.1) ∙ t.0
@@ -178,6 +178,9 @@ built size (instruction.Enter a b c) x k h =
     let m = some_mapped (Enter s.0 t.0) (between 0 4294967295 c) x t.2 in
     ap (is_instruction size) m.2
 built size instruction.Reap x k h = let e : Reap ≡ x = cc in ap (is_instruction size) (sym e)
+built size (instruction.Close fd) x k h =
+    let m = some_mapped Close (signed_word fd) x h in
+    ap (is_instruction size) m.2
 
 instruction_built : (size t i : ℕ) (d : Data) (x : Instruction) → instruction_at size t i d ≡ Ok x → IsBuilt size x
 instruction_built size t i d x h =

@@ -1,6 +1,6 @@
 -- A run can start from what was read.
-use Rattle.std.proofs.Common.{◌≡◌, ℕ, ◌+◌, ◌<◌, ◌≤◌, Bool, true, false, not, cond, ◌&&◌, ◌||◌, nat_le, nat_lt, List, [], ◌∷◌, ◌++◌, length, take, drop, Option, Some, None, Result, Ok, Err, refl, sym, ap, ◌∙◌, subst, arith, length-append, length-drop}
-use Rattle.std.specs.Prelude.{option_map}
+use Rattle.std.proofs.Common.{◌≡◌, ℕ, ◌+◌, ◌-◌, ◌^◌, ◌<◌, ◌≤◌, Bool, true, false, not, cond, ◌&&◌, ◌||◌, nat_le, nat_lt, List, [], ◌∷◌, ◌++◌, length, take, drop, Option, Some, None, Result, Ok, Err, refl, sym, ap, ◌∙◌, subst, arith, length-append, length-drop}
+use Rattle.std.specs.Prelude.{option_map, codes}
 use Rattle.std.specs.List.{list_all, list_any, position}
 use Rattle.std.proofs.lemmas.Bool.Decides.{nat_tests}
 use Rattle.std.proofs.lemmas.List.{length-take-le, length-replicate}
@@ -8,9 +8,10 @@ use Rattle.std.proofs.lemmas.List.Folds.{list_all-append, list_any-append}
 use Rattle.serde_json.specs.Data.{Data}
 use Rattle.serde_json.specs.Find.{as_str}
 use Rattle.places.specs.declared.object.Contents.{Contents}
-use Rattle.places.specs.declared.object.Contents.TheVariants.{File}
+use Rattle.places.specs.declared.object.Contents.TheVariants.{File, Pipe, EventFd}
 use Rattle.places.specs.declared.object.Descriptor.{Descriptor}
-use Rattle.places.specs.declared.object.End.TheVariants.{Whole}
+use Rattle.places.specs.declared.object.End.{End}
+use Rattle.places.specs.declared.object.End.TheVariants.{Whole, Read, Write}
 use Rattle.places.specs.declared.object.Object.{Object}
 use Rattle.ring_words.specs.Rings.{rounded}
 use Rattle.scenario.specs.Setups.{is_between, is_completion_size, is_name, is_named, is_contents, is_object, names_once, is_descriptor, setup_refusal}
@@ -26,10 +27,11 @@ use Rattle.script.specs.Entries as entries
 use Rattle.script.specs.Faults.{◌>>=◌, at_key, at_item}
 use Rattle.script.specs.Lists.{list_at, folded, at_most, folded_at_most}
 use Rattle.script.specs.Memory.{placed, piece_form, is_short, overwritten, with_piece, piece_at, zeros, memory_of}
-use Rattle.script.specs.Objects.{ObjectForm, object_form, contents_keep_limits, is_small, contents_in_range, is_new_name, object_in_range, object_at, objects_of, descriptor_of, descriptor_named, descriptor_at, fds_of}
+use Rattle.script.specs.Objects.{ObjectForm, object_form, contents_keep_limits, is_small, contents_in_range, is_new_name, object_in_range, object_at, objects_of, descriptor_of, end_named, before_mark, end_meant, descriptor_named, descriptor_at, fds_of}
+use Rattle.script.specs.Numbers.{between}
 use Rattle.script.specs.Scripts.{Plan, entries_of, cq_of, threads_of, schedule_of, Startable}
 use Rattle.script.proofs.Numbered.{still_once}
-use Rattle.script.proofs.KeptLimits.{bind_ok, some_both, some_mapped, formed_ok, limited_ok, tested, placed_ok, each_all, at_most_ok, le_true, entries_ok, cq_ok, AreBuilt, threads_built, schedule_ok}
+use Rattle.script.proofs.KeptLimits.{bind_ok, some_both, some_mapped, formed_ok, limited_ok, tested, between_ok, placed_ok, each_all, at_most_ok, le_true, entries_ok, cq_ok, AreBuilt, threads_built, schedule_ok}
 
 -- what each step keeps, the whole does
 folded_keeps : {S : Type 0} → (P : S → Type 0) (f : S → ℕ → Data → Result S ScriptFault) (s : S) (i : ℕ) (ds : List Data) (t : S) → ((r u : S) (j : ℕ) (d : Data) → P r → f r j d ≡ Ok u → P u) → P s → folded f s i ds ≡ Ok t → P t
@@ -75,6 +77,12 @@ pub record AreObjects (os : List Object) : Type 0 where
 
 contents_ok : (w : ContentsForm) (c : Contents) → contents_keep_limits w ≡ true → contents_in_range w ≡ Some c → is_contents c ≡ true
 contents_ok (form.File bytes) c k h = let e : File bytes ≡ c = cc in ap is_contents (sym e) ∙ k
+contents_ok (form.Pipe capacity) c k h =
+    let m = some_mapped Pipe (between 1 65536 capacity) c h in
+    ap is_contents m.2 ∙ between_ok 1 65536 capacity m.0 m.1
+contents_ok (form.EventFd counter) c k h =
+    let m = some_mapped EventFd (between 0 (2 ^ 64 - 2) counter) c h in
+    ap is_contents m.2 ∙ between_ok 0 (2 ^ 64 - 2) counter m.0 m.1
 
 and_true : (a b : Bool) → (a && b) ≡ true → (a ≡ true) × (b ≡ true)
 and_true true b h = (refl, h)
@@ -152,12 +160,21 @@ objects_ok d os h =
 
 -- ---- descriptors
 
+end_ok : (os : List Object) (end : End) (name : List ℕ) (d : Descriptor) → end_named os end name ≡ Some d → is_descriptor os d ≡ true
+end_ok os end name d h =
+    let s = some_both (position (is_named name) os) (descriptor_of os end) d h in
+    let t = tested (is_descriptor os (record { object = s.0; end = end })) (record { object = s.0; end = end }) d s.2 in
+    ap (is_descriptor os) (sym t.1) ∙ t.0
+
+meant_ok : (os : List Object) (text : List ℕ) (reader writer : Option (List ℕ)) (d : Descriptor) → end_meant os text reader writer ≡ Some d → is_descriptor os d ≡ true
+meant_ok os text (Some name) writer d h = end_ok os Read name d h
+meant_ok os text None (Some name) d h = end_ok os Write name d h
+meant_ok os text None None d h = end_ok os Whole text d h
+
 descriptor_ok : (os : List Object) (i : ℕ) (e : Data) (d : Descriptor) → descriptor_at os i e ≡ Ok d → is_descriptor os d ≡ true
 descriptor_ok os i e d h =
     let f = formed_ok (at_item key.Fds i) (as_str e) (descriptor_named os) d h in
-    let s = some_both (position (is_named f.0) os) (descriptor_of os Whole) d f.1 in
-    let t = tested (is_descriptor os (record { object = s.0; end = Whole })) (record { object = s.0; end = Whole }) d s.2 in
-    ap (is_descriptor os) (sym t.1) ∙ t.0
+    meant_ok os f.0 (before_mark (codes ":r") f.0) (before_mark (codes ":w") f.0) d f.1
 
 fds_ok : (os : List Object) (d : Option Data) (fds : List Descriptor) → fds_of os d ≡ Ok fds → (length fds ≤ 64) × (list_all (is_descriptor os) fds ≡ true)
 fds_ok os d fds h =
