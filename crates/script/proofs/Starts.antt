@@ -75,6 +75,10 @@ pub record AreObjects (os : List Object) : Type 0 where
   pub each : list_all is_object os ≡ true
   pub once : names_once os ≡ true
 
+and_true : (a b : Bool) → (a && b) ≡ true → (a ≡ true) × (b ≡ true)
+and_true true b h = (refl, h)
+and_true false b h = absurd (cc)
+
 contents_ok : (w : ContentsForm) (c : Contents) → contents_keep_limits w ≡ true → contents_in_range w ≡ Some c → is_contents c ≡ true
 contents_ok (form.File bytes) c k h = let e : File bytes ≡ c = cc in ap is_contents (sym e) ∙ k
 contents_ok (form.Pipe capacity) c k h =
@@ -82,11 +86,8 @@ contents_ok (form.Pipe capacity) c k h =
     ap is_contents m.2 ∙ between_ok 1 65536 capacity m.0 m.1
 contents_ok (form.EventFd counter) c k h =
     let m = some_mapped EventFd (between 0 (2 ^ 64 - 2) counter) c h in
-    ap is_contents m.2 ∙ between_ok 0 (2 ^ 64 - 2) counter m.0 m.1
-
-and_true : (a b : Bool) → (a && b) ≡ true → (a ≡ true) × (b ≡ true)
-and_true true b h = (refl, h)
-and_true false b h = absurd (cc)
+    let b = and_true (nat_le 0 m.0) (nat_le m.0 (2 ^ 64 - 2)) (between_ok 0 (2 ^ 64 - 2) counter m.0 m.1) in
+    ap is_contents m.2 ∙ b.1
 
 not_false : (a : Bool) → not a ≡ true → a ≡ false
 not_false true h = absurd (cc)
