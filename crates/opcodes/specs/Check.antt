@@ -1,9 +1,9 @@
 -- What an entry is tested for as it is submitted (io_uring_enter(2)). The tests run in this order: its flags, its opcode, the row
 -- of the opcode; the first that fails gives the error.
-use Rattle.std.specs.Prelude.{ℕ, ℤ, negsuc, ◌==◌, nat_le, Option, Some, None, Result, Ok, Err, if◌then◌else◌, bit_and}
+use Rattle.std.specs.Prelude.{ℕ, ℤ, negsuc, ◌==◌, ◌&&◌, nat_le, Option, Some, None, Result, Ok, Err, if◌then◌else◌, bit_and}
 use Rattle.entries.specs.declared.entry.Sqe.{Sqe}
 use Rattle.opcodes.specs.declared.op.Op.{Op}
-use Rattle.opcodes.specs.declared.op.Op.TheVariants.{Nop, Fsync, PollAdd, Read, Write}
+use Rattle.opcodes.specs.declared.op.Op.TheVariants.{Nop, Fsync, PollAdd, PollRemove, TimeoutRemove, AsyncCancel, Read, Write}
 
 -- the invalid argument of errno(3), negated
 abbrev pub invalid : Result Op ℤ
@@ -19,15 +19,23 @@ op_of opcode =
     if opcode == 0 then Some Nop else
     if opcode == 3 then Some Fsync else
     if opcode == 6 then Some PollAdd else
+    if opcode == 7 then Some PollRemove else
+    if opcode == 12 then Some TimeoutRemove else
+    if opcode == 14 then Some AsyncCancel else
     if opcode == 22 then Some Read else
     if opcode == 23 then Some Write else
     None
 
--- what an entry of each opcode is tested for; IORING_FSYNC_DATASYNC, which is 1, changes nothing; the length of a POLL_ADD is for command flags, which aren't supported
+-- What an entry of each opcode is tested for. IORING_FSYNC_DATASYNC, which is 1, changes nothing. The length of a POLL_ADD or a
+-- POLL_REMOVE is for command flags, which aren't supported. Of the flags of an ASYNC_CANCEL, IORING_ASYNC_CANCEL_ALL, which is 1, and
+-- IORING_ASYNC_CANCEL_FD, 2, are.
 abbrev pub tested : Sqe → Op → Result Op ℤ
 tested entry Nop = Ok Nop
 tested entry Fsync = if nat_le entry.operation_flags 1 then Ok Fsync else invalid
 tested entry PollAdd = if entry.len == 0 then Ok PollAdd else invalid
+tested entry PollRemove = if (entry.len == 0) && (entry.operation_flags == 0) then Ok PollRemove else invalid
+tested entry TimeoutRemove = if entry.operation_flags == 0 then Ok TimeoutRemove else invalid
+tested entry AsyncCancel = if nat_le entry.operation_flags 3 then Ok AsyncCancel else invalid
 tested entry Read = if entry.operation_flags == 0 then Ok Read else invalid
 tested entry Write = if entry.operation_flags == 0 then Ok Write else invalid
 tested entry op = invalid

@@ -1,5 +1,5 @@
 -- What an issued request comes to as it ends, by what a kernel chooses (read(2), write(2), fsync(2), pipe(7), eventfd(2), poll(2), io_uring_enter(2)).
-use Rattle.std.specs.Prelude.{ℕ, ℤ, pos, negsuc, ◌+◌, ◌-◌, ◌^◌, ◌==◌, ◌&&◌, not, nat_lt, nat_le, min, unwrap_or, Bool, false, Option, Some, None, if◌then◌else◌, bit_and, bit_or}
+use Rattle.std.specs.Prelude.{ℕ, ℤ, pos, negsuc, ◌+◌, ◌-◌, ◌^◌, ◌==◌, ◌&&◌, ◌||◌, not, nat_lt, nat_le, min, unwrap_or, Bool, true, false, Option, Some, None, if◌then◌else◌, bit_and, bit_or}
 use Rattle.std.specs.Option.{option_and_then}
 use Rattle.entries.specs.declared.entry.Sqe.{Sqe}
 use Rattle.entries.specs.declared.row.Row.{Row}
@@ -15,6 +15,7 @@ use Rattle.opcodes.specs.declared.op.Op.TheVariants.{Nop, Fsync, PollAdd, Read, 
 use Rattle.opcodes.specs.declared.ending.Outcome.{Outcome}
 use Rattle.opcodes.specs.declared.ending.Outcome.TheVariants.{Res, Waits, BadChoice}
 use Rattle.opcodes.specs.Check.{op_of}
+use Rattle.opcodes.specs.Opcodes.{always_runs, runs_on_file}
 
 -- ---- what a row holds
 
@@ -38,6 +39,19 @@ writer_behind held w (Some d) = has_writer held w d.object
 abbrev pub reader_behind : (ℕ → Bool) → WorldState → Option DescriptorState → Bool
 reader_behind held w None = false
 reader_behind held w (Some d) = has_reader held w d.object
+
+-- ---- how far an issued row is
+
+abbrev pub is_file : Option Stock → Bool
+is_file None = false
+is_file (Some (File len)) = true
+is_file (Some (Pipe filled capacity)) = false
+is_file (Some (EventFd counter)) = false
+
+-- Whether an issued row is running, so that a cancel finds it but can't end it. A READ or a WRITE of a pipe or an eventfd, a POLL_ADD and
+-- a TIMEOUT wait.
+abbrev pub is_running : WorldState → Row → Bool
+is_running w row = always_runs row.entry.opcode || (runs_on_file row.entry.opcode && is_file (stock_behind w (held_descriptor w row)))
 
 -- ---- results
 
@@ -155,6 +169,7 @@ write_outcome entry position reader number (Some (File len)) c = file_written en
 write_outcome entry position reader number (Some (Pipe filled capacity)) c = pipe_written entry.len reader filled capacity c
 write_outcome entry position reader number (Some (EventFd counter)) c = event_written entry.len counter number c
 
+-- a line for each opcode but ASYNC_CANCEL, POLL_REMOVE and TIMEOUT_REMOVE: what these come to is told by all rows, and nobody asks for it here
 abbrev pub outcome_on : (ℕ → Bool) → WorldState → Sqe → Option Op → Option DescriptorState → Choice → Outcome
 outcome_on held w entry (Some Nop) d c = fixed (pos 0) c
 outcome_on held w entry (Some Fsync) d c = fsync_outcome (stock_behind w d) c

@@ -38,7 +38,9 @@ fn test(entry: &Sqe, op: Op) -> Result<Op, i32>
         Op::Nop => true,
         Op::Fsync => entry.operation_flags <= 1,
         Op::PollAdd => entry.len == 0,
-        Op::Read | Op::Write => entry.operation_flags == 0,
+        Op::PollRemove => entry.len == 0 && entry.operation_flags == 0,
+        Op::AsyncCancel => entry.operation_flags <= 3,
+        Op::TimeoutRemove | Op::Read | Op::Write => entry.operation_flags == 0,
         _ => false,
     };
     if passes { Ok(op) } else { Err(-EINVAL) }
@@ -103,6 +105,32 @@ mod tests {
             poll.len = len;
             poll.operation_flags = 1;
             assert_eq!(rt; check(&poll, Context { behind: None }), want);
+        }
+    }
+
+    // Whether an entry of an opcode passes with a length and operation flags.
+    fn passes(opcode: u8, len: u32, operation_flags: u32) -> bool {
+        let with = Sqe {
+            len,
+            operation_flags,
+            ..entry(opcode, 0)
+        };
+        check(&with, Context { behind: None }).is_ok()
+    }
+
+    #[test]
+    fn cancels_and_removals(rt: HostRuntime) {
+        let cases = [
+            (7, 0, 0, true),
+            (7, 1, 0, false),
+            (7, 0, 1, false),
+            (12, 9, 0, true),
+            (12, 0, 1, false),
+            (14, 9, 3, true),
+            (14, 0, 4, false),
+        ];
+        for (opcode, len, operation_flags, want) in cases {
+            assert_eq!(rt; passes(opcode, len, operation_flags), want);
         }
     }
 

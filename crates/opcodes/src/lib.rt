@@ -8,6 +8,7 @@ pub mod ending;
 pub mod errno;
 pub mod op;
 pub mod results;
+pub mod running;
 mod streams;
 
 pub use checks::{Context, check};
@@ -17,3 +18,4 @@ pub use ending::Outcome;
 pub use errno::{EBADF, EBUSY, ECANCELED, EFAULT, EFBIG, EINVAL, EIO, EPIPE};
 pub use op::{Op, fits_end, is_timer, uses_descriptor};
 pub use results::outcome;
+pub use running::is_running;

@@ -13,7 +13,8 @@ use crate::streams::{event_read, event_written, pipe_read, pipe_written};
 use entries::{Row, Sqe};
 use model_files::{DescriptorState, Held, Stock, World};
 
-/// What an issued request comes to, by which descriptors requests under way hold. It takes no memory.
+/// What an issued request comes to, by which descriptors requests under way hold. It takes no memory, and
+/// isn't asked about a cancel or a removal, which depends on the other requests.
 pub fn outcome(world: &World, held: &Held, row: &Row, choice: Choice) -> Outcome
     requires memory { length world.now.memory ≡ 65536 }
     ensures { result ≡ outcome_of (is_held held.now) world.now row.now choice }
@@ -71,7 +72,7 @@ pub(crate) fn position_of(descriptor: Option<DescriptorState>) -> u64
 }
 
 /// How much the object of a descriptor holds.
-fn stock_behind(world: &World, descriptor: Option<DescriptorState>) -> Option<Stock>
+pub(crate) fn stock_behind(world: &World, descriptor: Option<DescriptorState>) -> Option<Stock>
     ensures value { result ≡ stock_behind world.now descriptor }
     ensures fits { IfSome result StockFits }
 {
