@@ -10,7 +10,7 @@ use Rattle.places.proofs.ListLemmas.{slice_get-set, slice_get-push, slice_get-ta
 use Rattle.links_drains.specs.Links.{asks_to_drain, Chained, GoesOn}
 use Rattle.links_drains.specs.Indexes.{HasRoom, Indexed, IndexedBut, Cleared, Forgotten}
 use Rattle.links_drains.specs.Sets.{has}
-use Rattle.links_drains.specs.Units.{passes_at, is_open, is_barrier}
+use Rattle.links_drains.specs.Units.{passes_at, is_going, is_open, is_barrier}
 use Rattle.links_drains.specs.declared.index.Index.{Index}
 use Rattle.links_drains.proofs.Chains.{chained-none, chained-take, chained-updated}
 use Rattle.links_drains.proofs.Numbers.{has_past}
@@ -79,15 +79,16 @@ tied_barriers rows unit b old new t others written u = elim (cases_eq u unit) [
 ]
 
 pub updated_index : (rows : List Row) (r : ℕ) (x row : Row) (b : Bool) (old new : Index) → x ≡ row → b ≡ is_barrier rows x.unit → IndexedBut r row.unit rows old
-    → length new.unfinished ≡ length old.unfinished → length new.flagged ≡ length old.flagged → length new.barriers ≡ length old.barriers
+    → length new.unfinished ≡ length old.unfinished → length new.flagged ≡ length old.flagged → length new.barriers ≡ length old.barriers → length new.issued ≡ length old.issued
     → ((q : ℕ) → has new.unfinished q ≡ passes_at is_open rows q) → ((q : ℕ) → has new.flagged q ≡ passes_at asks_to_drain rows q)
-    → ((u : ℕ) → has new.barriers u ≡ cond (u == x.unit) b (has old.barriers u)) → Indexed rows new
-updated_index rows r x row stands old new e t i la lb lc a b c = record {
+    → ((u : ℕ) → has new.barriers u ≡ cond (u == x.unit) b (has old.barriers u)) → ((q : ℕ) → has new.issued q ≡ passes_at is_going rows q) → Indexed rows new
+updated_index rows r x row stands old new e t i la lb lc ld a b c d = record {
   chained = i.chained;
-  room = let x = i.room.unfinished in let y = i.room.flagged in let z = i.room.barriers in record { unfinished = omega (arith, la, x); flagged = omega (arith, lb, y); barriers = omega (arith, lc, z) };
+  room = let x = i.room.unfinished in let y = i.room.flagged in let z = i.room.barriers in let s = i.room.issued in record { unfinished = omega (arith, la, x); flagged = omega (arith, lb, y); barriers = omega (arith, lc, z); issued = omega (arith, ld, s) };
   unfinished = a;
   flagged = b;
   barriers = tied_barriers rows x.unit stands old.barriers new.barriers t (λ u other. i.barriers u (λ same. other (same ∙ sym (ap (λ (y : Row). y.unit) e)))) c;
+  issued = d;
 }
 
 -- ---- the rows change
@@ -106,6 +107,7 @@ indexed_set rows index r before row i h same = record {
   unfinished = λ q other. i.unfinished q ∙ ap (λ o. option_map_or is_open o false) (sym (get_other rows r q row (slice_get_within rows r before h) other));
   flagged = λ q other. i.flagged q ∙ ap (λ o. option_map_or asks_to_drain o false) (sym (get_other rows r q row (slice_get_within rows r before h) other));
   barriers = λ u other. i.barriers u ∙ both _ _ _ _ (sym (any_of_set asks_to_drain rows r u before row h same other)) (sym (any_of_set is_open rows r u before row h same other));
+  issued = λ q other. i.issued q ∙ ap (λ o. option_map_or is_going o false) (sym (get_other rows r q row (slice_get_within rows r before h) other));
 }
 
 -- a row is added behind the others
@@ -119,6 +121,7 @@ indexed_push rows index row i room on = record {
   unfinished = λ q other. i.unfinished q ∙ ap (λ o. option_map_or is_open o false) (sym (get_before rows row q other));
   flagged = λ q other. i.flagged q ∙ ap (λ o. option_map_or asks_to_drain o false) (sym (get_before rows row q other));
   barriers = λ u other. i.barriers u ∙ both _ _ _ _ (sym (any_of_push asks_to_drain rows u row other)) (sym (any_of_push is_open rows u row other));
+  issued = λ q other. i.issued q ∙ ap (λ o. option_map_or is_going o false) (sym (get_before rows row q other));
 }
 
 -- rows are dropped
@@ -162,10 +165,11 @@ barrier_dropped rows n u old new chained h c others = elim (cases_lt u n) [
 pub indexed_none : (rows : List Row) (old new : Index) → Indexed rows old → Forgotten 0 (length rows) old new → Indexed [] new
 indexed_none rows old new i f = record {
   chained = chained-none;
-  room = record { unfinished = omega arith; flagged = omega arith; barriers = omega arith };
+  room = record { unfinished = omega arith; flagged = omega arith; barriers = omega arith; issued = omega arith };
   unfinished = tie_dropped is_open rows 0 old.unfinished new.unfinished i.unfinished f.unfinished;
   flagged = tie_dropped asks_to_drain rows 0 old.flagged new.flagged i.flagged f.flagged;
   barriers = λ u. barrier_dropped rows 0 u old.barriers new.barriers i.chained i.barriers f.barriers (λ less. absurd (omega (arith, less)));
+  issued = tie_dropped is_going rows 0 old.issued new.issued i.issued f.issued;
 }
 
 -- the last row that is kept
@@ -180,20 +184,22 @@ last_kept rows n some h = let w = element rows (n - 1) (omega (arith, some, h)) 
 pub indexed_take : (rows : List Row) (old new : Index) (n : ℕ) (last : Row) → Indexed rows old → 0 < n → slice_get rows (n - 1) ≡ Some last → Forgotten n (length rows) old new → IndexedBut (n - 1) last.unit (take n rows) new
 indexed_take rows old new n last i some h f = record {
   chained = chained-take rows n i.chained;
-  room = let t = length-take n rows in let a = i.room.unfinished in let b = i.room.flagged in let d = i.room.barriers in let x = f.unfinished.len in let y = f.flagged.len in let z = f.barriers.len in
-      record { unfinished = omega (arith, t, a, x); flagged = omega (arith, t, b, y); barriers = omega (arith, t, d, z) };
+  room = let t = length-take n rows in let a = i.room.unfinished in let b = i.room.flagged in let d = i.room.barriers in let e = i.room.issued in let x = f.unfinished.len in let y = f.flagged.len in let z = f.barriers.len in let w = f.issued.len in
+      record { unfinished = omega (arith, t, a, x); flagged = omega (arith, t, b, y); barriers = omega (arith, t, d, z); issued = omega (arith, t, e, w) };
   unfinished = λ q other. tie_dropped is_open rows n old.unfinished new.unfinished i.unfinished f.unfinished q;
   flagged = λ q other. tie_dropped asks_to_drain rows n old.flagged new.flagged i.flagged f.flagged q;
   barriers = λ u other. barrier_dropped rows n u old.barriers new.barriers i.chained i.barriers f.barriers
       (λ less r x past g e. other (sym e ∙ sym (i.chained.run (n - 1) r last x h g (omega (arith, past)) (omega (arith, e, less)))));
+  issued = λ q other. tie_dropped is_going rows n old.issued new.issued i.issued f.issued q;
 }
 
 -- no row, and no number in any set
-pub indexed_empty : (index : Index) → index.unfinished ≡ [] → index.flagged ≡ [] → index.barriers ≡ [] → Indexed [] index
-indexed_empty index a b c = record {
+pub indexed_empty : (index : Index) → index.unfinished ≡ [] → index.flagged ≡ [] → index.barriers ≡ [] → index.issued ≡ [] → Indexed [] index
+indexed_empty index a b c d = record {
   chained = chained-none;
-  room = record { unfinished = omega arith; flagged = omega arith; barriers = omega arith };
+  room = record { unfinished = omega arith; flagged = omega arith; barriers = omega arith; issued = omega arith };
   unfinished = λ r. ap (λ w. has w r) a ∙ has_past [] r (omega arith);
   flagged = λ r. ap (λ w. has w r) b ∙ has_past [] r (omega arith);
   barriers = λ u. ap (λ w. has w u) c ∙ has_past [] u (omega arith);
+  issued = λ r. ap (λ w. has w r) d ∙ has_past [] r (omega arith);
 }

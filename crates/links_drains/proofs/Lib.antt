@@ -5,8 +5,10 @@ pub mod Counting
 pub mod DirectPairs
 pub mod Eligibility
 pub mod FailingRows
+pub mod Filters
 pub mod Fixed
 pub mod Indexing
+pub mod IssuedRows
 pub mod Listing
 pub mod Numbers
 pub mod Rising

@@ -16,12 +16,12 @@ use Rattle.links_drains.proofs.Units.{passes_here}
 
 -- ---- filters of a list's beginning
 
-none_before : {X : Type 0} (p : X → Bool) (k : ℕ) (xs : List X) → ((i : ℕ) (x : X) → i < k → slice_get xs i ≡ Some x → p x ≡ false) → filter p (take k xs) ≡ []
+pub none_before : {X : Type 0} (p : X → Bool) (k : ℕ) (xs : List X) → ((i : ℕ) (x : X) → i < k → slice_get xs i ≡ Some x → p x ≡ false) → filter p (take k xs) ≡ []
 none_before p zero xs h = refl
 none_before p (suc k) [] h = refl
 none_before p (suc k) (x ∷ xs) h = ap (λ b. cond b (x ∷ filter p (take k xs)) (filter p (take k xs))) (h 0 x (omega arith) refl) ∙ none_before p k xs (λ i y l e. h (suc i) y (omega (arith, l)) e)
 
-none_behind : {X : Type 0} (p : X → Bool) (k : ℕ) (xs : List X) → ((i : ℕ) (x : X) → k ≤ i → slice_get xs i ≡ Some x → p x ≡ false) → filter p (take k xs) ≡ filter p xs
+pub none_behind : {X : Type 0} (p : X → Bool) (k : ℕ) (xs : List X) → ((i : ℕ) (x : X) → k ≤ i → slice_get xs i ≡ Some x → p x ≡ false) → filter p (take k xs) ≡ filter p xs
 none_behind p zero [] h = refl
 none_behind p zero (x ∷ xs) h = sym (ap (λ b. cond b (x ∷ filter p xs) (filter p xs)) (h 0 x (omega arith) refl) ∙ sym (none_behind p zero xs (λ i y l e. h (suc i) y (omega arith) e)))
 none_behind p (suc k) [] h = refl
@@ -33,7 +33,7 @@ abbrev pub rest_to : List Row → ℕ → ℕ → List ℕ
 rest_to rows r k = map (λ (other : ℕ × Row). other.0) (filter (is_rest rows r) (take k (enumerate_from 0 rows)))
 
 -- a test of the numbered rows, row by row
-numbered : (test : ℕ × Row → Bool) (rows : List Row) (i : ℕ) (p : ℕ × Row) → ((row : Row) → slice_get rows i ≡ Some row → test (i, row) ≡ false) → slice_get (enumerate_from 0 rows) i ≡ Some p → test p ≡ false
+pub numbered : (test : ℕ × Row → Bool) (rows : List Row) (i : ℕ) (p : ℕ × Row) → ((row : Row) → slice_get rows i ≡ Some row → test (i, row) ≡ false) → slice_get (enumerate_from 0 rows) i ≡ Some p → test p ≡ false
 numbered test rows i p h e = by (slice_get rows i) refl (sym (enumerated rows i) ∙ e)
   where
     by : (o : Option Row) → slice_get rows i ≡ o → option_map (λ (y : Row). (i, y)) o ≡ Some p → test p ≡ false

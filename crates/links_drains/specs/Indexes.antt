@@ -3,7 +3,7 @@ use Rattle.std.specs.Prelude.{◌≡◌, ◌≢◌, ℕ, ◌*◌, ◌≤◌, ◌
 use Rattle.entries.specs.declared.row.Row.{Row}
 use Rattle.links_drains.specs.Links.{asks_to_drain, Chained}
 use Rattle.links_drains.specs.Sets.{has}
-use Rattle.links_drains.specs.Units.{passes_at, is_open, is_barrier}
+use Rattle.links_drains.specs.Units.{passes_at, is_going, is_open, is_barrier}
 use Rattle.links_drains.specs.declared.index.Index.{Index}
 
 -- There is room for so many numbers.
@@ -11,6 +11,7 @@ pub record HasRoom (n : ℕ) (index : Index) : Type 0 where
   pub unfinished : n ≤ 64 * length index.unfinished
   pub flagged : n ≤ 64 * length index.flagged
   pub barriers : n ≤ 64 * length index.barriers
+  pub issued : n ≤ 64 * length index.issued
 
 pub record Indexed (rows : List Row) (index : Index) : Type 0 where
   pub chained : Chained rows
@@ -18,6 +19,7 @@ pub record Indexed (rows : List Row) (index : Index) : Type 0 where
   pub unfinished : (r : ℕ) → has index.unfinished r ≡ passes_at is_open rows r
   pub flagged : (r : ℕ) → has index.flagged r ≡ passes_at asks_to_drain rows r
   pub barriers : (unit : ℕ) → has index.barriers unit ≡ is_barrier rows unit
+  pub issued : (r : ℕ) → has index.issued r ≡ passes_at is_going rows r
 
 -- All but what the sets say of one row, and of its unit.
 pub record IndexedBut (r unit : ℕ) (rows : List Row) (index : Index) : Type 0 where
@@ -26,6 +28,7 @@ pub record IndexedBut (r unit : ℕ) (rows : List Row) (index : Index) : Type 0 
   pub unfinished : (q : ℕ) → q ≢ r → has index.unfinished q ≡ passes_at is_open rows q
   pub flagged : (q : ℕ) → q ≢ r → has index.flagged q ≡ passes_at asks_to_drain rows q
   pub barriers : (u : ℕ) → u ≢ unit → has index.barriers u ≡ is_barrier rows u
+  pub issued : (q : ℕ) → q ≢ r → has index.issued q ≡ passes_at is_going rows q
 
 -- The numbers from one up to another were taken out of a set.
 pub record Cleared (from to : ℕ) (old new : List ℕ) : Type 0 where
@@ -39,3 +42,4 @@ pub record Forgotten (from to : ℕ) (old new : Index) : Type 0 where
   pub unfinished : Cleared from to old.unfinished new.unfinished
   pub flagged : Cleared from to old.flagged new.flagged
   pub barriers : Cleared from to old.barriers new.barriers
+  pub issued : Cleared from to old.issued new.issued

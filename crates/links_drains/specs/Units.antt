@@ -1,10 +1,10 @@
 -- Units of rows, and which of them hold later ones.
-use Rattle.std.specs.Prelude.{◌≡◌, ℕ, ◌==◌, Bool, true, false, ◌&&◌, nat_lt, Some, List, map, slice_get}
+use Rattle.std.specs.Prelude.{◌≡◌, ℕ, ◌==◌, ◌≤◌, ◌<◌, Bool, true, false, ◌&&◌, nat_lt, nat_le, Option, Some, List, map, slice_get}
 use Rattle.std.specs.Option.{option_map_or}
 use Rattle.std.specs.List.{filter, list_any, enumerate_from}
 use Rattle.entries.specs.declared.row.Row.{Row}
 use Rattle.links_drains.specs.Eligible.{drains}
-use Rattle.links_drains.specs.Phases.{is_unfinished}
+use Rattle.links_drains.specs.Phases.{is_issued, is_unfinished}
 use Rattle.links_drains.specs.Sets.{has}
 
 -- whether there is a row of a number, and it passes a test
@@ -13,6 +13,28 @@ passes_at test rows r = option_map_or test (slice_get rows r) false
 
 abbrev pub is_open : Row → Bool
 is_open row = is_unfinished row.phase
+
+-- whether a row is issued, and hasn't ended
+abbrev pub is_going : Row → Bool
+is_going row = is_issued row.phase
+
+-- the numbers of the issued rows from one on, in order, and the least of them
+abbrev pub issued_from : List Row → ℕ → List ℕ
+issued_from rows from = map (λ (p : ℕ × Row). p.0) (filter (λ (p : ℕ × Row). nat_le from p.0 && is_going p.1) (enumerate_from 0 rows))
+
+abbrev pub next_issued : List Row → ℕ → Option ℕ
+next_issued rows from = slice_get (issued_from rows from) 0
+
+-- r is the least issued row from a number on.
+pub record IsNextIssued (rows : List Row) (from r : ℕ) : Type 0 where
+  pub after : from ≤ r
+  pub row : Row
+  pub there : slice_get rows r ≡ Some row
+  pub issued : is_going row ≡ true
+  pub least : (i : ℕ) (x : Row) → from ≤ i → i < r → slice_get rows i ≡ Some x → is_going x ≡ false
+
+abbrev pub NoneIssuedFrom : List Row → ℕ → Type 0
+NoneIssuedFrom rows from = (i : ℕ) (x : Row) → from ≤ i → slice_get rows i ≡ Some x → is_going x ≡ false
 
 -- whether a row stands behind another of its unit, and hasn't ended
 abbrev pub is_rest : List Row → ℕ → ℕ × Row → Bool

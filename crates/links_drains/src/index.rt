@@ -1,12 +1,12 @@
 //! Sets beside the rows that tell at once which of them may be issued.
-ghost use Rattle.std.specs.Prelude.{◌≡◌, ℕ, ◌+◌, ◌*◌, ◌<◌, ◌≤◌, [], true, Some, IfOk, OnOk, MatchBool, length, slice_get, take};
+ghost use Rattle.std.specs.Prelude.{◌≡◌, ℕ, ◌+◌, ◌*◌, ◌<◌, ◌≤◌, [], true, Some, IfOk, IfSome, IfNone, OnOk, MatchBool, length, slice_get, take};
 ghost use Rattle.entries.specs.declared.row.Row.{Row};
 ghost use Rattle.links_drains.specs.Eligible.{is_eligible, GuardsFollow};
 ghost use Rattle.links_drains.specs.Links.{asks_to_drain as has_drain, Chained};
-ghost use Rattle.links_drains.specs.Sets.{has};
+ghost use Rattle.links_drains.specs.Sets.{has, IsNext, NoneFrom};
 ghost use Rattle.links_drains.specs.Units.{passes_at, is_open, is_barrier as stands_before, HasRowOf, HasNoRowOf};
 
-use crate::links::{asks_to_drain, is_guard, is_queued, is_unfinished};
+use crate::links::{asks_to_drain, is_guard, is_issued, is_queued, is_unfinished};
 use crate::sets::NumberSet;
 use entries::Row;
 use std::alloc::{AllocError, Global};
@@ -20,6 +20,8 @@ pub(crate) struct Index {
     flagged: NumberSet,
     /// The units that drain and haven't ended, by the numbers of their first rows.
     barriers: NumberSet,
+    /// The issued rows.
+    issued: NumberSet,
 }
 
 impl Index {
@@ -33,6 +35,7 @@ impl Index {
             unfinished: NumberSet::new(alloc),
             flagged: NumberSet::new(alloc),
             barriers: NumberSet::new(alloc),
+            issued: NumberSet::new(alloc),
         }
     }
 
@@ -45,7 +48,8 @@ impl Index {
     {
         self.unfinished.make_room(rows.len())?;
         self.flagged.make_room(rows.len())?;
-        self.barriers.make_room(rows.len())
+        self.barriers.make_room(rows.len())?;
+        self.issued.make_room(rows.len())
     }
 
     /// A row has come, or has changed within its unit, or has become the last.
@@ -58,6 +62,7 @@ impl Index {
         self.flagged.write(r, asks_to_drain(row));
         let stands = is_barrier(&self.flagged, &self.unfinished, rows, row.unit);
         self.barriers.write(row.unit as usize, stands);
+        self.issued.write(r, is_issued(row));
     }
 
     /// The rows from a number on go. It takes time by how many they are.
@@ -81,6 +86,7 @@ impl Index {
             self.unfinished.write(r, false);
             self.flagged.write(r, false);
             self.barriers.write(r, false);
+            self.issued.write(r, false);
         }
     }
 
@@ -107,6 +113,14 @@ impl Index {
         }
     }
 
+    /// The least issued row from a number on. It takes constant time.
+    pub(crate) fn next_issued(&self, from: usize) -> Option<usize>
+        ensures some { IfSome result (λ r. IsNext self.now.issued from r) }
+        ensures none { IfNone result (NoneFrom self.now.issued from) }
+    {
+        self.issued.next(from)
+    }
+
     /// An index of the same rows.
     pub(crate) fn copy(&self, alloc: Global) -> Result<Index, AllocError>
         ensures { IfOk result (λ index. index ≡ self.now) }
@@ -115,6 +129,7 @@ impl Index {
             unfinished: self.unfinished.copy(alloc)?,
             flagged: self.flagged.copy(alloc)?,
             barriers: self.barriers.copy(alloc)?,
+            issued: self.issued.copy(alloc)?,
         })
     }
 }

@@ -11,6 +11,6 @@ mod sets;
 pub mod submission;
 pub mod table;
 
-pub use links::{is_soft_linked, is_unfinished};
+pub use links::{is_guard, is_issued, is_soft_linked, is_unfinished};
 pub use submission::Batch;
 pub use table::{Table, new_row};

@@ -1,7 +1,7 @@
 //! Links between the requests of a chain (io_uring_enter(2)).
 ghost use Rattle.std.specs.Prelude.{◌≡◌};
 ghost use Rattle.links_drains.specs.Links.{is_soft_linked, is_linked, is_guard, asks_to_drain};
-ghost use Rattle.links_drains.specs.Phases.{is_queued, is_unfinished};
+ghost use Rattle.links_drains.specs.Phases.{is_issued, is_queued, is_unfinished};
 
 use entries::{Phase, Row, Sqe};
 use opcodes::Op;
@@ -34,7 +34,7 @@ pub(crate) fn asks_to_drain(row: &Row) -> bool
 }
 
 /// Whether a row is a LINK_TIMEOUT.
-pub(crate) fn is_guard(row: &Row) -> bool
+pub fn is_guard(row: &Row) -> bool
     ensures { result ≡ is_guard row.now }
 {
     row.entry.opcode == Op::LinkTimeout as u8
@@ -44,6 +44,13 @@ pub(crate) fn is_queued(row: &Row) -> bool
     ensures { result ≡ is_queued row.now.phase }
 {
     matches!(row.phase, Phase::Queued)
+}
+
+/// Whether a row is issued, and hasn't ended.
+pub fn is_issued(row: &Row) -> bool
+    ensures { result ≡ is_issued row.now.phase }
+{
+    matches!(row.phase, Phase::Issued)
 }
 
 /// Whether a row hasn't ended.

@@ -1,5 +1,5 @@
 //! The table of all rows that were ever submitted.
-ghost use Rattle.std.specs.Prelude.{◌≡◌, ℕ, ◌+◌, ◌<◌, ◌≤◌, ◌^◌, ◌++◌, ◌∷◌, [], take, map, Some, None, IfOk, OnOk, OnErr, OnSome, length, option_map, slice_get, slice_set};
+ghost use Rattle.std.specs.Prelude.{◌≡◌, ℕ, ◌+◌, ◌<◌, ◌≤◌, ◌^◌, ◌++◌, ◌∷◌, [], take, map, Some, None, IfOk, IfSome, IfNone, OnOk, OnErr, OnSome, length, option_map, slice_get, slice_set};
 ghost use Rattle.entries.specs.declared.row.Row.{Row};
 ghost use Rattle.entries.specs.declared.row.Phase.TheVariants.{Issued};
 ghost use Rattle.places.specs.Lists.{updated};
@@ -10,7 +10,7 @@ ghost use Rattle.links_drains.specs.Eligible.{is_eligible, GuardsFollow};
 ghost use Rattle.links_drains.specs.Holding.{is_held_by};
 ghost use Rattle.links_drains.specs.Links.{GoesOn};
 ghost use Rattle.links_drains.specs.Rows.{fixed_of, Stay, table_owns, table_seen, table_can_put, new_row as new_row_of};
-ghost use Rattle.links_drains.specs.Units.{rest_of as rest_of_unit};
+ghost use Rattle.links_drains.specs.Units.{rest_of as rest_of_unit, next_issued, IsNextIssued, NoneIssuedFrom};
 
 use crate::holding::{count, take_all_off, take_off};
 use crate::index::Index;
@@ -158,6 +158,19 @@ impl Table {
         ensures { result ≡ is_eligible self.now r }
     {
         self.index.is_eligible(&self.rows, r as usize)
+    }
+
+    /// The least issued row from a number on. It takes constant time.
+    pub fn next_issued(&self, from: u32) -> Option<u32>
+        ensures value { result ≡ next_issued self.now from }
+        ensures some { IfSome result (λ r. IsNextIssued self.now from r) }
+        ensures none { IfNone result (NoneIssuedFrom self.now from) }
+        ensures few { IfSome result (λ r. r < 65536) }
+    {
+        match self.index.next_issued(from as usize) {
+            Some(r) => Some(r as u32),
+            None => None,
+        }
     }
 
     /// The later rows of a row's unit that haven't ended, in the order of their numbers; none where there
@@ -404,6 +417,33 @@ mod tests {
     {
         let mut notes = Recorder::new(table.allocator());
         table.set_phase(r, Phase::Ended(-9), &mut notes)
+    }
+
+    // Whether the issued rows of a table are a row and a later one.
+    fn are_issued(table: &Table, first: u32, second: u32) -> bool
+        requires { second < 65536 }
+    {
+        table.next_issued(0) == Some(first)
+            && table.next_issued(first) == Some(first)
+            && table.next_issued(second) == Some(second)
+            && table.next_issued(second + 1).is_none()
+    }
+
+    #[test]
+    fn issued_rows_in_order(rt: HostRuntime) -> Result<(), AllocError> {
+        let mut table = table_of(rt.alloc(), &[nop(7), nop(8), nop(9)])?;
+        assert_eq!(rt; table.len(), 3);
+        assert_eq!(rt; table.next_issued(0), None);
+        hold(&mut table, 2, 3)?;
+        hold(&mut table, 1, 3)?;
+        assert!(rt; are_issued(&table, 1, 2));
+        let copied = table.copy(rt.alloc())?;
+        assert!(rt; are_issued(&copied, 1, 2));
+        end(&mut table, 1)?;
+        assert_eq!(rt; table.next_issued(0), Some(2));
+        table.truncate(2);
+        assert_eq!(rt; table.next_issued(0), None);
+        Ok(())
     }
 
     // Puts the first row back to where it was issued.

@@ -1,4 +1,5 @@
 pub mod Again
+pub mod Matching
 pub mod Severing
 pub mod Tallying
 pub mod Whole
