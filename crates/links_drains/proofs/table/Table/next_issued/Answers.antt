@@ -3,8 +3,8 @@ use Rattle.std.proofs.lemmas.Option.{slice_get_within}
 use Rattle.links_drains.proofs.IssuedRows.{next_found, next_is, none_found, none_is}
 use Rattle.links_drains.proofs.table.Table.next_issued.Goals as goal
 
-pub overflow_cast : goal.overflow_cast
-overflow_cast c =
+pub overflow_cast-result : goal.overflow_cast-result
+overflow_cast-result c =
     let next = next_found c.self.inside.rows.items c.self.inside.index.issued c.args.from c.in-Some.r c.self.invariant.indexed.issued c.in-Some.ensures.some in
     let within = slice_get_within c.self.inside.rows.items c.in-Some.r next.row next.there in
     let most = c.self.invariant.tallied.most in
