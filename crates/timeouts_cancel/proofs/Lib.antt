@@ -1,5 +1,5 @@
 pub mod Again
-pub mod Matching
+pub mod MatchByMatch
 pub mod Severing
 pub mod Tallying
 pub mod Whole

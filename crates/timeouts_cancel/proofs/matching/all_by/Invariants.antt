@@ -1,5 +1,5 @@
 use Rattle.std.proofs.Common.{◌≡◌, ◌-◌}
-use Rattle.timeouts_cancel.proofs.Matching.{waiting_to}
+use Rattle.timeouts_cancel.proofs.MatchByMatch.{waiting_to}
 use Rattle.timeouts_cancel.proofs.matching.all_by.Given as goal
 
 abbrev pub invariant-loop-r : goal.invariant-loop-r

@@ -1,5 +1,5 @@
 use Rattle.std.proofs.Common.{◌∙◌}
-use Rattle.timeouts_cancel.proofs.Matching.{found_next, found_none}
+use Rattle.timeouts_cancel.proofs.MatchByMatch.{found_next, found_none}
 use Rattle.timeouts_cancel.proofs.matching.find_by.Goals as goal
 
 pub returns-in-Some : goal.returns-in-Some

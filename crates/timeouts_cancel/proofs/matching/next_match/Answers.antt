@@ -1,5 +1,5 @@
 use Rattle.std.proofs.Common.{sym}
-use Rattle.timeouts_cancel.proofs.Matching.{match_found, match_none, passed_none, passed_on}
+use Rattle.timeouts_cancel.proofs.MatchByMatch.{match_found, match_none, passed_none, passed_on}
 use Rattle.timeouts_cancel.proofs.matching.next_match.Goals as goal
 
 pub loop-r-init : goal.loop-r-init
