@@ -25,7 +25,7 @@ passed_none rows key me from = record { after = omega arith; none = λ i x low h
 
 -- the next issued row doesn't match
 pub passed_on : (rows : List Row) (key : Key) (me from at r : ℕ) (row : Row) → Passed rows key me from at → IsNextIssued rows at r → slice_get rows r ≡ Some row → is_match key me (r, row) ≡ false → Passed rows key me from (r + 1)
-passed_on rows key me from at r row p next h no = record {
+passed_on rows key me from at r row p next h fails = record {
   after = let a = p.after in let b = next.after in omega (arith, a, b);
   none = λ i x low high g. by i x low high g (cases_lt i at) (cases_lt i r);
 }
@@ -36,7 +36,7 @@ passed_on rows key me from at r row p next h no = record {
     by i x low high g (inr le) (inr last) = let e : r ≡ i = omega (arith, high, last) in let k : Some row ≡ Some x = sym h ∙ ap (slice_get rows) e ∙ g in same k e
       where
         same : Some row ≡ Some x → r ≡ i → is_match key me (i, x) ≡ false
-        same k e = let y : row ≡ x = cc in ap (λ n. is_match key me (n, x)) (sym e) ∙ ap (λ z. is_match key me (r, z)) (sym y) ∙ no
+        same k e = let y : row ≡ x = cc in ap (λ n. is_match key me (n, x)) (sym e) ∙ ap (λ z. is_match key me (r, z)) (sym y) ∙ fails
 
 pub match_found : (rows : List Row) (key : Key) (me from at r : ℕ) (row : Row) → Passed rows key me from at → IsNextIssued rows at r → slice_get rows r ≡ Some row → is_match key me (r, row) ≡ true → IsNextMatch rows key me from r row
 match_found rows key me from at r row p next h yes_match = record {
@@ -72,7 +72,7 @@ waiting_to rows w key me k = map (λ (p : ℕ × Row). p.0) (filter (is_waiting_
 
 -- a row that doesn't match isn't among them
 not_waiting : (w : WorldState) (key : Key) (me : ℕ) (p : ℕ × Row) → is_match key me p ≡ false → is_waiting_match w key me p ≡ false
-not_waiting w key me p no = and_left _ _ no
+not_waiting w key me p fails = and_left _ _ fails
 
 abbrev number : ℕ × Row → ℕ
 number p = p.0
