@@ -1,5 +1,6 @@
 pub mod Threads
 pub mod Submission
 pub mod Whole
+pub mod Cancels
 pub mod Steps
 pub mod Runs

@@ -2,13 +2,15 @@
 use Rattle.std.specs.Prelude.{◌≡◌, ℤ, pos, negsuc, ℕ, ◌+◌, ◌-◌, ◌%◌, ◌^◌, ◌==◌, Bool, false, not, ◌&&◌, ◌||◌, nat_lt, min, if◌then◌else◌, Option, Some, None, slice_get, slice_set, List, [], ◌∷◌, ◌++◌, length}
 use Rattle.std.specs.Int.Bits.{bit_and}
 use Rattle.entries.specs.declared.completion.Cqe.{Cqe}
+use Rattle.entries.specs.declared.entry.Sqe.{Sqe}
 use Rattle.entries.specs.declared.row.Row.{Row}
 use Rattle.entries.specs.declared.row.Phase.{Phase}
 use Rattle.entries.specs.declared.row.Phase.TheVariants.{Queued, Issued, Ended}
 use Rattle.opcodes.specs.declared.choice.Choice.{Choice}
+use Rattle.opcodes.specs.declared.choice.Choice.TheVariants.{Full, Short, Eio}
 use Rattle.opcodes.specs.declared.ending.Outcome.{Outcome}
 use Rattle.opcodes.specs.declared.ending.Outcome.TheVariants.{Res, Waits, BadChoice}
-use Rattle.opcodes.specs.Opcodes.{uses_descriptor, fits_end}
+use Rattle.opcodes.specs.Opcodes.{is_cancel, uses_descriptor, fits_end}
 use Rattle.links_drains.specs.Holding.{is_held_by}
 use Rattle.opcodes.specs.Outcomes.{outcome_of}
 use Rattle.opcodes.specs.Effects.{world_after}
@@ -27,6 +29,7 @@ use Rattle.links_drains.specs.Batches.{rows_of, direct_of}
 use Rattle.links_drains.specs.Eligible.{is_eligible}
 use Rattle.links_drains.specs.Phases.{counts}
 use Rattle.timeouts_cancel.specs.Falls.{fall_of}
+use Rattle.machine.specs.Cancels.{verdict_of, ending_with}
 use Rattle.machine.specs.Submission.{offered, entries_at, taken_words, taken_entries, einval, ebusy, ebadf}
 use Rattle.machine.specs.Threads.{ThreadState}
 use Rattle.scenario.specs.declared.setup.Instruction.{Instruction}
@@ -135,15 +138,25 @@ outcome_refusal (Res res) = None
 outcome_refusal Waits = Some NotReady
 outcome_refusal BadChoice = Some IsBadChoice
 
-abbrev pub phase_refusal : Phase → Outcome → Option Refusal
+-- a cancel or a removal ends in full alone
+abbrev pub full_refusal : Choice → Option Refusal
+full_refusal Full = None
+full_refusal (Short n) = Some IsBadChoice
+full_refusal Eio = Some IsBadChoice
+
+-- why an issued row can't end as a kernel chooses
+abbrev pub choice_refusal : (ℕ → Bool) → WorldState → Row → Choice → Option Refusal
+choice_refusal held w row c = if is_cancel row.entry.opcode then full_refusal c else outcome_refusal (outcome_of held w row c)
+
+abbrev pub phase_refusal : Phase → Option Refusal → Option Refusal
 phase_refusal Queued o = Some WrongPhase
-phase_refusal Issued o = outcome_refusal o
+phase_refusal Issued o = o
 phase_refusal (Ended res) o = Some WrongPhase
 
 -- timeouts and guards don't finish, they expire
 abbrev pub finish_refusal : (ℕ → Bool) → WorldState → Option Row → Choice → Option Refusal
 finish_refusal held w None c = Some NoSuchRequest
-finish_refusal held w (Some row) c = if counts row then phase_refusal row.phase (outcome_of held w row c) else Some WrongPhase
+finish_refusal held w (Some row) c = if counts row then phase_refusal row.phase (choice_refusal held w row c) else Some WrongPhase
 
 abbrev pub expire_refusal : Option Row → Option Refusal
 expire_refusal None = Some NoSuchRequest
@@ -310,9 +323,13 @@ finished_as m r row (Res res) = fallen (record m { world = world_after row res m
 finished_as m r row Waits = m
 finished_as m r row BadChoice = m
 
+-- the machine once a cancel or a removal has ended, and the rows that end by it
+abbrev pub cancelled : Machine → ℕ → Sqe → Machine
+cancelled m r entry = fallen m (ending_with r (verdict_of m.table m.world r entry))
+
 abbrev pub finished : Machine → ℕ → Option Row → Choice → Machine
 finished m r None c = m
-finished m r (Some row) c = finished_as m r row (outcome_of (is_held_by m.table) m.world row c)
+finished m r (Some row) c = if is_cancel row.entry.opcode then cancelled m r row.entry else finished_as m r row (outcome_of (is_held_by m.table) m.world row c)
 
 -- the machine after an event
 abbrev pub after : Machine → Event → Machine

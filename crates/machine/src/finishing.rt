@@ -11,7 +11,7 @@ ghost use Rattle.scenario.specs.declared.event.Event.TheVariants.{Issue, Finish}
 use crate::whole::Machine;
 use entries::Row;
 use model_files::{DescriptorState, World};
-use opcodes::{Choice, EBADF, Outcome, carry_out, fits_end, outcome, uses_descriptor};
+use opcodes::{Choice, EBADF, Outcome, carry_out, fits_end, is_cancel, outcome, uses_descriptor};
 use places::Recorder;
 use std::alloc::AllocError;
 
@@ -50,6 +50,9 @@ impl Machine {
         let Some(row) = self.table.get(r) else {
             unreachable!()
         };
+        if is_cancel(row.entry.opcode) {
+            return self.cancel(r, &row.entry, notes);
+        }
         let Outcome::Res(res) = self.outcome(&row, choice) else {
             unreachable!()
         };

@@ -2,13 +2,13 @@
 ghost use Rattle.std.specs.Prelude.{◌≡◌, ℕ, Some, slice_get, length, min};
 ghost use Rattle.links_drains.specs.Holding.{is_held_by};
 ghost use Rattle.ring_words.specs.Rings.{sub_list};
-ghost use Rattle.machine.specs.Steps.{refusal, next_refusal, instruction_refusal, enter_refusal, alone_refusal, submission_refusal, take_refusal, sleep_refusal, issue_refusal, finish_refusal, outcome_refusal, is_busy, flushed};
+ghost use Rattle.machine.specs.Steps.{refusal, next_refusal, instruction_refusal, enter_refusal, alone_refusal, submission_refusal, take_refusal, sleep_refusal, issue_refusal, finish_refusal, choice_refusal, full_refusal, outcome_refusal, is_busy, flushed};
 ghost use Rattle.machine.specs.Submission.{offered};
 ghost use Rattle.machine.specs.Whole.{WellFormed};
 
 use crate::whole::Machine;
-use entries::Phase;
-use opcodes::{Choice, Outcome, is_timer};
+use entries::{Phase, Row};
+use opcodes::{Choice, Outcome, is_cancel, is_timer};
 use places::Stage;
 use scenario::{Event, Instruction, Refusal};
 use sqpoll::Poller;
@@ -192,9 +192,30 @@ impl Machine {
             return Some(Refusal::WrongPhase);
         }
         match row.phase {
-            Phase::Issued => refuses_outcome(self.outcome(&row, choice)),
+            Phase::Issued => self.refuses_choice(&row, choice),
             _ => Some(Refusal::WrongPhase),
         }
+    }
+
+    // Why an issued row can't end as a kernel chooses.
+    fn refuses_choice(&self, row: &Row, choice: Choice) -> Option<Refusal>
+        requires memory { length self.now.world.memory ≡ 65536 }
+        ensures { result ≡ choice_refusal (is_held_by self.now.table) self.now.world row.now choice }
+    {
+        if is_cancel(row.entry.opcode) {
+            return refuses_a_part(choice);
+        }
+        refuses_outcome(self.outcome(row, choice))
+    }
+}
+
+// A cancel or a removal ends in full alone.
+fn refuses_a_part(choice: Choice) -> Option<Refusal>
+    ensures { result ≡ full_refusal choice }
+{
+    match choice {
+        Choice::Full => None,
+        Choice::Short(_) | Choice::Eio => Some(Refusal::BadChoice),
     }
 }
 

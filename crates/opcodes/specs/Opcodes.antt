@@ -7,6 +7,10 @@ use Rattle.places.specs.declared.object.End.TheVariants.{Whole, Read, Write}
 abbrev pub is_timer : ℕ → Bool
 is_timer opcode = (opcode == 11) || (opcode == 15)
 
+-- a POLL_REMOVE, a TIMEOUT_REMOVE or an ASYNC_CANCEL
+abbrev pub is_cancel : ℕ → Bool
+is_cancel opcode = (opcode == 7) || (opcode == 12) || (opcode == 14)
+
 -- whether a request holds its descriptor once it is issued: an FSYNC, a POLL_ADD, a READ or a WRITE
 abbrev pub uses_descriptor : ℕ → Bool
 uses_descriptor opcode = (opcode == 3) || (opcode == 6) || (opcode == 22) || (opcode == 23)

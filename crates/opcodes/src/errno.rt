@@ -1,5 +1,8 @@
 //! Error numbers, as errno(3) lists them. A completion has them negated.
 
+/// There is no such entry.
+pub const ENOENT: i32 = 2;
+
 /// Input/output error.
 pub const EIO: i32 = 5;
 
@@ -20,6 +23,9 @@ pub const EFBIG: i32 = 27;
 
 /// Broken pipe.
 pub const EPIPE: i32 = 32;
+
+/// The operation is already in progress.
+pub const EALREADY: i32 = 114;
 
 /// The operation was canceled.
 pub const ECANCELED: i32 = 125;

@@ -1,7 +1,7 @@
 //! Opcodes (io_uring_enter(2)).
 ghost use Rattle.std.specs.Prelude.{◌≡◌};
 ghost use Rattle.opcodes.specs.Check.{op_of};
-ghost use Rattle.opcodes.specs.Opcodes.{is_timer as is_timer_number, uses_descriptor as uses_number, fits_end as fits_end_of};
+ghost use Rattle.opcodes.specs.Opcodes.{is_timer as is_timer_number, is_cancel as is_cancel_number, uses_descriptor as uses_number, fits_end as fits_end_of};
 
 use places::End;
 
@@ -45,6 +45,14 @@ pub fn is_timer(opcode: u8) -> bool
     ensures { result ≡ is_timer_number opcode }
 {
     opcode == 11 || opcode == 15
+}
+
+/// Whether an opcode is a POLL_REMOVE, a TIMEOUT_REMOVE or an ASYNC_CANCEL. What these come to, and which
+/// requests they end, depends on the other requests.
+pub fn is_cancel(opcode: u8) -> bool
+    ensures { result ≡ is_cancel_number opcode }
+{
+    opcode == 7 || opcode == 12 || opcode == 14
 }
 
 /// Whether a request of an opcode holds its descriptor once it is issued.

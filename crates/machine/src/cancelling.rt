@@ -1,0 +1,127 @@
+//! Cancels and removals end, and the rows that end by them (io_uring_enter(2)).
+ghost use Rattle.std.specs.Prelude.{◌≡◌, ◌≤◌, ℤ, List, nat_lt, IfOk, OnOk, Some, false, length, slice_get};
+ghost use Rattle.entries.specs.declared.row.Row.{Row};
+ghost use Rattle.links_drains.specs.Phases.{is_ended};
+ghost use Rattle.places.specs.View.{Keeps};
+ghost use Rattle.machine.specs.Cancels.{key_of, takes_all, on_found, verdict_of, canceled, ending_with};
+ghost use Rattle.machine.specs.Steps.{cancelled};
+ghost use Rattle.machine.specs.Whole.{view, everywhere, Grows, WellFormed};
+
+use crate::whole::Machine;
+use entries::Sqe;
+use opcodes::{EALREADY, ECANCELED, ENOENT, Op};
+use places::Recorder;
+use std::alloc::{AllocError, Global};
+use timeouts_cancel::{Found, Key, all_by, find_by};
+
+/// IORING_ASYNC_CANCEL_ALL.
+const CANCEL_ALL: u32 = 1;
+
+/// IORING_ASYNC_CANCEL_FD.
+const CANCEL_FD: u32 = 2;
+
+/// What a cancel or a removal comes to.
+#[derive(Drop)]
+struct Verdict {
+    res: i32,
+    /// The rows that it ends, in the order of their numbers.
+    rows: Vec<u32>,
+}
+
+impl Machine {
+    /// A cancel or a removal ends, and the rows that end by it.
+    pub(crate) fn cancel(
+        &mut self,
+        r: u32,
+        entry: &Sqe,
+        notes: &mut Recorder,
+    ) -> Result<(), AllocError>
+        requires there { (row : Row) × (slice_get self.old.table r ≡ Some row) × (is_ended row.phase ≡ false) }
+        requires formed { WellFormed self.old }
+        ensures ok { OnOk result (self.new ≡ cancelled self.old r entry.now) }
+        ensures grows { Grows self.old self.new }
+        ensures keeps { Keeps everywhere (view self.old) (view self.new) notes.old.made notes.new.made }
+    {
+        let verdict = self.verdict(r, entry)?;
+        let direct = ending_with(self.table.allocator(), r, &verdict)?;
+        self.fall(&direct, notes)
+    }
+
+    // What it comes to.
+    fn verdict(&self, me: u32, entry: &Sqe) -> Result<Verdict, AllocError>
+        requires few { length self.now.table ≤ 65536 }
+        ensures { IfOk result (λ v. (v.res, v.rows.items) ≡ verdict_of self.now.table self.now.world me entry.now) }
+    {
+        let key = key_of(entry);
+        if takes_all(entry) {
+            let rows = all_by(&self.table, &self.world, key, me)?;
+            return Ok(Verdict {
+                res: rows.len() as i32,
+                rows,
+            });
+        }
+        on_found(
+            self.table.allocator(),
+            find_by(&self.table, &self.world, key, me),
+        )
+    }
+}
+
+// What a cancel of the least match comes to.
+fn on_found(alloc: Global, found: Found) -> Result<Verdict, AllocError>
+    ensures { IfOk result (λ v. (v.res, v.rows.items) ≡ on_found found) }
+{
+    let (res, rows) = match found {
+        Found::Absent => (-ENOENT, Vec::new(alloc)),
+        Found::Running(_) => (-EALREADY, Vec::new(alloc)),
+        Found::Waiting(r) => (0, vec![in alloc; r]?),
+    };
+    Ok(Verdict { res, rows })
+}
+
+// A row with its result, and the rows that it ends, in the order of their numbers.
+fn ending_with(alloc: Global, me: u32, verdict: &Verdict) -> Result<Vec<(u32, i32)>, AllocError>
+    ensures { IfOk result (λ direct. direct.items ≡ ending_with me (verdict.now.res, verdict.now.rows.items)) }
+{
+    let mut direct = canceled_before(alloc, &verdict.rows, me)?;
+    direct.push((me, verdict.res))?;
+    direct.append(&mut canceled_behind(alloc, &verdict.rows, me)?)?;
+    Ok(direct)
+}
+
+fn canceled_before(alloc: Global, rows: &[u32], me: u32) -> Result<Vec<(u32, i32)>, AllocError>
+    ensures { IfOk result (λ endings. endings.items ≡ canceled (λ r. nat_lt r me) rows.now) }
+{
+    let before = rows.iter().filter(|r| **r < me);
+    before.map(|r| (*r, -ECANCELED)).collect(alloc)
+}
+
+fn canceled_behind(alloc: Global, rows: &[u32], me: u32) -> Result<Vec<(u32, i32)>, AllocError>
+    ensures { IfOk result (λ endings. endings.items ≡ canceled (λ r. nat_lt me r) rows.now) }
+{
+    let behind = rows.iter().filter(|r| me < **r);
+    behind.map(|r| (*r, -ECANCELED)).collect(alloc)
+}
+
+// What an entry looks for.
+fn key_of(entry: &Sqe) -> Key
+    ensures { result ≡ key_of entry.now }
+{
+    if entry.opcode == Op::PollRemove as u8 {
+        return Key::Poll(entry.addr);
+    }
+    if entry.opcode == Op::TimeoutRemove as u8 {
+        return Key::Timeout(entry.addr);
+    }
+    if entry.operation_flags & CANCEL_FD != 0 {
+        return Key::Fd(entry.fd);
+    }
+    Key::User(entry.addr)
+}
+
+// Whether it ends all matches that wait.
+fn takes_all(entry: &Sqe) -> bool
+    ensures { result ≡ takes_all entry.now }
+{
+    entry.opcode == Op::AsyncCancel as u8 && entry.operation_flags & CANCEL_ALL != 0
+}
