@@ -9,6 +9,7 @@ use Rattle.links_drains.specs.Holding.{is_held_by}
 use Rattle.opcodes.specs.declared.choice.Choice.{Choice}
 use Rattle.opcodes.specs.declared.ending.Outcome.{Outcome}
 use Rattle.opcodes.specs.declared.ending.Outcome.TheVariants.{Res, Waits, BadChoice}
+use Rattle.opcodes.specs.Opcodes.{is_cancel}
 use Rattle.opcodes.specs.Outcomes.{outcome_of}
 use Rattle.links_drains.specs.Eligible.{is_eligible}
 use Rattle.links_drains.specs.Phases.{is_ended, counts}
@@ -16,7 +17,7 @@ use Rattle.links_drains.proofs.Counting.{ended-le-length, ended-lt-length}
 use Rattle.ring_words.specs.Rings.{sub_list}
 use Rattle.overflow.specs.Backlogs.{is_clear}
 use Rattle.machine.specs.Submission.{taken_entries, einval, ebusy, ebadf}
-use Rattle.machine.specs.Steps.{flushed, gets_events, before_submission, is_unknown, is_busy, submission_refusal, alone_refusal, issue_refusal, outcome_refusal, issued, held_by, lacks_descriptor, phase_refusal, finish_refusal, answered, submitted, awaited, submitting, entered, entered_alone, entered_beside, fallen}
+use Rattle.machine.specs.Steps.{flushed, gets_events, before_submission, is_unknown, is_busy, submission_refusal, alone_refusal, issue_refusal, outcome_refusal, issued, held_by, lacks_descriptor, phase_refusal, choice_refusal, full_refusal, finish_refusal, answered, submitted, awaited, submitting, entered, entered_alone, entered_beside, fallen}
 use Rattle.sqpoll.specs.declared.poller.Poller.{Poller}
 use Rattle.places.specs.Lists.{updated}
 use Rattle.places.proofs.ListLemmas.{updated_set}
@@ -79,12 +80,12 @@ busy_answer (Err x) m n ts t k w flags e l h o = o
 pub finished_row : (m : Machine) (r : ℕ) (c : Choice) → finish_refusal (is_held_by m.table) m.world (slice_get m.table r) c ≡ None → (x : Row) × (slice_get m.table r ≡ Some x) × (is_ended x.phase ≡ false)
 finished_row m r c h = by (slice_get m.table r) refl h
   where
-    at : (x : Row) → slice_get m.table r ≡ Some x → (p : Phase) → x.phase ≡ p → phase_refusal p (outcome_of (is_held_by m.table) m.world x c) ≡ None → (y : Row) × (slice_get m.table r ≡ Some y) × (is_ended y.phase ≡ false)
+    at : (x : Row) → slice_get m.table r ≡ Some x → (p : Phase) → x.phase ≡ p → phase_refusal p (choice_refusal (is_held_by m.table) m.world x c) ≡ None → (y : Row) × (slice_get m.table r ≡ Some y) × (is_ended y.phase ≡ false)
     at x e Queued q k = absurd cc
     at x e Issued q k = (x, e, ap is_ended q)
     at x e (Ended n) q k = absurd cc
 
-    counting : (x : Row) → slice_get m.table r ≡ Some x → (b : Bool) → cond b (phase_refusal x.phase (outcome_of (is_held_by m.table) m.world x c)) (Some WrongPhase) ≡ None → (y : Row) × (slice_get m.table r ≡ Some y) × (is_ended y.phase ≡ false)
+    counting : (x : Row) → slice_get m.table r ≡ Some x → (b : Bool) → cond b (phase_refusal x.phase (choice_refusal (is_held_by m.table) m.world x c)) (Some WrongPhase) ≡ None → (y : Row) × (slice_get m.table r ≡ Some y) × (is_ended y.phase ≡ false)
     counting x e true k = at x e x.phase refl k
     counting x e false k = absurd cc
 
@@ -92,23 +93,24 @@ finished_row m r c h = by (slice_get m.table r) refl h
     by None e k = absurd cc
     by (Some x) e k = counting x e (counts x) k
 
--- the outcome of a row that can be finished is a result
-pub finished_result : (m : Machine) (r : ℕ) (c : Choice) (x : Row) → slice_get m.table r ≡ Some x → finish_refusal (is_held_by m.table) m.world (slice_get m.table r) c ≡ None → (res : ℤ) × (outcome_of (is_held_by m.table) m.world x c ≡ Res res)
-finished_result m r c x e h = counting (counts x) (ap (λ o. finish_refusal (is_held_by m.table) m.world o c) (sym e) ∙ h)
+-- the outcome of a row that can be finished is a result, unless it is a cancel or a removal
+pub finished_result : (m : Machine) (r : ℕ) (c : Choice) (x : Row) → slice_get m.table r ≡ Some x → is_cancel x.entry.opcode ≡ false → finish_refusal (is_held_by m.table) m.world (slice_get m.table r) c ≡ None → (res : ℤ) × (outcome_of (is_held_by m.table) m.world x c ≡ Res res)
+finished_result m r c x e other h = counting (counts x) (ap (λ o. finish_refusal (is_held_by m.table) m.world o c) (sym e) ∙ h)
   where
     came : (o : Outcome) → outcome_of (is_held_by m.table) m.world x c ≡ o → outcome_refusal o ≡ None → (res : ℤ) × (outcome_of (is_held_by m.table) m.world x c ≡ Res res)
     came (Res res) g k = (res, g)
     came Waits g k = absurd cc
     came BadChoice g k = absurd cc
 
-    at : (p : Phase) → phase_refusal p (outcome_of (is_held_by m.table) m.world x c) ≡ None → (res : ℤ) × (outcome_of (is_held_by m.table) m.world x c ≡ Res res)
+    at : (p : Phase) → phase_refusal p (choice_refusal (is_held_by m.table) m.world x c) ≡ None → (res : ℤ) × (outcome_of (is_held_by m.table) m.world x c ≡ Res res)
     at Queued k = absurd cc
-    at Issued k = came (outcome_of (is_held_by m.table) m.world x c) refl k
+    at Issued k = came (outcome_of (is_held_by m.table) m.world x c) refl (sym (ap (λ b. cond b (full_refusal c) (outcome_refusal (outcome_of (is_held_by m.table) m.world x c))) other) ∙ k)
     at (Ended n) k = absurd cc
 
-    counting : (b : Bool) → cond b (phase_refusal x.phase (outcome_of (is_held_by m.table) m.world x c)) (Some WrongPhase) ≡ None → (res : ℤ) × (outcome_of (is_held_by m.table) m.world x c ≡ Res res)
+    counting : (b : Bool) → cond b (phase_refusal x.phase (choice_refusal (is_held_by m.table) m.world x c)) (Some WrongPhase) ≡ None → (res : ℤ) × (outcome_of (is_held_by m.table) m.world x c ≡ Res res)
     counting true k = at x.phase k
     counting false k = absurd cc
+
 
 -- a row that can be issued is there, and unfinished
 pub issued_row : (m : Machine) (r : ℕ) → issue_refusal m.table r (slice_get m.table r) ≡ None → (x : Row) × (slice_get m.table r ≡ Some x) × (is_ended x.phase ≡ false)

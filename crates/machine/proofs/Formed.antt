@@ -13,6 +13,7 @@ use Rattle.links_drains.specs.Holding.{is_held_by}
 use Rattle.opcodes.specs.declared.choice.Choice.{Choice}
 use Rattle.opcodes.specs.declared.ending.Outcome.{Outcome}
 use Rattle.opcodes.specs.declared.ending.Outcome.TheVariants.{Res, Waits, BadChoice}
+use Rattle.opcodes.specs.Opcodes.{is_cancel}
 use Rattle.opcodes.specs.Outcomes.{outcome_of}
 use Rattle.opcodes.specs.Effects.{world_after}
 use Rattle.opcodes.proofs.Staying.{stays_after}
@@ -32,8 +33,9 @@ use Rattle.sqpoll.specs.Pollers.{is_awake}
 use Rattle.links_drains.specs.Batches.{direct_of}
 use Rattle.links_drains.specs.Eligible.{is_eligible}
 use Rattle.links_drains.specs.Phases.{is_ended, counts}
+use Rattle.machine.specs.Cancels.{verdict_of, ending_with}
 use Rattle.machine.specs.Submission.{offered, taken_entries, einval, ebusy, ebadf}
-use Rattle.machine.specs.Steps.{refusal, after, stepped, executed, entered, entered_alone, entered_beside, submitting, before_submission, is_busy, is_unknown, gets_events, wakes, woken, shown, awaited, ready_count, held_back, with_poller, flushed, submission_refusal, alone_refusal, enter_refusal, instruction_refusal, next_refusal, closed, is_open, thread_refusal, take_refusal, issue_refusal, phase_refusal, finish_refusal, taken, submitted, answered, gone_on, issued, finished, finished_as, lacks_descriptor, held_by, fallen}
+use Rattle.machine.specs.Steps.{refusal, after, stepped, executed, entered, entered_alone, entered_beside, submitting, before_submission, is_busy, is_unknown, gets_events, wakes, woken, shown, awaited, ready_count, held_back, with_poller, flushed, submission_refusal, alone_refusal, enter_refusal, instruction_refusal, next_refusal, closed, is_open, thread_refusal, take_refusal, issue_refusal, phase_refusal, choice_refusal, finish_refusal, taken, submitted, answered, gone_on, issued, cancelled, finished, finished_as, lacks_descriptor, held_by, fallen}
 use Rattle.machine.specs.Threads.{ThreadState}
 use Rattle.machine.specs.Whole.{is_asleep, flag_word, WellFormed}
 use Rattle.scenario.specs.declared.setup.Instruction.{Instruction}
@@ -111,12 +113,16 @@ formed_finish m r c f h = by (slice_get m.table r) refl h
     ending x e q Waits g = f
     ending x e q BadChoice g = f
 
-    at : (x : Row) → slice_get m.table r ≡ Some x → (p : Phase) → x.phase ≡ p → phase_refusal p (outcome_of (is_held_by m.table) m.world x c) ≡ None → WellFormed (finished m r (Some x) c)
+    choosing : (x : Row) → slice_get m.table r ≡ Some x → is_ended x.phase ≡ false → (b : Bool) → WellFormed (if b then cancelled m r x.entry else finished_as m r x (outcome_of (is_held_by m.table) m.world x c))
+    choosing x e q true = formed_fallen m (ending_with r (verdict_of m.table m.world r x.entry)) f
+    choosing x e q false = ending x e q (outcome_of (is_held_by m.table) m.world x c) refl
+
+    at : (x : Row) → slice_get m.table r ≡ Some x → (p : Phase) → x.phase ≡ p → phase_refusal p (choice_refusal (is_held_by m.table) m.world x c) ≡ None → WellFormed (finished m r (Some x) c)
     at x e Queued q k = absurd cc
-    at x e Issued q k = ending x e (ap is_ended q) (outcome_of (is_held_by m.table) m.world x c) refl
+    at x e Issued q k = choosing x e (ap is_ended q) (is_cancel x.entry.opcode)
     at x e (Ended n) q k = absurd cc
 
-    counting : (x : Row) → slice_get m.table r ≡ Some x → (b : Bool) → cond b (phase_refusal x.phase (outcome_of (is_held_by m.table) m.world x c)) (Some WrongPhase) ≡ None → WellFormed (finished m r (Some x) c)
+    counting : (x : Row) → slice_get m.table r ≡ Some x → (b : Bool) → cond b (phase_refusal x.phase (choice_refusal (is_held_by m.table) m.world x c)) (Some WrongPhase) ≡ None → WellFormed (finished m r (Some x) c)
     counting x e true k = at x e x.phase refl k
     counting x e false k = absurd cc
 

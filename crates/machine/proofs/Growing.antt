@@ -13,6 +13,7 @@ use Rattle.links_drains.specs.Holding.{is_held_by}
 use Rattle.opcodes.specs.declared.choice.Choice.{Choice}
 use Rattle.opcodes.specs.declared.ending.Outcome.{Outcome}
 use Rattle.opcodes.specs.declared.ending.Outcome.TheVariants.{Res, Waits, BadChoice}
+use Rattle.opcodes.specs.Opcodes.{is_cancel}
 use Rattle.opcodes.specs.Outcomes.{outcome_of}
 use Rattle.opcodes.specs.Effects.{world_after}
 use Rattle.machine.proofs.PipeCounts.{puts_fit}
@@ -23,9 +24,10 @@ use Rattle.overflow.proofs.Posting.{posted_slots}
 use Rattle.sqpoll.specs.declared.poller.Poller.{Poller}
 use Rattle.sqpoll.specs.declared.poller.Poller.TheVariants.{Awake, Asleep}
 use Rattle.model_files.proofs.Fixing as worlds
+use Rattle.machine.specs.Cancels.{verdict_of, ending_with}
 use Rattle.machine.specs.Submission.{taken_entries, einval, ebusy, ebadf}
 use Rattle.timeouts_cancel.specs.Falls.{fall_of}
-use Rattle.machine.specs.Steps.{refusal, sleep_refusal, after, stepped, executed, entered, entered_alone, entered_beside, submitting, before_submission, is_busy, is_unknown, gets_events, wakes, woken, shown, awaited, ready_count, held_back, with_poller, closed, is_open, posted, flushed, completions_of, ended, all_ended, fallen, taken, submitted, answered, issued, finished, finished_as, lacks_descriptor, held_by}
+use Rattle.machine.specs.Steps.{refusal, sleep_refusal, after, stepped, executed, entered, entered_alone, entered_beside, submitting, before_submission, is_busy, is_unknown, gets_events, wakes, woken, shown, awaited, ready_count, held_back, with_poller, closed, is_open, posted, flushed, completions_of, ended, all_ended, fallen, taken, submitted, answered, issued, cancelled, finished, finished_as, lacks_descriptor, held_by}
 use Rattle.machine.specs.Threads.{ThreadState, program_of}
 use Rattle.machine.specs.Whole.{Grows, WellFormed}
 use Rattle.scenario.specs.declared.setup.Instruction.{Instruction}
@@ -276,7 +278,7 @@ grows_issued m r (Some x) = by (lacks_descriptor m.world x)
 
 pub grows_finished : (m : Machine) (r : ℕ) (c : Choice) → WellFormed m → (o : Option Row) → Grows m (finished m r o c)
 grows_finished m r c f None = grows_self m
-grows_finished m r c f (Some x) = by (outcome_of (is_held_by m.table) m.world x c) refl
+grows_finished m r c f (Some x) = choosing (is_cancel x.entry.opcode)
   where
     by : (o : Outcome) → outcome_of (is_held_by m.table) m.world x c ≡ o → Grows m (finished_as m r x o)
     by (Res res) e =
@@ -284,6 +286,10 @@ grows_finished m r c f (Some x) = by (outcome_of (is_held_by m.table) m.world x 
         grows_then m after_it _ (grows_world m (world_after x res m.world) (stays_after (is_held_by m.table) m.world x res c f.world (puts_fit m f) e).setup) (grows_fallen after_it ((r, res) ∷ []))
     by Waits e = grows_self m
     by BadChoice e = grows_self m
+
+    choosing : (b : Bool) → Grows m (if b then cancelled m r x.entry else finished_as m r x (outcome_of (is_held_by m.table) m.world x c))
+    choosing true = grows_fallen m (ending_with r (verdict_of m.table m.world r x.entry))
+    choosing false = by (outcome_of (is_held_by m.table) m.world x c) refl
 
 pub grows_after : (m : Machine) (e : Event) → WellFormed m → refusal m e ≡ None → Grows m (after m e)
 grows_after m (Step t) f h = grows_stepped m t f (slice_get m.threads t) refl

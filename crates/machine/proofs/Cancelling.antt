@@ -1,0 +1,192 @@
+-- What ends by a cancel: unfinished rows, in the order of their numbers.
+use Rattle.std.proofs.Common.{◌≡◌, ℕ, ℤ, zero, suc, Bool, true, false, not, cond, refl, sym, ◌∙◌, ap, subst, List, [], ◌∷◌, ◌++◌, length, map, ◌+◌, ◌<◌, ◌≤◌, le_refl, arith}
+use Rattle.std.specs.Prelude.{Option, Some, None, option_map, slice_get, ◌==◌, ◌&&◌, nat_lt, if◌then◌else◌}
+use Rattle.std.specs.List.{filter, enumerate_from}
+use Rattle.std.proofs.lemmas.Bool.Decides.{nat_tests}
+use Rattle.std.proofs.lemmas.Option.{slice_get_within}
+use Rattle.entries.specs.declared.entry.Sqe.{Sqe}
+use Rattle.entries.specs.declared.row.Row.{Row}
+use Rattle.entries.specs.declared.row.Phase.{Phase}
+use Rattle.entries.specs.declared.row.Phase.TheVariants.{Queued, Issued, Ended}
+use Rattle.model_files.specs.Worlds.{WorldState}
+use Rattle.opcodes.specs.Outcomes.{is_running}
+use Rattle.links_drains.specs.Endings.{Ending, ecanceled, Direct}
+use Rattle.links_drains.specs.Links.{is_guard}
+use Rattle.links_drains.specs.Phases.{is_ended, is_issued, is_unfinished}
+use Rattle.links_drains.proofs.Chains.{enumerated}
+use Rattle.timeouts_cancel.specs.declared.matching.Key.{Key}
+use Rattle.timeouts_cancel.specs.declared.matching.Found.TheVariants.{Running, Waiting}
+use Rattle.timeouts_cancel.specs.Matches.{fits_key, is_match, matches_of, found_by, found_first, is_waiting_match, waiting_by}
+use Rattle.timeouts_cancel.proofs.Severing.{both}
+use Rattle.machine.specs.Cancels.{Verdict, key_of, takes_all, on_found, on_all, verdict_of, canceled, ending_with}
+
+less_of : (a b : ℕ) → nat_lt a b ≡ true → a < b
+less_of a b k = grind (arith, nat_tests, k)
+
+-- ---- endings in order
+
+-- Endings of unfinished rows, in the order of their numbers, from one number on and below another.
+abbrev Rises : List Row → ℕ → ℕ → List Ending → Type 0
+Rises rows from to [] = from ≤ to
+Rises rows from to (e ∷ es) = (x : Row) × (slice_get rows e.0 ≡ Some x) × (is_unfinished x.phase ≡ true) × (from ≤ e.0) × Rises rows (e.0 + 1) to es
+
+rises_less : (rows : List Row) (a b c : ℕ) (es : List Ending) → a ≤ b → Rises rows b c es → Rises rows a c es
+rises_less rows a b c [] l h = omega (arith, l, h)
+rises_less rows a b c (e ∷ es) l h = let n = h.3 in (h.0, h.1, h.2, omega (arith, l, n), h.4)
+
+rises_join : (rows : List Row) (a b c : ℕ) (es fs : List Ending) → Rises rows a b es → Rises rows b c fs → Rises rows a c (es ++ fs)
+rises_join rows a b c [] fs h k = rises_less rows a b c fs h k
+rises_join rows a b c (e ∷ es) fs h k = (h.0, h.1, h.2, h.3, rises_join rows (e.0 + 1) b c es fs h.4 k)
+
+rises_each : (rows : List Row) (a b : ℕ) (es : List Ending) → Rises rows a b es → (i : ℕ) (e : Ending) → slice_get es i ≡ Some e → (x : Row) × (slice_get rows e.0 ≡ Some x) × (is_unfinished x.phase ≡ true)
+rises_each rows a b [] h i e k = absurd cc
+rises_each rows a b (d ∷ es) h zero e k = let same : d ≡ e = cc in subst (λ (z : Ending). (x : Row) × (slice_get rows z.0 ≡ Some x) × (is_unfinished x.phase ≡ true)) same (h.0, h.1, h.2)
+rises_each rows a b (d ∷ es) h (suc i) e k = rises_each rows (d.0 + 1) b es h.4 i e k
+
+rises_above : (rows : List Row) (a b : ℕ) (es : List Ending) → Rises rows a b es → (i : ℕ) (e : Ending) → slice_get es i ≡ Some e → a ≤ e.0
+rises_above rows a b [] h i e k = absurd cc
+rises_above rows a b (d ∷ es) h zero e k = let same : d ≡ e = cc in subst (λ (z : Ending). a ≤ z.0) same h.3
+rises_above rows a b (d ∷ es) h (suc i) e k = let n = rises_above rows (d.0 + 1) b es h.4 i e k in let l = h.3 in omega (arith, n, l)
+
+rises_order : (rows : List Row) (a b : ℕ) (es : List Ending) → Rises rows a b es → (i j : ℕ) (p q : Ending) → slice_get es i ≡ Some p → slice_get es j ≡ Some q → i < j → p.0 < q.0
+rises_order rows a b [] h i j p q k g l = absurd cc
+rises_order rows a b (d ∷ es) h i zero p q k g l = absurd (omega (arith, l))
+rises_order rows a b (d ∷ es) h zero (suc j) p q k g l =
+    let same : d ≡ p = cc in
+    let low : d.0 ≡ p.0 = ap (λ (z : Ending). z.0) same in
+    let n = rises_above rows (d.0 + 1) b es h.4 j q g in
+    omega (arith, n, low)
+rises_order rows a b (d ∷ es) h (suc i) (suc j) p q k g l = rises_order rows (d.0 + 1) b es h.4 i j p q k g (omega (arith, l))
+
+rises_direct : (rows : List Row) (a b : ℕ) (es : List Ending) → Rises rows a b es → Direct rows es
+rises_direct rows a b es h = record { each = rises_each rows a b es h; rising = rises_order rows a b es h }
+
+-- ---- the rows that end by another
+
+-- Unfinished rows, in the order of their numbers, from one on.
+abbrev Others : List Row → ℕ → List ℕ → Type 0
+Others rows from [] = Unit {0}
+Others rows from (r ∷ rs) = (x : Row) × (slice_get rows r ≡ Some x) × (is_unfinished x.phase ≡ true) × (from ≤ r) × Others rows (r + 1) rs
+
+others_less : (rows : List Row) (a b : ℕ) (rs : List ℕ) → a ≤ b → Others rows b rs → Others rows a rs
+others_less rows a b [] l h = tt
+others_less rows a b (r ∷ rs) l h = let n = h.3 in (h.0, h.1, h.2, omega (arith, l, n), h.4)
+
+rises_before : (rows : List Row) (me from : ℕ) (rs : List ℕ) → Others rows from rs → from ≤ me → Rises rows from me (canceled (λ r. nat_lt r me) rs)
+rises_before rows me from [] h l = l
+rises_before rows me from (r ∷ rs) h l =
+    let n = h.3 in
+    by (nat_lt r me) refl (rises_before rows me (r + 1) rs h.4) (rises_before rows me from rs (others_less rows from (r + 1) rs (omega (arith, n)) h.4) l)
+  where
+    by : (b : Bool) → nat_lt r me ≡ b → (r + 1 ≤ me → Rises rows (r + 1) me (canceled (λ q. nat_lt q me) rs)) → Rises rows from me (canceled (λ q. nat_lt q me) rs)
+        → Rises rows from me (map (λ (q : ℕ). (q, ecanceled)) (cond b (r ∷ filter (λ q. nat_lt q me) rs) (filter (λ q. nat_lt q me) rs)))
+    by true k kept skipped = let m = less_of r me k in (h.0, h.1, h.2, h.3, kept (omega (arith, m)))
+    by false k kept skipped = skipped
+
+rises_behind : (rows : List Row) (me start from : ℕ) (rs : List ℕ) → Others rows from rs → start ≤ length rows → ((r : ℕ) → from ≤ r → me < r → start ≤ r) → Rises rows start (length rows) (canceled (λ r. nat_lt me r) rs)
+rises_behind rows me start from [] h l high = l
+rises_behind rows me start from (r ∷ rs) h l high =
+    let n = h.3 in
+    by (nat_lt me r) refl (rises_behind rows me (r + 1) (r + 1) rs h.4 (let a = slice_get_within rows r h.0 h.1 in omega (arith, a)) (λ q a b. a))
+    (rises_behind rows me start (r + 1) rs h.4 l (λ q a b. high q (omega (arith, a, n)) b))
+  where
+    by : (b : Bool) → nat_lt me r ≡ b → Rises rows (r + 1) (length rows) (canceled (λ q. nat_lt me q) rs) → Rises rows start (length rows) (canceled (λ q. nat_lt me q) rs)
+        → Rises rows start (length rows) (map (λ (q : ℕ). (q, ecanceled)) (cond b (r ∷ filter (λ q. nat_lt me q) rs) (filter (λ q. nat_lt me q) rs)))
+    by true k kept skipped = (h.0, h.1, h.2, high r h.3 (less_of me r k), kept)
+    by false k kept skipped = skipped
+
+direct_around : (rows : List Row) (me : ℕ) (x : Row) (v : Verdict) → slice_get rows me ≡ Some x → is_ended x.phase ≡ false → Others rows 0 v.1 → Direct rows (ending_with me v)
+direct_around rows me x v e u o =
+    let within = slice_get_within rows me x e in
+    rises_direct rows 0 (length rows) (ending_with me v)
+    (rises_join rows 0 me (length rows) (canceled (λ r. nat_lt r me) v.1) ((me, v.0) ∷ canceled (λ r. nat_lt me r) v.1) (rises_before rows me 0 v.1 o (omega arith))
+     (x, e, ap not u, le_refl me, rises_behind rows me (me + 1) 0 v.1 o (omega (arith, within)) (λ r a b. omega (arith, b))))
+
+-- ---- rows that match
+
+abbrev number : ℕ × Row → ℕ
+number p = p.0
+
+-- the rows that pass a test, which unfinished ones alone pass
+others_from : (all : List Row) (test : ℕ × Row → Bool) → ((p : ℕ × Row) → test p ≡ true → is_unfinished p.1.phase ≡ true) → (n : ℕ) (rows : List Row) → ((i : ℕ) (x : Row) → slice_get rows i ≡ Some x → slice_get all (n + i) ≡ Some x)
+    → Others all n (map number (filter test (enumerate_from n rows)))
+others_from all test going n [] there = tt
+others_from all test going n (row ∷ rows) there =
+    by (test (n, row)) refl (others_from all test going (n + 1) rows (λ i x e. let k : n + 1 + i ≡ n + suc i = omega arith in ap (slice_get all) k ∙ there (suc i) x e))
+  where
+    here : slice_get all n ≡ Some row
+    here = let k : n ≡ n + 0 = omega arith in ap (slice_get all) k ∙ there 0 row refl
+
+    by : (b : Bool) → test (n, row) ≡ b → Others all (n + 1) (map number (filter test (enumerate_from (n + 1) rows)))
+        → Others all n (map number (cond b ((n, row) ∷ filter test (enumerate_from (n + 1) rows)) (filter test (enumerate_from (n + 1) rows))))
+    by true k rest = (row, here, going (n, row) k, le_refl n, rest)
+    by false k rest = others_less all n (n + 1) (map number (filter test (enumerate_from (n + 1) rows))) (omega arith) rest
+
+-- an element that passes a test is one of the list
+passing : {X : Type 0} (test : X → Bool) (xs : List X) (i : ℕ) (x : X) → slice_get (filter test xs) i ≡ Some x → (j : ℕ) × (slice_get xs j ≡ Some x) × (test x ≡ true)
+passing test [] i x h = absurd cc
+passing {X} test (y ∷ ys) i x h = by (test y) refl i h (λ k g. passing test ys k x g)
+  where
+    by : (b : Bool) → test y ≡ b → (k : ℕ) → slice_get (cond b (y ∷ filter test ys) (filter test ys)) k ≡ Some x → ((k : ℕ) → slice_get (filter test ys) k ≡ Some x → (j : ℕ) × (slice_get ys j ≡ Some x) × (test x ≡ true))
+        → (j : ℕ) × (slice_get (y ∷ ys) j ≡ Some x) × (test x ≡ true)
+    by true e zero g more = let same : y ≡ x = cc in (0, g, ap test (sym same) ∙ e)
+    by true e (suc k) g more = let m = more k g in (suc m.0, m.1, m.2)
+    by false e k g more = let m = more k g in (suc m.0, m.1, m.2)
+
+-- the first row that passes a test
+first_there : (rows : List Row) (test : ℕ × Row → Bool) (p : ℕ × Row) → slice_get (filter test (enumerate_from 0 rows)) 0 ≡ Some p → (slice_get rows p.0 ≡ Some p.1) × (test p ≡ true)
+first_there rows test p h = let m = passing test (enumerate_from 0 rows) 0 p h in by m.0 (slice_get rows m.0) refl (sym (enumerated rows m.0) ∙ m.1) m.2
+  where
+    by : (j : ℕ) (o : Option Row) → slice_get rows j ≡ o → option_map (λ (y : Row). (j, y)) o ≡ Some p → test p ≡ true → (slice_get rows p.0 ≡ Some p.1) × (test p ≡ true)
+    by j None e k t = absurd cc
+    by j (Some y) e k t = let same : (j, y) ≡ p = cc in (subst (λ (q : ℕ × Row). slice_get rows q.0 ≡ Some q.1) same e, t)
+
+issued_open : (p : Phase) → is_issued p ≡ true → is_unfinished p ≡ true
+issued_open Queued h = refl
+issued_open Issued h = refl
+issued_open (Ended n) h = absurd cc
+
+match_open : (key : Key) (me : ℕ) (p : ℕ × Row) → is_match key me p ≡ true → is_unfinished p.1.phase ≡ true
+match_open key me p h = issued_open p.1.phase (both (is_issued p.1.phase) (not (is_guard p.1) && (not (p.0 == me) && fits_key key p.1)) h).0
+
+others_waiting : (rows : List Row) (w : WorldState) (key : Key) (me : ℕ) → Others rows 0 (waiting_by rows w key me)
+others_waiting rows w key me =
+    others_from rows (is_waiting_match w key me) (λ p h. match_open key me p (both (is_match key me p) (not (is_running w p.1)) h).0) 0 rows
+    (λ i x e. let k : 0 + i ≡ i = omega arith in ap (slice_get rows) k ∙ e)
+
+others_found : (rows : List Row) (w : WorldState) (key : Key) (me : ℕ) → Others rows 0 (on_found (found_by rows w key me)).1
+others_found rows w key me = by (slice_get (matches_of rows key me) 0) refl
+  where
+    waits : (p : ℕ × Row) → slice_get (matches_of rows key me) 0 ≡ Some p → (b : Bool) → Others rows 0 (on_found (if b then Running p.0 else Waiting p.0)).1
+    waits p e true = tt
+    waits p e false = let t = first_there rows (is_match key me) p e in (p.1, t.0, match_open key me p t.1, omega arith, tt)
+
+    by : (o : Option (ℕ × Row)) → slice_get (matches_of rows key me) 0 ≡ o → Others rows 0 (on_found (found_first w o)).1
+    by None e = tt
+    by (Some p) e = waits p e (is_running w p.1)
+
+others_of : (rows : List Row) (w : WorldState) (me : ℕ) (entry : Sqe) → Others rows 0 (verdict_of rows w me entry).1
+others_of rows w me entry = by (takes_all entry)
+  where
+    by : (b : Bool) → Others rows 0 (if b then on_all (waiting_by rows w (key_of entry) me) else on_found (found_by rows w (key_of entry) me)).1
+    by true = others_waiting rows w (key_of entry) me
+    by false = others_found rows w (key_of entry) me
+
+-- a row that ends, with those that end by it, is what a step can end of itself
+pub direct_cancel : (rows : List Row) (w : WorldState) (me : ℕ) (entry : Sqe) (x : Row) → slice_get rows me ≡ Some x → is_ended x.phase ≡ false → Direct rows (ending_with me (verdict_of rows w me entry))
+direct_cancel rows w me entry x e u = direct_around rows me x (verdict_of rows w me entry) e u (others_of rows w me entry)
+
+-- ---- how many they are
+
+few_from : (test : ℕ × Row → Bool) (n : ℕ) (rows : List Row) → length (map number (filter test (enumerate_from n rows))) ≤ length rows
+few_from test n [] = omega arith
+few_from test n (row ∷ rows) = by (test (n, row)) (few_from test (n + 1) rows)
+  where
+    by : (b : Bool) → length (map number (filter test (enumerate_from (n + 1) rows))) ≤ length rows
+        → length (map number (cond b ((n, row) ∷ filter test (enumerate_from (n + 1) rows)) (filter test (enumerate_from (n + 1) rows)))) ≤ suc (length rows)
+    by true k = omega (arith, k)
+    by false k = omega (arith, k)
+
+-- no more rows wait than there are
+pub few_waiting : (rows : List Row) (w : WorldState) (key : Key) (me : ℕ) → length (waiting_by rows w key me) ≤ length rows
+few_waiting rows w key me = few_from (is_waiting_match w key me) 0 rows
