@@ -1,6 +1,7 @@
 //! The run of one NOP through all layers.
 
 mod calls;
+mod cancels;
 mod chains;
 mod devices;
 mod entering;
