@@ -13,7 +13,7 @@ pub mod FormedThreads
 pub mod FormedMachines
 pub mod Growing
 pub mod Untimed
-pub mod Cancelling
+pub mod CancelLemmas
 pub mod Endings
 pub mod FormedSubmissions
 pub mod Formed

@@ -85,7 +85,8 @@ fn ending_with(alloc: Global, me: u32, verdict: &Verdict) -> Result<Vec<(u32, i3
 {
     let mut direct = canceled_before(alloc, &verdict.rows, me)?;
     direct.push((me, verdict.res))?;
-    direct.append(&mut canceled_behind(alloc, &verdict.rows, me)?)?;
+    let mut behind = canceled_behind(alloc, &verdict.rows, me)?;
+    direct.append(&mut behind)?;
     Ok(direct)
 }
 

@@ -2,7 +2,7 @@ use Rattle.std.proofs.Common.{◌≡◌, ◌∙◌, ap, sym, subst, ℕ, ℤ, Li
 use Rattle.links_drains.specs.Endings.{Direct}
 use Rattle.machine.specs.Cancels.{verdict_of, ending_with}
 use Rattle.machine.specs.Steps.{fallen}
-use Rattle.machine.proofs.Cancelling.{direct_cancel}
+use Rattle.machine.proofs.CancelLemmas.{direct_cancel}
 use Rattle.machine.proofs.FormedMachines.{mostly}
 use Rattle.machine.proofs.Untimed.{untimed}
 use Rattle.machine.proofs.whole.Machine.cancel.Goals as goal
@@ -22,4 +22,6 @@ pub fall-requires-clause-mostly : goal.fall-requires-clause-mostly
 fall-requires-clause-mostly c = mostly c.args.self.now c.requires.formed
 
 pub returns-clause-ok : goal.returns-clause-ok
-returns-clause-ok c = subst (λ (es : List (ℕ × ℤ)). OnOk c.fall.result (c.fall.new.self ≡ fallen c.args.self.now es)) (listed c) c.fall.ensures.ok
+returns-clause-ok c =
+    let listed = c.deref.ensures.value ∙ c.in_ok-direct.ensures ∙ ap (ending_with c.args.r) c.in_ok-verdict.ensures in
+    subst (λ (es : List (ℕ × ℤ)). OnOk c.fall.result (c.fall.new.self ≡ fallen c.args.self.now es)) listed c.fall.ensures.ok
