@@ -1,13 +1,14 @@
-use Rattle.std.proofs.Common.{◌≡◌, sym, ◌∙◌, ap, subst, w32, FitsSigned, to_z, of_z, rules, [], ◌∷◌, OnOk}
+use Rattle.std.proofs.Common.{◌≡◌, sym, ◌∙◌, ap, subst, true, false, cond, w32, FitsSigned, to_z, of_z, rules, [], ◌∷◌, OnOk}
 use Rattle.std.specs.Prelude.{slice_get, Some}
 use Rattle.std.proofs.lemmas.Int.{to_z-of_z}
 use Rattle.model_files.specs.Worlds.{WorldState}
 use Rattle.links_drains.specs.Holding.{is_held_by}
 use Rattle.opcodes.specs.Effects.{world_after}
+use Rattle.opcodes.specs.Opcodes.{is_cancel}
 use Rattle.opcodes.specs.Outcomes.{outcome_of}
 use Rattle.opcodes.specs.declared.ending.Outcome.TheVariants.{Res}
 use Rattle.scenario.specs.declared.event.Event.TheVariants.{Finish}
-use Rattle.machine.specs.Steps.{fallen, finished, finished_as, after}
+use Rattle.machine.specs.Steps.{fallen, cancelled, finished, finished_as, after}
 use Rattle.machine.specs.Whole.{Mostly}
 use Rattle.machine.specs.declared.whole.Machine.{Machine}
 use Rattle.machine.proofs.EnterLemmas.{finished_row}
@@ -17,6 +18,20 @@ use Rattle.machine.proofs.FormedMachines.{mostly, mostly_world}
 use Rattle.opcodes.proofs.Staying.{stays_after}
 use Rattle.machine.proofs.Untimed.{untimed}
 use Rattle.machine.proofs.whole.Machine.finish.Goals as goal
+
+pub cancel-requires-clause-there : goal.cancel-requires-clause-there
+cancel-requires-clause-there c = finished_row c.args.self.now c.args.r c.args.choice c.requires.accepted
+
+-- the machine after a cancel
+pub returns-then-is_cancel-clause-ok : goal.returns-then-is_cancel-clause-ok
+returns-then-is_cancel-clause-ok c =
+    let m : Machine = c.args.self.now in
+    let there : slice_get m.table c.args.r ≡ Some c.in-Some.row = sym c.get.ensures ∙ c.in-Some.is in
+    let takes : is_cancel c.in-Some.row.entry.opcode ≡ true = sym c.is_cancel.ensures ∙ c.if-is_cancel.true in
+    let is : cancelled m c.args.r c.in-Some.row.entry ≡ after m (Finish c.args.r c.args.choice) =
+    sym (ap (λ b. cond b (cancelled m c.args.r c.in-Some.row.entry) (finished_as m c.args.r c.in-Some.row (outcome_of (is_held_by m.table) m.world c.in-Some.row c.args.choice))) takes)
+    ∙ sym (ap (λ o. finished m c.args.r o c.args.choice) there) in
+    subst (λ (n : Machine). OnOk c.cancel.result (c.cancel.new.self ≡ n)) is c.cancel.ensures.ok
 
 pub carry_out-requires-clause-puts : goal.carry_out-requires-clause-puts
 carry_out-requires-clause-puts c = puts_fit c.args.self.now c.requires.formed
@@ -45,10 +60,12 @@ returns-clause-ok c =
     let same = to_z-of_z w32 c.in-Res.res fits in
     let there : slice_get m.table c.args.r ≡ Some c.in-Some.row = sym c.get.ensures ∙ c.in-Some.is in
     let told : outcome_of (is_held_by m.table) m.world c.in-Some.row c.args.choice ≡ Res c.in-Res.res = sym c.outcome.ensures ∙ c.in-Res.is in
+    let other : is_cancel c.in-Some.row.entry.opcode ≡ false = sym c.is_cancel.ensures ∙ c.if-is_cancel.false in
     let moved : c.carry_out.new.world ≡ world_after c.in-Some.row c.in-Res.res m.world = c.in_ok-carry_out.ensures.ok ∙ ap (λ z. world_after c.in-Some.row z m.world) same in
     let is : fallen (record m { world = c.carry_out.new.world }) ((c.args.r, to_z w32 (of_z w32 c.in-Res.res)) ∷ []) ≡ after m (Finish c.args.r c.args.choice) =
     ap (λ (w : WorldState). fallen (record m { world = w }) ((c.args.r, to_z w32 (of_z w32 c.in-Res.res)) ∷ [])) moved
     ∙ ap (λ z. fallen (record m { world = world_after c.in-Some.row c.in-Res.res m.world }) ((c.args.r, z) ∷ [])) same
     ∙ sym (ap (finished_as m c.args.r c.in-Some.row) told)
+    ∙ sym (ap (λ b. cond b (cancelled m c.args.r c.in-Some.row.entry) (finished_as m c.args.r c.in-Some.row (outcome_of (is_held_by m.table) m.world c.in-Some.row c.args.choice))) other)
     ∙ sym (ap (λ o. finished m c.args.r o c.args.choice) there) in
     subst (λ (n : Machine). OnOk c.fall.result (c.fall.new.self ≡ n)) is c.fall.ensures.ok
