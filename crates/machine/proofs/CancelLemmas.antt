@@ -100,7 +100,7 @@ direct_around rows me x v e u o =
     let within = slice_get_within rows me x e in
     rises_direct rows 0 (length rows) (ending_with me v)
     (rises_join rows 0 me (length rows) (canceled (λ r. nat_lt r me) v.1) ((me, v.0) ∷ canceled (λ r. nat_lt me r) v.1) (rises_before rows me 0 v.1 o (omega arith))
-     (x, e, ap not u, le_refl me, rises_behind rows me (me + 1) 0 v.1 o (omega (arith, within)) (λ r a b. omega (arith, b))))
+    (x, e, ap not u, le_refl me, rises_behind rows me (me + 1) 0 v.1 o (omega (arith, within)) (λ r a b. omega (arith, b))))
 
 -- ---- rows that match
 

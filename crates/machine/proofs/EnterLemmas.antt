@@ -111,7 +111,6 @@ finished_result m r c x e other h = counting (counts x) (ap (λ o. finish_refusa
     counting true k = at x.phase k
     counting false k = absurd cc
 
-
 -- a row that can be issued is there, and unfinished
 pub issued_row : (m : Machine) (r : ℕ) → issue_refusal m.table r (slice_get m.table r) ≡ None → (x : Row) × (slice_get m.table r ≡ Some x) × (is_ended x.phase ≡ false)
 issued_row m r h = by (slice_get m.table r) refl h
