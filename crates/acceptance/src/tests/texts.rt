@@ -1,6 +1,6 @@
 //! The lines that the program prints as it fails.
 
-use debug_server::{Fault, RunFault, ServeFault, TraceFault};
+use debug_server::{Fault, RunFault, ServeFault};
 use machine::Refusal;
 use script::{Key, Path, ScriptFault};
 use std::alloc::Global;
