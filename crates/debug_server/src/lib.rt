@@ -24,6 +24,6 @@ pub use serving::serve;
 pub use session::Session;
 pub use source::{NoSource, Source};
 pub use task::{Form, Job};
-pub use tracing::{Traced, migrated, traced};
+pub use tracing::{Traced, migrate_trace, trace_script};
 pub use walking::walk;
 pub use words::job;

@@ -27,7 +27,7 @@ pub struct Traced {
 }
 
 /// Reads a script, runs its schedule, and writes the trace of it in a form.
-pub fn traced(alloc: Global, text: &[u8], form: Form) -> Result<Traced, RunFault>
+pub fn trace_script(alloc: Global, text: &[u8], form: Form) -> Result<Traced, RunFault>
     ensures ok { IfOk result (λ t. (p : Plan) × Reads text.now (Ok p) × Accepts (start p.setup) p.schedule × IsTraceOf form p t) }
     ensures script { IfErr result (λ e. (f : Misread) → e ≡ RunFault.Script f → Reads text.now (Err f)) }
     ensures schedule { IfErr result (λ e. (i : ℕ) → (n : Denial) → e ≡ RunFault.Schedule i n → (p : Plan) × Reads text.now (Ok p) × IsRefused p.setup p.schedule i n) }
@@ -46,7 +46,7 @@ pub fn traced(alloc: Global, text: &[u8], form: Form) -> Result<Traced, RunFault
 
 /// Reads a script and a trace of the first form, and writes the trace of the second form of the script's
 /// setup and the trace's events. It runs none of them.
-pub fn migrated(alloc: Global, text: &[u8], trace: &[u8]) -> Result<Traced, RunFault>
+pub fn migrate_trace(alloc: Global, text: &[u8], trace: &[u8]) -> Result<Traced, RunFault>
     ensures ok { IfOk result (λ t. (p : Plan) × Reads text.now (Ok p) × (events : List Happening) × IsTrace events trace.now
         × IsTrace2 (plain p.setup) events t.bytes.items × (t.events ≡ length events)) }
     ensures script { IfErr result (λ e. (f : Misread) → e ≡ RunFault.Script f → Reads text.now (Err f)) }

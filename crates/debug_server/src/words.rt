@@ -1,12 +1,14 @@
 //! The program's words.
 
 use crate::task::{Form, Job};
-use clap::{Arg, ArgAction, ArgMatches, Command, Error, ValueParser};
+use clap::{Arg, ArgAction, ArgMatches, Command, Error};
 use std::alloc::{AllocError, Global};
 
 const EXAMPLE: &str = "Example: echo where | uringwalk walk script.json";
 
 const SCRIPT: &str = "A script: a setup, programs and a schedule, as JSON";
+
+const FORMS: &[&str] = &["1", "2"];
 
 // A word that names a file.
 fn file<'a>(alloc: Global, name: &'a str, help: &'a str) -> Arg<'a> {
@@ -28,7 +30,7 @@ fn trace_words<'a>(alloc: Global) -> Result<Command<'a>, AllocError> {
         .long("form")
         .help("1: the events alone; 2: the setup and the events")
         .default_value("2")
-        .value_parser(["1", "2"])
+        .value_parser(FORMS)
         .action(ArgAction::Set);
     Command::new(alloc, "trace")
         .about("Run a script's schedule, and write its trace to a file")

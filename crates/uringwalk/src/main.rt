@@ -3,7 +3,7 @@
 
 mod files;
 
-use debug_server::{Fault, Form, Job, RunFault, ServeFault, Traced, job, migrated, traced, walk};
+use debug_server::{Fault, Form, Job, RunFault, ServeFault, Traced, job, migrate_trace, trace_script, walk};
 use files::{read_file, write_file};
 use std::process::ExitCode;
 use std::rt::Files;
@@ -51,7 +51,7 @@ fn trace_file(
     form: Form,
 ) -> Result<(), Fault> {
     let text = read_file(rt, script, SCRIPT_AND_ONE)?;
-    keep(rt, out, traced(rt.alloc(), &text, form))
+    keep(rt, out, trace_script(rt.alloc(), &text, form))
 }
 
 // A trace of the first form, behind a script's setup, in a file.
@@ -63,7 +63,7 @@ fn migrate_file(
 ) -> Result<(), Fault> {
     let text = read_file(rt, script, SCRIPT_AND_ONE)?;
     let bytes = read_file(rt, trace, TRACE_AND_ONE)?;
-    keep(rt, out, migrated(rt.alloc(), &text, &bytes))
+    keep(rt, out, migrate_trace(rt.alloc(), &text, &bytes))
 }
 
 fn run(rt: &(impl Files + Input + Print + AllocGlobal), job: Job<'_>) -> Result<(), Fault> {
