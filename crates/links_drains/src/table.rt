@@ -449,10 +449,7 @@ mod tests {
 
     #[test]
     fn the_rest_of_a_unit(rt: HostRuntime) -> Result<(), AllocError> {
-        let linked = Sqe {
-            flags: 4,
-            ..nop(7)
-        };
+        let linked = Sqe { flags: 4, ..nop(7) };
         let mut table = table_of(rt.alloc(), &[linked, linked, nop(7), nop(7)])?;
         assert_eq!(rt; table.len(), 4);
         assert!(rt; has_rest(&table, 0, &[1, 2])?);

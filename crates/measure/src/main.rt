@@ -186,7 +186,9 @@ fn main(rt: HostRuntime) -> io::Result<ExitCode> {
         .map(|word| word.as_str())
         .collect(alloc)?;
     let Some(plan) = plan_of(&texts) else {
-        eprintln!(rt; "measure nops N | jumps N | overflow N | issues N | ticks N | transfers N | syncs N")?;
+        eprintln!(rt;
+            "measure nops N | jumps N | overflow N | issues N | ticks N | transfers N | syncs N"
+        )?;
         return Ok(ExitCode::from(2));
     };
     let load = load_of(alloc, plan)?;

@@ -14,7 +14,7 @@ loop-k-init c = c.new-rest.ensures.items ∙ rest_start c.args.rows.now c.args.r
 pub returns-then-other-unit : goal.returns-then-other-unit
 returns-then-other-unit c =
     c.loop-k.invariant ∙ rest_left c.args.rows.now c.args.r c.loop-k.k _ _ c.requires.chained (slice_get-get_or c.args.rows.now c.args.r _ c.if-r-rows.false)
-      (slice_get-get_or c.args.rows.now c.loop-k.k _ c.loop-k-test.true) c.loop-k.auto.k c.if-other-unit.true
+    (slice_get-get_or c.args.rows.now c.loop-k.k _ c.loop-k-test.true) c.loop-k.auto.k c.if-other-unit.true
 
 pub loop-k-preserved : goal.loop-k-preserved
 loop-k-preserved c = elim c.if-is_unfinished.branch [
