@@ -2,7 +2,6 @@
 ghost use Rattle.std.specs.Prelude.{◌≡◌, length, IfOk};
 
 use crate::tests::ONE_NOP;
-use debug_server::{Job, job};
 use inverse_log::Walker;
 use machine::{
     Event, Instruction, PlaceFault, Refusal, Setup, SetupRefusal, State, place_of, read_number,
@@ -178,13 +177,5 @@ fn runs_are_unwound(rt: HostRuntime) -> Result<(), Fail> {
     assert_eq!(rt; number(state.value(Place::CompletionHead)), Some(0));
     assert_eq!(rt; number(state.value(Place::ProgramCounter(0))), Some(0));
     assert!(rt; state.value(Place::Request(0)).is_none());
-    Ok(())
-}
-
-#[test]
-fn the_program_s_words_are_read(rt: HostRuntime) -> Result<(), Fail> {
-    let words = ["uringwalk", "walk", "one.json"];
-    let Job::Walk(path) = job(rt.alloc(), &words)?;
-    assert_eq!(rt; path, "one.json");
     Ok(())
 }
