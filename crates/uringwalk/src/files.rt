@@ -1,4 +1,7 @@
 //! Files that are read and written whole.
+ghost use Rattle.std.specs.Prelude.{◌≡◌};
+ghost use Rattle.std.specs.IoError.{error_kind};
+ghost use Rattle.uringwalk.specs.Files.{told_as};
 
 use debug_server::{Fault, RunFault};
 use std::fs::File;
@@ -10,7 +13,9 @@ use std::{fs, io};
 const NAMES: u32 = 100;
 
 /// What a file that can't be read or written is told as.
-pub fn fault_of(error: &io::Error) -> Fault {
+pub fn fault_of(error: &io::Error) -> Fault
+    ensures { result ≡ told_as (error_kind error.now) }
+{
     match error.kind() {
         ErrorKind::OutOfMemory => Fault::Run(RunFault::Memory),
         _ => Fault::File,
@@ -25,11 +30,7 @@ fn read_up_to(rt: &(impl Files + AllocGlobal), path: &str, most: u64) -> io::Res
 }
 
 /// The bytes of a file, up to a number of them: what lies behind is not read.
-pub fn read_file(
-    rt: &(impl Files + AllocGlobal),
-    path: &str,
-    most: u64,
-) -> Result<Vec<u8>, Fault> {
+pub fn read_file(rt: &(impl Files + AllocGlobal), path: &str, most: u64) -> Result<Vec<u8>, Fault> {
     match read_up_to(rt, path, most) {
         Ok(bytes) => Ok(bytes),
         Err(error) => Err(fault_of(&error)),
@@ -37,11 +38,7 @@ pub fn read_file(
 }
 
 // Makes a new file of these bytes, and says whether the name was free.
-fn create_free(
-    rt: &(impl Files + AllocGlobal),
-    path: &str,
-    bytes: &[u8],
-) -> io::Result<bool> {
+fn create_free(rt: &(impl Files + AllocGlobal), path: &str, bytes: &[u8]) -> io::Result<bool> {
     let mut file = match File::create_new(rt, path) {
         Ok(file) => file,
         Err(error) if error.kind() == ErrorKind::AlreadyExists => return Ok(false),
@@ -79,11 +76,7 @@ fn replace(rt: &(impl Files + AllocGlobal), path: &str, bytes: &[u8]) -> io::Res
 
 /// Writes a file whole: it is made beside its place, and renamed. At a fault the old one stands, and
 /// nothing else is left.
-pub fn write_file(
-    rt: &(impl Files + AllocGlobal),
-    path: &str,
-    bytes: &[u8],
-) -> Result<(), Fault> {
+pub fn write_file(rt: &(impl Files + AllocGlobal), path: &str, bytes: &[u8]) -> Result<(), Fault> {
     match replace(rt, path, bytes) {
         Ok(()) => Ok(()),
         Err(error) => Err(fault_of(&error)),

@@ -3,7 +3,9 @@
 
 mod files;
 
-use debug_server::{Fault, Form, Job, RunFault, ServeFault, Traced, job, migrate_trace, trace_script, walk};
+use debug_server::{
+    Fault, Form, Job, RunFault, ServeFault, Traced, job, migrate_trace, trace_script, walk,
+};
 use files::{read_file, write_file};
 use std::process::ExitCode;
 use std::rt::Files;
