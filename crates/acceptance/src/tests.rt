@@ -7,6 +7,7 @@ mod entering;
 mod failures;
 mod files;
 mod notes;
+mod pipes;
 mod records;
 mod sessions;
 mod shown;

@@ -428,6 +428,13 @@ mod tests {
         Ok(table)
     }
 
+    // Whether a copy keeps its holders, once the table that it came from has lost its rows.
+    fn copy_alone_holds(alloc: Global, table: &mut Table, fd: u32) -> Result<bool, AllocError> {
+        let copied = table.copy(alloc)?;
+        table.truncate(0);
+        Ok(!table.held().holds(fd) && copied.held().holds(fd))
+    }
+
     #[test]
     fn held_again_once_put_back(rt: HostRuntime) -> Result<(), AllocError> {
         let mut table = table_of(rt.alloc(), &[nop(7)])?;
@@ -437,8 +444,7 @@ mod tests {
         assert_eq!(rt; table.held().holds(5), false);
         put_back_issued(&mut table);
         assert_eq!(rt; table.held().holds(5), true);
-        table.truncate(0);
-        assert_eq!(rt; table.held().holds(5), false);
+        assert!(rt; copy_alone_holds(rt.alloc(), &mut table, 5)?);
         Ok(())
     }
 

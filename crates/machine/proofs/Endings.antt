@@ -1,6 +1,7 @@
 -- Rows that end one after the other.
-use Rattle.std.proofs.Common.{◌≡◌, ℕ, ℤ, zero, suc, Bool, true, false, cond, refl, sym, ◌∙◌, ap, subst, List, [], ◌∷◌, ◌++◌, length, drop, ◌+◌, ◌<◌, ◌≤◌, ◌^◌, ◌⊎◌, inl, inr, length-append, arith}
+use Rattle.std.proofs.Common.{◌≡◌, ℕ, ℤ, zero, suc, Bool, true, false, cond, refl, sym, ◌∙◌, ap, subst, List, [], ◌∷◌, ◌++◌, length, drop, ◌+◌, ◌*◌, ◌<◌, ◌≤◌, ◌^◌, ◌⊎◌, inl, inr, length-append, arith}
 use Rattle.std.proofs.lemmas.List.{length-drop}
+use Rattle.std.proofs.lemmas.Bool.{eq-eqb}
 use Rattle.std.specs.Prelude.{Option, Some, None, option_map, slice_get, not, ◌==◌}
 use Rattle.entries.specs.declared.completion.Cqe.{Cqe}
 use Rattle.entries.specs.declared.row.Row.{Row}
@@ -10,6 +11,7 @@ use Rattle.places.specs.declared.value.Change.{Change}
 use Rattle.places.proofs.Keeping.{keeps_then, keeps_same}
 use Rattle.places.proofs.ListLemmas.{length-updated}
 use Rattle.places.specs.Lists.{updated}
+use Rattle.model_files.specs.Worlds.{PutsWithin}
 use Rattle.links_drains.specs.Phases.{is_ended, is_unfinished, ended_of}
 use Rattle.links_drains.proofs.Counting.{ended-ended, ended-le-length, counted-le-length}
 use Rattle.overflow.specs.Backlogs.{DeliveryFormed, all_posted, fits}
@@ -201,11 +203,32 @@ pub formed_fallen : (m : Machine) (direct : List (ℕ × ℤ)) → WellFormed m 
 unfolding fallen
 formed_fallen m direct f = formed_all_ended m (fall_of m.table m.counted direct) f (can_fall m.table m.counted direct)
 
+-- each row that falls ends
+ended_all : (m : Machine) (ps : List (ℕ × ℤ)) → CanEnd m.table ps → ended_of (all_ended m ps).table ≡ ended_of m.table + length ps
+ended_all m [] h = omega arith
+ended_all m (p ∷ ps) h =
+    let a = ended_all (ended m p.0 p.1) ps h.3 in
+    let b = ended-ended m.table p.0 h.0 p.1 h.1 h.2 in
+    omega (arith, a, b)
+
+-- a row that ends of itself is among those that fall
+pub falls_some : (rows : List Row) (c r : ℕ) (res : ℤ) (x : Row) → slice_get rows r ≡ Some x → is_ended x.phase ≡ false → 1 ≤ length (fall_of rows c ((r, res) ∷ []))
+falls_some rows c r res x e u = by (fall_of rows c ((r, res) ∷ [])) refl
+  where
+    listed : result_in ((r, res) ∷ []) r ≡ Some res
+    listed = ap (λ b. cond b (Some res) None) (eq-eqb r r refl)
+
+    by : (ps : List (ℕ × ℤ)) → fall_of rows c ((r, res) ∷ []) ≡ ps → 1 ≤ length ps
+    by [] k = absurd (let d = (unlisted rows c ((r, res) ∷ []) r x e (ap not u) (ap (λ ps. result_in ps r) k)).undirected in let z = sym d ∙ listed in cc)
+    by (p ∷ ps) k = omega arith
+
 -- rows that aren't well formed end, if they are among those that a step ends of itself
-pub formed_fallen_but : (m : Machine) (direct : List (ℕ × ℤ)) → Mostly m → ((j : ℕ) (y : Row) → slice_get m.table j ≡ Some y → RowFormed m.world y ⊎ ((res : ℤ) × (result_in direct j ≡ Some res))) → WellFormed (fallen m direct)
+pub formed_fallen_but : (m : Machine) (direct : List (ℕ × ℤ)) → Mostly m → PutsWithin (65536 * (ended_of m.table + length (fall_of m.table m.counted direct))) m.world → ((j : ℕ) (y : Row) → slice_get m.table j ≡ Some y → RowFormed m.world y ⊎ ((res : ℤ) × (result_in direct j ≡ Some res))) → WellFormed (fallen m direct)
 unfolding fallen
-formed_fallen_but m direct f h =
+formed_fallen_but m direct f puts h =
     formed_of (fallen m direct) (mostly_all_ended m (fall_of m.table m.counted direct) f (can_fall m.table m.counted direct))
+    (subst (λ w. PutsWithin (65536 * ended_of (all_ended m (fall_of m.table m.counted direct)).table) w) (sym (world_all_ended m (fall_of m.table m.counted direct)))
+    (subst (λ n. PutsWithin (65536 * n) m.world) (sym (ended_all m (fall_of m.table m.counted direct) (can_fall m.table m.counted direct))) puts))
     (record { each = λ j y e. subst (λ w. RowFormed w y) (sym (world_all_ended m (fall_of m.table m.counted direct))) (by j y (all_ended_rows m (fall_of m.table m.counted direct) j y e)) })
   where
     stays : (j : ℕ) (y : Row) → slice_get m.table j ≡ Some y → result_in (fall_of m.table m.counted direct) j ≡ None → (b : Bool) → is_ended y.phase ≡ b → RowFormed m.world y ⊎ ((res : ℤ) × (result_in direct j ≡ Some res)) → RowFormed m.world y

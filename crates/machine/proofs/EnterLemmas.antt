@@ -5,6 +5,7 @@ use Rattle.std.specs.Prelude.{Option, Some, None, Result, Ok, Err, not, ◌&&◌
 use Rattle.entries.specs.declared.row.Row.{Row}
 use Rattle.entries.specs.declared.row.Phase.{Phase}
 use Rattle.entries.specs.declared.row.Phase.TheVariants.{Queued, Issued, Ended}
+use Rattle.links_drains.specs.Holding.{is_held_by}
 use Rattle.opcodes.specs.declared.choice.Choice.{Choice}
 use Rattle.opcodes.specs.declared.ending.Outcome.{Outcome}
 use Rattle.opcodes.specs.declared.ending.Outcome.TheVariants.{Res, Waits, BadChoice}
@@ -75,37 +76,37 @@ busy_answer (Ok x) m n ts t k w flags e l h o = ap (λ us. record n { threads = 
 busy_answer (Err x) m n ts t k w flags e l h o = o
 
 -- a row that can be finished is there, and unfinished
-pub finished_row : (m : Machine) (r : ℕ) (c : Choice) → finish_refusal m.world (slice_get m.table r) c ≡ None → (x : Row) × (slice_get m.table r ≡ Some x) × (is_ended x.phase ≡ false)
+pub finished_row : (m : Machine) (r : ℕ) (c : Choice) → finish_refusal (is_held_by m.table) m.world (slice_get m.table r) c ≡ None → (x : Row) × (slice_get m.table r ≡ Some x) × (is_ended x.phase ≡ false)
 finished_row m r c h = by (slice_get m.table r) refl h
   where
-    at : (x : Row) → slice_get m.table r ≡ Some x → (p : Phase) → x.phase ≡ p → phase_refusal p (outcome_of m.world x c) ≡ None → (y : Row) × (slice_get m.table r ≡ Some y) × (is_ended y.phase ≡ false)
+    at : (x : Row) → slice_get m.table r ≡ Some x → (p : Phase) → x.phase ≡ p → phase_refusal p (outcome_of (is_held_by m.table) m.world x c) ≡ None → (y : Row) × (slice_get m.table r ≡ Some y) × (is_ended y.phase ≡ false)
     at x e Queued q k = absurd cc
     at x e Issued q k = (x, e, ap is_ended q)
     at x e (Ended n) q k = absurd cc
 
-    counting : (x : Row) → slice_get m.table r ≡ Some x → (b : Bool) → cond b (phase_refusal x.phase (outcome_of m.world x c)) (Some WrongPhase) ≡ None → (y : Row) × (slice_get m.table r ≡ Some y) × (is_ended y.phase ≡ false)
+    counting : (x : Row) → slice_get m.table r ≡ Some x → (b : Bool) → cond b (phase_refusal x.phase (outcome_of (is_held_by m.table) m.world x c)) (Some WrongPhase) ≡ None → (y : Row) × (slice_get m.table r ≡ Some y) × (is_ended y.phase ≡ false)
     counting x e true k = at x e x.phase refl k
     counting x e false k = absurd cc
 
-    by : (o : Option Row) → slice_get m.table r ≡ o → finish_refusal m.world o c ≡ None → (y : Row) × (slice_get m.table r ≡ Some y) × (is_ended y.phase ≡ false)
+    by : (o : Option Row) → slice_get m.table r ≡ o → finish_refusal (is_held_by m.table) m.world o c ≡ None → (y : Row) × (slice_get m.table r ≡ Some y) × (is_ended y.phase ≡ false)
     by None e k = absurd cc
     by (Some x) e k = counting x e (counts x) k
 
 -- the outcome of a row that can be finished is a result
-pub finished_result : (m : Machine) (r : ℕ) (c : Choice) (x : Row) → slice_get m.table r ≡ Some x → finish_refusal m.world (slice_get m.table r) c ≡ None → (res : ℤ) × (outcome_of m.world x c ≡ Res res)
-finished_result m r c x e h = counting (counts x) (ap (λ o. finish_refusal m.world o c) (sym e) ∙ h)
+pub finished_result : (m : Machine) (r : ℕ) (c : Choice) (x : Row) → slice_get m.table r ≡ Some x → finish_refusal (is_held_by m.table) m.world (slice_get m.table r) c ≡ None → (res : ℤ) × (outcome_of (is_held_by m.table) m.world x c ≡ Res res)
+finished_result m r c x e h = counting (counts x) (ap (λ o. finish_refusal (is_held_by m.table) m.world o c) (sym e) ∙ h)
   where
-    came : (o : Outcome) → outcome_of m.world x c ≡ o → outcome_refusal o ≡ None → (res : ℤ) × (outcome_of m.world x c ≡ Res res)
+    came : (o : Outcome) → outcome_of (is_held_by m.table) m.world x c ≡ o → outcome_refusal o ≡ None → (res : ℤ) × (outcome_of (is_held_by m.table) m.world x c ≡ Res res)
     came (Res res) g k = (res, g)
     came Waits g k = absurd cc
     came BadChoice g k = absurd cc
 
-    at : (p : Phase) → phase_refusal p (outcome_of m.world x c) ≡ None → (res : ℤ) × (outcome_of m.world x c ≡ Res res)
+    at : (p : Phase) → phase_refusal p (outcome_of (is_held_by m.table) m.world x c) ≡ None → (res : ℤ) × (outcome_of (is_held_by m.table) m.world x c ≡ Res res)
     at Queued k = absurd cc
-    at Issued k = came (outcome_of m.world x c) refl k
+    at Issued k = came (outcome_of (is_held_by m.table) m.world x c) refl k
     at (Ended n) k = absurd cc
 
-    counting : (b : Bool) → cond b (phase_refusal x.phase (outcome_of m.world x c)) (Some WrongPhase) ≡ None → (res : ℤ) × (outcome_of m.world x c ≡ Res res)
+    counting : (b : Bool) → cond b (phase_refusal x.phase (outcome_of (is_held_by m.table) m.world x c)) (Some WrongPhase) ≡ None → (res : ℤ) × (outcome_of (is_held_by m.table) m.world x c ≡ Res res)
     counting true k = at x.phase k
     counting false k = absurd cc
 

@@ -1,5 +1,5 @@
 -- Accepted events keep machines well formed.
-use Rattle.std.proofs.Common.{◌≡◌, ℕ, ℤ, zero, suc, pos, Bool, true, false, cond, refl, sym, ◌∙◌, ap, List, [], ◌∷◌, length, ◌+◌, ◌-◌, ◌%◌, ◌<◌, ◌≤◌, ◌^◌, ◌⊎◌, inl, inr, arith, FitsSigned}
+use Rattle.std.proofs.Common.{◌≡◌, ℕ, ℤ, zero, suc, pos, negsuc, Bool, true, false, cond, refl, sym, ◌∙◌, ap, List, [], ◌∷◌, length, ◌+◌, ◌*◌, ◌%◌, ◌<◌, ◌≤◌, ◌^◌, ◌⊎◌, inl, inr, arith, FitsSigned}
 use Rattle.std.specs.Prelude.{Option, Some, None, not, min, slice_get, slice_set, nat_lt, ◌==◌, ◌&&◌, ◌||◌, if◌then◌else◌}
 use Rattle.std.specs.Int.{w64}
 use Rattle.std.proofs.lemmas.Bool.{eq-eqb}
@@ -9,15 +9,16 @@ use Rattle.entries.specs.declared.completion.Cqe.{Cqe}
 use Rattle.entries.specs.declared.row.Row.{Row}
 use Rattle.entries.specs.declared.row.Phase.{Phase}
 use Rattle.entries.specs.declared.row.Phase.TheVariants.{Queued, Issued, Ended}
+use Rattle.links_drains.specs.Holding.{is_held_by}
 use Rattle.opcodes.specs.declared.choice.Choice.{Choice}
 use Rattle.opcodes.specs.declared.ending.Outcome.{Outcome}
 use Rattle.opcodes.specs.declared.ending.Outcome.TheVariants.{Res, Waits, BadChoice}
 use Rattle.opcodes.specs.Outcomes.{outcome_of}
 use Rattle.opcodes.specs.Effects.{world_after}
 use Rattle.opcodes.proofs.Staying.{stays_after}
-use Rattle.model_files.specs.Worlds.{world_stored}
+use Rattle.model_files.specs.Worlds.{WorldState, PutsWithin, descriptor_of, world_closed, world_stored}
 use Rattle.model_files.proofs.Fixing as worlds
-use Rattle.model_files.proofs.Forming.{world_stored_formed}
+use Rattle.model_files.proofs.Forming.{world_stored_formed, world_closed_formed}
 use Rattle.places.specs.Lists.{updated}
 use Rattle.places.specs.declared.value.Stage.{Stage}
 use Rattle.places.specs.declared.value.Stage.TheVariants.{Ready, Waiting}
@@ -32,7 +33,7 @@ use Rattle.links_drains.specs.Batches.{direct_of}
 use Rattle.links_drains.specs.Eligible.{is_eligible}
 use Rattle.links_drains.specs.Phases.{is_ended, counts}
 use Rattle.machine.specs.Submission.{offered, taken_entries, einval, ebusy, ebadf}
-use Rattle.machine.specs.Steps.{refusal, after, stepped, executed, entered, entered_alone, entered_beside, submitting, before_submission, is_busy, is_unknown, gets_events, wakes, woken, shown, awaited, ready_count, held_back, with_poller, flushed, submission_refusal, alone_refusal, enter_refusal, instruction_refusal, next_refusal, thread_refusal, take_refusal, issue_refusal, phase_refusal, finish_refusal, taken, submitted, answered, gone_on, issued, finished, finished_as, lacks_descriptor, held_by, fallen}
+use Rattle.machine.specs.Steps.{refusal, after, stepped, executed, entered, entered_alone, entered_beside, submitting, before_submission, is_busy, is_unknown, gets_events, wakes, woken, shown, awaited, ready_count, held_back, with_poller, flushed, submission_refusal, alone_refusal, enter_refusal, instruction_refusal, next_refusal, closed, is_open, thread_refusal, take_refusal, issue_refusal, phase_refusal, finish_refusal, taken, submitted, answered, gone_on, issued, finished, finished_as, lacks_descriptor, held_by, fallen}
 use Rattle.machine.specs.Threads.{ThreadState}
 use Rattle.machine.specs.Whole.{is_asleep, flag_word, WellFormed}
 use Rattle.scenario.specs.declared.setup.Instruction.{Instruction}
@@ -43,9 +44,13 @@ use Rattle.scenario.specs.declared.event.Event.TheVariants.{Step, Take, Sleep, I
 use Rattle.scenario.specs.declared.event.Refusal.{Refusal}
 use Rattle.scenario.specs.declared.event.Refusal.TheVariants.{SqFull, NothingToReap, WrongPhase, NotEligible, ClockFull, RequestsFull}
 use Rattle.machine.proofs.FormedThreads.{stands_on, stands_held, formed_thread}
-use Rattle.machine.proofs.FormedMachines.{formed_issued, formed_world, formed_flushed, wakeup_flag, formed_put, formed_push, formed_taken_out}
+use Rattle.links_drains.specs.Phases.{ended_of}
+use Rattle.timeouts_cancel.specs.Falls.{fall_of}
+use Rattle.opcodes.proofs.Counting.{puts_after, puts_more}
+use Rattle.machine.proofs.FormedMachines.{formed_issued, formed_world, mostly, mostly_world, rows_moved, formed_flushed, wakeup_flag, formed_put, formed_push, formed_taken_out}
 use Rattle.machine.proofs.FormedSubmissions.{formed_submitted, length-taken_entries}
-use Rattle.machine.proofs.Endings.{formed_fallen, threads_fallen}
+use Rattle.machine.proofs.Endings.{falls_some, formed_fallen, formed_fallen_but, threads_fallen}
+use Rattle.machine.proofs.PipeCounts.{puts_fit}
 
 ltb_tells : (a b : ℕ) → ((ltb a b ≡ true) × (a < b)) ⊎ ((ltb a b ≡ false) × (b ≤ a))
 ltb_tells a b = elim (leb_tells (suc a) b) [ inl k ↦ inl (k.0, k.1) | inr k ↦ inr (k.0, let l = k.1 in omega arith) ]
@@ -64,6 +69,7 @@ formed_tick m d f h = record {
   rows = f.rows;
   chained = f.chained;
   world = f.world;
+  puts = f.puts;
   requests = f.requests;
   counted = f.counted;
   clock = by (ltb_tells (m.clock + d) (2 ^ 64));
@@ -94,23 +100,27 @@ formed_issue m r f h = by (slice_get m.table r) refl h
 formed_finish : (m : Machine) (r : ℕ) (c : Choice) → WellFormed m → refusal m (Finish r c) ≡ None → WellFormed (after m (Finish r c))
 formed_finish m r c f h = by (slice_get m.table r) refl h
   where
-    ending : (x : Row) → slice_get m.table r ≡ Some x → is_ended x.phase ≡ false → (o : Outcome) → outcome_of m.world x c ≡ o → WellFormed (finished_as m r x o)
+    ending : (x : Row) → slice_get m.table r ≡ Some x → is_ended x.phase ≡ false → (o : Outcome) → outcome_of (is_held_by m.table) m.world x c ≡ o → WellFormed (finished_as m r x o)
     ending x e q (Res res) g =
-        let s = stays_after m.world x res c f.world g in
-        formed_fallen (record m { world = world_after x res m.world }) ((r, res) ∷ []) (formed_world m (world_after x res m.world) f s.formed s.setup)
+        let w : WorldState = world_after x res m.world in
+        let s = stays_after (is_held_by m.table) m.world x res c f.world (puts_fit m f) g in
+        let some : 1 ≤ length (fall_of m.table m.counted ((r, res) ∷ [])) = falls_some m.table m.counted r res x e q in
+        formed_fallen_but (record m { world = w }) ((r, res) ∷ []) (mostly_world m w (mostly m f) s.formed)
+        (puts_more (65536 * ended_of m.table + 65536) (65536 * (ended_of m.table + length (fall_of m.table m.counted ((r, res) ∷ [])))) w (omega (arith, some)) (puts_after (is_held_by m.table) m.world x res c (65536 * ended_of m.table) g f.puts))
+        (λ j y k. inl ((rows_moved m w f s.setup).each j y k))
     ending x e q Waits g = f
     ending x e q BadChoice g = f
 
-    at : (x : Row) → slice_get m.table r ≡ Some x → (p : Phase) → x.phase ≡ p → phase_refusal p (outcome_of m.world x c) ≡ None → WellFormed (finished m r (Some x) c)
+    at : (x : Row) → slice_get m.table r ≡ Some x → (p : Phase) → x.phase ≡ p → phase_refusal p (outcome_of (is_held_by m.table) m.world x c) ≡ None → WellFormed (finished m r (Some x) c)
     at x e Queued q k = absurd cc
-    at x e Issued q k = ending x e (ap is_ended q) (outcome_of m.world x c) refl
+    at x e Issued q k = ending x e (ap is_ended q) (outcome_of (is_held_by m.table) m.world x c) refl
     at x e (Ended n) q k = absurd cc
 
-    counting : (x : Row) → slice_get m.table r ≡ Some x → (b : Bool) → cond b (phase_refusal x.phase (outcome_of m.world x c)) (Some WrongPhase) ≡ None → WellFormed (finished m r (Some x) c)
+    counting : (x : Row) → slice_get m.table r ≡ Some x → (b : Bool) → cond b (phase_refusal x.phase (outcome_of (is_held_by m.table) m.world x c)) (Some WrongPhase) ≡ None → WellFormed (finished m r (Some x) c)
     counting x e true k = at x e x.phase refl k
     counting x e false k = absurd cc
 
-    by : (o : Option Row) → slice_get m.table r ≡ o → finish_refusal m.world o c ≡ None → WellFormed (finished m r o c)
+    by : (o : Option Row) → slice_get m.table r ≡ o → finish_refusal (is_held_by m.table) m.world o c ≡ None → WellFormed (finished m r o c)
     by None e k = absurd cc
     by (Some x) e k = counting x e (counts x) k
 
@@ -134,6 +144,9 @@ submitted_threads m k = threads_fallen (taken m k) (direct_of (length m.table) (
 
 fits_einval : FitsSigned w64 einval
 fits_einval = omega arith
+
+fits_ebadf : FitsSigned w64 ebadf
+fits_ebadf = omega arith
 
 formed_answered : (m : Machine) (t : ℕ) (x : ThreadState) (i : Instruction) (n : ℤ) → WellFormed m → slice_get m.threads t ≡ Some x → slice_get x.program x.counter ≡ Some i → FitsSigned w64 n → WellFormed (answered m t n)
 formed_answered m t x i n f e g l = formed_thread m (λ y. record y { counter = y.counter + 1; last = n; stage = Ready }) t x f e (stands_on (length m.submissions.slots) x i Ready n x.got (f.threads t x e) g refl l)
@@ -179,6 +192,7 @@ formed_poller m p h =
       overflowed = h.overflowed;
       rows = h.rows;
       world = h.world;
+      puts = h.puts;
       requests = h.requests;
       counted = h.counted;
       chained = h.chained;
@@ -299,7 +313,20 @@ formed_storing : (m : Machine) (t : ℕ) (x : ThreadState) (address : ℕ) (byte
 formed_storing m t x address bytes f e g r =
     let within = (f.threads t x e).program.done x.counter (Store address bytes) g in
     formed_gone_on (record m { world = world_stored address bytes m.world }) t x (Store address bytes)
-    (formed_world m (world_stored address bytes m.world) f (world_stored_formed address bytes m.world f.world within) (worlds.setup_stored address bytes m.world f.world within)) e g r
+    (formed_world m (world_stored address bytes m.world) f (world_stored_formed address bytes m.world f.world within) f.puts (worlds.setup_stored address bytes m.world f.world within)) e g r
+
+closed_pipes : (fd : ℕ) (n : ℕ) (w : WorldState) → PutsWithin n w → PutsWithin n (world_closed fd w)
+closed_pipes fd n w h = h
+
+formed_closing : (m : Machine) (t : ℕ) (x : ThreadState) (fd : ℤ) → WellFormed m → slice_get m.threads t ≡ Some x → slice_get x.program x.counter ≡ Some (Close fd) → WellFormed (closed m t fd)
+formed_closing m t x (negsuc n) f e g = formed_answered m t x (Close (negsuc n)) ebadf f e g fits_ebadf
+formed_closing m t x (pos fd) f e g = by (is_open (descriptor_of m.world fd))
+  where
+    by : (b : Bool) → WellFormed (if b then answered (record m { world = world_closed fd m.world }) t (pos 0) else answered m t ebadf)
+    by true =
+        formed_answered (record m { world = world_closed fd m.world }) t x (Close (pos fd)) (pos 0)
+        (formed_world m (world_closed fd m.world) f (world_closed_formed fd m.world f.world) (closed_pipes fd (65536 * ended_of m.table) m.world f.puts) (worlds.setup_closed fd m.world)) e g (omega arith)
+    by false = formed_answered m t x (Close (pos fd)) ebadf f e g fits_ebadf
 
 formed_step : (m : Machine) (t : ℕ) → WellFormed m → refusal m (Step t) ≡ None → WellFormed (after m (Step t))
 formed_step m t f h = by (slice_get m.threads t) refl h
@@ -310,7 +337,7 @@ formed_step m t f h = by (slice_get m.threads t) refl h
     next x e (Store address bytes) g r k = formed_storing m t x address bytes f e g r
     next x e (Enter to_submit min_complete flags) g r k = formed_enter m t x to_submit min_complete flags f e g k
     next x e Reap g r k = formed_reaping m t x f e g r k
-    next x e (Close fd) g r k = f
+    next x e (Close fd) g r k = formed_closing m t x fd f e g
 
     at : (x : ThreadState) → slice_get m.threads t ≡ Some x → (s : Stage) → x.stage ≡ s → (o : Option Instruction) → slice_get x.program x.counter ≡ o → next_refusal m s o ≡ None
         → WellFormed (elim s [ Ready ↦ executed m t o | Waiting n w ↦ answered m t (pos n) ])

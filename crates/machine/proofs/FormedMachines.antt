@@ -1,5 +1,5 @@
 -- What each change of the machine keeps.
-use Rattle.std.proofs.Common.{◌≡◌, ℕ, ℤ, pos, negsuc, Bool, true, false, cond, refl, sym, ◌∙◌, ap, subst, [], ◌∷◌, length, drop, ◌+◌, ◌%◌, ◌<◌, ◌≤◌, ◌^◌, length-append, length-set, arith}
+use Rattle.std.proofs.Common.{◌≡◌, ℕ, ℤ, pos, negsuc, Bool, true, false, cond, refl, sym, ◌∙◌, ap, subst, [], ◌∷◌, length, drop, ◌+◌, ◌*◌, ◌%◌, ◌<◌, ◌≤◌, ◌^◌, length-append, length-set, arith}
 use Rattle.std.proofs.lemmas.List.{length-drop}
 use Rattle.std.specs.Prelude.{Option, Some, None, slice_get, slice_set, not, ◌&&◌, if◌then◌else◌}
 use Rattle.model_files.specs.declared.descriptor.DescriptorState.{DescriptorState}
@@ -18,6 +18,9 @@ use Rattle.ring_words.proofs.Order.{waiting_less, waiting_more}
 use Rattle.ring_words.proofs.Sizes.{size_most}
 use Rattle.links_drains.specs.Phases.{is_ended, counts, counted_of}
 use Rattle.links_drains.proofs.Counting.{counted-ended, counted-unfinished, ended-ended, ended-unfinished}
+use Rattle.links_drains.specs.Phases.{ended_of}
+use Rattle.model_files.specs.Worlds.{PutsWithin}
+use Rattle.opcodes.proofs.Counting.{puts_more}
 use Rattle.overflow.specs.Backlogs.{BacklogState, is_clear, fits, Delivery, DeliveryFormed, all_posted, flushed as flushed_delivery}
 use Rattle.overflow.proofs.KeptInOrder.{posted_formed, flushed_formed}
 use Rattle.machine.specs.Steps.{delivery, flushed, ended, held_by, is_usable, lacks_descriptor, number_in}
@@ -29,8 +32,8 @@ use Rattle.machine.proofs.FormedRows.{FormedRows, formed_rows-updated, formed_ro
 pub mostly : (m : Machine) → WellFormed m → Mostly m
 mostly m h = record { submissions = h.submissions; completions = h.completions; entries_wait = h.entries_wait; completions_wait = h.completions_wait; flags = h.flags; front = h.front; overflowed = h.overflowed; rows = h.rows; chained = h.chained; world = h.world; counted = h.counted; clock = h.clock; threads = h.threads }
 
-pub formed_of : (m : Machine) → Mostly m → FormedRows m.world m.table → WellFormed m
-formed_of m h k = record { submissions = h.submissions; completions = h.completions; entries_wait = h.entries_wait; completions_wait = h.completions_wait; flags = h.flags; front = h.front; overflowed = h.overflowed; rows = h.rows; chained = h.chained; world = h.world; requests = k.each; counted = h.counted; clock = h.clock; threads = h.threads }
+pub formed_of : (m : Machine) → Mostly m → PutsWithin (65536 * ended_of m.table) m.world → FormedRows m.world m.table → WellFormed m
+formed_of m h puts k = record { puts = puts; submissions = h.submissions; completions = h.completions; entries_wait = h.entries_wait; completions_wait = h.completions_wait; flags = h.flags; front = h.front; overflowed = h.overflowed; rows = h.rows; chained = h.chained; world = h.world; requests = k.each; counted = h.counted; clock = h.clock; threads = h.threads }
 
 -- ---- completions
 
@@ -84,7 +87,7 @@ mostly_flushed m h =
     }
 
 pub formed_flushed : (m : Machine) → WellFormed m → WellFormed (flushed m)
-formed_flushed m h = formed_of (flushed m) (mostly_flushed m (mostly m h)) (record { each = h.requests })
+formed_flushed m h = formed_of (flushed m) (mostly_flushed m (mostly m h)) h.puts (record { each = h.requests })
 
 -- ---- a row ends
 
@@ -124,6 +127,7 @@ mostly_ended m r x res h e u =
 pub formed_ended : (m : Machine) (r : ℕ) (x : Row) (res : ℤ) → WellFormed m → slice_get m.table r ≡ Some x → is_ended x.phase ≡ false → WellFormed (ended m r res)
 formed_ended m r x res h e u =
     formed_of (ended m r res) (mostly_ended m r x res (mostly m h) e u)
+    (puts_more (65536 * ended_of m.table) (65536 * ended_of (ended m r res).table) m.world (let a = ended-ended m.table r x res e u in omega (arith, a)) h.puts)
     (formed_rows-updated m.world (λ (row : Row). record row { phase = Ended res }) m.table r (λ y k. ended_row m.world (record y { phase = Ended res }) refl) (record { each = h.requests }))
 
 -- ---- a row is issued
@@ -168,6 +172,7 @@ formed_issued m r x h e q l =
       overflowed = let a = ended-unfinished f m.table r x e q refl in let b = h.overflowed in omega (arith, a, b);
       rows = let a = length-updated f m.table r in let b = h.rows in omega (arith, a, b);
       world = h.world;
+      puts = puts_more (65536 * ended_of m.table) (65536 * ended_of (updated f m.table r)) m.world (let a = ended-unfinished f m.table r x e q refl in omega (arith, a)) h.puts;
       requests = (formed_rows-updated m.world f m.table r here (record { each = h.requests })).each;
       counted = h.counted ∙ sym (counted-unfinished f m.table r x e q refl);
       chained = chained-updated f m.table r (λ y. refl) h.chained;
@@ -182,8 +187,8 @@ formed_issued m r x h e q l =
 
 -- ---- the memory and the objects change
 
-pub formed_world : (m : Machine) (w : WorldState) → WellFormed m → WorldFormed w → OneWorldSetup m.world w → WellFormed (record m { world = w })
-formed_world m w h f s = record {
+pub mostly_world : (m : Machine) (w : WorldState) → Mostly m → WorldFormed w → Mostly (record m { world = w })
+mostly_world m w h f = record {
   submissions = h.submissions;
   completions = h.completions;
   entries_wait = h.entries_wait;
@@ -193,12 +198,17 @@ formed_world m w h f s = record {
   overflowed = h.overflowed;
   rows = h.rows;
   world = f;
-  requests = (formed_rows-moved m.world w m.table s (record { each = h.requests })).each;
   counted = h.counted;
   chained = h.chained;
   clock = h.clock;
   threads = h.threads;
 }
+
+pub rows_moved : (m : Machine) (w : WorldState) → WellFormed m → OneWorldSetup m.world w → FormedRows w m.table
+rows_moved m w h s = formed_rows-moved m.world w m.table s (record { each = h.requests })
+
+pub formed_world : (m : Machine) (w : WorldState) → WellFormed m → WorldFormed w → PutsWithin (65536 * ended_of m.table) w → OneWorldSetup m.world w → WellFormed (record m { world = w })
+formed_world m w h f puts s = formed_of (record m { world = w }) (mostly_world m w (mostly m h) f) puts (rows_moved m w h s)
 
 -- ---- words of the rings
 
@@ -213,6 +223,7 @@ formed_put m slot entry h = record {
   overflowed = h.overflowed;
   rows = h.rows;
   world = h.world;
+  puts = h.puts;
   requests = h.requests;
   counted = h.counted;
   chained = h.chained;
@@ -236,6 +247,7 @@ formed_push m x h b l = record {
   overflowed = h.overflowed;
   rows = h.rows;
   world = h.world;
+  puts = h.puts;
   requests = h.requests;
   counted = h.counted;
   chained = h.chained;
@@ -257,6 +269,7 @@ formed_taken_out m h l = record {
   overflowed = h.overflowed;
   rows = h.rows;
   world = h.world;
+  puts = h.puts;
   requests = h.requests;
   counted = h.counted;
   chained = h.chained;

@@ -1,7 +1,7 @@
 -- The rows that a submission adds, and what holds of each row.
-use Rattle.std.proofs.Common.{◌≡◌, ℕ, zero, suc, Bool, true, false, cond, refl, sym, ◌∙◌, ap, subst, List, [], ◌∷◌, ◌++◌, length, take, ◌+◌, ◌≤◌, ◌⊎◌, inl, inr, length-take, arith}
-use Rattle.std.specs.Prelude.{Option, Some, None, IsSome, is_some, option_map, slice_get, not, is_ok, bit_and, ◌==◌, ◌&&◌, ◌||◌, if◌then◌else◌}
-use Rattle.std.specs.List.{filter, prefix_len, enumerate_from}
+use Rattle.std.proofs.Common.{◌≡◌, ℕ, zero, suc, Bool, true, false, cond, refl, sym, ◌∙◌, ap, subst, List, [], ◌∷◌, ◌++◌, length, ◌+◌, ◌≤◌, ◌⊎◌, inl, inr, length-take, arith}
+use Rattle.std.specs.Prelude.{Option, Some, None, IsSome, is_some, option_map, slice_get, is_ok, bit_and, ◌==◌, ◌&&◌, if◌then◌else◌}
+use Rattle.std.specs.List.{filter, prefix_len}
 use Rattle.entries.specs.declared.entry.Sqe.{Sqe}
 use Rattle.entries.specs.declared.row.Row.{Row}
 use Rattle.entries.specs.declared.row.Phase.{Phase}

@@ -1,23 +1,26 @@
 -- What a submission keeps.
-use Rattle.std.proofs.Common.{◌≡◌, ℕ, ℤ, Bool, true, false, cond, refl, sym, ◌∙◌, ap, subst, List, [], ◌∷◌, ◌++◌, length, ◌+◌, ◌-◌, ◌%◌, ◌<◌, ◌≤◌, ◌^◌, ◌⊎◌, inl, inr, length-append, length-take, arith}
+use Rattle.std.proofs.Common.{◌≡◌, ℕ, ℤ, Bool, true, false, refl, sym, ◌∙◌, ap, subst, List, ◌++◌, length, ◌+◌, ◌*◌, ◌-◌, ◌%◌, ◌<◌, ◌≤◌, ◌^◌, ◌⊎◌, inl, inr, length-append, length-take, arith}
 use Rattle.std.specs.Prelude.{Option, Some, None, slice_get, nat_lt}
 use Rattle.std.proofs.lemmas.Bool.Decides.{nat_tests}
 use Rattle.std.proofs.lemmas.Grind.{common_steps}
-use Rattle.std.proofs.lemmas.Option.{gets, slice_get_within}
+use Rattle.std.proofs.lemmas.Option.{gets}
 use Rattle.entries.specs.declared.row.Row.{Row}
 use Rattle.ring_words.specs.Rings.{SubWords, SubFormed, waiting, sub_list}
 use Rattle.ring_words.proofs.Laws.{formed_taken, sub_length}
 use Rattle.ring_words.proofs.Order.{waiting_behind}
 use Rattle.links_drains.specs.Batches.{rows_of, direct_of}
 use Rattle.links_drains.specs.Endings.{result_in, Direct}
-use Rattle.links_drains.specs.Phases.{is_ended, is_issued, counts, counted_of, ended_of}
+use Rattle.model_files.specs.Worlds.{PutsWithin}
+use Rattle.opcodes.proofs.Counting.{puts_more}
+use Rattle.timeouts_cancel.specs.Falls.{fall_of}
+use Rattle.links_drains.specs.Phases.{is_issued, ended_of}
 use Rattle.links_drains.proofs.Batching.{length-rows_of}
 use Rattle.links_drains.proofs.Chains.{chained-batch, get-behind}
 use Rattle.links_drains.proofs.Counting.{counted-append, ended-append}
 use Rattle.links_drains.proofs.DirectPairs.{direct-batch, unlisted_passes}
 use Rattle.timeouts_cancel.specs.Falls.{NoTimers}
-use Rattle.machine.specs.Submission.{offered, taken_words, taken_entries, batch_of}
-use Rattle.machine.specs.Steps.{taken_by, taken, submitted}
+use Rattle.machine.specs.Submission.{offered, taken_words, taken_entries}
+use Rattle.machine.specs.Steps.{taken, submitted}
 use Rattle.machine.specs.Whole.{Mostly, RowFormed, WellFormed}
 use Rattle.machine.specs.declared.whole.Machine.{Machine}
 use Rattle.machine.proofs.FormedMachines.{mostly}
@@ -90,13 +93,16 @@ old_or_new rows more j y h = by (nat_lt j (length rows)) refl
 
 -- the rows of a batch that don't end at once are well formed
 pub formed_submitted : (m : Machine) (k : ℕ) → WellFormed m → length m.table + length (offered m.submissions k) ≤ 65536 → WellFormed (submitted m k)
-formed_submitted m k f l = formed_fallen_but (taken m k) direct (mostly_taken m k (mostly m f) l) (λ j y e. by j y (old_or_new m.table batch j y e))
+formed_submitted m k f l = formed_fallen_but (taken m k) direct (mostly_taken m k (mostly m f) l) puts (λ j y e. by j y (old_or_new m.table batch j y e))
   where
     batch : List Row
     batch = rows_of (length m.table) (taken_entries m.submit_all m.submissions k)
 
     direct : List (ℕ × ℤ)
     direct = direct_of (length m.table) (taken_entries m.submit_all m.submissions k)
+
+    puts : PutsWithin (65536 * (ended_of (taken m k).table + length (fall_of (taken m k).table m.counted direct))) m.world
+    puts = puts_more (65536 * ended_of m.table) _ m.world (let a = ended-append m.table batch in omega (arith, a)) f.puts
 
     at : (i : ℕ) (y : Row) → slice_get batch i ≡ Some y → (o : Option ℤ) → result_in direct (length m.table + i) ≡ o → RowFormed m.world y ⊎ ((res : ℤ) × (result_in direct (length m.table + i) ≡ Some res))
     at i y e None g = inl (batch_row m.world (length m.table) (taken_entries m.submit_all m.submissions k) i y e (unlisted_passes (length m.table) (taken_entries m.submit_all m.submissions k) i y e g))

@@ -67,6 +67,7 @@ formed_thread m f t x h e s = record {
   overflowed = h.overflowed;
   rows = h.rows;
   world = h.world;
+  puts = h.puts;
   requests = h.requests;
   counted = h.counted;
   chained = h.chained;

@@ -1,5 +1,5 @@
 -- Accepted events leave a setup as it is, and take no row and no item of the backlog away.
-use Rattle.std.proofs.Common.{◌≡◌, ℕ, ℤ, pos, Bool, true, false, refl, sym, ap, List, [], ◌∷◌, ◌++◌, length, map, take, drop, ◌+◌, ◌-◌, ◌%◌, ◌≤◌, arith, length-set, length-append, le_refl}
+use Rattle.std.proofs.Common.{◌≡◌, ℕ, ℤ, pos, negsuc, Bool, true, false, refl, sym, ap, List, [], ◌∷◌, ◌++◌, length, map, take, drop, ◌+◌, ◌%◌, ◌≤◌, arith, length-set, length-append, le_refl}
 use Rattle.std.specs.Prelude.{Option, Some, None, is_some, min, slice_get, nat_lt, ◌==◌, ◌&&◌, ◌||◌, if◌then◌else◌}
 use Rattle.entries.specs.declared.completion.Cqe.{Cqe}
 use Rattle.entries.specs.declared.row.Row.{Row}
@@ -8,12 +8,14 @@ use Rattle.places.specs.Lists.{updated}
 use Rattle.places.proofs.ListLemmas.{length-updated}
 use Rattle.places.specs.declared.value.Stage.{Stage}
 use Rattle.places.specs.declared.value.Stage.TheVariants.{Ready, Waiting}
-use Rattle.model_files.specs.Worlds.{WorldState, world_stored, OneSetup as OneWorldSetup}
+use Rattle.model_files.specs.Worlds.{WorldState, descriptor_of, world_closed, world_stored, OneSetup as OneWorldSetup}
+use Rattle.links_drains.specs.Holding.{is_held_by}
 use Rattle.opcodes.specs.declared.choice.Choice.{Choice}
 use Rattle.opcodes.specs.declared.ending.Outcome.{Outcome}
 use Rattle.opcodes.specs.declared.ending.Outcome.TheVariants.{Res, Waits, BadChoice}
 use Rattle.opcodes.specs.Outcomes.{outcome_of}
 use Rattle.opcodes.specs.Effects.{world_after}
+use Rattle.machine.proofs.PipeCounts.{puts_fit}
 use Rattle.opcodes.proofs.Staying.{stays_after}
 use Rattle.links_drains.specs.Batches.{rows_of, direct_of}
 use Rattle.overflow.specs.Backlogs.{fits, kept, free_slots}
@@ -23,7 +25,7 @@ use Rattle.sqpoll.specs.declared.poller.Poller.TheVariants.{Awake, Asleep}
 use Rattle.model_files.proofs.Fixing as worlds
 use Rattle.machine.specs.Submission.{taken_entries, einval, ebusy, ebadf}
 use Rattle.timeouts_cancel.specs.Falls.{fall_of}
-use Rattle.machine.specs.Steps.{refusal, sleep_refusal, after, stepped, executed, entered, entered_alone, entered_beside, submitting, before_submission, is_busy, is_unknown, gets_events, wakes, woken, shown, awaited, ready_count, held_back, with_poller, posted, flushed, completions_of, ended, all_ended, fallen, taken, submitted, answered, issued, finished, finished_as, lacks_descriptor, held_by}
+use Rattle.machine.specs.Steps.{refusal, sleep_refusal, after, stepped, executed, entered, entered_alone, entered_beside, submitting, before_submission, is_busy, is_unknown, gets_events, wakes, woken, shown, awaited, ready_count, held_back, with_poller, closed, is_open, posted, flushed, completions_of, ended, all_ended, fallen, taken, submitted, answered, issued, finished, finished_as, lacks_descriptor, held_by}
 use Rattle.machine.specs.Threads.{ThreadState, program_of}
 use Rattle.machine.specs.Whole.{Grows, WellFormed}
 use Rattle.scenario.specs.declared.setup.Instruction.{Instruction}
@@ -208,6 +210,16 @@ grows_stored m t address bytes f l =
     let stored = record m { world = world_stored address bytes m.world } in
     grows_then m stored _ (grows_world m (world_stored address bytes m.world) (worlds.setup_stored address bytes m.world f.world l)) (grows_thread stored (λ x. record x { counter = x.counter + 1 }) t (λ x. refl))
 
+pub grows_closed : (m : Machine) (t : ℕ) (fd : ℤ) → Grows m (closed m t fd)
+grows_closed m t (negsuc n) = grows_thread m (λ x. record x { counter = x.counter + 1; last = ebadf; stage = Ready }) t (λ x. refl)
+grows_closed m t (pos fd) = by (is_open (descriptor_of m.world fd))
+  where
+    by : (b : Bool) → Grows m (if b then answered (record m { world = world_closed fd m.world }) t (pos 0) else answered m t ebadf)
+    by true =
+        let shut = record m { world = world_closed fd m.world } in
+        grows_then m shut _ (grows_world m (world_closed fd m.world) (worlds.setup_closed fd m.world)) (grows_thread shut (λ x. record x { counter = x.counter + 1; last = pos 0; stage = Ready }) t (λ x. refl))
+    by false = grows_thread m (λ x. record x { counter = x.counter + 1; last = ebadf; stage = Ready }) t (λ x. refl)
+
 -- ---- events
 
 grows_executed : (m : Machine) (t : ℕ) (x : ThreadState) → WellFormed m → slice_get m.threads t ≡ Some x → (i : Option Instruction) → slice_get x.program x.counter ≡ i → Grows m (executed m t i)
@@ -232,7 +244,7 @@ grows_executed m t x f e (Some Reap) g = record {
   stay = λ r l. refl;
   backlog = le_refl _;
 }
-grows_executed m t x f e (Some (Close fd)) g = grows_self m
+grows_executed m t x f e (Some (Close fd)) g = grows_closed m t fd
 
 grows_stepped : (m : Machine) (t : ℕ) → WellFormed m → (o : Option ThreadState) → slice_get m.threads t ≡ o → Grows m (stepped m t o)
 grows_stepped m t f None e = grows_self m
@@ -264,12 +276,12 @@ grows_issued m r (Some x) = by (lacks_descriptor m.world x)
 
 pub grows_finished : (m : Machine) (r : ℕ) (c : Choice) → WellFormed m → (o : Option Row) → Grows m (finished m r o c)
 grows_finished m r c f None = grows_self m
-grows_finished m r c f (Some x) = by (outcome_of m.world x c) refl
+grows_finished m r c f (Some x) = by (outcome_of (is_held_by m.table) m.world x c) refl
   where
-    by : (o : Outcome) → outcome_of m.world x c ≡ o → Grows m (finished_as m r x o)
+    by : (o : Outcome) → outcome_of (is_held_by m.table) m.world x c ≡ o → Grows m (finished_as m r x o)
     by (Res res) e =
         let after_it = record m { world = world_after x res m.world } in
-        grows_then m after_it _ (grows_world m (world_after x res m.world) (stays_after m.world x res c f.world e).setup) (grows_fallen after_it ((r, res) ∷ []))
+        grows_then m after_it _ (grows_world m (world_after x res m.world) (stays_after (is_held_by m.table) m.world x res c f.world (puts_fit m f) e).setup) (grows_fallen after_it ((r, res) ∷ []))
     by Waits e = grows_self m
     by BadChoice e = grows_self m
 

@@ -18,3 +18,4 @@ pub mod FormedSubmissions
 pub mod Formed
 pub mod Linking
 pub mod StartLemmas
+pub mod PipeCounts

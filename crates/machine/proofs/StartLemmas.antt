@@ -1,7 +1,7 @@
 -- The machine that a setup starts with is well formed.
 use Rattle.std.proofs.Common.{◌≡◌, ℕ, Bool, true, false, cond, refl, sym, ◌∙◌, ap, subst, List, [], ◌∷◌, length, map, ◌+◌, ◌<◌, ◌≤◌, ◌^◌, ◌⊎◌, inl, inr, arith}
 use Rattle.std.specs.Prelude.{Option, Some, None, slice_get, ◌&&◌, ◌||◌, not}
-use Rattle.std.specs.List.{list_all, list_any}
+use Rattle.std.specs.List.{list_all}
 use Rattle.std.proofs.Math.Dec.{leb}
 use Rattle.std.proofs.lemmas.Bool.Decides.{nat_tests, leb_tells}
 use Rattle.std.proofs.lemmas.Option.{slice_get_within, slice_get-map}
@@ -18,11 +18,14 @@ use Rattle.ring_words.proofs.Laws.{formed_sub_start, formed_com_start}
 use Rattle.scenario.specs.Programs.{HasWidths, HaveWidths, IsDone, IsProgram}
 use Rattle.links_drains.proofs.Chains.{chained-none}
 use Rattle.machine.specs.Threads.{ThreadState, thread_start}
-use Rattle.scenario.specs.Setups.{setup_refusal, has_ring_sizes, is_between, is_completion_size, has_programs, is_program, is_instruction, has_memory, has_objects, has_descriptors, is_object, is_name, is_contents, names_once, keeps_limits, is_unbuilt, is_unbuilt_object, asks_for_unbuilt}
+use Rattle.scenario.specs.Setups.{setup_refusal, has_ring_sizes, is_between, is_completion_size, has_programs, is_program, is_instruction, has_memory, has_objects, has_descriptors, is_object, is_name, is_contents, names_once, keeps_limits}
 use Rattle.places.specs.declared.object.Contents.{Contents}
 use Rattle.places.specs.declared.object.Contents.TheVariants.{File, Pipe, EventFd}
 use Rattle.places.specs.declared.object.Object.{Object}
-use Rattle.model_files.specs.Worlds.{ContentsFit}
+use Rattle.std.specs.Option.{option_and_then}
+use Rattle.places.specs.declared.object.Descriptor.{Descriptor}
+use Rattle.model_files.specs.Pipes.{PipeState, pipe_start}
+use Rattle.model_files.specs.Worlds.{ContentsFit, PutsWithin, body_start, pipe_in, world_start}
 use Rattle.model_files.proofs.Forming.{world_start_formed}
 use Rattle.places.specs.declared.value.Stage.TheVariants.{Ready, Waiting}
 use Rattle.machine.specs.Whole.{is_asleep, flag_word, WellFormed, Stands}
@@ -62,27 +65,22 @@ list_all_get q [] i x h g = absurd cc
 list_all_get q (y ∷ ys) zero x h g = let e : y ≡ x = cc in ap q (sym e) ∙ (both_true (q y) (list_all q ys) h).0
 list_all_get q (y ∷ ys) (suc i) x h g = list_all_get q ys i x (both_true (q y) (list_all q ys) h).1 g
 
-list_any_get : {X : Type 0} (q : X → Bool) (xs : List X) (i : ℕ) (x : X) → list_any q xs ≡ false → slice_get xs i ≡ Some x → q x ≡ false
-list_any_get q [] i x h g = absurd cc
-list_any_get q (y ∷ ys) zero x h g = let e : y ≡ x = cc in ap q (sym e) ∙ (both_false (q y) (list_any q ys) h).0
-list_any_get q (y ∷ ys) (suc i) x h g = list_any_get q ys i x (both_false (q y) (list_any q ys) h).1 g
-
 -- ---- instructions and programs
 
-done : (size : ℕ) (x : Instruction) → is_instruction size x ≡ true → is_unbuilt x ≡ false → HasWidths x → IsDone size x
-done size (Put slot entry) h u w = grind (arith, nat_tests)
-done size (Push index) h u w = w
-done size (Store address bytes) h u w = let b = both_true (leb (length bytes) 4096) (leb (address + length bytes) 65536) h in grind (arith, nat_tests, b.1)
-done size (Enter to_submit min_complete flags) h u w = w
-done size Reap h u w = tt
-done size (Close fd) h u w = absurd cc
+done : (size : ℕ) (x : Instruction) → is_instruction size x ≡ true → HasWidths x → IsDone size x
+done size (Put slot entry) h w = grind (arith, nat_tests)
+done size (Push index) h w = w
+done size (Store address bytes) h w = let b = both_true (leb (length bytes) 4096) (leb (address + length bytes) 65536) h in grind (arith, nat_tests, b.1)
+done size (Enter to_submit min_complete flags) h w = w
+done size Reap h w = tt
+done size (Close fd) h w = tt
 
-program : (size : ℕ) (p : List Instruction) → is_program size p ≡ true → list_any is_unbuilt p ≡ false → ((i : ℕ) (x : Instruction) → slice_get p i ≡ Some x → HasWidths x) → IsProgram size p
-program size p h u w =
+program : (size : ℕ) (p : List Instruction) → is_program size p ≡ true → ((i : ℕ) (x : Instruction) → slice_get p i ≡ Some x → HasWidths x) → IsProgram size p
+program size p h w =
     let b = both_true (leb (length p) 4096) (list_all (is_instruction size) p) h in
     record {
       short = grind (arith, nat_tests, b.0);
-      done = λ i x g. done size x (list_all_get (is_instruction size) p i x b.1 g) (list_any_get is_unbuilt p i x u g) (w i x g);
+      done = λ i x g. done size x (list_all_get (is_instruction size) p i x b.1 g) (w i x g);
     }
 
 -- ---- the setup's fields
@@ -92,23 +90,21 @@ pub record Accepted (s : Setup) : Type 0 where
   pub memory : has_memory s ≡ true
   pub objects : has_objects s ≡ true
   pub programs : has_programs s ≡ true
-  pub built : asks_for_unbuilt s ≡ false
 
-limits : (s : Setup) → has_ring_sizes s ≡ true → keeps_limits s ≡ true → asks_for_unbuilt s ≡ false → Accepted s
-limits s a b c =
+limits : (s : Setup) → has_ring_sizes s ≡ true → keeps_limits s ≡ true → Accepted s
+limits s a b =
     let m = both_true (has_memory s) (has_objects s && (has_descriptors s && has_programs s)) b in
     let o = both_true (has_objects s) (has_descriptors s && has_programs s) m.1 in
     let d = both_true (has_descriptors s) (has_programs s) o.1 in
-    record { sizes = a; memory = m.0; objects = o.0; programs = d.1; built = c }
+    record { sizes = a; memory = m.0; objects = o.0; programs = d.1 }
 
 pub accepted : (s : Setup) → setup_refusal s ≡ None → Accepted s
-accepted s h = by (has_ring_sizes s) (keeps_limits s) (asks_for_unbuilt s) refl refl refl h
+accepted s h = by (has_ring_sizes s) (keeps_limits s) refl refl h
   where
-    by : (a b c : Bool) → has_ring_sizes s ≡ a → keeps_limits s ≡ b → asks_for_unbuilt s ≡ c → cond (not a) (Some RingSize) (cond (b && not c) None (Some Limit)) ≡ None → Accepted s
-    by true true false d e f k = limits s d e f
-    by true true true d e f k = absurd cc
-    by true false c d e f k = absurd cc
-    by false b c d e f k = absurd cc
+    by : (a b : Bool) → has_ring_sizes s ≡ a → keeps_limits s ≡ b → cond (not a) (Some RingSize) (cond b None (Some Limit)) ≡ None → Accepted s
+    by true true d e k = limits s d e
+    by true false d e k = absurd cc
+    by false b d e k = absurd cc
 
 -- what the memory and the objects of a setup start as
 pub memory_fits : (s : Setup) → Accepted s → length s.memory ≤ 65536
@@ -116,14 +112,28 @@ memory_fits s a = grind (arith, nat_tests, a.memory)
 
 contents_fit : (c : Contents) → is_contents c ≡ true → ContentsFit c
 contents_fit (File bytes) h = grind (arith, nat_tests)
-contents_fit (Pipe capacity) h = tt
-contents_fit (EventFd counter) h = tt
+contents_fit (Pipe capacity) h = (grind (arith, nat_tests), grind (arith, nat_tests))
+contents_fit (EventFd counter) h = grind (arith, nat_tests)
 
 pub objects_fit : (s : Setup) → Accepted s → (i : ℕ) (o : Object) → slice_get s.objects i ≡ Some o → ContentsFit o.contents
 objects_fit s a i o h =
     let few = both_true (leb (length s.objects) 32 && list_all is_object s.objects) (names_once s.objects) a.objects in
     let each = both_true (leb (length s.objects) 32) (list_all is_object s.objects) few.0 in
     contents_fit o.contents (both_true (is_name o.name) (is_contents o.contents) (list_all_get is_object s.objects i o each.1 h)).1
+
+-- nothing went into the pipes of a setup
+puts_start : (memory : List ℕ) (os : List Object) (ds : List Descriptor) → PutsWithin 0 (world_start memory os ds)
+puts_start memory os ds o p h = by os o h
+  where
+    one : (c : Contents) → pipe_in (body_start c) ≡ Some p → p.put ≤ 0
+    one (File bytes) e = absurd cc
+    one (Pipe capacity) e = let same : pipe_start capacity ≡ p = cc in subst (λ (q : PipeState). q.put ≤ 0) same (omega arith)
+    one (EventFd counter) e = absurd cc
+
+    by : (xs : List Object) (i : ℕ) → option_and_then pipe_in (slice_get (map (λ (x : Object). body_start x.contents) xs) i) ≡ Some p → p.put ≤ 0
+    by [] i e = absurd cc
+    by (x ∷ xs) zero e = one x.contents e
+    by (x ∷ xs) (suc i) e = by xs i e
 
 entries_between : (s : Setup) → has_ring_sizes s ≡ true → (0 < s.entries) × (s.entries ≤ 4096)
 entries_between s h =
@@ -152,16 +162,13 @@ threads_stand s a w t x h = by (slice_get s.threads t) refl (sym (slice_get-map 
     all : list_all (is_program (rounded s.entries)) s.threads ≡ true
     all = (both_true (leb (length s.threads) 16) (list_all (is_program (rounded s.entries)) s.threads) a.programs).1
 
-    built : list_any (list_any is_unbuilt) s.threads ≡ false
-    built = (both_false (list_any is_unbuilt_object s.objects) (list_any (list_any is_unbuilt) s.threads) a.built).1
-
     by : (o : Option (List Instruction)) → slice_get s.threads t ≡ o → option_map thread_start o ≡ Some x → Stands (rounded s.entries) x
     by None g k = absurd cc
     by (Some p) g k =
         let e : thread_start p ≡ x = cc in
         subst (Stands (rounded s.entries)) e (record {
           within = omega arith;
-          program = program (rounded s.entries) p (list_all_get (is_program (rounded s.entries)) s.threads t p all g) (list_any_get (list_any is_unbuilt) s.threads t p built g) (w t p g);
+          program = program (rounded s.entries) p (list_all_get (is_program (rounded s.entries)) s.threads t p all g) (w t p g);
           last = search rules;
           waits = λ n v q. absurd (ready n v q);
         })
@@ -187,6 +194,7 @@ formed_start s h b w =
       overflowed = omega arith;
       rows = omega arith;
       world = world_start_formed s.memory s.objects s.fds (memory_fits s a) (objects_fit s a);
+      puts = puts_start s.memory s.objects s.fds;
       requests = λ r x k. absurd (none_there x k);
       chained = chained-none;
       counted = refl;

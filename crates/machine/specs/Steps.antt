@@ -9,10 +9,11 @@ use Rattle.opcodes.specs.declared.choice.Choice.{Choice}
 use Rattle.opcodes.specs.declared.ending.Outcome.{Outcome}
 use Rattle.opcodes.specs.declared.ending.Outcome.TheVariants.{Res, Waits, BadChoice}
 use Rattle.opcodes.specs.Opcodes.{uses_descriptor, fits_end}
+use Rattle.links_drains.specs.Holding.{is_held_by}
 use Rattle.opcodes.specs.Outcomes.{outcome_of}
 use Rattle.opcodes.specs.Effects.{world_after}
 use Rattle.model_files.specs.declared.descriptor.DescriptorState.{DescriptorState}
-use Rattle.model_files.specs.Worlds.{WorldState, descriptor_at, world_stored}
+use Rattle.model_files.specs.Worlds.{WorldState, descriptor_at, descriptor_of, world_closed, world_stored}
 use Rattle.places.specs.Lists.{updated}
 use Rattle.places.specs.declared.value.Stage.{Stage}
 use Rattle.places.specs.declared.value.Stage.TheVariants.{Ready, Waiting}
@@ -140,9 +141,9 @@ phase_refusal Issued o = outcome_refusal o
 phase_refusal (Ended res) o = Some WrongPhase
 
 -- timeouts and guards don't finish, they expire
-abbrev pub finish_refusal : WorldState → Option Row → Choice → Option Refusal
-finish_refusal w None c = Some NoSuchRequest
-finish_refusal w (Some row) c = if counts row then phase_refusal row.phase (outcome_of w row c) else Some WrongPhase
+abbrev pub finish_refusal : (ℕ → Bool) → WorldState → Option Row → Choice → Option Refusal
+finish_refusal held w None c = Some NoSuchRequest
+finish_refusal held w (Some row) c = if counts row then phase_refusal row.phase (outcome_of held w row c) else Some WrongPhase
 
 abbrev pub expire_refusal : Option Row → Option Refusal
 expire_refusal None = Some NoSuchRequest
@@ -154,7 +155,7 @@ refusal m (Step t) = thread_refusal m (slice_get m.threads t)
 refusal m (Take n) = take_refusal m m.poller n
 refusal m Sleep = sleep_refusal m m.poller
 refusal m (Issue r) = issue_refusal m.table r (slice_get m.table r)
-refusal m (Finish r c) = finish_refusal m.world (slice_get m.table r) c
+refusal m (Finish r c) = finish_refusal (is_held_by m.table) m.world (slice_get m.table r) c
 refusal m (Expire r) = expire_refusal (slice_get m.table r)
 refusal m (Tick d) = if nat_lt (m.clock + d) (2 ^ 64) then None else Some ClockFull
 
@@ -249,6 +250,15 @@ abbrev pub entered : Machine → Option Poller → ℕ → ℕ → ℕ → ℕ �
 entered m None t k w flags = if is_unknown flags then answered m t einval else entered_alone m t k w flags
 entered m (Some p) t k w flags = if is_unknown flags then answered m t einval else entered_beside m t k w flags
 
+abbrev pub is_open : Option DescriptorState → Bool
+is_open None = false
+is_open (Some d) = d.is_open
+
+-- a Close of a descriptor that is open, and of what is none (close(2))
+abbrev pub closed : Machine → ℕ → ℤ → Machine
+closed m t (negsuc n) = answered m t ebadf
+closed m t (pos fd) = if is_open (descriptor_of m.world fd) then answered (record m { world = world_closed fd m.world }) t (pos 0) else answered m t ebadf
+
 -- what an instruction changes
 abbrev pub executed : Machine → ℕ → Option Instruction → Machine
 executed m t None = m
@@ -260,7 +270,7 @@ executed m t (Some Reap) = record m {
   completions = record m.completions { head = (m.completions.head + 1) % 2 ^ 32 };
   threads = updated (λ x. record x { counter = x.counter + 1; got = slice_get m.completions.slots (m.completions.head % length m.completions.slots) }) m.threads t;
 }
-executed m t (Some (Close fd)) = m
+executed m t (Some (Close fd)) = closed m t fd
 
 abbrev pub next_of : Option ThreadState → Option Instruction
 next_of None = None
@@ -302,7 +312,7 @@ finished_as m r row BadChoice = m
 
 abbrev pub finished : Machine → ℕ → Option Row → Choice → Machine
 finished m r None c = m
-finished m r (Some row) c = finished_as m r row (outcome_of m.world row c)
+finished m r (Some row) c = finished_as m r row (outcome_of (is_held_by m.table) m.world row c)
 
 -- the machine after an event
 abbrev pub after : Machine → Event → Machine

@@ -1,5 +1,5 @@
 -- The whole machine: what stands in each place, and which machines are well formed.
-use Rattle.std.specs.Prelude.{◌≡◌, ℕ, ◌+◌, ◌<◌, ◌≤◌, ◌^◌, Bool, true, false, not, if◌then◌else◌, Option, Some, None, is_some, IsSome, slice_get, map, List, length, FitsSigned}
+use Rattle.std.specs.Prelude.{◌≡◌, ℕ, ◌+◌, ◌*◌, ◌<◌, ◌≤◌, ◌^◌, Bool, true, false, not, if◌then◌else◌, Option, Some, None, is_some, IsSome, slice_get, map, List, length, FitsSigned}
 use Rattle.std.specs.Int.{w64}
 use Rattle.entries.specs.declared.row.Row.{Row}
 use Rattle.places.specs.declared.place.Place.{Place}
@@ -14,7 +14,7 @@ use Rattle.links_drains.specs.Links.{Chained}
 use Rattle.links_drains.specs.Rows.{fixed_of, Stay, table_seen, table_can_put}
 use Rattle.links_drains.specs.Phases.{is_issued, is_unfinished, counted_of, ended_of}
 use Rattle.model_files.specs.declared.descriptor.DescriptorState.{DescriptorState}
-use Rattle.model_files.specs.Worlds.{WorldState, WorldFormed, world_seen, world_can_put, descriptor_of, OneSetup as OneWorldSetup}
+use Rattle.model_files.specs.Worlds.{WorldState, WorldFormed, world_seen, world_can_put, descriptor_of, OneSetup as OneWorldSetup, PutsWithin}
 use Rattle.opcodes.specs.Check.{op_of}
 use Rattle.opcodes.specs.Opcodes.{uses_descriptor, fits_end}
 use Rattle.overflow.specs.Backlogs.{is_clear, backlog_seen, backlog_can_put}
@@ -165,12 +165,13 @@ pub record WellFormed (m : Machine) : Type 0 where
   pub rows : length m.table ≤ 65536
   pub chained : Chained m.table
   pub world : WorldFormed m.world
+  pub puts : PutsWithin (65536 * ended_of m.table) m.world
   pub requests : (r : ℕ) (x : Row) → slice_get m.table r ≡ Some x → RowFormed m.world x
   pub counted : m.counted ≡ counted_of m.table
   pub clock : m.clock < 2 ^ 64
   pub threads : (t : ℕ) (x : ThreadState) → slice_get m.threads t ≡ Some x → Stands (length m.submissions.slots) x
 
--- What holds of a well formed machine, but for what holds of its rows.
+-- What holds of a well formed machine, but for what holds of its rows and what went into its pipes.
 pub record Mostly (m : Machine) : Type 0 where
   pub submissions : SubFormed m.submissions
   pub completions : ComFormed m.completions

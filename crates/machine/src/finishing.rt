@@ -1,5 +1,7 @@
 //! Requests are issued, and end as a kernel chooses (io_uring_enter(2)).
-ghost use Rattle.std.specs.Prelude.{◌≡◌, OnOk, None, Some, slice_get};
+ghost use Rattle.std.specs.Prelude.{◌≡◌, OnOk, None, Some, length, slice_get};
+ghost use Rattle.links_drains.specs.Holding.{is_held_by};
+ghost use Rattle.opcodes.specs.Outcomes.{outcome_of};
 ghost use Rattle.places.specs.View.{Keeps, named};
 ghost use Rattle.places.specs.declared.place.Place.{Place};
 ghost use Rattle.machine.specs.Steps.{after, refusal, held_by, number_in, lacks_descriptor, is_usable};
@@ -48,11 +50,19 @@ impl Machine {
         let Some(row) = self.table.get(r) else {
             unreachable!()
         };
-        let Outcome::Res(res) = outcome(&self.world, self.table.held(), &row, choice) else {
+        let Outcome::Res(res) = self.outcome(&row, choice) else {
             unreachable!()
         };
         carry_out(&mut self.world, &row, res, notes)?;
         self.fall(&[(r, res)], notes)
+    }
+
+    /// What an issued row comes to.
+    pub(crate) fn outcome(&self, row: &Row, choice: Choice) -> Outcome
+        requires memory { length self.now.world.memory ≡ 65536 }
+        ensures { result ≡ outcome_of (is_held_by self.now.table) self.now.world row.now choice }
+    {
+        outcome(&self.world, self.table.held(), row, choice)
     }
 }
 

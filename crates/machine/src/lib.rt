@@ -1,6 +1,7 @@
 //! The machine: rings, rows, threads, and what events change of them.
 #![tactic(auto)]
 
+mod closing;
 mod ending;
 mod entering;
 mod finishing;

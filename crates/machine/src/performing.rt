@@ -98,7 +98,10 @@ impl Machine {
                 self.world.store(*address, bytes.as_slice(), notes)?;
                 self.threads.go_on(t, notes)
             }
-            Instruction::Close(_) => unreachable!(),
+            Instruction::Close(fd) => {
+                let fd = *fd;
+                self.close(t, fd, notes)
+            }
         }
     }
 }

@@ -1,5 +1,6 @@
 //! Which events are refused.
 ghost use Rattle.std.specs.Prelude.{◌≡◌, ℕ, Some, slice_get, length, min};
+ghost use Rattle.links_drains.specs.Holding.{is_held_by};
 ghost use Rattle.ring_words.specs.Rings.{sub_list};
 ghost use Rattle.machine.specs.Steps.{refusal, next_refusal, instruction_refusal, enter_refusal, alone_refusal, submission_refusal, take_refusal, sleep_refusal, issue_refusal, finish_refusal, outcome_refusal, is_busy, flushed};
 ghost use Rattle.machine.specs.Submission.{offered};
@@ -7,7 +8,7 @@ ghost use Rattle.machine.specs.Whole.{WellFormed};
 
 use crate::whole::Machine;
 use entries::Phase;
-use opcodes::{Choice, Outcome, is_timer, outcome};
+use opcodes::{Choice, Outcome, is_timer};
 use places::Stage;
 use scenario::{Event, Instruction, Refusal};
 use sqpoll::Poller;
@@ -181,7 +182,8 @@ impl Machine {
     }
 
     fn refuses_finish(&self, r: u32, choice: Choice) -> Option<Refusal>
-        ensures { result ≡ finish_refusal self.now.world (slice_get self.now.table r) choice }
+        requires formed { WellFormed self.now }
+        ensures { result ≡ finish_refusal (is_held_by self.now.table) self.now.world (slice_get self.now.table r) choice }
     {
         let Some(row) = self.table.get(r) else {
             return Some(Refusal::NoSuchRequest);
@@ -190,7 +192,7 @@ impl Machine {
             return Some(Refusal::WrongPhase);
         }
         match row.phase {
-            Phase::Issued => refuses_outcome(outcome(&self.world, self.table.held(), &row, choice)),
+            Phase::Issued => refuses_outcome(self.outcome(&row, choice)),
             _ => Some(Refusal::WrongPhase),
         }
     }

@@ -92,5 +92,6 @@ fn start_thread(alloc: Global, program: &[Instruction]) -> Result<Thread, AllocE
     for instruction in program {
         copies.push(instruction.copy(alloc)?)?;
     }
-    Ok(Thread::new(Items::of(copies)))
+    let thread = Thread::new(alloc, Items::of(copies))?;
+    Ok(thread)
 }

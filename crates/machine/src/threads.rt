@@ -8,14 +8,16 @@ ghost use Rattle.places.specs.declared.value.Stage.TheVariants.{Ready};
 
 use entries::Cqe;
 use places::{At, Items, Part, Place, Recorder, Stage, Value};
-use scenario::{Instruction, copy_program};
+use scenario::Instruction;
 use std::alloc::{AllocError, Global};
 use std::marker::Model;
+use std::sync::Arc;
 
 /// A thread.
 #[derive(Drop)]
 pub struct Thread {
-    program: Items<Instruction>,
+    /// No step changes it: copies of the thread share it.
+    program: Arc<Items<Instruction>>,
     counter: u32,
     stage: Stage,
     last: i64,
@@ -23,35 +25,36 @@ pub struct Thread {
 }
 
 impl Model for Thread {
+    ghost use Rattle.std.specs.Arc.{arc_value};
     ghost use Rattle.machine.specs.Threads.{ThreadState};
 
     ghost Value = { ThreadState };
 
-    ghost view = { λ a. record { program = a.program; counter = a.counter; stage = a.stage; last = a.last; got = a.got } };
+    ghost view = { λ a. record { program = arc_value a.program; counter = a.counter; stage = a.stage; last = a.last; got = a.got } };
 }
 
 impl Thread {
     ghost use Rattle.machine.specs.Threads.{thread_start};
 
     /// It stands at the start of its program.
-    pub fn new(program: Items<Instruction>) -> Thread
-        ensures { result ≡ thread_start program }
+    pub fn new(alloc: Global, program: Items<Instruction>) -> Result<Thread, AllocError>
+        ensures { IfOk result (λ thread. thread ≡ thread_start program) }
     {
-        Thread {
-            program,
+        Ok(Thread {
+            program: Arc::new(alloc, program)?,
             counter: 0,
             stage: Stage::Ready,
             last: 0,
             got: None,
-        }
+        })
     }
 
-    /// The same thread again.
-    pub fn copy(&self, alloc: Global) -> Result<Thread, AllocError>
+    /// The same thread again. It shares the program.
+    pub fn copy(&self) -> Result<Thread, AllocError>
         ensures { IfOk result (λ thread. thread ≡ self.now) }
     {
         Ok(Thread {
-            program: copy_program(alloc, self.program.as_slice())?,
+            program: Arc::try_clone(&self.program)?,
             counter: self.counter,
             stage: self.stage,
             last: self.last,
@@ -168,7 +171,7 @@ impl Threads {
     {
         let mut copies = Vec::new(alloc);
         for thread in &self.threads {
-            copies.push(thread.copy(alloc)?)?;
+            copies.push(thread.copy()?)?;
         }
         Ok(Threads { threads: copies })
     }

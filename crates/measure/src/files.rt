@@ -48,6 +48,18 @@ pub fn sync_load(alloc: Global, count: u32) -> Result<Load, AllocError> {
     Ok(load)
 }
 
+/// As many files as a setup has at most, each as long as a file can be.
+pub fn full_files(alloc: Global) -> Result<Items<Object>, AllocError> {
+    let mut files = Vec::new(alloc);
+    for number in 0..32u8 {
+        files.push(Object {
+            name: Items::of(vec![in alloc; b'a' + number / 16, b'a' + number % 16]?),
+            contents: Contents::File(Items::of(vec![in alloc; 1u8; 65536]?)),
+        })?;
+    }
+    Ok(Items::of(files))
+}
+
 // An entry on the file.
 fn transfer(opcode: u8, off: u64, addr: u64, len: u32) -> Sqe {
     Sqe {

@@ -2,9 +2,9 @@
 ghost use Rattle.std.specs.Prelude.{◌≤◌};
 ghost use Rattle.measure.specs.Plans.{HasLimits};
 
-use crate::files::{sync_load, transfer_load};
+use crate::files::{full_files, sync_load, transfer_load};
 use crate::parts::{Load, Requests, entry, request_load, setup_of};
-use crate::plan::Plan;
+use crate::plan::{MOST_OVERFLOWING, Plan};
 use machine::{Event, Instruction};
 use opcodes::Choice;
 use places::Items;
@@ -30,6 +30,7 @@ pub fn load_of(alloc: Global, plan: Plan) -> Result<Load, AllocError>
         Plan::Nops(events) | Plan::Jumps(events) => nop_load(alloc, events),
         Plan::Overflow(count) => overflow_load(alloc, count),
         Plan::Issues(count) => issue_load(alloc, count),
+        Plan::Full(events) => full_load(alloc, events),
         Plan::Ticks(ticks) => Ok(Load {
             setup: setup_of(alloc, Items::new(alloc)),
             events: vec![in alloc; Event::Tick(1); ticks as usize]?,
@@ -67,6 +68,17 @@ fn issue_load(alloc: Global, count: u32) -> Result<Load, AllocError>
     for row in half..count.min(half + ISSUED) {
         load.events.push(Event::Issue(row))?;
     }
+    Ok(load)
+}
+
+// As many NOPs as the programs push are submitted; behind them the clock ticks.
+fn full_load(alloc: Global, count: u32) -> Result<Load, AllocError> {
+    let mut load = submitted_load(alloc, MOST_OVERFLOWING)?;
+    load.setup.objects = full_files(alloc)?;
+    for _tick in load.events.len()..count as usize {
+        load.events.push(Event::Tick(1))?;
+    }
+    load.events.truncate(count as usize);
     Ok(load)
 }
 

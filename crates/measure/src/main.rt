@@ -41,6 +41,13 @@ fn add(rt: &(impl Eprint + Clock), walker: &mut Walker, load: &Load) -> Result<(
     Ok(())
 }
 
+// How long it takes to go to a moment, in microseconds.
+fn timed(rt: &impl Clock, walker: &mut Walker, moment: usize) -> Result<u128, Fault> {
+    let start = Instant::now(rt)?;
+    walker.goto(moment)?;
+    Ok(start.elapsed(rt)?.as_micros())
+}
+
 // Goes to a moment, by single steps.
 fn go(
     rt: &(impl Eprint + Clock),
@@ -49,9 +56,7 @@ fn go(
     moment: usize,
 ) -> Result<(), Fault> {
     let steps = walker.at().abs_diff(moment);
-    let start = Instant::now(rt)?;
-    walker.goto(moment)?;
-    let micros = start.elapsed(rt)?.as_micros();
+    let micros = timed(rt, walker, moment)?;
     report(rt, what, steps, micros)?;
     Ok(())
 }
@@ -97,13 +102,6 @@ fn walk_through(
     go(rt, walker, "on again", len)?;
     print_counts(rt, walker)?;
     Ok(())
-}
-
-// How long it takes to go to a moment, in microseconds.
-fn timed(rt: &impl Clock, walker: &mut Walker, moment: usize) -> Result<u128, Fault> {
-    let start = Instant::now(rt)?;
-    walker.goto(moment)?;
-    Ok(start.elapsed(rt)?.as_micros())
 }
 
 // Walks between two moments, on and back, again and again.
@@ -166,12 +164,12 @@ fn measure(
     load: &Load,
 ) -> Result<(), Fault> {
     let (every, window) = match plan {
-        Plan::Jumps(_) => (1024, 256),
+        Plan::Jumps(_) | Plan::Full(_) => (1024, 256),
         _ => (u32::MAX, u32::MAX),
     };
     let mut walker = Walker::with(rt.alloc(), &load.setup, every, window)?;
     match plan {
-        Plan::Jumps(_) => walk_jumps(rt, &mut walker, load),
+        Plan::Jumps(_) | Plan::Full(_) => walk_jumps(rt, &mut walker, load),
         Plan::Issues(_) => walk_issues(rt, &mut walker, load),
         _ => walk_through(rt, &mut walker, load),
     }
@@ -187,7 +185,7 @@ fn main(rt: HostRuntime) -> io::Result<ExitCode> {
         .collect(alloc)?;
     let Some(plan) = plan_of(&texts) else {
         eprintln!(rt;
-            "measure nops N | jumps N | overflow N | issues N | ticks N | transfers N | syncs N"
+            "measure nops N | jumps N | overflow N | issues N | full N | ticks N | transfers N | syncs N"
         )?;
         return Ok(ExitCode::from(2));
     };

@@ -9,7 +9,7 @@ pub const MOST_NOP_EVENTS: u32 = 109200;
 pub const MOST_OVERFLOWING: u32 = 65520;
 
 /// The most events of a trace.
-pub const MOST_TICKS: u32 = 1048576;
+pub const MOST_EVENTS: u32 = 1048576;
 
 /// The most events of requests on a file: 16 programs of 1,364 requests each.
 pub const MOST_FILE_EVENTS: u32 = 109120;
@@ -26,6 +26,9 @@ pub enum Plan {
     /// So many NOPs, all submitted before the first is issued: half of them end, and of the others some are
     /// issued again and again.
     Issues(u32),
+    /// So many events over 32 files of 65,536 bytes and, behind 131,056 of them, a table of 65,520 requests:
+    /// the others are ticks of the clock. The run jumps between their moments.
+    Full(u32),
     /// So many ticks of the clock.
     Ticks(u32),
     /// So many events of READs and WRITEs, each of which changes 4,096 bytes.
@@ -47,7 +50,8 @@ pub fn plan_of(words: &[&str]) -> Option<Plan>
         "jumps" if size <= MOST_NOP_EVENTS => Some(Plan::Jumps(size)),
         "overflow" if size <= MOST_OVERFLOWING => Some(Plan::Overflow(size)),
         "issues" if size <= MOST_OVERFLOWING => Some(Plan::Issues(size)),
-        "ticks" if size <= MOST_TICKS => Some(Plan::Ticks(size)),
+        "full" if size <= MOST_EVENTS => Some(Plan::Full(size)),
+        "ticks" if size <= MOST_EVENTS => Some(Plan::Ticks(size)),
         "transfers" if size <= MOST_FILE_EVENTS => Some(Plan::Transfers(size)),
         "syncs" if size <= MOST_FILE_EVENTS => Some(Plan::Syncs(size)),
         _ => None,

@@ -85,6 +85,14 @@ among_fresh cs ds g s bs n i h e = by (n (place_in g i))
     by (inl f) = f ∙ e
     by (inr f) = f ∙ ap (λ m. first_note m (byte_in g s bs (place_in g i))) e ∙ says_there g s bs i ∙ past_says bs s i h
 
+-- nor what stands before them
+pub among_fresh_before : (cs ds : List Change) (g : Region) (s : ℕ) (bs : List ℕ) → NotedAmong cs ds g s bs → (i : ℕ) → i < s → named cs (place_in g i) ≡ None → named ds (place_in g i) ≡ None
+among_fresh_before cs ds g s bs n i h e = by (n (place_in g i))
+  where
+    by : (named ds (place_in g i) ≡ named cs (place_in g i)) ⊎ (named ds (place_in g i) ≡ first_note (named cs (place_in g i)) (byte_in g s bs (place_in g i))) → named ds (place_in g i) ≡ None
+    by (inl f) = f ∙ e
+    by (inr f) = f ∙ ap (λ m. first_note m (byte_in g s bs (place_in g i))) e ∙ says_there g s bs i ∙ byte_from_before s bs i h
+
 -- noting un-notes no place
 pub among_named : (cs ds : List Change) (g : Region) (s : ℕ) (bs : List ℕ) → NotedAmong cs ds g s bs → (q : Place) → named ds q ≡ None → named cs q ≡ None
 among_named cs ds g s bs n q h = by (n q)

@@ -39,7 +39,7 @@ parts_tell old others from to r e =
     (λ t. alike_part old others from to (d.0 t), λ a. d.1 (part_alike old others from to a))
 
 -- a byte that was written over others stands there
-get-overwritten : (xs others : List ℕ) (at d : ℕ) → at + length others ≤ length xs → d < length others → slice_get (overwritten xs at others) (at + d) ≡ slice_get others d
+pub get-overwritten : (xs others : List ℕ) (at d : ℕ) → at + length others ≤ length xs → d < length others → slice_get (overwritten xs at others) (at + d) ≡ slice_get others d
 get-overwritten xs others at d h l = grind (arith, common_steps, gets)
 
 -- a byte is as it was where the one that was written over it is the same, or none was

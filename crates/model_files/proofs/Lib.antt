@@ -4,9 +4,12 @@ pub mod Noting
 pub mod Comparing
 pub mod Among
 pub mod Transfers
+pub mod Wrapping
+pub mod Piping
 pub mod Paging
 pub mod Lifting
 pub mod Remembering
+pub mod Bringing
 pub mod Describing
 pub mod Forming
 pub mod Fixing

@@ -8,6 +8,7 @@ use Rattle.places.specs.declared.place.Place.{Place}
 use Rattle.places.specs.declared.place.Place.TheVariants.{FileByte, DurableByte, FileLength, DurableLength, PipeByte, PutCount, TakenCount, EventCount}
 use Rattle.places.specs.declared.value.Change.{Change}
 use Rattle.places.specs.declared.value.Value.{Value}
+use Rattle.places.specs.Lists.{updated}
 use Rattle.places.specs.Places.{same_place}
 use Rattle.places.specs.View.{named, put_at, Keeps}
 use Rattle.places.proofs.ListLemmas.{slice_get-set, map_same, updated_set}
@@ -119,6 +120,22 @@ body_is w o b h r = by (slice_get w.objects o) refl h
 -- a file was changed
 pub changed_file : (g : FileState → FileState) (w : WorldState) (o : ℕ) (b c : Body) → slice_get w.objects o ≡ Some b → c ≡ on_file g b → with_body w o c ≡ with_file g w o
 changed_file g w o b c h e = ap (λ (bs : List Body). record w { objects = bs }) (ap (slice_set w.objects o) e ∙ sym (updated_set (on_file g) w.objects o b h))
+
+-- an object was changed
+pub changed_body : (g : Body → Body) (w : WorldState) (o : ℕ) (b c : Body) → slice_get w.objects o ≡ Some b → c ≡ g b → with_body w o c ≡ record w { objects = updated g w.objects o }
+changed_body g w o b c h e = ap (λ (bs : List Body). record w { objects = bs }) (ap (slice_set w.objects o) e ∙ sym (updated_set g w.objects o b h))
+
+-- the object that was read is the one of its number, of whatever kind
+pub found_body : {X : Type 0} (f : Body → Option X) (w : WorldState) (o : ℕ) (b : Body) → IsSome (option_and_then f (slice_get w.objects o)) → b ≡ get_or w.objects o b → slice_get w.objects o ≡ Some b
+found_body f w o b h r = by (slice_get w.objects o) refl h
+  where
+    by : (x : Option Body) → slice_get w.objects o ≡ x → is_some (option_and_then f x) ≡ true → slice_get w.objects o ≡ Some b
+    by None e k = absurd cc
+    by (Some y) e k = e ∙ ap Some (sym (r ∙ get_or_from_slice_get w.objects o y b e))
+
+pub some_and : {X : Type 0} (P : X → Type 0) (x : Option X) → IsSomeAnd x P → IsSome x
+some_and P None h = absurd h
+some_and P (Some x) h = refl
 
 -- a part of a list, by its end
 pub range_is : (xs : List ℕ) (at k : ℕ) → part xs at ((at + k) - at) ≡ part xs at k

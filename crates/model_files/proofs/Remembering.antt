@@ -28,7 +28,7 @@ pub keeps_memory_bytes : (w : WorldState) (at k : ℕ) (cs ds : List Change) →
 keeps_memory_bytes w at k cs ds n = keeps_among world_owns (world_seen w) cs ds Memory at (part w.memory at k) n (memory_there w at k)
 
 -- a write over memory changes what is noted
-names_memory : (w : WorldState) (at k : ℕ) (others : List ℕ) (ds : List Change) → at + k ≤ length w.memory → length others ≡ k → NamesDiffering ds Memory at (part w.memory at k) others
+pub names_memory : (w : WorldState) (at k : ℕ) (others : List ℕ) (ds : List Change) → at + k ≤ length w.memory → length others ≡ k → NamesDiffering ds Memory at (part w.memory at k) others
     → NamesChanges world_owns (world_seen w) (world_seen (record w { memory = overwritten w.memory at others })) ds
 names_memory w at k others ds h l d (MemoryByte a) own e = ap (option_map Byte) (same_overwritten w.memory others at k a h l (λ i g. d i (ap (λ z. named ds (MemoryByte z)) (sym g) ∙ e)))
 names_memory w at k others ds h l d _ own e = refl

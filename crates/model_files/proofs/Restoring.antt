@@ -15,6 +15,7 @@ use Rattle.model_files.specs.declared.descriptor.DescriptorState.{DescriptorStat
 use Rattle.model_files.specs.Objects.{in_range, object_in}
 use Rattle.model_files.specs.Files.{FileState, FileFormed}
 use Rattle.model_files.specs.Worlds.{WorldState, WorldFormed, OneSetup, body_seen, world_seen, world_can_put, kind_of_body, fixed_of, file_in, descriptor_of, mark_of}
+use Rattle.model_files.proofs.Forming.{file_formed}
 use Rattle.model_files.proofs.Lifting.{own_seen, owns_own}
 
 -- ---- where a value stands
@@ -151,7 +152,7 @@ object_ranged s f o p v e = by (slice_get s.objects o) refl e
   where
     by : (x : Option Body) → slice_get s.objects o ≡ x → option_and_then (λ (b : Body). body_seen b p) x ≡ Some v → in_range p v ≡ true
     by None k h = absurd cc
-    by (Some b) k h = body_ranged b p v (λ g i. f.files o g (ap (option_and_then file_in) k ∙ i)) h
+    by (Some b) k h = body_ranged b p v (λ g i. file_formed s f o g (ap (option_and_then file_in) k ∙ i)) h
 
 mark_ranged : (b : Bool) → nat_le (mark_of b) 1 ≡ true
 mark_ranged true = refl

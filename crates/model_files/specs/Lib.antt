@@ -5,3 +5,4 @@ pub mod Pages
 pub mod Differing
 pub mod Pipes
 pub mod Worlds
+pub mod Ends

@@ -1,5 +1,6 @@
 -- Memory, objects and descriptors, and what is seen of them.
-use Rattle.std.specs.Prelude.{◌≡◌, ℕ, ℤ, pos, negsuc, ◌-◌, ◌≤◌, nat_lt, Bool, true, false, Option, Some, None, option_map, slice_get, List, [], map, length, if◌then◌else◌}
+use Rattle.std.specs.Prelude.{◌≡◌, ℕ, ℤ, pos, negsuc, ◌+◌, ◌-◌, ◌^◌, ◌<◌, ◌≤◌, nat_lt, Bool, true, false, Option, Some, None, option_map, slice_get, List, [], map, length, if◌then◌else◌}
+use Rattle.std.specs.Int.{w64, from_le_bytes, to_le_bytes}
 use Rattle.std.specs.Option.{option_and_then}
 use Rattle.places.specs.Lists.{updated}
 use Rattle.places.specs.View.{View}
@@ -16,7 +17,9 @@ use Rattle.model_files.specs.declared.body.Body.{Body}
 use Rattle.model_files.specs.declared.body.Body.TheVariants.{File, Pipe, EventFd}
 use Rattle.model_files.specs.declared.descriptor.DescriptorState.{DescriptorState}
 use Rattle.model_files.specs.Objects.{CanPut}
-use Rattle.model_files.specs.Pipes.{PipeState, pipe_seen, counter_seen, pipe_start}
+use Rattle.model_files.specs.declared.stock.Stock.{Stock}
+use Rattle.model_files.specs.declared.stock.Stock.TheVariants.{File as FileStock, Pipe as PipeStock, EventFd as EventStock}
+use Rattle.model_files.specs.Pipes.{PipeState, PipeFormed, pipe_seen, counter_seen, pipe_start, bytes_from, filled, put_in, taken_out}
 use Rattle.model_files.specs.Files.{FileState, FileFormed, file_seen, file_start, padded, written, synced, overwritten, part}
 
 -- the memory, the objects in the setup's order, and the descriptors, numbered from 3 (stdin(3))
@@ -44,6 +47,27 @@ counter_in (EventFd n) = Some n
 
 abbrev pub file_of : WorldState → ℕ → Option FileState
 file_of w o = option_and_then file_in (slice_get w.objects o)
+
+abbrev pub pipe_of : WorldState → ℕ → Option PipeState
+pipe_of w o = option_and_then pipe_in (slice_get w.objects o)
+
+abbrev pub counter_of : WorldState → ℕ → Option ℕ
+counter_of w o = option_and_then counter_in (slice_get w.objects o)
+
+-- what a transfer depends on: how many bytes a file has, how many are in a pipe of a capacity, the counter of an eventfd
+abbrev pub stock_in : Body → Stock
+stock_in (File f) = FileStock f.len
+stock_in (Pipe p) = PipeStock (filled p) (length p.slots)
+stock_in (EventFd n) = EventStock n
+
+-- A file has no more bytes than the most.
+abbrev pub StockFits : Stock → Type 0
+StockFits (FileStock len) = len ≤ 65536
+StockFits (PipeStock n capacity) = Unit {0}
+StockFits (EventStock n) = Unit {0}
+
+abbrev pub stock_of : WorldState → ℕ → Option Stock
+stock_of w o = option_map stock_in (slice_get w.objects o)
 
 abbrev pub descriptor_of : WorldState → ℕ → Option DescriptorState
 descriptor_of w fd = if nat_lt fd 3 then None else slice_get w.descriptors (fd - 3)
@@ -103,11 +127,11 @@ world_can_put w p (Some v) = CanPut (world_seen w) p v
 
 -- ---- the start
 
--- A file of a setup is not above the most.
+-- A file of a setup is not above the most, nor is a pipe's capacity, and an eventfd's counter is one that it may have.
 abbrev pub ContentsFit : Contents → Type 0
 ContentsFit (FileOf bytes) = length bytes ≤ 65536
-ContentsFit (PipeOf capacity) = Unit {0}
-ContentsFit (EventFdOf counter) = Unit {0}
+ContentsFit (PipeOf capacity) = (0 < capacity) × (capacity ≤ 65536)
+ContentsFit (EventFdOf counter) = counter < 2 ^ 64 - 1
 
 abbrev pub body_start : Contents → Body
 body_start (FileOf bytes) = File (file_start bytes)
@@ -147,6 +171,23 @@ on_file g (EventFd n) = EventFd n
 abbrev pub with_file : (FileState → FileState) → WorldState → ℕ → WorldState
 with_file g w o = record w { objects = updated (on_file g) w.objects o }
 
+abbrev pub on_pipe : (PipeState → PipeState) → Body → Body
+on_pipe g (File f) = File f
+on_pipe g (Pipe p) = Pipe (g p)
+on_pipe g (EventFd n) = EventFd n
+
+abbrev pub on_counter : (ℕ → ℕ) → Body → Body
+on_counter g (File f) = File f
+on_counter g (Pipe p) = Pipe p
+on_counter g (EventFd n) = EventFd (g n)
+
+-- the world with a pipe changed, or the counter of an eventfd
+abbrev pub with_pipe : (PipeState → PipeState) → WorldState → ℕ → WorldState
+with_pipe g w o = record w { objects = updated (on_pipe g) w.objects o }
+
+abbrev pub with_counter : (ℕ → ℕ) → WorldState → ℕ → WorldState
+with_counter g w o = record w { objects = updated (on_counter g) w.objects o }
+
 -- the world with a descriptor changed
 abbrev pub with_descriptor : (DescriptorState → DescriptorState) → WorldState → ℕ → WorldState
 with_descriptor g w fd = record w { descriptors = updated g w.descriptors (fd - 3) }
@@ -180,13 +221,53 @@ world_closed fd w = with_descriptor (λ d. record d { is_open = false }) w fd
 abbrev pub world_stored : ℕ → List ℕ → WorldState → WorldState
 world_stored addr bytes w = record w { memory = overwritten w.memory addr bytes }
 
+-- the k oldest bytes of an object, if it is a pipe
+abbrev pub oldest : ℕ → Option PipeState → List ℕ
+oldest k None = []
+oldest k (Some p) = bytes_from p.slots p.taken k
+
+-- the k oldest bytes of a pipe came out, and stand in memory from an address on (pipe(7))
+abbrev pub world_taken : ℕ → ℕ → ℕ → WorldState → WorldState
+world_taken o k addr w = with_pipe (taken_out k) (world_stored addr (oldest k (pipe_of w o)) w) o
+
+-- k bytes of memory, from an address on, went into a pipe (pipe(7))
+abbrev pub world_put : ℕ → ℕ → ℕ → WorldState → WorldState
+world_put o k addr w = with_pipe (put_in (part w.memory addr k)) w o
+
+-- the number of the eight bytes from an address on, the lowest first
+abbrev pub number_at : WorldState → ℕ → ℕ
+number_at w addr = from_le_bytes w64 (part w.memory addr 8)
+
+-- a number was added to the counter of an eventfd (eventfd(2))
+abbrev pub world_added : ℕ → ℕ → WorldState → WorldState
+world_added o n w = with_counter (λ m. m + n) w o
+
+-- the eight bytes of an object's counter, if it is an eventfd
+abbrev pub counter_bytes : Option ℕ → List ℕ
+counter_bytes None = []
+counter_bytes (Some n) = to_le_bytes w64 n
+
+-- the eight bytes of a counter stand in memory from an address on, and the counter is 0 (eventfd(2))
+abbrev pub world_cleared : ℕ → ℕ → WorldState → WorldState
+world_cleared o addr w = with_counter (λ n. 0) (world_stored addr (counter_bytes (counter_of w o)) w) o
+
 -- ---- what holds of it
 
--- The memory has its size, each file is well formed, and no position is past the most that a file can have.
+-- A file or a pipe is well formed; a counter is at most 2 ^ 64 - 2.
+abbrev pub BodyFormed : Body → Type 0
+BodyFormed (File f) = FileFormed f
+BodyFormed (Pipe p) = PipeFormed p
+BodyFormed (EventFd n) = n < 2 ^ 64 - 1
+
+-- The memory has its size, each object is well formed, and no position is past the most that a file can have.
 pub record WorldFormed (w : WorldState) : Type 0 where
   pub memory : length w.memory ≡ 65536
-  pub files : (o : ℕ) (f : FileState) → file_of w o ≡ Some f → FileFormed f
+  pub objects : (o : ℕ) (b : Body) → slice_get w.objects o ≡ Some b → BodyFormed b
   pub positions : (i : ℕ) (d : DescriptorState) (n : ℕ) → slice_get w.descriptors i ≡ Some d → d.position ≡ Some n → n ≤ 65536
+
+-- No more bytes than some went into a pipe over the whole run.
+abbrev pub PutsWithin : ℕ → WorldState → Type 0
+PutsWithin n w = (o : ℕ) (p : PipeState) → pipe_of w o ≡ Some p → p.put ≤ n
 
 -- what the setup fixes of an object: its kind, and the size of what it holds
 pub record Kind : Type 0 where

@@ -1,13 +1,15 @@
 //! What objects hold.
-ghost use Rattle.std.specs.Prelude.{◌≡◌, ◌≤◌, ◌+◌, ◌<◌, ℕ, IfOk, OnOk, OnErr, IsSome, IsSomeAnd, None, length};
+ghost use Rattle.std.specs.Prelude.{◌≡◌, ◌≤◌, ◌+◌, ◌<◌, ◌^◌, ℕ, IfOk, OnOk, OnErr, IsSome, IsSomeAnd, None, length};
 ghost use Rattle.places.specs.View.{Keeps, named};
 ghost use Rattle.places.specs.declared.place.Place.{Place};
-ghost use Rattle.places.specs.declared.place.Place.TheVariants.{FileByte, DurableByte};
+ghost use Rattle.places.specs.declared.place.Place.TheVariants.{FileByte, DurableByte, PipeByte};
+ghost use Rattle.model_files.specs.Pipes.{put_in, taken_out, GivesOut, TakesIn};
 ghost use Rattle.model_files.specs.Objects.{CanPut, PutsIn, object_owns};
 ghost use Rattle.model_files.specs.Files.{synced, written, FileFormed};
 
 use crate::file::RegularFile;
 use crate::pipe::PipeBuffer;
+use crate::stock::Stock;
 use places::{At, Place, Recorder, Value};
 use std::alloc::{AllocError, Global};
 
@@ -39,7 +41,7 @@ impl At for Body {
 }
 
 impl Body {
-    ghost use Rattle.model_files.specs.Worlds.{body_seen, file_in, kind_of_body, on_file};
+    ghost use Rattle.model_files.specs.Worlds.{body_seen, file_in, pipe_in, stock_in, StockFits, kind_of_body, counter_in, on_file, on_pipe, on_counter};
 
     /// The same again.
     pub fn copy(&self, alloc: Global) -> Result<Body, AllocError>
@@ -50,6 +52,18 @@ impl Body {
             Body::Pipe(pipe) => Body::Pipe(pipe.copy(alloc)?),
             Body::EventFd(counter) => Body::EventFd(*counter),
         })
+    }
+
+    /// How much it holds.
+    pub(crate) fn stock(&self) -> Stock
+        ensures value { result ≡ stock_in self.now }
+        ensures fits { StockFits result }
+    {
+        match self {
+            Body::File(file) => Stock::File(file.len()),
+            Body::Pipe(pipe) => Stock::Pipe(pipe.filled(), pipe.capacity()),
+            Body::EventFd(counter) => Stock::EventFd(*counter),
+        }
     }
 
     /// Sets what stands in one of its places.
@@ -90,6 +104,87 @@ impl Body {
     {
         match self {
             Body::File(file) => file.write_at(object, offset, others, notes),
+            _ => unreachable!(),
+        }
+    }
+
+    /// Puts bytes into a pipe. Want of memory leaves it as it was.
+    pub(crate) fn put(
+        &mut self,
+        object: u32,
+        others: &[u8],
+        notes: &mut Recorder,
+    ) -> Result<(), AllocError>
+        requires room { IsSomeAnd (pipe_in self.old) (TakesIn (length others.now)) }
+        requires fresh { (i : ℕ) → i < 65536 → named notes.old.made (PipeByte object i) ≡ None }
+        ensures ok { OnOk result (self.new ≡ on_pipe (put_in others.now) self.old) }
+        ensures err { OnErr result (self.new ≡ self.old) }
+        ensures keeps { Keeps (object_owns object) (body_seen self.old) (body_seen self.new) notes.old.made notes.new.made }
+        ensures named { (p : Place) → named notes.new.made p ≡ None → named notes.old.made p ≡ None }
+        ensures numbers { notes.old.numbers ≤ notes.new.numbers + 1 }
+        ensures completions { notes.old.completions ≤ notes.new.completions }
+        ensures others { notes.old.others ≤ notes.new.others }
+    {
+        match self {
+            Body::Pipe(pipe) => pipe.put_noted(object, others, notes),
+            _ => unreachable!(),
+        }
+    }
+
+    /// The oldest bytes of a pipe came out.
+    pub(crate) fn take(&mut self, count: u32)
+        requires there { IsSomeAnd (pipe_in self.old) (GivesOut count) }
+        ensures { self.new ≡ on_pipe (taken_out count) self.old }
+    {
+        match self {
+            Body::Pipe(pipe) => pipe.take(count),
+            _ => unreachable!(),
+        }
+    }
+
+    /// Adds to the counter of an eventfd. Want of memory leaves it as it was.
+    pub(crate) fn add(
+        &mut self,
+        object: u32,
+        number: u64,
+        notes: &mut Recorder,
+    ) -> Result<(), AllocError>
+        requires room { IsSomeAnd (counter_in self.old) (λ n. n + number < 2 ^ 64) }
+        ensures ok { OnOk result (self.new ≡ on_counter (λ n. n + number) self.old) }
+        ensures err { OnErr result (self.new ≡ self.old) }
+        ensures keeps { Keeps (object_owns object) (body_seen self.old) (body_seen self.new) notes.old.made notes.new.made }
+        ensures named { (p : Place) → named notes.new.made p ≡ None → named notes.old.made p ≡ None }
+        ensures numbers { notes.old.numbers ≤ notes.new.numbers + 1 }
+        ensures completions { notes.old.completions ≤ notes.new.completions }
+        ensures others { notes.old.others ≤ notes.new.others }
+    {
+        match self {
+            Body::EventFd(counter) => {
+                notes.note_number(Place::EventCount(object), *counter)?;
+                *counter += number;
+                Ok(())
+            }
+            _ => unreachable!(),
+        }
+    }
+
+    /// Sets the counter of an eventfd to 0. Want of memory leaves it as it was.
+    pub(crate) fn clear(&mut self, object: u32, notes: &mut Recorder) -> Result<(), AllocError>
+        requires counter { IsSome (counter_in self.old) }
+        ensures ok { OnOk result (self.new ≡ on_counter (λ n. 0) self.old) }
+        ensures err { OnErr result (self.new ≡ self.old) }
+        ensures keeps { Keeps (object_owns object) (body_seen self.old) (body_seen self.new) notes.old.made notes.new.made }
+        ensures named { (p : Place) → named notes.new.made p ≡ None → named notes.old.made p ≡ None }
+        ensures numbers { notes.old.numbers ≤ notes.new.numbers + 1 }
+        ensures completions { notes.old.completions ≤ notes.new.completions }
+        ensures others { notes.old.others ≤ notes.new.others }
+    {
+        match self {
+            Body::EventFd(counter) => {
+                notes.note_number(Place::EventCount(object), *counter)?;
+                *counter = 0;
+                Ok(())
+            }
             _ => unreachable!(),
         }
     }

@@ -26,6 +26,13 @@ impl Held {
         }
     }
 
+    /// Whether the descriptor at an index is held; the first one has the number 3.
+    pub(crate) fn holds_at(&self, index: usize) -> bool
+        ensures { result ≡ is_held self.now (index + 3) }
+    {
+        index < 64 && self.counts[index] > 0
+    }
+
     /// One more request holds a descriptor. A number that none of them has isn't counted.
     pub fn add(&mut self, fd: u32)
         requires { holders self.old fd < 2 ^ 32 - 1 }

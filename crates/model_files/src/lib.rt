@@ -1,16 +1,22 @@
-//! Memory, objects and their descriptors, without a kernel or a real file (read(2), write(2), fsync(2)).
+//! Memory, objects and their descriptors, without a kernel, a real file or a real pipe (read(2), write(2),
+//! fsync(2), pipe(7), eventfd(2)).
 #![tactic(auto)]
 
 pub mod body;
 pub mod bytes;
 pub mod descriptor;
 mod differing;
+mod ends;
 pub mod file;
+mod flow;
 pub mod held;
 pub mod laws;
 mod pages;
 pub mod pipe;
+#[cfg(test)]
+mod pipe_tests;
 mod start;
+pub mod stock;
 #[cfg(test)]
 mod tests;
 mod transfer;
@@ -21,4 +27,5 @@ pub use descriptor::DescriptorState;
 pub use file::RegularFile;
 pub use held::Held;
 pub use pipe::PipeBuffer;
+pub use stock::Stock;
 pub use world::World;

@@ -1,8 +1,10 @@
 //! Pipes.
-ghost use Rattle.std.specs.Prelude.{◌≡◌, ◌≤◌, IfOk, Some, length};
+ghost use Rattle.std.specs.Prelude.{◌≡◌, ◌+◌, ◌-◌, ◌%◌, ◌<◌, ◌≤◌, ◌^◌, ◌++◌, min, IfOk, Some, length, take, drop};
+ghost use Rattle.model_files.specs.Files.{overwritten, part};
 ghost use Rattle.model_files.specs.Objects.{CanPut, PutsIn};
-ghost use Rattle.model_files.specs.Pipes.{pipe_seen, pipe_start};
+ghost use Rattle.model_files.specs.Pipes.{pipe_seen, pipe_start, bytes_from, filled, room_in, put_in, taken_out, GivesOut};
 
+use crate::bytes::overwrite;
 use places::{At, Place, Value};
 use std::alloc::{AllocError, Global};
 use std::marker::Model;
@@ -63,6 +65,75 @@ impl PipeBuffer {
             put: self.put,
             taken: self.taken,
         })
+    }
+
+    /// How many bytes are in it.
+    pub(crate) fn filled(&self) -> u64
+        ensures { result ≡ filled self.now }
+    {
+        self.put.saturating_sub(self.taken)
+    }
+
+    /// How many bytes it can have.
+    pub(crate) fn capacity(&self) -> u64
+        ensures { result ≡ length self.now.slots }
+    {
+        self.slots.len() as u64
+    }
+
+    /// How many bytes went in.
+    pub(crate) fn put(&self) -> u64
+        ensures { result ≡ self.now.put }
+    {
+        self.put
+    }
+
+    /// How many came out.
+    pub(crate) fn taken(&self) -> u64
+        ensures { result ≡ self.now.taken }
+    {
+        self.taken
+    }
+
+    pub(crate) fn slots(&self) -> &[u8]
+        ensures { result.now ≡ self.now.slots }
+    {
+        &self.slots
+    }
+
+    /// Its oldest bytes, in two parts: up to the last slot, and from the first slot on.
+    pub(crate) fn oldest(&self, count: usize) -> (&[u8], &[u8])
+        requires some { 0 < length self.now.slots }
+        requires within { count ≤ length self.now.slots }
+        ensures bytes { result.0.now ++ result.1.now ≡ bytes_from self.now.slots self.now.taken count }
+        ensures len { length result.0.now + length result.1.now ≡ count }
+    {
+        let at = (self.taken % self.slots.len() as u64) as usize;
+        let first = count.min(self.slots.len() - at);
+        (&self.slots[at..at + first], &self.slots[..count - first])
+    }
+
+    /// Its oldest bytes came out.
+    pub(crate) fn take(&mut self, count: u32)
+        requires { GivesOut count self.old }
+        ensures { self.new ≡ taken_out count self.old }
+    {
+        let _most = self.put;
+        self.taken += count as u64;
+    }
+
+    /// Puts bytes in behind the others.
+    pub(crate) fn push(&mut self, others: &[u8])
+        requires some { 0 < length self.old.slots }
+        requires room { length others.now ≤ length self.old.slots }
+        requires count { self.old.put + length others.now < 2 ^ 64 }
+        ensures { self.new ≡ put_in others.now self.old }
+    {
+        let at = (self.put % self.slots.len() as u64) as usize;
+        let (first, second) = others.split_at(others.len().min(self.slots.len() - at));
+        overwrite(&mut self.slots, at, first);
+        overwrite(&mut self.slots, 0, second);
+        self.put += others.len() as u64;
     }
 
     /// Sets what stands in one of its places.

@@ -1,18 +1,23 @@
 //! Memory, objects and descriptors together.
-ghost use Rattle.std.specs.Prelude.{◌≡◌, ◌+◌, ◌<◌, ◌≤◌, ℕ, IsSome, IfOk, IfSome, IsSomeAnd, None, OnErr, OnOk, Some, length, option_map, slice_get};
+ghost use Rattle.std.specs.Prelude.{◌≡◌, ◌+◌, ◌<◌, ◌≤◌, ◌^◌, ℕ, IsSome, IfOk, IfSome, IsSomeAnd, None, OnErr, OnOk, Some, length, option_map, slice_get};
 ghost use Rattle.places.specs.View.{Keeps, named, put_at};
 ghost use Rattle.places.specs.declared.place.Place.{Place};
-ghost use Rattle.places.specs.declared.place.Place.TheVariants.{MemoryByte, FileByte, DurableByte, Position};
+ghost use Rattle.places.specs.declared.place.Place.TheVariants.{MemoryByte, FileByte, DurableByte, PipeByte, Position};
+ghost use Rattle.places.specs.declared.notes.runs.Region.TheVariants.{Memory};
+ghost use Rattle.places.specs.Notes.{HasAsMuch};
 ghost use Rattle.places.specs.declared.object.Object.{Object};
-ghost use Rattle.model_files.specs.Files.{FileFormed};
-ghost use Rattle.model_files.specs.Objects.{object_in};
-ghost use Rattle.model_files.specs.Worlds.{world_owns, world_seen, world_can_put, descriptor_of, descriptor_at, file_of, mark_of, world_read, world_written, world_synced, world_at, world_closed, world_stored, world_start, ContentsFit, OneSetup};
+ghost use Rattle.model_files.specs.Differing.{NotedAmong, NamesDiffering};
+ghost use Rattle.model_files.specs.Files.{part, FileFormed};
+ghost use Rattle.model_files.specs.Objects.{object_in, NamesChanges};
+ghost use Rattle.model_files.specs.Pipes.{GivesOut, TakesIn};
+ghost use Rattle.model_files.specs.Worlds.{world_owns, world_seen, world_can_put, descriptor_of, descriptor_at, file_of, mark_of, world_read, world_written, world_synced, world_at, world_closed, world_stored, world_taken, world_put, world_added, world_cleared, world_start, oldest, number_at, pipe_of, counter_of, stock_of, StockFits, ContentsFit, OneSetup};
 
 use crate::body::Body;
 use crate::bytes::{overwrite, pad};
 use crate::descriptor::DescriptorState;
 use crate::differing::note_differing;
 use crate::start::{copy_objects, start_descriptors, start_objects};
+use crate::stock::Stock;
 use places::{At, Descriptor, Object, Part, Place, Recorder, Region, Value};
 use std::alloc::{AllocError, Global};
 use std::marker::Model;
@@ -158,6 +163,40 @@ impl World {
         }
     }
 
+    /// How much an object holds, by its number.
+    pub fn stock(&self, object: u32) -> Option<Stock>
+        ensures value { result ≡ stock_of self.now object }
+        ensures fits { IfSome result StockFits }
+    {
+        match self.objects.get(object as usize) {
+            Some(body) => Some(body.stock()),
+            None => None,
+        }
+    }
+
+    pub(crate) fn body(&self, object: u32) -> Option<&Body>
+        ensures { option_map (λ b. b.now) result ≡ slice_get self.now.objects object }
+    {
+        self.objects.get(object as usize)
+    }
+
+    pub(crate) fn descriptors(&self) -> &[DescriptorState]
+        ensures { result.now ≡ self.now.descriptors }
+    {
+        &self.descriptors
+    }
+
+    /// The number of the eight bytes from an address on, the lowest first.
+    pub fn number_at(&self, address: u32) -> u64
+        requires { address + 8 ≤ length self.now.memory }
+        ensures { result ≡ number_at self.now address }
+    {
+        match self.memory[address as usize..].first_chunk::<8>() {
+            Some(bytes) => u64::from_le_bytes(*bytes),
+            None => unreachable!(),
+        }
+    }
+
     /// The memory.
     pub fn memory(&self) -> &[u8]
         ensures { result.now ≡ self.now.memory }
@@ -265,6 +304,169 @@ impl World {
         ensures others { notes.old.others ≤ notes.new.others }
     {
         self.objects[object as usize].sync(object, notes)
+    }
+
+    /// The oldest bytes of a pipe come out, into memory at an address (pipe(7)). Want of memory for the notes
+    /// leaves all as it was.
+    pub fn take_pipe(
+        &mut self,
+        object: u32,
+        count: u32,
+        address: u32,
+        notes: &mut Recorder,
+    ) -> Result<(), AllocError>
+        requires there { IsSomeAnd (pipe_of self.old object) (GivesOut count) }
+        requires in_memory { address + count ≤ length self.old.memory }
+        requires fits { address + count ≤ 65536 }
+        requires fresh { (i : ℕ) → i < count → named notes.old.made (MemoryByte (address + i)) ≡ None }
+        ensures ok { OnOk result (self.new ≡ world_taken object count address self.old) }
+        ensures err { OnErr result (self.new ≡ self.old) }
+        ensures keeps { Keeps world_owns (world_seen self.old) (world_seen self.new) notes.old.made notes.new.made }
+        ensures named { (p : Place) → named notes.new.made p ≡ None → named notes.old.made p ≡ None }
+        ensures numbers { notes.old.numbers ≤ notes.new.numbers + 1 }
+        ensures completions { notes.old.completions ≤ notes.new.completions }
+        ensures others { notes.old.others ≤ notes.new.others }
+    {
+        self.note_taken(object, count, address, notes)?;
+        self.bring_oldest(object, count, address);
+        self.objects[object as usize].take(count);
+        Ok(())
+    }
+
+    // The oldest bytes of a pipe stand in memory.
+    fn bring_oldest(&mut self, object: u32, count: u32, address: u32)
+        requires there { IsSomeAnd (pipe_of self.old object) (GivesOut count) }
+        requires in_memory { address + count ≤ length self.old.memory }
+        ensures { self.new ≡ world_stored address (oldest count (pipe_of self.old object)) self.old }
+    {
+        let Body::Pipe(pipe) = &self.objects[object as usize] else {
+            unreachable!()
+        };
+        let (first, second) = pipe.oldest(count as usize);
+        let to = address as usize;
+        overwrite(&mut self.memory, to, first);
+        overwrite(&mut self.memory, to + first.len(), second);
+    }
+
+    fn note_taken(
+        &self,
+        object: u32,
+        count: u32,
+        address: u32,
+        notes: &mut Recorder,
+    ) -> Result<(), AllocError>
+        requires there { IsSomeAnd (pipe_of self.now object) (GivesOut count) }
+        requires in_memory { address + count ≤ length self.now.memory }
+        requires fits { address + count ≤ 65536 }
+        requires fresh { (i : ℕ) → i < count → named notes.old.made (MemoryByte (address + i)) ≡ None }
+        ensures keeps { Keeps world_owns (world_seen self.now) (world_seen self.now) notes.old.made notes.new.made }
+        ensures noted { OnOk result (NamesChanges world_owns (world_seen self.now) (world_seen (world_taken object count address self.now)) notes.new.made) }
+        ensures named { (p : Place) → named notes.new.made p ≡ None → named notes.old.made p ≡ None }
+        ensures numbers { notes.old.numbers ≤ notes.new.numbers + 1 }
+        ensures completions { notes.old.completions ≤ notes.new.completions }
+        ensures others { notes.old.others ≤ notes.new.others }
+    {
+        let Body::Pipe(pipe) = &self.objects[object as usize] else {
+            unreachable!()
+        };
+        let (first, second) = pipe.oldest(count as usize);
+        self.note_memory(address, first, notes)?;
+        self.note_memory(address + first.len() as u32, second, notes)?;
+        notes.note_number(Place::TakenCount(object), pipe.taken())?;
+        Ok(())
+    }
+
+    // Notes the bytes of memory that others are to stand in place of.
+    fn note_memory(
+        &self,
+        address: u32,
+        others: &[u8],
+        notes: &mut Recorder,
+    ) -> Result<(), AllocError>
+        requires in_memory { address + length others.now ≤ length self.now.memory }
+        requires fits { address + length others.now ≤ 65536 }
+        requires fresh { (i : ℕ) → i < length others.now → named notes.old.made (MemoryByte (address + i)) ≡ None }
+        ensures noted { OnOk result (NamesDiffering notes.new.made Memory address (part self.now.memory address (length others.now)) others.now) }
+        ensures among { NotedAmong notes.old.made notes.new.made Memory address (part self.now.memory address (length others.now)) }
+        ensures room { HasAsMuch notes.old notes.new }
+    {
+        let at = address as usize;
+        let old = &self.memory[at..at + others.len()];
+        note_differing(Region::Memory, address, old, others, notes)
+    }
+
+    /// Bytes of memory, from an address on, go into a pipe (pipe(7)). Want of memory for the notes leaves all
+    /// as it was.
+    pub fn put_pipe(
+        &mut self,
+        object: u32,
+        count: u32,
+        address: u32,
+        notes: &mut Recorder,
+    ) -> Result<(), AllocError>
+        requires room { IsSomeAnd (pipe_of self.old object) (TakesIn count) }
+        requires in_memory { address + count ≤ length self.old.memory }
+        requires fresh { (i : ℕ) → i < 65536 → named notes.old.made (PipeByte object i) ≡ None }
+        ensures ok { OnOk result (self.new ≡ world_put object count address self.old) }
+        ensures err { OnErr result (self.new ≡ self.old) }
+        ensures keeps { Keeps world_owns (world_seen self.old) (world_seen self.new) notes.old.made notes.new.made }
+        ensures named { (p : Place) → named notes.new.made p ≡ None → named notes.old.made p ≡ None }
+        ensures numbers { notes.old.numbers ≤ notes.new.numbers + 1 }
+        ensures completions { notes.old.completions ≤ notes.new.completions }
+        ensures others { notes.old.others ≤ notes.new.others }
+    {
+        let start = address as usize;
+        let bytes = &self.memory[start..start + count as usize];
+        self.objects[object as usize].put(object, bytes, notes)
+    }
+
+    /// Adds a number to the counter of an eventfd (eventfd(2)). Want of memory leaves it as it was.
+    pub fn add_event(
+        &mut self,
+        object: u32,
+        number: u64,
+        notes: &mut Recorder,
+    ) -> Result<(), AllocError>
+        requires room { IsSomeAnd (counter_of self.old object) (λ n. n + number < 2 ^ 64) }
+        ensures ok { OnOk result (self.new ≡ world_added object number self.old) }
+        ensures err { OnErr result (self.new ≡ self.old) }
+        ensures keeps { Keeps world_owns (world_seen self.old) (world_seen self.new) notes.old.made notes.new.made }
+        ensures named { (p : Place) → named notes.new.made p ≡ None → named notes.old.made p ≡ None }
+        ensures numbers { notes.old.numbers ≤ notes.new.numbers + 1 }
+        ensures completions { notes.old.completions ≤ notes.new.completions }
+        ensures others { notes.old.others ≤ notes.new.others }
+    {
+        self.objects[object as usize].add(object, number, notes)
+    }
+
+    /// The eight bytes of an eventfd's counter come into memory at an address, and it is 0 (eventfd(2)).
+    /// Want of memory for the notes leaves all as it was.
+    pub fn clear_event(
+        &mut self,
+        object: u32,
+        address: u32,
+        notes: &mut Recorder,
+    ) -> Result<(), AllocError>
+        requires counter { IsSome (counter_of self.old object) }
+        requires in_memory { address + 8 ≤ length self.old.memory }
+        requires fits { address + 8 ≤ 65536 }
+        requires fresh { (i : ℕ) → i < 8 → named notes.old.made (MemoryByte (address + i)) ≡ None }
+        ensures ok { OnOk result (self.new ≡ world_cleared object address self.old) }
+        ensures err { OnErr result (self.new ≡ self.old) }
+        ensures keeps { Keeps world_owns (world_seen self.old) (world_seen self.new) notes.old.made notes.new.made }
+        ensures named { (p : Place) → named notes.new.made p ≡ None → named notes.old.made p ≡ None }
+        ensures numbers { notes.old.numbers ≤ notes.new.numbers + 1 }
+        ensures completions { notes.old.completions ≤ notes.new.completions }
+        ensures others { notes.old.others ≤ notes.new.others }
+    {
+        let Body::EventFd(counter) = &self.objects[object as usize] else {
+            unreachable!()
+        };
+        let bytes = counter.to_le_bytes();
+        self.note_memory(address, &bytes, notes)?;
+        self.objects[object as usize].clear(object, notes)?;
+        overwrite(&mut self.memory, address as usize, &bytes);
+        Ok(())
     }
 
     /// Moves a descriptor of a file to a position (lseek(2)). Want of memory leaves it where it was.

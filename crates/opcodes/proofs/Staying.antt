@@ -1,21 +1,24 @@
 -- What the end of a request leaves as it was.
 use Rattle.std.proofs.Common.{◌≡◌, ℕ, ℤ, pos, negsuc, zero, suc, Bool, true, false, cond, refl, sym, ◌∙◌, ap, ◌+◌, ◌<◌, ◌≤◌, arith}
-use Rattle.std.specs.Prelude.{Option, Some, None, if◌then◌else◌}
+use Rattle.std.specs.Prelude.{Option, Some, None, IsSomeAnd, if◌then◌else◌, ◌^◌}
 use Rattle.std.specs.Option.{option_and_then}
 use Rattle.entries.specs.declared.entry.Sqe.{Sqe}
 use Rattle.entries.specs.declared.row.Row.{Row}
 use Rattle.model_files.specs.declared.descriptor.DescriptorState.{DescriptorState}
-use Rattle.model_files.specs.Worlds.{WorldState, WorldFormed, OneSetup, descriptor_of, world_at, world_read, world_written, world_synced}
-use Rattle.model_files.proofs.Forming.{world_at_formed, world_read_formed, world_written_formed, world_synced_formed}
-use Rattle.model_files.proofs.Fixing.{setup_self, setup_then, setup_read, setup_written, setup_synced}
+use Rattle.model_files.specs.declared.stock.Stock.{Stock}
+use Rattle.model_files.specs.declared.stock.Stock.TheVariants.{File, Pipe, EventFd}
+use Rattle.model_files.specs.Pipes.{GivesOut, TakesIn}
+use Rattle.model_files.specs.Worlds.{WorldState, WorldFormed, OneSetup, PutsWithin, descriptor_of, number_at, pipe_of, stock_of, world_at, world_read, world_written}
+use Rattle.model_files.proofs.Forming.{world_at_formed, world_read_formed, world_written_formed, world_synced_formed, world_taken_formed, world_put_formed, world_added_formed, world_cleared_formed}
+use Rattle.model_files.proofs.Fixing.{setup_self, setup_then, setup_read, setup_written, setup_synced, setup_taken, setup_put, setup_added, setup_cleared}
 use Rattle.opcodes.specs.declared.choice.Choice.{Choice}
 use Rattle.opcodes.specs.declared.op.Op.{Op}
 use Rattle.opcodes.specs.declared.op.Op.TheVariants.{Fsync, Read, Write}
 use Rattle.opcodes.specs.declared.ending.Outcome.TheVariants.{Res}
 use Rattle.opcodes.specs.Check.{op_of}
 use Rattle.opcodes.specs.Outcomes.{outcome_of, held_descriptor, is_at_position, offset_of, position_of}
-use Rattle.opcodes.specs.Effects.{moved_on, bytes_read, bytes_written, done_by, done_through, done_holding, world_after}
-use Rattle.opcodes.proofs.Transferring.{Moves, row_read, row_written, setup_moved}
+use Rattle.opcodes.specs.Effects.{moved_on, bytes_read, bytes_written, bytes_taken, bytes_put, done_by, done_through, done_holding, world_after}
+use Rattle.opcodes.proofs.Transferring.{Moves, row_read, row_written, setup_moved, gives_out, takes_in, counts_to}
 
 -- The world that follows is well formed, and one of the setup.
 pub record Stays (w v : WorldState) : Type 0 where
@@ -61,16 +64,36 @@ stays_written entry fd d (suc k) w f there m =
     (record { formed = formed; setup = setup_written d.object offset (suc k) entry.addr w f within })
     (stays_moved entry fd d (suc k) (world_written d.object offset (suc k) entry.addr w) formed there within)
 
+stays_taken : (entry : Sqe) (o k : ℕ) (w : WorldState) → WorldFormed w → entry.addr + k ≤ 65536 → IsSomeAnd (pipe_of w o) (GivesOut k) → Stays w (bytes_taken entry o k w)
+stays_taken entry o zero w f l g = stays_self w f
+stays_taken entry o (suc k) w f l g = record { formed = world_taken_formed o (suc k) entry.addr w f l g; setup = setup_taken o (suc k) entry.addr w f l g }
+
+stays_put : (entry : Sqe) (o k : ℕ) (w : WorldState) → WorldFormed w → IsSomeAnd (pipe_of w o) (TakesIn k) → Stays w (bytes_put entry o k w)
+stays_put entry o zero w f g = stays_self w f
+stays_put entry o (suc k) w f g = record { formed = world_put_formed o (suc k) entry.addr w f g; setup = setup_put o (suc k) entry.addr w }
+
 -- whatever a request came to
-pub stays_after : (w : WorldState) (row : Row) (res : ℤ) (c : Choice) → WorldFormed w → outcome_of w row c ≡ Res res → Stays w (world_after row res w)
-stays_after w row (negsuc n) c f h = stays_self w f
-stays_after w row (pos k) c f h = holding row.held refl
+pub stays_after : (held : ℕ → Bool) (w : WorldState) (row : Row) (res : ℤ) (c : Choice) → WorldFormed w → PutsWithin (2 ^ 63) w → outcome_of held w row c ≡ Res res → Stays w (world_after row res w)
+stays_after held w row (negsuc n) c f puts h = stays_self w f
+stays_after held w row (pos k) c f puts h = holding row.held refl
   where
-    through : (fd : ℕ) (d : DescriptorState) → descriptor_of w fd ≡ Some d → held_descriptor w row ≡ Some d → (o : Option Op) → op_of row.entry.opcode ≡ o → Stays w (done_by row.entry o fd d k w)
-    through fd d there held (Some Fsync) e = record { formed = world_synced_formed d.object w f; setup = setup_synced d.object w f }
-    through fd d there held (Some Read) e = stays_read row.entry fd d k w f there (row_read w row d c (pos k) k f e held refl h)
-    through fd d there held (Some Write) e = stays_written row.entry fd d k w f there (row_written w row d c (pos k) k e held refl h)
-    through fd d there held o e = stays_self w f
+    through : (fd : ℕ) (d : DescriptorState) → descriptor_of w fd ≡ Some d → held_descriptor w row ≡ Some d → (o : Option Op) (s : Option Stock) → op_of row.entry.opcode ≡ o → stock_of w d.object ≡ s → Stays w (done_by row.entry o s fd d k w)
+    through fd d there here (Some Fsync) (Some (File n)) e i = record { formed = world_synced_formed d.object w f; setup = setup_synced d.object w f }
+    through fd d there here (Some Read) (Some (File n)) e i = stays_read row.entry fd d k w f there (row_read held w row d (File n) c (pos k) k f e here i refl h)
+    through fd d there here (Some Read) (Some (Pipe n m)) e i =
+        let t = row_read held w row d (Pipe n m) c (pos k) k f e here i refl h in
+        stays_taken row.entry d.object k w f t.1 (gives_out w f d.object k n m i t.0)
+    through fd d there here (Some Read) (Some (EventFd n)) e i =
+        let t = row_read held w row d (EventFd n) c (pos k) k f e here i refl h in
+        record { formed = world_cleared_formed d.object row.entry.addr w f t; setup = setup_cleared d.object row.entry.addr w f t }
+    through fd d there here (Some Write) (Some (File n)) e i = stays_written row.entry fd d k w f there (row_written held w row d (File n) c (pos k) k e here i refl h)
+    through fd d there here (Some Write) (Some (Pipe n m)) e i =
+        let t = row_written held w row d (Pipe n m) c (pos k) k e here i refl h in
+        stays_put row.entry d.object k w f (takes_in w f puts d.object k n m i t.0)
+    through fd d there here (Some Write) (Some (EventFd n)) e i =
+        let t = row_written held w row d (EventFd n) c (pos k) k e here i refl h in
+        record { formed = world_added_formed d.object (number_at w row.entry.addr) w f (counts_to w d.object n (number_at w row.entry.addr) i t.1); setup = setup_added d.object (number_at w row.entry.addr) w }
+    through fd d there here o s e i = stays_self w f
 
     holding : (x : Option ℕ) → row.held ≡ x → Stays w (done_holding row.entry x k w)
     holding None e = stays_self w f
@@ -78,4 +101,4 @@ stays_after w row (pos k) c f h = holding row.held refl
       where
         at : (y : Option DescriptorState) → descriptor_of w fd ≡ y → Stays w (done_through row.entry fd y k w)
         at None g = stays_self w f
-        at (Some d) g = through fd d g (ap (option_and_then (descriptor_of w)) e ∙ g) (op_of row.entry.opcode) refl
+        at (Some d) g = through fd d g (ap (option_and_then (descriptor_of w)) e ∙ g) (op_of row.entry.opcode) (stock_of w d.object) refl refl

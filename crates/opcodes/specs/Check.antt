@@ -3,7 +3,7 @@
 use Rattle.std.specs.Prelude.{ℕ, ℤ, negsuc, ◌==◌, nat_le, Option, Some, None, Result, Ok, Err, if◌then◌else◌, bit_and}
 use Rattle.entries.specs.declared.entry.Sqe.{Sqe}
 use Rattle.opcodes.specs.declared.op.Op.{Op}
-use Rattle.opcodes.specs.declared.op.Op.TheVariants.{Nop, Fsync, Read, Write}
+use Rattle.opcodes.specs.declared.op.Op.TheVariants.{Nop, Fsync, PollAdd, Read, Write}
 
 -- the invalid argument of errno(3), negated
 abbrev pub invalid : Result Op ℤ
@@ -18,14 +18,16 @@ abbrev pub op_of : ℕ → Option Op
 op_of opcode =
     if opcode == 0 then Some Nop else
     if opcode == 3 then Some Fsync else
+    if opcode == 6 then Some PollAdd else
     if opcode == 22 then Some Read else
     if opcode == 23 then Some Write else
     None
 
--- what an entry of each opcode is tested for; IORING_FSYNC_DATASYNC, which is 1, changes nothing
+-- what an entry of each opcode is tested for; IORING_FSYNC_DATASYNC, which is 1, changes nothing; the length of a POLL_ADD is for command flags, which aren't supported
 abbrev pub tested : Sqe → Op → Result Op ℤ
 tested entry Nop = Ok Nop
 tested entry Fsync = if nat_le entry.operation_flags 1 then Ok Fsync else invalid
+tested entry PollAdd = if entry.len == 0 then Ok PollAdd else invalid
 tested entry Read = if entry.operation_flags == 0 then Ok Read else invalid
 tested entry Write = if entry.operation_flags == 0 then Ok Write else invalid
 tested entry op = invalid

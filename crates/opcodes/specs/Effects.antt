@@ -1,9 +1,11 @@
--- What the end of a request does to memory, objects and descriptors (read(2), write(2), fsync(2)).
+-- What the end of a request does to memory, objects and descriptors (read(2), write(2), fsync(2), pipe(7), eventfd(2)).
 use Rattle.std.specs.Prelude.{ℕ, ℤ, pos, negsuc, zero, suc, ◌+◌, Option, Some, None, if◌then◌else◌}
 use Rattle.entries.specs.declared.entry.Sqe.{Sqe}
 use Rattle.entries.specs.declared.row.Row.{Row}
 use Rattle.model_files.specs.declared.descriptor.DescriptorState.{DescriptorState}
-use Rattle.model_files.specs.Worlds.{WorldState, descriptor_of, world_read, world_written, world_synced, world_at}
+use Rattle.model_files.specs.declared.stock.Stock.{Stock}
+use Rattle.model_files.specs.declared.stock.Stock.TheVariants.{File, Pipe, EventFd}
+use Rattle.model_files.specs.Worlds.{WorldState, descriptor_of, number_at, stock_of, world_added, world_at, world_cleared, world_put, world_read, world_synced, world_taken, world_written}
 use Rattle.opcodes.specs.declared.op.Op.{Op}
 use Rattle.opcodes.specs.declared.op.Op.TheVariants.{Nop, Fsync, Read, Write}
 use Rattle.opcodes.specs.Check.{op_of}
@@ -23,16 +25,29 @@ abbrev pub bytes_written : Sqe → ℕ → DescriptorState → ℕ → WorldStat
 bytes_written entry fd d zero w = w
 bytes_written entry fd d (suc k) w = moved_on entry fd d.position (suc k) (world_written d.object (offset_of entry (position_of (Some d))) (suc k) entry.addr w)
 
--- what a good result did through a descriptor
-abbrev pub done_by : Sqe → Option Op → ℕ → DescriptorState → ℕ → WorldState → WorldState
-done_by entry (Some Fsync) fd d k w = world_synced d.object w
-done_by entry (Some Read) fd d k w = bytes_read entry fd d k w
-done_by entry (Some Write) fd d k w = bytes_written entry fd d k w
-done_by entry op fd d k w = w
+-- k bytes come out of a pipe, or go into it; none change nothing
+abbrev pub bytes_taken : Sqe → ℕ → ℕ → WorldState → WorldState
+bytes_taken entry o zero w = w
+bytes_taken entry o (suc k) w = world_taken o (suc k) entry.addr w
+
+abbrev pub bytes_put : Sqe → ℕ → ℕ → WorldState → WorldState
+bytes_put entry o zero w = w
+bytes_put entry o (suc k) w = world_put o (suc k) entry.addr w
+
+-- what a good result did through a descriptor, by how much its object held
+abbrev pub done_by : Sqe → Option Op → Option Stock → ℕ → DescriptorState → ℕ → WorldState → WorldState
+done_by entry (Some Fsync) (Some (File len)) fd d k w = world_synced d.object w
+done_by entry (Some Read) (Some (File len)) fd d k w = bytes_read entry fd d k w
+done_by entry (Some Read) (Some (Pipe filled capacity)) fd d k w = bytes_taken entry d.object k w
+done_by entry (Some Read) (Some (EventFd counter)) fd d k w = world_cleared d.object entry.addr w
+done_by entry (Some Write) (Some (File len)) fd d k w = bytes_written entry fd d k w
+done_by entry (Some Write) (Some (Pipe filled capacity)) fd d k w = bytes_put entry d.object k w
+done_by entry (Some Write) (Some (EventFd counter)) fd d k w = world_added d.object (number_at w entry.addr) w
+done_by entry op stock fd d k w = w
 
 abbrev pub done_through : Sqe → ℕ → Option DescriptorState → ℕ → WorldState → WorldState
 done_through entry fd None k w = w
-done_through entry fd (Some d) k w = done_by entry (op_of entry.opcode) fd d k w
+done_through entry fd (Some d) k w = done_by entry (op_of entry.opcode) (stock_of w d.object) fd d k w
 
 abbrev pub done_holding : Sqe → Option ℕ → ℕ → WorldState → WorldState
 done_holding entry None k w = w

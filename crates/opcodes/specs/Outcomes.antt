@@ -1,17 +1,19 @@
--- What an issued request comes to as it ends, by what a kernel chooses (read(2), write(2), fsync(2), io_uring_enter(2)).
-use Rattle.std.specs.Prelude.{ℕ, ℤ, pos, negsuc, ◌+◌, ◌-◌, ◌^◌, ◌==◌, ◌&&◌, not, nat_lt, nat_le, min, unwrap_or, Bool, Option, Some, None, option_map, if◌then◌else◌}
+-- What an issued request comes to as it ends, by what a kernel chooses (read(2), write(2), fsync(2), pipe(7), eventfd(2), poll(2), io_uring_enter(2)).
+use Rattle.std.specs.Prelude.{ℕ, ℤ, pos, negsuc, ◌+◌, ◌-◌, ◌^◌, ◌==◌, ◌&&◌, not, nat_lt, nat_le, min, unwrap_or, Bool, false, Option, Some, None, if◌then◌else◌, bit_and, bit_or}
 use Rattle.std.specs.Option.{option_and_then}
 use Rattle.entries.specs.declared.entry.Sqe.{Sqe}
 use Rattle.entries.specs.declared.row.Row.{Row}
 use Rattle.model_files.specs.declared.descriptor.DescriptorState.{DescriptorState}
-use Rattle.model_files.specs.Files.{FileState}
-use Rattle.model_files.specs.Worlds.{WorldState, descriptor_of, file_of}
+use Rattle.model_files.specs.declared.stock.Stock.{Stock}
+use Rattle.model_files.specs.declared.stock.Stock.TheVariants.{File, Pipe, EventFd}
+use Rattle.model_files.specs.Ends.{has_reader, has_writer, mask_behind}
+use Rattle.model_files.specs.Worlds.{WorldState, descriptor_of, number_at, stock_of}
 use Rattle.opcodes.specs.declared.choice.Choice.{Choice}
 use Rattle.opcodes.specs.declared.choice.Choice.TheVariants.{Full, Short, Eio}
 use Rattle.opcodes.specs.declared.op.Op.{Op}
-use Rattle.opcodes.specs.declared.op.Op.TheVariants.{Nop, Fsync, Read, Write}
+use Rattle.opcodes.specs.declared.op.Op.TheVariants.{Nop, Fsync, PollAdd, Read, Write}
 use Rattle.opcodes.specs.declared.ending.Outcome.{Outcome}
-use Rattle.opcodes.specs.declared.ending.Outcome.TheVariants.{Res, BadChoice}
+use Rattle.opcodes.specs.declared.ending.Outcome.TheVariants.{Res, Waits, BadChoice}
 use Rattle.opcodes.specs.Check.{op_of}
 
 -- ---- what a row holds
@@ -19,18 +21,27 @@ use Rattle.opcodes.specs.Check.{op_of}
 abbrev pub held_descriptor : WorldState → Row → Option DescriptorState
 held_descriptor w row = option_and_then (descriptor_of w) row.held
 
--- how many bytes its file has, if it is one of a file
-abbrev pub length_behind : WorldState → Option DescriptorState → Option ℕ
-length_behind w None = None
-length_behind w (Some d) = option_map (λ (f : FileState). f.len) (file_of w d.object)
+-- how much its object holds
+abbrev pub stock_behind : WorldState → Option DescriptorState → Option Stock
+stock_behind w None = None
+stock_behind w (Some d) = stock_of w d.object
 
 abbrev pub position_of : Option DescriptorState → ℕ
 position_of None = 0
 position_of (Some d) = unwrap_or d.position 0
 
+-- whether its pipe has a writer, or a reader, where `held` says which descriptors requests under way hold
+abbrev pub writer_behind : (ℕ → Bool) → WorldState → Option DescriptorState → Bool
+writer_behind held w None = false
+writer_behind held w (Some d) = has_writer held w d.object
+
+abbrev pub reader_behind : (ℕ → Bool) → WorldState → Option DescriptorState → Bool
+reader_behind held w None = false
+reader_behind held w (Some d) = has_reader held w d.object
+
 -- ---- results
 
--- a result that only a full end has, and nothing moves
+-- a result that only a full end has
 abbrev pub fixed : ℤ → Choice → Outcome
 fixed res Full = Res res
 fixed res (Short n) = BadChoice
@@ -58,37 +69,100 @@ is_bad_offset entry = nat_le (2 ^ 63) entry.off && not (is_at_position entry)
 abbrev pub offset_of : Sqe → ℕ → ℕ
 offset_of entry position = if is_at_position entry then position else entry.off
 
--- ---- a line for each opcode; objects other than files aren't built yet
+-- ---- files
 
-abbrev pub fsync_outcome : Option ℕ → Choice → Outcome
-fsync_outcome None c = BadChoice
-fsync_outcome (Some len) Full = Res (pos 0)
-fsync_outcome (Some len) (Short n) = BadChoice
-fsync_outcome (Some len) Eio = Res (negsuc 4)
+abbrev pub file_synced : Choice → Outcome
+file_synced Full = Res (pos 0)
+file_synced (Short n) = BadChoice
+file_synced Eio = Res (negsuc 4)
 
 -- a READ moves what stands from the offset on, no more than it asks for
-abbrev pub read_outcome : Sqe → ℕ → Option ℕ → Choice → Outcome
-read_outcome entry position None c = BadChoice
-read_outcome entry position (Some len) c =
+abbrev pub file_read : Sqe → ℕ → ℕ → Choice → Outcome
+file_read entry position len c =
     if is_bad_offset entry then fixed (negsuc 21) c
     else transferred (min entry.len (len - offset_of entry position)) c
 
 -- a WRITE moves what there is room for from the offset on, no more than it asks for
-abbrev pub write_outcome : Sqe → ℕ → Option ℕ → Choice → Outcome
-write_outcome entry position None c = BadChoice
-write_outcome entry position (Some len) c =
+abbrev pub file_written : Sqe → ℕ → Choice → Outcome
+file_written entry position c =
     if is_bad_offset entry then fixed (negsuc 21) c
     else if entry.len == 0 then fixed (pos 0) c
     else if nat_le 65536 (offset_of entry position) then fixed (negsuc 26) c
     else transferred (min entry.len (65536 - offset_of entry position)) c
 
-abbrev pub outcome_on : Sqe → Option Op → ℕ → Option ℕ → Choice → Outcome
-outcome_on entry (Some Nop) position len c = fixed (pos 0) c
-outcome_on entry (Some Fsync) position len c = fsync_outcome len c
-outcome_on entry (Some Read) position len c = if passes_memory entry then fixed (negsuc 13) c else read_outcome entry position len c
-outcome_on entry (Some Write) position len c = if passes_memory entry then fixed (negsuc 13) c else write_outcome entry position len c
-outcome_on entry op position len c = BadChoice
+-- ---- pipes: a READ waits for a byte while there is a writer
 
--- what a request comes to
-abbrev pub outcome_of : WorldState → Row → Choice → Outcome
-outcome_of w row c = outcome_on row.entry (op_of row.entry.opcode) (position_of (held_descriptor w row)) (length_behind w (held_descriptor w row)) c
+abbrev pub pipe_read : ℕ → Bool → ℕ → Choice → Outcome
+pipe_read len writer filled c =
+    if len == 0 then fixed (pos 0) c
+    else if filled == 0 then (if writer then Waits else fixed (pos 0) c)
+    else fixed (pos (min len filled)) c
+
+-- as many bytes as 4,096 or the capacity, whichever is less, go in at once
+abbrev pub at_once : ℕ → ℕ
+at_once capacity = min 4096 capacity
+
+-- a WRITE of no more than that waits for room for all its bytes, a longer one for room for any
+abbrev pub waits_for_room : ℕ → ℕ → ℕ → Bool
+waits_for_room len room capacity = if nat_le len (at_once capacity) then nat_lt room len else room == 0
+
+abbrev pub pipe_written : ℕ → Bool → ℕ → ℕ → Choice → Outcome
+pipe_written len reader filled capacity c =
+    if len == 0 then fixed (pos 0) c
+    else if not reader then fixed (negsuc 31) c
+    else if waits_for_room len (capacity - filled) capacity then Waits
+    else fixed (pos (min len (capacity - filled))) c
+
+-- ---- eventfds: a READ waits for a counter above 0, a WRITE until the sum is at most 2 ^ 64 - 2
+
+abbrev pub event_read : ℕ → ℕ → Choice → Outcome
+event_read len counter c =
+    if nat_lt len 8 then fixed (negsuc 21) c
+    else if counter == 0 then Waits
+    else fixed (pos 8) c
+
+abbrev pub event_written : ℕ → ℕ → ℕ → Choice → Outcome
+event_written len counter number c =
+    if nat_lt len 8 then fixed (negsuc 21) c
+    else if number == 2 ^ 64 - 1 then fixed (negsuc 21) c
+    else if nat_lt (2 ^ 64 - 2) (counter + number) then Waits
+    else fixed (pos 8) c
+
+-- ---- a line for each opcode
+
+abbrev pub fsync_outcome : Option Stock → Choice → Outcome
+fsync_outcome None c = BadChoice
+fsync_outcome (Some (File len)) c = file_synced c
+fsync_outcome (Some (Pipe filled capacity)) c = fixed (negsuc 21) c
+fsync_outcome (Some (EventFd counter)) c = fixed (negsuc 21) c
+
+-- what is asked for and ready; an error and a hang-up, which are 8 and 16, always count
+abbrev pub ready_of : Sqe → ℕ → ℕ
+ready_of entry mask = bit_and mask (bit_or entry.operation_flags 24)
+
+abbrev pub poll_outcome : Sqe → ℕ → Choice → Outcome
+poll_outcome entry mask c = if ready_of entry mask == 0 then Waits else fixed (pos (ready_of entry mask)) c
+
+abbrev pub read_outcome : Sqe → ℕ → Bool → Option Stock → Choice → Outcome
+read_outcome entry position writer None c = BadChoice
+read_outcome entry position writer (Some (File len)) c = file_read entry position len c
+read_outcome entry position writer (Some (Pipe filled capacity)) c = pipe_read entry.len writer filled c
+read_outcome entry position writer (Some (EventFd counter)) c = event_read entry.len counter c
+
+abbrev pub write_outcome : Sqe → ℕ → Bool → ℕ → Option Stock → Choice → Outcome
+write_outcome entry position reader number None c = BadChoice
+write_outcome entry position reader number (Some (File len)) c = file_written entry position c
+write_outcome entry position reader number (Some (Pipe filled capacity)) c = pipe_written entry.len reader filled capacity c
+write_outcome entry position reader number (Some (EventFd counter)) c = event_written entry.len counter number c
+
+abbrev pub outcome_on : (ℕ → Bool) → WorldState → Sqe → Option Op → Option DescriptorState → Choice → Outcome
+outcome_on held w entry (Some Nop) d c = fixed (pos 0) c
+outcome_on held w entry (Some Fsync) d c = fsync_outcome (stock_behind w d) c
+outcome_on held w entry (Some PollAdd) d c = poll_outcome entry (mask_behind held w d) c
+outcome_on held w entry (Some Read) d c = if passes_memory entry then fixed (negsuc 13) c else read_outcome entry (position_of d) (writer_behind held w d) (stock_behind w d) c
+outcome_on held w entry (Some Write) d c = if passes_memory entry then fixed (negsuc 13) c else write_outcome entry (position_of d) (reader_behind held w d) (number_at w entry.addr) (stock_behind w d) c
+outcome_on held w entry op d c = BadChoice
+
+-- what a request comes to, where `held` says which descriptors requests under way hold
+abbrev pub outcome_of : (ℕ → Bool) → WorldState → Row → Choice → Outcome
+outcome_of held w row c = outcome_on held w row.entry (op_of row.entry.opcode) (held_descriptor w row) c

@@ -37,6 +37,7 @@ fn test(entry: &Sqe, op: Op) -> Result<Op, i32>
     let passes = match op {
         Op::Nop => true,
         Op::Fsync => entry.operation_flags <= 1,
+        Op::PollAdd => entry.len == 0,
         Op::Read | Op::Write => entry.operation_flags == 0,
         _ => false,
     };
@@ -93,6 +94,16 @@ mod tests {
             ),
             Ok(Op::Nop)
         );
+    }
+
+    #[test]
+    fn polls(rt: HostRuntime) {
+        for (len, want) in [(0, Ok(Op::PollAdd)), (1, Err(-22))] {
+            let mut poll = entry(6, 0);
+            poll.len = len;
+            poll.operation_flags = 1;
+            assert_eq!(rt; check(&poll, Context { behind: None }), want);
+        }
     }
 
     #[test]

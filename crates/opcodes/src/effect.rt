@@ -1,18 +1,20 @@
-//! What the end of a request does to memory, objects and descriptors (read(2), write(2), fsync(2)).
-ghost use Rattle.std.specs.Prelude.{◌≡◌, ◌+◌, ◌<◌, ◌≤◌, ◌≤ℤ◌, pos, OnOk, IsSome, None, Some, unwrap_or};
+//! What the end of a request does to memory, objects and descriptors (read(2), write(2), fsync(2), pipe(7),
+//! eventfd(2)).
+ghost use Rattle.std.specs.Prelude.{◌≡◌, ◌+◌, ◌-◌, ◌^◌, ◌<◌, ◌≤◌, ◌≤ℤ◌, ℕ, Bool, pos, OnOk, IsSome, IsSomeAnd, None, Some, unwrap_or};
 ghost use Rattle.model_files.specs.declared.descriptor.DescriptorState.{DescriptorState};
 ghost use Rattle.places.specs.View.{Keeps, named};
 ghost use Rattle.places.specs.declared.place.Place.{Place};
-ghost use Rattle.model_files.specs.Worlds.{world_owns, world_seen, file_of, descriptor_of, OneSetup as OneWorldSetup, WorldFormed};
+ghost use Rattle.model_files.specs.Pipes.{GivesOut, TakesIn};
+ghost use Rattle.model_files.specs.Worlds.{world_owns, world_seen, world_added, world_cleared, file_of, pipe_of, counter_of, number_at, descriptor_of, OneSetup as OneWorldSetup, PutsWithin, WorldFormed};
 ghost use Rattle.opcodes.specs.declared.choice.Choice.{Choice};
 ghost use Rattle.opcodes.specs.declared.ending.Outcome.TheVariants.{Res};
 ghost use Rattle.opcodes.specs.Outcomes.{outcome_of, offset_of, position_of};
-ghost use Rattle.opcodes.specs.Effects.{world_after, bytes_read, bytes_written, moved_on};
+ghost use Rattle.opcodes.specs.Effects.{world_after, bytes_read, bytes_written, bytes_taken, bytes_put, moved_on};
 
 use crate::op::Op;
 use crate::results::{held_descriptor, is_at_position, offset_of, position_of};
 use entries::{Row, Sqe};
-use model_files::{DescriptorState, World};
+use model_files::{DescriptorState, Stock, World};
 use places::Recorder;
 use std::alloc::AllocError;
 
@@ -25,7 +27,8 @@ pub fn carry_out(
     notes: &mut Recorder,
 ) -> Result<(), AllocError>
     requires formed { WorldFormed world.old }
-    requires came { (c : Choice) × (outcome_of world.old row.now c ≡ Res res) }
+    requires puts { PutsWithin (2 ^ 63) world.old }
+    requires came { (held : ℕ → Bool) × (c : Choice) × (outcome_of held world.old row.now c ≡ Res res) }
     requires fresh { (p : Place) → named notes.old.made p ≡ None }
     ensures ok { OnOk result (world.new ≡ world_after row.now res world.old) }
     ensures setup { OneWorldSetup world.old world.new }
@@ -37,11 +40,24 @@ pub fn carry_out(
     if res < 0 {
         return Ok(());
     }
-    let count = count_of(res);
-    match Op::of(row.entry.opcode) {
-        Some(Op::Fsync) => world.sync(descriptor.object, notes),
-        Some(Op::Read) => read_bytes(world, &row.entry, fd, &descriptor, count, notes),
-        Some(Op::Write) => write_bytes(world, &row.entry, fd, &descriptor, count, notes),
+    let (entry, object, count) = (&row.entry, descriptor.object, count_of(res));
+    match Op::of(entry.opcode) {
+        Some(Op::Fsync) => match world.stock(object) {
+            Some(Stock::File(_)) => world.sync(object, notes),
+            _ => Ok(()),
+        },
+        Some(Op::Read) => match world.stock(object) {
+            Some(Stock::File(_)) => read_bytes(world, entry, fd, &descriptor, count, notes),
+            Some(Stock::Pipe(_, _)) => take_bytes(world, entry, object, count, notes),
+            Some(Stock::EventFd(_)) => clear(world, entry, object, notes),
+            None => Ok(()),
+        },
+        Some(Op::Write) => match world.stock(object) {
+            Some(Stock::File(_)) => write_bytes(world, entry, fd, &descriptor, count, notes),
+            Some(Stock::Pipe(_, _)) => put_bytes(world, entry, object, count, notes),
+            Some(Stock::EventFd(_)) => add(world, entry, object, notes),
+            None => Ok(()),
+        },
         _ => Ok(()),
     }
 }
@@ -126,6 +142,81 @@ fn write_bytes(
         notes,
     )?;
     move_on(world, entry, fd, descriptor.position, count, notes)
+}
+
+// So many bytes come out of a pipe into memory.
+fn take_bytes(
+    world: &mut World,
+    entry: &Sqe,
+    object: u32,
+    count: u32,
+    notes: &mut Recorder,
+) -> Result<(), AllocError>
+    requires formed { WorldFormed world.old }
+    requires there { IsSomeAnd (pipe_of world.old object) (GivesOut count) }
+    requires in_memory { entry.now.addr + count ≤ 65536 }
+    requires fresh { (p : Place) → named notes.old.made p ≡ None }
+    ensures ok { OnOk result (world.new ≡ bytes_taken entry.now object count world.old) }
+    ensures setup { OneWorldSetup world.old world.new }
+    ensures keeps { Keeps world_owns (world_seen world.old) (world_seen world.new) notes.old.made notes.new.made }
+{
+    if count == 0 {
+        return Ok(());
+    }
+    world.take_pipe(object, count, narrow(entry.addr), notes)
+}
+
+// So many bytes go from memory into a pipe.
+fn put_bytes(
+    world: &mut World,
+    entry: &Sqe,
+    object: u32,
+    count: u32,
+    notes: &mut Recorder,
+) -> Result<(), AllocError>
+    requires formed { WorldFormed world.old }
+    requires room { IsSomeAnd (pipe_of world.old object) (TakesIn count) }
+    requires in_memory { entry.now.addr + count ≤ 65536 }
+    requires fresh { (p : Place) → named notes.old.made p ≡ None }
+    ensures ok { OnOk result (world.new ≡ bytes_put entry.now object count world.old) }
+    ensures setup { OneWorldSetup world.old world.new }
+    ensures keeps { Keeps world_owns (world_seen world.old) (world_seen world.new) notes.old.made notes.new.made }
+{
+    if count == 0 {
+        return Ok(());
+    }
+    world.put_pipe(object, count, narrow(entry.addr), notes)
+}
+
+// The counter of an eventfd comes into memory, and is 0.
+fn clear(
+    world: &mut World,
+    entry: &Sqe,
+    object: u32,
+    notes: &mut Recorder,
+) -> Result<(), AllocError>
+    requires formed { WorldFormed world.old }
+    requires counter { IsSome (counter_of world.old object) }
+    requires in_memory { entry.now.addr + 8 ≤ 65536 }
+    requires fresh { (p : Place) → named notes.old.made p ≡ None }
+    ensures ok { OnOk result (world.new ≡ world_cleared object entry.now.addr world.old) }
+    ensures setup { OneWorldSetup world.old world.new }
+    ensures keeps { Keeps world_owns (world_seen world.old) (world_seen world.new) notes.old.made notes.new.made }
+{
+    world.clear_event(object, narrow(entry.addr), notes)
+}
+
+// A number in memory is added to the counter of an eventfd.
+fn add(world: &mut World, entry: &Sqe, object: u32, notes: &mut Recorder) -> Result<(), AllocError>
+    requires formed { WorldFormed world.old }
+    requires in_memory { entry.now.addr + 8 ≤ 65536 }
+    requires room { IsSomeAnd (counter_of world.old object) (λ n. n + number_at world.old entry.now.addr < 2 ^ 64 - 1) }
+    ensures ok { OnOk result (world.new ≡ world_added object (number_at world.old entry.now.addr) world.old) }
+    ensures setup { OneWorldSetup world.old world.new }
+    ensures keeps { Keeps world_owns (world_seen world.old) (world_seen world.new) notes.old.made notes.new.made }
+{
+    let number = world.number_at(narrow(entry.addr));
+    world.add_event(object, number, notes)
 }
 
 // The position goes on behind the bytes of a transfer that began there.

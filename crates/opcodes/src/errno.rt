@@ -18,5 +18,8 @@ pub const EINVAL: i32 = 22;
 /// File too large.
 pub const EFBIG: i32 = 27;
 
+/// Broken pipe.
+pub const EPIPE: i32 = 32;
+
 /// The operation was canceled.
 pub const ECANCELED: i32 = 125;

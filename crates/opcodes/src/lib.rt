@@ -8,11 +8,12 @@ pub mod ending;
 pub mod errno;
 pub mod op;
 pub mod results;
+mod streams;
 
 pub use checks::{Context, check};
 pub use choice::Choice;
 pub use effect::carry_out;
 pub use ending::Outcome;
-pub use errno::{EBADF, EBUSY, ECANCELED, EFAULT, EFBIG, EINVAL, EIO};
+pub use errno::{EBADF, EBUSY, ECANCELED, EFAULT, EFBIG, EINVAL, EIO, EPIPE};
 pub use op::{Op, fits_end, is_timer, uses_descriptor};
 pub use results::outcome;

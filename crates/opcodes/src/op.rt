@@ -28,6 +28,7 @@ impl Op {
         match opcode {
             0 => Some(Op::Nop),
             3 => Some(Op::Fsync),
+            6 => Some(Op::PollAdd),
             22 => Some(Op::Read),
             23 => Some(Op::Write),
             _ => None,

@@ -1,35 +1,39 @@
-//! What a request comes to as it ends (read(2), write(2), fsync(2)).
-ghost use Rattle.std.specs.Prelude.{◌≡◌, ◌≤◌, IfSome, pos};
-ghost use Rattle.opcodes.specs.Outcomes.{outcome_of, held_descriptor, length_behind, position_of, fixed, transferred, passes_memory, is_at_position, is_bad_offset, offset_of, fsync_outcome, read_outcome, write_outcome};
+//! What a request comes to as it ends (read(2), write(2), fsync(2), poll(2)).
+ghost use Rattle.std.specs.Prelude.{◌≡◌, ◌+◌, ◌<◌, ◌≤◌, ◌^◌, IfSome, false, length, pos};
+ghost use Rattle.model_files.specs.Ends.{mask_behind};
+ghost use Rattle.model_files.specs.Holders.{is_held};
+ghost use Rattle.model_files.specs.Worlds.{StockFits, number_at};
+ghost use Rattle.opcodes.specs.Outcomes.{outcome_of, held_descriptor, stock_behind, position_of, writer_behind, reader_behind, fixed, transferred, passes_memory, is_at_position, is_bad_offset, offset_of, file_synced, file_read, file_written, fsync_outcome, poll_outcome, read_outcome, write_outcome};
 
 use crate::choice::Choice;
 use crate::ending::Outcome;
 use crate::errno::{EFAULT, EFBIG, EINVAL, EIO};
 use crate::op::Op;
+use crate::streams::{event_read, event_written, pipe_read, pipe_written};
 use entries::{Row, Sqe};
-use model_files::{DescriptorState, Held, World};
+use model_files::{DescriptorState, Held, Stock, World};
 
-/// What an issued request comes to. It takes no memory. Which descriptors are held, requests on pipes and
-/// eventfds will ask; those on files don't.
-pub fn outcome(world: &World, _held: &Held, row: &Row, choice: Choice) -> Outcome
-    ensures { result ≡ outcome_of world.now row.now choice }
+/// What an issued request comes to, by which descriptors requests under way hold. It takes no memory.
+pub fn outcome(world: &World, held: &Held, row: &Row, choice: Choice) -> Outcome
+    requires memory { length world.now.memory ≡ 65536 }
+    ensures { result ≡ outcome_of (is_held held.now) world.now row.now choice }
 {
-    let descriptor = held_descriptor(world, row);
-    let (position, len) = (position_of(descriptor), length_behind(world, descriptor));
-    match Op::of(row.entry.opcode) {
+    let (entry, descriptor) = (&row.entry, held_descriptor(world, row));
+    match Op::of(entry.opcode) {
         Some(Op::Nop) => fixed(0, choice),
-        Some(Op::Fsync) => fsync_outcome(len, choice),
+        Some(Op::Fsync) => fsync_outcome(stock_behind(world, descriptor), choice),
+        Some(Op::PollAdd) => poll_outcome(entry, mask_behind(world, held, row), choice),
         Some(Op::Read) => {
-            if passes_memory(&row.entry) {
+            if passes_memory(entry) {
                 return fixed(-EFAULT, choice);
             }
-            read_outcome(&row.entry, position, len, choice)
+            read_outcome(world, held, entry, descriptor, choice)
         }
         Some(Op::Write) => {
-            if passes_memory(&row.entry) {
+            if passes_memory(entry) {
                 return fixed(-EFAULT, choice);
             }
-            write_outcome(&row.entry, position, len, choice)
+            write_outcome(world, held, entry, descriptor, choice)
         }
         _ => Outcome::BadChoice,
     }
@@ -45,6 +49,17 @@ pub(crate) fn held_descriptor(world: &World, row: &Row) -> Option<DescriptorStat
     }
 }
 
+/// What the object of the descriptor is ready for that a row holds.
+fn mask_behind(world: &World, held: &Held, row: &Row) -> u32
+    ensures mask { result ≡ mask_behind (is_held held.now) world.now (held_descriptor world.now row.now) }
+    ensures few { result < 32 }
+{
+    match row.held {
+        Some(fd) => world.ready_mask(fd, held),
+        None => 0,
+    }
+}
+
 /// The position of a descriptor; 0 where there is none.
 pub(crate) fn position_of(descriptor: Option<DescriptorState>) -> u64
     ensures { result ≡ position_of descriptor }
@@ -55,18 +70,37 @@ pub(crate) fn position_of(descriptor: Option<DescriptorState>) -> u64
     }
 }
 
-/// How many bytes the file of a descriptor has, if it is one of a file.
-fn length_behind(world: &World, descriptor: Option<DescriptorState>) -> Option<u32>
-    ensures value { result ≡ length_behind world.now descriptor }
-    ensures most { IfSome result (λ len. len ≤ 65536) }
+/// How much the object of a descriptor holds.
+fn stock_behind(world: &World, descriptor: Option<DescriptorState>) -> Option<Stock>
+    ensures value { result ≡ stock_behind world.now descriptor }
+    ensures fits { IfSome result StockFits }
 {
     match descriptor {
-        Some(descriptor) => world.file_len(descriptor.object),
+        Some(descriptor) => world.stock(descriptor.object),
         None => None,
     }
 }
 
-fn fixed(res: i32, choice: Choice) -> Outcome
+fn writer_behind(world: &World, held: &Held, descriptor: Option<DescriptorState>) -> bool
+    ensures { result ≡ writer_behind (is_held held.now) world.now descriptor }
+{
+    match descriptor {
+        Some(descriptor) => world.has_writer(descriptor.object, held),
+        None => false,
+    }
+}
+
+fn reader_behind(world: &World, held: &Held, descriptor: Option<DescriptorState>) -> bool
+    ensures { result ≡ reader_behind (is_held held.now) world.now descriptor }
+{
+    match descriptor {
+        Some(descriptor) => world.has_reader(descriptor.object, held),
+        None => false,
+    }
+}
+
+/// A result that only a full end has.
+pub(crate) fn fixed(res: i32, choice: Choice) -> Outcome
     ensures { result ≡ fixed res choice }
 {
     match choice {
@@ -89,7 +123,8 @@ fn transferred(count: u32, choice: Choice) -> Outcome
 
 /// Whether the range of memory that an entry names passes the last byte.
 fn passes_memory(entry: &Sqe) -> bool
-    ensures { result ≡ passes_memory entry.now }
+    ensures value { result ≡ passes_memory entry.now }
+    ensures within { result ≡ false → entry.now.addr + entry.now.len ≤ 65536 }
 {
     u128::from(entry.addr) + u128::from(entry.len) > 65536
 }
@@ -118,23 +153,92 @@ pub(crate) fn offset_of(entry: &Sqe, position: u64) -> u64
     }
 }
 
-fn fsync_outcome(len: Option<u32>, choice: Choice) -> Outcome
-    ensures { result ≡ fsync_outcome len choice }
+fn fsync_outcome(stock: Option<Stock>, choice: Choice) -> Outcome
+    ensures { result ≡ fsync_outcome stock choice }
 {
-    match (len, choice) {
-        (Some(_), Choice::Full) => Outcome::Res(0),
-        (Some(_), Choice::Eio) => Outcome::Res(-EIO),
-        _ => Outcome::BadChoice,
+    match stock {
+        Some(Stock::File(_)) => file_synced(choice),
+        Some(_) => fixed(-EINVAL, choice),
+        None => Outcome::BadChoice,
     }
 }
 
-fn read_outcome(entry: &Sqe, position: u64, len: Option<u32>, choice: Choice) -> Outcome
-    requires { IfSome len (λ n. n ≤ 65536) }
-    ensures { result ≡ read_outcome entry.now position len choice }
+fn file_synced(choice: Choice) -> Outcome
+    ensures { result ≡ file_synced choice }
 {
-    let Some(len) = len else {
-        return Outcome::BadChoice;
-    };
+    match choice {
+        Choice::Full => Outcome::Res(0),
+        Choice::Eio => Outcome::Res(-EIO),
+        Choice::Short(_) => Outcome::BadChoice,
+    }
+}
+
+/// An error and a hang-up, which are 8 and 16, are told whether they are asked for or not.
+fn poll_outcome(entry: &Sqe, mask: u32, choice: Choice) -> Outcome
+    requires { mask < 32 }
+    ensures { result ≡ poll_outcome entry.now mask choice }
+{
+    let ready = mask & (entry.operation_flags | 24);
+    if ready == 0 {
+        return Outcome::Waits;
+    }
+    fixed(ready as i32, choice)
+}
+
+fn read_outcome(
+    world: &World,
+    held: &Held,
+    entry: &Sqe,
+    descriptor: Option<DescriptorState>,
+    choice: Choice,
+) -> Outcome
+    requires { entry.now.len ≤ 65536 }
+    ensures { result ≡ read_outcome entry.now (position_of descriptor) (writer_behind (is_held held.now) world.now descriptor) (stock_behind world.now descriptor) choice }
+{
+    let len = entry.len;
+    match stock_behind(world, descriptor) {
+        Some(Stock::File(size)) => file_read(entry, position_of(descriptor), size, choice),
+        Some(Stock::Pipe(filled, _)) => pipe_read(
+            len,
+            writer_behind(world, held, descriptor),
+            filled,
+            choice,
+        ),
+        Some(Stock::EventFd(counter)) => event_read(len, counter, choice),
+        None => Outcome::BadChoice,
+    }
+}
+
+fn write_outcome(
+    world: &World,
+    held: &Held,
+    entry: &Sqe,
+    descriptor: Option<DescriptorState>,
+    choice: Choice,
+) -> Outcome
+    requires memory { length world.now.memory ≡ 65536 }
+    requires within { entry.now.addr + entry.now.len ≤ 65536 }
+    ensures { result ≡ write_outcome entry.now (position_of descriptor) (reader_behind (is_held held.now) world.now descriptor) (number_at world.now entry.now.addr) (stock_behind world.now descriptor) choice }
+{
+    let len = entry.len;
+    match stock_behind(world, descriptor) {
+        Some(Stock::File(_)) => file_written(entry, position_of(descriptor), choice),
+        Some(Stock::Pipe(filled, capacity)) => pipe_written(
+            len,
+            reader_behind(world, held, descriptor),
+            filled,
+            capacity,
+            choice,
+        ),
+        Some(Stock::EventFd(counter)) => event_written(world, entry, counter, choice),
+        None => Outcome::BadChoice,
+    }
+}
+
+fn file_read(entry: &Sqe, position: u64, len: u32, choice: Choice) -> Outcome
+    requires { len ≤ 65536 }
+    ensures { result ≡ file_read entry.now position len choice }
+{
     if is_bad_offset(entry) {
         return fixed(-EINVAL, choice);
     }
@@ -142,12 +246,9 @@ fn read_outcome(entry: &Sqe, position: u64, len: Option<u32>, choice: Choice) ->
     transferred(rest.min(entry.len), choice)
 }
 
-fn write_outcome(entry: &Sqe, position: u64, len: Option<u32>, choice: Choice) -> Outcome
-    ensures { result ≡ write_outcome entry.now position len choice }
+fn file_written(entry: &Sqe, position: u64, choice: Choice) -> Outcome
+    ensures { result ≡ file_written entry.now position choice }
 {
-    if len.is_none() {
-        return Outcome::BadChoice;
-    }
     if is_bad_offset(entry) {
         return fixed(-EINVAL, choice);
     }

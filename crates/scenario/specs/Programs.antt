@@ -13,16 +13,16 @@ HasWidths _ = Unit {0}
 abbrev pub HaveWidths : List (List Instruction) → Type 0
 HaveWidths programs = (t : ℕ) (p : List Instruction) → slice_get programs t ≡ Some p → (i : ℕ) (x : Instruction) → slice_get p i ≡ Some x → HasWidths x
 
--- An instruction's numbers have their widths, its slot is one of the ring's, the bytes that it stores lie within the memory, and it is one that the machine does.
+-- An instruction's numbers have their widths, its slot is one of the ring's, and the bytes that it stores lie within the memory.
 abbrev pub IsDone : ℕ → Instruction → Type 0
 IsDone size (Put slot entry) = slot < size
 IsDone size (Push index) = index < 2 ^ 32
 IsDone size (Store address bytes) = address + length bytes ≤ 65536
 IsDone size (Enter to_submit min_complete flags) = (to_submit < 2 ^ 32) × (min_complete < 2 ^ 32) × (flags < 2 ^ 32)
 IsDone size Reap = Unit {0}
-IsDone size (Close fd) = ⊥
+IsDone size (Close fd) = Unit {0}
 
--- A program is short enough, and each of its instructions is one that the machine does.
+-- A program is short enough, and each of its instructions is one that the machine can do.
 pub record IsProgram (size : ℕ) (program : List Instruction) : Type 0 where
   pub short : length program ≤ 4096
   pub done : (i : ℕ) (x : Instruction) → slice_get program i ≡ Some x → IsDone size x

@@ -95,23 +95,6 @@ is_descriptor objects d = option_map_or (λ (o : Object). is_end o.contents d.en
 abbrev pub has_descriptors : Setup → Bool
 has_descriptors s = nat_le (length s.fds) 64 && list_all (is_descriptor s.objects) s.fds
 
--- ---- parts that aren't built yet: pipes, eventfds and Close
-
-abbrev pub is_unbuilt : Instruction → Bool
-is_unbuilt (Close fd) = true
-is_unbuilt _ = false
-
-abbrev pub is_unbuilt_contents : Contents → Bool
-is_unbuilt_contents (File bytes) = false
-is_unbuilt_contents (Pipe capacity) = true
-is_unbuilt_contents (EventFd counter) = true
-
-abbrev pub is_unbuilt_object : Object → Bool
-is_unbuilt_object o = is_unbuilt_contents o.contents
-
-abbrev pub asks_for_unbuilt : Setup → Bool
-asks_for_unbuilt s = list_any is_unbuilt_object s.objects || list_any (list_any is_unbuilt) s.threads
-
 -- ---- the whole
 
 -- whether all but the ring sizes lies within its limits
@@ -122,5 +105,5 @@ keeps_limits s = has_memory s && (has_objects s && (has_descriptors s && has_pro
 abbrev pub setup_refusal : Setup → Option SetupRefusal
 setup_refusal s =
     if not (has_ring_sizes s) then Some RingSize
-    else if keeps_limits s && not (asks_for_unbuilt s) then None
+    else if keeps_limits s then None
     else Some Limit

@@ -10,10 +10,9 @@ mod owned;
 pub mod setup;
 #[cfg(test)]
 mod tests;
-mod unbuilt;
 
 pub use event::{Event, Refusal};
 pub use holdings::{is_descriptor, is_name};
 pub use limits::{completion_entries, ring_size, setup_refusal};
 pub use names::{PlaceFault, place_of, read_number};
-pub use setup::{Instruction, Setup, SetupRefusal, copy_program};
+pub use setup::{Instruction, Setup, SetupRefusal};

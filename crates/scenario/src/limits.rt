@@ -6,7 +6,6 @@ ghost use Rattle.scenario.specs.Setups.{completion_entries as entries_for, is_be
 
 use crate::holdings::{has_descriptors, has_objects};
 use crate::setup::{Instruction, Setup, SetupRefusal};
-use crate::unbuilt::asks_for_unbuilt;
 use places::Items;
 
 const SIZES: [u32; 14] = [
@@ -20,7 +19,7 @@ pub fn setup_refusal(setup: &Setup) -> Option<SetupRefusal>
     if !has_ring_sizes(setup) {
         return Some(SetupRefusal::RingSize);
     }
-    if keeps_limits(setup) && !asks_for_unbuilt(setup) {
+    if keeps_limits(setup) {
         None
     } else {
         Some(SetupRefusal::Limit)

@@ -117,10 +117,7 @@ fn copy_threads(
     Ok(Items::of(copies))
 }
 
-pub fn copy_program(
-    alloc: Global,
-    program: &[Instruction],
-) -> Result<Items<Instruction>, AllocError>
+fn copy_program(alloc: Global, program: &[Instruction]) -> Result<Items<Instruction>, AllocError>
     ensures { IfOk result (λ copy. copy ≡ program.now) }
 {
     let mut copies = Vec::new(alloc);

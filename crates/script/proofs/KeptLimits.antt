@@ -1,5 +1,5 @@
 -- Threads and schedules that were read keep their limits.
-use Rattle.std.proofs.Common.{◌≡◌, ℕ, zero, suc, ◌+◌, ◌<◌, ◌≤◌, Bool, true, false, not, cond, ◌&&◌, ◌||◌, nat_le, nat_lt, List, [], ◌∷◌, ◌++◌, length, Option, Some, None, Result, Ok, Err, refl, sym, ap, ◌∙◌, arith}
+use Rattle.std.proofs.Common.{◌≡◌, ℕ, zero, suc, ◌+◌, ◌≤◌, Bool, true, false, cond, ◌&&◌, ◌||◌, nat_le, nat_lt, List, [], ◌∷◌, length, Option, Some, None, Result, Ok, Err, refl, sym, ap, ◌∙◌, arith}
 use Rattle.std.specs.Prelude.{option_map}
 use Rattle.std.specs.List.{list_all, list_any}
 use Rattle.std.proofs.lemmas.Bool.Decides.{nat_tests}
@@ -7,9 +7,9 @@ use Rattle.serde_json.specs.Data.{Data}
 use Rattle.opcodes.specs.declared.choice.Choice.{Choice}
 use Rattle.scenario.specs.declared.event.Event.{Event}
 use Rattle.scenario.specs.declared.setup.Instruction.{Instruction}
-use Rattle.scenario.specs.declared.setup.Instruction.TheVariants.{Put, Push, Store, Enter, Reap}
+use Rattle.scenario.specs.declared.setup.Instruction.TheVariants.{Put, Push, Store, Enter, Reap, Close}
 use Rattle.ring_words.specs.Rings.{rounded}
-use Rattle.scenario.specs.Setups.{is_between, is_completion_size, is_instruction, is_program, is_unbuilt}
+use Rattle.scenario.specs.Setups.{is_between, is_completion_size, is_instruction, is_program}
 use Rattle.script.specs.declared.fault.Path.{Path}
 use Rattle.script.specs.declared.fault.ScriptFault.{ScriptFault}
 use Rattle.script.specs.declared.fault.Key.TheVariants as key
@@ -23,9 +23,9 @@ use Rattle.script.specs.declared.instruction.InstructionForm.{InstructionForm}
 use Rattle.script.specs.declared.instruction.InstructionForm.TheVariants as instruction
 use Rattle.script.specs.Faults.{◌>>=◌, ranged, shaped, limits_then_ranges, form_limits_ranges, form_then_ranges, at_key, at_item, at_inner}
 use Rattle.script.specs.Entries as entries
-use Rattle.script.specs.Lists.{listed, each, folded, at_most, required}
+use Rattle.script.specs.Lists.{listed, each, at_most, required}
 use Rattle.script.specs.Memory.{placed}
-use Rattle.script.specs.Numbers.{whole_of, between, below, number_between}
+use Rattle.script.specs.Numbers.{whole_of, between, below, signed_word, number_between}
 use Rattle.script.specs.Instructions.{instruction_form, keeps_limits, instruction_in_range, instruction_at, thread_at}
 use Rattle.script.specs.Events.{event_form, choice_in_range, event_in_range, event_at}
 use Rattle.script.specs.Scripts.{entries_of, large_enough, cq_of, threads_of, schedule_of, is_short_of_nothing}
@@ -81,7 +81,7 @@ pub tested : {A : Type 0} → (b : Bool) (x y : A) → cond b (Some x) None ≡ 
 tested true x y h = let e : x ≡ y = cc in (refl, e)
 tested false x y h = absurd (cc)
 
-between_ok : (low high : ℕ) (w : Whole) (n : ℕ) → between low high w ≡ Some n → is_between low high n ≡ true
+pub between_ok : (low high : ℕ) (w : Whole) (n : ℕ) → between low high w ≡ Some n → is_between low high n ≡ true
 between_ok low high (Natural m) n h =
     let t = tested (is_between low high m) m n h in
     ap (is_between low high) (sym t.1) ∙ t.0
@@ -159,25 +159,28 @@ at_most_ok most p f ds xs h = by (nat_lt most (length ds)) refl h
 -- ---- instructions
 
 abbrev IsBuilt : ℕ → Instruction → Type 0
-IsBuilt size x = (is_instruction size x ≡ true) × (is_unbuilt x ≡ false)
+IsBuilt size x = is_instruction size x ≡ true
 
 built : (size : ℕ) (w : InstructionForm) (x : Instruction) → keeps_limits w ≡ true → instruction_in_range size w ≡ Some x → IsBuilt size x
 built size (instruction.Put slot e) x k h =
     let s = some_both (below size slot) (λ n. option_map (Put n) (entries.entry_in_range e)) x h in
     let m = some_mapped (Put s.0) (entries.entry_in_range e) x s.2 in
-    (ap (is_instruction size) m.2 ∙ below_ok size slot s.0 s.1, ap is_unbuilt m.2)
+    ap (is_instruction size) m.2 ∙ below_ok size slot s.0 s.1
 built size (instruction.Push n) x k h =
     let m = some_mapped Push (between 0 4294967295 n) x h in
-    (ap (is_instruction size) m.2, ap is_unbuilt m.2)
+    ap (is_instruction size) m.2
 built size (instruction.Store a bytes) x k h =
     let m = some_mapped (λ address. Store address bytes) (placed bytes a) x h in
-    (ap (is_instruction size) m.2 ∙ ap (λ b. b && nat_le (m.0 + length bytes) 65536) k ∙ placed_ok bytes a m.0 m.1, ap is_unbuilt m.2)
+    ap (is_instruction size) m.2 ∙ ap (λ b. b && nat_le (m.0 + length bytes) 65536) k ∙ placed_ok bytes a m.0 m.1
 built size (instruction.Enter a b c) x k h =
     let s = some_both (between 0 4294967295 a) (λ to_submit. entries.◌>>=◌ (between 0 4294967295 b) (λ min_complete. option_map (Enter to_submit min_complete) (between 0 4294967295 c))) x h in
     let t = some_both (between 0 4294967295 b) (λ min_complete. option_map (Enter s.0 min_complete) (between 0 4294967295 c)) x s.2 in
     let m = some_mapped (Enter s.0 t.0) (between 0 4294967295 c) x t.2 in
-    (ap (is_instruction size) m.2, ap is_unbuilt m.2)
-built size instruction.Reap x k h = let e : Reap ≡ x = cc in (ap (is_instruction size) (sym e), ap is_unbuilt (sym e))
+    ap (is_instruction size) m.2
+built size instruction.Reap x k h = let e : Reap ≡ x = cc in ap (is_instruction size) (sym e)
+built size (instruction.Close fd) x k h =
+    let m = some_mapped Close (signed_word fd) x h in
+    ap (is_instruction size) m.2
 
 instruction_built : (size t i : ℕ) (d : Data) (x : Instruction) → instruction_at size t i d ≡ Ok x → IsBuilt size x
 instruction_built size t i d x h =
@@ -188,20 +191,17 @@ pub le_true : (m n : ℕ) → m ≤ n → nat_le m n ≡ true
 le_true m n h = grind (arith, nat_tests)
 
 abbrev IsBuiltProgram : ℕ → List Instruction → Type 0
-IsBuiltProgram size xs = (is_program size xs ≡ true) × (list_any is_unbuilt xs ≡ false)
+IsBuiltProgram size xs = is_program size xs ≡ true
 
 thread_built : (size t : ℕ) (d : Data) (xs : List Instruction) → thread_at size t d ≡ Ok xs → IsBuiltProgram size xs
 thread_built size t d xs h =
     let b = bind_ok (listed (at_item key.Threads t) d) (at_most 4096 (at_item key.Threads t) (instruction_at size t)) xs h in
-    let m = at_most_ok 4096 (at_item key.Threads t) (instruction_at size t) b.0 xs b.2 in (
-      ap (λ c. c && list_all (is_instruction size) xs) (le_true (length xs) 4096 m.0) ∙ each_all (is_instruction size) (instruction_at size t) 0 b.0 xs (λ i e x k. (instruction_built size t i e x k).0) m.1,
-      each_none is_unbuilt (instruction_at size t) 0 b.0 xs (λ i e x k. (instruction_built size t i e x k).1) m.1,
-    )
+    let m = at_most_ok 4096 (at_item key.Threads t) (instruction_at size t) b.0 xs b.2 in
+    ap (λ c. c && list_all (is_instruction size) xs) (le_true (length xs) 4096 m.0) ∙ each_all (is_instruction size) (instruction_at size t) 0 b.0 xs (λ i e x k. instruction_built size t i e x k) m.1
 
 pub record AreBuilt (size : ℕ) (ts : List (List Instruction)) : Type 0 where
   pub few : length ts ≤ 16
   pub programs : list_all (is_program size) ts ≡ true
-  pub built : list_any (list_any is_unbuilt) ts ≡ false
 
 pub threads_built : (size : ℕ) (d : Option Data) (ts : List (List Instruction)) → threads_of size d ≡ Ok ts → AreBuilt size ts
 threads_built size d ts h =
@@ -210,8 +210,7 @@ threads_built size d ts h =
     let m = at_most_ok 16 (at_key key.Threads) (thread_at size) b.0 ts b.2 in
     record {
       few = m.0;
-      programs = each_all (is_program size) (thread_at size) 0 b.0 ts (λ i e xs k. (thread_built size i e xs k).0) m.1;
-      built = each_none (list_any is_unbuilt) (thread_at size) 0 b.0 ts (λ i e xs k. (thread_built size i e xs k).1) m.1;
+      programs = each_all (is_program size) (thread_at size) 0 b.0 ts (λ i e xs k. thread_built size i e xs k) m.1;
     }
 
 -- ---- events

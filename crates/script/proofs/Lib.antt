@@ -4,5 +4,6 @@ pub mod Clean
 pub mod Each
 pub mod Numbered
 pub mod KeptLimits
+pub mod Marks
 pub mod Starts
 pub mod Texts

@@ -1,35 +1,35 @@
 -- A run can start from what was read.
-use Rattle.std.proofs.Common.{◌≡◌, ℕ, ◌+◌, ◌<◌, ◌≤◌, Bool, true, false, not, cond, ◌&&◌, ◌||◌, nat_le, nat_lt, List, [], ◌∷◌, ◌++◌, length, take, drop, Option, Some, None, Result, Ok, Err, refl, sym, ap, ◌∙◌, subst, arith, length-append, length-drop}
-use Rattle.std.specs.Prelude.{option_map}
+use Rattle.std.proofs.Common.{◌≡◌, ℕ, ◌+◌, ◌-◌, ◌^◌, ◌≤◌, Bool, true, false, not, cond, ◌&&◌, ◌||◌, nat_le, nat_lt, List, [], ◌∷◌, ◌++◌, length, take, drop, Option, Some, None, Result, Ok, Err, refl, sym, ap, ◌∙◌, subst, arith, length-append, length-drop}
+use Rattle.std.specs.Prelude.{option_map, codes}
 use Rattle.std.specs.List.{list_all, list_any, position}
 use Rattle.std.proofs.lemmas.Bool.Decides.{nat_tests}
 use Rattle.std.proofs.lemmas.List.{length-take-le, length-replicate}
-use Rattle.std.proofs.lemmas.List.Folds.{list_all-append, list_any-append}
+use Rattle.std.proofs.lemmas.List.Folds.{list_all-append}
 use Rattle.serde_json.specs.Data.{Data}
 use Rattle.serde_json.specs.Find.{as_str}
 use Rattle.places.specs.declared.object.Contents.{Contents}
-use Rattle.places.specs.declared.object.Contents.TheVariants.{File}
+use Rattle.places.specs.declared.object.Contents.TheVariants.{File, Pipe, EventFd}
 use Rattle.places.specs.declared.object.Descriptor.{Descriptor}
-use Rattle.places.specs.declared.object.End.TheVariants.{Whole}
+use Rattle.places.specs.declared.object.End.{End}
+use Rattle.places.specs.declared.object.End.TheVariants.{Whole, Read, Write}
 use Rattle.places.specs.declared.object.Object.{Object}
 use Rattle.ring_words.specs.Rings.{rounded}
-use Rattle.scenario.specs.Setups.{is_between, is_completion_size, is_name, is_named, is_contents, is_object, names_once, is_descriptor, is_unbuilt_contents, is_unbuilt_object, setup_refusal}
+use Rattle.scenario.specs.Setups.{is_between, is_completion_size, is_name, is_named, is_contents, is_object, names_once, is_descriptor, setup_refusal}
 use Rattle.scenario.specs.declared.event.Event.{Event}
 use Rattle.scenario.specs.declared.setup.Instruction.{Instruction}
 use Rattle.scenario.specs.declared.setup.Setup.{Setup}
 use Rattle.script.specs.declared.fault.ScriptFault.{ScriptFault}
 use Rattle.script.specs.declared.fault.Key.TheVariants as key
-use Rattle.script.specs.declared.memory.Piece.{Piece}
 use Rattle.script.specs.declared.object.ContentsForm.{ContentsForm}
 use Rattle.script.specs.declared.object.ContentsForm.TheVariants as form
-use Rattle.script.specs.Entries as entries
-use Rattle.script.specs.Faults.{◌>>=◌, at_key, at_item}
+use Rattle.script.specs.Faults.{at_key, at_item}
 use Rattle.script.specs.Lists.{list_at, folded, at_most, folded_at_most}
 use Rattle.script.specs.Memory.{placed, piece_form, is_short, overwritten, with_piece, piece_at, zeros, memory_of}
-use Rattle.script.specs.Objects.{ObjectForm, object_form, contents_keep_limits, is_small, contents_in_range, is_new_name, object_in_range, object_at, objects_of, descriptor_of, descriptor_named, descriptor_at, fds_of}
-use Rattle.script.specs.Scripts.{Plan, entries_of, cq_of, threads_of, schedule_of, Startable}
+use Rattle.script.specs.Objects.{ObjectForm, object_form, contents_keep_limits, is_small, contents_in_range, is_new_name, object_in_range, object_at, objects_of, descriptor_of, end_named, before_mark, end_meant, descriptor_named, descriptor_at, fds_of}
+use Rattle.script.specs.Numbers.{between}
+use Rattle.script.specs.Scripts.{entries_of, cq_of, threads_of, schedule_of, Startable}
 use Rattle.script.proofs.Numbered.{still_once}
-use Rattle.script.proofs.KeptLimits.{bind_ok, some_both, some_mapped, formed_ok, limited_ok, tested, placed_ok, each_all, at_most_ok, le_true, entries_ok, cq_ok, AreBuilt, threads_built, schedule_ok}
+use Rattle.script.proofs.KeptLimits.{bind_ok, some_both, some_mapped, formed_ok, limited_ok, tested, between_ok, placed_ok, each_all, at_most_ok, le_true, entries_ok, cq_ok, AreBuilt, threads_built, schedule_ok}
 
 -- what each step keeps, the whole does
 folded_keeps : {S : Type 0} → (P : S → Type 0) (f : S → ℕ → Data → Result S ScriptFault) (s : S) (i : ℕ) (ds : List Data) (t : S) → ((r u : S) (j : ℕ) (d : Data) → P r → f r j d ≡ Ok u → P u) → P s → folded f s i ds ≡ Ok t → P t
@@ -72,14 +72,20 @@ memory_length d m h =
 pub record AreObjects (os : List Object) : Type 0 where
   pub each : list_all is_object os ≡ true
   pub once : names_once os ≡ true
-  pub built : list_any is_unbuilt_object os ≡ false
-
-contents_ok : (w : ContentsForm) (c : Contents) → contents_keep_limits w ≡ true → contents_in_range w ≡ Some c → (is_contents c ≡ true) × (is_unbuilt_contents c ≡ false)
-contents_ok (form.File bytes) c k h = let e : File bytes ≡ c = cc in (ap is_contents (sym e) ∙ k, ap is_unbuilt_contents (sym e))
 
 and_true : (a b : Bool) → (a && b) ≡ true → (a ≡ true) × (b ≡ true)
 and_true true b h = (refl, h)
 and_true false b h = absurd (cc)
+
+contents_ok : (w : ContentsForm) (c : Contents) → contents_keep_limits w ≡ true → contents_in_range w ≡ Some c → is_contents c ≡ true
+contents_ok (form.File bytes) c k h = let e : File bytes ≡ c = cc in ap is_contents (sym e) ∙ k
+contents_ok (form.Pipe capacity) c k h =
+    let m = some_mapped Pipe (between 1 65536 capacity) c h in
+    ap is_contents m.2 ∙ between_ok 1 65536 capacity m.0 m.1
+contents_ok (form.EventFd counter) c k h =
+    let m = some_mapped EventFd (between 0 (2 ^ 64 - 2) counter) c h in
+    let b = and_true (nat_le 0 m.0) (nat_le m.0 (2 ^ 64 - 2)) (between_ok 0 (2 ^ 64 - 2) counter m.0 m.1) in
+    ap is_contents m.2 ∙ b.1
 
 not_false : (a : Bool) → not a ≡ true → a ≡ false
 not_false true h = absurd (cc)
@@ -90,7 +96,7 @@ chosen_some true o x h = (refl, h)
 chosen_some false o x h = absurd (cc)
 
 abbrev IsNext : List Object → Object → Type 0
-IsNext os o = (is_object o ≡ true) × (list_any (is_named o.name) os ≡ false) × (is_unbuilt_object o ≡ false)
+IsNext os o = (is_object o ≡ true) × (list_any (is_named o.name) os ≡ false)
 
 object_ok : (os : List Object) (w : ObjectForm) (o : Object) → is_small w ≡ true → object_in_range os w ≡ Some o → IsNext os o
 object_ok os w o k h =
@@ -98,9 +104,8 @@ object_ok os w o k h =
     let m = some_mapped (λ contents. record { name = w.name; contents = contents }) (contents_in_range w.contents) o t.1 in
     let n = and_true (is_name w.name) (not (list_any (is_named w.name) os)) t.0 in
     let c = contents_ok w.contents m.0 k m.1 in (
-      ap is_object m.2 ∙ ap (λ b. b && is_contents m.0) n.0 ∙ c.0,
+      ap is_object m.2 ∙ ap (λ b. b && is_contents m.0) n.0 ∙ c,
       ap (λ (x : Object). list_any (is_named x.name) os) m.2 ∙ not_false _ n.1,
-      ap is_unbuilt_object m.2 ∙ c.1,
     )
 
 one_all : (a b : Bool) → a ≡ true → b ≡ true → (a && (b && true)) ≡ true
@@ -113,7 +118,6 @@ more_objects : (os : List Object) (o : Object) → AreObjects os → IsNext os o
 more_objects os o a n = record {
   each = list_all-append is_object os (o ∷ []) ∙ one_all (list_all is_object os) (is_object o) a.each n.0;
   once = still_once os o a.once n.1;
-  built = list_any-append is_unbuilt_object os (o ∷ []) ∙ one_none (list_any is_unbuilt_object os) (is_unbuilt_object o) a.built n.2;
 }
 
 -- one object more
@@ -150,17 +154,26 @@ objects_ok d os h =
         let l = folded_length [] 0 ds os k in
         record {
           few = omega (arith, l);
-          objects = folded_keeps AreObjects object_at [] 0 ds os (λ r u j e p g. object_keeps r u j e p g) (record { each = refl; once = refl; built = refl }) k;
+          objects = folded_keeps AreObjects object_at [] 0 ds os (λ r u j e p g. object_keeps r u j e p g) (record { each = refl; once = refl }) k;
         }
 
 -- ---- descriptors
 
+end_ok : (os : List Object) (end : End) (name : List ℕ) (d : Descriptor) → end_named os end name ≡ Some d → is_descriptor os d ≡ true
+end_ok os end name d h =
+    let s = some_both (position (is_named name) os) (descriptor_of os end) d h in
+    let t = tested (is_descriptor os (record { object = s.0; end = end })) (record { object = s.0; end = end }) d s.2 in
+    ap (is_descriptor os) (sym t.1) ∙ t.0
+
+meant_ok : (os : List Object) (text : List ℕ) (reader writer : Option (List ℕ)) (d : Descriptor) → end_meant os text reader writer ≡ Some d → is_descriptor os d ≡ true
+meant_ok os text (Some name) writer d h = end_ok os Read name d h
+meant_ok os text None (Some name) d h = end_ok os Write name d h
+meant_ok os text None None d h = end_ok os Whole text d h
+
 descriptor_ok : (os : List Object) (i : ℕ) (e : Data) (d : Descriptor) → descriptor_at os i e ≡ Ok d → is_descriptor os d ≡ true
 descriptor_ok os i e d h =
     let f = formed_ok (at_item key.Fds i) (as_str e) (descriptor_named os) d h in
-    let s = some_both (position (is_named f.0) os) (descriptor_of os Whole) d f.1 in
-    let t = tested (is_descriptor os (record { object = s.0; end = Whole })) (record { object = s.0; end = Whole }) d s.2 in
-    ap (is_descriptor os) (sym t.1) ∙ t.0
+    meant_ok os f.0 (before_mark (codes ":r") f.0) (before_mark (codes ":w") f.0) d f.1
 
 fds_ok : (os : List Object) (d : Option Data) (fds : List Descriptor) → fds_of os d ≡ Ok fds → (length fds ≤ 64) × (list_all (is_descriptor os) fds ≡ true)
 fds_ok os d fds h =
@@ -191,7 +204,7 @@ starts entries cq sqpoll submit_all base memory os fds ts e q m o l f b =
     let few_objects = le_true (length os) 32 o.few in
     let few_fds = le_true (length fds) 64 l in
     let few = le_true (length ts) 16 b.few in
-    rw (e, q, small, few_objects, o.objects.each, o.objects.once, few_fds, f, few, b.programs, o.objects.built, b.built) refl
+    rw (e, q, small, few_objects, o.objects.each, o.objects.once, few_fds, f, few, b.programs) refl
 
 pub startable : (d1 d2 d3 d4 d5 d6 d7 : Option Data) (entries size : ℕ) (cq : Option ℕ) (sqpoll submit_all : Bool) (base : ℕ) (memory : List ℕ) (os : List Object) (fds : List Descriptor) (ts : List (List Instruction)) (es : List Event)
     → Ok entries ≡ entries_of d1 → Ok cq ≡ cq_of entries d2 → memory_of d3 ≡ Ok memory → objects_of d4 ≡ Ok os → fds_of os d5 ≡ Ok fds → size ≡ rounded entries → threads_of size d6 ≡ Ok ts → schedule_of d7 ≡ Ok es

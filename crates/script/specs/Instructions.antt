@@ -1,9 +1,9 @@
 -- Instructions of a thread.
-use Rattle.std.specs.Prelude.{ℕ, ◌+◌, nat_le, List, [], ◌∷◌, length, codes, Bool, true, if◌then◌else◌, Option, Some, None, option_map, Result}
+use Rattle.std.specs.Prelude.{ℕ, nat_le, List, [], ◌∷◌, length, codes, Bool, true, if◌then◌else◌, Option, Some, None, option_map, Result}
 use Rattle.std.specs.Str.{bytes_eq}
 use Rattle.serde_json.specs.Data.{Data, string}
 use Rattle.scenario.specs.declared.setup.Instruction.{Instruction}
-use Rattle.scenario.specs.declared.setup.Instruction.TheVariants.{Put, Push, Store, Enter, Reap}
+use Rattle.scenario.specs.declared.setup.Instruction.TheVariants.{Put, Push, Store, Enter, Reap, Close}
 use Rattle.script.specs.declared.fault.Key.TheVariants as key
 use Rattle.script.specs.declared.fault.ScriptFault.{ScriptFault}
 use Rattle.script.specs.declared.instruction.InstructionForm.{InstructionForm}
@@ -11,14 +11,14 @@ use Rattle.script.specs.declared.instruction.InstructionForm.TheVariants as form
 use Rattle.script.specs.Faults.{at_item, at_inner, form_limits_ranges}
 use Rattle.script.specs.Faults as faults
 use Rattle.script.specs.Lists.{listed, of_list, at_most}
-use Rattle.script.specs.Numbers.{whole_of, between, below}
+use Rattle.script.specs.Numbers.{whole_of, between, below, signed_word}
 use Rattle.script.specs.Entries.{◌>>=◌, entry_form, entry_in_range}
 use Rattle.script.specs.Memory.{bytes_of, placed}
 
 -- an instruction by its word and the items after it
 abbrev pub instruction_by : List ℕ → List Data → Option InstructionForm
 instruction_by w [] = if bytes_eq w (codes "reap") then Some form.Reap else None
-instruction_by w (d ∷ []) = if bytes_eq w (codes "push") then option_map form.Push (whole_of d) else None
+instruction_by w (d ∷ []) = if bytes_eq w (codes "push") then option_map form.Push (whole_of d) else if bytes_eq w (codes "close") then option_map form.Close (whole_of d) else None
 instruction_by w (d ∷ e ∷ []) = if bytes_eq w (codes "put") then (whole_of d >>= λ slot. option_map (form.Put slot) (entry_form e)) else None
 instruction_by w (d ∷ e ∷ f ∷ []) = if bytes_eq w (codes "enter") then (whole_of d >>= λ to_submit. (whole_of e >>= λ min_complete. option_map (form.Enter to_submit min_complete) (whole_of f))) else None
 instruction_by w (d ∷ e ∷ f ∷ g ∷ ds) = None
@@ -48,6 +48,7 @@ instruction_in_range size (form.Push n) = option_map Push (between 0 4294967295 
 instruction_in_range size (form.Enter a b c) = between 0 4294967295 a >>= λ to_submit. (between 0 4294967295 b >>= λ min_complete. option_map (Enter to_submit min_complete) (between 0 4294967295 c))
 instruction_in_range size (form.Store a bytes) = option_map (λ address. Store address bytes) (placed bytes a)
 instruction_in_range size form.Reap = Some Reap
+instruction_in_range size (form.Close fd) = option_map Close (signed_word fd)
 
 -- instruction i of thread t
 abbrev pub instruction_at : ℕ → ℕ → ℕ → Data → Result Instruction ScriptFault

@@ -1,14 +1,14 @@
 -- Objects and descriptors.
-use Rattle.std.specs.Prelude.{ℕ, ◌&&◌, ◌||◌, nat_le, not, List, [], ◌∷◌, ◌++◌, length, codes, Bool, if◌then◌else◌, Option, Some, None, option_map, Result, Ok}
-use Rattle.std.specs.List.{list_any, position}
+use Rattle.std.specs.Prelude.{ℕ, ◌-◌, ◌^◌, ◌&&◌, ◌||◌, nat_eq, nat_le, not, List, [], ◌∷◌, ◌++◌, length, take, codes, Bool, true, if◌then◌else◌, Option, Some, None, option_map, Result}
+use Rattle.std.specs.List.{list_any, position, ends_with}
 use Rattle.std.specs.Str.{bytes_eq}
 use Rattle.serde_json.specs.Data.{Data}
 use Rattle.serde_json.specs.Find.{get, as_str}
 use Rattle.places.specs.declared.object.Contents.{Contents}
-use Rattle.places.specs.declared.object.Contents.TheVariants.{File}
+use Rattle.places.specs.declared.object.Contents.TheVariants.{File, Pipe, EventFd}
 use Rattle.places.specs.declared.object.Descriptor.{Descriptor}
 use Rattle.places.specs.declared.object.End.{End}
-use Rattle.places.specs.declared.object.End.TheVariants.{Whole}
+use Rattle.places.specs.declared.object.End.TheVariants.{Whole, Read, Write}
 use Rattle.places.specs.declared.object.Object.{Object}
 use Rattle.scenario.specs.Setups.{is_name, is_named, is_descriptor}
 use Rattle.script.specs.declared.fault.Key.TheVariants as key
@@ -20,6 +20,7 @@ use Rattle.script.specs.Faults as faults
 use Rattle.script.specs.Faults.{at_key, at_item, form_limits_ranges, form_then_ranges, ranged}
 use Rattle.script.specs.Lists.{has_keys, list_at, at_most, folded_at_most}
 use Rattle.script.specs.Memory.{bytes_of}
+use Rattle.script.specs.Numbers.{whole_of, between}
 
 -- ---- objects
 
@@ -29,10 +30,17 @@ pub record ObjectForm : Type 0 where
   pub contents : ContentsForm
 
 abbrev pub is_object_key : List ℕ → Bool
-is_object_key k = bytes_eq k (codes "name") || bytes_eq k (codes "file")
+is_object_key k = bytes_eq k (codes "name") || bytes_eq k (codes "file") || bytes_eq k (codes "pipe") || bytes_eq k (codes "eventfd")
+
+-- a file's bytes, a pipe's capacity or an eventfd's counter, and just one of them
+abbrev pub one_of : Option Data → Option Data → Option Data → Option ContentsForm
+one_of (Some file) None None = option_map form.File (bytes_of file)
+one_of None (Some pipe) None = option_map form.Pipe (whole_of pipe)
+one_of None None (Some eventfd) = option_map form.EventFd (whole_of eventfd)
+one_of file pipe eventfd = None
 
 abbrev pub contents_form : Data → Option ContentsForm
-contents_form d = get (codes "file") d >>= λ x. option_map form.File (bytes_of x)
+contents_form d = one_of (get (codes "file") d) (get (codes "pipe") d) (get (codes "eventfd") d)
 
 abbrev pub name_of : Data → Option (List ℕ)
 name_of d = get (codes "name") d >>= as_str
@@ -49,12 +57,16 @@ object_form d = if has_keys is_object_key d then members_form d else None
 
 abbrev pub contents_keep_limits : ContentsForm → Bool
 contents_keep_limits (form.File bytes) = nat_le (length bytes) 65536
+contents_keep_limits _ = true
 
 abbrev pub is_small : ObjectForm → Bool
 is_small o = contents_keep_limits o.contents
 
+-- the capacities of a pipe (pipe(7)), and the values that an eventfd's counter can have (eventfd(2))
 abbrev pub contents_in_range : ContentsForm → Option Contents
 contents_in_range (form.File bytes) = Some (File bytes)
+contents_in_range (form.Pipe capacity) = option_map Pipe (between 1 65536 capacity)
+contents_in_range (form.EventFd counter) = option_map EventFd (between 0 (2 ^ 64 - 2) counter)
 
 -- whether a name has its form, and no object before has it
 abbrev pub is_new_name : List Object → List ℕ → Bool
@@ -76,9 +88,23 @@ objects_of d = faults.◌>>=◌ (list_at key.Objects d) (folded_at_most 32 (at_k
 abbrev pub descriptor_of : List Object → End → ℕ → Option Descriptor
 descriptor_of objects end o = if is_descriptor objects (record { object = o; end = end }) then Some (record { object = o; end = end }) else None
 
--- the object that a text names
+-- an end of the object that has a name
+abbrev pub end_named : List Object → End → List ℕ → Option Descriptor
+end_named objects end name = position (is_named name) objects >>= descriptor_of objects end
+
+-- what stands before a mark, in a text that ends with it
+abbrev pub before_mark : List ℕ → List ℕ → Option (List ℕ)
+before_mark mark text = if ends_with nat_eq text mark then Some (take (length text - length mark) text) else None
+
+-- the end that a text means, by the name in it: before `:r`, before `:w`, or all of it
+abbrev pub end_meant : List Object → List ℕ → Option (List ℕ) → Option (List ℕ) → Option Descriptor
+end_meant objects text (Some reader) writer = end_named objects Read reader
+end_meant objects text None (Some writer) = end_named objects Write writer
+end_meant objects text None None = end_named objects Whole text
+
+-- what a text names: a file or an eventfd by its name, the ends of a pipe by its name with a mark
 abbrev pub descriptor_named : List Object → List ℕ → Option Descriptor
-descriptor_named objects name = position (is_named name) objects >>= descriptor_of objects Whole
+descriptor_named objects text = end_meant objects text (before_mark (codes ":r") text) (before_mark (codes ":w") text)
 
 abbrev pub descriptor_at : List Object → ℕ → Data → Result Descriptor ScriptFault
 descriptor_at objects i d = form_then_ranges (at_item key.Fds i) (as_str d) (descriptor_named objects)

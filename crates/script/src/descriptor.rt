@@ -1,9 +1,9 @@
 //! Descriptors, as a script writes them.
-ghost use Rattle.std.specs.Prelude.{◌≡◌, ◌≤◌, map, length};
+ghost use Rattle.std.specs.Prelude.{◌≡◌, ◌≤◌, map, option_map, length};
 ghost use Rattle.serde_json.specs.View.{view};
 ghost use Rattle.script.specs.Faults.{Gives};
 ghost use Rattle.script.specs.Lists.{each};
-ghost use Rattle.script.specs.Objects.{descriptor_of, descriptor_named, descriptor_at};
+ghost use Rattle.script.specs.Objects.{descriptor_of, end_named, before_mark, descriptor_named, descriptor_at};
 
 use crate::fault::{Key, ScriptFault};
 use crate::keys::item_path;
@@ -25,13 +25,33 @@ fn descriptor_of(objects: &[Object], end: End, object: u32) -> Option<Descriptor
     }
 }
 
-// The object that a text names.
-fn descriptor_named(objects: &NamedObjects<'_>, name: &str) -> Option<Descriptor>
-    ensures { result ≡ descriptor_named objects.now name.now }
+// An end of the object that has a name.
+fn end_named(objects: &NamedObjects<'_>, end: End, name: &str) -> Option<Descriptor>
+    ensures { result ≡ end_named objects.now end name.now }
 {
     match objects.number_of(name) {
-        Some(number) => descriptor_of(objects.as_slice(), End::Whole, number),
+        Some(number) => descriptor_of(objects.as_slice(), end, number),
         None => None,
+    }
+}
+
+// What stands before a mark, in a text that ends with it.
+fn before_mark<'a>(mark: &str, text: &'a str) -> Option<&'a str>
+    ensures { option_map (λ name. name.now) result ≡ before_mark mark.now text.now }
+{
+    text.strip_suffix(mark)
+}
+
+// What a text names: a file or an eventfd by its name, the ends of a pipe by its name with a mark.
+fn descriptor_named(objects: &NamedObjects<'_>, text: &str) -> Option<Descriptor>
+    ensures { result ≡ descriptor_named objects.now text.now }
+{
+    let reader = before_mark(":r", text);
+    let writer = before_mark(":w", text);
+    match (reader, writer) {
+        (Some(name), _) => end_named(objects, End::Read, name),
+        (None, Some(name)) => end_named(objects, End::Write, name),
+        (None, None) => end_named(objects, End::Whole, text),
     }
 }
 
@@ -43,10 +63,10 @@ fn read_descriptor(
     ensures { result ≡ descriptor_at objects.now index (view value.now) }
 {
     let path = item_path(Key::Fds, index);
-    let Some(name) = value.as_str() else {
+    let Some(text) = value.as_str() else {
         return Err(ScriptFault::Shape(path));
     };
-    match descriptor_named(objects, name) {
+    match descriptor_named(objects, text) {
         Some(descriptor) => Ok(descriptor),
         None => Err(ScriptFault::Range(path)),
     }

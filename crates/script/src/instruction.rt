@@ -9,7 +9,7 @@ use crate::entry::{EntryForm, entry_form, entry_in_range};
 use crate::fault::{Key, Path, ScriptFault};
 use crate::keys::inner_path;
 use crate::memory::{placed, read_bytes};
-use crate::number::{Whole, whole_of, word};
+use crate::number::{Whole, signed_word, whole_of, word};
 use places::Items;
 use scenario::Instruction;
 use serde_json::Value;
@@ -23,6 +23,7 @@ pub enum InstructionForm {
     Store(Whole, Items<u8>),
     Enter(Whole, Whole, Whole),
     Reap,
+    Close(Whole),
 }
 
 // An instruction by its word and the items after it.
@@ -36,6 +37,7 @@ fn instruction_by(word: &str, rest: &[Value]) -> Option<InstructionForm>
         },
         [n] => match word {
             "push" => Some(InstructionForm::Push(whole_of(n)?)),
+            "close" => Some(InstructionForm::Close(whole_of(n)?)),
             _ => None,
         },
         [slot, entry] => match word {
@@ -141,6 +143,7 @@ fn instruction_in_range(size: u32, form: InstructionForm) -> Option<Instruction>
             flags: word(flags)?,
         }),
         InstructionForm::Reap => Some(Instruction::Reap),
+        InstructionForm::Close(fd) => Some(Instruction::Close(signed_word(fd)?)),
     }
 }
 

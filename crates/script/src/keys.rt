@@ -104,7 +104,7 @@ fn has_entry_keys(members: &Map<String, Value>) -> bool
 fn is_object_key(key: &str) -> bool
     ensures { result ≡ is_object_key key.now }
 {
-    matches!(key, "name" | "file")
+    matches!(key, "name" | "file" | "pipe" | "eventfd")
 }
 
 fn has_object_keys(members: &Map<String, Value>) -> bool

@@ -3,21 +3,27 @@ ghost use Rattle.std.specs.Prelude.{◌≡◌, ◌<◌, ◌≤◌, ◌+◌, [], 
 ghost use Rattle.serde_json.specs.View.{view};
 ghost use Rattle.script.specs.Faults.{Gives, shaped};
 ghost use Rattle.script.specs.Lists.{folded};
-ghost use Rattle.script.specs.Objects.{contents_form, name_of, members_form, object_form, contents_keep_limits, contents_in_range, is_new_name, object_at};
+ghost use Rattle.script.specs.Objects.{one_of, contents_form, name_of, members_form, object_form, contents_keep_limits, contents_in_range, is_new_name, object_at};
 
 use crate::fault::{Key, Path, ScriptFault};
 use crate::keys::{is_object_of_script, item_path};
 use crate::memory::read_bytes;
 use crate::names::NamedObjects;
+use crate::number::{Whole, between, whole_of};
 use places::{Contents, Items, Object};
 use scenario::is_name;
 use serde_json::Value;
 use std::alloc::Global;
 
+// An eventfd never counts to the largest number of 64 bits (eventfd(2)).
+const LARGEST_COUNTER: u64 = u64::MAX - 1;
+
 /// What an object is, before its limits and ranges are tested.
 #[derive(Debug, Drop)]
 pub enum ContentsForm {
     File(Items<u8>),
+    Pipe(Whole),
+    EventFd(Whole),
 }
 
 /// An object, before its limits and ranges are tested.
@@ -27,14 +33,35 @@ pub struct Found<'a> {
     pub contents: ContentsForm,
 }
 
+// Just one of the three.
+fn one_of(
+    alloc: Global,
+    path: Path,
+    file: Option<&Value>,
+    pipe: Option<&Value>,
+    eventfd: Option<&Value>,
+) -> Result<ContentsForm, ScriptFault>
+    ensures { Gives (λ c. c) result (shaped path (one_of (option_map (λ v. view v.now) file.entry) (option_map (λ v. view v.now) pipe.entry) (option_map (λ v. view v.now) eventfd.entry))) }
+{
+    let contents = match (file, pipe, eventfd) {
+        (Some(text), None, None) => {
+            let bytes = read_bytes(alloc, path, text)?;
+            return Ok(ContentsForm::File(bytes));
+        }
+        (None, Some(capacity), None) => whole_of(capacity).map(ContentsForm::Pipe),
+        (None, None, Some(counter)) => whole_of(counter).map(ContentsForm::EventFd),
+        _ => None,
+    };
+    contents.ok_or(ScriptFault::Shape(path))
+}
+
 fn read_contents(alloc: Global, path: Path, value: &Value) -> Result<ContentsForm, ScriptFault>
     ensures { Gives (λ c. c) result (shaped path (contents_form (view value.now))) }
 {
-    let Some(text) = value.get("file") else {
-        return Err(ScriptFault::Shape(path));
-    };
-    let bytes = read_bytes(alloc, path, text)?;
-    Ok(ContentsForm::File(bytes))
+    let file = value.get("file");
+    let pipe = value.get("pipe");
+    let eventfd = value.get("eventfd");
+    one_of(alloc, path, file, pipe, eventfd)
 }
 
 fn name_of(value: &Value) -> Option<&str>
@@ -71,6 +98,7 @@ fn contents_keep_limits(contents: &ContentsForm) -> bool
 {
     match contents {
         ContentsForm::File(bytes) => bytes.len() <= 65536,
+        _ => true,
     }
 }
 
@@ -79,6 +107,10 @@ fn contents_in_range(contents: ContentsForm) -> Option<Contents>
 {
     match contents {
         ContentsForm::File(bytes) => Some(Contents::File(bytes)),
+        ContentsForm::Pipe(capacity) => Some(Contents::Pipe(between(1, 65536, capacity)? as u32)),
+        ContentsForm::EventFd(counter) => {
+            Some(Contents::EventFd(between(0, LARGEST_COUNTER, counter)?))
+        }
     }
 }
 

@@ -1,3 +1,4 @@
+mod pipes;
 mod setups;
 
 use super::*;
@@ -139,7 +140,7 @@ fn faults_of_instructions(rt: HostRuntime) {
             ScriptFault::Range(inner(0, 0)),
         ),
         (
-            "{\"entries\":1,\"threads\":[[[\"close\",3],[\"push\",0],[\"enter\",1,0,0],[\"reap\"]]],\"schedule\":[[\"step\",0],[\"step\",0],[\"step\",0],[\"issue\",0],[\"finish\",0],[\"step\",0]]}",
+            "{\"entries\":1,\"threads\":[[[\"open\",3],[\"push\",0],[\"enter\",1,0,0],[\"reap\"]]],\"schedule\":[[\"step\",0],[\"step\",0],[\"step\",0],[\"issue\",0],[\"finish\",0],[\"step\",0]]}",
             ScriptFault::Shape(inner(0, 0)),
         ),
     ] {

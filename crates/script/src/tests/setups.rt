@@ -128,8 +128,6 @@ fn faults_of_objects(rt: HostRuntime) {
         ("{\"name\":7,\"file\":\"\"}", 0, true),
         ("{\"name\":\"f\",\"file\":\"0\"}", 0, true),
         ("{\"name\":\"f\",\"file\":\"\",\"size\":0}", 0, true),
-        ("{\"name\":\"p\",\"pipe\":1}", 0, true),
-        ("{\"name\":\"e\",\"eventfd\":0}", 0, true),
         ("[\"f\",\"\"]", 0, true),
         ("{\"name\":\"\",\"file\":\"\"}", 0, false),
         ("{\"name\":\"a_to_z_and_0_to_9\",\"file\":\"\"}", 0, false),

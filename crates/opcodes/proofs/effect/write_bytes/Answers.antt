@@ -3,8 +3,11 @@ use Rattle.std.specs.Prelude.{Some}
 use Rattle.opcodes.specs.Outcomes.{offset_of, position_of}
 use Rattle.model_files.specs.Worlds.{WorldState}
 use Rattle.model_files.proofs.Fixing.{setup_then, setup_written}
-use Rattle.opcodes.proofs.Transferring.{ok_written, some_bytes}
+use Rattle.opcodes.proofs.Transferring.{file_there, ok_written, some_bytes}
 use Rattle.opcodes.proofs.effect.write_bytes.Goals as goal
+
+pub write_at-requires-clause-file : goal.write_at-requires-clause-file
+write_at-requires-clause-file c = file_there c.args.world.now c.requires.formed c.args.descriptor.now.object c.requires.file
 
 pub returns-clause-ok : goal.returns-clause-ok
 returns-clause-ok c = ok_written c.args.entry.now c.args.fd c.args.descriptor.now c.args.count c.args.world.now c.write_at.new.self c.move_on.new.world c.move_on.result c.if-count-eq0.false (rw (c.narrow.ensures, c.narrow-2.ensures, c.offset_of-offset.ensures, c.position_of.ensures) at c.in_ok-write_at.ensures.ok) c.move_on.ensures.ok

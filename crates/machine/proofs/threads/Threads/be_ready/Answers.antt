@@ -1,4 +1,5 @@
 use Rattle.std.proofs.Common.{sym, ap, refl}
+use Rattle.std.specs.Arc.{arc_value}
 use Rattle.std.proofs.lemmas.Option.{slice_get_read}
 use Rattle.places.specs.declared.value.Stage.TheVariants.{Ready}
 use Rattle.machine.specs.Threads.{ThreadState}
@@ -9,5 +10,5 @@ pub returns-in-Ready-clause-ok : goal.returns-in-Ready-clause-ok
 returns-in-Ready-clause-ok c =
     let r = rw (← c.self.view_is) at c.requires.there in
     let at = rw (← c.behind-self.view_is) at (slice_get_read c.self.inside.threads.items _ c.args.t _ refl r c.index.ensures) in
-    let x : ThreadState = record { program = c.behind-self.inside.program; counter = c.behind-self.inside.counter; stage = c.behind-self.inside.stage; last = c.behind-self.inside.last; got = c.behind-self.inside.got } in
+    let x : ThreadState = record { program = arc_value c.behind-self.inside.program; counter = c.behind-self.inside.counter; stage = c.behind-self.inside.stage; last = c.behind-self.inside.last; got = c.behind-self.inside.got } in
     rw (← c.self.view_is) (updated_same (λ y. record y { stage = Ready }) c.self.inside.threads.items c.args.t x at (ap (λ s. record x { stage = s }) (sym c.in-Ready.is)))

@@ -2,6 +2,7 @@ use Rattle.std.proofs.Common.{◌≡◌, sym, ◌∙◌, ap, subst, w32, FitsSig
 use Rattle.std.specs.Prelude.{slice_get, Some}
 use Rattle.std.proofs.lemmas.Int.{to_z-of_z}
 use Rattle.model_files.specs.Worlds.{WorldState}
+use Rattle.links_drains.specs.Holding.{is_held_by}
 use Rattle.opcodes.specs.Effects.{world_after}
 use Rattle.opcodes.specs.Outcomes.{outcome_of}
 use Rattle.opcodes.specs.declared.ending.Outcome.TheVariants.{Res}
@@ -11,10 +12,14 @@ use Rattle.machine.specs.Whole.{Mostly}
 use Rattle.machine.specs.declared.whole.Machine.{Machine}
 use Rattle.machine.proofs.EnterLemmas.{finished_row}
 use Rattle.machine.proofs.Endings.{direct_one}
-use Rattle.machine.proofs.FormedMachines.{mostly, formed_world}
+use Rattle.machine.proofs.PipeCounts.{puts_fit}
+use Rattle.machine.proofs.FormedMachines.{mostly, mostly_world}
 use Rattle.opcodes.proofs.Staying.{stays_after}
 use Rattle.machine.proofs.Untimed.{untimed}
 use Rattle.machine.proofs.whole.Machine.finish.Goals as goal
+
+pub carry_out-requires-clause-puts : goal.carry_out-requires-clause-puts
+carry_out-requires-clause-puts c = puts_fit c.args.self.now c.requires.formed
 
 pub fall-requires-clause-untimed : goal.fall-requires-clause-untimed
 fall-requires-clause-untimed c = untimed c.args.self.now c.requires.formed
@@ -26,11 +31,11 @@ pub fall-requires-clause-mostly : goal.fall-requires-clause-mostly
 fall-requires-clause-mostly c =
     let fits : FitsSigned w32 c.in-Res.res = search rules in
     let same = to_z-of_z w32 c.in-Res.res fits in
-    let told : outcome_of c.args.self.now.world c.in-Some.row c.args.choice ≡ Res c.in-Res.res = sym c.outcome.ensures ∙ c.in-Res.is in
-    let s = stays_after c.args.self.now.world c.in-Some.row c.in-Res.res c.args.choice c.requires.formed.world told in
+    let told : outcome_of (is_held_by c.args.self.now.table) c.args.self.now.world c.in-Some.row c.args.choice ≡ Res c.in-Res.res = sym c.outcome.ensures ∙ c.in-Res.is in
+    let s = stays_after (is_held_by c.args.self.now.table) c.args.self.now.world c.in-Some.row c.in-Res.res c.args.choice c.requires.formed.world (puts_fit c.args.self.now c.requires.formed) told in
     let after : c.carry_out.new.world ≡ world_after c.in-Some.row c.in-Res.res c.args.self.now.world = c.in_ok-carry_out.ensures.ok ∙ ap (λ z. world_after c.in-Some.row z c.args.self.now.world) same in
     subst (λ (w : WorldState). Mostly (record c.args.self.now { world = w })) (sym after)
-    (mostly _ (formed_world c.args.self.now (world_after c.in-Some.row c.in-Res.res c.args.self.now.world) c.requires.formed s.formed s.setup))
+    (mostly_world c.args.self.now (world_after c.in-Some.row c.in-Res.res c.args.self.now.world) (mostly c.args.self.now c.requires.formed) s.formed)
 
 -- the machine after it, as the fall leaves it
 pub returns-clause-ok : goal.returns-clause-ok
@@ -39,7 +44,7 @@ returns-clause-ok c =
     let fits : FitsSigned w32 c.in-Res.res = search rules in
     let same = to_z-of_z w32 c.in-Res.res fits in
     let there : slice_get m.table c.args.r ≡ Some c.in-Some.row = sym c.get.ensures ∙ c.in-Some.is in
-    let told : outcome_of m.world c.in-Some.row c.args.choice ≡ Res c.in-Res.res = sym c.outcome.ensures ∙ c.in-Res.is in
+    let told : outcome_of (is_held_by m.table) m.world c.in-Some.row c.args.choice ≡ Res c.in-Res.res = sym c.outcome.ensures ∙ c.in-Res.is in
     let moved : c.carry_out.new.world ≡ world_after c.in-Some.row c.in-Res.res m.world = c.in_ok-carry_out.ensures.ok ∙ ap (λ z. world_after c.in-Some.row z m.world) same in
     let is : fallen (record m { world = c.carry_out.new.world }) ((c.args.r, to_z w32 (of_z w32 c.in-Res.res)) ∷ []) ≡ after m (Finish c.args.r c.args.choice) =
     ap (λ (w : WorldState). fallen (record m { world = w }) ((c.args.r, to_z w32 (of_z w32 c.in-Res.res)) ∷ [])) moved

@@ -6,11 +6,6 @@ use Rattle.scenario.specs.Programs.{IsDone}
 use Rattle.machine.proofs.InstructionLemmas.{is_done, comes_next, thread_there, goes_on}
 use Rattle.machine.proofs.whole.Machine.step_thread.Goals as goal
 
-pub unreachable-requires-in-Close : goal.unreachable-requires-in-Close
-unreachable-requires-in-Close c =
-    let next = comes_next c.args.self.now c.args.t _ _ c.in-Some.ensures c.in-Some-next.ensures in
-    subst (IsDone _) c.in-Close.is (is_done c.args.self.now c.args.t _ c.requires.formed next)
-
 pub store-requires-clause-fits : goal.store-requires-clause-fits
 store-requires-clause-fits c =
     let next = comes_next c.args.self.now c.args.t _ _ c.in-Some.ensures c.in-Some-next.ensures in

@@ -1,10 +1,9 @@
-use Rattle.std.proofs.Common.{◌≡◌, ◌∙◌, sym, ap, subst, ◌+◌, ◌≤◌, ◌++◌, length, arith, List}
+use Rattle.std.proofs.Common.{◌∙◌, sym, ap, subst, ◌++◌, length, arith, List}
 use Rattle.std.proofs.lemmas.List.{length-take-le}
-use Rattle.entries.specs.declared.entry.Sqe.{Sqe}
 use Rattle.entries.specs.declared.row.Row.{Row}
 use Rattle.ring_words.specs.Rings.{sub_list}
 use Rattle.links_drains.specs.Batches.{taken_of, rows_of, direct_of}
-use Rattle.machine.specs.Submission.{offered, entries_at, taken_entries}
+use Rattle.machine.specs.Submission.{offered, entries_at}
 use Rattle.machine.specs.Whole.{Grows}
 use Rattle.machine.proofs.FormedRows.{length-entries_at}
 use Rattle.machine.proofs.FormedSubmissions.{length-taken_entries}

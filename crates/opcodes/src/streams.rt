@@ -1,0 +1,106 @@
+//! What transfers of pipes and eventfds come to (pipe(7), eventfd(2)).
+ghost use Rattle.std.specs.Prelude.{◌≡◌, ◌+◌, ◌≤◌, length, min, pos};
+ghost use Rattle.model_files.specs.Worlds.{number_at};
+ghost use Rattle.opcodes.specs.Outcomes.{pipe_read, pipe_written, waits_for_room, event_read, event_written};
+
+use crate::choice::Choice;
+use crate::ending::Outcome;
+use crate::errno::{EINVAL, EPIPE};
+use crate::results::fixed;
+use entries::Sqe;
+use model_files::World;
+
+/// How many bytes go into a pipe at once, if its capacity isn't less (PIPE_BUF).
+const AT_ONCE: u64 = 4096;
+
+/// A READ waits for a byte while the pipe has a writer.
+pub(crate) fn pipe_read(len: u32, writer: bool, filled: u64, choice: Choice) -> Outcome
+    requires { len ≤ 65536 }
+    ensures { result ≡ pipe_read len writer filled choice }
+{
+    if len == 0 {
+        return fixed(0, choice);
+    }
+    if filled == 0 {
+        return if writer {
+            Outcome::Waits
+        } else {
+            fixed(0, choice)
+        };
+    }
+    fixed(least(len, filled), choice)
+}
+
+/// A WRITE of so few bytes that they go in at once waits for room for all of them, a longer one for room for
+/// any.
+pub(crate) fn pipe_written(
+    len: u32,
+    reader: bool,
+    filled: u64,
+    capacity: u64,
+    choice: Choice,
+) -> Outcome
+    requires { len ≤ 65536 }
+    ensures { result ≡ pipe_written len reader filled capacity choice }
+{
+    if len == 0 {
+        return fixed(0, choice);
+    }
+    if !reader {
+        return fixed(-EPIPE, choice);
+    }
+    let room = capacity.saturating_sub(filled);
+    if waits_for_room(len, room, capacity) {
+        return Outcome::Waits;
+    }
+    fixed(least(len, room), choice)
+}
+
+fn waits_for_room(len: u32, room: u64, capacity: u64) -> bool
+    ensures { result ≡ waits_for_room len room capacity }
+{
+    if u64::from(len) <= AT_ONCE.min(capacity) {
+        room < u64::from(len)
+    } else {
+        room == 0
+    }
+}
+
+fn least(len: u32, count: u64) -> i32
+    requires { len ≤ 65536 }
+    ensures { result ≡ pos (min len count) }
+{
+    u64::from(len).min(count) as i32
+}
+
+/// A READ waits for a counter above 0.
+pub(crate) fn event_read(len: u32, counter: u64, choice: Choice) -> Outcome
+    ensures { result ≡ event_read len counter choice }
+{
+    if len < 8 {
+        return fixed(-EINVAL, choice);
+    }
+    if counter == 0 {
+        return Outcome::Waits;
+    }
+    fixed(8, choice)
+}
+
+/// A WRITE waits until the sum is at most 2^64 - 2.
+pub(crate) fn event_written(world: &World, entry: &Sqe, counter: u64, choice: Choice) -> Outcome
+    requires memory { length world.now.memory ≡ 65536 }
+    requires within { entry.now.addr + entry.now.len ≤ 65536 }
+    ensures { result ≡ event_written entry.now.len counter (number_at world.now entry.now.addr) choice }
+{
+    if entry.len < 8 {
+        return fixed(-EINVAL, choice);
+    }
+    let number = world.number_at(entry.addr as u32);
+    if number == u64::MAX {
+        return fixed(-EINVAL, choice);
+    }
+    if u128::from(counter) + u128::from(number) > u128::from(u64::MAX - 1) {
+        return Outcome::Waits;
+    }
+    fixed(8, choice)
+}
