@@ -1,5 +1,6 @@
 //! Traces of scripts.
-ghost use Rattle.std.specs.Prelude.{◌≡◌, ◌⊎◌, ℕ, List, Ok, Err, length, IfOk, IfErr};
+ghost use Rattle.std.specs.Prelude.{◌≡◌, ◌⊎◌, ◌≤◌, ℕ, List, Ok, Err, length, IfOk, IfErr, IsTrue};
+ghost use Rattle.std.specs.List.{list_all};
 ghost use Rattle.machine.specs.Runs.{start, Accepts, IsRefused};
 ghost use Rattle.scenario.specs.declared.event.Event.{Event as Happening};
 ghost use Rattle.scenario.specs.declared.event.Refusal.{Refusal as Denial};
@@ -7,13 +8,14 @@ ghost use Rattle.script.specs.Scripts.{Plan, Reads};
 ghost use Rattle.script.specs.declared.fault.ScriptFault.{ScriptFault as Misread};
 ghost use Rattle.traces.specs.Faults.{IsFault};
 ghost use Rattle.traces.specs.Setups.{plain, IsTrace2};
-ghost use Rattle.traces.specs.Spelling.{IsTrace};
+ghost use Rattle.traces.specs.Spelling.{most_events, has_transfer, IsTrace};
 ghost use Rattle.traces.specs.declared.fault.TraceFault.{TraceFault as Misspelt};
 ghost use Rattle.debug_server.specs.Tracing.{IsSpelling, IsTraceOf, IsOfTracing, IsOfMigration};
 
 use crate::faults::RunFault;
 use crate::session::Session;
 use crate::task::Form;
+use scenario::Event;
 use script::{Script, ScriptFault, read_script};
 use std::alloc::{AllocError, Global};
 use traces::{TraceFault, read_trace, write_trace, write_trace2};
@@ -59,7 +61,7 @@ pub fn migrate_trace(alloc: Global, text: &[u8], trace: &[u8]) -> Result<Traced,
         Err(TraceFault::Memory) => return Err(RunFault::Memory),
         Err(fault) => return Err(RunFault::Trace(fault)),
     };
-    match write_trace2(alloc, script.setup(), &events) {
+    match whole_of(alloc, &script, &events) {
         Ok(bytes) => Ok(Traced {
             events: events.len() as u32,
             bytes,
@@ -79,12 +81,21 @@ fn script_of(alloc: Global, text: &[u8]) -> Result<Script, RunFault>
     }
 }
 
-// The trace of a script's schedule.
+// The trace of a script's schedule, in a form.
 fn spelled(alloc: Global, script: &Script, form: Form) -> Result<Vec<u8>, AllocError>
     ensures { IfOk result (λ bytes. IsSpelling form script.now bytes.items) }
 {
     match form {
         Form::Events => write_trace(alloc, script.schedule()),
-        Form::Whole => write_trace2(alloc, script.setup(), script.schedule()),
+        Form::Whole => whole_of(alloc, script, script.schedule()),
     }
+}
+
+// The trace of a script's setup and of some events.
+fn whole_of(alloc: Global, script: &Script, events: &[Event]) -> Result<Vec<u8>, AllocError>
+    requires few { length events.now ≤ most_events }
+    requires transfers { IsTrue (list_all has_transfer events.now) }
+    ensures { IfOk result (λ bytes. IsTrace2 (plain script.now.setup) events.now bytes.items) }
+{
+    write_trace2(alloc, script.setup(), events)
 }

@@ -43,6 +43,11 @@ pub fn startable_setups_have_traces()
     ensures { (s : Setup) → setup_refusal s ≡ None → IsTrue (keeps_ranges s) }
 {}
 
+/// A run can start from a setup that a trace has.
+pub fn setups_of_traces_start()
+    ensures { (s : Setup) → IsTrue (keeps_ranges s) → setup_refusal s ≡ None }
+{}
+
 /// Events that are written are read again, unless memory runs out.
 pub fn events_again(alloc: Global, events: &[Event]) -> Result<Vec<Event>, TraceFault>
     requires few { length events.now ≤ most_events }
