@@ -10,3 +10,4 @@ pub mod Stopping
 pub mod Breaking
 pub mod Numerals
 pub mod Moving
+pub mod Faulting

@@ -6,6 +6,7 @@ mod commands;
 mod faults;
 mod lines;
 mod memory;
+mod replaying;
 mod serving;
 mod session;
 mod source;
@@ -20,6 +21,7 @@ mod words;
 
 pub use faults::{Fault, PathText, RunFault, ServeFault};
 pub use memory::replies;
+pub use replaying::replay;
 pub use serving::serve;
 pub use session::Session;
 pub use source::{NoSource, Source};

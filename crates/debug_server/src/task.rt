@@ -14,6 +14,8 @@ pub enum Form {
 pub enum Job<'a> {
     /// A session over the script in this file.
     Walk(&'a str),
+    /// A session over the trace in this file.
+    Replay(&'a str),
     /// The trace of a script's schedule.
     Trace {
         script: &'a str,

@@ -47,6 +47,12 @@ fn migrate_words<'a>(alloc: Global) -> Result<Command<'a>, AllocError> {
         .arg(file(alloc, "OUT", "Where the trace of form 2 is written to"))
 }
 
+fn replay_words<'a>(alloc: Global) -> Result<Command<'a>, AllocError> {
+    Command::new(alloc, "replay")
+        .about("Run a trace of form 2, and answer commands from standard input")
+        .arg(file(alloc, "TRACE", "A trace of form 2"))
+}
+
 fn text_of<'a>(matches: &ArgMatches<'a>, name: &str) -> &'a str {
     matches.get_str(name).unwrap_or("")
 }
@@ -71,6 +77,7 @@ fn job_of<'a>(name: &str, matches: &ArgMatches<'a>) -> Job<'a> {
             trace: text_of(matches, "IN"),
             out: text_of(matches, "OUT"),
         },
+        "replay" => Job::Replay(text_of(matches, "TRACE")),
         _ => Job::Walk(script),
     }
 }
@@ -83,7 +90,8 @@ pub fn job<'a>(alloc: Global, words: &'a [&'a str]) -> Result<Job<'a>, Error> {
         .subcommand_required(true)
         .subcommand(walk_words(alloc)?)?
         .subcommand(trace_words(alloc)?)?
-        .subcommand(migrate_words(alloc)?)?;
+        .subcommand(migrate_words(alloc)?)?
+        .subcommand(replay_words(alloc)?)?;
     let matches = command.try_get_matches_from(words)?;
     Ok(match matches.subcommand() {
         Some((name, matches)) => job_of(name, matches),

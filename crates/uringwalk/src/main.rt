@@ -4,7 +4,7 @@
 mod files;
 
 use debug_server::{
-    Fault, Form, Job, RunFault, ServeFault, Traced, job, migrate_trace, trace_script, walk,
+    Fault, Form, Job, RunFault, ServeFault, Traced, job, migrate_trace, replay, trace_script, walk,
 };
 use files::{read_file, write_file};
 use std::process::ExitCode;
@@ -17,12 +17,27 @@ const SCRIPT_AND_ONE: u64 = 8388609;
 /// One byte more than a trace of the first form may have.
 const TRACE_AND_ONE: u64 = 16777229;
 
+/// One byte more than a trace of the second form may have: 65,536 bytes of memory, 32 files as long, 64
+/// descriptors, 16 programs of 4,096 stores of 4,096 bytes, and 1,048,576 events.
+const WHOLE_TRACE_AND_ONE: u64 = 287966118;
+
 // A session over a script's file, from standard input to standard output.
 fn walk_file(rt: &(impl Files + Input + Print + AllocGlobal), path: &str) -> Result<(), Fault> {
     let text = read_file(rt, path, SCRIPT_AND_ONE)?;
     let mut input = rt.reader();
     let mut output = io::writer(rt);
     match walk(rt.alloc(), &text, &mut input, &mut output) {
+        Ok(()) => Ok(()),
+        Err(fault) => Err(Fault::Run(fault)),
+    }
+}
+
+// A session over a trace's file, from standard input to standard output.
+fn replay_file(rt: &(impl Files + Input + Print + AllocGlobal), path: &str) -> Result<(), Fault> {
+    let trace = read_file(rt, path, WHOLE_TRACE_AND_ONE)?;
+    let mut input = rt.reader();
+    let mut output = io::writer(rt);
+    match replay(rt.alloc(), &trace, &mut input, &mut output) {
         Ok(()) => Ok(()),
         Err(fault) => Err(Fault::Run(fault)),
     }
@@ -71,6 +86,7 @@ fn migrate_file(
 fn run(rt: &(impl Files + Input + Print + AllocGlobal), job: Job<'_>) -> Result<(), Fault> {
     match job {
         Job::Walk(script) => walk_file(rt, script),
+        Job::Replay(trace) => replay_file(rt, trace),
         Job::Trace { script, out, form } => trace_file(rt, script, out, form),
         Job::Migrate { script, trace, out } => migrate_file(rt, script, trace, out),
     }
