@@ -26,11 +26,11 @@ pub fn jump(walker: &mut Walker) -> Result<(), Fault> {
     Ok(())
 }
 
-/// Goes back to the latest earlier change of the clock, which no event of a NOP changes: so it looks at each
-/// record, and ends at the start.
+/// Goes back to the latest earlier change of the number of dropped indexes, which no event of a run changes
+/// that jumps: so it looks at each record, and ends at the start.
 pub fn search(alloc: Global, walker: &mut Walker) -> Result<(), Fault> {
     let mut watches = Watches::new(alloc);
-    watches.watch(Place::Clock)?;
+    watches.watch(Place::SubmissionDropped)?;
     rcont(walker, &watches)?;
     Ok(())
 }
