@@ -9,7 +9,7 @@ pub write_trace-requires-clause-transfers : goal.write_trace-requires-clause-tra
 write_trace-requires-clause-transfers c = rw c.schedule.ensures.value (all_move c.args.script.now.schedule c.schedule.ensures.kept.transfers)
 
 pub whole_of-requires-clause-few : goal.whole_of-requires-clause-few
-whole_of-requires-clause-few c = rw c.schedule-2.ensures.value (omega (arith, c.schedule-2.ensures.kept.events))
+whole_of-requires-clause-few c = rw c.schedule-in-Whole.ensures.value (omega (arith, c.schedule-in-Whole.ensures.kept.events))
 
 pub whole_of-requires-clause-transfers : goal.whole_of-requires-clause-transfers
-whole_of-requires-clause-transfers c = rw c.schedule-2.ensures.value (all_move c.args.script.now.schedule c.schedule-2.ensures.kept.transfers)
+whole_of-requires-clause-transfers c = rw c.schedule-in-Whole.ensures.value (all_move c.args.script.now.schedule c.schedule-in-Whole.ensures.kept.transfers)
