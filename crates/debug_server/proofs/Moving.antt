@@ -1,8 +1,8 @@
 -- A schedule without a transfer of no bytes has only transfers of some.
-use Rattle.std.proofs.Common.{◌≡◌, ℕ, zero, suc, Bool, true, false, refl, List, [], ◌∷◌}
+use Rattle.std.proofs.Common.{◌≡◌, ℕ, zero, suc, Bool, true, false, refl, List, [], ◌∷◌, arith}
 use Rattle.std.specs.Prelude.{◌||◌}
 use Rattle.std.specs.List.{list_all, list_any}
-use Rattle.std.proofs.lemmas.Bool.{and_from}
+use Rattle.std.proofs.lemmas.Bool.{and_from, lt-ltb}
 use Rattle.opcodes.specs.declared.choice.Choice.{Choice}
 use Rattle.opcodes.specs.declared.choice.Choice.TheVariants.{Full, Short, Eio}
 use Rattle.scenario.specs.declared.event.Event.{Event}
@@ -22,7 +22,7 @@ moves Sleep h = refl
 moves (Issue n) h = refl
 moves (Finish n Full) h = refl
 moves (Finish n (Short zero)) h = absurd cc
-moves (Finish n (Short (suc m))) h = refl
+moves (Finish n (Short (suc m))) h = lt-ltb 0 (suc m) (omega arith)
 moves (Finish n Eio) h = refl
 moves (Expire n) h = refl
 moves (Tick d) h = refl
