@@ -158,59 +158,53 @@ at_most_ok most p f ds xs h = by (nat_lt most (length ds)) refl h
 
 -- ---- instructions
 
-abbrev IsBuilt : ℕ → Instruction → Type 0
-IsBuilt size x = is_instruction size x ≡ true
-
-built : (size : ℕ) (w : InstructionForm) (x : Instruction) → keeps_limits w ≡ true → instruction_in_range size w ≡ Some x → IsBuilt size x
-built size (instruction.Put slot e) x k h =
+form_kept : (size : ℕ) (w : InstructionForm) (x : Instruction) → keeps_limits w ≡ true → instruction_in_range size w ≡ Some x → is_instruction size x ≡ true
+form_kept size (instruction.Put slot e) x k h =
     let s = some_both (below size slot) (λ n. option_map (Put n) (entries.entry_in_range e)) x h in
     let m = some_mapped (Put s.0) (entries.entry_in_range e) x s.2 in
     ap (is_instruction size) m.2 ∙ below_ok size slot s.0 s.1
-built size (instruction.Push n) x k h =
+form_kept size (instruction.Push n) x k h =
     let m = some_mapped Push (between 0 4294967295 n) x h in
     ap (is_instruction size) m.2
-built size (instruction.Store a bytes) x k h =
+form_kept size (instruction.Store a bytes) x k h =
     let m = some_mapped (λ address. Store address bytes) (placed bytes a) x h in
     ap (is_instruction size) m.2 ∙ ap (λ b. b && nat_le (m.0 + length bytes) 65536) k ∙ placed_ok bytes a m.0 m.1
-built size (instruction.Enter a b c) x k h =
+form_kept size (instruction.Enter a b c) x k h =
     let s = some_both (between 0 4294967295 a) (λ to_submit. entries.◌>>=◌ (between 0 4294967295 b) (λ min_complete. option_map (Enter to_submit min_complete) (between 0 4294967295 c))) x h in
     let t = some_both (between 0 4294967295 b) (λ min_complete. option_map (Enter s.0 min_complete) (between 0 4294967295 c)) x s.2 in
     let m = some_mapped (Enter s.0 t.0) (between 0 4294967295 c) x t.2 in
     ap (is_instruction size) m.2
-built size instruction.Reap x k h = let e : Reap ≡ x = cc in ap (is_instruction size) (sym e)
-built size (instruction.Close fd) x k h =
+form_kept size instruction.Reap x k h = let e : Reap ≡ x = cc in ap (is_instruction size) (sym e)
+form_kept size (instruction.Close fd) x k h =
     let m = some_mapped Close (signed_word fd) x h in
     ap (is_instruction size) m.2
 
-instruction_built : (size t i : ℕ) (d : Data) (x : Instruction) → instruction_at size t i d ≡ Ok x → IsBuilt size x
-instruction_built size t i d x h =
+instruction_kept : (size t i : ℕ) (d : Data) (x : Instruction) → instruction_at size t i d ≡ Ok x → is_instruction size x ≡ true
+instruction_kept size t i d x h =
     let f = limited_ok (at_inner key.Threads t i) (instruction_form d) keeps_limits (instruction_in_range size) x h in
-    built size f.0 x f.2 f.3
+    form_kept size f.0 x f.2 f.3
 
 pub le_true : (m n : ℕ) → m ≤ n → nat_le m n ≡ true
 le_true m n h = grind (arith, nat_tests)
 
-abbrev IsBuiltProgram : ℕ → List Instruction → Type 0
-IsBuiltProgram size xs = is_program size xs ≡ true
-
-thread_built : (size t : ℕ) (d : Data) (xs : List Instruction) → thread_at size t d ≡ Ok xs → IsBuiltProgram size xs
-thread_built size t d xs h =
+thread_kept : (size t : ℕ) (d : Data) (xs : List Instruction) → thread_at size t d ≡ Ok xs → is_program size xs ≡ true
+thread_kept size t d xs h =
     let b = bind_ok (listed (at_item key.Threads t) d) (at_most 4096 (at_item key.Threads t) (instruction_at size t)) xs h in
     let m = at_most_ok 4096 (at_item key.Threads t) (instruction_at size t) b.0 xs b.2 in
-    ap (λ c. c && list_all (is_instruction size) xs) (le_true (length xs) 4096 m.0) ∙ each_all (is_instruction size) (instruction_at size t) 0 b.0 xs (λ i e x k. instruction_built size t i e x k) m.1
+    ap (λ c. c && list_all (is_instruction size) xs) (le_true (length xs) 4096 m.0) ∙ each_all (is_instruction size) (instruction_at size t) 0 b.0 xs (λ i e x k. instruction_kept size t i e x k) m.1
 
-pub record AreBuilt (size : ℕ) (ts : List (List Instruction)) : Type 0 where
+pub record KeepPrograms (size : ℕ) (ts : List (List Instruction)) : Type 0 where
   pub few : length ts ≤ 16
   pub programs : list_all (is_program size) ts ≡ true
 
-pub threads_built : (size : ℕ) (d : Option Data) (ts : List (List Instruction)) → threads_of size d ≡ Ok ts → AreBuilt size ts
-threads_built size d ts h =
+pub threads_kept : (size : ℕ) (d : Option Data) (ts : List (List Instruction)) → threads_of size d ≡ Ok ts → KeepPrograms size ts
+threads_kept size d ts h =
     let r = required key.Threads d in
     let b = bind_ok (r >>= listed (at_key key.Threads)) (at_most 16 (at_key key.Threads) (thread_at size)) ts h in
     let m = at_most_ok 16 (at_key key.Threads) (thread_at size) b.0 ts b.2 in
     record {
       few = m.0;
-      programs = each_all (is_program size) (thread_at size) 0 b.0 ts (λ i e xs k. thread_built size i e xs k) m.1;
+      programs = each_all (is_program size) (thread_at size) 0 b.0 ts (λ i e xs k. thread_kept size i e xs k) m.1;
     }
 
 -- ---- events

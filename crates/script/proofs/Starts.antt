@@ -31,7 +31,7 @@ use Rattle.script.specs.Objects.{ObjectForm, object_form, contents_keep_limits, 
 use Rattle.script.specs.Numbers.{between}
 use Rattle.script.specs.Scripts.{Plan, entries_of, cq_of, threads_of, schedule_of, Startable}
 use Rattle.script.proofs.Numbered.{still_once}
-use Rattle.script.proofs.KeptLimits.{bind_ok, some_both, some_mapped, formed_ok, limited_ok, tested, between_ok, placed_ok, each_all, at_most_ok, le_true, entries_ok, cq_ok, AreBuilt, threads_built, schedule_ok}
+use Rattle.script.proofs.KeptLimits.{bind_ok, some_both, some_mapped, formed_ok, limited_ok, tested, between_ok, placed_ok, each_all, at_most_ok, le_true, entries_ok, cq_ok, KeepPrograms, threads_kept, schedule_ok}
 
 -- what each step keeps, the whole does
 folded_keeps : {S : Type 0} → (P : S → Type 0) (f : S → ℕ → Data → Result S ScriptFault) (s : S) (i : ℕ) (ds : List Data) (t : S) → ((r u : S) (j : ℕ) (d : Data) → P r → f r j d ≡ Ok u → P u) → P s → folded f s i ds ≡ Ok t → P t
@@ -199,7 +199,7 @@ setup_of entries cq sqpoll submit_all base memory objects fds threads = record {
 }
 
 starts : (entries : ℕ) (cq : Option ℕ) (sqpoll submit_all : Bool) (base : ℕ) (memory : List ℕ) (os : List Object) (fds : List Descriptor) (ts : List (List Instruction))
-    → is_between 1 4096 entries ≡ true → is_completion_size entries cq ≡ true → length memory ≤ 65536 → AreFew os → length fds ≤ 64 → list_all (is_descriptor os) fds ≡ true → AreBuilt (rounded entries) ts
+    → is_between 1 4096 entries ≡ true → is_completion_size entries cq ≡ true → length memory ≤ 65536 → AreFew os → length fds ≤ 64 → list_all (is_descriptor os) fds ≡ true → KeepPrograms (rounded entries) ts
     → setup_refusal (setup_of entries cq sqpoll submit_all base memory os fds ts) ≡ None
 starts entries cq sqpoll submit_all base memory os fds ts e q m o l f b =
     let small = le_true (length memory) 65536 m in
@@ -212,12 +212,12 @@ pub startable : (d1 d2 d3 d4 d5 d6 d7 : Option Data) (entries size : ℕ) (cq : 
     → Ok entries ≡ entries_of d1 → Ok cq ≡ cq_of entries d2 → memory_of d3 ≡ Ok memory → objects_of d4 ≡ Ok os → fds_of os d5 ≡ Ok fds → size ≡ rounded entries → threads_of size d6 ≡ Ok ts → schedule_of d7 ≡ Ok es
     → Startable (record { setup = setup_of entries cq sqpoll submit_all base memory os fds ts; schedule = es })
 startable d1 d2 d3 d4 d5 d6 d7 entries size cq sqpoll submit_all base memory os fds ts es e q m o f s t h =
-    let built = threads_built (rounded entries) d6 ts (ap (λ n. threads_of n d6) (sym s) ∙ t) in
+    let programs = threads_kept (rounded entries) d6 ts (ap (λ n. threads_of n d6) (sym s) ∙ t) in
     let events = schedule_ok d7 es h in
     let l = memory_length d3 memory m in
     let ends = fds_ok os d5 fds f in
     record {
-      setup = starts entries cq sqpoll submit_all base memory os fds ts (entries_ok d1 entries (sym e)) (cq_ok entries d2 cq (sym q)) (omega (arith, l)) (objects_ok d4 os o) ends.0 ends.1 built;
+      setup = starts entries cq sqpoll submit_all base memory os fds ts (entries_ok d1 entries (sym e)) (cq_ok entries d2 cq (sym q)) (omega (arith, l)) (objects_ok d4 os o) ends.0 ends.1 programs;
       events = events.0;
       transfers = events.1;
     }
