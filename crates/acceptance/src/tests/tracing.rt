@@ -1,7 +1,8 @@
 //! Traces of scripts, and sessions over them.
 
-use crate::tests::ONE_NOP;
-use debug_server::{Form, RunFault, Session, migrate_trace, trace_script};
+use crate::tests::devices::{SOUND, SlowReader, SlowWriter};
+use crate::tests::{INPUT, ONE_NOP, OUTPUT};
+use debug_server::{Form, RunFault, Session, migrate_trace, replay, trace_script};
 use script::{Script, read_script};
 use std::alloc::Global;
 use std::test::Fail;
@@ -88,5 +89,36 @@ fn a_session_over_events(rt: HostRuntime) -> Result<(), Fail> {
     let script = script_of(rt.alloc())?;
     let text = reply_over(rt.alloc(), &script, "where")?;
     assert!(rt; text.as_slice() == b"at 6 of 6\n".as_slice());
+    Ok(())
+}
+
+// What a replay writes, where each call moves one byte.
+fn replayed(alloc: Global, trace: &[u8], input: &str) -> Result<Vec<u8>, RunFault> {
+    let mut reader = SlowReader::new(input.as_bytes(), SOUND);
+    let mut writer = SlowWriter::new(alloc, SOUND);
+    replay(alloc, trace, &mut reader, &mut writer)?;
+    Ok(writer.written)
+}
+
+#[test]
+fn a_replay_answers_as_a_walk_does(rt: HostRuntime) -> Result<(), Fail> {
+    let (_, whole) = traced(rt.alloc(), Form::Whole)?;
+    let written = replayed(rt.alloc(), &whole, INPUT)?;
+    assert!(rt; written.as_slice() == OUTPUT.as_bytes());
+    Ok(())
+}
+
+// The fault of a replay, or none.
+fn refusal_of(alloc: Global, bytes: &[u8]) -> Option<RunFault> {
+    replayed(alloc, bytes, INPUT).err()
+}
+
+#[test]
+fn faults_of_replayed_traces(rt: HostRuntime) -> Result<(), Fail> {
+    let other = refusal_of(rt.alloc(), &EVENTS);
+    assert!(rt; other == Some(RunFault::Trace(TraceFault::Magic)));
+    let (_, whole) = traced(rt.alloc(), Form::Whole)?;
+    let cut = refusal_of(rt.alloc(), &whole[..224]);
+    assert!(rt; cut == Some(RunFault::Trace(TraceFault::Truncated)));
     Ok(())
 }

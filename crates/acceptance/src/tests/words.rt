@@ -19,6 +19,14 @@ fn is_trace(job: Job<'_>, wanted: Form) -> bool {
     }
 }
 
+// The trace of a replay.
+fn replayed<'a>(job: Job<'a>) -> &'a str {
+    match job {
+        Job::Replay(trace) => trace,
+        _ => "",
+    }
+}
+
 fn is_migration(job: Job<'_>) -> bool {
     match job {
         Job::Migrate { script, trace, out } => {
@@ -59,10 +67,18 @@ fn of_a_migration(rt: HostRuntime) -> Result<(), Fail> {
 }
 
 #[test]
+fn of_a_replay(rt: HostRuntime) -> Result<(), Fail> {
+    let words = ["uringwalk", "replay", "old"];
+    assert_eq!(rt; replayed(job(rt.alloc(), &words)?), "old");
+    Ok(())
+}
+
+#[test]
 fn that_are_not_read(rt: HostRuntime) {
     assert!(rt; is_refused(rt.alloc(), &["uringwalk"]));
     assert!(rt; is_refused(rt.alloc(), &["uringwalk", "trace", "one.json"]));
     assert!(rt; is_refused(rt.alloc(), &["uringwalk", "migrate", "one.json", "old"]));
+    assert!(rt; is_refused(rt.alloc(), &["uringwalk", "replay"]));
     let words = ["uringwalk", "trace", "one.json", "new", "--form", "3"];
     assert!(rt; is_refused(rt.alloc(), &words));
 }
