@@ -7,6 +7,7 @@ mod jumps;
 mod load;
 mod parts;
 mod plan;
+mod spelling;
 
 use fault::Fault;
 use inverse_log::Walker;
@@ -14,7 +15,8 @@ use jumps::{JUMPS, jump, search};
 use load::{ISSUED, load_of};
 use parts::Load;
 use places::{Place, Record, Value};
-use plan::{Plan, plan_of};
+use plan::{Plan, plan_of, traces_of};
+use spelling::measure_traces;
 use std::process::ExitCode;
 use std::rt::Clock;
 use std::time::Instant;
@@ -175,6 +177,17 @@ fn measure(
     }
 }
 
+// The program's status, behind a line on standard error if nothing was measured.
+fn end(rt: &impl Eprint, measured: Result<(), Fault>) -> io::Result<ExitCode> {
+    match measured {
+        Ok(()) => Ok(ExitCode::SUCCESS),
+        Err(fault) => {
+            eprintln!(rt; "{fault}")?;
+            Ok(ExitCode::from(1))
+        }
+    }
+}
+
 fn main(rt: HostRuntime) -> io::Result<ExitCode> {
     let alloc = rt.alloc();
     let words: Vec<String> = env::args(&rt)?.collect(alloc)?;
@@ -183,18 +196,15 @@ fn main(rt: HostRuntime) -> io::Result<ExitCode> {
         .skip(1)
         .map(|word| word.as_str())
         .collect(alloc)?;
+    if let Some(count) = traces_of(&texts) {
+        return end(&rt, measure_traces(&rt, count));
+    }
     let Some(plan) = plan_of(&texts) else {
         eprintln!(rt;
-            "measure nops N | jumps N | overflow N | issues N | full N | ticks N | transfers N | syncs N"
+            "measure nops N | jumps N | overflow N | issues N | full N | ticks N | transfers N | syncs N | traces N"
         )?;
         return Ok(ExitCode::from(2));
     };
     let load = load_of(alloc, plan)?;
-    match measure(&rt, plan, &load) {
-        Ok(()) => Ok(ExitCode::SUCCESS),
-        Err(fault) => {
-            eprintln!(rt; "{fault}")?;
-            Ok(ExitCode::from(1))
-        }
-    }
+    end(&rt, measure(&rt, plan, &load))
 }

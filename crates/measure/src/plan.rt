@@ -37,6 +37,14 @@ pub enum Plan {
     Syncs(u32),
 }
 
+/// Reads the word for traces, and how many events they have.
+pub fn traces_of(words: &[&str]) -> Option<u32> {
+    match words {
+        ["traces", size] => size.parse::<u32>().ok(),
+        _ => None,
+    }
+}
+
 /// Reads the words behind the program's name.
 pub fn plan_of(words: &[&str]) -> Option<Plan>
     ensures { IfSome result HasLimits }
