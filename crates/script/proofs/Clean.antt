@@ -5,10 +5,7 @@ use Rattle.serde_json.specs.Data.{Data, null, boolean, number, string, array, ob
 use Rattle.serde_json.specs.Find.{get, as_bool, as_str}
 use Rattle.serde_json.specs.Read.{read}
 use Rattle.ring_words.specs.Rings.{rounded}
-use Rattle.places.specs.declared.object.Descriptor.{Descriptor}
 use Rattle.places.specs.declared.object.Object.{Object}
-use Rattle.scenario.specs.declared.event.Event.{Event}
-use Rattle.scenario.specs.declared.setup.Instruction.{Instruction}
 use Rattle.script.specs.declared.fault.Key.{Key}
 use Rattle.script.specs.declared.fault.Key.TheVariants as key
 use Rattle.script.specs.declared.fault.Path.{Path}

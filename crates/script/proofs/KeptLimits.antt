@@ -1,5 +1,5 @@
 -- Threads and schedules that were read keep their limits.
-use Rattle.std.proofs.Common.{◌≡◌, ℕ, zero, suc, ◌+◌, ◌<◌, ◌≤◌, Bool, true, false, not, cond, ◌&&◌, ◌||◌, nat_le, nat_lt, List, [], ◌∷◌, ◌++◌, length, Option, Some, None, Result, Ok, Err, refl, sym, ap, ◌∙◌, arith}
+use Rattle.std.proofs.Common.{◌≡◌, ℕ, zero, suc, ◌+◌, ◌≤◌, Bool, true, false, cond, ◌&&◌, ◌||◌, nat_le, nat_lt, List, [], ◌∷◌, length, Option, Some, None, Result, Ok, Err, refl, sym, ap, ◌∙◌, arith}
 use Rattle.std.specs.Prelude.{option_map}
 use Rattle.std.specs.List.{list_all, list_any}
 use Rattle.std.proofs.lemmas.Bool.Decides.{nat_tests}
@@ -23,7 +23,7 @@ use Rattle.script.specs.declared.instruction.InstructionForm.{InstructionForm}
 use Rattle.script.specs.declared.instruction.InstructionForm.TheVariants as instruction
 use Rattle.script.specs.Faults.{◌>>=◌, ranged, shaped, limits_then_ranges, form_limits_ranges, form_then_ranges, at_key, at_item, at_inner}
 use Rattle.script.specs.Entries as entries
-use Rattle.script.specs.Lists.{listed, each, folded, at_most, required}
+use Rattle.script.specs.Lists.{listed, each, at_most, required}
 use Rattle.script.specs.Memory.{placed}
 use Rattle.script.specs.Numbers.{whole_of, between, below, signed_word, number_between}
 use Rattle.script.specs.Instructions.{instruction_form, keeps_limits, instruction_in_range, instruction_at, thread_at}

@@ -1,7 +1,6 @@
 -- What stands before a mark.
-use Rattle.std.proofs.Common.{◌≡◌, ℕ, ◌-◌, cond, List, length, take, true, false, Option, Some, None, sym, ap, ◌∙◌, arith}
+use Rattle.std.proofs.Common.{◌≡◌, ℕ, ◌-◌, cond, List, length, take, true, false, Option, Some, None, ap, ◌∙◌, arith}
 use Rattle.std.specs.Prelude.{option_map, MatchOption}
-use Rattle.std.specs.List.{ends_with}
 use Rattle.std.specs.Str.Pattern.{FindsTextSuffix, StripsSuffix}
 use Rattle.std.proofs.lemmas.Str.Pattern.{ends_text}
 use Rattle.script.specs.Objects.{before_mark}

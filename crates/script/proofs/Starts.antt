@@ -1,10 +1,10 @@
 -- A run can start from what was read.
-use Rattle.std.proofs.Common.{◌≡◌, ℕ, ◌+◌, ◌-◌, ◌^◌, ◌<◌, ◌≤◌, Bool, true, false, not, cond, ◌&&◌, ◌||◌, nat_le, nat_lt, List, [], ◌∷◌, ◌++◌, length, take, drop, Option, Some, None, Result, Ok, Err, refl, sym, ap, ◌∙◌, subst, arith, length-append, length-drop}
+use Rattle.std.proofs.Common.{◌≡◌, ℕ, ◌+◌, ◌-◌, ◌^◌, ◌≤◌, Bool, true, false, not, cond, ◌&&◌, ◌||◌, nat_le, nat_lt, List, [], ◌∷◌, ◌++◌, length, take, drop, Option, Some, None, Result, Ok, Err, refl, sym, ap, ◌∙◌, subst, arith, length-append, length-drop}
 use Rattle.std.specs.Prelude.{option_map, codes}
 use Rattle.std.specs.List.{list_all, list_any, position}
 use Rattle.std.proofs.lemmas.Bool.Decides.{nat_tests}
 use Rattle.std.proofs.lemmas.List.{length-take-le, length-replicate}
-use Rattle.std.proofs.lemmas.List.Folds.{list_all-append, list_any-append}
+use Rattle.std.proofs.lemmas.List.Folds.{list_all-append}
 use Rattle.serde_json.specs.Data.{Data}
 use Rattle.serde_json.specs.Find.{as_str}
 use Rattle.places.specs.declared.object.Contents.{Contents}
@@ -20,16 +20,14 @@ use Rattle.scenario.specs.declared.setup.Instruction.{Instruction}
 use Rattle.scenario.specs.declared.setup.Setup.{Setup}
 use Rattle.script.specs.declared.fault.ScriptFault.{ScriptFault}
 use Rattle.script.specs.declared.fault.Key.TheVariants as key
-use Rattle.script.specs.declared.memory.Piece.{Piece}
 use Rattle.script.specs.declared.object.ContentsForm.{ContentsForm}
 use Rattle.script.specs.declared.object.ContentsForm.TheVariants as form
-use Rattle.script.specs.Entries as entries
-use Rattle.script.specs.Faults.{◌>>=◌, at_key, at_item}
+use Rattle.script.specs.Faults.{at_key, at_item}
 use Rattle.script.specs.Lists.{list_at, folded, at_most, folded_at_most}
 use Rattle.script.specs.Memory.{placed, piece_form, is_short, overwritten, with_piece, piece_at, zeros, memory_of}
 use Rattle.script.specs.Objects.{ObjectForm, object_form, contents_keep_limits, is_small, contents_in_range, is_new_name, object_in_range, object_at, objects_of, descriptor_of, end_named, before_mark, end_meant, descriptor_named, descriptor_at, fds_of}
 use Rattle.script.specs.Numbers.{between}
-use Rattle.script.specs.Scripts.{Plan, entries_of, cq_of, threads_of, schedule_of, Startable}
+use Rattle.script.specs.Scripts.{entries_of, cq_of, threads_of, schedule_of, Startable}
 use Rattle.script.proofs.Numbered.{still_once}
 use Rattle.script.proofs.KeptLimits.{bind_ok, some_both, some_mapped, formed_ok, limited_ok, tested, between_ok, placed_ok, each_all, at_most_ok, le_true, entries_ok, cq_ok, KeepPrograms, threads_kept, schedule_ok}
 

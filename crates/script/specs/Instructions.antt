@@ -1,5 +1,5 @@
 -- Instructions of a thread.
-use Rattle.std.specs.Prelude.{ℕ, ◌+◌, nat_le, List, [], ◌∷◌, length, codes, Bool, true, if◌then◌else◌, Option, Some, None, option_map, Result}
+use Rattle.std.specs.Prelude.{ℕ, nat_le, List, [], ◌∷◌, length, codes, Bool, true, if◌then◌else◌, Option, Some, None, option_map, Result}
 use Rattle.std.specs.Str.{bytes_eq}
 use Rattle.serde_json.specs.Data.{Data, string}
 use Rattle.scenario.specs.declared.setup.Instruction.{Instruction}

@@ -1,5 +1,5 @@
 -- Objects and descriptors.
-use Rattle.std.specs.Prelude.{ℕ, ◌-◌, ◌^◌, ◌&&◌, ◌||◌, nat_eq, nat_le, not, List, [], ◌∷◌, ◌++◌, length, take, codes, Bool, true, if◌then◌else◌, Option, Some, None, option_map, Result, Ok}
+use Rattle.std.specs.Prelude.{ℕ, ◌-◌, ◌^◌, ◌&&◌, ◌||◌, nat_eq, nat_le, not, List, [], ◌∷◌, ◌++◌, length, take, codes, Bool, true, if◌then◌else◌, Option, Some, None, option_map, Result}
 use Rattle.std.specs.List.{list_any, position, ends_with}
 use Rattle.std.specs.Str.{bytes_eq}
 use Rattle.serde_json.specs.Data.{Data}
