@@ -1,6 +1,6 @@
 -- Faults of files.
-use Rattle.std_io.specs.declared.io.kind.ErrorKind.{ErrorKind}
-use Rattle.std_io.specs.declared.io.kind.ErrorKind.TheVariants.{OutOfMemory}
+use Rattle.std.specs.declared.io.ErrorKind.{ErrorKind}
+use Rattle.std.specs.declared.io.ErrorKind.TheVariants.{OutOfMemory}
 use Rattle.debug_server.specs.declared.faults.Fault.{Fault}
 use Rattle.debug_server.specs.declared.faults.Fault.TheVariants.{File, Run}
 use Rattle.debug_server.specs.declared.faults.RunFault.TheVariants.{Memory}
