@@ -1,5 +1,5 @@
 //! Calls of the machine, and of what stands beside the sessions.
-ghost use Rattle.std.specs.Prelude.{◌≡◌, length, IfOk};
+ghost use Rattle.std.specs.Prelude.{◌≡◌, length, IfOk, OnOk};
 
 use crate::tests::ONE_NOP;
 use inverse_log::Walker;
@@ -154,15 +154,22 @@ fn states_are_copied(rt: HostRuntime) -> Result<(), Fail> {
     Ok(())
 }
 
+fn go_to_the_end(walker: &mut Walker, events: &[Event]) -> Result<(), Fail>
+    ensures { OnOk result (walker.new.at ≡ length walker.new.events) }
+{
+    walker.extend(events)?;
+    let len = walker.len();
+    walker.goto(len)?;
+    Ok(())
+}
+
 // A walker at the end of the run.
 fn walker_at_the_end(alloc: Global) -> Result<Walker, Fail>
     ensures { IfOk result (λ w. w.at ≡ length w.events) }
 {
     let script = script_of(alloc)?;
     let mut walker = Walker::new(alloc, script.setup())?;
-    walker.extend(script.schedule())?;
-    let len = walker.len();
-    walker.goto(len)?;
+    go_to_the_end(&mut walker, script.schedule())?;
     Ok(walker)
 }
 

@@ -53,7 +53,7 @@ fn session_of(alloc: Global, text: &str) -> Result<Session, Fail> {
 }
 
 // What a session replies to a line.
-fn reply(session: &mut Session, line: &str) -> Result<Vec<u8>, Fail> {
+pub fn reply(session: &mut Session, line: &str) -> Result<Vec<u8>, Fail> {
     let text = session.line(line.as_bytes(), None)?;
     Ok(text)
 }

@@ -4,6 +4,7 @@ use crate::tests::ONE_NOP;
 use crate::tests::records::TWO_REQUESTS;
 use inverse_log::Walker;
 use machine::Event;
+use opcodes::Choice;
 use places::{Place, Value};
 use script::read_script;
 use std::alloc::Global;
@@ -15,11 +16,20 @@ use watches::{Stop, Watches, cont, rcont};
 const COUNTER_ADDED_AND_READ: &str =
     r#"{"entries":8,"memory":[[0,"0500000000000000"]],"objects":[{"name":"e","eventfd":0}],"fds":["e"],"threads":[[["put",0,{"op":23,"fd":3,"addr":0,"len":8,"ud":1}],["push",0],["put",1,{"op":22,"fd":3,"addr":8,"len":8,"ud":2}],["push",1],["enter",2,0,0]]],"schedule":[]}"#;
 
-// A walker at the start of the run of one NOP.
-fn walker_at_the_start(alloc: Global) -> Result<Walker, Fail> {
-    let script = read_script(alloc, ONE_NOP.as_bytes())?;
-    let mut walker = Walker::new(alloc, script.setup())?;
-    walker.extend(script.schedule())?;
+/// The run of one NOP.
+const REAPED: [Event; 6] = [
+    Event::Step(0),
+    Event::Step(0),
+    Event::Step(0),
+    Event::Issue(0),
+    Event::Finish(0, Choice::Full),
+    Event::Step(0),
+];
+
+// A walker at the start of a script.
+fn walker_over(alloc: Global, text: &str) -> Result<Walker, Fail> {
+    let script = read_script(alloc, text.as_bytes())?;
+    let walker = Walker::new(alloc, script.setup())?;
     Ok(walker)
 }
 
@@ -41,23 +51,22 @@ fn next_stop(walker: &mut Walker, watches: &Watches, on: bool) -> Result<Stop, F
     Ok(stop)
 }
 
-// Whether walks on or back stop just there, one after the other.
-fn stops_just(
+// Walks on or back along some events stop just there, one after the other.
+fn check_stops(
+    rt: &impl Abort,
     walker: &mut Walker,
     watches: &Watches,
     wanted: &[(bool, Stop)],
-) -> Result<bool, Fail> {
+) -> Result<(), Fail> {
+    walker.extend(&REAPED)?;
     for (on, stop) in wanted {
-        if next_stop(walker, watches, *on)? != *stop {
-            return Ok(false);
-        }
+        assert_eq!(rt; next_stop(walker, watches, *on)?, *stop);
     }
-    Ok(true)
+    Ok(())
 }
 
 #[test]
 fn stops_of_one_nop(rt: HostRuntime) -> Result<(), Fail> {
-    let mut walker = walker_at_the_start(rt.alloc())?;
     let watches = tail_and_answer(rt.alloc())?;
     let wanted = [
         (true, Stop::Met(3)),
@@ -66,8 +75,8 @@ fn stops_of_one_nop(rt: HostRuntime) -> Result<(), Fail> {
         (false, Stop::Change(4)),
         (false, Stop::Start),
     ];
-    assert!(rt; stops_just(&mut walker, &watches, &wanted)?);
-    Ok(())
+    let mut walker = walker_over(rt.alloc(), ONE_NOP)?;
+    check_stops(&rt, &mut walker, &watches, &wanted)
 }
 
 // A watch of the thread's last answer, and a break at it.
@@ -81,10 +90,9 @@ fn answer_twice(alloc: Global) -> Result<Watches, Fail> {
 // A change is told before a break that is met at the same moment.
 #[test]
 fn a_change_comes_first(rt: HostRuntime) -> Result<(), Fail> {
-    let mut walker = walker_at_the_start(rt.alloc())?;
     let watches = answer_twice(rt.alloc())?;
-    assert!(rt; stops_just(&mut walker, &watches, &[(true, Stop::Change(3))])?);
-    Ok(())
+    let mut walker = walker_over(rt.alloc(), ONE_NOP)?;
+    check_stops(&rt, &mut walker, &watches, &[(true, Stop::Change(3))])
 }
 
 // Walks over the two requests and forty ticks, to the moment 49.
@@ -93,13 +101,6 @@ fn walk_behind_ticks(walker: &mut Walker) -> Result<(), Fail> {
     walker.extend(&[Event::Tick(1); 40])?;
     walker.goto(49)?;
     Ok(())
-}
-
-fn walker_behind_ticks(alloc: Global) -> Result<Walker, Fail> {
-    let script = read_script(alloc, COUNTER_ADDED_AND_READ.as_bytes())?;
-    let mut walker = Walker::new(alloc, script.setup())?;
-    walk_behind_ticks(&mut walker)?;
-    Ok(walker)
 }
 
 fn counter_watched(alloc: Global) -> Result<Watches, Fail> {
@@ -121,6 +122,7 @@ fn steps_back_to(
 }
 
 fn check_steps_back(rt: &impl Abort, walker: &mut Walker, watches: &Watches) -> Result<(), Fail> {
+    walk_behind_ticks(walker)?;
     assert!(rt; steps_back_to(walker, watches, Stop::Change(8), 41)?);
     assert!(rt; steps_back_to(walker, watches, Stop::Change(6), 2)?);
     assert!(rt; steps_back_to(walker, watches, Stop::Start, 6)?);
@@ -129,7 +131,7 @@ fn check_steps_back(rt: &impl Abort, walker: &mut Walker, watches: &Watches) -> 
 
 #[test]
 fn walks_back_make_few_steps(rt: HostRuntime) -> Result<(), Fail> {
-    let mut walker = walker_behind_ticks(rt.alloc())?;
     let watches = counter_watched(rt.alloc())?;
+    let mut walker = walker_over(rt.alloc(), COUNTER_ADDED_AND_READ)?;
     check_steps_back(&rt, &mut walker, &watches)
 }

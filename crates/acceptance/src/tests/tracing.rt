@@ -1,6 +1,7 @@
 //! Traces of scripts, and sessions over them.
 
 use crate::tests::devices::{SOUND, SlowReader, SlowWriter};
+use crate::tests::sessions::reply;
 use crate::tests::{INPUT, ONE_NOP, OUTPUT};
 use debug_server::{Form, RunFault, Session, migrate_trace, replay, trace_script};
 use script::{Script, read_script};
@@ -80,8 +81,7 @@ fn script_of(alloc: Global) -> Result<Script, Fail> {
 // The reply to a line of the session over a script's setup and events.
 fn reply_over(alloc: Global, script: &Script, line: &str) -> Result<Vec<u8>, Fail> {
     let mut session = Session::of(alloc, script.setup(), script.schedule())?;
-    let text = session.line(line.as_bytes(), None)?;
-    Ok(text)
+    reply(&mut session, line)
 }
 
 #[test]
@@ -118,7 +118,7 @@ fn faults_of_replayed_traces(rt: HostRuntime) -> Result<(), Fail> {
     let other = refusal_of(rt.alloc(), &EVENTS);
     assert!(rt; other == Some(RunFault::Trace(TraceFault::Magic)));
     let (_, whole) = traced(rt.alloc(), Form::Whole)?;
-    let cut = refusal_of(rt.alloc(), &whole[..224]);
+    let cut = refusal_of(rt.alloc(), whole.get(..224).unwrap_or(&EVENTS));
     assert!(rt; cut == Some(RunFault::Trace(TraceFault::Truncated)));
     Ok(())
 }
