@@ -150,7 +150,7 @@ once_more (p ∷ ps) o once fresh =
     let n = and_parts (not (list_any (is_named p.name) ps)) (names_once ps) once in
     let f = or_no (is_same p.name o.name) (has_name ps o.name) fresh in
     let other : list_any (is_named p.name) (ps ++ o ∷ []) ≡ false =
-        list_any-append (is_named p.name) ps (o ∷ []) ∙ ap (λ b. b || (bytes_eq p.name o.name || false)) (no_no _ n.0) ∙ ap (λ b. b || false) (sym (agree p.name o.name) ∙ f.0) in
+    list_any-append (is_named p.name) ps (o ∷ []) ∙ ap (λ b. b || (bytes_eq p.name o.name || false)) (no_no _ n.0) ∙ ap (λ b. b || false) (sym (agree p.name o.name) ∙ f.0) in
     and_from _ _ (yes_no _ other) (once_more ps o n.1 f.1)
 
 name_kept : (before : List Object) (o : Object) → keeps_object before o ≡ true → (is_object o ≡ true) × (has_name before o.name ≡ false)
