@@ -26,6 +26,9 @@ pub enum Plan {
     /// So many NOPs, all submitted before the first is issued: half of them end, and of the others some are
     /// issued again and again.
     Issues(u32),
+    /// So many POLL_ADDs of an eventfd, which has 64 descriptors, all submitted before the first is issued: half
+    /// of them end, and of the others some are issued and finished again and again.
+    Polls(u32),
     /// So many events over 32 files of 65,536 bytes and, behind 131,056 of them, a table of 65,520 requests:
     /// the others are ticks of the clock. The run jumps between their moments.
     Full(u32),
@@ -58,6 +61,7 @@ pub fn plan_of(words: &[&str]) -> Option<Plan>
         "jumps" if size <= MOST_NOP_EVENTS => Some(Plan::Jumps(size)),
         "overflow" if size <= MOST_OVERFLOWING => Some(Plan::Overflow(size)),
         "issues" if size <= MOST_OVERFLOWING => Some(Plan::Issues(size)),
+        "polls" if size <= MOST_OVERFLOWING => Some(Plan::Polls(size)),
         "full" if size <= MOST_EVENTS => Some(Plan::Full(size)),
         "ticks" if size <= MOST_EVENTS => Some(Plan::Ticks(size)),
         "transfers" if size <= MOST_FILE_EVENTS => Some(Plan::Transfers(size)),
