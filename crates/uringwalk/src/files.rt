@@ -64,7 +64,19 @@ fn take_place(rt: &(impl Files + AllocGlobal), made: &str, path: &str) -> io::Re
     }
 }
 
+// Whether something else than a file or a link stands at a path: a folder, a device, a pipe.
+fn is_other(rt: &(impl Files + AllocGlobal), path: &str) -> io::Result<bool> {
+    match fs::symlink_metadata(rt, path) {
+        Ok(found) => Ok(!found.is_file() && !found.is_symlink()),
+        Err(error) if error.kind() == ErrorKind::NotFound => Ok(false),
+        Err(error) => Err(error),
+    }
+}
+
 fn replace(rt: &(impl Files + AllocGlobal), path: &str, bytes: &[u8]) -> io::Result<()> {
+    if is_other(rt, path)? {
+        return Err(io::Error::from(ErrorKind::AlreadyExists));
+    }
     for number in 0..NAMES {
         let made = format!(in rt.alloc(); "{path}.{number}")?;
         if create_free(rt, made.as_str(), bytes)? {
@@ -75,7 +87,7 @@ fn replace(rt: &(impl Files + AllocGlobal), path: &str, bytes: &[u8]) -> io::Res
 }
 
 /// Writes a file whole: it is made beside its place, and renamed. At a fault the old one stands, and
-/// nothing else is left.
+/// nothing else is left. A device, a pipe or a folder that stands there is a fault.
 pub fn write_file(rt: &(impl Files + AllocGlobal), path: &str, bytes: &[u8]) -> Result<(), Fault> {
     match replace(rt, path, bytes) {
         Ok(()) => Ok(()),
