@@ -15,6 +15,8 @@ mod shown;
 mod sources;
 mod stops;
 mod texts;
+mod tracing;
+mod words;
 
 /// One NOP with user_data 7: put, pushed, entered, issued, finished and reaped.
 const ONE_NOP: &str =

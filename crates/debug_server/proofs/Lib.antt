@@ -9,3 +9,5 @@ pub mod Torn
 pub mod Stopping
 pub mod Breaking
 pub mod Numerals
+pub mod Moving
+pub mod Faulting

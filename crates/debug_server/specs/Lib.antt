@@ -6,7 +6,7 @@ pub mod Replies
 pub mod Refusing
 pub mod Lines
 pub mod Talks
+pub mod Tracing
 pub mod Pending
 pub mod Schedules
 pub mod Closing
-pub mod Faults

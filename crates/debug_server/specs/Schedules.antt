@@ -38,6 +38,24 @@ IsOfSchedule (Serve f) = ⊥
 IsOfSchedule Net = ⊥
 IsOfSchedule (Trace f) = ⊥
 
+-- a fault of walking some events: no script and no trace is read there, and nothing listens
+abbrev pub IsOfRun : RunFault → Type 0
+IsOfRun (Schedule i n) = Unit {0}
+IsOfRun (Serve f) = Unit {0}
+IsOfRun Memory = Unit {0}
+IsOfRun (Script f) = ⊥
+IsOfRun Net = ⊥
+IsOfRun (Trace f) = ⊥
+
+-- a fault of walking a trace: no script is read
+abbrev pub IsOfReplay : RunFault → Type 0
+IsOfReplay (Schedule i n) = Unit {0}
+IsOfReplay (Serve f) = Unit {0}
+IsOfReplay Memory = Unit {0}
+IsOfReplay (Trace f) = Unit {0}
+IsOfReplay (Script f) = ⊥
+IsOfReplay Net = ⊥
+
 -- a fault of walking a script: nothing listens there, and no trace is read
 abbrev pub IsOfWalk : RunFault → Type 0
 IsOfWalk (Script f) = Unit {0}

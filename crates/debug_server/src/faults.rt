@@ -4,6 +4,7 @@ use machine::Refusal;
 use script::{Key, Path, ScriptFault};
 use std::fmt;
 use thiserror::Error;
+use traces::TraceFault;
 
 /// Why serving lines ended early.
 #[derive(Clone, Copy, Debug, PartialEq, Eq)]
@@ -18,26 +19,6 @@ pub enum ServeFault {
     Closed = 4,
 }
 
-/// What is wrong with the bytes of a trace.
-#[derive(Clone, Copy, Debug, PartialEq, Eq)]
-pub enum TraceFault {
-    Magic,
-    /// Bytes are missing.
-    Truncated,
-    /// There are more events than a trace may have.
-    Count,
-    /// An event of a kind that there isn't.
-    Kind,
-    /// A byte or a field that must be 0, and isn't.
-    Padding,
-    /// Bytes behind the last event.
-    Trailing,
-    /// Memory was refused.
-    Memory,
-    /// The setup of a trace that has one: the offset of its first wrong byte.
-    Setup(u32),
-}
-
 /// Why a run failed.
 #[derive(Clone, Copy, Debug, PartialEq, Eq)]
 pub enum RunFault {
@@ -49,6 +30,7 @@ pub enum RunFault {
     Memory,
     /// Listening or accepting failed.
     Net,
+    /// The first fault of the trace.
     Trace(TraceFault),
 }
 
@@ -121,27 +103,6 @@ impl fmt::Display for RunFault {
                 let number = fault.number();
                 write!(f, "fault trace {number}")
             }
-        }
-    }
-}
-
-impl TraceFault {
-    ghost use Rattle.std.specs.Prelude.{◌≡◌};
-    ghost use Rattle.debug_server.specs.Faults.{number_of};
-
-    /// Its number, 1 to 8.
-    pub fn number(&self) -> u32
-        ensures { result ≡ number_of self.now }
-    {
-        match self {
-            TraceFault::Magic => 1,
-            TraceFault::Truncated => 2,
-            TraceFault::Count => 3,
-            TraceFault::Kind => 4,
-            TraceFault::Padding => 5,
-            TraceFault::Trailing => 6,
-            TraceFault::Memory => 7,
-            TraceFault::Setup(_) => 8,
         }
     }
 }

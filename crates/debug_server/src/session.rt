@@ -43,6 +43,18 @@ impl Session {
         session_of(alloc, script.setup(), script.schedule())
     }
 
+    /// Runs some events from a setup, and stands at their end.
+    pub fn of(alloc: Global, setup: &Setup, events: &[Event]) -> Result<Session, RunFault>
+        requires starts { setup_refusal setup.now ≡ None }
+        requires most { length events.now ≤ 1048576 }
+        ensures ok { IfOk result (λ s. s ≡ record { visit = visit_over setup.now events.now; is_closed = false }) }
+        ensures accepts { OnOk result (Accepts (start setup.now) events.now) }
+        ensures schedule { IfErr result (λ e. (i : ℕ) → (n : Denial) → e ≡ RunFault.Schedule i n → IsRefused setup.now events.now i n) }
+        ensures other { IfErr result IsOfSchedule }
+    {
+        session_of(alloc, setup, events)
+    }
+
     /// Replies to one line. An `Err` changes nothing. The answer, what a source gave, counts for the
     /// commands that ask it. Whether the session is closed is neither asked nor changed.
     pub fn line(&mut self, line: &[u8], answer: Option<&[Event]>) -> Result<Vec<u8>, AllocError>

@@ -1,8 +1,31 @@
 //! What the program is asked for.
 
-/// What the words ask for.
+/// The form of a trace.
+#[derive(Clone, Copy, Debug, PartialEq, Eq)]
+pub enum Form {
+    /// The first: the events alone.
+    Events,
+    /// The second: the setup, and the events.
+    Whole,
+}
+
+/// What the words ask for. Files are named by their paths.
 #[derive(Clone, Copy, Debug)]
 pub enum Job<'a> {
     /// A session over the script in this file.
     Walk(&'a str),
+    /// A session over the trace in this file.
+    Replay(&'a str),
+    /// The trace of a script's schedule.
+    Trace {
+        script: &'a str,
+        out: &'a str,
+        form: Form,
+    },
+    /// A trace of the first form, made one of the second with a script's setup.
+    Migrate {
+        script: &'a str,
+        trace: &'a str,
+        out: &'a str,
+    },
 }

@@ -1,7 +1,8 @@
-//! Walking a script.
-ghost use Rattle.std.specs.Prelude.{◌≡◌, ◌≢◌, ℕ, Bool, List, Ok, Err, OnOk, IfErr};
+//! Walking a script, or some events.
+ghost use Rattle.std.specs.Prelude.{◌≡◌, ◌≢◌, ◌≤◌, ℕ, Bool, List, Ok, Err, None, OnOk, IfErr, length};
 ghost use Rattle.std.specs.Io.KnownBytes.{Keeps};
 ghost use Rattle.machine.specs.Runs.{IsRefused};
+ghost use Rattle.scenario.specs.Setups.{setup_refusal};
 ghost use Rattle.scenario.specs.declared.event.Refusal.{Refusal as Denial};
 ghost use Rattle.script.specs.Scripts.{Plan, Reads};
 ghost use Rattle.script.specs.declared.fault.ScriptFault.{ScriptFault as Misread};
@@ -10,12 +11,13 @@ ghost use Rattle.debug_server.specs.declared.faults.ServeFault.TheVariants.{Clos
 ghost use Rattle.debug_server.specs.Visits.{Visit};
 ghost use Rattle.debug_server.specs.Replies.{Told};
 ghost use Rattle.debug_server.specs.Talks.{Unanswered, Served, Broke};
-ghost use Rattle.debug_server.specs.Schedules.{visit_over, IsOfWalk};
+ghost use Rattle.debug_server.specs.Schedules.{visit_over, IsOfRun, IsOfWalk};
 
 use crate::faults::RunFault;
 use crate::serving::serve;
 use crate::session::Session;
 use crate::source::NoSource;
+use machine::{Event, Setup};
 use script::{Script, ScriptFault, read_script};
 use std::alloc::Global;
 use std::io::{Read, Write};
@@ -70,7 +72,30 @@ fn walk_script<R: Read, W: Write>(
     ensures open { result ≢ Err (RunFault.Serve Closed) }
     ensures other { IfErr result IsOfWalk }
 {
-    let mut session = match Session::new(alloc, script) {
+    walk_events(alloc, script.setup(), script.schedule(), reader, writer)
+}
+
+/// Runs some events from a setup, and replies to the lines that the reader gives.
+pub(crate) fn walk_events<R: Read, W: Write>(
+    alloc: Global,
+    setup: &Setup,
+    events: &[Event],
+    reader: &mut R,
+    writer: &mut W,
+) -> Result<(), RunFault>
+    requires starts { setup_refusal setup.now ≡ None }
+    requires most { length events.now ≤ 1048576 }
+    ensures ok { OnOk result ((answers : List Told) × Unanswered answers × (v : Visit) × (q : Bool)
+        × Served (visit_over setup.now events.now) (R.remaining reader.old) (R.remaining reader.new) (W.contents writer.old) (W.contents writer.new) answers v q) }
+    ensures schedule { IfErr result (λ e. (i : ℕ) → (n : Denial) → e ≡ RunFault.Schedule i n
+        → IsRefused setup.now events.now i n × Keeps (W.contents writer.old) (W.contents writer.new)) }
+    ensures memory { IfErr result (λ e. e ≡ RunFault.Memory → Keeps (W.contents writer.old) (W.contents writer.new)) }
+    ensures begins { IfErr result (λ e. (f : Serving) → e ≡ RunFault.Serve f → (answers : List Told) × Unanswered answers
+        × Broke (visit_over setup.now events.now) (R.remaining reader.old) (R.remaining reader.new) (W.contents writer.old) (W.contents writer.new) answers) }
+    ensures open { result ≢ Err (RunFault.Serve Closed) }
+    ensures other { IfErr result IsOfRun }
+{
+    let mut session = match Session::of(alloc, setup, events) {
         Ok(session) => session,
         Err(fault) => return Err(fault),
     };

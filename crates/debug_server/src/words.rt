@@ -1,30 +1,100 @@
 //! The program's words.
 
-use crate::task::Job;
-use clap::{Arg, ArgAction, Command, Error};
-use std::alloc::Global;
+use crate::task::{Form, Job};
+use clap::{Arg, ArgAction, ArgMatches, Command, Error};
+use std::alloc::{AllocError, Global};
 
 const EXAMPLE: &str = "Example: echo where | uringwalk walk script.json";
 
-/// Reads the words of the program. Words that can't be read, and help, are errors with their text.
-pub fn job<'a>(alloc: Global, words: &'a [&'a str]) -> Result<Job<'a>, Error> {
-    let script = Arg::new(alloc, "SCRIPT")
-        .help("A script: a setup, programs and a schedule, as JSON")
+const SCRIPT: &str = "A script: a setup, programs and a schedule, as JSON";
+
+const FORMS: &[&str] = &["1", "2"];
+
+// A word that names a file.
+fn file<'a>(alloc: Global, name: &'a str, help: &'a str) -> Arg<'a> {
+    Arg::new(alloc, name)
+        .help(help)
         .required(true)
-        .action(ArgAction::Set);
-    let walk = Command::new(alloc, "walk")
+        .action(ArgAction::Set)
+}
+
+fn walk_words<'a>(alloc: Global) -> Result<Command<'a>, AllocError> {
+    Command::new(alloc, "walk")
         .about("Run a script's schedule, and answer commands from standard input")
         .after_help(EXAMPLE)
-        .arg(script)?;
+        .arg(file(alloc, "SCRIPT", SCRIPT))
+}
+
+fn trace_words<'a>(alloc: Global) -> Result<Command<'a>, AllocError> {
+    let form = Arg::new(alloc, "FORM")
+        .long("form")
+        .help("1: the events alone; 2: the setup and the events")
+        .default_value("2")
+        .value_parser(FORMS)
+        .action(ArgAction::Set);
+    Command::new(alloc, "trace")
+        .about("Run a script's schedule, and write its trace to a file")
+        .arg(file(alloc, "SCRIPT", SCRIPT))?
+        .arg(file(alloc, "OUT", "Where the trace is written to"))?
+        .arg(form)
+}
+
+fn migrate_words<'a>(alloc: Global) -> Result<Command<'a>, AllocError> {
+    Command::new(alloc, "migrate")
+        .about("Put a script's setup before the events of a trace of form 1")
+        .arg(file(alloc, "SCRIPT", SCRIPT))?
+        .arg(file(alloc, "IN", "A trace of form 1"))?
+        .arg(file(alloc, "OUT", "Where the trace of form 2 is written to"))
+}
+
+fn replay_words<'a>(alloc: Global) -> Result<Command<'a>, AllocError> {
+    Command::new(alloc, "replay")
+        .about("Run a trace of form 2, and answer commands from standard input")
+        .arg(file(alloc, "TRACE", "A trace of form 2"))
+}
+
+fn text_of<'a>(matches: &ArgMatches<'a>, name: &str) -> &'a str {
+    matches.get_str(name).unwrap_or("")
+}
+
+fn form_of(matches: &ArgMatches<'_>) -> Form {
+    match text_of(matches, "FORM") {
+        "1" => Form::Events,
+        _ => Form::Whole,
+    }
+}
+
+fn job_of<'a>(name: &str, matches: &ArgMatches<'a>) -> Job<'a> {
+    let script = text_of(matches, "SCRIPT");
+    match name {
+        "trace" => Job::Trace {
+            script,
+            out: text_of(matches, "OUT"),
+            form: form_of(matches),
+        },
+        "migrate" => Job::Migrate {
+            script,
+            trace: text_of(matches, "IN"),
+            out: text_of(matches, "OUT"),
+        },
+        "replay" => Job::Replay(text_of(matches, "TRACE")),
+        _ => Job::Walk(script),
+    }
+}
+
+/// Reads the words of the program. Words that can't be read, and help, are errors with their text.
+pub fn job<'a>(alloc: Global, words: &'a [&'a str]) -> Result<Job<'a>, Error> {
     let command = Command::new(alloc, "uringwalk")
         .about("A reversible debugger for io_uring programs")
         .after_help(EXAMPLE)
         .subcommand_required(true)
-        .subcommand(walk)?;
+        .subcommand(walk_words(alloc)?)?
+        .subcommand(trace_words(alloc)?)?
+        .subcommand(migrate_words(alloc)?)?
+        .subcommand(replay_words(alloc)?)?;
     let matches = command.try_get_matches_from(words)?;
-    let path = match matches.subcommand() {
-        Some((_, matches)) => matches.get_str("SCRIPT").unwrap_or(""),
-        None => "",
-    };
-    Ok(Job::Walk(path))
+    Ok(match matches.subcommand() {
+        Some((name, matches)) => job_of(name, matches),
+        None => Job::Walk(""),
+    })
 }

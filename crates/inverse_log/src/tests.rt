@@ -100,7 +100,8 @@ fn jumps_are_short(rt: HostRuntime) -> Result<(), Fail> {
     assert_eq!(rt; after_jump(&mut walker, 0), (6, Some(0)));
     assert_eq!(rt; after_jump(&mut walker, 8), (6, Some(8)));
     assert_eq!(rt; after_jump(&mut walker, 8), (6, Some(8)));
-    assert_eq!(rt; after_jump(&mut walker, 11), (6, Some(8)));
+    assert_eq!(rt; walker.goto(11), Err(WalkRefusal::NoSuchMoment));
+    assert_eq!(rt; after_jump(&mut walker, 8), (6, Some(8)));
     Ok(())
 }
 

@@ -1,7 +1,7 @@
 -- Plans that a machine has room for.
 use Rattle.std.specs.Prelude.{◌≤◌}
 use Rattle.measure.specs.declared.plan.Plan.{Plan}
-use Rattle.measure.specs.declared.plan.Plan.TheVariants.{Nops, Jumps, Overflow, Issues, Full, Ticks, Transfers, Syncs}
+use Rattle.measure.specs.declared.plan.Plan.TheVariants.{Nops, Jumps, Overflow, Issues, Polls, Full, Ticks, Transfers, Syncs}
 
 -- a setup has programs for the requests and the pushes, a trace room for the events
 abbrev pub HasLimits : Plan → Type 0
@@ -9,6 +9,7 @@ HasLimits (Nops n) = n ≤ 109200
 HasLimits (Jumps n) = n ≤ 109200
 HasLimits (Overflow n) = n ≤ 65520
 HasLimits (Issues n) = n ≤ 65520
+HasLimits (Polls n) = n ≤ 65520
 HasLimits (Full n) = n ≤ 1048576
 HasLimits (Ticks n) = n ≤ 1048576
 HasLimits (Transfers n) = n ≤ 109120

@@ -4,12 +4,14 @@ use inverse_log::{ExtendRefusal, WalkRefusal};
 use machine::SetupRefusal;
 use std::alloc::AllocError;
 use std::{fmt, io};
+use traces::TraceFault;
 
 #[derive(Debug, Drop)]
 pub enum Fault {
     Setup(SetupRefusal),
     Extend(ExtendRefusal),
     Walk(WalkRefusal),
+    Trace(TraceFault),
     Memory,
     Io(io::Error),
 }
@@ -32,6 +34,12 @@ impl From<WalkRefusal> for Fault {
     }
 }
 
+impl From<TraceFault> for Fault {
+    fn from(fault: TraceFault) -> Fault {
+        Fault::Trace(fault)
+    }
+}
+
 impl From<AllocError> for Fault {
     fn from(_: AllocError) -> Fault {
         Fault::Memory
@@ -50,6 +58,7 @@ impl fmt::Display for Fault {
             Fault::Setup(refusal) => write!(f, "setup {refusal:?}"),
             Fault::Extend(refusal) => write!(f, "extend {refusal:?}"),
             Fault::Walk(refusal) => write!(f, "walk {refusal:?}"),
+            Fault::Trace(fault) => write!(f, "trace {fault:?}"),
             Fault::Memory => write!(f, "memory"),
             Fault::Io(error) => write!(f, "{error}"),
         }

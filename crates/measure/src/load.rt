@@ -5,13 +5,17 @@ ghost use Rattle.measure.specs.Plans.{HasLimits};
 use crate::files::{full_files, sync_load, transfer_load};
 use crate::parts::{Load, Requests, entry, request_load, setup_of};
 use crate::plan::{MOST_OVERFLOWING, Plan};
+use entries::Sqe;
 use machine::{Event, Instruction};
 use opcodes::Choice;
-use places::Items;
+use places::{Contents, Descriptor, End, Items, Object};
 use std::alloc::{AllocError, Global};
 
 /// The opcode of a NOP.
 const NOP: u8 = 0;
+
+/// The opcode of a POLL_ADD.
+const POLL_ADD: u8 = 6;
 
 /// How many requests one program of 4,096 instructions holds, behind one put.
 const PROGRAM_REQUESTS: u32 = 1365;
@@ -30,6 +34,7 @@ pub fn load_of(alloc: Global, plan: Plan) -> Result<Load, AllocError>
         Plan::Nops(events) | Plan::Jumps(events) => nop_load(alloc, events),
         Plan::Overflow(count) => overflow_load(alloc, count),
         Plan::Issues(count) => issue_load(alloc, count),
+        Plan::Polls(count) => poll_load(alloc, count),
         Plan::Full(events) => full_load(alloc, events),
         Plan::Ticks(ticks) => Ok(Load {
             setup: setup_of(alloc, Items::new(alloc)),
@@ -53,8 +58,8 @@ fn nop_load(alloc: Global, count: u32) -> Result<Load, AllocError> {
 fn overflow_load(alloc: Global, count: u32) -> Result<Load, AllocError>
     requires { count ≤ 65520 }
 {
-    let mut load = submitted_load(alloc, count)?;
-    add_ends(&mut load.events, count)?;
+    let mut load = submitted_load(alloc, count, entry(NOP))?;
+    add_ends(&mut load.events, 0, count)?;
     Ok(load)
 }
 
@@ -62,18 +67,50 @@ fn overflow_load(alloc: Global, count: u32) -> Result<Load, AllocError>
 fn issue_load(alloc: Global, count: u32) -> Result<Load, AllocError>
     requires { count ≤ 65520 }
 {
-    let mut load = submitted_load(alloc, count)?;
+    let mut load = submitted_load(alloc, count, entry(NOP))?;
     let half = count / 2;
-    add_ends(&mut load.events, half)?;
+    add_ends(&mut load.events, 0, half)?;
     for row in half..count.min(half + ISSUED) {
         load.events.push(Event::Issue(row))?;
     }
     Ok(load)
 }
 
+// All POLL_ADDs are submitted; then half of them are issued and finished, and so are the first of the others.
+fn poll_load(alloc: Global, count: u32) -> Result<Load, AllocError>
+    requires { count ≤ 65520 }
+{
+    let poll = Sqe {
+        fd: 3,
+        operation_flags: 1,
+        ..entry(POLL_ADD)
+    };
+    let mut load = submitted_load(alloc, count, poll)?;
+    load.setup.objects = one_eventfd(alloc)?;
+    load.setup.fds = Items::of(vec![in alloc; Descriptor {
+        object: 0,
+        end: End::Whole
+    }; 64]?);
+    let half = count / 2;
+    add_ends(&mut load.events, 0, half)?;
+    add_ends(&mut load.events, half, count.min(half + ISSUED))?;
+    Ok(load)
+}
+
+// An eventfd whose counter is 1.
+fn one_eventfd(alloc: Global) -> Result<Items<Object>, AllocError> {
+    let name = Vec::from_slice(alloc, b"e")?;
+    let mut objects = Vec::new(alloc);
+    objects.push(Object {
+        name: Items::of(name),
+        contents: Contents::EventFd(1),
+    })?;
+    Ok(Items::of(objects))
+}
+
 // As many NOPs as the programs push are submitted; behind them the clock ticks.
 fn full_load(alloc: Global, count: u32) -> Result<Load, AllocError> {
-    let mut load = submitted_load(alloc, MOST_OVERFLOWING)?;
+    let mut load = submitted_load(alloc, MOST_OVERFLOWING, entry(NOP))?;
     load.setup.objects = full_files(alloc)?;
     for _tick in load.events.len()..count as usize {
         load.events.push(Event::Tick(1))?;
@@ -82,8 +119,8 @@ fn full_load(alloc: Global, count: u32) -> Result<Load, AllocError> {
     Ok(load)
 }
 
-// The poller takes each NOP as it is pushed.
-fn submitted_load(alloc: Global, count: u32) -> Result<Load, AllocError>
+// The poller takes each entry as it is pushed.
+fn submitted_load(alloc: Global, count: u32, entry: Sqe) -> Result<Load, AllocError>
     requires { count ≤ 65520 }
 {
     let mut threads = Vec::new(alloc);
@@ -91,7 +128,7 @@ fn submitted_load(alloc: Global, count: u32) -> Result<Load, AllocError>
     for thread in 0..16u32 {
         let first = thread * PROGRAM_PUSHES;
         let here = count.saturating_sub(first).min(PROGRAM_PUSHES);
-        threads.push(push_program(alloc, here)?)?;
+        threads.push(push_program(alloc, here, entry)?)?;
         add_takes(&mut events, thread, here)?;
     }
     let mut setup = setup_of(alloc, Items::of(threads));
@@ -99,10 +136,10 @@ fn submitted_load(alloc: Global, count: u32) -> Result<Load, AllocError>
     Ok(Load { setup, events })
 }
 
-// Puts a NOP into the ring's slot, and pushes it again and again.
-fn push_program(alloc: Global, pushes: u32) -> Result<Items<Instruction>, AllocError> {
+// Puts an entry into the ring's slot, and pushes it again and again.
+fn push_program(alloc: Global, pushes: u32, entry: Sqe) -> Result<Items<Instruction>, AllocError> {
     let mut program = Vec::new(alloc);
-    program.push(Instruction::Put(0, entry(NOP)))?;
+    program.push(Instruction::Put(0, entry))?;
     for _push in 0..pushes {
         program.push(Instruction::Push(0))?;
     }
@@ -121,9 +158,9 @@ fn add_takes(events: &mut Vec<Event>, thread: u32, pushes: u32) -> Result<(), Al
     Ok(())
 }
 
-// Each of so many NOPs is issued and finished.
-fn add_ends(events: &mut Vec<Event>, count: u32) -> Result<(), AllocError> {
-    for row in 0..count {
+// Each of some rows is issued and finished.
+fn add_ends(events: &mut Vec<Event>, from: u32, to: u32) -> Result<(), AllocError> {
+    for row in from..to {
         events.push(Event::Issue(row))?;
         events.push(Event::Finish(row, Choice::Full))?;
     }

@@ -7,6 +7,7 @@ mod jumps;
 mod load;
 mod parts;
 mod plan;
+mod spelling;
 
 use fault::Fault;
 use inverse_log::Walker;
@@ -14,7 +15,8 @@ use jumps::{JUMPS, jump, search};
 use load::{ISSUED, load_of};
 use parts::Load;
 use places::{Place, Record, Value};
-use plan::{Plan, plan_of};
+use plan::{Plan, plan_of, traces_of};
+use spelling::measure_traces;
 use std::process::ExitCode;
 use std::rt::Clock;
 use std::time::Instant;
@@ -23,7 +25,7 @@ use std::{env, io};
 #[cfg(test)]
 mod tests;
 
-/// How often the requests are issued, and that is undone.
+/// How often the last events are done, and undone.
 const ROUNDS: usize = 200;
 
 // So many events in so many microseconds, on standard error.
@@ -117,20 +119,21 @@ fn walk_rounds(
         on = on.saturating_add(timed(rt, walker, end)?);
         back = back.saturating_add(timed(rt, walker, start)?);
     }
-    report(rt, "issue", steps, on)?;
-    report(rt, "undo an issue", steps, back)?;
+    report(rt, "again", steps, on)?;
+    report(rt, "undone", steps, back)?;
     Ok(())
 }
 
 // Adds the events, and walks the last of them on and back, again and again.
-fn walk_issues(
+fn walk_last(
     rt: &(impl Print + Eprint + Clock),
     walker: &mut Walker,
     load: &Load,
+    last: usize,
 ) -> Result<(), Fault> {
     add(rt, walker, load)?;
     let end = walker.len();
-    let start = end.saturating_sub(ISSUED as usize);
+    let start = end.saturating_sub(last);
     walker.goto(start)?;
     walk_rounds(rt, walker, start, end)?;
     print_counts(rt, walker)?;
@@ -170,8 +173,20 @@ fn measure(
     let mut walker = Walker::with(rt.alloc(), &load.setup, every, window)?;
     match plan {
         Plan::Jumps(_) | Plan::Full(_) => walk_jumps(rt, &mut walker, load),
-        Plan::Issues(_) => walk_issues(rt, &mut walker, load),
+        Plan::Issues(_) => walk_last(rt, &mut walker, load, ISSUED as usize),
+        Plan::Polls(_) => walk_last(rt, &mut walker, load, 2 * ISSUED as usize),
         _ => walk_through(rt, &mut walker, load),
+    }
+}
+
+// The program's status, behind a line on standard error if nothing was measured.
+fn end(rt: &impl Eprint, measured: Result<(), Fault>) -> io::Result<ExitCode> {
+    match measured {
+        Ok(()) => Ok(ExitCode::SUCCESS),
+        Err(fault) => {
+            eprintln!(rt; "{fault}")?;
+            Ok(ExitCode::from(1))
+        }
     }
 }
 
@@ -183,18 +198,15 @@ fn main(rt: HostRuntime) -> io::Result<ExitCode> {
         .skip(1)
         .map(|word| word.as_str())
         .collect(alloc)?;
+    if let Some(count) = traces_of(&texts) {
+        return end(&rt, measure_traces(&rt, count));
+    }
     let Some(plan) = plan_of(&texts) else {
         eprintln!(rt;
-            "measure nops N | jumps N | overflow N | issues N | full N | ticks N | transfers N | syncs N"
+            "measure nops N | jumps N | overflow N | issues N | polls N | full N | ticks N | transfers N | syncs N | traces N"
         )?;
         return Ok(ExitCode::from(2));
     };
     let load = load_of(alloc, plan)?;
-    match measure(&rt, plan, &load) {
-        Ok(()) => Ok(ExitCode::SUCCESS),
-        Err(fault) => {
-            eprintln!(rt; "{fault}")?;
-            Ok(ExitCode::from(1))
-        }
-    }
+    end(&rt, measure(&rt, plan, &load))
 }

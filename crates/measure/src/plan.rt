@@ -26,6 +26,9 @@ pub enum Plan {
     /// So many NOPs, all submitted before the first is issued: half of them end, and of the others some are
     /// issued again and again.
     Issues(u32),
+    /// So many POLL_ADDs of an eventfd, which has 64 descriptors, all submitted before the first is issued: half
+    /// of them end, and of the others some are issued and finished again and again.
+    Polls(u32),
     /// So many events over 32 files of 65,536 bytes and, behind 131,056 of them, a table of 65,520 requests:
     /// the others are ticks of the clock. The run jumps between their moments.
     Full(u32),
@@ -35,6 +38,14 @@ pub enum Plan {
     Transfers(u32),
     /// So many events of WRITEs, each of which changes one byte of a file of 65,536 bytes, and of FSYNCs.
     Syncs(u32),
+}
+
+/// Reads the word for traces, and how many events they have.
+pub fn traces_of(words: &[&str]) -> Option<u32> {
+    match words {
+        ["traces", size] => size.parse::<u32>().ok(),
+        _ => None,
+    }
 }
 
 /// Reads the words behind the program's name.
@@ -50,6 +61,7 @@ pub fn plan_of(words: &[&str]) -> Option<Plan>
         "jumps" if size <= MOST_NOP_EVENTS => Some(Plan::Jumps(size)),
         "overflow" if size <= MOST_OVERFLOWING => Some(Plan::Overflow(size)),
         "issues" if size <= MOST_OVERFLOWING => Some(Plan::Issues(size)),
+        "polls" if size <= MOST_OVERFLOWING => Some(Plan::Polls(size)),
         "full" if size <= MOST_EVENTS => Some(Plan::Full(size)),
         "ticks" if size <= MOST_EVENTS => Some(Plan::Ticks(size)),
         "transfers" if size <= MOST_FILE_EVENTS => Some(Plan::Transfers(size)),

@@ -3,6 +3,7 @@ use crate::{ComRing, RingFlag, RingRefusal, SubRing, Taken};
 use entries::{Cqe, Sqe};
 use places::value::is_same;
 use places::{At, Part, Place, Recorder, Value};
+use std::process::Abort;
 use std::test::Fail;
 
 const BASE: u32 = 4294967294;
@@ -30,55 +31,78 @@ fn other_sizes_are_refused(rt: HostRuntime) {
     }
 }
 
-#[test]
-fn indexes_wait_in_order(rt: HostRuntime) -> Result<(), Fail> {
-    let mut ring = SubRing::new(rt.alloc(), 4, BASE)?;
+fn push_all(
+    rt: &(impl Abort + AllocGlobal),
+    ring: &mut SubRing,
+    indexes: &[u32],
+) -> Result<(), Fail> {
     let mut notes = Recorder::new(rt.alloc());
-    assert!(rt; ring.is_empty());
-    for index in [0, 1, 9, 3] {
+    for index in indexes {
         assert!(rt; ring.waiting() < ring.size());
         notes.room(2)?;
-        ring.push(index, &mut notes);
+        ring.push(*index, &mut notes);
     }
+    Ok(())
+}
+
+fn check_takes(
+    rt: &(impl Abort + AllocGlobal),
+    ring: &mut SubRing,
+    wanted: &[Taken],
+) -> Result<(), Fail> {
+    let mut notes = Recorder::new(rt.alloc());
+    for taken in wanted {
+        assert!(rt; !ring.is_empty());
+        notes.room(2)?;
+        assert_eq!(rt; ring.take(&mut notes), *taken);
+    }
+    Ok(())
+}
+
+fn check_full(rt: &(impl Abort + AllocGlobal), ring: &SubRing) -> Result<(), Fail> {
     assert!(rt; ring.is_full());
     assert_eq!(rt; ring.tail(), 2);
     assert!(rt; 2 < ring.waiting());
     assert_eq!(rt; ring.word(2), 9);
     let again = ring.copy(rt.alloc())?;
     assert_eq!(rt; again.waiting(), 4);
-    for taken in [
+    Ok(())
+}
+
+#[test]
+fn indexes_wait_in_order(rt: HostRuntime) -> Result<(), Fail> {
+    let mut ring = SubRing::new(rt.alloc(), 4, BASE)?;
+    push_all(&rt, &mut ring, &[0, 1, 9, 3])?;
+    check_full(&rt, &ring)?;
+    let wanted = [
         Taken::Entry(0),
         Taken::Entry(1),
         Taken::Dropped,
         Taken::Entry(3),
-    ] {
-        assert!(rt; !ring.is_empty());
-        notes.room(2)?;
-        assert_eq!(rt; ring.take(&mut notes), taken);
-    }
+    ];
+    check_takes(&rt, &mut ring, &wanted)?;
     assert_eq!(rt; (ring.head(), ring.dropped()), (2, 1));
+    Ok(())
+}
+
+fn take_three(rt: &(impl Abort + AllocGlobal), ring: &mut SubRing) -> Result<(), Fail> {
+    let mut notes = Recorder::new(rt.alloc());
+    assert!(rt; 3 <= ring.waiting());
+    notes.room(2)?;
+    ring.take_first(3, 2, &mut notes);
     Ok(())
 }
 
 #[test]
 fn indexes_are_taken_at_once(rt: HostRuntime) -> Result<(), Fail> {
     let mut ring = SubRing::new(rt.alloc(), 4, BASE)?;
-    let mut notes = Recorder::new(rt.alloc());
-    for index in [7, 1, 9, 3] {
-        assert!(rt; ring.waiting() < ring.size());
-        notes.room(2)?;
-        ring.push(index, &mut notes);
-    }
-    assert!(rt; 3 <= ring.waiting());
-    notes.room(2)?;
-    ring.take_first(3, 2, &mut notes);
+    push_all(&rt, &mut ring, &[7, 1, 9, 3])?;
+    take_three(&rt, &mut ring)?;
     assert_eq!(rt; (ring.head(), ring.waiting(), ring.dropped()), (1, 1, 2));
     Ok(())
 }
 
-#[test]
-fn entries_stand_in_slots(rt: HostRuntime) -> Result<(), Fail> {
-    let mut ring = SubRing::new(rt.alloc(), 2, 0)?;
+fn check_entries(rt: &(impl Abort + AllocGlobal), ring: &mut SubRing) -> Result<(), Fail> {
     let mut notes = Recorder::new(rt.alloc());
     assert_eq!(rt; ring.size(), 2);
     assert_eq!(rt; ring.entry(2), None);
@@ -93,8 +117,12 @@ fn entries_stand_in_slots(rt: HostRuntime) -> Result<(), Fail> {
 }
 
 #[test]
-fn flags_are_two_bits(rt: HostRuntime) -> Result<(), Fail> {
-    let mut ring = SubRing::new(rt.alloc(), 1, 0)?;
+fn entries_stand_in_slots(rt: HostRuntime) -> Result<(), Fail> {
+    let mut ring = SubRing::new(rt.alloc(), 2, 0)?;
+    check_entries(&rt, &mut ring)
+}
+
+fn check_flags(rt: &(impl Abort + AllocGlobal), ring: &mut SubRing) -> Result<(), Fail> {
     let mut notes = Recorder::new(rt.alloc());
     for (flag, on, flags) in [
         (RingFlag::NeedWakeup, true, 1),
@@ -110,39 +138,78 @@ fn flags_are_two_bits(rt: HostRuntime) -> Result<(), Fail> {
 }
 
 #[test]
-fn completions_wait_in_order(rt: HostRuntime) -> Result<(), Fail> {
-    let mut ring = ComRing::new(rt.alloc(), 4, BASE)?;
+fn flags_are_two_bits(rt: HostRuntime) -> Result<(), Fail> {
+    let mut ring = SubRing::new(rt.alloc(), 1, 0)?;
+    check_flags(&rt, &mut ring)
+}
+
+fn post_all(
+    rt: &(impl Abort + AllocGlobal),
+    ring: &mut ComRing,
+    numbers: &[u64],
+) -> Result<(), Fail> {
     let mut notes = Recorder::new(rt.alloc());
-    assert!(rt; ring.is_empty());
-    for user_data in [1, 2, 3, 4] {
+    for user_data in numbers {
         assert!(rt; ring.has_room());
         notes.room(1)?;
-        ring.post(completion(user_data), &mut notes);
+        ring.post(completion(*user_data), &mut notes);
     }
+    Ok(())
+}
+
+fn check_reaped(
+    rt: &(impl Abort + AllocGlobal),
+    ring: &mut ComRing,
+    numbers: &[u64],
+) -> Result<(), Fail> {
+    let mut notes = Recorder::new(rt.alloc());
+    for user_data in numbers {
+        assert!(rt; !ring.is_empty());
+        notes.room(1)?;
+        assert_eq!(rt; ring.reap(&mut notes), completion(*user_data));
+    }
+    Ok(())
+}
+
+fn check_posted(rt: &(impl Abort + AllocGlobal), ring: &ComRing) -> Result<(), Fail> {
     assert!(rt; ring.is_full());
     assert_eq!(rt; ring.tail(), 2);
     let again = ring.copy(rt.alloc())?;
     assert_eq!(rt; again.waiting(), 4);
-    for user_data in [1, 2, 3, 4] {
-        assert!(rt; !ring.is_empty());
-        notes.room(1)?;
-        assert_eq!(rt; ring.reap(&mut notes), completion(user_data));
-    }
+    Ok(())
+}
+
+#[test]
+fn completions_wait_in_order(rt: HostRuntime) -> Result<(), Fail> {
+    let mut ring = ComRing::new(rt.alloc(), 4, BASE)?;
+    post_all(&rt, &mut ring, &[1, 2, 3, 4])?;
+    check_posted(&rt, &ring)?;
+    check_reaped(&rt, &mut ring, &[1, 2, 3, 4])?;
     assert_eq!(rt; ring.head(), 2);
     Ok(())
+}
+
+fn check_submission(rt: &impl Abort, ring: &mut SubRing) {
+    ring.put(Place::SubmissionTail, Some(Value::Number(7)));
+    assert_eq!(rt; ring.tail(), 7);
+    let head = Some(Value::Number(4294967294));
+    assert!(rt; is_same(ring.at(Place::SubmissionHead), head));
+}
+
+fn check_completion(rt: &impl Abort, ring: &mut ComRing) {
+    ring.put(Place::CompletionHead, Some(Value::Number(8)));
+    assert_eq!(rt; ring.head(), 8);
+    let tail = Some(Value::Number(4294967294));
+    assert!(rt; is_same(ring.at(Place::CompletionTail), tail));
+    assert!(rt; is_same(ring.at(Place::Completion(2)), None));
 }
 
 #[test]
 fn places_are_put_back(rt: HostRuntime) -> Result<(), Fail> {
     let mut submission = SubRing::new(rt.alloc(), 2, BASE)?;
+    check_submission(&rt, &mut submission);
     let mut completion = ComRing::new(rt.alloc(), 2, BASE)?;
-    submission.put(Place::SubmissionTail, Some(Value::Number(7)));
-    completion.put(Place::CompletionHead, Some(Value::Number(8)));
-    assert_eq!(rt; (submission.tail(), completion.head()), (7, 8));
-    let head = Some(Value::Number(4294967294));
-    assert!(rt; is_same(submission.at(Place::SubmissionHead), head));
-    assert!(rt; is_same(completion.at(Place::CompletionTail), head));
-    assert!(rt; is_same(completion.at(Place::Completion(2)), None));
+    check_completion(&rt, &mut completion);
     Ok(())
 }
 

@@ -2,6 +2,7 @@ use super::*;
 use entries::Sqe;
 use places::{Contents, Descriptor, End, Items, Object, Place};
 use std::alloc::Global;
+use std::process::Abort;
 use std::test::Fail;
 
 fn object(alloc: Global, name: &[u8], contents: Contents) -> Result<Object, Fail> {
@@ -171,52 +172,49 @@ fn slots_are_limited(rt: HostRuntime) -> Result<(), Fail> {
     Ok(())
 }
 
-#[test]
-fn words_name_memory_and_descriptors(rt: HostRuntime) -> Result<(), Fail> {
-    let setup = setup_of_all_kinds(rt.alloc())?;
+fn check_memory_and_descriptors(rt: &impl Abort, setup: &Setup) {
     assert!(rt;
         is_place(
-            place_of(&setup, &[b"mem", b"65535"]),
+            place_of(setup, &[b"mem", b"65535"]),
             Place::MemoryByte(65535)
         )
     );
-    assert!(rt;
-        matches!(
-            place_of(&setup, &[b"mem", b"65536"]),
-            Err(PlaceFault::Place)
-        )
-    );
-    assert!(rt; matches!(place_of(&setup, &[b"mem", b"x"]), Err(PlaceFault::Number)));
-    assert!(rt; is_place(place_of(&setup, &[b"pos", b"3"]), Place::Position(3)));
+    assert!(rt; matches!(place_of(setup, &[b"mem", b"65536"]), Err(PlaceFault::Place)));
+    assert!(rt; matches!(place_of(setup, &[b"mem", b"x"]), Err(PlaceFault::Number)));
+    assert!(rt; is_place(place_of(setup, &[b"pos", b"3"]), Place::Position(3)));
     for word in [b"2", b"4", b"6", b"7"] {
-        assert!(rt; matches!(place_of(&setup, &[b"pos", word]), Err(PlaceFault::Place)));
+        assert!(rt; matches!(place_of(setup, &[b"pos", word]), Err(PlaceFault::Place)));
     }
-    assert!(rt; matches!(place_of(&setup, &[b"pos", b"x"]), Err(PlaceFault::Number)));
-    assert!(rt; is_place(place_of(&setup, &[b"open", b"6"]), Place::OpenMark(6)));
+    assert!(rt; matches!(place_of(setup, &[b"pos", b"x"]), Err(PlaceFault::Number)));
+    assert!(rt; is_place(place_of(setup, &[b"open", b"6"]), Place::OpenMark(6)));
     for word in [b"2", b"7"] {
-        assert!(rt; matches!(place_of(&setup, &[b"open", word]), Err(PlaceFault::Place)));
+        assert!(rt; matches!(place_of(setup, &[b"open", word]), Err(PlaceFault::Place)));
     }
-    Ok(())
 }
 
 #[test]
-fn words_name_bytes_of_objects(rt: HostRuntime) -> Result<(), Fail> {
+fn words_name_memory_and_descriptors(rt: HostRuntime) -> Result<(), Fail> {
     let setup = setup_of_all_kinds(rt.alloc())?;
+    check_memory_and_descriptors(&rt, &setup);
+    Ok(())
+}
+
+fn check_bytes_of_objects(rt: &impl Abort, setup: &Setup) {
     assert!(rt;
         is_place(
-            place_of(&setup, &[b"file", b"log", b"65535"]),
+            place_of(setup, &[b"file", b"log", b"65535"]),
             Place::FileByte(0, 65535)
         )
     );
     assert!(rt;
         is_place(
-            place_of(&setup, &[b"durable", b"log", b"0"]),
+            place_of(setup, &[b"durable", b"log", b"0"]),
             Place::DurableByte(0, 0)
         )
     );
     assert!(rt;
         is_place(
-            place_of(&setup, &[b"pipe", b"p", b"63"]),
+            place_of(setup, &[b"pipe", b"p", b"63"]),
             Place::PipeByte(1, 63)
         )
     );
@@ -233,17 +231,21 @@ fn words_name_bytes_of_objects(rt: HostRuntime) -> Result<(), Fail> {
         ("len", "log", "0", PlaceFault::Place),
     ] {
         let found = place_of(
-            &setup,
+            setup,
             &[name.as_bytes(), object.as_bytes(), index.as_bytes()],
         );
         assert_eq!(rt; found.err(), Some(fault), "{name} {object} {index}");
     }
-    Ok(())
 }
 
 #[test]
-fn words_name_counters_of_objects(rt: HostRuntime) -> Result<(), Fail> {
+fn words_name_bytes_of_objects(rt: HostRuntime) -> Result<(), Fail> {
     let setup = setup_of_all_kinds(rt.alloc())?;
+    check_bytes_of_objects(&rt, &setup);
+    Ok(())
+}
+
+fn check_counters_of_objects(rt: &impl Abort, setup: &Setup) {
     for (name, object, place) in [
         ("len", "log", Place::FileLength(0)),
         ("dlen", "log", Place::DurableLength(0)),
@@ -251,7 +253,7 @@ fn words_name_counters_of_objects(rt: HostRuntime) -> Result<(), Fail> {
         ("taken", "p", Place::TakenCount(1)),
         ("event", "e", Place::EventCount(2)),
     ] {
-        let found = place_of(&setup, &[name.as_bytes(), object.as_bytes()]);
+        let found = place_of(setup, &[name.as_bytes(), object.as_bytes()]);
         assert!(rt; is_place(found, place), "{name} {object}");
     }
     for (name, object) in [
@@ -263,8 +265,14 @@ fn words_name_counters_of_objects(rt: HostRuntime) -> Result<(), Fail> {
         ("file", "log"),
         ("size", "log"),
     ] {
-        let found = place_of(&setup, &[name.as_bytes(), object.as_bytes()]);
+        let found = place_of(setup, &[name.as_bytes(), object.as_bytes()]);
         assert_eq!(rt; found.err(), Some(PlaceFault::Place), "{name} {object}");
     }
+}
+
+#[test]
+fn words_name_counters_of_objects(rt: HostRuntime) -> Result<(), Fail> {
+    let setup = setup_of_all_kinds(rt.alloc())?;
+    check_counters_of_objects(&rt, &setup);
     Ok(())
 }

@@ -3,8 +3,9 @@ mod setups;
 
 use super::*;
 use opcodes::Choice;
-use scenario::{Event, Instruction};
+use scenario::{Event, Instruction, Setup};
 use std::alloc::Global;
+use std::process::Abort;
 use std::test::Fail;
 
 const ONE_NOP: &str =
@@ -188,13 +189,9 @@ fn numbers_of_faults(rt: HostRuntime) {
     assert_eq!(rt; ScriptFault::Memory.number(), 5);
 }
 
-#[test]
-fn reads_one_nop(rt: HostRuntime) -> Result<(), Fail> {
-    let script = read_script(rt.alloc(), ONE_NOP.as_bytes())?;
-    let setup = script.setup();
-    assert_eq!(rt; (setup.entries, setup.cq, setup.base), (1, None, 0));
-    let program = setup.threads.as_slice().first().ok_or("no thread")?;
-    match program.as_slice() {
+// Whether a program puts a NOP with user_data 7, pushes it, enters it and reaps.
+fn is_one_nop(program: &[Instruction]) -> bool {
+    match program {
         [
             Instruction::Put(slot, entry),
             Instruction::Push(index),
@@ -205,14 +202,34 @@ fn reads_one_nop(rt: HostRuntime) -> Result<(), Fail> {
             },
             Instruction::Reap,
         ] => {
-            assert_eq!(rt;
-                (*slot, entry.opcode, entry.user_data, *index),
-                (0, 0, 7, 0)
-            );
-            assert_eq!(rt; (*to_submit, *min_complete, *flags), (1, 0, 0));
+            (*slot, entry.opcode, entry.user_data, *index) == (0, 0, 7, 0)
+                && (*to_submit, *min_complete, *flags) == (1, 0, 0)
         }
-        _ => return Err(Fail::from("other instructions")),
+        _ => false,
     }
+}
+
+// Whether a program puts an entry of the opcode 22 with descriptor -1 and user_data 7 into slot 3.
+fn is_one_put(program: &[Instruction]) -> bool {
+    match program {
+        [Instruction::Put(slot, entry)] => {
+            (*slot, entry.opcode, entry.fd, entry.user_data) == (3, 22, -1, 7)
+        }
+        _ => false,
+    }
+}
+
+fn first_program(setup: &Setup) -> &[Instruction] {
+    match setup.threads.as_slice().first() {
+        Some(program) => program.as_slice(),
+        None => &[],
+    }
+}
+
+fn check_one_nop(rt: &impl Abort, script: &Script) {
+    let setup = script.setup();
+    assert_eq!(rt; (setup.entries, setup.cq, setup.base), (1, None, 0));
+    assert!(rt; is_one_nop(first_program(setup)));
     let step = Event::Step(0);
     let schedule = [
         step,
@@ -223,34 +240,25 @@ fn reads_one_nop(rt: HostRuntime) -> Result<(), Fail> {
         step,
     ];
     assert_eq!(rt; script.schedule(), schedule.as_slice());
-    Ok(())
 }
 
 #[test]
-fn reads_every_event(rt: HostRuntime) -> Result<(), Fail> {
-    let text =
-        "{\"entries\":0,\"entries\":4,\"cq\":8,\"base\":4294967295,\"threads\":[[[\"put\",3,\"16000000FFFFFFFF0000000000000000000000000000000000000000000000000700000000000000000000000000000000000000000000000000000000000000\"]]],\"schedule\":[[\"step\",0],[\"take\",1],[\"sleep\"],[\"issue\",2],[\"finish\",3],[\"finish\",3,\"short\",4294967295],[\"finish\",3,\"eio\"],[\"expire\",4],[\"tick\",18446744073709551615]]}";
-    let script = read_script(rt.alloc(), text.as_bytes())?;
+fn reads_one_nop(rt: HostRuntime) -> Result<(), Fail> {
+    let script = read_script(rt.alloc(), ONE_NOP.as_bytes())?;
+    check_one_nop(&rt, &script);
+    Ok(())
+}
+
+const EVERY_EVENT: &str =
+    "{\"entries\":0,\"entries\":4,\"cq\":8,\"base\":4294967295,\"threads\":[[[\"put\",3,\"16000000FFFFFFFF0000000000000000000000000000000000000000000000000700000000000000000000000000000000000000000000000000000000000000\"]]],\"schedule\":[[\"step\",0],[\"take\",1],[\"sleep\"],[\"issue\",2],[\"finish\",3],[\"finish\",3,\"short\",4294967295],[\"finish\",3,\"eio\"],[\"expire\",4],[\"tick\",18446744073709551615]]}";
+
+fn check_every_event(rt: &impl Abort, script: &Script) {
     let setup = script.setup();
     assert_eq!(rt;
         (setup.entries, setup.cq, setup.base),
         (4, Some(8), u32::MAX)
     );
-    match setup
-        .threads
-        .as_slice()
-        .first()
-        .ok_or("no thread")?
-        .as_slice()
-    {
-        [Instruction::Put(slot, entry)] => {
-            assert_eq!(rt;
-                (*slot, entry.opcode, entry.fd, entry.user_data),
-                (3, 22, -1, 7)
-            );
-        }
-        _ => return Err(Fail::from("other instructions")),
-    }
+    assert!(rt; is_one_put(first_program(setup)));
     let schedule = [
         Event::Step(0),
         Event::Take(1),
@@ -263,5 +271,11 @@ fn reads_every_event(rt: HostRuntime) -> Result<(), Fail> {
         Event::Tick(u64::MAX),
     ];
     assert_eq!(rt; script.schedule(), schedule.as_slice());
+}
+
+#[test]
+fn reads_every_event(rt: HostRuntime) -> Result<(), Fail> {
+    let script = read_script(rt.alloc(), EVERY_EVENT.as_bytes())?;
+    check_every_event(&rt, &script);
     Ok(())
 }

@@ -4,6 +4,7 @@ pub mod Events
 pub mod Faults
 pub mod Traces
 pub mod Items
+pub mod Startable
 pub mod Taking
 pub mod Entries
 pub mod Lists

@@ -1,8 +1,9 @@
 //! Laws of traces.
-ghost use Rattle.std.specs.Prelude.{◌≡◌, ◌≤◌, ℕ, List, length, IsTrue, IfOk, IfErr};
+ghost use Rattle.std.specs.Prelude.{◌≡◌, ◌≤◌, ℕ, List, None, length, IsTrue, IfOk, IfErr};
 ghost use Rattle.std.specs.List.{list_all};
 ghost use Rattle.scenario.specs.declared.event.Event.{Event};
 ghost use Rattle.scenario.specs.declared.setup.Setup.{Setup};
+ghost use Rattle.scenario.specs.Setups.{setup_refusal};
 ghost use Rattle.traces.specs.declared.fault.TraceFault.{TraceFault};
 ghost use Rattle.traces.specs.Faults.{IsFault};
 ghost use Rattle.traces.specs.Limits.{keeps_ranges};
@@ -35,6 +36,16 @@ pub fn first_form_is_not_second()
 /// And the other way round.
 pub fn second_form_is_not_first()
     ensures { (setup : Setup) (events : List Event) (bytes : List ℕ) (fault : TraceFault) → IsTrace2 setup events bytes → IsFault bytes fault → fault ≡ TraceFault.Magic }
+{}
+
+/// A setup that a run can start from has a trace.
+pub fn startable_setups_have_traces()
+    ensures { (s : Setup) → setup_refusal s ≡ None → IsTrue (keeps_ranges s) }
+{}
+
+/// A run can start from a setup that a trace has.
+pub fn setups_of_traces_start()
+    ensures { (s : Setup) → IsTrue (keeps_ranges s) → setup_refusal s ≡ None }
 {}
 
 /// Events that are written are read again, unless memory runs out.

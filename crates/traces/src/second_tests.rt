@@ -10,6 +10,7 @@ use crate::{TraceFault, migrate, read_trace, read_trace2, write_trace2};
 use places::{Contents, Descriptor, End, Items};
 use scenario::{Event, Setup};
 use std::alloc::Global;
+use std::process::Abort;
 use std::test::Fail;
 
 /// The trace of a setup with one entry, no threads and no events.
@@ -120,30 +121,51 @@ fn unrounded(alloc: Global, memory: Items<u8>) -> Setup
     }
 }
 
-#[test]
-fn sizes_are_rounded(rt: HostRuntime) -> Result<(), Fail> {
-    let memory = Vec::from_slice(rt.alloc(), &[0, 5, 0, 0])?;
-    let setup = unrounded(rt.alloc(), Items::of(memory));
-    let trace = write_trace2(rt.alloc(), &setup, &[])?;
-    let expected =
-        b"URTRACE2\x04\0\x08\0\x01\x07\0\0\0\x02\0\0\0\0\x05\0\0\0\0\0\0\0\0\0\0\0\0\0\0\0\0";
-    assert_eq!(rt; trace.as_slice(), expected.as_slice());
-    let (again, events) = setup_and_events_again(rt.alloc(), &setup, &[])?;
-    assert_eq!(rt; (again.entries, again.cq, again.base), (4, Some(8), 7));
-    assert_eq!(rt; again.memory.as_slice(), [0, 5].as_slice());
+/// The trace of that setup with memory of a 0, a 5 and no more that isn't 0.
+const ROUNDED: &[u8] =
+    b"URTRACE2\x04\0\x08\0\x01\x07\0\0\0\x02\0\0\0\0\x05\0\0\0\0\0\0\0\0\0\0\0\0\0\0\0\0";
+
+fn check_rounded(rt: &impl Abort, setup: &Setup) {
+    assert_eq!(rt; (setup.entries, setup.cq, setup.base), (4, Some(8), 7));
+    assert_eq!(rt; setup.memory.as_slice(), [0, 5].as_slice());
+}
+
+fn check_rounding(rt: &(impl Abort + AllocGlobal), setup: &Setup) -> Result<(), Fail>
+    requires ranges { IsTrue (keeps_ranges setup.now) }
+{
+    let trace = write_trace2(rt.alloc(), setup, &[])?;
+    assert_eq!(rt; trace.as_slice(), ROUNDED);
+    let (again, events) = setup_and_events_again(rt.alloc(), setup, &[])?;
+    check_rounded(rt, &again);
     assert_eq!(rt; events.len(), 0);
     Ok(())
 }
 
 #[test]
-fn smallest(rt: HostRuntime) -> Result<(), Fail> {
-    let (setup, events) = read_trace2(rt.alloc(), &SMALLEST)?;
+fn sizes_are_rounded(rt: HostRuntime) -> Result<(), Fail> {
+    let memory = Vec::from_slice(rt.alloc(), &[0, 5, 0, 0])?;
+    let setup = unrounded(rt.alloc(), Items::of(memory));
+    check_rounding(&rt, &setup)
+}
+
+fn check_smallest(rt: &impl Abort, setup: &Setup) {
     assert_eq!(rt; setup.entries, 1);
     assert_eq!(rt; setup.cq, Some(2));
     assert_eq!(rt; setup.threads.len(), 0);
+}
+
+#[test]
+fn smallest(rt: HostRuntime) -> Result<(), Fail> {
+    let (setup, events) = read_trace2(rt.alloc(), &SMALLEST)?;
+    check_smallest(&rt, &setup);
     assert_eq!(rt; events.len(), 0);
     let trace = write_trace2(rt.alloc(), &setup, &events)?;
     assert_eq!(rt; trace.as_slice(), SMALLEST.as_slice());
+    Ok(())
+}
+
+#[test]
+fn faults_of_the_smallest(rt: HostRuntime) {
     for (place, byte) in [(8usize, 3u8), (10, 3), (12, 4)] {
         let mut bytes = SMALLEST;
         if place < 37 {
@@ -152,43 +174,42 @@ fn smallest(rt: HostRuntime) -> Result<(), Fail> {
         assert_eq!(rt; fault_of(rt.alloc(), &bytes), (8, place));
     }
     assert_eq!(rt; fault_of(rt.alloc(), &SMALLEST[..36]), (2, 0));
+}
+
+fn check_events(rt: &(impl Abort + AllocGlobal), events: &[Event]) -> Result<(), Fail> {
+    let first = read_trace(rt.alloc(), &ONE_NOP)?;
+    assert_eq!(rt; events, first.as_slice());
+    Ok(())
+}
+
+fn check_migrations(rt: &(impl Abort + AllocGlobal), setup: &Setup) -> Result<(), Fail>
+    requires ranges { IsTrue (keeps_ranges setup.now) }
+{
+    let migrated = migrate(rt.alloc(), setup, &ONE_NOP)?;
+    assert_eq!(rt; migrated.as_slice(), ONE_NOP_2.as_slice());
+    let other = migrate(rt.alloc(), setup, &ONE_NOP_2).err();
+    assert!(rt; matches!(other, Some(TraceFault::Magic)));
     Ok(())
 }
 
 #[test]
 fn one_nop_in_both_forms(rt: HostRuntime) -> Result<(), Fail> {
     let (setup, events) = read_trace2(rt.alloc(), &ONE_NOP_2)?;
-    let first = read_trace(rt.alloc(), &ONE_NOP)?;
-    assert_eq!(rt; events.as_slice(), first.as_slice());
-    let migrated = migrate(rt.alloc(), &setup, &ONE_NOP)?;
-    assert_eq!(rt; migrated.as_slice(), ONE_NOP_2.as_slice());
-    assert_eq!(rt; fault_of(rt.alloc(), &ONE_NOP), (1, 0));
-    assert!(rt; matches!(read_trace(rt.alloc(), &ONE_NOP_2), Err(TraceFault::Magic)));
-    assert!(rt;
-        matches!(
-            migrate(rt.alloc(), &setup, &ONE_NOP_2),
-            Err(TraceFault::Magic)
-        )
-    );
-    first_form_is_not_second();
-    second_form_is_not_first();
-    one_setup_and_events_of_a_trace();
-    Ok(())
+    check_events(&rt, &events)?;
+    check_migrations(&rt, &setup)
 }
 
 #[test]
-fn whole_setup(rt: HostRuntime) -> Result<(), Fail> {
-    let (setup, events) = read_trace2(rt.alloc(), &WHOLE)?;
-    assert_eq!(rt;
-        events.as_slice(),
-        [Event::Step(0), Event::Tick(5)].as_slice()
-    );
-    assert_eq!(rt;
-        (setup.entries, setup.cq, setup.base),
-        (4, Some(8), 0x0102_0304)
-    );
-    assert!(rt; setup.sqpoll && setup.submit_all);
-    assert_eq!(rt; setup.memory.as_slice(), [0, 7, 9].as_slice());
+fn each_form_refuses_the_other(rt: HostRuntime) {
+    assert_eq!(rt; fault_of(rt.alloc(), &ONE_NOP), (1, 0));
+    assert!(rt; matches!(read_trace(rt.alloc(), &ONE_NOP_2), Err(TraceFault::Magic)));
+    first_form_is_not_second();
+    second_form_is_not_first();
+    one_setup_and_events_of_a_trace();
+}
+
+// The size of a file, the capacity of a pipe, and the last three digits of a counter.
+fn kinds_of(setup: &Setup) -> [usize; 3] {
     let mut kinds = [0; 3];
     for object in setup.objects.as_slice() {
         match &object.contents {
@@ -197,7 +218,21 @@ fn whole_setup(rt: HostRuntime) -> Result<(), Fail> {
             Contents::EventFd(counter) => kinds[2] = (*counter % 1000) as usize,
         }
     }
-    assert_eq!(rt; kinds, [2, 64, 614]);
+    kinds
+}
+
+// How many instructions the first two threads have.
+fn lengths_of(setup: &Setup) -> [usize; 2] {
+    let mut lengths = [0; 2];
+    for (thread, program) in setup.threads.as_slice().iter().enumerate() {
+        if thread < 2 {
+            lengths[thread] = program.len();
+        }
+    }
+    lengths
+}
+
+fn check_descriptors(rt: &impl Abort, setup: &Setup) {
     let ends = [
         (0, End::Whole),
         (1, End::Read),
@@ -206,13 +241,28 @@ fn whole_setup(rt: HostRuntime) -> Result<(), Fail> {
     ];
     let descriptors = ends.map(|(object, end)| Descriptor { object, end });
     assert_eq!(rt; setup.fds.as_slice(), descriptors.as_slice());
-    let mut lengths = [0; 2];
-    for (thread, program) in setup.threads.as_slice().iter().enumerate() {
-        if thread < 2 {
-            lengths[thread] = program.len();
-        }
-    }
-    assert_eq!(rt; lengths, [2, 4]);
+}
+
+fn check_whole(rt: &impl Abort, setup: &Setup) {
+    assert_eq!(rt;
+        (setup.entries, setup.cq, setup.base),
+        (4, Some(8), 0x0102_0304)
+    );
+    assert!(rt; setup.sqpoll && setup.submit_all);
+    assert_eq!(rt; setup.memory.as_slice(), [0, 7, 9].as_slice());
+    assert_eq!(rt; kinds_of(setup), [2, 64, 614]);
+    assert_eq!(rt; lengths_of(setup), [2, 4]);
+}
+
+#[test]
+fn whole_setup(rt: HostRuntime) -> Result<(), Fail> {
+    let (setup, events) = read_trace2(rt.alloc(), &WHOLE)?;
+    check_whole(&rt, &setup);
+    check_descriptors(&rt, &setup);
+    assert_eq!(rt;
+        events.as_slice(),
+        [Event::Step(0), Event::Tick(5)].as_slice()
+    );
     Ok(())
 }
 

@@ -1,37 +1,94 @@
 //! The program: one job, over the libraries.
 #![tactic(auto)]
 
-use debug_server::{Fault, Job, RunFault, job, walk};
-use std::io::Read;
+mod files;
+
+use debug_server::{
+    Fault, Form, Job, RunFault, ServeFault, Traced, job, migrate_trace, replay, trace_script, walk,
+};
+use files::{read_file, write_file};
 use std::process::ExitCode;
 use std::rt::Files;
-use std::{env, fmt, fs, io};
+use std::{env, fmt, io};
 
 /// One byte more than a script may have: what lies behind it is not read.
 const SCRIPT_AND_ONE: u64 = 8388609;
 
-// A script's file, as far as it can be a script.
-fn read_file(rt: &(impl Files + AllocGlobal), path: &str) -> io::Result<Vec<u8>> {
-    let mut text = Vec::new(rt.alloc());
-    let file = fs::open(rt, path)?;
-    file.take(SCRIPT_AND_ONE).read_to_end(&mut text)?;
-    Ok(text)
-}
+/// One byte more than a trace of the first form may have.
+const TRACE_AND_ONE: u64 = 16777229;
+
+/// One byte more than a trace of the second form may have: 65,536 bytes of memory, 32 files as long, 64
+/// descriptors, 16 programs of 4,096 stores of 4,096 bytes, and 1,048,576 events.
+const WHOLE_TRACE_AND_ONE: u64 = 287966118;
 
 // A session over a script's file, from standard input to standard output.
 fn walk_file(rt: &(impl Files + Input + Print + AllocGlobal), path: &str) -> Result<(), Fault> {
-    let text = match read_file(rt, path) {
-        Ok(text) => text,
-        Err(error) if error.kind() == io::ErrorKind::OutOfMemory => {
-            return Err(Fault::Run(RunFault::Memory));
-        }
-        Err(_) => return Err(Fault::File),
-    };
+    let text = read_file(rt, path, SCRIPT_AND_ONE)?;
     let mut input = rt.reader();
     let mut output = io::writer(rt);
     match walk(rt.alloc(), &text, &mut input, &mut output) {
         Ok(()) => Ok(()),
         Err(fault) => Err(Fault::Run(fault)),
+    }
+}
+
+// A session over a trace's file, from standard input to standard output.
+fn replay_file(rt: &(impl Files + Input + Print + AllocGlobal), path: &str) -> Result<(), Fault> {
+    let trace = read_file(rt, path, WHOLE_TRACE_AND_ONE)?;
+    let mut input = rt.reader();
+    let mut output = io::writer(rt);
+    match replay(rt.alloc(), &trace, &mut input, &mut output) {
+        Ok(()) => Ok(()),
+        Err(fault) => Err(Fault::Run(fault)),
+    }
+}
+
+// Writes a trace to its file, and prints how many events it has.
+fn keep(
+    rt: &(impl Files + Print + AllocGlobal),
+    out: &str,
+    made: Result<Traced, RunFault>,
+) -> Result<(), Fault> {
+    let trace = match made {
+        Ok(trace) => trace,
+        Err(fault) => return Err(Fault::Run(fault)),
+    };
+    write_file(rt, out, &trace.bytes)?;
+    match println!(rt; "events {}", trace.events) {
+        Ok(()) => Ok(()),
+        Err(_) => Err(Fault::Run(RunFault::Serve(ServeFault::Write))),
+    }
+}
+
+// The trace of a script's schedule, in a file.
+fn trace_file(
+    rt: &(impl Files + Print + AllocGlobal),
+    script: &str,
+    out: &str,
+    form: Form,
+) -> Result<(), Fault> {
+    let text = read_file(rt, script, SCRIPT_AND_ONE)?;
+    keep(rt, out, trace_script(rt.alloc(), &text, form))
+}
+
+// A trace of the first form, behind a script's setup, in a file.
+fn migrate_file(
+    rt: &(impl Files + Print + AllocGlobal),
+    script: &str,
+    trace: &str,
+    out: &str,
+) -> Result<(), Fault> {
+    let text = read_file(rt, script, SCRIPT_AND_ONE)?;
+    let bytes = read_file(rt, trace, TRACE_AND_ONE)?;
+    keep(rt, out, migrate_trace(rt.alloc(), &text, &bytes))
+}
+
+fn run(rt: &(impl Files + Input + Print + AllocGlobal), job: Job<'_>) -> Result<(), Fault> {
+    match job {
+        Job::Walk(script) => walk_file(rt, script),
+        Job::Replay(trace) => replay_file(rt, trace),
+        Job::Trace { script, out, form } => trace_file(rt, script, out, form),
+        Job::Migrate { script, trace, out } => migrate_file(rt, script, trace, out),
     }
 }
 
@@ -53,11 +110,11 @@ fn main(rt: HostRuntime) -> io::Result<ExitCode> {
     };
     let words: Vec<String> = words.collect(alloc)?;
     let texts: Vec<&str> = words.iter().map(|word| word.as_str()).collect(alloc)?;
-    let Job::Walk(path) = match job(alloc, &texts) {
+    let job = match job(alloc, &texts) {
         Ok(job) => job,
         Err(error) => return Ok(fail(&rt, 2, &error)),
     };
-    match walk_file(&rt, path) {
+    match run(&rt, job) {
         Ok(()) => Ok(ExitCode::SUCCESS),
         Err(fault) => Ok(fail(&rt, 1, &fault)),
     }

@@ -1,8 +1,7 @@
 //! Calls of the machine, and of what stands beside the sessions.
-ghost use Rattle.std.specs.Prelude.{◌≡◌, length, IfOk};
+ghost use Rattle.std.specs.Prelude.{◌≡◌, length, IfOk, OnOk};
 
 use crate::tests::ONE_NOP;
-use debug_server::{Job, job};
 use inverse_log::Walker;
 use machine::{
     Event, Instruction, PlaceFault, Refusal, Setup, SetupRefusal, State, place_of, read_number,
@@ -12,6 +11,7 @@ use opcodes::{Choice, Op};
 use places::{Items, Place, Value};
 use script::{Script, read_script};
 use std::alloc::Global;
+use std::process::Abort;
 use std::test::Fail;
 
 fn script_of(alloc: Global) -> Result<Script, Fail> {
@@ -124,9 +124,7 @@ fn entered(alloc: Global) -> Result<State, Fail> {
     Ok(state)
 }
 
-#[test]
-fn events_are_refused(rt: HostRuntime) -> Result<(), Fail> {
-    let state = entered(rt.alloc())?;
+fn check_refusals(rt: &impl Abort, state: &State) {
     assert_eq!(rt; state.refuses(Event::Step(0)), Some(Refusal::NothingToReap));
     assert_eq!(rt; state.refuses(Event::Step(1)), Some(Refusal::NoSuchThread));
     assert_eq!(rt;
@@ -134,15 +132,34 @@ fn events_are_refused(rt: HostRuntime) -> Result<(), Fail> {
         Some(Refusal::WrongPhase)
     );
     assert_eq!(rt; state.refuses(Event::Issue(0)), None);
+}
+
+#[test]
+fn events_are_refused(rt: HostRuntime) -> Result<(), Fail> {
+    let state = entered(rt.alloc())?;
+    check_refusals(&rt, &state);
     Ok(())
+}
+
+fn check_entered(rt: &impl Abort, state: &State) {
+    assert_eq!(rt; number(state.value(Place::SubmissionHead)), Some(1));
+    assert_eq!(rt; number(state.value(Place::ProgramCounter(0))), Some(3));
+    assert_eq!(rt; number(state.value(Place::Counted)), Some(0));
 }
 
 #[test]
 fn states_are_copied(rt: HostRuntime) -> Result<(), Fail> {
     let state = entered(rt.alloc())?.copy(rt.alloc())?;
-    assert_eq!(rt; number(state.value(Place::SubmissionHead)), Some(1));
-    assert_eq!(rt; number(state.value(Place::ProgramCounter(0))), Some(3));
-    assert_eq!(rt; number(state.value(Place::Counted)), Some(0));
+    check_entered(&rt, &state);
+    Ok(())
+}
+
+fn go_to_the_end(walker: &mut Walker, events: &[Event]) -> Result<(), Fail>
+    ensures { OnOk result (walker.new.at ≡ length walker.new.events) }
+{
+    walker.extend(events)?;
+    let len = walker.len();
+    walker.goto(len)?;
     Ok(())
 }
 
@@ -152,9 +169,7 @@ fn walker_at_the_end(alloc: Global) -> Result<Walker, Fail>
 {
     let script = script_of(alloc)?;
     let mut walker = Walker::new(alloc, script.setup())?;
-    walker.extend(script.schedule())?;
-    let len = walker.len();
-    walker.goto(len)?;
+    go_to_the_end(&mut walker, script.schedule())?;
     Ok(walker)
 }
 
@@ -167,24 +182,26 @@ fn unwound(alloc: Global, walker: &Walker) -> Result<State, Fail>
     Ok(state)
 }
 
-#[test]
-fn runs_are_unwound(rt: HostRuntime) -> Result<(), Fail> {
-    let walker = walker_at_the_end(rt.alloc())?;
+fn check_unwound(rt: &impl Abort, state: &State) {
+    assert_eq!(rt; number(state.value(Place::CompletionHead)), Some(0));
+    assert_eq!(rt; number(state.value(Place::ProgramCounter(0))), Some(0));
+    assert!(rt; state.value(Place::Request(0)).is_none());
+}
+
+fn check_unwinding(rt: &(impl Abort + AllocGlobal), walker: &Walker) -> Result<(), Fail>
+    requires { walker.now.at ≡ length walker.now.events }
+{
     assert_eq!(rt;
         number(walker.state().value(Place::CompletionHead)),
         Some(1)
     );
-    let state = unwound(rt.alloc(), &walker)?;
-    assert_eq!(rt; number(state.value(Place::CompletionHead)), Some(0));
-    assert_eq!(rt; number(state.value(Place::ProgramCounter(0))), Some(0));
-    assert!(rt; state.value(Place::Request(0)).is_none());
+    let state = unwound(rt.alloc(), walker)?;
+    check_unwound(rt, &state);
     Ok(())
 }
 
 #[test]
-fn the_program_s_words_are_read(rt: HostRuntime) -> Result<(), Fail> {
-    let words = ["uringwalk", "walk", "one.json"];
-    let Job::Walk(path) = job(rt.alloc(), &words)?;
-    assert_eq!(rt; path, "one.json");
-    Ok(())
+fn runs_are_unwound(rt: HostRuntime) -> Result<(), Fail> {
+    let walker = walker_at_the_end(rt.alloc())?;
+    check_unwinding(&rt, &walker)
 }

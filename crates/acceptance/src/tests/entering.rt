@@ -1,8 +1,8 @@
 //! What records name of entering, of completions that are kept, and of the poller; and what is refused there.
 
 use crate::tests::ONE_NOP;
-use crate::tests::records::{last_record, names_just, start_of, step};
-use machine::{Event, Refusal, State};
+use crate::tests::records::{last_record, names_just, state_behind};
+use machine::{Event, Refusal};
 use opcodes::Choice;
 use places::{Place, Record};
 use script::read_script;
@@ -40,13 +40,15 @@ fn scheduled_record(alloc: Global, text: &str, number: usize) -> Result<Record, 
     last_record(alloc, text, events)
 }
 
-// The state that some events lead to, from the start of a script.
-fn state_behind(alloc: Global, text: &str, events: &[Event]) -> Result<State, Fail> {
-    let mut state = start_of(alloc, text)?;
-    for event in events {
-        step(&mut state, *event)?;
-    }
-    Ok(state)
+// The number that refuses an event behind some others, from the start of a script.
+fn refusal_behind(
+    alloc: Global,
+    text: &str,
+    events: &[Event],
+    event: Event,
+) -> Result<Option<Refusal>, Fail> {
+    let state = state_behind(alloc, text, events)?;
+    Ok(state.refuses(event))
 }
 
 #[test]
@@ -124,31 +126,35 @@ fn sleep_names_the_poller_and_the_flags(rt: HostRuntime) -> Result<(), Fail> {
 
 #[test]
 fn waiting_threads_are_refused(rt: HostRuntime) -> Result<(), Fail> {
-    let state = state_behind(rt.alloc(), WAITING, &UP_TO_ENTER)?;
-    assert_eq!(rt; state.refuses(Event::Step(0)), Some(Refusal::StillWaiting));
+    let step = refusal_behind(rt.alloc(), WAITING, &UP_TO_ENTER, Event::Step(0))?;
+    assert_eq!(rt; step, Some(Refusal::StillWaiting));
     Ok(())
 }
 
 #[test]
 fn pollers_asleep_are_refused(rt: HostRuntime) -> Result<(), Fail> {
-    let state = state_behind(rt.alloc(), POLLED, &[Event::Sleep])?;
-    assert_eq!(rt; state.refuses(Event::Take(0)), Some(Refusal::Asleep));
-    assert_eq!(rt; state.refuses(Event::Sleep), Some(Refusal::Asleep));
+    let take = refusal_behind(rt.alloc(), POLLED, &[Event::Sleep], Event::Take(0))?;
+    assert_eq!(rt; take, Some(Refusal::Asleep));
+    let sleep = refusal_behind(rt.alloc(), POLLED, &[Event::Sleep], Event::Sleep)?;
+    assert_eq!(rt; sleep, Some(Refusal::Asleep));
     Ok(())
 }
 
 #[test]
 fn sleep_is_refused_where_entries_wait(rt: HostRuntime) -> Result<(), Fail> {
-    let state = state_behind(rt.alloc(), POLLED, &[Event::Step(0), Event::Step(0)])?;
-    assert_eq!(rt; state.refuses(Event::Sleep), Some(Refusal::NotIdle));
-    assert_eq!(rt; state.refuses(Event::Take(1)), None);
+    let pushed = [Event::Step(0), Event::Step(0)];
+    let sleep = refusal_behind(rt.alloc(), POLLED, &pushed, Event::Sleep)?;
+    assert_eq!(rt; sleep, Some(Refusal::NotIdle));
+    let take = refusal_behind(rt.alloc(), POLLED, &pushed, Event::Take(1))?;
+    assert_eq!(rt; take, None);
     Ok(())
 }
 
 #[test]
 fn absent_pollers_are_refused(rt: HostRuntime) -> Result<(), Fail> {
-    let state = start_of(rt.alloc(), ONE_NOP)?;
-    assert_eq!(rt; state.refuses(Event::Take(1)), Some(Refusal::NoPoller));
-    assert_eq!(rt; state.refuses(Event::Sleep), Some(Refusal::NoPoller));
+    let take = refusal_behind(rt.alloc(), ONE_NOP, &[], Event::Take(1))?;
+    assert_eq!(rt; take, Some(Refusal::NoPoller));
+    let sleep = refusal_behind(rt.alloc(), ONE_NOP, &[], Event::Sleep)?;
+    assert_eq!(rt; sleep, Some(Refusal::NoPoller));
     Ok(())
 }

@@ -59,22 +59,31 @@ fn walked(alloc: Global, reading: Plan, writing: Plan) -> (Result<(), RunFault>,
 }
 
 // A read fails: the lines before it are answered.
+fn check_read_of(
+    rt: &(impl Abort + AllocGlobal),
+    session: &mut Session,
+    call: usize,
+    kind: ErrorKind,
+) {
+    let plan = Plan {
+        call,
+        failure: Failure::Error(kind),
+    };
+    let (answer, written) = served(rt.alloc(), session, plan, SOUND);
+    assert!(rt; answer == Err(ServeFault::Read), "at {call}");
+    assert!(rt; is_beginning(&written), "at {call}");
+    assert!(rt; lines(&written) == lines_before(call), "at {call}");
+    assert!(rt; is_closed(rt.alloc(), session), "at {call}");
+}
+
 fn check_read(
     rt: &(impl Abort + AllocGlobal),
     script: &Script,
     call: usize,
     kind: ErrorKind,
 ) -> Result<(), Fail> {
-    let plan = Plan {
-        call,
-        failure: Failure::Error(kind),
-    };
     let mut session = session_of(rt.alloc(), script)?;
-    let (answer, written) = served(rt.alloc(), &mut session, plan, SOUND);
-    assert!(rt; answer == Err(ServeFault::Read), "at {call}");
-    assert!(rt; is_beginning(&written), "at {call}");
-    assert!(rt; lines(&written) == lines_before(call), "at {call}");
-    assert!(rt; is_closed(rt.alloc(), &mut session), "at {call}");
+    check_read_of(rt, &mut session, call, kind);
     Ok(())
 }
 
@@ -103,18 +112,27 @@ fn is_cut_at(written: &[u8], call: usize) -> bool {
 }
 
 // A write or a flush fails: the calls before it are done.
+fn check_write_of(
+    rt: &(impl Abort + AllocGlobal),
+    session: &mut Session,
+    call: usize,
+    failure: Failure,
+) {
+    let plan = Plan { call, failure };
+    let (answer, written) = served(rt.alloc(), session, SOUND, plan);
+    assert!(rt; answer == Err(ServeFault::Write), "at {call}");
+    assert!(rt; is_cut_at(&written, call), "at {call}");
+    assert!(rt; is_closed(rt.alloc(), session), "at {call}");
+}
+
 fn check_write(
     rt: &(impl Abort + AllocGlobal),
     script: &Script,
     call: usize,
     failure: Failure,
 ) -> Result<(), Fail> {
-    let plan = Plan { call, failure };
     let mut session = session_of(rt.alloc(), script)?;
-    let (answer, written) = served(rt.alloc(), &mut session, SOUND, plan);
-    assert!(rt; answer == Err(ServeFault::Write), "at {call}");
-    assert!(rt; is_cut_at(&written, call), "at {call}");
-    assert!(rt; is_closed(rt.alloc(), &mut session), "at {call}");
+    check_write_of(rt, &mut session, call, failure);
     Ok(())
 }
 

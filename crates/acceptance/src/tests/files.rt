@@ -1,8 +1,7 @@
 //! What records name of memory and files, and going back over them.
 
-use crate::tests::records::{last_record, names_just, start_of, step};
+use crate::tests::records::{ONE_REQUEST, TWO_REQUESTS, last_record, names_just, value_behind};
 use machine::Event;
-use opcodes::Choice;
 use places::{Place, Value};
 use std::test::Fail;
 
@@ -24,27 +23,11 @@ const PAGE_WRITTEN_AND_READ: &str =
 const STORES: &str =
     r#"{"entries":1,"memory":[[0,"0102"]],"threads":[[["store",0,"0102"],["store",0,"0103"]]],"schedule":[]}"#;
 
-const UP_TO_WRITTEN: [Event; 7] = [
-    Event::Step(0),
-    Event::Step(0),
-    Event::Step(0),
-    Event::Step(0),
-    Event::Step(0),
-    Event::Issue(0),
-    Event::Finish(0, Choice::Full),
-];
-
-const ONE_REQUEST: [Event; 5] = [
-    Event::Step(0),
-    Event::Step(0),
-    Event::Step(0),
-    Event::Issue(0),
-    Event::Finish(0, Choice::Full),
-];
+const BOTH_STORES: [Event; 2] = [Event::Step(0), Event::Step(0)];
 
 #[test]
 fn write_names_just_the_bytes_that_differ(rt: HostRuntime) -> Result<(), Fail> {
-    let record = last_record(rt.alloc(), WRITE_AND_SYNC, &UP_TO_WRITTEN)?;
+    let record = last_record(rt.alloc(), WRITE_AND_SYNC, &TWO_REQUESTS[..7])?;
     let places = [
         Place::FileByte(0, 1),
         Place::FileByte(0, 3),
@@ -59,12 +42,7 @@ fn write_names_just_the_bytes_that_differ(rt: HostRuntime) -> Result<(), Fail> {
 
 #[test]
 fn fsync_names_just_the_bytes_that_differ(rt: HostRuntime) -> Result<(), Fail> {
-    let mut state = start_of(rt.alloc(), WRITE_AND_SYNC)?;
-    for event in UP_TO_WRITTEN {
-        step(&mut state, event)?;
-    }
-    step(&mut state, Event::Issue(1))?;
-    let record = step(&mut state, Event::Finish(1, Choice::Full))?;
+    let record = last_record(rt.alloc(), WRITE_AND_SYNC, &TWO_REQUESTS)?;
     let places = [
         Place::DurableByte(0, 1),
         Place::DurableByte(0, 3),
@@ -80,14 +58,9 @@ fn fsync_names_just_the_bytes_that_differ(rt: HostRuntime) -> Result<(), Fail> {
 // Of a page of zeros written over zeros, and read over zeros, one byte is another.
 #[test]
 fn transfers_of_a_page_keep_what_differs(rt: HostRuntime) -> Result<(), Fail> {
-    let mut state = start_of(rt.alloc(), PAGE_WRITTEN_AND_READ)?;
-    for event in &UP_TO_WRITTEN[..6] {
-        step(&mut state, *event)?;
-    }
-    let written = step(&mut state, Event::Finish(0, Choice::Full))?;
+    let written = last_record(rt.alloc(), PAGE_WRITTEN_AND_READ, &TWO_REQUESTS[..7])?;
     assert!(rt; written.kept_bytes() <= 512);
-    step(&mut state, Event::Issue(1))?;
-    let read = step(&mut state, Event::Finish(1, Choice::Full))?;
+    let read = last_record(rt.alloc(), PAGE_WRITTEN_AND_READ, &TWO_REQUESTS)?;
     assert!(rt; read.kept_bytes() <= 512);
     Ok(())
 }
@@ -139,12 +112,18 @@ fn row_without_its_descriptor_ends_as_it_is_issued(rt: HostRuntime) -> Result<()
 
 #[test]
 fn stores_name_just_the_bytes_that_differ(rt: HostRuntime) -> Result<(), Fail> {
-    let mut state = start_of(rt.alloc(), STORES)?;
-    let same = step(&mut state, Event::Step(0))?;
+    let same = last_record(rt.alloc(), STORES, &BOTH_STORES[..1])?;
     assert!(rt; names_just(&same, &[Place::ProgramCounter(0)]));
-    let other = step(&mut state, Event::Step(0))?;
+    let other = last_record(rt.alloc(), STORES, &BOTH_STORES)?;
     assert!(rt; names_just(&other, &[Place::MemoryByte(1), Place::ProgramCounter(0)]));
-    assert!(rt; matches!(state.value(Place::MemoryByte(1)), Some(Value::Byte(3))));
-    assert!(rt; matches!(state.value(Place::MemoryByte(0)), Some(Value::Byte(1))));
+    Ok(())
+}
+
+#[test]
+fn stores_stay_in_memory(rt: HostRuntime) -> Result<(), Fail> {
+    let kept = value_behind(rt.alloc(), STORES, &BOTH_STORES, Place::MemoryByte(0))?;
+    assert!(rt; matches!(kept, Some(Value::Byte(1))));
+    let stored = value_behind(rt.alloc(), STORES, &BOTH_STORES, Place::MemoryByte(1))?;
+    assert!(rt; matches!(stored, Some(Value::Byte(3))));
     Ok(())
 }

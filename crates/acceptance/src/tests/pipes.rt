@@ -1,8 +1,7 @@
 //! What records name of pipes, eventfds, polls and descriptors that are closed.
 
-use crate::tests::records::{last_record, names_just, start_of, step};
+use crate::tests::records::{ONE_REQUEST, TWO_REQUESTS, last_record, names_just};
 use machine::Event;
-use opcodes::Choice;
 use places::Place;
 use std::test::Fail;
 
@@ -18,29 +17,9 @@ const POLL_OF_A_FILE: &str =
 const CLOSED_TWICE: &str =
     r#"{"entries":1,"objects":[{"name":"p","pipe":4}],"fds":["p:r","p:w"],"threads":[[["close",4],["close",4]]],"schedule":[]}"#;
 
-const UP_TO_THE_SECOND: [Event; 9] = [
-    Event::Step(0),
-    Event::Step(0),
-    Event::Step(0),
-    Event::Step(0),
-    Event::Step(0),
-    Event::Issue(0),
-    Event::Finish(0, Choice::Full),
-    Event::Issue(1),
-    Event::Finish(1, Choice::Full),
-];
-
-const ONE_REQUEST: [Event; 5] = [
-    Event::Step(0),
-    Event::Step(0),
-    Event::Step(0),
-    Event::Issue(0),
-    Event::Finish(0, Choice::Full),
-];
-
 #[test]
 fn write_names_the_slots_of_a_pipe_that_differ(rt: HostRuntime) -> Result<(), Fail> {
-    let record = last_record(rt.alloc(), WRITE_AND_READ, &UP_TO_THE_SECOND[..7])?;
+    let record = last_record(rt.alloc(), WRITE_AND_READ, &TWO_REQUESTS[..7])?;
     let places = [
         Place::PipeByte(0, 0),
         Place::PipeByte(0, 1),
@@ -56,7 +35,7 @@ fn write_names_the_slots_of_a_pipe_that_differ(rt: HostRuntime) -> Result<(), Fa
 
 #[test]
 fn read_names_no_slot_of_a_pipe(rt: HostRuntime) -> Result<(), Fail> {
-    let record = last_record(rt.alloc(), WRITE_AND_READ, &UP_TO_THE_SECOND)?;
+    let record = last_record(rt.alloc(), WRITE_AND_READ, &TWO_REQUESTS)?;
     let places = [
         Place::MemoryByte(8),
         Place::MemoryByte(9),
@@ -72,7 +51,7 @@ fn read_names_no_slot_of_a_pipe(rt: HostRuntime) -> Result<(), Fail> {
 
 #[test]
 fn write_names_the_counter_of_an_eventfd(rt: HostRuntime) -> Result<(), Fail> {
-    let record = last_record(rt.alloc(), COUNTER_ADDED_AND_READ, &UP_TO_THE_SECOND[..7])?;
+    let record = last_record(rt.alloc(), COUNTER_ADDED_AND_READ, &TWO_REQUESTS[..7])?;
     let places = [
         Place::EventCount(0),
         Place::Request(0),
@@ -86,7 +65,7 @@ fn write_names_the_counter_of_an_eventfd(rt: HostRuntime) -> Result<(), Fail> {
 
 #[test]
 fn read_names_the_counter_of_an_eventfd(rt: HostRuntime) -> Result<(), Fail> {
-    let record = last_record(rt.alloc(), COUNTER_ADDED_AND_READ, &UP_TO_THE_SECOND)?;
+    let record = last_record(rt.alloc(), COUNTER_ADDED_AND_READ, &TWO_REQUESTS)?;
     let places = [
         Place::MemoryByte(16),
         Place::EventCount(0),
@@ -114,10 +93,9 @@ fn poll_names_its_row_and_its_completion(rt: HostRuntime) -> Result<(), Fail> {
 
 #[test]
 fn close_names_the_mark_and_the_answer_that_differ(rt: HostRuntime) -> Result<(), Fail> {
-    let mut state = start_of(rt.alloc(), CLOSED_TWICE)?;
-    let closed = step(&mut state, Event::Step(0))?;
+    let closed = last_record(rt.alloc(), CLOSED_TWICE, &[Event::Step(0)])?;
     assert!(rt; names_just(&closed, &[Place::OpenMark(4), Place::ProgramCounter(0)]));
-    let again = step(&mut state, Event::Step(0))?;
+    let again = last_record(rt.alloc(), CLOSED_TWICE, &[Event::Step(0), Event::Step(0)])?;
     assert!(rt; names_just(&again, &[Place::ProgramCounter(0), Place::Last(0)]));
     Ok(())
 }

@@ -3,7 +3,7 @@
 use crate::tests::ONE_NOP;
 use machine::{Event, State};
 use opcodes::Choice;
-use places::{Place, Record};
+use places::{Place, Record, Value};
 use script::read_script;
 use std::alloc::Global;
 use std::test::Fail;
@@ -14,12 +14,26 @@ const ZERO_NOP: &str =
 const TWO_PUTS: &str =
     r#"{"entries":1,"threads":[[["put",0,{"ud":3}],["put",0,{"ud":3}]]],"schedule":[]}"#;
 
-const UP_TO_FINISH: [Event; 5] = [
+/// The only request of a thread, from its Put to its end.
+pub const ONE_REQUEST: [Event; 5] = [
     Event::Step(0),
     Event::Step(0),
     Event::Step(0),
     Event::Issue(0),
     Event::Finish(0, Choice::Full),
+];
+
+/// Two requests of a thread, which are entered together and end one after the other.
+pub const TWO_REQUESTS: [Event; 9] = [
+    Event::Step(0),
+    Event::Step(0),
+    Event::Step(0),
+    Event::Step(0),
+    Event::Step(0),
+    Event::Issue(0),
+    Event::Finish(0, Choice::Full),
+    Event::Issue(1),
+    Event::Finish(1, Choice::Full),
 ];
 
 // How many places a record names, up to 64.
@@ -56,30 +70,53 @@ pub fn names_just(record: &Record, places: &[Place]) -> bool {
     count(record) == places.len()
 }
 
-pub fn start_of(alloc: Global, text: &str) -> Result<State, Fail> {
+fn start_of(alloc: Global, text: &str) -> Result<State, Fail> {
     let script = read_script(alloc, text.as_bytes())?;
     let state = State::new(alloc, script.setup())?;
     Ok(state)
 }
 
-pub fn step(state: &mut State, event: Event) -> Result<Record, Fail> {
+fn step(state: &mut State, event: Event) -> Result<Record, Fail> {
     let record = state.step(event)?;
     Ok(record)
+}
+
+// The record of the last of some events.
+fn last_of(state: &mut State, events: &[Event]) -> Result<Record, Fail> {
+    let mut last = step(state, Event::Tick(0))?;
+    for event in events {
+        last = step(state, *event)?;
+    }
+    Ok(last)
 }
 
 // The record of the last of some events, from the start of a script.
 pub fn last_record(alloc: Global, text: &str, events: &[Event]) -> Result<Record, Fail> {
     let mut state = start_of(alloc, text)?;
-    let mut last = step(&mut state, Event::Tick(0))?;
-    for event in events {
-        last = step(&mut state, *event)?;
-    }
-    Ok(last)
+    last_of(&mut state, events)
+}
+
+// The state that some events lead to, from the start of a script.
+pub fn state_behind(alloc: Global, text: &str, events: &[Event]) -> Result<State, Fail> {
+    let mut state = start_of(alloc, text)?;
+    last_of(&mut state, events)?;
+    Ok(state)
+}
+
+// What stands in a place behind some events.
+pub fn value_behind(
+    alloc: Global,
+    text: &str,
+    events: &[Event],
+    place: Place,
+) -> Result<Option<Value>, Fail> {
+    let state = state_behind(alloc, text, events)?;
+    Ok(state.value(place))
 }
 
 #[test]
 fn finish_names_four_places(rt: HostRuntime) -> Result<(), Fail> {
-    let record = last_record(rt.alloc(), ONE_NOP, &UP_TO_FINISH)?;
+    let record = last_record(rt.alloc(), ONE_NOP, &ONE_REQUEST)?;
     let places = [
         Place::Request(0),
         Place::Completion(0),
@@ -92,7 +129,7 @@ fn finish_names_four_places(rt: HostRuntime) -> Result<(), Fail> {
 
 #[test]
 fn finish_keeps_little(rt: HostRuntime) -> Result<(), Fail> {
-    let record = last_record(rt.alloc(), ONE_NOP, &UP_TO_FINISH)?;
+    let record = last_record(rt.alloc(), ONE_NOP, &ONE_REQUEST)?;
     assert!(rt; record.kept_bytes() <= 320);
     Ok(())
 }
@@ -100,7 +137,7 @@ fn finish_keeps_little(rt: HostRuntime) -> Result<(), Fail> {
 // A completion of zeros goes into a slot of zeros.
 #[test]
 fn finish_names_no_slot_that_stays(rt: HostRuntime) -> Result<(), Fail> {
-    let record = last_record(rt.alloc(), ZERO_NOP, &UP_TO_FINISH)?;
+    let record = last_record(rt.alloc(), ZERO_NOP, &ONE_REQUEST)?;
     let places = [Place::Request(0), Place::CompletionTail, Place::Counted];
     assert!(rt; names_just(&record, &places));
     Ok(())

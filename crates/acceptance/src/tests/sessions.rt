@@ -5,6 +5,7 @@ use crate::tests::{INPUT, ONE_NOP, OUTPUT};
 use debug_server::{NoSource, ServeFault, Session, replies, serve, walk};
 use script::{Script, read_script};
 use std::alloc::Global;
+use std::process::Abort;
 use std::test::Fail;
 
 const EMPTY: &str = r#"{"entries":1,"threads":[],"schedule":[]}"#;
@@ -52,45 +53,55 @@ fn session_of(alloc: Global, text: &str) -> Result<Session, Fail> {
 }
 
 // What a session replies to a line.
-fn reply(session: &mut Session, line: &str) -> Result<Vec<u8>, Fail> {
+pub fn reply(session: &mut Session, line: &str) -> Result<Vec<u8>, Fail> {
     let text = session.line(line.as_bytes(), None)?;
     Ok(text)
+}
+
+fn check_replies(rt: &impl Abort, session: &mut Session) -> Result<(), Fail> {
+    assert!(rt; reply(session, "back 2")?.as_slice() == b"at 4 of 6\n".as_slice());
+    assert!(rt; reply(session, "where")?.as_slice() == b"at 4 of 6\n".as_slice());
+    Ok(())
 }
 
 #[test]
 fn lines_are_answered_one_by_one(rt: HostRuntime) -> Result<(), Fail> {
     let mut session = session_of(rt.alloc(), ONE_NOP)?;
-    assert!(rt; reply(&mut session, "back 2")?.as_slice() == b"at 4 of 6\n".as_slice());
-    assert!(rt; reply(&mut session, "where")?.as_slice() == b"at 4 of 6\n".as_slice());
-    Ok(())
+    check_replies(&rt, &mut session)
 }
 
-// Serves a session some input, and tells the answer and how much was read and written.
-fn served(
-    alloc: Global,
-    session: &mut Session,
-    input: &str,
-) -> (Result<(), ServeFault>, usize, usize) {
+/// The answer of a loop over lines, and how many calls read and wrote.
+type Answer = (Result<(), ServeFault>, usize, usize);
+
+// Serves a session some input.
+fn served(alloc: Global, session: &mut Session, input: &str) -> Answer {
     let mut reader = SlowReader::new(input.as_bytes(), SOUND);
     let mut writer = SlowWriter::new(alloc, SOUND);
     let answer = serve(session, &mut reader, &mut writer, &mut NoSource);
     (answer, reader.calls, writer.calls)
 }
 
+// Serves a session some input, and then a line.
+fn served_twice(alloc: Global, input: &str) -> Result<(Answer, Answer), Fail> {
+    let mut session = session_of(alloc, ONE_NOP)?;
+    let first = served(alloc, &mut session, input);
+    Ok((first, served(alloc, &mut session, "where\n")))
+}
+
 // Five bytes are read; four are written, and flushed.
 #[test]
 fn quit_closes_a_session(rt: HostRuntime) -> Result<(), Fail> {
-    let mut session = session_of(rt.alloc(), ONE_NOP)?;
-    assert!(rt; served(rt.alloc(), &mut session, "quit\nwhere\n") == (Ok(()), 5, 5));
-    assert!(rt; served(rt.alloc(), &mut session, "where\n") == (Err(ServeFault::Closed), 0, 0));
+    let (first, second) = served_twice(rt.alloc(), "quit\nwhere\n")?;
+    assert!(rt; first == (Ok(()), 5, 5));
+    assert!(rt; second == (Err(ServeFault::Closed), 0, 0));
     Ok(())
 }
 
 // An end of input does not: one line is six reads and the end a seventh, its reply ten writes and a flush.
 #[test]
 fn the_end_of_input_leaves_a_session_open(rt: HostRuntime) -> Result<(), Fail> {
-    let mut session = session_of(rt.alloc(), ONE_NOP)?;
-    assert!(rt; served(rt.alloc(), &mut session, "where\n") == (Ok(()), 7, 11));
-    assert!(rt; served(rt.alloc(), &mut session, "where\n") == (Ok(()), 7, 11));
+    let (first, second) = served_twice(rt.alloc(), "where\n")?;
+    assert!(rt; first == (Ok(()), 7, 11));
+    assert!(rt; second == (Ok(()), 7, 11));
     Ok(())
 }

@@ -64,25 +64,43 @@ fn five_answers(alloc: Global) -> Result<Answers, Fail> {
     Ok(Answers { traces })
 }
 
+// What a session over some source answers, and what was written.
+fn served<S: Source>(
+    alloc: Global,
+    session: &mut Session,
+    lines: &[u8],
+    source: &mut S,
+) -> (Result<(), ServeFault>, Vec<u8>) {
+    let mut reader = SlowReader::new(lines, SOUND);
+    let mut writer = SlowWriter::new(alloc, SOUND);
+    let answer = serve(session, &mut reader, &mut writer, source);
+    (answer, writer.written)
+}
+
+// The same of a new session.
+fn served_anew<S: Source>(
+    alloc: Global,
+    lines: &[u8],
+    source: &mut S,
+) -> Result<(Result<(), ServeFault>, Vec<u8>), Fail> {
+    let mut session = session_of(alloc)?;
+    Ok(served(alloc, &mut session, lines, source))
+}
+
 #[test]
 fn syncs_with_a_list_of_answers(rt: HostRuntime) -> Result<(), Fail> {
-    let mut session = session_of(rt.alloc())?;
-    let mut reader = SlowReader::new(LINES.as_bytes(), SOUND);
-    let mut writer = SlowWriter::new(rt.alloc(), SOUND);
     let mut source = five_answers(rt.alloc())?;
-    assert!(rt; serve(&mut session, &mut reader, &mut writer, &mut source) == Ok(()));
-    assert!(rt; writer.written.as_slice() == REPLIES.as_bytes());
+    let (answer, written) = served_anew(rt.alloc(), LINES.as_bytes(), &mut source)?;
+    assert!(rt; answer == Ok(()));
+    assert!(rt; written.as_slice() == REPLIES.as_bytes());
     Ok(())
 }
 
 // What was asked for before is answered, and nothing behind it.
 #[test]
 fn a_source_without_memory_closes_the_session(rt: HostRuntime) -> Result<(), Fail> {
-    let mut session = session_of(rt.alloc())?;
-    let mut reader = SlowReader::new(b"where\nsync\nwhere\n", SOUND);
-    let mut writer = SlowWriter::new(rt.alloc(), SOUND);
-    let answer = serve(&mut session, &mut reader, &mut writer, &mut Starved);
+    let (answer, written) = served_anew(rt.alloc(), b"where\nsync\nwhere\n", &mut Starved)?;
     assert!(rt; answer == Err(ServeFault::Memory));
-    assert!(rt; writer.written.as_slice() == b"at 0 of 0\n".as_slice());
+    assert!(rt; written.as_slice() == b"at 0 of 0\n".as_slice());
     Ok(())
 }

@@ -1,10 +1,11 @@
 //! The lines that the program prints as it fails.
 
-use debug_server::{Fault, RunFault, ServeFault, TraceFault};
+use debug_server::{Fault, RunFault, ServeFault};
 use machine::Refusal;
 use script::{Key, Path, ScriptFault};
 use std::alloc::Global;
 use std::test::Fail;
+use traces::TraceFault;
 
 fn reads(alloc: Global, fault: RunFault, line: &str) -> Result<bool, Fail> {
     let text = format!(in alloc; "{}", Fault::Run(fault))?;
@@ -84,7 +85,7 @@ fn want_of_memory(rt: HostRuntime) -> Result<(), Fail> {
 }
 
 #[test]
-fn traces(rt: HostRuntime) -> Result<(), Fail> {
+fn faults_of_traces(rt: HostRuntime) -> Result<(), Fail> {
     assert!(rt;
         reads(
             rt.alloc(),

@@ -5,6 +5,7 @@ use crate::{Key, Path, ScriptFault, read_script};
 use places::{Contents, End};
 use scenario::{Instruction, Setup};
 use std::alloc::Global;
+use std::process::Abort;
 use std::test::Fail;
 
 // The fault of an object between two that are right.
@@ -154,13 +155,16 @@ fn counter_of(setup: &Setup, index: usize) -> Option<u64> {
     }
 }
 
-#[test]
-fn reads_pipes_and_eventfds(rt: HostRuntime) -> Result<(), Fail> {
-    let script = read_script(rt.alloc(), STREAMS.as_bytes())?;
-    let setup = script.setup();
+fn check_streams(rt: &impl Abort, setup: &Setup) {
     assert_eq!(rt; capacity_of(setup, 0), Some(4096));
     assert_eq!(rt; capacity_of(setup, 1), Some(65536));
     assert_eq!(rt; counter_of(setup, 2), Some(18446744073709551614));
+}
+
+#[test]
+fn reads_pipes_and_eventfds(rt: HostRuntime) -> Result<(), Fail> {
+    let script = read_script(rt.alloc(), STREAMS.as_bytes())?;
+    check_streams(&rt, script.setup());
     Ok(())
 }
 
@@ -171,13 +175,16 @@ fn is_end_of(setup: &Setup, index: usize, object: u32, end: End) -> bool {
     }
 }
 
-#[test]
-fn reads_ends(rt: HostRuntime) -> Result<(), Fail> {
-    let script = read_script(rt.alloc(), STREAMS.as_bytes())?;
-    let setup = script.setup();
+fn check_ends(rt: &impl Abort, setup: &Setup) {
     assert!(rt; is_end_of(setup, 0, 1, End::Write));
     assert!(rt; is_end_of(setup, 1, 0, End::Read));
     assert!(rt; is_end_of(setup, 2, 2, End::Whole));
+}
+
+#[test]
+fn reads_ends(rt: HostRuntime) -> Result<(), Fail> {
+    let script = read_script(rt.alloc(), STREAMS.as_bytes())?;
+    check_ends(&rt, script.setup());
     Ok(())
 }
 
@@ -192,13 +199,16 @@ fn closed_by(setup: &Setup, index: usize) -> Option<i32> {
     }
 }
 
-#[test]
-fn reads_closes(rt: HostRuntime) -> Result<(), Fail> {
-    let script = read_script(rt.alloc(), STREAMS.as_bytes())?;
-    let setup = script.setup();
+fn check_closes(rt: &impl Abort, setup: &Setup) {
     assert_eq!(rt; closed_by(setup, 0), Some(3));
     assert_eq!(rt; closed_by(setup, 1), Some(-2147483648));
     assert_eq!(rt; closed_by(setup, 2), Some(2147483647));
+}
+
+#[test]
+fn reads_closes(rt: HostRuntime) -> Result<(), Fail> {
+    let script = read_script(rt.alloc(), STREAMS.as_bytes())?;
+    check_closes(&rt, script.setup());
     Ok(())
 }
 

@@ -5,6 +5,7 @@ use crate::{Key, ScriptFault, read_script};
 use places::{Contents, End};
 use scenario::{Instruction, Setup};
 use std::alloc::Global;
+use std::process::Abort;
 use std::test::Fail;
 
 // A text with so many hex digits between two pieces.
@@ -249,16 +250,19 @@ fn byte_at(setup: &Setup, address: usize) -> Option<u8> {
     setup.memory.as_slice().get(address).copied()
 }
 
-#[test]
-fn reads_memory(rt: HostRuntime) -> Result<(), Fail> {
-    let script = read_script(rt.alloc(), WHOLE.as_bytes())?;
-    let setup = script.setup();
+fn check_memory(rt: &impl Abort, setup: &Setup) {
     assert_eq!(rt; byte_at(setup, 0), Some(0));
     assert_eq!(rt; byte_at(setup, 1), Some(0xaa));
     assert_eq!(rt; byte_at(setup, 2), Some(0));
     assert_eq!(rt; byte_at(setup, 3), Some(0xff));
     assert_eq!(rt; byte_at(setup, 4), Some(1));
     assert_eq!(rt; byte_at(setup, 5), Some(0));
+}
+
+#[test]
+fn reads_memory(rt: HostRuntime) -> Result<(), Fail> {
+    let script = read_script(rt.alloc(), WHOLE.as_bytes())?;
+    check_memory(&rt, script.setup());
     Ok(())
 }
 
@@ -269,14 +273,17 @@ fn is_all_of(setup: &Setup, index: usize, object: u32) -> bool {
     }
 }
 
-#[test]
-fn reads_objects(rt: HostRuntime) -> Result<(), Fail> {
-    let script = read_script(rt.alloc(), WHOLE.as_bytes())?;
-    let setup = script.setup();
+fn check_objects(rt: &impl Abort, setup: &Setup) {
     assert!(rt; is_file_of(setup, 0, b"log_0", &[0, 1]));
     assert!(rt; is_file_of(setup, 1, b"g", &[]));
     assert!(rt; is_all_of(setup, 0, 1) && is_all_of(setup, 1, 0));
     assert!(rt; setup.objects.len() == 2 && setup.fds.len() == 2);
+}
+
+#[test]
+fn reads_objects(rt: HostRuntime) -> Result<(), Fail> {
+    let script = read_script(rt.alloc(), WHOLE.as_bytes())?;
+    check_objects(&rt, script.setup());
     Ok(())
 }
 
@@ -291,11 +298,14 @@ fn is_store(setup: &Setup, index: usize, address: u32, bytes: &[u8]) -> bool {
     }
 }
 
+fn check_stores(rt: &impl Abort, setup: &Setup) {
+    assert!(rt; is_store(setup, 0, 65536, &[]));
+    assert!(rt; is_store(setup, 1, 7, &[10, 255]));
+}
+
 #[test]
 fn reads_stores(rt: HostRuntime) -> Result<(), Fail> {
     let script = read_script(rt.alloc(), WHOLE.as_bytes())?;
-    let setup = script.setup();
-    assert!(rt; is_store(setup, 0, 65536, &[]));
-    assert!(rt; is_store(setup, 1, 7, &[10, 255]));
+    check_stores(&rt, script.setup());
     Ok(())
 }

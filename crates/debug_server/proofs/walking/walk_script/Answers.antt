@@ -1,16 +1,24 @@
-use Rattle.std.proofs.KnownBytes.{Keeps-refl}
-use Rattle.debug_server.proofs.Alone.{none_asked, served_at, broke_at, open_at}
+use Rattle.std.proofs.Common.{arith}
+use Rattle.debug_server.proofs.Faulting.{walks, reads_none}
 use Rattle.debug_server.proofs.walking.walk_script.Goals as goal
 
-pub returns-in-Err-clause-schedule : goal.returns-in-Err-clause-schedule
-returns-in-Err-clause-schedule g c i n e = (c.in-Err.ensures.schedule i n e, Keeps-refl _)
+pub walk_events-requires-clause-starts : goal.walk_events-requires-clause-starts
+walk_events-requires-clause-starts g c = rw c.setup.ensures.value c.setup.ensures.kept.setup
 
-pub returns-in-Ok-serve-clause-ok : goal.returns-in-Ok-serve-clause-ok
-returns-in-Ok-serve-clause-ok g c =
-    let s = c.in-Ok-serve.ensures.ok in
-    (s.0, none_asked _ _ s.0 s.1, _, _, served_at c.in-Ok.session _ _ _ _ _ _ s.0 _ c.in-Ok.ensures.ok s.2)
+pub walk_events-requires-clause-most : goal.walk_events-requires-clause-most
+walk_events-requires-clause-most g c = rw c.schedule.ensures.value (omega (arith, c.schedule.ensures.kept.events))
+
+pub returns-clause-ok : goal.returns-clause-ok
+returns-clause-ok g c = rw (← c.setup.ensures.value, ← c.schedule.ensures.value) c.walk_events.ensures.ok
+
+pub returns-clause-script : goal.returns-clause-script
+returns-clause-script g c = reads_none c.walk_events.result c.walk_events.ensures.other
+
+pub returns-clause-schedule : goal.returns-clause-schedule
+returns-clause-schedule g c = rw (← c.setup.ensures.value, ← c.schedule.ensures.value) c.walk_events.ensures.schedule
 
 pub returns-clause-begins : goal.returns-clause-begins
-returns-clause-begins g c f e =
-    let s = c.in-Err-serve.ensures.begins (open_at c.in-Ok.session _ c.in-Ok.ensures.ok) in
-    (s.0, none_asked _ _ s.0 s.2, broke_at c.in-Ok.session _ _ _ _ _ s.0 c.in-Ok.ensures.ok s.3)
+returns-clause-begins g c = rw (← c.setup.ensures.value, ← c.schedule.ensures.value) c.walk_events.ensures.begins
+
+pub returns-clause-other : goal.returns-clause-other
+returns-clause-other g c = walks c.walk_events.result c.walk_events.ensures.other

@@ -1,0 +1,55 @@
+//! Walking a trace of the second form.
+ghost use Rattle.std.specs.Prelude.{◌≡◌, ◌≢◌, ℕ, Bool, List, Err, OnOk, IfErr};
+ghost use Rattle.std.specs.Io.KnownBytes.{Keeps};
+ghost use Rattle.machine.specs.Runs.{IsRefused};
+ghost use Rattle.scenario.specs.declared.event.Event.{Event as Happening};
+ghost use Rattle.scenario.specs.declared.event.Refusal.{Refusal as Denial};
+ghost use Rattle.scenario.specs.declared.setup.Setup.{Setup as Start};
+ghost use Rattle.traces.specs.Reading.{IsFault2};
+ghost use Rattle.traces.specs.Setups.{IsTrace2};
+ghost use Rattle.traces.specs.declared.fault.TraceFault.{TraceFault as Misspelt};
+ghost use Rattle.debug_server.specs.declared.faults.ServeFault.{ServeFault as Serving};
+ghost use Rattle.debug_server.specs.declared.faults.ServeFault.TheVariants.{Closed};
+ghost use Rattle.debug_server.specs.Visits.{Visit};
+ghost use Rattle.debug_server.specs.Replies.{Told};
+ghost use Rattle.debug_server.specs.Talks.{Unanswered, Served, Broke};
+ghost use Rattle.debug_server.specs.Schedules.{visit_over, IsOfReplay};
+
+use crate::faults::RunFault;
+use crate::walking::walk_events;
+use std::alloc::Global;
+use std::io::{Read, Write};
+use traces::{TraceFault, read_trace2};
+
+/// Reads a trace of the second form, runs its events from its setup, and replies to the lines that the
+/// reader gives.
+pub fn replay<R: Read, W: Write>(
+    alloc: Global,
+    trace: &[u8],
+    reader: &mut R,
+    writer: &mut W,
+) -> Result<(), RunFault>
+    // What is written is the output of the session of the trace's setup and events, without a source.
+    ensures ok { OnOk result ((setup : Start) × (events : List Happening) × IsTrace2 setup events trace.now × (answers : List Told) × Unanswered answers × (v : Visit) × (q : Bool)
+        × Served (visit_over setup events) (R.remaining reader.old) (R.remaining reader.new) (W.contents writer.old) (W.contents writer.new) answers v q) }
+    // A fault of the trace is its first one, a fault of its events the first refused one. Nothing was written then.
+    ensures trace { IfErr result (λ e. (f : Misspelt) → e ≡ RunFault.Trace f → IsFault2 trace.now f × Keeps (W.contents writer.old) (W.contents writer.new)) }
+    ensures schedule { IfErr result (λ e. (i : ℕ) → (n : Denial) → e ≡ RunFault.Schedule i n
+        → (setup : Start) × (events : List Happening) × IsTrace2 setup events trace.now × IsRefused setup events i n × Keeps (W.contents writer.old) (W.contents writer.new)) }
+    ensures memory { IfErr result (λ e. e ≡ RunFault.Memory → Keeps (W.contents writer.old) (W.contents writer.new)) }
+    // At a fault of serving a beginning of that output was written.
+    ensures begins { IfErr result (λ e. (f : Serving) → e ≡ RunFault.Serve f → (setup : Start) × (events : List Happening) × IsTrace2 setup events trace.now × (answers : List Told) × Unanswered answers
+        × Broke (visit_over setup events) (R.remaining reader.old) (R.remaining reader.new) (W.contents writer.old) (W.contents writer.new) answers) }
+    ensures open { result ≢ Err (RunFault.Serve Closed) }
+    ensures other { IfErr result IsOfReplay }
+{
+    let (setup, events) = match read_trace2(alloc, trace) {
+        Ok(found) => found,
+        Err(TraceFault::Memory) => return Err(RunFault::Memory),
+        Err(fault) => return Err(RunFault::Trace(fault)),
+    };
+    match walk_events(alloc, &setup, &events, reader, writer) {
+        Ok(()) => Ok(()),
+        Err(fault) => Err(fault),
+    }
+}

@@ -1,0 +1,101 @@
+//! Traces of scripts.
+ghost use Rattle.std.specs.Prelude.{◌≡◌, ◌⊎◌, ◌≤◌, ℕ, List, Ok, Err, length, IfOk, IfErr, IsTrue};
+ghost use Rattle.std.specs.List.{list_all};
+ghost use Rattle.machine.specs.Runs.{start, Accepts, IsRefused};
+ghost use Rattle.scenario.specs.declared.event.Event.{Event as Happening};
+ghost use Rattle.scenario.specs.declared.event.Refusal.{Refusal as Denial};
+ghost use Rattle.script.specs.Scripts.{Plan, Reads};
+ghost use Rattle.script.specs.declared.fault.ScriptFault.{ScriptFault as Misread};
+ghost use Rattle.traces.specs.Faults.{IsFault};
+ghost use Rattle.traces.specs.Setups.{plain, IsTrace2};
+ghost use Rattle.traces.specs.Spelling.{most_events, has_transfer, IsTrace};
+ghost use Rattle.traces.specs.declared.fault.TraceFault.{TraceFault as Misspelt};
+ghost use Rattle.debug_server.specs.Tracing.{IsSpelling, IsTraceOf, IsOfTracing, IsOfMigration};
+
+use crate::faults::RunFault;
+use crate::session::Session;
+use crate::task::Form;
+use scenario::Event;
+use script::{Script, ScriptFault, read_script};
+use std::alloc::{AllocError, Global};
+use traces::{TraceFault, read_trace, write_trace, write_trace2};
+
+/// A trace that was made.
+#[derive(Debug, Drop)]
+pub struct Traced {
+    /// How many events it has.
+    pub events: u32,
+    pub bytes: Vec<u8>,
+}
+
+/// Reads a script, runs its schedule, and writes the trace of it in a form.
+pub fn trace_script(alloc: Global, text: &[u8], form: Form) -> Result<Traced, RunFault>
+    ensures ok { IfOk result (λ t. (p : Plan) × Reads text.now (Ok p) × Accepts (start p.setup) p.schedule × IsTraceOf form p t) }
+    ensures script { IfErr result (λ e. (f : Misread) → e ≡ RunFault.Script f → Reads text.now (Err f)) }
+    ensures schedule { IfErr result (λ e. (i : ℕ) → (n : Denial) → e ≡ RunFault.Schedule i n → (p : Plan) × Reads text.now (Ok p) × IsRefused p.setup p.schedule i n) }
+    ensures other { IfErr result IsOfTracing }
+{
+    let script = script_of(alloc, text)?;
+    Session::new(alloc, &script)?;
+    match spelled(alloc, &script, form) {
+        Ok(bytes) => Ok(Traced {
+            events: script.schedule().len() as u32,
+            bytes,
+        }),
+        Err(_) => Err(RunFault::Memory),
+    }
+}
+
+/// Reads a script and a trace of the first form, and writes the trace of the second form of the script's
+/// setup and the trace's events. It runs none of them.
+pub fn migrate_trace(alloc: Global, text: &[u8], trace: &[u8]) -> Result<Traced, RunFault>
+    ensures ok { IfOk result (λ t. (p : Plan) × Reads text.now (Ok p) × (events : List Happening) × IsTrace events trace.now
+        × IsTrace2 (plain p.setup) events t.bytes.items × (t.events ≡ length events)) }
+    ensures script { IfErr result (λ e. (f : Misread) → e ≡ RunFault.Script f → Reads text.now (Err f)) }
+    ensures trace { IfErr result (λ e. (f : Misspelt) → e ≡ RunFault.Trace f → ((p : Plan) × Reads text.now (Ok p)) × IsFault trace.now f) }
+    ensures other { IfErr result IsOfMigration }
+{
+    let script = script_of(alloc, text)?;
+    let events = match read_trace(alloc, trace) {
+        Ok(events) => events,
+        Err(TraceFault::Memory) => return Err(RunFault::Memory),
+        Err(fault) => return Err(RunFault::Trace(fault)),
+    };
+    match whole_of(alloc, &script, &events) {
+        Ok(bytes) => Ok(Traced {
+            events: events.len() as u32,
+            bytes,
+        }),
+        Err(_) => Err(RunFault::Memory),
+    }
+}
+
+fn script_of(alloc: Global, text: &[u8]) -> Result<Script, RunFault>
+    ensures ok { IfOk result (λ s. Reads text.now (Ok s)) }
+    ensures script { IfErr result (λ e. (e ≡ RunFault.Memory) ⊎ ((f : Misread) × (e ≡ RunFault.Script f) × Reads text.now (Err f))) }
+{
+    match read_script(alloc, text) {
+        Ok(script) => Ok(script),
+        Err(ScriptFault::Memory) => Err(RunFault::Memory),
+        Err(fault) => Err(RunFault::Script(fault)),
+    }
+}
+
+// The trace of a script's schedule, in a form.
+fn spelled(alloc: Global, script: &Script, form: Form) -> Result<Vec<u8>, AllocError>
+    ensures { IfOk result (λ bytes. IsSpelling form script.now bytes.items) }
+{
+    match form {
+        Form::Events => write_trace(alloc, script.schedule()),
+        Form::Whole => whole_of(alloc, script, script.schedule()),
+    }
+}
+
+// The trace of a script's setup and of some events.
+fn whole_of(alloc: Global, script: &Script, events: &[Event]) -> Result<Vec<u8>, AllocError>
+    requires few { length events.now ≤ most_events }
+    requires transfers { IsTrue (list_all has_transfer events.now) }
+    ensures { IfOk result (λ bytes. IsTrace2 (plain script.now.setup) events.now bytes.items) }
+{
+    write_trace2(alloc, script.setup(), events)
+}

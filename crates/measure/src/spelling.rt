@@ -1,0 +1,79 @@
+//! Traces of both forms, read and written.
+
+use crate::fault::Fault;
+use crate::report;
+use std::alloc::{AllocError, Global};
+use std::rt::Clock;
+use std::time::Instant;
+use traces::{read_trace, read_trace2, write_trace, write_trace2};
+
+/// What stands before the number of events in the first form.
+const FIRST: [u8; 8] = *b"URTRACE1";
+
+/// The same in the second form, of the least setup: one entry, two completions, and nothing beside them.
+const SECOND: [u8; 33] = [
+    0x55, 0x52, 0x54, 0x52, 0x41, 0x43, 0x45, 0x32, 1, 0, 2, 0, 0, 0, 0, 0, 0, 0, 0, 0, 0, 0, 0, 0,
+    0, 0, 0, 0, 0, 0, 0, 0, 0,
+];
+
+/// A step of a thread, an issue and a finish of a row, and a tick.
+const EVENTS: [[u8; 16]; 4] = [
+    [1, 0, 0, 0, 0, 0, 0, 0, 0, 0, 0, 0, 0, 0, 0, 0],
+    [4, 0, 0, 0, 0, 0, 0, 0, 0, 0, 0, 0, 0, 0, 0, 0],
+    [5, 0, 0, 0, 0, 0, 0, 0, 0, 0, 0, 0, 0, 0, 0, 0],
+    [7, 0, 0, 0, 0, 0, 0, 0, 1, 0, 0, 0, 0, 0, 0, 0],
+];
+
+// A trace of so many events.
+fn trace_of(alloc: Global, before: &[u8], count: u32) -> Result<Vec<u8>, AllocError> {
+    let mut bytes = Vec::new(alloc);
+    bytes.extend_from_slice(before)?;
+    bytes.extend_from_slice(&count.to_le_bytes())?;
+    for event in 0..count as usize {
+        bytes.extend_from_slice(&EVENTS[event % 4])?;
+    }
+    Ok(bytes)
+}
+
+fn measure_first(
+    rt: &(impl Print + Eprint + Clock + AllocGlobal),
+    count: u32,
+) -> Result<(), Fault> {
+    let bytes = trace_of(rt.alloc(), &FIRST, count)?;
+    let start = Instant::now(rt)?;
+    let events = read_trace(rt.alloc(), &bytes)?;
+    let read = start.elapsed(rt)?.as_micros();
+    let start = Instant::now(rt)?;
+    let written = write_trace(rt.alloc(), &events)?;
+    let wrote = start.elapsed(rt)?.as_micros();
+    report(rt, "read, form 1", events.len(), read)?;
+    report(rt, "write, form 1", events.len(), wrote)?;
+    println!(rt; "same {}", written.as_slice() == bytes.as_slice())?;
+    Ok(())
+}
+
+fn measure_second(
+    rt: &(impl Print + Eprint + Clock + AllocGlobal),
+    count: u32,
+) -> Result<(), Fault> {
+    let bytes = trace_of(rt.alloc(), &SECOND, count)?;
+    let start = Instant::now(rt)?;
+    let (setup, events) = read_trace2(rt.alloc(), &bytes)?;
+    let read = start.elapsed(rt)?.as_micros();
+    let start = Instant::now(rt)?;
+    let written = write_trace2(rt.alloc(), &setup, &events)?;
+    let wrote = start.elapsed(rt)?.as_micros();
+    report(rt, "read, form 2", events.len(), read)?;
+    report(rt, "write, form 2", events.len(), wrote)?;
+    println!(rt; "same {}", written.as_slice() == bytes.as_slice())?;
+    Ok(())
+}
+
+/// Reads and writes traces of so many events.
+pub fn measure_traces(
+    rt: &(impl Print + Eprint + Clock + AllocGlobal),
+    count: u32,
+) -> Result<(), Fault> {
+    measure_first(rt, count)?;
+    measure_second(rt, count)
+}
