@@ -9,9 +9,9 @@ use Rattle.entries.specs.declared.entry.Sqe.{Sqe}
 use Rattle.entries.specs.declared.row.Row.{Row}
 use Rattle.places.specs.Lists.{updated}
 use Rattle.places.proofs.ListLemmas.{slice_get-take_below, slice_get-take_above}
-use Rattle.links_drains.specs.Batches.{chain_of, rows_of}
+use Rattle.model_files.specs.Worlds.{WorldState}
+use Rattle.links_drains.specs.Batches.{chain_of, row_of, rows_of}
 use Rattle.links_drains.specs.Links.{is_linked, Chained}
-use Rattle.links_drains.specs.Rows.{new_row}
 use Rattle.links_drains.proofs.RowsKept.{get-updated}
 
 -- ---- chains of a batch
@@ -44,26 +44,26 @@ enumerated_from {X} n (x ∷ xs) (suc i) = let m : n + 1 + i ≡ n + suc i = ome
 pub enumerated : {X : Type 0} (xs : List X) (i : ℕ) → slice_get (enumerate_from 0 xs) i ≡ option_map (λ x. (i, x)) (slice_get xs i)
 enumerated {X} xs i = let m : 0 + i ≡ i = omega arith in enumerated_from 0 xs i ∙ ap (λ k. option_map (λ (y : X). (k, y)) (slice_get xs i)) m
 
-pub get-batch : (first : ℕ) (es : List Sqe) (i : ℕ) → slice_get (rows_of first es) i ≡ option_map (λ e. new_row e (first + chain_of es i)) (slice_get es i)
-get-batch first es i = slice_get-map row (enumerate_from 0 es) i ∙ ap (option_map row) (enumerated es i) ∙ joined (slice_get es i)
+pub get-batch : (w : WorldState) (first : ℕ) (es : List Sqe) (i : ℕ) → slice_get (rows_of w first es) i ≡ option_map (row_of w first es i) (slice_get es i)
+get-batch w first es i = slice_get-map row (enumerate_from 0 es) i ∙ ap (option_map row) (enumerated es i) ∙ joined (slice_get es i)
   where
     row : ℕ × Sqe → Row
-    row p = new_row p.1 (first + chain_of es p.0)
+    row p = row_of w first es p.0 p.1
 
-    joined : (o : Option Sqe) → option_map row (option_map (λ e. (i, e)) o) ≡ option_map (λ e. new_row e (first + chain_of es i)) o
+    joined : (o : Option Sqe) → option_map row (option_map (λ e. (i, e)) o) ≡ option_map (row_of w first es i) o
     joined None = refl
     joined (Some e) = refl
 
 -- A row of a batch is one that an entry became.
-pub record Became (first : ℕ) (es : List Sqe) (i : ℕ) (row : Row) : Type 0 where
+pub record Became (w : WorldState) (first : ℕ) (es : List Sqe) (i : ℕ) (row : Row) : Type 0 where
   pub entry : Sqe
   pub there : slice_get es i ≡ Some entry
-  pub is : row ≡ new_row entry (first + chain_of es i)
+  pub is : row ≡ row_of w first es i entry
 
-pub became : (first : ℕ) (es : List Sqe) (i : ℕ) (row : Row) → slice_get (rows_of first es) i ≡ Some row → Became first es i row
-became first es i row h = by (slice_get es i) refl (sym (get-batch first es i) ∙ h)
+pub became : (w : WorldState) (first : ℕ) (es : List Sqe) (i : ℕ) (row : Row) → slice_get (rows_of w first es) i ≡ Some row → Became w first es i row
+became w first es i row h = by (slice_get es i) refl (sym (get-batch w first es i) ∙ h)
   where
-    by : (o : Option Sqe) → slice_get es i ≡ o → option_map (λ e. new_row e (first + chain_of es i)) o ≡ Some row → Became first es i row
+    by : (o : Option Sqe) → slice_get es i ≡ o → option_map (row_of w first es i) o ≡ Some row → Became w first es i row
     by None e k = absurd cc
     by (Some x) e k = record { entry = x; there = e; is = cc }
 
@@ -97,17 +97,17 @@ placed rows more r x h = by (cases_lt r (length rows))
 pub chained-none : Chained []
 chained-none = record { back = λ r x h. absurd cc; run = λ q r y x g h l k. absurd cc }
 
-pub chained-batch : (rows : List Row) (es : List Sqe) → Chained rows → Chained (rows ++ rows_of (length rows) es)
-chained-batch rows es c = record {
+pub chained-batch : (w : WorldState) (rows : List Row) (es : List Sqe) → Chained rows → Chained (rows ++ rows_of w (length rows) es)
+chained-batch w rows es c = record {
   back = λ r x h. back r x (placed rows batch r x h);
   run = λ q r y x g h l k. run q r y x (placed rows batch q y g) (placed rows batch r x h) l k;
 }
   where
     batch : List Row
-    batch = rows_of (length rows) es
+    batch = rows_of w (length rows) es
 
     unit : (r : ℕ) (x : Row) (b : Behind rows batch r x) → x.unit ≡ length rows + chain_of es b.index
-    unit r x b = ap (λ (y : Row). y.unit) (became (length rows) es b.index x b.there).is
+    unit r x b = ap (λ (y : Row). y.unit) (became w (length rows) es b.index x b.there).is
 
     back : (r : ℕ) (x : Row) → (slice_get rows r ≡ Some x) ⊎ Behind rows batch r x → x.unit ≤ r
     back r x (inl h) = c.back r x h

@@ -1,55 +1,60 @@
 -- The rows of a batch that end as it is submitted, row by row.
-use Rattle.std.proofs.Common.{◌≡◌, ℕ, ℤ, zero, suc, Bool, true, false, not, cond, refl, sym, ◌∙◌, ap, List, [], ◌∷◌, ◌++◌, take, length, replicate, get_or, ◌<◌, ◌≤◌, ◌+◌, ◌-◌, arith}
-use Rattle.std.specs.Prelude.{Option, Some, None, slice_get, slice_set, ◌==◌, ◌&&◌, ◌||◌}
-use Rattle.std.specs.List.{cons_option}
+use Rattle.std.proofs.Common.{◌≡◌, ℕ, ℤ, zero, suc, Bool, true, false, cond, refl, sym, ◌∙◌, ap, List, [], ◌∷◌, ◌++◌, take, length, replicate, get_or, ◌<◌, ◌≤◌, ◌+◌, ◌-◌, arith}
+use Rattle.std.specs.Prelude.{Option, Some, None, option_map, is_some, slice_get, slice_set, ◌==◌, ◌&&◌, ◌||◌}
+use Rattle.std.specs.Option.{option_and_then}
+use Rattle.std.specs.List.{cons_option, list_any, enumerate_from}
 use Rattle.std.proofs.lemmas.Bool.{eq-eqb, eqb-true, ne_eqb, and_left, and_right}
-use Rattle.std.proofs.lemmas.List.{length-set, length-replicate, length-take-le}
+use Rattle.std.proofs.lemmas.List.{length-set, length-replicate, length-take-le, take_all}
+use Rattle.std.proofs.lemmas.List.FromFn.{length-enumerate_from}
 use Rattle.std.proofs.lemmas.List.Folds.{list_any-append}
 use Rattle.std.proofs.lemmas.Option.{slice_get-get_or, get_or_from_slice_get}
 use Rattle.entries.specs.declared.entry.Sqe.{Sqe}
 use Rattle.entries.specs.declared.row.Row.{Row}
 use Rattle.places.proofs.ListLemmas.{slice_get-set}
-use Rattle.links_drains.specs.Batches.{passes, error_of, rows_of, unit_fails, direct_result}
+use Rattle.model_files.specs.Worlds.{WorldState}
+use Rattle.links_drains.specs.Batches.{chain_fails, chain_of, error_at, error_of, rows_of, direct_result}
 use Rattle.links_drains.specs.Endings.{Ending, ecanceled, given, or_else, paired, endings_from}
 use Rattle.links_drains.specs.Phases.{is_unfinished}
-use Rattle.links_drains.proofs.Batching.{take_more}
-use Rattle.links_drains.proofs.Chains.{chain_before, became}
+use Rattle.links_drains.proofs.Batching.{element_there, length-rows_of, take_more}
+use Rattle.links_drains.proofs.Chains.{became, chain_before, enumerated}
 use Rattle.links_drains.proofs.Listing.{result_of, endings_step}
 
 -- ---- rows of a batch
 
-unit_in : (first : ℕ) (es : List Sqe) (i : ℕ) (row : Row) → slice_get (rows_of first es) i ≡ Some row → (first ≤ row.unit) × (row.unit - first ≤ i)
-unit_in first es i row h =
-    let b = became first es i row h in
-    let u = ap (λ (x : Row). x.unit) b.is in
-    let c = chain_before es i in
-    (omega (arith, u), omega (arith, u, c))
+unit_of : (w : WorldState) (first : ℕ) (es : List Sqe) (rows : List Row) (i : ℕ) (d : Row) → rows ≡ rows_of w first es → i < length rows → (get_or rows i d).unit ≡ first + chain_of es i
+unit_of w first es rows i d b h =
+    ap (λ (x : Row). x.unit) (became w first es i (get_or rows i d) (sym (ap (λ (rs : List Row). slice_get rs i) b) ∙ slice_get-get_or rows i d h)).is
 
-starts_queued : (first : ℕ) (es : List Sqe) (i : ℕ) (row : Row) → slice_get (rows_of first es) i ≡ Some row → is_unfinished row.phase ≡ true
-starts_queued first es i row h = ap (λ (x : Row). is_unfinished x.phase) (became first es i row h).is
+pub unit_low : (w : WorldState) (first : ℕ) (es : List Sqe) (rows : List Row) (i : ℕ) (d : Row) → rows ≡ rows_of w first es → i < length rows → first ≤ (get_or rows i d).unit
+unit_low w first es rows i d b h = let u = unit_of w first es rows i d b h in omega (arith, u)
 
--- Rows are those of a batch.
-abbrev pub OfBatch : ℕ → List Row → Type 0
-OfBatch first rows = (es : List Sqe) × (rows ≡ rows_of first es)
+pub unit_high : (w : WorldState) (first : ℕ) (es : List Sqe) (rows : List Row) (i : ℕ) (d : Row) → rows ≡ rows_of w first es → i < length rows → (get_or rows i d).unit - first < length rows
+unit_high w first es rows i d b h = let u = unit_of w first es rows i d b h in let c = chain_before es i in omega (arith, u, c, h)
 
-unit_at : (first : ℕ) (rows : List Row) (i : ℕ) (row : Row) → OfBatch first rows → slice_get rows i ≡ Some row → (first ≤ row.unit) × (row.unit - first ≤ i)
-unit_at first rows i row b h = unit_in first b.0 i row (sym (ap (λ (rs : List Row). slice_get rs i) b.1) ∙ h)
+pub chain_is : (w : WorldState) (first : ℕ) (es : List Sqe) (rows : List Row) (i : ℕ) (d : Row) → rows ≡ rows_of w first es → i < length rows → (get_or rows i d).unit - first ≡ chain_of es i
+chain_is w first es rows i d b h = let u = unit_of w first es rows i d b h in omega (arith, u)
 
-pub unit_low : (first : ℕ) (rows : List Row) (i : ℕ) (d : Row) → OfBatch first rows → i < length rows → first ≤ (get_or rows i d).unit
-unit_low first rows i d b h = (unit_at first rows i (get_or rows i d) b (slice_get-get_or rows i d h)).0
+-- as many rows as entries
+pub many : (w : WorldState) (first : ℕ) (es : List Sqe) (rows : List Row) → rows ≡ rows_of w first es → length rows ≡ length es
+many w first es rows b = ap length b ∙ length-rows_of w first es
 
-pub unit_high : (first : ℕ) (rows : List Row) (i : ℕ) (d : Row) → OfBatch first rows → i < length rows → (get_or rows i d).unit - first < length rows
-unit_high first rows i d b h = let u = (unit_at first rows i (get_or rows i d) b (slice_get-get_or rows i d h)).1 in omega (arith, u, h)
+-- ---- chains that fail
 
-queued_at : (first : ℕ) (rows : List Row) (i : ℕ) (row : Row) → OfBatch first rows → slice_get rows i ≡ Some row → is_unfinished row.phase ≡ true
-queued_at first rows i row b h = starts_queued first b.0 i row (sym (ap (λ (rs : List Row). slice_get rs i) b.1) ∙ h)
+-- whether an entry is of a chain, and fails
+abbrev fails_in : WorldState → List Sqe → ℕ → ℕ × Sqe → Bool
+fails_in w es chain p = (chain_of es p.0 == chain) && is_some (error_of w es p.0 p.1)
 
--- ---- units that fail
+-- whether one of the first entries is of a chain, and fails
+abbrev fails_to : WorldState → List Sqe → ℕ → ℕ → Bool
+fails_to w es i chain = list_any (fails_in w es chain) (take i (enumerate_from 0 es))
 
-fails_more : (rows : List Row) (i : ℕ) (row : Row) (unit : ℕ) → slice_get rows i ≡ Some row → unit_fails (take (i + 1) rows) unit ≡ (unit_fails (take i rows) unit || (((row.unit == unit) && not (passes row.entry)) || false))
-fails_more rows i row unit h =
-    ap (λ rs. unit_fails rs unit) (take_more rows i row h)
-    ∙ list_any-append (λ (x : Row). (x.unit == unit) && not (passes x.entry)) (take i rows) (row ∷ [])
+fails_more : (w : WorldState) (es : List Sqe) (i chain : ℕ) (e : Sqe) → slice_get es i ≡ Some e → fails_to w es (i + 1) chain ≡ (fails_to w es i chain || (fails_in w es chain (i, e) || false))
+fails_more w es i chain e h =
+    ap (list_any (fails_in w es chain)) (take_more (enumerate_from 0 es) i (i, e) (enumerated es i ∙ ap (option_map (λ (x : Sqe). (i, x))) h))
+    ∙ list_any-append (fails_in w es chain) (take i (enumerate_from 0 es)) ((i, e) ∷ [])
+
+error_here : (w : WorldState) (es : List Sqe) (i : ℕ) (e : Sqe) → slice_get es i ≡ Some e → error_at w es i ≡ error_of w es i e
+error_here w es i e h = ap (option_and_then (error_of w es i)) h
 
 or_none : (a b : Bool) → b ≡ false → (a || (b || false)) ≡ a
 or_none true b e = refl
@@ -61,47 +66,58 @@ or_some true b e = refl
 or_some false true e = refl
 or_some false false e = absurd cc
 
--- What is known of each unit of a batch by its first i rows.
-pub record FailingTo (first : ℕ) (rows : List Row) (i : ℕ) (failing : List Bool) : Type 0 where
-  pub len : length failing ≡ length rows
-  pub each : (u : ℕ) → u < length rows → slice_get failing u ≡ Some (unit_fails (take i rows) (first + u))
+-- What is known of each chain of a batch by its first i entries.
+pub record FailingTo (w : WorldState) (es : List Sqe) (i : ℕ) (failing : List Bool) : Type 0 where
+  pub len : length failing ≡ length es
+  pub each : (u : ℕ) → u < length es → slice_get failing u ≡ Some (fails_to w es i u)
 
 get-replicate : {X : Type 0} (n : ℕ) (x : X) (i : ℕ) → i < n → slice_get (replicate n x) i ≡ Some x
 get-replicate zero x i h = absurd (omega (arith, h))
 get-replicate (suc n) x zero h = refl
 get-replicate (suc n) x (suc i) h = get-replicate n x i (omega (arith, h))
 
-pub failing_none : (first : ℕ) (rows : List Row) (failing : List Bool) → failing ≡ replicate (length rows) false → FailingTo first rows 0 failing
-failing_none first rows failing e = record {
-  len = ap length e ∙ length-replicate (length rows) false;
-  each = λ u h. ap (λ (xs : List Bool). slice_get xs u) e ∙ get-replicate (length rows) false u h;
+pub failing_none : (w : WorldState) (es : List Sqe) (failing : List Bool) (n : ℕ) → n ≡ length es → failing ≡ replicate n false → FailingTo w es 0 failing
+failing_none w es failing n m e = record {
+  len = ap length e ∙ length-replicate n false ∙ m;
+  each = λ u h. ap (λ (xs : List Bool). slice_get xs u) e ∙ get-replicate n false u (omega (arith, m, h));
 }
 
--- a row that passes
-pub failing_on : (first : ℕ) (rows : List Row) (i : ℕ) (d : Row) (failing : List Bool) → FailingTo first rows i failing → i < length rows → not (passes (get_or rows i d).entry) ≡ false → FailingTo first rows (i + 1) failing
-failing_on first rows i d failing t h p = record {
-  len = t.len;
-  each = λ u l. t.each u l ∙ ap Some (sym (fails_more rows i (get_or rows i d) (first + u) (slice_get-get_or rows i d h) ∙ or_none _ _ (and_right _ _ p)));
-}
+-- all entries are looked at
+pub failing_all : (w : WorldState) (es : List Sqe) (i : ℕ) (failing : List Bool) → FailingTo w es i failing → length es ≤ i → (u : ℕ) → u < length es → slice_get failing u ≡ Some (chain_fails w es u)
+failing_all w es i failing t h u l =
+    t.each u l ∙ ap (λ ps. Some (list_any (fails_in w es u) ps)) (take_all i (enumerate_from 0 es) (let n = length-enumerate_from 0 es in omega (arith, n, h)))
 
--- a row that fails
-pub failing_at : (first : ℕ) (rows : List Row) (i : ℕ) (d : Row) (failing : List Bool) → FailingTo first rows i failing → OfBatch first rows → i < length rows → not (passes (get_or rows i d).entry) ≡ true
-    → FailingTo first rows (i + 1) (slice_set failing ((get_or rows i d).unit - first) true)
-failing_at first rows i d failing t b h p = record {
-  len = length-set failing (row.unit - first) true ∙ t.len;
-  each = λ u l. slice_get-set failing (row.unit - first) u true (let n = t.len in let high = unit_high first rows i d b h in omega (arith, n, high))
-      ∙ ap (λ o. cond (row.unit - first == u) (Some true) o) (t.each u l) ∙ by u ((row.unit - first) == u) refl ∙ ap Some (sym (fails_more rows i row (first + u) (slice_get-get_or rows i d h)));
-}
+-- an entry that passes
+pub failing_on : (w : WorldState) (es : List Sqe) (i : ℕ) (failing : List Bool) → FailingTo w es i failing → i < length es → is_some (error_at w es i) ≡ false → FailingTo w es (i + 1) failing
+failing_on w es i failing t h p = by (element_there es i h)
   where
-    row : Row
-    row = get_or rows i d
+    by : (e : Sqe) × (slice_get es i ≡ Some e) → FailingTo w es (i + 1) failing
+    by (e, g) = record {
+      len = t.len;
+      each = λ u l. t.each u l ∙ ap Some (sym (fails_more w es i u e g ∙ or_none _ _ (and_right _ _ (sym (ap is_some (error_here w es i e g)) ∙ p))));
+    }
 
-    by : (u : ℕ) (b : Bool) → ((row.unit - first) == u) ≡ b → cond b (Some true) (Some (unit_fails (take i rows) (first + u))) ≡ Some (unit_fails (take i rows) (first + u) || (((row.unit == first + u) && not (passes row.entry)) || false))
-    by u true e =
-        let m = eqb-true (row.unit - first) u e in
-        let low = unit_low first rows i d b h in
-        ap Some (sym (or_some _ _ (ap (λ c. c && not (passes row.entry)) (eq-eqb row.unit (first + u) (omega (arith, m, low))) ∙ p)))
-    by u false e = ap Some (sym (or_none _ _ (and_left _ _ (ne_eqb row.unit (first + u) (λ m. let k = sym e ∙ eq-eqb (row.unit - first) u (omega (arith, m)) in cc)))))
+-- an entry that fails
+pub failing_at : (w : WorldState) (es : List Sqe) (i at : ℕ) (failing : List Bool) → FailingTo w es i failing → i < length es → is_some (error_at w es i) ≡ true → at ≡ chain_of es i → FailingTo w es (i + 1) (slice_set failing at true)
+failing_at w es i at failing t h p m = by (element_there es i h)
+  where
+    high : at < length failing
+    high = let n = t.len in let c = chain_before es i in omega (arith, n, c, h, m)
+
+    by : (e : Sqe) × (slice_get es i ≡ Some e) → FailingTo w es (i + 1) (slice_set failing at true)
+    by (e, g) = record {
+      len = length-set failing at true ∙ t.len;
+      each = λ u l. slice_get-set failing at u true high ∙ ap (λ o. cond (at == u) (Some true) o) (t.each u l) ∙ told u (at == u) refl ∙ ap Some (sym (fails_more w es i u e g));
+    }
+      where
+        fails : is_some (error_of w es i e) ≡ true
+        fails = sym (ap is_some (error_here w es i e g)) ∙ p
+
+        told : (u : ℕ) (b : Bool) → (at == u) ≡ b → cond b (Some true) (Some (fails_to w es i u)) ≡ Some (fails_to w es i u || (fails_in w es u (i, e) || false))
+        told u true k =
+            let same = eqb-true at u k in
+            ap Some (sym (or_some _ _ (ap (λ c. c && is_some (error_of w es i e)) (eq-eqb (chain_of es i) u (sym m ∙ same)) ∙ fails)))
+        told u false k = ap Some (sym (or_none _ _ (and_left _ _ (ne_eqb (chain_of es i) u (λ q. let x = sym k ∙ eq-eqb at u (m ∙ q) in cc)))))
 
 -- ---- the list
 
@@ -119,16 +135,20 @@ endings_more f n (x ∷ rows) row =
     over None es fs = refl
     over (Some e) es fs = refl
 
--- what a row ends with, by what is known of its unit
-pub ends_more : (first : ℕ) (rows : List Row) (i : ℕ) (d : Row) (failing : List Bool) (c b : Bool) (o p : Option ℤ) → OfBatch first rows → i < length rows → ((u : ℕ) → u < length rows → slice_get failing u ≡ Some (unit_fails rows (first + u)))
-    → b ≡ get_or failing ((get_or rows i d).unit - first) c → o ≡ or_else (error_of (get_or rows i d).entry) (given b ecanceled) → o ≡ p
-    → endings_from (λ r x. direct_result rows x) first (take (i + 1) rows) ≡ endings_from (λ r x. direct_result rows x) first (take i rows) ++ cons_option (paired (first + i) p) []
-ends_more first rows i d failing c b o p batch h known e g k =
-    ap (endings_from (λ r x. direct_result rows x) first) (take_more rows i row here)
-    ∙ endings_more (λ r x. direct_result rows x) first (take i rows) row
-    ∙ ap (λ n. endings_from (λ r x. direct_result rows x) first (take i rows) ++ cons_option (paired (first + n) (result_of (λ r x. direct_result rows x) (first + n) row)) []) len
-    ∙ ap (λ (z : Option ℤ). endings_from (λ r x. direct_result rows x) first (take i rows) ++ cons_option (paired (first + i) z) []) (gives ∙ k)
+-- what a row ends with, by what is known of its chain
+pub ends_more : (w : WorldState) (first : ℕ) (es : List Sqe) (rows : List Row) (i : ℕ) (d : Row) (failing : List Bool) (c b : Bool) (o p : Option ℤ) → rows ≡ rows_of w first es → i < length rows
+    → ((u : ℕ) → u < length rows → slice_get failing u ≡ Some (chain_fails w es u))
+    → b ≡ get_or failing ((get_or rows i d).unit - first) c → o ≡ or_else (error_at w es i) (given b ecanceled) → o ≡ p
+    → endings_from (λ r x. direct_result w es (r - first)) first (take (i + 1) rows) ≡ endings_from (λ r x. direct_result w es (r - first)) first (take i rows) ++ cons_option (paired (first + i) p) []
+ends_more w first es rows i d failing c b o p batch h known e g k =
+    ap (endings_from test first) (take_more rows i row here)
+    ∙ endings_more test first (take i rows) row
+    ∙ ap (λ n. endings_from test first (take i rows) ++ cons_option (paired (first + n) (result_of test (first + n) row)) []) len
+    ∙ ap (λ (z : Option ℤ). endings_from test first (take i rows) ++ cons_option (paired (first + i) z) []) (gives ∙ k)
   where
+    test : ℕ → Row → Option ℤ
+    test r x = direct_result w es (r - first)
+
     row : Row
     row = get_or rows i d
 
@@ -138,11 +158,14 @@ ends_more first rows i d failing c b o p batch h known e g k =
     len : length (take i rows) ≡ i
     len = length-take-le i rows (omega (arith, h))
 
-    unit : first + (row.unit - first) ≡ row.unit
-    unit = let low = unit_low first rows i d batch h in omega (arith, low)
+    told : b ≡ chain_fails w es (chain_of es i)
+    told = e ∙ get_or_from_slice_get failing (row.unit - first) _ c (known (row.unit - first) (unit_high w first es rows i d batch h)) ∙ ap (chain_fails w es) (chain_is w first es rows i d batch h)
 
-    told : b ≡ unit_fails rows row.unit
-    told = e ∙ get_or_from_slice_get failing (row.unit - first) _ c (known (row.unit - first) (unit_high first rows i d batch h)) ∙ ap (unit_fails rows) unit
+    queued : is_unfinished row.phase ≡ true
+    queued = ap (λ (x : Row). is_unfinished x.phase) (became w first es i row (sym (ap (λ (rs : List Row). slice_get rs i) batch) ∙ here)).is
 
-    gives : result_of (λ r x. direct_result rows x) (first + i) row ≡ o
-    gives = ap (λ c. cond c (direct_result rows row) None) (queued_at first rows i row batch here) ∙ ap (λ c. or_else (error_of row.entry) (given c ecanceled)) (sym told) ∙ sym g
+    gives : result_of test (first + i) row ≡ o
+    gives =
+        ap (λ c. cond c (test (first + i) row) None) queued
+        ∙ (let m : first + i - first ≡ i = omega arith in ap (direct_result w es) m)
+        ∙ ap (λ c. or_else (error_at w es i) (given c ecanceled)) (sym told) ∙ sym g

@@ -33,15 +33,15 @@ table_can_put rows (Request i) (Some (Requested row)) = option_map fixed_of (sli
 table_can_put rows (Request i) None = i + 1 ≡ length rows
 table_can_put rows place value = ⊥
 
--- the row that an entry becomes, in the unit of a number
-abbrev pub new_row : Sqe → ℕ → Row
-new_row entry unit = record {
+-- the row that an entry becomes, in the unit of a number, with its time and the row that it guards
+abbrev pub new_row : Sqe → ℕ → Option ℕ → Option ℕ → Row
+new_row entry unit time target = record {
   deadline = None;
-  time = None;
+  time = time;
   entry = entry;
   base = 0;
   unit = unit;
-  target = None;
+  target = target;
   held = None;
   phase = Queued;
 }

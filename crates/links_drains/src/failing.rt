@@ -1,64 +1,101 @@
 //! The rows of a batch that end as it is submitted (io_uring_enter(2)).
-ghost use Rattle.std.specs.Prelude.{◌≡◌, ◌+◌, ◌<◌, ◌≤◌, ℕ, List, IfOk, Some, false, not, length, slice_get};
-ghost use Rattle.entries.specs.declared.entry.Sqe.{Sqe};
-ghost use Rattle.links_drains.specs.Batches.{error_of, passes, rows_of, unit_fails, direct_result};
-ghost use Rattle.links_drains.specs.Endings.{ecanceled, given, or_else, endings_from};
+ghost use Rattle.std.specs.Prelude.{◌≡◌, ◌+◌, ◌<◌, ◌≤◌, ℕ, IfOk, Some, length, slice_get};
+ghost use Rattle.links_drains.specs.Batches.{behind_in, chain_fails, direct_of, error_at, rows_of, shown_on as shown_by};
+ghost use Rattle.links_drains.specs.Endings.{ecanceled, given, or_else};
 
+use crate::links::is_linked;
 use entries::{Row, Sqe};
+use model_files::World;
 use opcodes::{Context, ECANCELED, check};
 use std::alloc::{AllocError, Global};
 
-/// Whether an entry fails as it is submitted.
-pub(crate) fn fails(entry: &Sqe) -> bool
-    ensures { result ≡ not (passes entry.now) }
+/// What an entry of a batch fails with as it is submitted, if it does.
+pub(crate) fn error_at(world: &World, entries: &[Sqe], i: usize) -> Option<i32>
+    requires memory { length world.now.memory ≡ 65536 }
+    requires within { i < length entries.now }
+    ensures { result ≡ error_at world.now entries.now i }
 {
-    check(entry, Context { behind: None }).is_err()
+    let behind = behind_at(entries, i);
+    check(&entries[i], Context { behind, world }).err()
+}
+
+/// The opcode of the entry before one in its chain.
+pub(crate) fn behind_at(entries: &[Sqe], i: usize) -> Option<u8>
+    requires { i < length entries.now }
+    ensures { result ≡ behind_in entries.now i }
+{
+    if i == 0 {
+        return None;
+    }
+    shown_on(&entries[i - 1])
+}
+
+// The opcode that an entry shows to the next one of its chain.
+fn shown_on(entry: &Sqe) -> Option<u8>
+    ensures { result ≡ shown_by entry.now }
+{
+    if is_linked(entry) {
+        Some(entry.opcode)
+    } else {
+        None
+    }
 }
 
 /// Which rows of a batch end at once, with their results. The rows are numbered from a first one. It takes
 /// time by how many they are.
 pub(crate) fn direct_ends(
     alloc: Global,
+    world: &World,
+    entries: &[Sqe],
     first: u32,
     rows: &[Row],
 ) -> Result<Vec<(u32, i32)>, AllocError>
-    requires batch { (entries : List Sqe) × (rows.now ≡ rows_of first entries) }
-    requires few { first + length rows.now ≤ 65536 }
-    ensures { IfOk result (λ direct. direct.items ≡ endings_from (λ r row. direct_result rows.now row) first rows.now) }
+    requires memory { length world.now.memory ≡ 65536 }
+    requires batch { rows.now ≡ rows_of world.now first entries.now }
+    requires few { first + length entries.now ≤ 65536 }
+    ensures { IfOk result (λ direct. direct.items ≡ direct_of world.now first entries.now) }
 {
-    let failing = failing_units(alloc, first, rows)?;
+    let failing = failing_chains(alloc, world, entries, first, rows)?;
     let mut direct = Vec::new(alloc);
     for i in 0..rows.len() {
         let row = &rows[i];
-        if let Some(res) = result_at_once(row, failing[(row.unit - first) as usize]) {
+        let chain_fails = failing[(row.unit - first) as usize];
+        if let Some(res) = result_at_once(error_at(world, entries, i), chain_fails) {
             direct.push((first + i as u32, res))?;
         }
     }
     Ok(direct)
 }
 
-// Whether each unit of a batch has a row that fails, by the number of its first row.
-fn failing_units(alloc: Global, first: u32, rows: &[Row]) -> Result<Vec<bool>, AllocError>
-    requires batch { (entries : List Sqe) × (rows.now ≡ rows_of first entries) }
-    ensures { IfOk result (λ failing. (u : ℕ) → u < length rows.now → slice_get failing.items u ≡ Some (unit_fails rows.now (first + u))) }
+// Whether each chain of a batch has an entry that fails, by the index of its first.
+fn failing_chains(
+    alloc: Global,
+    world: &World,
+    entries: &[Sqe],
+    first: u32,
+    rows: &[Row],
+) -> Result<Vec<bool>, AllocError>
+    requires memory { length world.now.memory ≡ 65536 }
+    requires batch { rows.now ≡ rows_of world.now first entries.now }
+    ensures { IfOk result (λ failing. (u : ℕ) → u < length rows.now → slice_get failing.items u ≡ Some (chain_fails world.now entries.now u)) }
 {
     let mut failing = Vec::from_elem(alloc, false, rows.len())?;
     for i in 0..rows.len() {
         let row = &rows[i];
-        if fails(&row.entry) {
+        if error_at(world, entries, i).is_some() {
             failing[(row.unit - first) as usize] = true;
         }
     }
     Ok(failing)
 }
 
-// What a row ends with, if it ends at once: its own error, or ECANCELED where its unit fails.
-fn result_at_once(row: &Row, unit_fails: bool) -> Option<i32>
-    ensures { result ≡ or_else (error_of row.now.entry) (given unit_fails ecanceled) }
+// What a row ends with, if it ends at once: its own error, or ECANCELED where its chain fails.
+fn result_at_once(error: Option<i32>, chain_fails: bool) -> Option<i32>
+    ensures { result ≡ or_else error (given chain_fails ecanceled) }
 {
-    match check(&row.entry, Context { behind: None }) {
-        Err(res) => Some(res),
-        Ok(_) if unit_fails => Some(-ECANCELED),
-        Ok(_) => None,
+    match error {
+        Some(res) => Some(res),
+        None if chain_fails => Some(-ECANCELED),
+        None => None,
     }
 }

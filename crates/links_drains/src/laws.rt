@@ -1,23 +1,24 @@
 //! Laws of the definitions.
-ghost use Rattle.std.specs.Prelude.{◌≡◌, ◌+◌, ◌++◌, ℕ, List, true, Some, None, length, slice_get};
+ghost use Rattle.std.specs.Prelude.{◌≡◌, ◌+◌, ◌++◌, ℕ, List, Some, None, length, slice_get};
 ghost use Rattle.entries.specs.declared.entry.Sqe.{Sqe};
 ghost use Rattle.entries.specs.declared.row.Row.{Row};
-ghost use Rattle.links_drains.specs.Batches.{passes, rows_of, direct_of};
+ghost use Rattle.model_files.specs.Worlds.{WorldState};
+ghost use Rattle.links_drains.specs.Batches.{error_at, rows_of, direct_of};
 ghost use Rattle.links_drains.specs.Endings.{result_in, Direct};
 ghost use Rattle.links_drains.specs.Links.{Chained};
 
 /// Units are runs of rows, also once a batch has come behind the others.
 pub fn batch_is_chained()
-    ensures { (rows : List Row) (entries : List Sqe) → Chained rows → Chained (rows ++ rows_of (length rows) entries) }
+    ensures { (w : WorldState) (rows : List Row) (entries : List Sqe) → Chained rows → Chained (rows ++ rows_of w (length rows) entries) }
 {}
 
 /// The rows that end as a batch is submitted are unfinished rows, in the order of their numbers.
 pub fn batch_ends_rows()
-    ensures { (rows : List Row) (entries : List Sqe) → Direct (rows ++ rows_of (length rows) entries) (direct_of (length rows) entries) }
+    ensures { (w : WorldState) (rows : List Row) (entries : List Sqe) → Direct (rows ++ rows_of w (length rows) entries) (direct_of w (length rows) entries) }
 {}
 
 /// A row of a batch that doesn't end as it is submitted has passed its tests.
 pub fn other_rows_pass()
-    ensures { (first : ℕ) (entries : List Sqe) (i : ℕ) (row : Row) → slice_get (rows_of first entries) i ≡ Some row
-        → result_in (direct_of first entries) (first + i) ≡ None → passes row.entry ≡ true }
+    ensures { (w : WorldState) (first : ℕ) (entries : List Sqe) (i : ℕ) (row : Row) → slice_get (rows_of w first entries) i ≡ Some row
+        → result_in (direct_of w first entries) (first + i) ≡ None → error_at w entries i ≡ None }
 {}

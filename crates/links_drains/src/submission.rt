@@ -1,14 +1,18 @@
 //! Entries become rows (io_uring_enter(2)).
-ghost use Rattle.std.specs.Prelude.{◌≡◌, ◌+◌, ◌<◌, ◌≤◌, ◌++◌, None, IfOk, OnOk, OnErr, length, take};
+ghost use Rattle.std.specs.Prelude.{◌≡◌, ◌+◌, ◌<◌, ◌≤◌, ◌++◌, None, Some, IfOk, OnOk, OnErr, length, slice_get, take};
+ghost use Rattle.entries.specs.declared.entry.Sqe.{Sqe};
+ghost use Rattle.opcodes.specs.Check.{time_of as time_in};
 ghost use Rattle.places.specs.View.{Keeps, named};
 ghost use Rattle.places.specs.declared.place.Place.{Place};
-ghost use Rattle.links_drains.specs.Batches.{taken_of, rows_of, direct_of};
-ghost use Rattle.links_drains.specs.Rows.{table_owns, table_seen};
+ghost use Rattle.links_drains.specs.Batches.{behind_in, taken_of, target_of, rows_of, direct_of, halts};
+ghost use Rattle.links_drains.specs.Rows.{table_owns, table_seen, new_row as row_with};
 
-use crate::failing::{direct_ends, fails};
+use crate::failing::{behind_at, direct_ends, error_at};
 use crate::links::is_linked;
 use crate::table::{Table, new_row};
-use entries::Sqe;
+use entries::{Row, Sqe};
+use model_files::World;
+use opcodes::{Context, Op, time_of};
 use places::Recorder;
 use std::alloc::AllocError;
 
@@ -17,34 +21,44 @@ use std::alloc::AllocError;
 pub struct Batch {
     /// How many became rows.
     pub taken: u32,
+    /// Whether the last of them failed, so that nothing behind it is taken.
+    pub halted: bool,
     /// Which of these rows end at once, with what they end with, in the order of their numbers.
     pub direct: Vec<(u32, i32)>,
 }
 
 impl Table {
     /// Makes queued rows of entries, each in the unit of its chain: of all of them, or up to and with the
-    /// first that fails. The rows that end at once are Queued until their caller ends them.
+    /// first that fails. Times are read from memory. The rows that end at once are Queued until their
+    /// caller ends them.
     pub fn take_batch(
         &mut self,
         entries: &[Sqe],
+        world: &World,
         submit_all: bool,
         notes: &mut Recorder,
     ) -> Result<Batch, AllocError>
-        requires { length self.old + length entries.now ≤ 65536 }
-        ensures ok { OnOk result (self.new ≡ self.old ++ rows_of (length self.old) (taken_of submit_all entries.now)) }
-        ensures taken { IfOk result (λ batch. batch.taken ≡ length (taken_of submit_all entries.now)) }
+        requires few { length self.old + length entries.now ≤ 65536 }
+        requires memory { length world.now.memory ≡ 65536 }
+        ensures ok { OnOk result (self.new ≡ self.old ++ rows_of world.now (length self.old) (taken_of submit_all world.now entries.now)) }
+        ensures taken { IfOk result (λ batch. batch.taken ≡ length (taken_of submit_all world.now entries.now)) }
+        ensures halted { IfOk result (λ batch. batch.halted ≡ halts submit_all world.now entries.now) }
         ensures len { IfOk result (λ batch. length self.new ≡ length self.old + batch.taken) }
         ensures within { IfOk result (λ batch. batch.taken ≤ length entries.now) }
-        ensures direct { IfOk result (λ batch. batch.direct.items ≡ direct_of (length self.old) (taken_of submit_all entries.now)) }
+        ensures direct { IfOk result (λ batch. batch.direct.items ≡ direct_of world.now (length self.old) (taken_of submit_all world.now entries.now)) }
         ensures err { OnErr result (self.new ≡ self.old) }
         ensures keeps { Keeps table_owns (table_seen self.old) (table_seen self.new) notes.old.made notes.new.made }
         ensures numbers { notes.old.numbers ≤ notes.new.numbers }
         ensures completions { notes.old.completions ≤ notes.new.completions }
     {
         let first = self.len();
-        let count = taken_count(entries, submit_all);
-        match self.add_batch(&entries[..count], notes) {
-            Ok(batch) => Ok(batch),
+        let (count, halted) = taken_count(entries, world, submit_all);
+        match self.add_batch(&entries[..count], world, notes) {
+            Ok(direct) => Ok(Batch {
+                taken: count as u32,
+                halted,
+                direct,
+            }),
             Err(e) => {
                 self.truncate(first);
                 Err(e)
@@ -52,13 +66,19 @@ impl Table {
         }
     }
 
-    // All of the entries become rows. Some of them may have where there is no memory.
-    fn add_batch(&mut self, entries: &[Sqe], notes: &mut Recorder) -> Result<Batch, AllocError>
-        requires { length self.old + length entries.now ≤ 65536 }
-        ensures ok { OnOk result (self.new ≡ self.old ++ rows_of (length self.old) entries.now) }
-        ensures taken { IfOk result (λ batch. batch.taken ≡ length entries.now) }
-        ensures len { IfOk result (λ batch. length self.new ≡ length self.old + batch.taken) }
-        ensures direct { IfOk result (λ batch. batch.direct.items ≡ direct_of (length self.old) entries.now) }
+    // All of the entries become rows. Some of them may have where there is no memory. Says which of the
+    // rows end at once.
+    fn add_batch(
+        &mut self,
+        entries: &[Sqe],
+        world: &World,
+        notes: &mut Recorder,
+    ) -> Result<Vec<(u32, i32)>, AllocError>
+        requires few { length self.old + length entries.now ≤ 65536 }
+        requires memory { length world.now.memory ≡ 65536 }
+        ensures ok { OnOk result (self.new ≡ self.old ++ rows_of world.now (length self.old) entries.now) }
+        ensures len { OnOk result (length self.new ≡ length self.old + length entries.now) }
+        ensures direct { IfOk result (λ direct. direct.items ≡ direct_of world.now (length self.old) entries.now) }
         ensures before { take (length self.old) self.new ≡ self.old }
         ensures keeps { Keeps table_owns (table_seen self.old) (table_seen self.new) notes.old.made notes.new.made }
         ensures named { (p : Place) → named notes.new.made p ≡ None → named notes.old.made p ≡ None }
@@ -66,50 +86,86 @@ impl Table {
         ensures completions { notes.old.completions ≤ notes.new.completions }
     {
         let first = self.len();
-        self.add_rows(entries, notes)?;
-        let direct = direct_ends(self.allocator(), first as u32, &self.rows()[first..])?;
-        Ok(Batch {
-            taken: entries.len() as u32,
-            direct,
-        })
+        self.add_rows(entries, world, notes)?;
+        let alloc = self.allocator();
+        let direct = direct_ends(alloc, world, entries, first as u32, &self.rows()[first..])?;
+        Ok(direct)
     }
 
-    fn add_rows(&mut self, entries: &[Sqe], notes: &mut Recorder) -> Result<(), AllocError>
-        requires { length self.old + length entries.now ≤ 65536 }
-        ensures ok { OnOk result (self.new ≡ self.old ++ rows_of (length self.old) entries.now) }
+    fn add_rows(
+        &mut self,
+        entries: &[Sqe],
+        world: &World,
+        notes: &mut Recorder,
+    ) -> Result<(), AllocError>
+        requires few { length self.old + length entries.now ≤ 65536 }
+        requires memory { length world.now.memory ≡ 65536 }
+        ensures ok { OnOk result (self.new ≡ self.old ++ rows_of world.now (length self.old) entries.now) }
         ensures before { take (length self.old) self.new ≡ self.old }
         ensures keeps { Keeps table_owns (table_seen self.old) (table_seen self.new) notes.old.made notes.new.made }
         ensures named { (p : Place) → named notes.new.made p ≡ None → named notes.old.made p ≡ None }
         ensures numbers { notes.old.numbers ≤ notes.new.numbers }
         ensures completions { notes.old.completions ≤ notes.new.completions }
     {
+        let first = self.len() as u32;
         let mut begins = true;
         let mut unit = 0;
-        for entry in entries {
+        for i in 0..entries.len() {
             if begins {
-                unit = self.len() as u32;
+                unit = first + i as u32;
             }
-            self.push(new_row(*entry, unit), notes)?;
-            begins = !is_linked(entry);
+            self.push(row_at(world, entries, i, first, unit), notes)?;
+            begins = !is_linked(&entries[i]);
         }
         Ok(())
     }
 }
 
-// How many of the entries that are offered become rows.
-fn taken_count(entries: &[Sqe], submit_all: bool) -> usize
-    ensures taken { take result entries.now ≡ taken_of submit_all entries.now }
-    ensures within { result ≤ length entries.now }
+// The row that an entry of a batch becomes, in a unit; the rows of the batch are numbered from a first one.
+fn row_at(world: &World, entries: &[Sqe], i: usize, first: u32, unit: u32) -> Row
+    requires memory { length world.now.memory ≡ 65536 }
+    requires within { i < length entries.now }
+    requires few { first + length entries.now ≤ 65536 }
+    ensures { (entry : Sqe) → slice_get entries.now i ≡ Some entry
+        → result ≡ row_with entry unit (time_in world.now (behind_in entries.now i) entry) (target_of world.now first entries.now i entry) }
+{
+    let context = Context {
+        behind: behind_at(entries, i),
+        world,
+    };
+    let time = time_of(&entries[i], context);
+    new_row(entries[i], unit, time, target_at(world, entries, i, first))
+}
+
+// The row that an entry of a batch guards.
+fn target_at(world: &World, entries: &[Sqe], i: usize, first: u32) -> Option<u32>
+    requires memory { length world.now.memory ≡ 65536 }
+    requires within { i < length entries.now }
+    requires few { first + length entries.now ≤ 65536 }
+    ensures { (entry : Sqe) → slice_get entries.now i ≡ Some entry → result ≡ target_of world.now first entries.now i entry }
+{
+    if entries[i].opcode != Op::LinkTimeout as u8 || error_at(world, entries, i).is_some() {
+        return None;
+    }
+    Some((first + i as u32).saturating_sub(1))
+}
+
+// How many of the entries that are offered become rows, and whether the last of these fails.
+fn taken_count(entries: &[Sqe], world: &World, submit_all: bool) -> (usize, bool)
+    requires memory { length world.now.memory ≡ 65536 }
+    ensures taken { take result.0 entries.now ≡ taken_of submit_all world.now entries.now }
+    ensures within { result.0 ≤ length entries.now }
+    ensures halted { result.1 ≡ halts submit_all world.now entries.now }
 {
     if submit_all {
-        return entries.len();
+        return (entries.len(), false);
     }
     for i in 0..entries.len() {
-        if fails(&entries[i]) {
-            return i + 1;
+        if error_at(world, entries, i).is_some() {
+            return (i + 1, true);
         }
     }
-    entries.len()
+    (entries.len(), false)
 }
 
 #[cfg(test)]
@@ -143,9 +199,10 @@ mod tests {
     ) -> Result<(u32, Vec<(u32, i32)>), AllocError>
         requires { length entries.now ≤ 65536 }
     {
+        let world = World::new(alloc, &[], &[], &[])?;
         let mut table = Table::new(alloc);
         let mut notes = Recorder::new(alloc);
-        let batch = table.take_batch(entries, submit_all, &mut notes)?;
+        let batch = table.take_batch(entries, &world, submit_all, &mut notes)?;
         Ok((batch.taken, batch.direct))
     }
 

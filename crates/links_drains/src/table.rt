@@ -227,15 +227,18 @@ impl Table {
         Ok(())
     }
 
-    /// Issues a row, which holds a descriptor from now on, or none.
+    /// Issues a row, which holds a descriptor from now on, or none, with its deadline, and what was counted
+    /// before.
     pub fn issue(
         &mut self,
         r: u32,
         held: Option<u32>,
+        deadline: Option<u128>,
+        base: u32,
         notes: &mut Recorder,
     ) -> Result<(), AllocError>
         requires { r < length self.old }
-        ensures ok { OnOk result (self.new ≡ updated (λ row. record row { phase = Issued; held = held }) self.old r) }
+        ensures ok { OnOk result (self.new ≡ updated (λ row. record row { phase = Issued; held = held; deadline = deadline; base = base }) self.old r) }
         ensures err { OnErr result (self.new ≡ self.old) }
         ensures len { length self.new ≡ length self.old }
         ensures stay { Stay self.old self.new }
@@ -246,14 +249,14 @@ impl Table {
     {
         let queued = self.rows[r as usize];
         notes.note_row(r, Some(queued))?;
-        self.set(
-            r as usize,
-            Row {
-                phase: Phase::Issued,
-                held,
-                ..queued
-            },
-        );
+        let issued = Row {
+            phase: Phase::Issued,
+            held,
+            deadline,
+            base,
+            ..queued
+        };
+        self.set(r as usize, issued);
         Ok(())
     }
 
@@ -291,17 +294,18 @@ impl Table {
     }
 }
 
-/// The row that an entry becomes as it is submitted, in the unit of a number.
-pub fn new_row(entry: Sqe, unit: u32) -> Row
-    ensures { result ≡ new_row_of entry unit }
+/// The row that an entry becomes as it is submitted, in the unit of a number, with its time and the row that
+/// it guards.
+pub fn new_row(entry: Sqe, unit: u32, time: Option<u128>, target: Option<u32>) -> Row
+    ensures { result ≡ new_row_of entry unit time target }
 {
     Row {
         deadline: None,
-        time: None,
+        time,
         entry,
         base: 0,
         unit,
-        target: None,
+        target,
         held: None,
         phase: Phase::Queued,
     }
@@ -310,6 +314,7 @@ pub fn new_row(entry: Sqe, unit: u32) -> Row
 #[cfg(test)]
 mod tests {
     use super::*;
+    use model_files::World;
 
     fn nop(user_data: u64) -> Sqe {
         Sqe {
@@ -347,7 +352,7 @@ mod tests {
     fn rows_are_told(rt: HostRuntime) -> Result<(), AllocError> {
         let mut table = table_of(rt.alloc(), &[nop(7), nop(8)])?;
         assert_eq!(rt; table.len(), 2);
-        assert!(rt; table.get(0) == Some(new_row(nop(7), 0)));
+        assert!(rt; table.get(0) == Some(new_row(nop(7), 0, None, None)));
         end(&mut table, 1)?;
         assert!(rt; tells_two_rows(&table));
         Ok(())
@@ -371,7 +376,8 @@ mod tests {
     fn records_leave_no_row_that_came(rt: HostRuntime) -> Result<(), AllocError> {
         let mut table = Table::new(rt.alloc());
         let mut notes = Recorder::new(rt.alloc());
-        let batch = table.take_batch(&[nop(7), nop(8)], false, &mut notes)?;
+        let world = World::new(rt.alloc(), &[], &[], &[])?;
+        let batch = table.take_batch(&[nop(7), nop(8)], &world, false, &mut notes)?;
         assert_eq!(rt; batch.taken, 2);
         assert_eq!(rt; notes.close(&table).rows_left(2), 0);
         Ok(())
@@ -408,7 +414,7 @@ mod tests {
         ensures len { length table.new ≡ length table.old }
     {
         let mut notes = Recorder::new(table.allocator());
-        table.issue(r, Some(fd), &mut notes)
+        table.issue(r, Some(fd), None, 0, &mut notes)
     }
 
     fn end(table: &mut Table, r: u32) -> Result<(), AllocError>
@@ -464,7 +470,8 @@ mod tests {
     {
         let mut table = Table::new(alloc);
         let mut notes = Recorder::new(alloc);
-        table.take_batch(entries, true, &mut notes)?;
+        let world = World::new(alloc, &[], &[], &[])?;
+        table.take_batch(entries, &world, true, &mut notes)?;
         Ok(table)
     }
 

@@ -11,7 +11,7 @@ pub mod results;
 pub mod running;
 mod streams;
 
-pub use checks::{Context, check};
+pub use checks::{Context, check, time_of};
 pub use choice::Choice;
 pub use effect::carry_out;
 pub use ending::Outcome;

@@ -1,33 +1,31 @@
-use Rattle.std.proofs.Common.{◌≡◌, ◌∙◌, ◌++◌, ◌∷◌, [], sym, ap, length, cond, arith}
-use Rattle.links_drains.proofs.Batching.{element, count_added, next_goes_on, adding_on}
+use Rattle.std.proofs.Common.{◌≡◌, ◌∙◌, ◌≤◌, ◌+◌, sym, ap, length, cond, arith}
+use Rattle.std.proofs.lemmas.Option.{slice_get-get_or}
+use Rattle.links_drains.proofs.Batching.{all_added, element_there, next_goes_on, adding_on}
 use Rattle.links_drains.proofs.table.Table.add_rows.Goals as goal
 use Rattle.links_drains.proofs.table.Table.add_rows.Goals.{then-begins, else-begins}
 
-pub overflow_cast-unit : goal.overflow_cast-unit
-overflow_cast-unit c =
-    let n = count_added _ _ _ _ _ _ _ _ c.loop-entry.invariant c.loop-entry.auto.entry-index-end in
-    omega (arith, n, c.requires, c.len-unit.ensures.len, c.loop-entry-test.true)
-
-pub push-requires : goal.push-requires
-push-requires c =
-    let n = count_added _ _ _ _ _ _ _ _ c.loop-entry.invariant c.loop-entry.auto.entry-index-end in
-    let unit : c.if-begins.unit ≡ cond c.loop-entry.begins (length c.loop-entry.self) c.loop-entry.unit = elim c.if-begins.branch [
-      | then-begins w ↦ w.unit-is ∙ w.len-unit.ensures.len ∙ sym (ap (λ b. cond b (length c.loop-entry.self) c.loop-entry.unit) w.if-begins.true)
-      | else-begins w ↦ w.unit-is ∙ sym (ap (λ b. cond b (length c.loop-entry.self) c.loop-entry.unit) w.if-begins.false)
+pub push-requires-clause-goes_on : goal.push-requires-clause-goes_on
+push-requires-clause-goes_on c =
+    let e = element_there c.args.entries.now c.loop-i.i c.loop-i-test.true in
+    let within : c.loop-i.i ≤ length c.args.entries.now = omega (arith, c.loop-i-test.true) in
+    let unit : c.if-begins.unit ≡ cond c.loop-i.begins (length c.args.self.now + c.loop-i.i) c.loop-i.unit = elim c.if-begins.branch [
+      | then-begins w ↦ w.unit-is ∙ ap (λ n. n + c.loop-i.i) c.len-first.ensures.len ∙ sym (ap (λ b. cond b (length c.args.self.now + c.loop-i.i) c.loop-i.unit) w.if-begins.true)
+      | else-begins w ↦ w.unit-is ∙ sym (ap (λ b. cond b (length c.args.self.now + c.loop-i.i) c.loop-i.unit) w.if-begins.false)
     ] in
-    record {
-      room = omega (arith, n, c.requires, c.loop-entry-test.true);
-      goes_on = next_goes_on c.args.self.now c.loop-entry.self c.args.notes.now c.loop-entry.notes c.args.entries.now c.loop-entry.entry-index c.loop-entry.unit c.if-begins.unit c.loop-entry.begins c.new_row.result
-          c.loop-entry.invariant unit (ap (λ row. row.unit) c.new_row.ensures);
-    }
+    next_goes_on c.args.world.now c.args.self.now c.loop-i.self c.args.notes.now c.loop-i.notes c.args.entries.now c.loop-i.i c.loop-i.unit c.if-begins.unit c.loop-i.begins c.row_at.result
+    c.loop-i.invariant within unit (ap (λ row. row.unit) (c.row_at.ensures e.0 e.1))
 
-pub loop-entry-preserved : goal.loop-entry-preserved
-loop-entry-preserved c =
-    let unit : c.if-begins.unit ≡ cond c.loop-entry.begins (length c.loop-entry.self) c.loop-entry.unit = elim c.if-begins.branch [
-      | then-begins w ↦ w.unit-is ∙ w.len-unit.ensures.len ∙ sym (ap (λ b. cond b (length c.loop-entry.self) c.loop-entry.unit) w.if-begins.true)
-      | else-begins w ↦ w.unit-is ∙ sym (ap (λ b. cond b (length c.loop-entry.self) c.loop-entry.unit) w.if-begins.false)
+pub loop-i-preserved : goal.loop-i-preserved
+loop-i-preserved c =
+    let there = slice_get-get_or c.args.entries.now c.loop-i.i _ c.loop-i-test.true in
+    let unit : c.if-begins.unit ≡ cond c.loop-i.begins (length c.args.self.now + c.loop-i.i) c.loop-i.unit = elim c.if-begins.branch [
+      | then-begins w ↦ w.unit-is ∙ ap (λ n. n + c.loop-i.i) c.len-first.ensures.len ∙ sym (ap (λ b. cond b (length c.args.self.now + c.loop-i.i) c.loop-i.unit) w.if-begins.true)
+      | else-begins w ↦ w.unit-is ∙ sym (ap (λ b. cond b (length c.args.self.now + c.loop-i.i) c.loop-i.unit) w.if-begins.false)
     ] in
     rw c.is_linked-begins.ensures
-    (adding_on c.args.self.now c.loop-entry.self c.push.new.self c.args.notes.now c.loop-entry.notes c.push.new.notes c.args.entries.now c.loop-entry.entry-index c.loop-entry.unit c.if-begins.unit c.loop-entry.begins _
-    c.loop-entry.invariant (element c.args.entries.now c.loop-entry.entry-index _ c.loop-entry-test.true) unit (c.in_ok-push.ensures.ok ∙ ap (λ row. c.loop-entry.self ++ row ∷ []) c.new_row.ensures)
+    (adding_on c.args.world.now c.args.self.now c.loop-i.self c.push.new.self c.args.notes.now c.loop-i.notes c.push.new.notes c.args.entries.now c.loop-i.i c.loop-i.unit c.if-begins.unit c.loop-i.begins _ c.row_at.result
+    c.loop-i.invariant there unit (rw (← c.len-first.ensures.len) (c.row_at.ensures _ there)) c.in_ok-push.ensures.ok
     c.in_ok-push.ensures.keeps c.in_ok-push.ensures.named c.in_ok-push.ensures.numbers c.in_ok-push.ensures.completions)
+
+pub returns-clause-ok : goal.returns-clause-ok
+returns-clause-ok c = all_added c.args.world.now c.args.self.now c.loop-i.self c.args.notes.now c.loop-i.notes c.args.entries.now c.loop-i.i c.loop-i.unit c.loop-i.begins c.loop-i.invariant c.loop-i-test.false
