@@ -1,6 +1,7 @@
 -- Which events are refused, and what the others change.
-use Rattle.std.specs.Prelude.{◌≡◌, ℤ, pos, negsuc, ℕ, ◌+◌, ◌-◌, ◌%◌, ◌^◌, ◌==◌, Bool, false, not, ◌&&◌, ◌||◌, nat_lt, min, if◌then◌else◌, Option, Some, None, slice_get, slice_set, List, [], ◌∷◌, ◌++◌, length}
+use Rattle.std.specs.Prelude.{◌≡◌, ℤ, pos, negsuc, ℕ, ◌+◌, ◌-◌, ◌%◌, ◌^◌, ◌==◌, Bool, false, not, ◌&&◌, ◌||◌, nat_lt, min, if◌then◌else◌, Option, Some, None, option_map, slice_get, slice_set, List, [], ◌∷◌, ◌++◌, length}
 use Rattle.std.specs.Int.Bits.{bit_and}
+use Rattle.std.specs.Option.{option_map_or}
 use Rattle.entries.specs.declared.completion.Cqe.{Cqe}
 use Rattle.entries.specs.declared.entry.Sqe.{Sqe}
 use Rattle.entries.specs.declared.row.Row.{Row}
@@ -12,7 +13,7 @@ use Rattle.opcodes.specs.declared.ending.Outcome.{Outcome}
 use Rattle.opcodes.specs.declared.ending.Outcome.TheVariants.{Res, Waits, BadChoice}
 use Rattle.opcodes.specs.Opcodes.{is_cancel, uses_descriptor, fits_end}
 use Rattle.links_drains.specs.Holding.{is_held_by}
-use Rattle.opcodes.specs.Outcomes.{outcome_of}
+use Rattle.opcodes.specs.Outcomes.{is_running, outcome_of}
 use Rattle.opcodes.specs.Effects.{world_after}
 use Rattle.model_files.specs.declared.descriptor.DescriptorState.{DescriptorState}
 use Rattle.model_files.specs.Worlds.{WorldState, descriptor_at, descriptor_of, world_closed, world_stored}
@@ -27,10 +28,13 @@ use Rattle.sqpoll.specs.declared.poller.Poller.TheVariants.{Awake, Asleep}
 use Rattle.sqpoll.specs.Pollers.{is_awake}
 use Rattle.links_drains.specs.Batches.{rows_of, direct_of}
 use Rattle.links_drains.specs.Eligible.{is_eligible}
-use Rattle.links_drains.specs.Phases.{counts}
+use Rattle.links_drains.specs.Endings.{Ending, ecanceled}
+use Rattle.links_drains.specs.Links.{has_flag, is_guard}
+use Rattle.links_drains.specs.Phases.{counts, is_issued, is_queued}
 use Rattle.timeouts_cancel.specs.Falls.{fall_of}
+use Rattle.timeouts_cancel.specs.Timers.{is_due}
 use Rattle.machine.specs.Cancels.{verdict_of, ending_with}
-use Rattle.machine.specs.Submission.{offered, entries_at, taken_words, taken_entries, einval, ebusy, ebadf}
+use Rattle.machine.specs.Submission.{offered, taken_words, taken_entries, einval, ebusy, ebadf, etime}
 use Rattle.machine.specs.Threads.{ThreadState}
 use Rattle.scenario.specs.declared.setup.Instruction.{Instruction}
 use Rattle.scenario.specs.declared.setup.Instruction.TheVariants.{Put, Push, Store, Enter, Reap, Close}
@@ -38,7 +42,7 @@ use Rattle.machine.specs.declared.whole.Machine.{Machine}
 use Rattle.scenario.specs.declared.event.Event.{Event}
 use Rattle.scenario.specs.declared.event.Event.TheVariants.{Step, Take, Sleep, Issue, Finish, Expire, Tick}
 use Rattle.scenario.specs.declared.event.Refusal.{Refusal}
-use Rattle.scenario.specs.declared.event.Refusal.TheVariants.{NoSuchThread, ThreadDone, SqFull, NothingToReap, StillWaiting, NoSuchRequest, WrongPhase, NotEligible, NotReady, BadChoice as IsBadChoice, NoPoller, Asleep as IsAsleep, NotIdle, ClockFull, RequestsFull}
+use Rattle.scenario.specs.declared.event.Refusal.TheVariants.{NoSuchThread, ThreadDone, SqFull, NothingToReap, StillWaiting, NoSuchRequest, WrongPhase, NotEligible, NotReady, NotDue, BadChoice as IsBadChoice, NoPoller, Asleep as IsAsleep, NotIdle, ClockFull, RequestsFull}
 
 -- ---- flags of Enter (io_uring_enter(2))
 
@@ -158,9 +162,10 @@ abbrev pub finish_refusal : (ℕ → Bool) → WorldState → Option Row → Cho
 finish_refusal held w None c = Some NoSuchRequest
 finish_refusal held w (Some row) c = if counts row then phase_refusal row.phase (choice_refusal held w row c) else Some WrongPhase
 
-abbrev pub expire_refusal : Option Row → Option Refusal
-expire_refusal None = Some NoSuchRequest
-expire_refusal (Some row) = Some WrongPhase
+-- and not before their deadline
+abbrev pub expire_refusal : ℕ → Option Row → Option Refusal
+expire_refusal now None = Some NoSuchRequest
+expire_refusal now (Some row) = if counts row then Some WrongPhase else phase_refusal row.phase (if is_due now row then None else Some NotDue)
 
 -- why an event is refused, if it is: the least number whose condition holds
 abbrev pub refusal : Machine → Event → Option Refusal
@@ -169,7 +174,7 @@ refusal m (Take n) = take_refusal m m.poller n
 refusal m Sleep = sleep_refusal m m.poller
 refusal m (Issue r) = issue_refusal m.table r (slice_get m.table r)
 refusal m (Finish r c) = finish_refusal (is_held_by m.table) m.world (slice_get m.table r) c
-refusal m (Expire r) = expire_refusal (slice_get m.table r)
+refusal m (Expire r) = expire_refusal m.clock (slice_get m.table r)
 refusal m (Tick d) = if nat_lt (m.clock + d) (2 ^ 64) then None else Some ClockFull
 
 -- ---- changes
@@ -200,23 +205,26 @@ all_ended m (p ∷ ps) = all_ended (ended m p.0 p.1) ps
 unfoldable pub fallen : Machine → List (ℕ × ℤ) → Machine
 fallen m direct = all_ended m (fall_of m.table m.counted direct)
 
--- the machine once words were taken from the ring, and the entries that they name have become rows
-abbrev pub taken_by : Machine → List ℕ → Machine
-taken_by m words = record m {
-  submissions = record m.submissions {
-    head = (m.submissions.head + length words) % 2 ^ 32;
-    dropped = (m.submissions.dropped + (length words - length (entries_at m.submissions.slots words))) % 2 ^ 32;
-  };
-  table = m.table ++ rows_of (length m.table) (entries_at m.submissions.slots words);
-}
+-- the words that a submission takes, and the entries of these that become rows
+abbrev pub words_for : Machine → ℕ → List ℕ
+words_for m k = taken_words m.submit_all m.world m.submissions k
 
--- the machine once the entries of a submission have become rows
+abbrev pub entries_for : Machine → ℕ → List Sqe
+entries_for m k = taken_entries m.submit_all m.world m.submissions k
+
+-- the machine once words were taken from the ring, and the entries that they name have become rows; the other words are dropped
 abbrev pub taken : Machine → ℕ → Machine
-taken m k = taken_by m (taken_words m.submit_all m.submissions k)
+taken m k = record m {
+  submissions = record m.submissions {
+    head = (m.submissions.head + length (words_for m k)) % 2 ^ 32;
+    dropped = (m.submissions.dropped + (length (words_for m k) - length (entries_for m k))) % 2 ^ 32;
+  };
+  table = m.table ++ rows_of m.world (length m.table) (entries_for m k);
+}
 
 -- the machine once a submission has ended the rows that failed, and the others of their chains
 abbrev pub submitted : Machine → ℕ → Machine
-submitted m k = fallen (taken m k) (direct_of (length m.table) (taken_entries m.submit_all m.submissions k))
+submitted m k = fallen (taken m k) (direct_of m.world (length m.table) (entries_for m k))
 
 -- the machine once a thread has an answer, and goes on
 abbrev pub answered : Machine → ℕ → ℤ → Machine
@@ -253,7 +261,7 @@ entered_beside m t k w flags = awaited (shown (woken m flags) flags) t k k w fla
 
 -- what a thread does that is to submit k entries
 abbrev pub submitting : Machine → ℕ → ℕ → ℕ → ℕ → Machine
-submitting m t k w flags = if is_busy m k then answered m t ebusy else awaited (submitted m k) t (length (taken_entries m.submit_all m.submissions k)) k w flags
+submitting m t k w flags = if is_busy m k then answered m t ebusy else awaited (submitted m k) t (length (entries_for m k)) k w flags
 
 -- an Enter without a poller
 abbrev pub entered_alone : Machine → ℕ → ℕ → ℕ → ℕ → Machine
@@ -312,10 +320,51 @@ is_usable row (Some d) = d.is_open && fits_end row.entry.opcode d.end
 abbrev pub lacks_descriptor : WorldState → Row → Bool
 lacks_descriptor w row = uses_descriptor row.entry.opcode && not (is_usable row (descriptor_at w row.entry.fd))
 
+-- the deadline of a row that is issued: its time, from now on, or by the clock (IORING_TIMEOUT_ABS)
+abbrev pub deadline_of : ℕ → Row → Option ℕ
+deadline_of clock row = option_map (λ t. if has_flag row.entry.operation_flags 1 then t else t + clock) row.time
+
+-- what has been counted as a TIMEOUT is issued
+abbrev pub base_of : ℕ → Row → ℕ
+base_of counted row = if row.entry.opcode == 11 then counted else row.base
+
+abbrev pub started : ℕ → ℕ → Row → Row
+started clock counted row = record row { phase = Issued; held = held_by row; deadline = deadline_of clock row; base = base_of counted row }
+
+-- whether a row is the queued guard of another
+abbrev pub is_guard_of : ℕ → Row → Bool
+is_guard_of r row = is_guard row && (is_queued row.phase && option_map_or (λ t. t == r) row.target false)
+
+-- the rows once one of them is issued, and with it its queued guard, which is the row behind it
+abbrev pub all_started : ℕ → ℕ → List Row → ℕ → List Row
+all_started clock counted rows r =
+    if option_map_or (is_guard_of r) (slice_get rows (r + 1)) false
+    then updated (started clock counted) (updated (started clock counted) rows r) (r + 1)
+    else updated (started clock counted) rows r
+
 -- the machine once a row is issued; one without its descriptor ends
 abbrev pub issued : Machine → ℕ → Option Row → Machine
 issued m r None = m
-issued m r (Some row) = if lacks_descriptor m.world row then fallen m ((r, ebadf) ∷ []) else record m { table = updated (λ x. record x { phase = Issued; held = held_by x }) m.table r }
+issued m r (Some row) = if lacks_descriptor m.world row then fallen m ((r, ebadf) ∷ []) else record m { table = all_started m.clock m.counted m.table r }
+
+-- whether the row of a number is issued, and waits
+abbrev pub waits_at : List Row → WorldState → ℕ → Bool
+waits_at rows w t = option_map_or (λ (row : Row). is_issued row.phase && not (is_running w row)) (slice_get rows t) false
+
+-- the target of a guard, if it waits
+abbrev pub waiting_target : List Row → WorldState → Row → Option ℕ → Option ℕ
+waiting_target rows w row None = None
+waiting_target rows w row (Some t) = if is_guard row && waits_at rows w t then Some t else None
+
+-- what ends as a row expires: with a guard its target, if that waits
+abbrev pub expiring : ℕ → Option ℕ → List Ending
+expiring r None = (r, etime) ∷ []
+expiring r (Some t) = (t, ecanceled) ∷ (r, etime) ∷ []
+
+-- the machine once a row has expired, and those that fall with it
+abbrev pub expired : Machine → ℕ → Option Row → Machine
+expired m r None = m
+expired m r (Some row) = fallen m (expiring r (waiting_target m.table m.world row row.target))
 
 -- the machine once a row has ended as its outcome says, with what it did
 abbrev pub finished_as : Machine → ℕ → Row → Outcome → Machine
@@ -338,7 +387,7 @@ after m (Take n) = submitted m n
 after m Sleep = with_poller m Asleep
 after m (Issue r) = issued m r (slice_get m.table r)
 after m (Finish r c) = finished m r (slice_get m.table r) c
-after m (Expire r) = m
+after m (Expire r) = expired m r (slice_get m.table r)
 after m (Tick d) = record m { clock = m.clock + d }
 
 -- The event is accepted, and leads from one machine to the next.

@@ -10,13 +10,13 @@ use Rattle.places.specs.declared.value.Stage.TheVariants.{Waiting}
 use Rattle.places.specs.declared.value.Change.{Change}
 use Rattle.places.specs.View.{View, LeadsBack}
 use Rattle.ring_words.specs.Rings.{waiting, sub_seen, sub_can_put, SubFormed, com_seen, com_can_put, ComFormed}
-use Rattle.links_drains.specs.Links.{Chained}
+use Rattle.links_drains.specs.Links.{is_guard, Chained}
 use Rattle.links_drains.specs.Rows.{fixed_of, Stay, table_seen, table_can_put}
 use Rattle.links_drains.specs.Phases.{is_issued, is_unfinished, counted_of, ended_of}
 use Rattle.model_files.specs.declared.descriptor.DescriptorState.{DescriptorState}
 use Rattle.model_files.specs.Worlds.{WorldState, WorldFormed, world_seen, world_can_put, descriptor_of, OneSetup as OneWorldSetup, PutsWithin}
 use Rattle.opcodes.specs.Check.{op_of}
-use Rattle.opcodes.specs.Opcodes.{uses_descriptor, fits_end}
+use Rattle.opcodes.specs.Opcodes.{is_timer, uses_descriptor, fits_end}
 use Rattle.overflow.specs.Backlogs.{is_clear, backlog_seen, backlog_can_put}
 use Rattle.sqpoll.specs.declared.poller.Poller.{Poller}
 use Rattle.sqpoll.specs.Pollers.{is_awake, poller_seen}
@@ -147,11 +147,32 @@ pub record HoldsDescriptor (w : WorldState) (x : Row) : Type 0 where
   pub there : descriptor_of w fd ≡ Some descriptor
   pub fits : fits_end x.entry.opcode descriptor.end ≡ true
 
--- While a row is unfinished its opcode is a supported one, and it guards no other; while it is issued it holds its descriptor, if it uses one.
+-- A time is made of two signed numbers of eight bytes that aren't negative: seconds and nanoseconds.
+abbrev pub IsTime : Option ℕ → Type 0
+IsTime time = (t : ℕ) → time ≡ Some t → t < 2 ^ 63 * 1000000001
+
+-- While a row is unfinished its opcode is a supported one, and it has a time if it is a TIMEOUT or a LINK_TIMEOUT; while it is issued it holds its descriptor, if it uses one, and such a one has a deadline.
 pub record RowFormed (w : WorldState) (x : Row) : Type 0 where
   pub opcode : is_unfinished x.phase ≡ true → IsSome (op_of x.entry.opcode)
   pub holds : is_issued x.phase ≡ true → uses_descriptor x.entry.opcode ≡ true → HoldsDescriptor w x
-  pub untargeted : is_unfinished x.phase ≡ true → x.target ≡ None
+  pub time : is_unfinished x.phase ≡ true → IsTime x.time
+  pub timed : is_unfinished x.phase ≡ true → is_timer x.entry.opcode ≡ true → IsSome x.time
+  pub due : is_issued x.phase ≡ true → is_timer x.entry.opcode ≡ true → IsSome x.deadline
+
+-- A guard stands just behind its target, which is no guard, of its unit and as far as it is.
+pub record GuardStands (rows : List Row) (r : ℕ) (x : Row) : Type 0 where
+  pub target : ℕ
+  pub is : x.target ≡ Some target
+  pub behind : target + 1 ≡ r
+  pub row : Row
+  pub there : slice_get rows target ≡ Some row
+  pub other : is_guard row ≡ false
+  pub unit : row.unit ≡ x.unit
+  pub alike : row.phase ≡ x.phase
+
+-- Each guard that hasn't ended does.
+abbrev pub AllGuardsStand : List Row → Type 0
+AllGuardsStand rows = (r : ℕ) (x : Row) → slice_get rows r ≡ Some x → is_guard x ≡ true → is_unfinished x.phase ≡ true → GuardStands rows r x
 
 -- What holds of every machine between steps, with the range of each number.
 pub record WellFormed (m : Machine) : Type 0 where
@@ -167,6 +188,7 @@ pub record WellFormed (m : Machine) : Type 0 where
   pub world : WorldFormed m.world
   pub puts : PutsWithin (65536 * ended_of m.table) m.world
   pub requests : (r : ℕ) (x : Row) → slice_get m.table r ≡ Some x → RowFormed m.world x
+  pub guards : AllGuardsStand m.table
   pub counted : m.counted ≡ counted_of m.table
   pub clock : m.clock < 2 ^ 64
   pub threads : (t : ℕ) (x : ThreadState) → slice_get m.threads t ≡ Some x → Stands (length m.submissions.slots) x

@@ -3,7 +3,7 @@ ghost use Rattle.std.specs.Prelude.{◌≡◌, ◌+◌, ◌<◌, ◌≤◌, ◌^
 ghost use Rattle.places.specs.View.{Keeps};
 ghost use Rattle.machine.specs.Steps.{delivery, ended, all_ended, fallen};
 ghost use Rattle.links_drains.specs.Endings.{Direct};
-ghost use Rattle.timeouts_cancel.specs.Falls.{NoTimers};
+ghost use Rattle.timeouts_cancel.specs.Falls.{GuardsStand};
 ghost use Rattle.overflow.specs.Backlogs.{DeliveryFormed};
 ghost use Rattle.machine.specs.Whole.{view, everywhere, Grows, Mostly};
 
@@ -58,7 +58,7 @@ impl Machine {
         notes: &mut Recorder,
     ) -> Result<(), AllocError>
         requires direct { Direct self.old.table direct.now }
-        requires untimed { NoTimers self.old.table }
+        requires guards { GuardsStand self.old.table }
         requires mostly { Mostly self.old }
         ensures ok { OnOk result (self.new ≡ fallen self.old direct.now) }
         ensures grows { Grows self.old self.new }

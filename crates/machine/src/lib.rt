@@ -5,6 +5,7 @@ mod cancelling;
 mod closing;
 mod ending;
 mod entering;
+mod expiring;
 mod finishing;
 pub mod laws;
 mod performing;

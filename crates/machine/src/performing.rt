@@ -30,7 +30,7 @@ impl Machine {
             Event::Tick(d) => self.tick(d, notes),
             Event::Take(n) => self.submit_for_poller(n, notes),
             Event::Sleep => self.set_poller(Poller::Asleep, notes),
-            Event::Expire(_) => unreachable!(),
+            Event::Expire(r) => self.expire(r, notes),
         }
     }
 

@@ -2,16 +2,18 @@
 ghost use Rattle.std.specs.Prelude.{◌≡◌, ℕ, Some, slice_get, length, min};
 ghost use Rattle.links_drains.specs.Holding.{is_held_by};
 ghost use Rattle.ring_words.specs.Rings.{sub_list};
-ghost use Rattle.machine.specs.Steps.{refusal, next_refusal, instruction_refusal, enter_refusal, alone_refusal, submission_refusal, take_refusal, sleep_refusal, issue_refusal, finish_refusal, choice_refusal, full_refusal, outcome_refusal, is_busy, flushed};
+ghost use Rattle.machine.specs.Steps.{refusal, next_refusal, instruction_refusal, enter_refusal, alone_refusal, submission_refusal, take_refusal, sleep_refusal, issue_refusal, finish_refusal, expire_refusal, choice_refusal, full_refusal, outcome_refusal, is_busy, flushed};
 ghost use Rattle.machine.specs.Submission.{offered};
 ghost use Rattle.machine.specs.Whole.{WellFormed};
 
 use crate::whole::Machine;
 use entries::{Phase, Row};
+use links_drains::is_issued;
 use opcodes::{Choice, Outcome, is_cancel, is_timer};
 use places::Stage;
 use scenario::{Event, Instruction, Refusal};
 use sqpoll::Poller;
+use timeouts_cancel::due;
 
 impl Machine {
     /// Why an event is refused, if it is. It takes no memory.
@@ -31,10 +33,7 @@ impl Machine {
             Event::Sleep => self.refuses_sleep(),
             Event::Issue(r) => self.refuses_issue(r),
             Event::Finish(r, choice) => self.refuses_finish(r, choice),
-            Event::Expire(r) => match self.table.phase(r) {
-                None => Some(Refusal::NoSuchRequest),
-                Some(_) => Some(Refusal::WrongPhase),
-            },
+            Event::Expire(r) => self.refuses_expire(r),
             Event::Tick(d) => {
                 if d > u64::MAX - self.clock {
                     Some(Refusal::ClockFull)
@@ -197,6 +196,15 @@ impl Machine {
         }
     }
 
+    fn refuses_expire(&self, r: u32) -> Option<Refusal>
+        ensures { result ≡ expire_refusal self.now.clock (slice_get self.now.table r) }
+    {
+        match self.table.get(r) {
+            Some(row) => refuses_expiry(self.clock, &row),
+            None => Some(Refusal::NoSuchRequest),
+        }
+    }
+
     // Why an issued row can't end as a kernel chooses.
     fn refuses_choice(&self, row: &Row, choice: Choice) -> Option<Refusal>
         requires memory { length self.now.world.memory ≡ 65536 }
@@ -206,6 +214,20 @@ impl Machine {
             return refuses_a_part(choice);
         }
         refuses_outcome(self.outcome(row, choice))
+    }
+}
+
+// Only a TIMEOUT and a LINK_TIMEOUT expire, and not before their deadline.
+fn refuses_expiry(clock: u64, row: &Row) -> Option<Refusal>
+    ensures { result ≡ expire_refusal clock (Some row.now) }
+{
+    if !is_timer(row.entry.opcode) || !is_issued(row) {
+        return Some(Refusal::WrongPhase);
+    }
+    if due(row, clock) {
+        None
+    } else {
+        Some(Refusal::NotDue)
     }
 }
 

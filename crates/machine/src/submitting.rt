@@ -1,17 +1,15 @@
 //! Entries of the submission ring become rows (io_uring_enter(2)).
-ghost use Rattle.std.specs.Prelude.{◌≡◌, ◌+◌, ◌≤◌, IfOk, OnOk, None, length};
-ghost use Rattle.std.specs.List.{prefix_len};
+ghost use Rattle.std.specs.Prelude.{◌≡◌, ◌+◌, ◌≤◌, if◌then◌else◌, IfOk, OnOk, None, length};
 ghost use Rattle.places.specs.View.{Keeps};
 ghost use Rattle.ring_words.specs.Rings.{sub_list};
 ghost use Rattle.links_drains.specs.Batches.{direct_of};
-ghost use Rattle.machine.specs.Submission.{offered, passes_at, entries_at, taken_words, taken_entries};
-ghost use Rattle.machine.specs.Steps.{submission_refusal, submitted, taken};
+ghost use Rattle.machine.specs.Submission.{offered, offered_entries, entries_at, up_to_entry};
+ghost use Rattle.machine.specs.Steps.{entries_for, submission_refusal, submitted, taken};
 ghost use Rattle.machine.specs.Whole.{view, everywhere, Grows, WellFormed};
 
 use crate::whole::Machine;
 use entries::Sqe;
 use links_drains::Batch;
-use opcodes::{Context, check};
 use places::Recorder;
 use std::alloc::AllocError;
 
@@ -21,7 +19,7 @@ impl Machine {
         requires accepted { submission_refusal self.old to_submit ≡ None }
         requires formed { WellFormed self.old }
         ensures ok { OnOk result (self.new ≡ submitted self.old to_submit) }
-        ensures count { IfOk result (λ n. n ≡ length (taken_entries self.old.submit_all self.old.submissions to_submit)) }
+        ensures count { IfOk result (λ n. n ≡ length (entries_for self.old to_submit)) }
         ensures grows { Grows self.old self.new }
         ensures keeps { Keeps everywhere (view self.old) (view self.new) notes.old.made notes.new.made }
     {
@@ -33,55 +31,58 @@ impl Machine {
     // The words of a submission are taken, and their entries become rows.
     fn take(&mut self, to_submit: u32, notes: &mut Recorder) -> Result<Batch, AllocError>
         requires room { length self.old.table + length (offered self.old.submissions to_submit) ≤ 65536 }
+        requires memory { length self.old.world.memory ≡ 65536 }
         ensures ok { OnOk result (self.new ≡ taken self.old to_submit) }
-        ensures count { IfOk result (λ batch. batch.taken ≡ length (taken_entries self.old.submit_all self.old.submissions to_submit)) }
-        ensures direct { IfOk result (λ batch. batch.direct.items ≡ direct_of (length self.old.table) (taken_entries self.old.submit_all self.old.submissions to_submit)) }
+        ensures count { IfOk result (λ batch. batch.taken ≡ length (entries_for self.old to_submit)) }
+        ensures direct { IfOk result (λ batch. batch.direct.items ≡ direct_of self.old.world (length self.old.table) (entries_for self.old to_submit)) }
         ensures grows { Grows self.old self.new }
         ensures keeps { Keeps everywhere (view self.old) (view self.new) notes.old.made notes.new.made }
     {
-        let count = self.taken_count(to_submit);
-        let entries = self.entries_named(count)?;
-        let batch = self.table.take_batch(&entries, self.submit_all, notes)?;
+        let offered = self.offered(to_submit);
+        let entries = self.entries_named(offered)?;
+        let batch = self
+            .table
+            .take_batch(&entries, &self.world, self.submit_all, notes)?;
+        let count = self.word_count(offered, batch.taken, batch.halted);
         notes.room_for_numbers(2)?;
         self.submissions
             .take_first(count, count - batch.taken, notes);
         Ok(batch)
     }
 
-    // How many of the first words that wait a submission takes.
-    fn taken_count(&self, to_submit: u32) -> u32
-        ensures words { offered self.now.submissions result ≡ taken_words self.now.submit_all self.now.submissions to_submit }
-        ensures within { result ≤ length (sub_list self.now.submissions) }
+    // How many of the words that are offered a submission takes: all of them, or those up to and with the
+    // one that names the last entry that it takes.
+    fn word_count(&self, offered: u32, taken: u32, halted: bool) -> u32
+        requires offered { offered ≤ length (sub_list self.now.submissions) }
+        requires named { taken ≤ length (offered_entries self.now.submissions offered) }
+        ensures words { offered self.now.submissions result ≡ (if halted then up_to_entry self.now.submissions.slots taken (offered self.now.submissions offered) else offered self.now.submissions offered) }
+        ensures within { result ≤ offered }
+        ensures enough { taken ≤ result }
     {
-        let count = self.offered(to_submit);
-        if self.submit_all {
-            return count;
+        if halted {
+            self.words_up_to(offered, taken)
+        } else {
+            offered
         }
-        let passing = self.passing(count);
-        if passing < count { passing + 1 } else { count }
     }
 
-    // How many of the first words that wait stand before one that names an entry that fails.
-    fn passing(&self, count: u32) -> u32
-        requires { count ≤ length (sub_list self.now.submissions) }
-        ensures passing { result ≡ prefix_len (passes_at self.now.submissions.slots) (offered self.now.submissions count) }
-        ensures within { result ≤ count }
+    // How many words there are up to and with the one that names the n-th entry.
+    fn words_up_to(&self, offered: u32, n: u32) -> u32
+        requires offered { offered ≤ length (sub_list self.now.submissions) }
+        requires named { n ≤ length (offered_entries self.now.submissions offered) }
+        ensures words { offered self.now.submissions result ≡ up_to_entry self.now.submissions.slots n (offered self.now.submissions offered) }
+        ensures within { result ≤ offered }
+        ensures enough { n ≤ result }
     {
-        for i in 0..count {
-            if !self.passes(self.submissions.word(i)) {
-                return i;
+        let mut count = 0;
+        let mut left = n;
+        while left > 0 {
+            if self.submissions.entry(self.submissions.word(count)).is_some() {
+                left -= 1;
             }
+            count += 1;
         }
         count
-    }
-
-    fn passes(&self, word: u32) -> bool
-        ensures { result ≡ passes_at self.now.submissions.slots word }
-    {
-        match self.submissions.entry(word) {
-            Some(entry) => check(&entry, Context { behind: None }).is_ok(),
-            None => true,
-        }
     }
 
     // The entries that the first words that wait name; the others name none.

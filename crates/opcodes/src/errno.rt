@@ -24,6 +24,9 @@ pub const EFBIG: i32 = 27;
 /// Broken pipe.
 pub const EPIPE: i32 = 32;
 
+/// The timer expired.
+pub const ETIME: i32 = 62;
+
 /// The operation is already in progress.
 pub const EALREADY: i32 = 114;
 

@@ -1,0 +1,51 @@
+//! Timeouts and guards expire (io_uring_enter(2), IORING_OP_TIMEOUT and IORING_OP_LINK_TIMEOUT).
+ghost use Rattle.std.specs.Prelude.{◌≡◌, OnOk, None};
+ghost use Rattle.places.specs.View.{Keeps};
+ghost use Rattle.machine.specs.Steps.{after, refusal, waiting_target, waits_at};
+ghost use Rattle.machine.specs.Whole.{view, everywhere, Grows, WellFormed};
+ghost use Rattle.scenario.specs.declared.event.Event.TheVariants.{Expire};
+
+use crate::whole::Machine;
+use entries::Row;
+use links_drains::{is_guard, is_issued};
+use opcodes::{ECANCELED, ETIME, is_running};
+use places::Recorder;
+use std::alloc::AllocError;
+
+impl Machine {
+    /// A row that is due ends, and with a guard its target, if that waits.
+    pub(crate) fn expire(&mut self, r: u32, notes: &mut Recorder) -> Result<(), AllocError>
+        requires accepted { refusal self.old (Expire r) ≡ None }
+        requires formed { WellFormed self.old }
+        ensures ok { OnOk result (self.new ≡ after self.old (Expire r)) }
+        ensures grows { Grows self.old self.new }
+        ensures keeps { Keeps everywhere (view self.old) (view self.new) notes.old.made notes.new.made }
+    {
+        let Some(row) = self.table.get(r) else {
+            unreachable!()
+        };
+        match self.waiting_target(&row) {
+            Some(target) => self.fall(&[(target, -ECANCELED), (r, -ETIME)], notes),
+            None => self.fall(&[(r, -ETIME)], notes),
+        }
+    }
+
+    // The target of a guard, if it waits.
+    fn waiting_target(&self, row: &Row) -> Option<u32>
+        ensures { result ≡ waiting_target self.now.table self.now.world row.now row.now.target }
+    {
+        match row.target {
+            Some(target) if is_guard(row) && self.waits(target) => Some(target),
+            _ => None,
+        }
+    }
+
+    fn waits(&self, r: u32) -> bool
+        ensures { result ≡ waits_at self.now.table self.now.world r }
+    {
+        match self.table.get(r) {
+            Some(row) => is_issued(&row) && !is_running(&self.world, &row),
+            None => false,
+        }
+    }
+}
