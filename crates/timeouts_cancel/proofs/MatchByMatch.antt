@@ -1,6 +1,6 @@
 -- What is found, match by match.
 use Rattle.std.proofs.Common.{◌≡◌, ℕ, Bool, true, false, not, cond, refl, sym, ◌∙◌, ap, List, [], ◌∷◌, ◌++◌, take, ◌+◌, ◌<◌, ◌≤◌, ◌⊎◌, inl, inr, arith}
-use Rattle.std.specs.Prelude.{Option, Some, None, map, option_map, slice_get, ◌&&◌}
+use Rattle.std.specs.Prelude.{Some, map, option_map, slice_get, ◌&&◌}
 use Rattle.std.specs.List.{filter, enumerate_from}
 use Rattle.std.proofs.lemmas.Bool.{and_left, cases_lt}
 use Rattle.std.proofs.lemmas.List.{map-append}
@@ -14,7 +14,6 @@ use Rattle.links_drains.proofs.Chains.{enumerated}
 use Rattle.links_drains.proofs.Filters.{filter_skip, first_numbered, none_numbered}
 use Rattle.links_drains.proofs.RestOfUnit.{none_behind, numbered}
 use Rattle.timeouts_cancel.specs.declared.matching.Key.{Key}
-use Rattle.timeouts_cancel.specs.declared.matching.Found.{Found}
 use Rattle.timeouts_cancel.specs.declared.matching.Found.TheVariants.{Absent}
 use Rattle.timeouts_cancel.specs.Matches.{is_match, is_waiting_match, found_by, found_first, waiting_by, IsNextMatch, NoMatchFrom, Passed}
 

@@ -1,15 +1,13 @@
 -- Walking over the rest of a unit that a row severs.
-use Rattle.std.proofs.Common.{Bool, ◌≡◌, ℕ, pos, zero, suc, true, false, cond, refl, sym, ◌∙◌, ap, List, [], ◌∷◌, ◌++◌, length, ◌+◌, ◌<◌, ◌≤◌, ◌⊎◌, inl, inr, arith}
-use Rattle.std.specs.Prelude.{Option, Some, None, slice_get, ◌&&◌, nat_le}
-use Rattle.std.specs.Option.{option_map_or}
+use Rattle.std.proofs.Common.{◌≡◌, ℕ, zero, suc, true, cond, refl, sym, ◌∙◌, ap, List, [], ◌∷◌, ◌++◌, length, ◌+◌, ◌<◌, ◌≤◌, ◌⊎◌, inl, inr, arith}
+use Rattle.std.specs.Prelude.{Option, Some, None, slice_get}
 use Rattle.std.proofs.lemmas.List.{take_all}
 use Rattle.std.proofs.lemmas.Option.{slice_get_within}
 use Rattle.entries.specs.declared.row.Row.{Row}
-use Rattle.links_drains.specs.Links.{is_soft_linked, Chained, is_guard}
+use Rattle.links_drains.specs.Links.{is_soft_linked, Chained}
 use Rattle.links_drains.specs.Phases.{is_unfinished}
-use Rattle.links_drains.specs.Endings.{Ending, paired, endings, given, ecanceled, is_listed, Direct}
-use Rattle.timeouts_cancel.specs.Falls.{with_met, with_guards, is_severed, is_bad, is_count_timeout, guards_listed, is_met, counted_in, fall_of, NoTimers}
-use Rattle.timeouts_cancel.proofs.Again.{joined_nothing}
+use Rattle.links_drains.specs.Endings.{Ending, paired, endings, given, ecanceled, Direct}
+use Rattle.timeouts_cancel.specs.Falls.{is_severed, is_bad}
 use Rattle.timeouts_cancel.specs.Walks.{Severs, Walked, Sweeping, ds, ss, test, upto}
 use Rattle.timeouts_cancel.proofs.Walking.{of_one, upto_more, upto_gap, test_direct, test_other, severed_if, NotDirect, split, between, listed_direct, below_next, above_next}
 
@@ -160,24 +158,3 @@ pub walked_all : (rows : List Row) (direct : List Ending) (k i : ℕ) (es : List
 walked_all rows direct k i es w l =
     let gap = upto_gap (test rows direct) rows k (length rows) (λ r x a b g. between rows direct k i es r x w a (λ j p q m. let n = slice_get_within direct j p q in absurd (omega (arith, n, l, m))) g) in
     w.listed ∙ sym gap ∙ ap (endings (test rows direct)) (take_all (k + length rows) rows (omega arith))
-
--- no TIMEOUT and no guard falls where there is none
-pub fall_untimed : (rows : List Row) (c : ℕ) (direct : List Ending) → NoTimers rows → fall_of rows c direct ≡ ss rows direct
-fall_untimed rows c direct n =
-    ap (with_guards rows) met ∙ guards
-  where
-    met : with_met rows c (ss rows direct) ≡ ss rows direct
-    met = joined_nothing (λ r row. given (is_met (c + counted_in rows (ss rows direct)) row) (pos 0)) (test rows direct) rows (λ r row h u k. by r row (n r row h u).0)
-      where
-        by : (r : ℕ) (row : Row) → is_count_timeout row ≡ false → given (is_met (c + counted_in rows (ss rows direct)) row) (pos 0) ≡ None
-        by r row e = ap (λ b. given (b && nat_le (row.base + row.entry.off) (c + counted_in rows (ss rows direct))) (pos 0)) e
-
-    guards : with_guards rows (ss rows direct) ≡ ss rows direct
-    guards = joined_nothing (λ r row. given (guards_listed (ss rows direct) row) ecanceled) (test rows direct) rows (λ r row h u k. by row (n r row h u).1)
-      where
-        both_false : (b : Bool) → (b && false) ≡ false
-        both_false true = refl
-        both_false false = refl
-
-        by : (row : Row) → row.target ≡ None → given (guards_listed (ss rows direct) row) ecanceled ≡ None
-        by row e = ap (λ (o : Option ℕ). given (is_guard row && option_map_or (is_listed (ss rows direct)) o false) ecanceled) e ∙ ap (λ b. given b ecanceled) (both_false (is_guard row))

@@ -1,5 +1,5 @@
 -- How many listed rows count.
-use Rattle.std.proofs.Common.{◌≡◌, ℕ, ℤ, zero, suc, Bool, true, false, cond, refl, sym, ◌∙◌, ap, subst, List, [], ◌∷◌, length, ◌+◌, arith}
+use Rattle.std.proofs.Common.{◌≡◌, ℕ, ℤ, zero, suc, Bool, true, false, cond, refl, sym, ◌∙◌, ap, subst, List, [], ◌∷◌, length, ◌+◌, ◌≤◌, arith}
 use Rattle.std.specs.Prelude.{Option, Some, None, slice_get, is_some, ◌==◌, ◌&&◌, nat_lt, nat_le}
 use Rattle.std.specs.Option.{option_map_or}
 use Rattle.std.specs.List.{filter, cons_option}
@@ -67,6 +67,14 @@ counted_alike f g rows h = tallied look f 0 rows at ∙ tally_alike f g 0 rows b
         by : (b : Bool) → is_unfinished row.phase ≡ b → is_some (cond b (f i row) None) ≡ is_some (cond b (g i row) None)
         by true u = h i row e u c
         by false u = refl
+
+pub few_counted : (rows : List Row) (es : List Ending) → counted_in rows es ≤ length es
+few_counted rows [] = omega arith
+few_counted rows (e ∷ es) = let l = few_counted rows es in by (option_map_or counts (slice_get rows e.0) false) (filter (λ (x : Ending). option_map_or counts (slice_get rows x.0) false) es) l
+  where
+    by : (b : Bool) (xs : List Ending) → length xs ≤ length es → length (cond b (e ∷ xs) xs) ≤ length (e ∷ es)
+    by true xs l = omega (arith, l)
+    by false xs l = omega (arith, l)
 
 -- ---- what doesn't count
 

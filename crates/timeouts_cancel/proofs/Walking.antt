@@ -53,11 +53,15 @@ more_from f n (x ∷ rows) (suc k) row h =
 pub upto_more : (f : ℕ → Row → Option ℤ) (rows : List Row) (k : ℕ) (row : Row) → slice_get rows k ≡ Some row → upto f rows (k + 1) ≡ upto f rows k ++ of_one (paired k (result_of f k row))
 upto_more f rows k row h = let m : 0 + k ≡ k = omega arith in subst (λ j. upto f rows (k + 1) ≡ upto f rows k ++ of_one (paired j (result_of f j row))) m (more_from f 0 rows k row h)
 
-take_behind : (rows : List Row) (k : ℕ) → slice_get rows k ≡ None → take (k + 1) rows ≡ take k rows
+pub take_behind : (rows : List Row) (k : ℕ) → slice_get rows k ≡ None → take (k + 1) rows ≡ take k rows
 take_behind [] zero h = refl
 take_behind [] (suc k) h = let m : suc k + 1 ≡ suc (k + 1) = omega arith in let none : List Row = [] in ap (λ n. take n none) m
 take_behind (x ∷ rows) zero h = absurd cc
 take_behind (x ∷ rows) (suc k) h = let m : suc k + 1 ≡ suc (k + 1) = omega arith in ap (λ n. take n (x ∷ rows)) m ∙ ap (λ zs. x ∷ zs) (take_behind rows k h)
+
+pub upto_none : (f : ℕ → Row → Option ℤ) (rows : List Row) → upto f rows 0 ≡ []
+upto_none f [] = refl
+upto_none f (row ∷ rows) = refl
 
 -- rows that a test gives nothing add none
 pub upto_gap : (f : ℕ → Row → Option ℤ) (rows : List Row) (k d : ℕ) → ((r : ℕ) (row : Row) → k ≤ r → r < k + d → slice_get rows r ≡ Some row → result_of f r row ≡ None) → upto f rows (k + d) ≡ upto f rows k
@@ -75,7 +79,7 @@ upto_gap f rows k (suc d) h =
 
 -- ---- what the second filter gives a row
 
-result_at : (es : List Ending) (i : ℕ) (e : Ending) → ((i j : ℕ) (p q : Ending) → slice_get es i ≡ Some p → slice_get es j ≡ Some q → i < j → p.0 < q.0) → slice_get es i ≡ Some e → result_in es e.0 ≡ Some e.1
+pub result_at : (es : List Ending) (i : ℕ) (e : Ending) → ((i j : ℕ) (p q : Ending) → slice_get es i ≡ Some p → slice_get es j ≡ Some q → i < j → p.0 < q.0) → slice_get es i ≡ Some e → result_in es e.0 ≡ Some e.1
 result_at [] i e h k = absurd cc
 result_at (x ∷ es) zero e h k =
     let same : x ≡ e = cc in
@@ -102,7 +106,7 @@ test_direct rows direct i e row d h t =
 abbrev pub NotDirect : List Ending → ℕ → Type 0
 NotDirect direct r = (j : ℕ) (e : Ending) → slice_get direct j ≡ Some e → e.0 ≡ r → ⊥
 
-undirected : (direct : List Ending) (r : ℕ) → NotDirect direct r → result_in direct r ≡ None
+pub undirected : (direct : List Ending) (r : ℕ) → NotDirect direct r → result_in direct r ≡ None
 undirected direct r n = by (result_in direct r) refl
   where
     by : (o : Option ℤ) → result_in direct r ≡ o → o ≡ None
@@ -137,15 +141,11 @@ test_other rows direct r row h n = by (is_unfinished row.phase) refl
 
 pub walked_none : (rows : List Row) (direct : List Ending) → Walked rows direct 0 0 []
 walked_none rows direct = record {
-  listed = ap (endings (test rows direct)) (sym (none rows));
+  listed = sym (upto_none (test rows direct) rows);
   below = λ j e h l. absurd (omega (arith, l));
   above = λ j e h l. omega arith;
   clear = λ r row j e g h k l s. absurd (omega (arith, l));
 }
-  where
-    none : (zs : List Row) → take 0 zs ≡ []
-    none [] = refl
-    none (z ∷ zs) = refl
 
 pub split : (j i : ℕ) → (j < i) ⊎ (i ≤ j)
 split j i = by (nat_lt j i) refl

@@ -1,3 +1,6 @@
 pub mod Falls
+pub mod Guarding
 pub mod Matches
+pub mod Merges
+pub mod Timers
 pub mod Walks

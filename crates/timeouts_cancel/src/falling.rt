@@ -2,16 +2,20 @@
 ghost use Rattle.std.specs.Prelude.{◌≡◌, ◌≢◌, ◌&&◌, ◌+◌, ◌^◌, ◌<◌, ◌≤◌, ℕ, IfOk, IfSome, None, Some, length, slice_get};
 ghost use Rattle.links_drains.specs.Links.{is_soft_linked as has_soft_link, Chained};
 ghost use Rattle.links_drains.specs.Endings.{Ending, Direct};
-ghost use Rattle.timeouts_cancel.specs.Falls.{fall_of, is_bad, NoTimers};
+ghost use Rattle.timeouts_cancel.specs.Falls.{fall_of, first_listed, with_severed, is_bad, GuardsStand};
 ghost use Rattle.timeouts_cancel.specs.Walks.{Walked, Sweeping};
 
+use crate::guards::guards;
+use crate::merging::merge;
+use crate::timers::{count, met};
 use entries::Row;
 use links_drains::{Table, is_soft_linked, is_unfinished};
 use opcodes::ECANCELED;
 use std::alloc::AllocError;
 
-/// The rows that end, with their results, in the order of their numbers: those that a step ends of
-/// itself, and the later ones of each unit that they sever. It looks at no other row.
+/// The rows that end, with their results, in the order of their numbers: those that a step ends of itself,
+/// the later ones of each unit that they sever, the TIMEOUTs whose count of completions they meet, and
+/// the guards of all these.
 pub fn fall(
     table: &Table,
     counted: u32,
@@ -19,11 +23,27 @@ pub fn fall(
 ) -> Result<Vec<(u32, i32)>, AllocError>
     requires direct { Direct table.now direct.now }
     requires chained { Chained table.now }
-    requires untimed { NoTimers table.now }
+    requires guards { GuardsStand table.now }
     requires few { length table.now ≤ 65536 }
+    requires counted { counted ≤ 65536 }
     ensures { IfOk result (λ endings. endings.items ≡ fall_of table.now counted direct.now) }
 {
-    let _ = counted;
+    let severed = with_severed(table, direct)?;
+    let total = counted + count(table, &severed);
+    let met = met(table, total)?;
+    let ended = merge(table, &severed, &met)?;
+    let guards = guards(table, &ended)?;
+    merge(table, &ended, &guards)
+}
+
+// The rows that a step ends of itself, and the later ones of each unit that they sever. It looks at no
+// other row.
+fn with_severed(table: &Table, direct: &[(u32, i32)]) -> Result<Vec<(u32, i32)>, AllocError>
+    requires direct { Direct table.now direct.now }
+    requires chained { Chained table.now }
+    requires few { length table.now ≤ 65536 }
+    ensures { IfOk result (λ endings. endings.items ≡ with_severed table.now (first_listed table.now direct.now)) }
+{
     let mut endings = Vec::new(table.allocator());
     let mut at = 0;
     while at < direct.len() {

@@ -1,0 +1,90 @@
+-- Two lists of endings are put together, one ending after the other.
+use Rattle.std.proofs.Common.{◌≡◌, ℕ, ℤ, Bool, true, false, cond, refl, sym, ◌∙◌, ap, List, [], ◌∷◌, ◌++◌, length, ◌+◌, ◌-◌, ◌<◌, ◌≤◌, ◌⊎◌, inl, inr, arith}
+use Rattle.std.specs.Prelude.{Option, Some, None, slice_get}
+use Rattle.entries.specs.declared.row.Row.{Row}
+use Rattle.links_drains.specs.Phases.{is_unfinished}
+use Rattle.links_drains.specs.Endings.{Ending, result_in, paired, or_else, Direct}
+use Rattle.links_drains.proofs.Listing.{result_of}
+use Rattle.timeouts_cancel.specs.Falls.{joined}
+use Rattle.timeouts_cancel.specs.Merges.{Splits, IsLeast, Merged}
+use Rattle.timeouts_cancel.specs.Walks.{upto}
+use Rattle.timeouts_cancel.proofs.Listed.{splits_none, splits_to, splits_out, splits_past, upto_all}
+use Rattle.timeouts_cancel.proofs.Walking.{of_one, result_at, upto_more, upto_none, upto_gap}
+
+-- the result of the first list, or else of the second
+abbrev pub both_of : List Ending → List Ending → ℕ → Row → Option ℤ
+both_of first second r row = or_else (result_in first r) (result_in second r)
+
+neither : (first second : List Ending) (r : ℕ) (row : Row) → result_in first r ≡ None → result_in second r ≡ None → result_of (both_of first second) r row ≡ None
+neither first second r row a b = ap (λ o. cond (is_unfinished row.phase) (or_else o (result_in second r)) None) a ∙ ap (λ o. cond (is_unfinished row.phase) o None) b ∙ none (is_unfinished row.phase)
+  where
+    nothing : Option ℤ
+    nothing = None
+
+    none : (u : Bool) → cond u nothing None ≡ None
+    none true = refl
+    none false = refl
+
+pub merged_none : (rows : List Row) (first second : List Ending) → Merged rows first second 0 0 0 []
+merged_none rows first second = record { listed = sym (upto_none (both_of first second) rows); firsts = splits_none first; seconds = splits_none second }
+
+-- ---- the next of two lists
+
+-- it is of no row that was walked over
+pub least_on : (rows : List Row) (first second : List Ending) (k i j : ℕ) (es : List Ending) (e : Ending) → Merged rows first second k i j es → IsLeast first second i j e → k ≤ e.0
+least_on rows first second k i j es e m least = by least.from
+  where
+    by : (slice_get first i ≡ Some e) ⊎ ((slice_get second j ≡ Some e) × ((x : Ending) → slice_get first i ≡ Some x → e.0 < x.0)) → k ≤ e.0
+    by (inl h) = m.firsts.above i e h (omega arith)
+    by (inr w) = m.seconds.above j e w.0 (omega arith)
+
+pub firsts_least : (rows : List Row) (first second : List Ending) (k i j : ℕ) (es : List Ending) (e : Ending) → Direct rows first → Merged rows first second k i j es → IsLeast first second i j e → Splits first e.0 i
+firsts_least rows first second k i j es e d m least = splits_to first k i e.0 d.rising m.firsts (least_on rows first second k i j es e m least) least.first_later
+
+pub seconds_least : (rows : List Row) (first second : List Ending) (k i j : ℕ) (es : List Ending) (e : Ending) → Direct rows second → Merged rows first second k i j es → IsLeast first second i j e → Splits second e.0 j
+seconds_least rows first second k i j es e d m least = splits_to second k j e.0 d.rising m.seconds (least_on rows first second k i j es e m least) least.second_later
+
+-- its row, and the result there
+there_is : (rows : List Row) (first second : List Ending) (k i j : ℕ) (es : List Ending) (e : Ending) → Direct rows first → Direct rows second → Merged rows first second k i j es → IsLeast first second i j e
+    → (row : Row) × (slice_get rows e.0 ≡ Some row) × (result_of (both_of first second) e.0 row ≡ Some e.1)
+there_is rows first second k i j es e d f m least = by least.from
+  where
+    gives : (row : Row) → is_unfinished row.phase ≡ true → or_else (result_in first e.0) (result_in second e.0) ≡ Some e.1 → result_of (both_of first second) e.0 row ≡ Some e.1
+    gives row u g = ap (λ b. cond b (or_else (result_in first e.0) (result_in second e.0)) None) u ∙ g
+
+    by : (slice_get first i ≡ Some e) ⊎ ((slice_get second j ≡ Some e) × ((x : Ending) → slice_get first i ≡ Some x → e.0 < x.0)) → (row : Row) × (slice_get rows e.0 ≡ Some row) × (result_of (both_of first second) e.0 row ≡ Some e.1)
+    by (inl h) =
+        let w = d.each i e h in
+        (w.0, w.1, gives w.0 w.2 (ap (λ o. or_else o (result_in second e.0)) (result_at first i e d.rising h)))
+    by (inr g) =
+        let w = f.each j e g.0 in
+        let low = least_on rows first second k i j es e m least in
+        let behind = splits_to first k i (e.0 + 1) d.rising m.firsts (omega (arith, low)) (λ x h. let l = g.1 x h in omega (arith, l)) in
+        let out = splits_out first k (e.0 + 1) i e.0 m.firsts behind low (omega arith) in
+        (w.0, w.1, gives w.0 w.2 (ap (λ o. or_else o (result_in second e.0)) out ∙ result_at second j e f.rising g.0))
+
+pub merged_next : (rows : List Row) (first second : List Ending) (k i j p q : ℕ) (es fs : List Ending) (e : Ending) → Direct rows first → Direct rows second → Merged rows first second k i j es → IsLeast first second i j e
+    → Splits first (e.0 + 1) p → Splits second (e.0 + 1) q → fs ≡ es ++ e ∷ [] → Merged rows first second (e.0 + 1) p q fs
+merged_next rows first second k i j p q es fs e d f m least a b h =
+    let low = least_on rows first second k i j es e m least in
+    let n : k + (e.0 - k) ≡ e.0 = omega (arith, low) in
+    let w = there_is rows first second k i j es e d f m least in
+    let gap = upto_gap (both_of first second) rows k (e.0 - k) (λ r row l g t. between r row l (omega (arith, g, low))) in
+    record {
+      listed = h ∙ ap (λ xs. xs ++ e ∷ []) (m.listed ∙ sym gap ∙ ap (upto (both_of first second) rows) n)
+          ∙ ap (λ o. upto (both_of first second) rows e.0 ++ of_one (paired e.0 o)) (sym w.2)
+          ∙ sym (upto_more (both_of first second) rows e.0 w.0 w.1);
+      firsts = a;
+      seconds = b;
+    }
+  where
+    between : (r : ℕ) (row : Row) → k ≤ r → r < e.0 → result_of (both_of first second) r row ≡ None
+    between r row l g =
+        neither first second r row
+        (splits_out first k e.0 i r m.firsts (firsts_least rows first second k i j es e d m least) l g)
+        (splits_out second k e.0 j r m.seconds (seconds_least rows first second k i j es e f m least) l g)
+
+-- ---- the end of both
+
+pub merged_all : (rows : List Row) (first second : List Ending) (k i j : ℕ) (es : List Ending) → Merged rows first second k i j es → length first ≤ i → length second ≤ j → es ≡ joined rows (λ r row. result_in second r) first
+merged_all rows first second k i j es m a b = m.listed ∙ upto_all (both_of first second) rows k (λ r row l t. neither first second r row (splits_past first k i r m.firsts a l) (splits_past second k j r m.seconds b l))

@@ -1,0 +1,123 @@
+-- The guards of listed rows, one after the other.
+use Rattle.std.proofs.Common.{◌≡◌, ℕ, ℤ, Bool, true, false, cond, refl, sym, ◌∙◌, ap, List, [], ◌++◌, length, ◌+◌, ◌-◌, ◌<◌, ◌≤◌, ◌⊎◌, inl, inr, arith}
+use Rattle.std.specs.Prelude.{Option, Some, None, slice_get, ◌==◌, ◌&&◌}
+use Rattle.std.specs.Option.{option_map_or}
+use Rattle.std.proofs.lemmas.Bool.{eqb-true, eq-eqb}
+use Rattle.std.proofs.lemmas.List.{append-nil}
+use Rattle.std.proofs.lemmas.Option.{slice_get_within}
+use Rattle.entries.specs.declared.row.Row.{Row}
+use Rattle.links_drains.specs.Endings.{Ending, paired, given, ecanceled, is_listed, Direct}
+use Rattle.links_drains.specs.Links.{is_guard}
+use Rattle.links_drains.specs.Phases.{is_unfinished}
+use Rattle.links_drains.proofs.Listing.{result_of}
+use Rattle.timeouts_cancel.specs.Falls.{guards_listed, GuardsStand}
+use Rattle.timeouts_cancel.specs.Guarding.{guarding, guards_row, Guarded}
+use Rattle.timeouts_cancel.specs.Walks.{upto}
+use Rattle.timeouts_cancel.proofs.Again.{any_at, any_found}
+use Rattle.timeouts_cancel.proofs.Listed.{upto_all}
+use Rattle.timeouts_cancel.proofs.Sweeping.{same_ending}
+use Rattle.timeouts_cancel.proofs.Walking.{of_one, split, take_behind, upto_more, upto_none, upto_gap}
+use Rattle.links_drains.specs.Endings.{endings}
+
+-- what a guard ends with
+abbrev pub guard_result : List Ending → ℕ → Row → Option ℤ
+guard_result listed r row = given (guards_listed listed row) ecanceled
+
+pub guarded_none : (rows : List Row) (listed : List Ending) → Guarded rows listed 0 []
+guarded_none rows listed = record {
+  to = 0;
+  found = sym (upto_none (guard_result listed) rows);
+  below = λ j e h l. absurd (omega (arith, l));
+  above = λ j e h l. omega arith;
+}
+
+-- ---- rows that guard none that is listed
+
+-- what a row that guards a listed one guards
+pub record GuardsListed (rows : List Row) (listed : List Ending) (row : Row) : Type 0 where
+  pub index : ℕ
+  pub ending : Ending
+  pub there : slice_get listed index ≡ Some ending
+  pub guards : is_guard row ≡ true
+  pub target : row.target ≡ Some ending.0
+
+guards_so : (rows : List Row) (listed : List Ending) (row : Row) → guards_listed listed row ≡ true → GuardsListed rows listed row
+guards_so rows listed row h = by (is_guard row) (row.target) refl refl h
+  where
+    by : (b : Bool) (o : Option ℕ) → is_guard row ≡ b → row.target ≡ o → (b && option_map_or (is_listed listed) o false) ≡ true → GuardsListed rows listed row
+    by false o g t k = absurd cc
+    by true None g t k = absurd cc
+    by true (Some x) g t k =
+        let f = any_found (λ (e : Ending). e.0 == x) listed k in
+        record { index = f.0; ending = f.1; there = f.2; guards = g; target = t ∙ ap Some (sym (eqb-true f.1.0 x f.3)) }
+
+-- a row that isn't behind a listed one guards none
+no_guard : (rows : List Row) (listed : List Ending) (r : ℕ) (row : Row) → GuardsStand rows → slice_get rows r ≡ Some row → ((j : ℕ) (e : Ending) → slice_get listed j ≡ Some e → e.0 + 1 ≡ r → ⊥) → result_of (guard_result listed) r row ≡ None
+no_guard rows listed r row stand h none = by (is_unfinished row.phase) (guards_listed listed row) refl refl
+  where
+    by : (u b : Bool) → is_unfinished row.phase ≡ u → guards_listed listed row ≡ b → cond u (given b ecanceled) None ≡ None
+    by false b u g = refl
+    by true false u g = refl
+    by true true u g = absurd (let w = guards_so rows listed row g in none w.index w.ending w.there (stand r w.ending.0 row h w.guards u w.target))
+
+-- ---- the row behind a listed one
+
+its_guard : (rows : List Row) (listed : List Ending) (i : ℕ) (e : Ending) (row : Row) → GuardsStand rows → slice_get listed i ≡ Some e → slice_get rows (e.0 + 1) ≡ Some row → result_of (guard_result listed) (e.0 + 1) row ≡ cond (guards_row e.0 row) (Some ecanceled) None
+its_guard rows listed i e row stand h t = by (is_unfinished row.phase) (is_guard row) row.target refl refl refl
+  where
+    by : (u g : Bool) (o : Option ℕ) → is_unfinished row.phase ≡ u → is_guard row ≡ g → row.target ≡ o
+        → cond u (given (g && option_map_or (is_listed listed) o false) ecanceled) None ≡ cond (u && (g && option_map_or (λ target. target == e.0) o false)) (Some ecanceled) None
+    by false g o a b c = refl
+    by true false o a b c = refl
+    by true true None a b c = refl
+    by true true (Some x) a b c =
+        let n : x ≡ e.0 = let k = stand (e.0 + 1) x row t b a c in omega (arith, k) in
+        let l : is_listed listed x ≡ true = any_at (λ (y : Ending). y.0 == x) listed i e h (eq-eqb e.0 x (sym n)) in
+        ap (λ z. given z ecanceled) l ∙ ap (λ z. cond z (Some ecanceled) None) (sym (eq-eqb x e.0 n))
+
+pub guarded_next : (rows : List Row) (listed : List Ending) (i : ℕ) (es fs : List Ending) (e : Ending) (b : Bool) → GuardsStand rows → Direct rows listed → Guarded rows listed i es → slice_get listed i ≡ Some e
+    → b ≡ option_map_or (guards_row e.0) (slice_get rows (e.0 + 1)) false → fs ≡ es ++ of_one (paired (e.0 + 1) (cond b (Some ecanceled) None)) → Guarded rows listed (i + 1) fs
+guarded_next rows listed i es fs e b stand d w h g k = record {
+  to = e.0 + 1 + 1;
+  found = k ∙ ap (λ xs. xs ++ of_one (paired (e.0 + 1) (cond b (Some ecanceled) None))) before ∙ ap (λ z. upto f rows (e.0 + 1) ++ of_one (paired (e.0 + 1) (cond z (Some ecanceled) None))) g ∙ behind (slice_get rows (e.0 + 1)) refl;
+  below = λ j p q l. low j p q l (split j i);
+  above = λ j p q l. let x = d.rising i j e p h q (omega (arith, l)) in omega (arith, x);
+}
+  where
+    f : ℕ → Row → Option ℤ
+    f = guard_result listed
+
+    low : (j : ℕ) (p : Ending) → slice_get listed j ≡ Some p → j < i + 1 → (j < i) ⊎ (i ≤ j) → p.0 + 1 < e.0 + 1 + 1
+    low j p q l (inl a) = let x = d.rising j i p e q h a in omega (arith, x)
+    low j p q l (inr a) = let n : j ≡ i = omega (arith, a, l) in let x = ap (λ (y : Ending). y.0) (same_ending p e (sym q ∙ ap (slice_get listed) n ∙ h)) in omega (arith, x)
+
+    none : (r : ℕ) (row : Row) → w.to ≤ r → r < e.0 + 1 → slice_get rows r ≡ Some row → result_of f r row ≡ None
+    none r row l m t = no_guard rows listed r row stand t (λ j p q same. by j p q same (split j i))
+      where
+        by : (j : ℕ) (p : Ending) → slice_get listed j ≡ Some p → p.0 + 1 ≡ r → (j < i) ⊎ (i ≤ j) → ⊥
+        by j p q same (inl a) = let x = w.below j p q a in omega (arith, x, same, l)
+        by j p q same (inr a) = from (split i j)
+          where
+            from : (i < j) ⊎ (j ≤ i) → ⊥
+            from (inl y) = let x = d.rising i j e p h q y in omega (arith, x, same, m)
+            from (inr y) = let n : j ≡ i = omega (arith, a, y) in let x = ap (λ (z : Ending). z.0) (same_ending p e (sym q ∙ ap (slice_get listed) n ∙ h)) in omega (arith, x, same, m)
+
+    before : es ≡ upto f rows (e.0 + 1)
+    before =
+        let high = w.above i e h (omega arith) in
+        let n : w.to + (e.0 + 1 - w.to) ≡ e.0 + 1 = omega (arith, high) in
+        w.found ∙ sym (upto_gap f rows w.to (e.0 + 1 - w.to) (λ r row l m t. none r row l (omega (arith, m, high)) t)) ∙ ap (upto f rows) n
+
+    behind : (o : Option Row) → slice_get rows (e.0 + 1) ≡ o → upto f rows (e.0 + 1) ++ of_one (paired (e.0 + 1) (cond (option_map_or (guards_row e.0) (slice_get rows (e.0 + 1)) false) (Some ecanceled) None)) ≡ upto f rows (e.0 + 1 + 1)
+    behind None t =
+        ap (λ (o : Option Row). upto f rows (e.0 + 1) ++ of_one (paired (e.0 + 1) (cond (option_map_or (guards_row e.0) o false) (Some ecanceled) None))) t
+        ∙ append-nil (upto f rows (e.0 + 1))
+        ∙ ap (endings f) (sym (take_behind rows (e.0 + 1) t))
+    behind (Some row) t =
+        ap (λ (o : Option Row). upto f rows (e.0 + 1) ++ of_one (paired (e.0 + 1) (cond (option_map_or (guards_row e.0) o false) (Some ecanceled) None))) t
+        ∙ ap (λ o. upto f rows (e.0 + 1) ++ of_one (paired (e.0 + 1) o)) (sym (its_guard rows listed i e row stand h t))
+        ∙ sym (upto_more f rows (e.0 + 1) row t)
+
+pub guarded_all : (rows : List Row) (listed : List Ending) (i : ℕ) (es : List Ending) → GuardsStand rows → Guarded rows listed i es → length listed ≤ i → es ≡ guarding rows listed
+guarded_all rows listed i es stand w l =
+    w.found ∙ upto_all (guard_result listed) rows w.to (λ r row low t. no_guard rows listed r row stand t (λ j p q same. let n = slice_get_within listed j p q in let x = w.below j p q (omega (arith, n, l)) in omega (arith, x, same, low)))

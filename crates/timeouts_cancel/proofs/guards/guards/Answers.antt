@@ -1,0 +1,23 @@
+use Rattle.std.proofs.Common.{◌≡◌, ◌∙◌, pos, Some, None, sym, ap, cond, ◌++◌, ◌+◌, slice_index_or}
+use Rattle.std.specs.Prelude.{slice_get}
+use Rattle.std.proofs.lemmas.List.{append-nil}
+use Rattle.std.proofs.lemmas.Option.{slice_get-get_or}
+use Rattle.links_drains.specs.Endings.{Ending, ecanceled, paired}
+use Rattle.timeouts_cancel.proofs.Targets.{guarded_all, guarded_next}
+use Rattle.timeouts_cancel.proofs.Walking.{of_one}
+use Rattle.timeouts_cancel.proofs.guards.guards.Goals as goal
+use Rattle.timeouts_cancel.proofs.guards.guards.Goals.{then-is_guarded+in_ok-push, else-is_guarded}
+
+pub loop-at-preserved : goal.loop-at-preserved
+loop-at-preserved c =
+    let e : Ending = slice_index_or c.args.listed.now c.loop-at.at (0, pos 0) in
+    let there : slice_get c.args.listed.now c.loop-at.at ≡ Some e = slice_get-get_or c.args.listed.now c.loop-at.at (0, pos 0) c.loop-at-test.true in
+    let items : c.if-is_guarded.guards.items ≡ c.loop-at.guards.items ++ of_one (paired (e.0 + 1) (cond c.is_guarded.result (Some ecanceled) None)) =
+    elim c.if-is_guarded.branch [
+      | then-is_guarded+in_ok-push w ↦ ap (λ v. v.items) w.guards-is ∙ w.in_ok-push.ensures.items ∙ ap (λ b. c.loop-at.guards.items ++ of_one (paired (e.0 + 1) (cond b (Some ecanceled) None))) (sym w.if-is_guarded.true)
+      | else-is_guarded w ↦ ap (λ v. v.items) w.guards-is ∙ sym (append-nil c.loop-at.guards.items) ∙ ap (λ b. c.loop-at.guards.items ++ of_one (paired (e.0 + 1) (cond b (Some ecanceled) None))) (sym w.if-is_guarded.false)
+    ] in
+    guarded_next c.args.table.now c.args.listed.now c.loop-at.at c.loop-at.guards.items c.if-is_guarded.guards.items e c.is_guarded.result c.requires.guards c.requires.listed c.loop-at.invariant there c.is_guarded.ensures items
+
+pub returns : goal.returns
+returns c = guarded_all c.args.table.now c.args.listed.now c.loop-at.at c.loop-at.guards.items c.requires.guards c.loop-at.invariant c.loop-at-test.false

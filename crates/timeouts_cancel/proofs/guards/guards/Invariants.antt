@@ -1,0 +1,5 @@
+use Rattle.timeouts_cancel.specs.Guarding.{Guarded}
+use Rattle.timeouts_cancel.proofs.guards.guards.Given as goal
+
+abbrev pub invariant-loop-at : goal.invariant-loop-at
+invariant-loop-at l = Guarded l.table l.listed l.at l.guards.items

@@ -1,0 +1,6 @@
+use Rattle.std.proofs.Common.{◌≡◌, ◌≤◌, take}
+use Rattle.timeouts_cancel.specs.Falls.{counted_in}
+use Rattle.timeouts_cancel.proofs.timers.count.Given as goal
+
+abbrev pub invariant-loop-r : goal.invariant-loop-r
+invariant-loop-r l = (l.count ≡ counted_in l.table (take l.r-index l.endings)) × (l.count ≤ l.r-index)

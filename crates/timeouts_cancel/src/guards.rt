@@ -1,0 +1,46 @@
+//! The LINK_TIMEOUTs that end as their targets do (io_uring_enter(2)).
+ghost use Rattle.std.specs.Prelude.{◌≡◌, ◌<◌, ◌≤◌, ◌+◌, IfOk, false, length, slice_get};
+ghost use Rattle.std.specs.Option.{option_map_or};
+ghost use Rattle.links_drains.specs.Endings.{Direct};
+ghost use Rattle.timeouts_cancel.specs.Falls.{GuardsStand};
+ghost use Rattle.timeouts_cancel.specs.Guarding.{guarding, guards_row};
+
+use entries::Row;
+use links_drains::{Table, is_guard, is_unfinished};
+use opcodes::ECANCELED;
+use std::alloc::AllocError;
+
+/// The guards of rows that end, with the results that they end with. It looks at the row behind each.
+pub(crate) fn guards(table: &Table, listed: &[(u32, i32)]) -> Result<Vec<(u32, i32)>, AllocError>
+    requires listed { Direct table.now listed.now }
+    requires guards { GuardsStand table.now }
+    requires few { length table.now ≤ 65536 }
+    ensures { IfOk result (λ guards. guards.items ≡ guarding table.now listed.now) }
+{
+    let mut guards = Vec::new(table.allocator());
+    for at in 0..listed.len() {
+        let (r, _) = listed[at];
+        if is_guarded(table, r) {
+            guards.push((r + 1, -ECANCELED))?;
+        }
+    }
+    Ok(guards)
+}
+
+// Whether the row behind a row guards it.
+fn is_guarded(table: &Table, r: u32) -> bool
+    requires { r < 65536 }
+    ensures { result ≡ option_map_or (guards_row r) (slice_get table.now (r + 1)) false }
+{
+    match table.get(r + 1) {
+        Some(row) => guards_row(&row, r),
+        None => false,
+    }
+}
+
+// Whether an unfinished row guards another.
+fn guards_row(row: &Row, target: u32) -> bool
+    ensures { result ≡ guards_row target row.now }
+{
+    is_unfinished(row) && is_guard(row) && row.target == Some(target)
+}

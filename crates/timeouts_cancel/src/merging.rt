@@ -1,0 +1,58 @@
+//! Lists of rows that end are put together.
+ghost use Rattle.std.specs.Prelude.{◌≡◌, ◌+◌, ◌≤◌, IfOk, IfSome, IfNone, length};
+ghost use Rattle.links_drains.specs.Endings.{Direct, result_in};
+ghost use Rattle.timeouts_cancel.specs.Falls.{joined};
+ghost use Rattle.timeouts_cancel.specs.Merges.{IsLeast, Rises, Splits};
+
+use links_drains::Table;
+use std::alloc::AllocError;
+
+/// Two lists of rows that end as one, in the order of their numbers: a row of both keeps the result that
+/// the first has.
+pub(crate) fn merge(
+    table: &Table,
+    first: &[(u32, i32)],
+    second: &[(u32, i32)],
+) -> Result<Vec<(u32, i32)>, AllocError>
+    requires first { Direct table.now first.now }
+    requires second { Direct table.now second.now }
+    ensures { IfOk result (λ all. all.items ≡ joined table.now (λ r row. result_in second.now r) first.now) }
+{
+    let mut all = Vec::new(table.allocator());
+    let mut i = 0;
+    let mut j = 0;
+    while let Some((r, res)) = least(first, second, i, j) {
+        all.push((r, res))?;
+        i = past(first, i, r);
+        j = past(second, j, r);
+    }
+    Ok(all)
+}
+
+// The next of two lists, from an index of each on; of two for one row the first list's.
+fn least(first: &[(u32, i32)], second: &[(u32, i32)], i: usize, j: usize) -> Option<(u32, i32)>
+    ensures some { IfSome result (λ e. IsLeast first.now second.now i j e) }
+    ensures none { IfNone result ((length first.now ≤ i) × (length second.now ≤ j)) }
+{
+    if i >= first.len() {
+        return second.get(j).copied();
+    }
+    if j < second.len() && second[j].0 < first[i].0 {
+        return Some(second[j]);
+    }
+    Some(first[i])
+}
+
+// The index behind a row, where that is the next of a list.
+fn past(list: &[(u32, i32)], at: usize, r: u32) -> usize
+    requires rises { Rises list.now }
+    requires splits { Splits list.now r at }
+    ensures splits { Splits list.now (r + 1) result }
+    ensures on { at ≤ result }
+{
+    if at < list.len() && list[at].0 == r {
+        at + 1
+    } else {
+        at
+    }
+}
