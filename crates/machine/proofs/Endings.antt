@@ -17,12 +17,14 @@ use Rattle.links_drains.proofs.Counting.{ended-ended, ended-le-length, counted-l
 use Rattle.overflow.specs.Backlogs.{DeliveryFormed, all_posted, fits}
 use Rattle.overflow.proofs.KeptInOrder.{posted_formed}
 use Rattle.machine.specs.Steps.{delivery, ended, all_ended, fallen, completions_of, count_of}
-use Rattle.machine.specs.Whole.{view, everywhere, Grows, Mostly, RowFormed, WellFormed}
+use Rattle.machine.specs.Whole.{view, everywhere, AllGuardsStand, Grows, GuardStands, Mostly, RowFormed, WellFormed}
 use Rattle.machine.specs.declared.whole.Machine.{Machine}
-use Rattle.machine.proofs.FormedMachines.{items_one, mostly_ended, formed_of, formed_ended}
+use Rattle.machine.proofs.FormedMachines.{items_one, mostly, mostly_ended, formed_of}
 use Rattle.links_drains.specs.Endings.{result_in, Direct}
 use Rattle.timeouts_cancel.specs.Falls.{fall_of}
-use Rattle.timeouts_cancel.proofs.Whole.{unlisted, fall_unfinished, fall_rising}
+use Rattle.timeouts_cancel.proofs.Whole.{unlisted, fall_unfinished, fall_rising, target_stays}
+use Rattle.opcodes.proofs.Counting.{puts_more}
+use Rattle.links_drains.specs.Links.{is_guard}
 use Rattle.links_drains.proofs.RowsKept.{get-updated}
 use Rattle.std.proofs.lemmas.Option.{slice_get_within}
 use Rattle.machine.proofs.FormedRows.{ended_row}
@@ -105,10 +107,6 @@ can_end_most rows (p ∷ ps) h =
     let b = length-updated (λ (row : Row). record row { phase = Ended p.1 }) rows p.0 in
     omega (arith, k, a, b)
 
-pub formed_all_ended : (m : Machine) (ps : List (ℕ × ℤ)) → WellFormed m → CanEnd m.table ps → WellFormed (all_ended m ps)
-formed_all_ended m [] f h = f
-formed_all_ended m (p ∷ ps) f h = formed_all_ended (ended m p.0 p.1) ps (formed_ended m p.0 h.0 p.1 f h.1 h.2) h.3
-
 -- rows in rising order, all of which are unfinished
 pub record Rising (rows : List Row) (from : ℕ) (ps : List (ℕ × ℤ)) : Type 0 where
   pub each : (i : ℕ) (p : ℕ × ℤ) → slice_get ps i ≡ Some p → (x : Row) × (slice_get rows p.0 ≡ Some x) × (is_ended x.phase ≡ false)
@@ -182,6 +180,17 @@ all_ended_rows m (p ∷ ps) j y h = by (all_ended_rows (ended m p.0 p.1) ps j y 
     by (inl a) = at a.1 (one_ended m.table p.0 p.1 j y a.0)
     by (inr a) = inr a
 
+-- a row that isn't listed stays
+all_ended_stays : (m : Machine) (ps : List (ℕ × ℤ)) (j : ℕ) → result_in ps j ≡ None → slice_get (all_ended m ps).table j ≡ slice_get m.table j
+all_ended_stays m [] j h = refl
+all_ended_stays m (p ∷ ps) j h = by (p.0 == j) refl h (all_ended_stays (ended m p.0 p.1) ps j)
+  where
+    by : (b : Bool) → (p.0 == j) ≡ b → cond b (Some p.1) (result_in ps j) ≡ None → (result_in ps j ≡ None → slice_get (all_ended (ended m p.0 p.1) ps).table j ≡ slice_get (ended m p.0 p.1).table j) → slice_get (all_ended (ended m p.0 p.1) ps).table j ≡ slice_get m.table j
+    by true e k more = absurd cc
+    by false e k more =
+        more k ∙ get-updated (λ (row : Row). record row { phase = Ended p.1 }) m.table p.0 j
+        ∙ ap (λ b. cond b (option_map (λ (row : Row). record row { phase = Ended p.1 }) (slice_get m.table j)) (slice_get m.table j)) e
+
 -- ---- the rows that fall
 
 not_ended : (b : Bool) → not b ≡ true → b ≡ false
@@ -198,10 +207,6 @@ can_fall rows c direct = can_end rows 0 (fall_of rows c direct) (record {
 pub threads_fallen : (m : Machine) (direct : List (ℕ × ℤ)) → (fallen m direct).threads ≡ m.threads
 unfolding fallen
 threads_fallen m direct = threads_all_ended m (fall_of m.table m.counted direct)
-
-pub formed_fallen : (m : Machine) (direct : List (ℕ × ℤ)) → WellFormed m → WellFormed (fallen m direct)
-unfolding fallen
-formed_fallen m direct f = formed_all_ended m (fall_of m.table m.counted direct) f (can_fall m.table m.counted direct)
 
 -- each row that falls ends
 ended_all : (m : Machine) (ps : List (ℕ × ℤ)) → CanEnd m.table ps → ended_of (all_ended m ps).table ≡ ended_of m.table + length ps
@@ -222,14 +227,31 @@ falls_some rows c r res x e u = by (fall_of rows c ((r, res) ∷ [])) refl
     by [] k = absurd (let d = (unlisted rows c ((r, res) ∷ []) r x e (ap not u) (ap (λ ps. result_in ps r) k)).undirected in let z = sym d ∙ listed in cc)
     by (p ∷ ps) k = omega arith
 
--- rows that aren't well formed end, if they are among those that a step ends of itself
-pub formed_fallen_but : (m : Machine) (direct : List (ℕ × ℤ)) → Mostly m → PutsWithin (65536 * (ended_of m.table + length (fall_of m.table m.counted direct))) m.world → ((j : ℕ) (y : Row) → slice_get m.table j ≡ Some y → RowFormed m.world y ⊎ ((res : ℤ) × (result_in direct j ≡ Some res))) → WellFormed (fallen m direct)
+-- guards that stand behind their targets, but for some that a step ends of itself, do once rows have fallen
+guards_fallen : (m : Machine) (direct : List (ℕ × ℤ)) → ((r : ℕ) (x : Row) → slice_get m.table r ≡ Some x → is_guard x ≡ true → is_unfinished x.phase ≡ true → result_in direct r ≡ None → GuardStands m.table r x) → AllGuardsStand (fallen m direct).table
 unfolding fallen
-formed_fallen_but m direct f puts h =
+guards_fallen m direct h r x e g u = by (all_ended_rows m falls r x e)
+  where
+    falls : List (ℕ × ℤ)
+    falls = fall_of m.table m.counted direct
+
+    by : ((slice_get m.table r ≡ Some x) × (result_in falls r ≡ None)) ⊎ (is_ended x.phase ≡ true) → GuardStands (all_ended m falls).table r x
+    by (inr k) = absurd (let o = sym u ∙ ap not k in cc)
+    by (inl k) =
+        let s = h r x k.0 g u (unlisted m.table m.counted direct r x k.0 u k.1).undirected in
+        let out = target_stays m.table m.counted direct r s.target x s.row k.0 u g s.is s.there (ap is_unfinished s.alike ∙ u) s.other k.1 in
+        record { target = s.target; is = s.is; behind = s.behind; row = s.row; there = all_ended_stays m falls s.target out ∙ s.there; other = s.other; unit = s.unit; alike = s.alike }
+
+-- rows that aren't well formed end, if they are among those that a step ends of itself
+pub formed_fallen_but : (m : Machine) (direct : List (ℕ × ℤ)) → Mostly m → PutsWithin (65536 * (ended_of m.table + length (fall_of m.table m.counted direct))) m.world → ((j : ℕ) (y : Row) → slice_get m.table j ≡ Some y → RowFormed m.world y ⊎ ((res : ℤ) × (result_in direct j ≡ Some res)))
+    → ((r : ℕ) (x : Row) → slice_get m.table r ≡ Some x → is_guard x ≡ true → is_unfinished x.phase ≡ true → result_in direct r ≡ None → GuardStands m.table r x) → WellFormed (fallen m direct)
+unfolding fallen
+formed_fallen_but m direct f puts h guards =
     formed_of (fallen m direct) (mostly_all_ended m (fall_of m.table m.counted direct) f (can_fall m.table m.counted direct))
     (subst (λ w. PutsWithin (65536 * ended_of (all_ended m (fall_of m.table m.counted direct)).table) w) (sym (world_all_ended m (fall_of m.table m.counted direct)))
     (subst (λ n. PutsWithin (65536 * n) m.world) (sym (ended_all m (fall_of m.table m.counted direct) (can_fall m.table m.counted direct))) puts))
     (record { each = λ j y e. subst (λ w. RowFormed w y) (sym (world_all_ended m (fall_of m.table m.counted direct))) (by j y (all_ended_rows m (fall_of m.table m.counted direct) j y e)) })
+    (guards_fallen m direct guards)
   where
     stays : (j : ℕ) (y : Row) → slice_get m.table j ≡ Some y → result_in (fall_of m.table m.counted direct) j ≡ None → (b : Bool) → is_ended y.phase ≡ b → RowFormed m.world y ⊎ ((res : ℤ) × (result_in direct j ≡ Some res)) → RowFormed m.world y
     stays j y e n true u k = ended_row m.world y u
@@ -240,9 +262,29 @@ formed_fallen_but m direct f puts h =
     by j y (inl a) = stays j y a.0 a.1 (is_ended y.phase) refl (h j y a.0)
     by j y (inr a) = ended_row m.world y a
 
+pub formed_fallen : (m : Machine) (direct : List (ℕ × ℤ)) → WellFormed m → WellFormed (fallen m direct)
+formed_fallen m direct f =
+    formed_fallen_but m direct (mostly m f) (puts_more (65536 * ended_of m.table) (65536 * (ended_of m.table + length (fall_of m.table m.counted direct))) m.world (omega arith) f.puts) (λ j y e. inl (f.requests j y e))
+    (λ r x e g u n. f.guards r x e g u)
+
 -- each of them is a row
 pub fall_within : (rows : List Row) (c : ℕ) (direct : List (ℕ × ℤ)) (i : ℕ) (p : ℕ × ℤ) → slice_get (fall_of rows c direct) i ≡ Some p → p.0 < length rows
 fall_within rows c direct i p h = let w = fall_unfinished rows c direct i p h in slice_get_within rows p.0 w.0 w.1
+
+-- two rows that are unfinished, in their order
+pub direct_two : (rows : List Row) (t r : ℕ) (n res : ℤ) (y x : Row) → slice_get rows t ≡ Some y → is_ended y.phase ≡ false → slice_get rows r ≡ Some x → is_ended x.phase ≡ false → t < r → Direct rows ((t, n) ∷ (r, res) ∷ [])
+direct_two rows t r n res y x g v h u l = record { each = each; rising = rising }
+  where
+    each : (i : ℕ) (p : ℕ × ℤ) → slice_get ((t, n) ∷ (r, res) ∷ []) i ≡ Some p → (z : Row) × (slice_get rows p.0 ≡ Some z) × (is_unfinished z.phase ≡ true)
+    each zero p e = let m : t ≡ p.0 = cc in (y, ap (slice_get rows) (sym m) ∙ g, ap not v)
+    each (suc zero) p e = let m : r ≡ p.0 = cc in (x, ap (slice_get rows) (sym m) ∙ h, ap not u)
+    each (suc (suc i)) p e = absurd cc
+
+    rising : (i j : ℕ) (p q : ℕ × ℤ) → slice_get ((t, n) ∷ (r, res) ∷ []) i ≡ Some p → slice_get ((t, n) ∷ (r, res) ∷ []) j ≡ Some q → i < j → p.0 < q.0
+    rising i zero p q e o k = absurd (omega (arith, k))
+    rising zero (suc zero) p q e o k = let a : t ≡ p.0 = cc in let b : r ≡ q.0 = cc in omega (arith, a, b, l)
+    rising (suc i) (suc zero) p q e o k = absurd (omega (arith, k))
+    rising i (suc (suc j)) p q e o k = absurd cc
 
 -- one row that is unfinished is what a step can end of itself
 pub direct_one : (rows : List Row) (r : ℕ) (res : ℤ) (x : Row) → slice_get rows r ≡ Some x → is_ended x.phase ≡ false → Direct rows ((r, res) ∷ [])

@@ -1,7 +1,9 @@
 -- What an Enter finds, and what room completions have.
 use Rattle.std.proofs.Common.{◌≡◌, ℕ, ℤ, Bool, true, false, cond, refl, sym, ◌∙◌, ap, List, [], ◌∷◌, length, ◌+◌, ◌<◌, ◌≤◌, arith}
 use Rattle.std.specs.Result.{OnOk}
-use Rattle.std.specs.Prelude.{Option, Some, None, Result, Ok, Err, not, ◌&&◌, ◌||◌, nat_lt, slice_get, slice_set}
+use Rattle.std.specs.Prelude.{Option, Some, None, Result, Ok, Err, not, ◌&&◌, ◌||◌, nat_lt, slice_get, slice_set, if◌then◌else◌}
+use Rattle.std.specs.Option.{option_map_or}
+use Rattle.timeouts_cancel.specs.Timers.{is_due}
 use Rattle.entries.specs.declared.row.Row.{Row}
 use Rattle.entries.specs.declared.row.Phase.{Phase}
 use Rattle.entries.specs.declared.row.Phase.TheVariants.{Queued, Issued, Ended}
@@ -16,8 +18,8 @@ use Rattle.links_drains.specs.Phases.{is_ended, counts}
 use Rattle.links_drains.proofs.Counting.{ended-le-length, ended-lt-length}
 use Rattle.ring_words.specs.Rings.{sub_list}
 use Rattle.overflow.specs.Backlogs.{is_clear}
-use Rattle.machine.specs.Submission.{taken_entries, einval, ebusy, ebadf}
-use Rattle.machine.specs.Steps.{flushed, gets_events, before_submission, is_unknown, is_busy, submission_refusal, alone_refusal, issue_refusal, outcome_refusal, issued, held_by, lacks_descriptor, phase_refusal, choice_refusal, full_refusal, finish_refusal, answered, submitted, awaited, submitting, entered, entered_alone, entered_beside, fallen}
+use Rattle.machine.specs.Submission.{einval, ebusy, ebadf}
+use Rattle.machine.specs.Steps.{flushed, gets_events, before_submission, is_unknown, is_busy, submission_refusal, alone_refusal, issue_refusal, outcome_refusal, issued, held_by, lacks_descriptor, phase_refusal, choice_refusal, full_refusal, finish_refusal, answered, submitted, awaited, submitting, entered, entered_alone, entered_beside, fallen, all_started, base_of, deadline_of, entries_for, expire_refusal, is_guard_of, started}
 use Rattle.sqpoll.specs.declared.poller.Poller.{Poller}
 use Rattle.places.specs.Lists.{updated}
 use Rattle.places.proofs.ListLemmas.{updated_set}
@@ -26,7 +28,7 @@ use Rattle.machine.specs.Threads.{ThreadState}
 use Rattle.machine.specs.Whole.{WellFormed}
 use Rattle.machine.specs.declared.whole.Machine.{Machine}
 use Rattle.scenario.specs.declared.event.Refusal.{Refusal}
-use Rattle.scenario.specs.declared.event.Refusal.TheVariants.{WrongPhase, NotEligible}
+use Rattle.scenario.specs.declared.event.Refusal.TheVariants.{WrongPhase, NotEligible, NotDue}
 use Rattle.machine.proofs.TakingWords.{lt-ltb}
 
 -- nothing kept stands in the way of a submission, once there was a flush
@@ -65,7 +67,7 @@ unknown_told m t k w flags h = by m.poller
 -- completions that are kept
 pub busy_told : (m n : Machine) (t k w flags : ℕ) → n ≡ before_submission m k flags → 0 < k → is_clear n.backlog ≡ false → answered n t ebusy ≡ entered_alone m t k w flags
 busy_told m n t k w flags e l h =
-    sym (ap (λ b. cond b (answered n t ebusy) (awaited (submitted n k) t (length (taken_entries n.submit_all n.submissions k)) k w flags)) busy) ∙ ap (λ (x : Machine). submitting x t k w flags) e
+    sym (ap (λ b. cond b (answered n t ebusy) (awaited (submitted n k) t (length (entries_for n k)) k w flags)) busy) ∙ ap (λ (x : Machine). submitting x t k w flags) e
   where
     busy : is_busy n k ≡ true
     busy = rw (lt-ltb 0 k l, h) refl
@@ -111,18 +113,45 @@ finished_result m r c x e other h = counting (counts x) (ap (λ o. finish_refusa
     counting true k = at x.phase k
     counting false k = absurd cc
 
--- a row that can be issued is there, and unfinished
-pub issued_row : (m : Machine) (r : ℕ) → issue_refusal m.table r (slice_get m.table r) ≡ None → (x : Row) × (slice_get m.table r ≡ Some x) × (is_ended x.phase ≡ false)
-issued_row m r h = by (slice_get m.table r) refl h
+-- A row that can be issued is there, queued, and may be.
+pub record CanStart (m : Machine) (r : ℕ) : Type 0 where
+  pub row : Row
+  pub there : slice_get m.table r ≡ Some row
+  pub queued : row.phase ≡ Queued
+  pub eligible : is_eligible m.table r ≡ true
+
+pub can_start : (m : Machine) (r : ℕ) → issue_refusal m.table r (slice_get m.table r) ≡ None → CanStart m r
+can_start m r h = by (slice_get m.table r) refl h
   where
-    at : (x : Row) → slice_get m.table r ≡ Some x → (p : Phase) → x.phase ≡ p → elim p as (λ q. Option Refusal) [ Queued ↦ cond (is_eligible m.table r) None (Some NotEligible) | Issued ↦ Some WrongPhase | Ended res ↦ Some WrongPhase ] ≡ None → (y : Row) × (slice_get m.table r ≡ Some y) × (is_ended y.phase ≡ false)
-    at x e Queued q k = (x, e, ap is_ended q)
+    may : (b : Bool) → is_eligible m.table r ≡ b → cond b None (Some NotEligible) ≡ None → is_eligible m.table r ≡ true
+    may true e k = e
+    may false e k = absurd cc
+
+    at : (x : Row) → slice_get m.table r ≡ Some x → (p : Phase) → x.phase ≡ p → elim p as (λ q. Option Refusal) [ Queued ↦ cond (is_eligible m.table r) None (Some NotEligible) | Issued ↦ Some WrongPhase | Ended res ↦ Some WrongPhase ] ≡ None → CanStart m r
+    at x e Queued q k = record { row = x; there = e; queued = q; eligible = may (is_eligible m.table r) refl k }
     at x e Issued q k = absurd cc
     at x e (Ended n) q k = absurd cc
 
-    by : (o : Option Row) → slice_get m.table r ≡ o → issue_refusal m.table r o ≡ None → (y : Row) × (slice_get m.table r ≡ Some y) × (is_ended y.phase ≡ false)
+    by : (o : Option Row) → slice_get m.table r ≡ o → issue_refusal m.table r o ≡ None → CanStart m r
     by None e k = absurd cc
     by (Some x) e k = at x e x.phase refl k
+
+-- a row that expires is there, and issued
+pub expired_row : (m : Machine) (r : ℕ) → expire_refusal m.clock (slice_get m.table r) ≡ None → (x : Row) × (slice_get m.table r ≡ Some x) × (x.phase ≡ Issued)
+expired_row m r h = by (slice_get m.table r) refl h
+  where
+    at : (x : Row) → slice_get m.table r ≡ Some x → (p : Phase) → x.phase ≡ p → phase_refusal p (if is_due m.clock x then None else Some NotDue) ≡ None → (y : Row) × (slice_get m.table r ≡ Some y) × (y.phase ≡ Issued)
+    at x e Queued q k = absurd cc
+    at x e Issued q k = (x, e, q)
+    at x e (Ended n) q k = absurd cc
+
+    timing : (x : Row) → slice_get m.table r ≡ Some x → (b : Bool) → cond b (Some WrongPhase) (phase_refusal x.phase (if is_due m.clock x then None else Some NotDue)) ≡ None → (y : Row) × (slice_get m.table r ≡ Some y) × (y.phase ≡ Issued)
+    timing x e true k = absurd cc
+    timing x e false k = at x e x.phase refl k
+
+    by : (o : Option Row) → slice_get m.table r ≡ o → expire_refusal m.clock o ≡ None → (y : Row) × (slice_get m.table r ≡ Some y) × (y.phase ≡ Issued)
+    by None e k = absurd cc
+    by (Some x) e k = timing x e (counts x) k
 
 -- the backlog has room for the completion of an unfinished row
 pub backlog_room : (m : Machine) (r : ℕ) (x : Row) → WellFormed m → slice_get m.table r ≡ Some x → is_ended x.phase ≡ false → length m.backlog.items < 65536
@@ -137,10 +166,22 @@ backlog_most m f = let a = ended-le-length m.table in let b = f.overflowed in om
 updated_alike : {X : Type 0} (f g : X → X) (xs : List X) (i : ℕ) (x : X) → slice_get xs i ≡ Some x → f x ≡ g x → updated f xs i ≡ updated g xs i
 updated_alike f g xs i x h e = updated_set f xs i x h ∙ ap (slice_set xs i) e ∙ sym (updated_set g xs i x h)
 
-pub issued_told : {T E : Type 0} (res : Result T E) (m : Machine) (r : ℕ) (x : Row) (held : Option ℕ) (rows : List Row) → slice_get m.table r ≡ Some x → lacks_descriptor m.world x ≡ false → held ≡ held_by x
-    → OnOk res (rows ≡ updated (λ row. record row { phase = Issued; held = held }) m.table r) → OnOk res (record m { table = rows } ≡ issued m r (slice_get m.table r))
-issued_told (Err e) m r x held rows h l k o = o
-issued_told (Ok y) m r x held rows h l k o = ap (λ ts. record m { table = ts }) (o ∙ updated_alike _ _ m.table r x h (ap (λ n. record x { phase = Issued; held = n }) k)) ∙ sym told
-  where
-    told : issued m r (slice_get m.table r) ≡ record m { table = updated (λ row. record row { phase = Issued; held = held_by row }) m.table r }
-    told = ap (issued m r) h ∙ ap (λ b. cond b (fallen m ((r, ebadf) ∷ [])) (record m { table = updated (λ row. record row { phase = Issued; held = held_by row }) m.table r })) l
+-- a row that holds, is due and is based as it should be is issued
+pub started_told : {T E : Type 0} (res : Result T E) (rows news : List Row) (c n r : ℕ) (x : Row) (held due : Option ℕ) (base : ℕ) → slice_get rows r ≡ Some x → held ≡ held_by x → due ≡ deadline_of c x → base ≡ base_of n x
+    → OnOk res (news ≡ updated (λ row. record row { phase = Issued; held = held; deadline = due; base = base }) rows r) → OnOk res (news ≡ updated (started c n) rows r)
+started_told (Err e) rows news c n r x held due base h k d b o = o
+started_told (Ok y) rows news c n r x held due base h k d b o =
+    o ∙ updated_alike _ _ rows r x h (ap (λ z. record x { phase = Issued; held = z; deadline = due; base = base }) k ∙ ap (λ z. record x { phase = Issued; held = held_by x; deadline = z; base = base }) d
+    ∙ ap (λ z. record x { phase = Issued; held = held_by x; deadline = deadline_of c x; base = z }) b)
+
+-- and so is the machine's
+pub started_machine : {T E : Type 0} (res : Result T E) (m : Machine) (rows news : List Row) → OnOk res (rows ≡ news) → OnOk res (record m { table = rows } ≡ record m { table = news })
+started_machine (Err e) m rows news o = o
+started_machine (Ok y) m rows news o = ap (λ rs. record m { table = rs }) o
+
+-- the machine once a row is issued, with its guard or alone
+pub issued_told : (m : Machine) (r : ℕ) (x : Row) (b : Bool) → slice_get m.table r ≡ Some x → lacks_descriptor m.world x ≡ false → option_map_or (is_guard_of r) (slice_get m.table (r + 1)) false ≡ b
+    → record m { table = if b then updated (started m.clock m.counted) (updated (started m.clock m.counted) m.table r) (r + 1) else updated (started m.clock m.counted) m.table r } ≡ issued m r (slice_get m.table r)
+issued_told m r x b h l k =
+    sym (ap (issued m r) h ∙ ap (λ b. cond b (fallen m ((r, ebadf) ∷ [])) (record m { table = all_started m.clock m.counted m.table r })) l
+    ∙ ap (λ (d : Bool). record m { table = if d then updated (started m.clock m.counted) (updated (started m.clock m.counted) m.table r) (r + 1) else updated (started m.clock m.counted) m.table r }) k)

@@ -20,7 +20,6 @@ use Rattle.opcodes.proofs.Staying.{stays_after}
 use Rattle.model_files.specs.Worlds.{WorldState, PutsWithin, descriptor_of, world_closed, world_stored}
 use Rattle.model_files.proofs.Fixing as worlds
 use Rattle.model_files.proofs.Forming.{world_stored_formed, world_closed_formed}
-use Rattle.places.specs.Lists.{updated}
 use Rattle.places.specs.declared.value.Stage.{Stage}
 use Rattle.places.specs.declared.value.Stage.TheVariants.{Ready, Waiting}
 use Rattle.ring_words.specs.Rings.{waiting, with_flag}
@@ -31,11 +30,10 @@ use Rattle.sqpoll.specs.declared.poller.Poller.{Poller}
 use Rattle.sqpoll.specs.declared.poller.Poller.TheVariants.{Awake, Asleep}
 use Rattle.sqpoll.specs.Pollers.{is_awake}
 use Rattle.links_drains.specs.Batches.{direct_of}
-use Rattle.links_drains.specs.Eligible.{is_eligible}
 use Rattle.links_drains.specs.Phases.{is_ended, counts}
 use Rattle.machine.specs.Cancels.{verdict_of, ending_with}
-use Rattle.machine.specs.Submission.{offered, taken_entries, einval, ebusy, ebadf}
-use Rattle.machine.specs.Steps.{refusal, after, stepped, executed, entered, entered_alone, entered_beside, submitting, before_submission, is_busy, is_unknown, gets_events, wakes, woken, shown, awaited, ready_count, held_back, with_poller, flushed, submission_refusal, alone_refusal, enter_refusal, instruction_refusal, next_refusal, closed, is_open, thread_refusal, take_refusal, issue_refusal, phase_refusal, choice_refusal, finish_refusal, taken, submitted, answered, gone_on, issued, cancelled, finished, finished_as, lacks_descriptor, held_by, fallen}
+use Rattle.machine.specs.Submission.{offered, einval, ebusy, ebadf}
+use Rattle.machine.specs.Steps.{refusal, after, stepped, executed, entered, entered_alone, entered_beside, submitting, before_submission, is_busy, is_unknown, gets_events, wakes, woken, shown, awaited, ready_count, held_back, with_poller, flushed, submission_refusal, alone_refusal, enter_refusal, instruction_refusal, next_refusal, closed, is_open, thread_refusal, take_refusal, phase_refusal, choice_refusal, finish_refusal, taken, submitted, answered, gone_on, cancelled, finished, finished_as, lacks_descriptor, fallen, all_started, entries_for, expired, expiring, waiting_target}
 use Rattle.machine.specs.Threads.{ThreadState}
 use Rattle.machine.specs.Whole.{is_asleep, flag_word, WellFormed}
 use Rattle.scenario.specs.declared.setup.Instruction.{Instruction}
@@ -43,8 +41,7 @@ use Rattle.scenario.specs.declared.setup.Instruction.TheVariants.{Put, Push, Sto
 use Rattle.machine.specs.declared.whole.Machine.{Machine}
 use Rattle.scenario.specs.declared.event.Event.{Event}
 use Rattle.scenario.specs.declared.event.Event.TheVariants.{Step, Take, Sleep, Issue, Finish, Expire, Tick}
-use Rattle.scenario.specs.declared.event.Refusal.{Refusal}
-use Rattle.scenario.specs.declared.event.Refusal.TheVariants.{SqFull, NothingToReap, WrongPhase, NotEligible, ClockFull, RequestsFull}
+use Rattle.scenario.specs.declared.event.Refusal.TheVariants.{SqFull, NothingToReap, WrongPhase, ClockFull, RequestsFull}
 use Rattle.machine.proofs.FormedThreads.{stands_on, stands_held, formed_thread}
 use Rattle.links_drains.specs.Phases.{ended_of}
 use Rattle.timeouts_cancel.specs.Falls.{fall_of}
@@ -52,6 +49,8 @@ use Rattle.opcodes.proofs.Counting.{puts_after, puts_more}
 use Rattle.machine.proofs.FormedMachines.{formed_issued, formed_world, mostly, mostly_world, rows_moved, formed_flushed, wakeup_flag, formed_put, formed_push, formed_taken_out}
 use Rattle.machine.proofs.FormedSubmissions.{formed_submitted, length-taken_entries}
 use Rattle.machine.proofs.Endings.{falls_some, formed_fallen, formed_fallen_but, threads_fallen}
+use Rattle.machine.proofs.EnterLemmas.{CanStart, can_start}
+use Rattle.machine.proofs.GuardLemmas.{eligible_no_guard}
 use Rattle.machine.proofs.PipeCounts.{puts_fit}
 
 ltb_tells : (a b : ℕ) → ((ltb a b ≡ true) × (a < b)) ⊎ ((ltb a b ≡ false) × (b ≤ a))
@@ -73,6 +72,7 @@ formed_tick m d f h = record {
   world = f.world;
   puts = f.puts;
   requests = f.requests;
+  guards = f.guards;
   counted = f.counted;
   clock = by (ltb_tells (m.clock + d) (2 ^ 64));
   threads = f.threads;
@@ -83,21 +83,18 @@ formed_tick m d f h = record {
     by (inr a) = absurd (let k = ap (λ b. cond b None (Some ClockFull)) (sym a.0) ∙ h in cc)
 
 formed_issue : (m : Machine) (r : ℕ) → WellFormed m → refusal m (Issue r) ≡ None → WellFormed (after m (Issue r))
-formed_issue m r f h = by (slice_get m.table r) refl h
+formed_issue m r f h = rw c.there (by (lacks_descriptor m.world c.row) refl)
   where
-    lacking : (x : Row) → slice_get m.table r ≡ Some x → is_ended x.phase ≡ false → (b : Bool) → lacks_descriptor m.world x ≡ b
-        → WellFormed (if b then fallen m ((r, ebadf) ∷ []) else record m { table = updated (λ row. record row { phase = Issued; held = held_by row }) m.table r })
-    lacking x e q true l = formed_fallen m ((r, ebadf) ∷ []) f
-    lacking x e q false l = formed_issued m r x f e q l
+    c : CanStart m r
+    c = can_start m r h
 
-    at : (x : Row) → slice_get m.table r ≡ Some x → (p : Phase) → x.phase ≡ p → elim p as (λ q. Option Refusal) [ Queued ↦ cond (is_eligible m.table r) None (Some NotEligible) | Issued ↦ Some WrongPhase | Ended res ↦ Some WrongPhase ] ≡ None → WellFormed (issued m r (Some x))
-    at x e Queued q k = lacking x e (ap is_ended q) (lacks_descriptor m.world x) refl
-    at x e Issued q k = absurd cc
-    at x e (Ended n) q k = absurd cc
+    by : (b : Bool) → lacks_descriptor m.world c.row ≡ b → WellFormed (if b then fallen m ((r, ebadf) ∷ []) else record m { table = all_started m.clock m.counted m.table r })
+    by true l = formed_fallen m ((r, ebadf) ∷ []) f
+    by false l = formed_issued m r c.row f c.there c.queued (eligible_no_guard m.table r c.row c.there c.eligible) l
 
-    by : (o : Option Row) → slice_get m.table r ≡ o → issue_refusal m.table r o ≡ None → WellFormed (issued m r o)
-    by None e k = absurd cc
-    by (Some x) e k = at x e x.phase refl k
+formed_expire : (m : Machine) (r : ℕ) (o : Option Row) → WellFormed m → WellFormed (expired m r o)
+formed_expire m r None f = f
+formed_expire m r (Some x) f = formed_fallen m (expiring r (waiting_target m.table m.world x x.target)) f
 
 formed_finish : (m : Machine) (r : ℕ) (c : Choice) → WellFormed m → refusal m (Finish r c) ≡ None → WellFormed (after m (Finish r c))
 formed_finish m r c f h = by (slice_get m.table r) refl h
@@ -110,6 +107,7 @@ formed_finish m r c f h = by (slice_get m.table r) refl h
         formed_fallen_but (record m { world = w }) ((r, res) ∷ []) (mostly_world m w (mostly m f) s.formed)
         (puts_more (65536 * ended_of m.table + 65536) (65536 * (ended_of m.table + length (fall_of m.table m.counted ((r, res) ∷ [])))) w (omega (arith, some)) (puts_after (is_held_by m.table) m.world x res c (65536 * ended_of m.table) g f.puts))
         (λ j y k. inl ((rows_moved m w f s.setup).each j y k))
+        (λ j y k g u n. f.guards j y k g u)
     ending x e q Waits g = f
     ending x e q BadChoice g = f
 
@@ -146,7 +144,7 @@ formed_submission m k f h = formed_submitted m k f (submission_room m k h)
 
 -- the threads stay as a submission is done
 pub submitted_threads : (m : Machine) (k : ℕ) → (submitted m k).threads ≡ m.threads
-submitted_threads m k = threads_fallen (taken m k) (direct_of (length m.table) (taken_entries m.submit_all m.submissions k))
+submitted_threads m k = threads_fallen (taken m k) (direct_of m.world (length m.table) (entries_for m k))
 
 fits_einval : FitsSigned w64 einval
 fits_einval = omega arith
@@ -200,6 +198,7 @@ formed_poller m p h =
       world = h.world;
       puts = h.puts;
       requests = h.requests;
+      guards = h.guards;
       counted = h.counted;
       chained = h.chained;
       clock = h.clock;
@@ -241,10 +240,10 @@ formed_submitting : (m : Machine) (t : ℕ) (x : ThreadState) (k w flags : ℕ) 
 formed_submitting m t x k w flags f e g l h = by (is_busy m k) h
   where
     n : ℕ
-    n = length (taken_entries m.submit_all m.submissions k)
+    n = length (entries_for m k)
 
     few : length m.table + length (offered m.submissions k) ≤ 65536 → n < 2 ^ 32
-    few r = let a = length-taken_entries m.submit_all m.submissions k in omega (arith, a, r)
+    few r = let a = length-taken_entries m.submit_all m.world m.submissions k in omega (arith, a, r)
 
     by : (b : Bool) → (if b then None else submission_refusal m k) ≡ None → WellFormed (if b then answered m t ebusy else awaited (submitted m k) t n k w flags)
     by true o = formed_answered m t x (Enter k w flags) ebusy f e g fits_ebusy
@@ -370,5 +369,5 @@ formed_after m (Take n) f h = formed_take m n f h
 formed_after m Sleep f h = formed_poller m Asleep f
 formed_after m (Issue r) f h = formed_issue m r f h
 formed_after m (Finish r c) f h = formed_finish m r c f h
-formed_after m (Expire r) f h = f
+formed_after m (Expire r) f h = formed_expire m r (slice_get m.table r) f
 formed_after m (Tick d) f h = formed_tick m d f h

@@ -1,14 +1,17 @@
 -- What each change of the machine keeps.
 use Rattle.std.proofs.Common.{◌≡◌, ℕ, ℤ, pos, negsuc, Bool, true, false, cond, refl, sym, ◌∙◌, ap, subst, [], ◌∷◌, length, drop, ◌+◌, ◌*◌, ◌%◌, ◌<◌, ◌≤◌, ◌^◌, length-append, length-set, arith}
 use Rattle.std.proofs.lemmas.List.{length-drop}
-use Rattle.std.specs.Prelude.{Option, Some, None, slice_get, slice_set, not, ◌&&◌, if◌then◌else◌}
+use Rattle.std.specs.Prelude.{List, Option, Some, None, IsSome, option_map, slice_get, slice_set, not, ◌&&◌, if◌then◌else◌}
+use Rattle.std.specs.Option.{option_map_or}
+use Rattle.std.proofs.lemmas.Bool.{eqb-true}
 use Rattle.model_files.specs.declared.descriptor.DescriptorState.{DescriptorState}
 use Rattle.model_files.specs.Worlds.{WorldState, WorldFormed, descriptor_of, descriptor_at, OneSetup as OneWorldSetup}
 use Rattle.opcodes.specs.Opcodes.{uses_descriptor, fits_end}
 use Rattle.entries.specs.declared.completion.Cqe.{Cqe}
 use Rattle.entries.specs.declared.entry.Sqe.{Sqe}
 use Rattle.entries.specs.declared.row.Row.{Row}
-use Rattle.entries.specs.declared.row.Phase.TheVariants.{Issued, Ended}
+use Rattle.entries.specs.declared.row.Phase.{Phase}
+use Rattle.entries.specs.declared.row.Phase.TheVariants.{Queued, Issued, Ended}
 use Rattle.places.specs.Lists.{updated}
 use Rattle.places.proofs.ListLemmas.{length-updated}
 use Rattle.ring_words.specs.Rings.{waiting, with_flag}
@@ -16,24 +19,25 @@ use Rattle.ring_words.specs.declared.flag.RingFlag.TheVariants.{NeedWakeup, CqOv
 use Rattle.ring_words.proofs.Laws.{formed_pushed, formed_entry, formed_flag, formed_reaped}
 use Rattle.ring_words.proofs.Order.{waiting_less, waiting_more}
 use Rattle.ring_words.proofs.Sizes.{size_most}
-use Rattle.links_drains.specs.Phases.{is_ended, counts, counted_of}
+use Rattle.links_drains.specs.Links.{has_flag, is_guard}
+use Rattle.links_drains.specs.Phases.{is_ended, is_queued, counts, counted_of}
 use Rattle.links_drains.proofs.Counting.{counted-ended, counted-unfinished, ended-ended, ended-unfinished}
 use Rattle.links_drains.specs.Phases.{ended_of}
 use Rattle.model_files.specs.Worlds.{PutsWithin}
-use Rattle.opcodes.proofs.Counting.{puts_more}
 use Rattle.overflow.specs.Backlogs.{BacklogState, is_clear, fits, Delivery, DeliveryFormed, all_posted, flushed as flushed_delivery}
 use Rattle.overflow.proofs.KeptInOrder.{posted_formed, flushed_formed}
-use Rattle.machine.specs.Steps.{delivery, flushed, ended, held_by, is_usable, lacks_descriptor, number_in}
-use Rattle.machine.specs.Whole.{Mostly, is_asleep, flag_word, HoldsDescriptor, RowFormed, WellFormed, Stands}
+use Rattle.machine.specs.Steps.{all_started, delivery, flushed, ended, held_by, is_guard_of, is_usable, lacks_descriptor, number_in, started}
+use Rattle.machine.specs.Whole.{AllGuardsStand, Mostly, is_asleep, flag_word, HoldsDescriptor, RowFormed, WellFormed, Stands}
 use Rattle.machine.specs.declared.whole.Machine.{Machine}
 use Rattle.links_drains.proofs.Chains.{chained-updated}
-use Rattle.machine.proofs.FormedRows.{FormedRows, formed_rows-updated, formed_rows-moved, ended_row}
+use Rattle.machine.proofs.FormedRows.{FormedRows, formed_rows-updated, formed_rows-moved}
+use Rattle.machine.proofs.GuardLemmas.{apart, guard_told, started_guards}
 
 pub mostly : (m : Machine) → WellFormed m → Mostly m
 mostly m h = record { submissions = h.submissions; completions = h.completions; entries_wait = h.entries_wait; completions_wait = h.completions_wait; flags = h.flags; front = h.front; overflowed = h.overflowed; rows = h.rows; chained = h.chained; world = h.world; counted = h.counted; clock = h.clock; threads = h.threads }
 
-pub formed_of : (m : Machine) → Mostly m → PutsWithin (65536 * ended_of m.table) m.world → FormedRows m.world m.table → WellFormed m
-formed_of m h puts k = record { puts = puts; submissions = h.submissions; completions = h.completions; entries_wait = h.entries_wait; completions_wait = h.completions_wait; flags = h.flags; front = h.front; overflowed = h.overflowed; rows = h.rows; chained = h.chained; world = h.world; requests = k.each; counted = h.counted; clock = h.clock; threads = h.threads }
+pub formed_of : (m : Machine) → Mostly m → PutsWithin (65536 * ended_of m.table) m.world → FormedRows m.world m.table → AllGuardsStand m.table → WellFormed m
+formed_of m h puts k guards = record { guards = guards; puts = puts; submissions = h.submissions; completions = h.completions; entries_wait = h.entries_wait; completions_wait = h.completions_wait; flags = h.flags; front = h.front; overflowed = h.overflowed; rows = h.rows; chained = h.chained; world = h.world; requests = k.each; counted = h.counted; clock = h.clock; threads = h.threads }
 
 -- ---- completions
 
@@ -87,7 +91,7 @@ mostly_flushed m h =
     }
 
 pub formed_flushed : (m : Machine) → WellFormed m → WellFormed (flushed m)
-formed_flushed m h = formed_of (flushed m) (mostly_flushed m (mostly m h)) h.puts (record { each = h.requests })
+formed_flushed m h = formed_of (flushed m) (mostly_flushed m (mostly m h)) h.puts (record { each = h.requests }) h.guards
 
 -- ---- a row ends
 
@@ -124,12 +128,6 @@ mostly_ended m r x res h e u =
       threads = h.threads;
     })
 
-pub formed_ended : (m : Machine) (r : ℕ) (x : Row) (res : ℤ) → WellFormed m → slice_get m.table r ≡ Some x → is_ended x.phase ≡ false → WellFormed (ended m r res)
-formed_ended m r x res h e u =
-    formed_of (ended m r res) (mostly_ended m r x res (mostly m h) e u)
-    (puts_more (65536 * ended_of m.table) (65536 * ended_of (ended m r res).table) m.world (let a = ended-ended m.table r x res e u in omega (arith, a)) h.puts)
-    (formed_rows-updated m.world (λ (row : Row). record row { phase = Ended res }) m.table r (λ y k. ended_row m.world (record y { phase = Ended res }) refl) (record { each = h.requests }))
-
 -- ---- a row is issued
 
 -- a row that lacks no descriptor holds one once it is issued
@@ -155,35 +153,91 @@ issued_holds w x l u = by x.entry.fd refl
     by (pos fd) e = fits fd e (descriptor_of w fd) refl (sym (ap (λ n. is_usable x (descriptor_at w n)) e) ∙ usable)
     by (negsuc n) e = absurd (let k = sym (ap (λ n. is_usable x (descriptor_at w n)) e) ∙ usable in cc)
 
-issued_row : (w : WorldState) (x : Row) → is_ended x.phase ≡ false → lacks_descriptor w x ≡ false → RowFormed w x → RowFormed w (record x { phase = Issued; held = held_by x })
-issued_row w x q l h = record { opcode = λ u. h.opcode (ap not q); holds = λ i u. issued_holds w x l u; untargeted = λ u. h.untargeted (ap not q) }
-
-pub formed_issued : (m : Machine) (r : ℕ) (x : Row) → WellFormed m → slice_get m.table r ≡ Some x → is_ended x.phase ≡ false → lacks_descriptor m.world x ≡ false
-    → WellFormed (record m { table = updated (λ row. record row { phase = Issued; held = held_by row }) m.table r })
-formed_issued m r x h e q l =
-    let f : Row → Row = λ (row : Row). record row { phase = Issued; held = held_by row } in
-    record {
-      submissions = h.submissions;
-      completions = h.completions;
-      entries_wait = h.entries_wait;
-      completions_wait = h.completions_wait;
-      flags = h.flags;
-      front = h.front;
-      overflowed = let a = ended-unfinished f m.table r x e q refl in let b = h.overflowed in omega (arith, a, b);
-      rows = let a = length-updated f m.table r in let b = h.rows in omega (arith, a, b);
-      world = h.world;
-      puts = puts_more (65536 * ended_of m.table) (65536 * ended_of (updated f m.table r)) m.world (let a = ended-unfinished f m.table r x e q refl in omega (arith, a)) h.puts;
-      requests = (formed_rows-updated m.world f m.table r here (record { each = h.requests })).each;
-      counted = h.counted ∙ sym (counted-unfinished f m.table r x e q refl);
-      chained = chained-updated f m.table r (λ y. refl) h.chained;
-      clock = h.clock;
-      threads = h.threads;
-    }
+-- a row that is issued is well formed
+started_row : (w : WorldState) (c n : ℕ) (x : Row) → is_ended x.phase ≡ false → lacks_descriptor w x ≡ false → RowFormed w x → RowFormed w (started c n x)
+started_row w c n x q l h = record {
+  opcode = λ u. h.opcode (ap not q);
+  holds = λ i u. let d = issued_holds w x l u in record { fd = d.fd; held = d.held; descriptor = d.descriptor; there = d.there; fits = d.fits };
+  time = λ u. h.time (ap not q);
+  timed = λ u t. h.timed (ap not q) t;
+  due = λ i t. mapped x.time (h.timed (ap not q) t);
+}
   where
-    here : (y : Row) → slice_get m.table r ≡ Some y → RowFormed m.world (record y { phase = Issued; held = held_by y })
-    here y k =
+    mapped : (o : Option ℕ) → IsSome o → IsSome (option_map (λ t. if has_flag x.entry.operation_flags 1 then t else t + c) o)
+    mapped None k = absurd cc
+    mapped (Some t) k = refl
+
+mostly_started : (m : Machine) (r c n : ℕ) (x : Row) → Mostly m → slice_get m.table r ≡ Some x → is_ended x.phase ≡ false → Mostly (record m { table = updated (started c n) m.table r })
+mostly_started m r c n x h e q = record {
+  submissions = h.submissions;
+  completions = h.completions;
+  entries_wait = h.entries_wait;
+  completions_wait = h.completions_wait;
+  flags = h.flags;
+  front = h.front;
+  overflowed = let a = ended-unfinished (started c n) m.table r x e q refl in let b = h.overflowed in omega (arith, a, b);
+  rows = let a = length-updated (started c n) m.table r in let b = h.rows in omega (arith, a, b);
+  chained = chained-updated (started c n) m.table r (λ y. refl) h.chained;
+  world = h.world;
+  counted = h.counted ∙ sym (counted-unfinished (started c n) m.table r x e q refl);
+  clock = h.clock;
+  threads = h.threads;
+}
+
+-- Rows of which one is issued: none more has ended, and they are well formed.
+record Started (m : Machine) (rows : List Row) : Type 0 where
+  mostly : Mostly (record m { table = rows })
+  ended : ended_of rows ≡ ended_of m.table
+  formed : FormedRows m.world rows
+
+started_one : (m : Machine) (rows : List Row) (r c n : ℕ) (x : Row) → Started m rows → slice_get rows r ≡ Some x → is_ended x.phase ≡ false → lacks_descriptor m.world x ≡ false → Started m (updated (started c n) rows r)
+started_one m rows r c n x s e q l = record {
+  mostly = mostly_started (record m { table = rows }) r c n x s.mostly e q;
+  ended = ended-unfinished (started c n) rows r x e q refl ∙ s.ended;
+  formed = formed_rows-updated m.world (started c n) rows r row s.formed;
+}
+  where
+    row : (y : Row) → slice_get rows r ≡ Some y → RowFormed m.world (started c n y)
+    row y k =
         let same : x ≡ y = let o = sym e ∙ k in cc in
-        subst (λ (z : Row). RowFormed m.world (record z { phase = Issued; held = held_by z })) same (issued_row m.world x q l (h.requests r x e))
+        subst (λ (z : Row). RowFormed m.world (started c n z)) same (started_row m.world c n x q l (s.formed.each r x e))
+
+-- a guard uses no descriptor
+guard_lacks_none : (w : WorldState) (y : Row) → is_guard y ≡ true → lacks_descriptor w y ≡ false
+guard_lacks_none w y g = ap (λ n. uses_descriptor n && not (is_usable y (descriptor_at w y.entry.fd))) (eqb-true y.entry.opcode 15 g)
+
+queued_not_ended : (p : Phase) → is_queued p ≡ true → is_ended p ≡ false
+queued_not_ended Queued h = refl
+queued_not_ended Issued h = absurd cc
+queued_not_ended (Ended n) h = absurd cc
+
+pub formed_issued : (m : Machine) (r : ℕ) (x : Row) → WellFormed m → slice_get m.table r ≡ Some x → x.phase ≡ Queued → is_guard x ≡ false → lacks_descriptor m.world x ≡ false → WellFormed (record m { table = all_started m.clock m.counted m.table r })
+formed_issued m r x h e q plain l = by (slice_get m.table (r + 1)) refl
+  where
+    f : Row → Row
+    f = started m.clock m.counted
+
+    first : Started m (updated f m.table r)
+    first = started_one m m.table r m.clock m.counted x (record { mostly = mostly m h; ended = refl; formed = record { each = h.requests } }) e (ap is_ended q) l
+
+    whole : (rows : List Row) → all_started m.clock m.counted m.table r ≡ rows → Started m rows → WellFormed (record m { table = all_started m.clock m.counted m.table r })
+    whole rows k s = subst (λ rs. WellFormed (record m { table = rs })) (sym k)
+        (formed_of (record m { table = rows }) s.mostly (subst (λ n. PutsWithin (65536 * n) m.world) (sym s.ended) h.puts) s.formed
+        (subst AllGuardsStand k (started_guards m.clock m.counted m.table r x e q plain h.guards)))
+
+    told : (b : Bool) → option_map_or (is_guard_of r) (slice_get m.table (r + 1)) false ≡ b → all_started m.clock m.counted m.table r ≡ (if b then updated f (updated f m.table r) (r + 1) else updated f m.table r)
+    told b k = ap (λ (d : Bool). if d then updated f (updated f m.table r) (r + 1) else updated f m.table r) k
+
+    chosen : (y : Row) → slice_get m.table (r + 1) ≡ Some y → (b : Bool) → is_guard_of r y ≡ b → WellFormed (record m { table = all_started m.clock m.counted m.table r })
+    chosen y g false k = whole (updated f m.table r) (told false (ap (λ o. option_map_or (is_guard_of r) o false) g ∙ k)) first
+    chosen y g true k =
+        let t = guard_told r y k in
+        whole (updated f (updated f m.table r) (r + 1)) (told true (ap (λ o. option_map_or (is_guard_of r) o false) g ∙ k))
+        (started_one m (updated f m.table r) (r + 1) m.clock m.counted y first (apart f m.table r (r + 1) (λ o. absurd (omega (arith, o))) ∙ g) (queued_not_ended y.phase t.queued) (guard_lacks_none m.world y t.guard))
+
+    by : (o : Option Row) → slice_get m.table (r + 1) ≡ o → WellFormed (record m { table = all_started m.clock m.counted m.table r })
+    by None g = whole (updated f m.table r) (told false (ap (λ o. option_map_or (is_guard_of r) o false) g)) first
+    by (Some y) g = chosen y g (is_guard_of r y) refl
 
 -- ---- the memory and the objects change
 
@@ -208,7 +262,7 @@ pub rows_moved : (m : Machine) (w : WorldState) → WellFormed m → OneWorldSet
 rows_moved m w h s = formed_rows-moved m.world w m.table s (record { each = h.requests })
 
 pub formed_world : (m : Machine) (w : WorldState) → WellFormed m → WorldFormed w → PutsWithin (65536 * ended_of m.table) w → OneWorldSetup m.world w → WellFormed (record m { world = w })
-formed_world m w h f puts s = formed_of (record m { world = w }) (mostly_world m w (mostly m h) f) puts (rows_moved m w h s)
+formed_world m w h f puts s = formed_of (record m { world = w }) (mostly_world m w (mostly m h) f) puts (rows_moved m w h s) h.guards
 
 -- ---- words of the rings
 
@@ -225,6 +279,7 @@ formed_put m slot entry h = record {
   world = h.world;
   puts = h.puts;
   requests = h.requests;
+  guards = h.guards;
   counted = h.counted;
   chained = h.chained;
   clock = h.clock;
@@ -249,6 +304,7 @@ formed_push m x h b l = record {
   world = h.world;
   puts = h.puts;
   requests = h.requests;
+  guards = h.guards;
   counted = h.counted;
   chained = h.chained;
   clock = h.clock;
@@ -271,6 +327,7 @@ formed_taken_out m h l = record {
   world = h.world;
   puts = h.puts;
   requests = h.requests;
+  guards = h.guards;
   counted = h.counted;
   chained = h.chained;
   clock = h.clock;

@@ -1,41 +1,42 @@
 -- The rows that a submission adds, and what holds of each row.
-use Rattle.std.proofs.Common.{◌≡◌, ℕ, zero, suc, Bool, true, false, cond, refl, sym, ◌∙◌, ap, subst, List, [], ◌∷◌, ◌++◌, length, ◌+◌, ◌≤◌, ◌⊎◌, inl, inr, length-take, arith}
-use Rattle.std.specs.Prelude.{Option, Some, None, IsSome, is_some, option_map, slice_get, is_ok, bit_and, ◌==◌, ◌&&◌, if◌then◌else◌}
-use Rattle.std.specs.List.{filter, prefix_len}
+use Rattle.std.proofs.Common.{◌≡◌, ℕ, ℤ, zero, suc, Bool, true, false, not, cond, refl, sym, ◌∙◌, ap, subst, List, [], ◌∷◌, ◌++◌, length, ◌+◌, ◌*◌, ◌^◌, ◌<◌, ◌≤◌, ◌⊎◌, inl, inr, arith}
+use Rattle.std.specs.Prelude.{Option, Some, None, IsSome, is_some, slice_get, is_ok, bit_and, nat_lt, Result, Ok, Err, ◌==◌, ◌&&◌, ◌||◌, if◌then◌else◌}
+use Rattle.std.specs.Option.{option_and_then}
+use Rattle.std.specs.Result.{result_err}
+use Rattle.std.specs.List.{filter}
+use Rattle.std.proofs.lemmas.Bool.{eqb-true}
+use Rattle.std.proofs.lemmas.Bool.Decides.{nat_tests}
 use Rattle.entries.specs.declared.entry.Sqe.{Sqe}
 use Rattle.entries.specs.declared.row.Row.{Row}
 use Rattle.entries.specs.declared.row.Phase.{Phase}
 use Rattle.entries.specs.declared.row.Phase.TheVariants.{Queued, Issued, Ended}
-use Rattle.model_files.specs.Worlds.{WorldState, OneSetup as OneWorldSetup}
+use Rattle.model_files.specs.Worlds.{WorldState, number_at, OneSetup as OneWorldSetup}
 use Rattle.model_files.proofs.Restoring.{descriptor_alike}
 use Rattle.opcodes.specs.declared.op.Op.{Op}
-use Rattle.opcodes.specs.Check.{row_of, op_of, invalid, refused_flags}
-use Rattle.opcodes.specs.Opcodes.{fits_end}
+use Rattle.opcodes.specs.declared.op.Op.TheVariants.{Timeout, LinkTimeout}
+use Rattle.opcodes.specs.Check.{bad_address, can_guard, check_of, row_of, op_of, invalid, refused_flags, time_at, time_of, timed}
+use Rattle.opcodes.specs.Opcodes.{fits_end, is_timer}
 use Rattle.places.specs.Lists.{updated}
 use Rattle.links_drains.specs.Phases.{is_ended, is_issued, is_unfinished, counts, counted_of}
-use Rattle.links_drains.specs.Rows.{new_row}
-use Rattle.links_drains.specs.Batches.{passes, rows_of, chain_of}
+use Rattle.links_drains.specs.Batches.{behind_in, error_at, error_of, rows_of}
 use Rattle.links_drains.proofs.Counting.{matching-more}
-use Rattle.links_drains.proofs.Chains.{get-batch}
-use Rattle.machine.specs.Submission.{passes_at, batch_of, entries_at}
-use Rattle.machine.specs.Whole.{HoldsDescriptor, RowFormed}
+use Rattle.links_drains.proofs.Chains.{became}
+use Rattle.machine.specs.Submission.{entries_at}
+use Rattle.machine.specs.Whole.{HoldsDescriptor, IsTime, RowFormed}
 use Rattle.machine.proofs.ListsChanged.{updated_get}
 
 -- ---- entries that pass
 
 -- an entry that passes has a supported opcode
-pub passes_supported : (e : Sqe) → passes e ≡ true → IsSome (op_of e.opcode)
-passes_supported e h = by (bit_and e.flags refused_flags == 0) (op_of e.opcode) h
+passes_supported : (w : WorldState) (behind : Option ℕ) (e : Sqe) → result_err (check_of w behind e) ≡ None → IsSome (op_of e.opcode)
+passes_supported w behind e h = by (bit_and e.flags refused_flags == 0) (op_of e.opcode) h
   where
-    by : (b : Bool) (o : Option Op) → is_ok (if b then row_of e None o else invalid) ≡ true → is_some o ≡ true
+    by : (b : Bool) (o : Option Op) → result_err (if b then row_of w behind e o else invalid) ≡ None → is_some o ≡ true
     by true (Some x) k = refl
     by true None k = absurd cc
     by false o k = absurd cc
 
 -- ---- how many
-
-pub length-batch_of : (slots : List Sqe) (ws : List ℕ) → length (batch_of slots ws) ≤ length ws
-length-batch_of slots ws = omega (arith, length-take (prefix_len (passes_at slots) ws + 1) ws)
 
 pub length-entries_at : (slots : List Sqe) (ws : List ℕ) → length (entries_at slots ws) ≤ length ws
 length-entries_at slots [] = omega arith
@@ -54,15 +55,11 @@ queued_none p (x ∷ rows) h =
     let n : cond (p x) 1 0 ≡ 0 = ap {B = ℕ} (λ t. cond t 1 0) (h 0 x refl) in
     omega (arith, a, b, n)
 
-batch_queued : (first : ℕ) (es : List Sqe) (i : ℕ) (x : Row) → slice_get (rows_of first es) i ≡ Some x → is_ended x.phase ≡ false
-batch_queued first es i x e = by (slice_get es i) (sym (get-batch first es i) ∙ e)
-  where
-    by : (o : Option Sqe) → option_map (λ e. new_row e (first + chain_of es i)) o ≡ Some x → is_ended x.phase ≡ false
-    by None k = absurd cc
-    by (Some s) k = let same : new_row s (first + chain_of es i) ≡ x = cc in ap (λ (y : Row). is_ended y.phase) (sym same)
+pub batch_queued : (w : WorldState) (first : ℕ) (es : List Sqe) (i : ℕ) (x : Row) → slice_get (rows_of w first es) i ≡ Some x → x.phase ≡ Queued
+batch_queued w first es i x e = ap (λ (y : Row). y.phase) (became w first es i x e).is
 
-pub counted-rows_of : (first : ℕ) (es : List Sqe) → counted_of (rows_of first es) ≡ 0
-counted-rows_of first es = queued_none (λ row. is_ended row.phase && counts row) (rows_of first es) (λ i x e. ap (λ b. b && counts x) (batch_queued first es i x e))
+pub counted-rows_of : (w : WorldState) (first : ℕ) (es : List Sqe) → counted_of (rows_of w first es) ≡ 0
+counted-rows_of w first es = queued_none (λ row. is_ended row.phase && counts row) (rows_of w first es) (λ i x e. ap (λ p. is_ended p && counts x) (batch_queued w first es i x e))
 
 -- ---- what holds of each row
 
@@ -77,26 +74,94 @@ ended_row w x h = by x.phase refl h
     by : (p : Phase) → x.phase ≡ p → is_ended p ≡ true → RowFormed w x
     by Queued e k = absurd cc
     by Issued e k = absurd cc
-    by (Ended n) e k = record { opcode = λ u. absurd (let o = ap is_unfinished (sym e) ∙ u in cc); holds = λ i. absurd (let o = ap is_issued (sym e) ∙ i in cc); untargeted = λ u. absurd (let o = ap is_unfinished (sym e) ∙ u in cc) }
+    by (Ended n) e k = record {
+      opcode = λ u. absurd (let o = ap is_unfinished (sym e) ∙ u in cc);
+      holds = λ i. absurd (let o = ap is_issued (sym e) ∙ i in cc);
+      time = λ u. absurd (let o = ap is_unfinished (sym e) ∙ u in cc);
+      timed = λ u. absurd (let o = ap is_unfinished (sym e) ∙ u in cc);
+      due = λ i. absurd (let o = ap is_issued (sym e) ∙ i in cc);
+    }
 
-queued_row : (w : WorldState) (e : Sqe) (n : ℕ) → IsSome (op_of e.opcode) → RowFormed w (new_row e n)
-queued_row w e n h = record { opcode = λ u. h; holds = λ i. absurd cc; untargeted = λ u. refl }
+-- ---- times
+
+-- a time that is read is one
+time_bound : (w : WorldState) (addr : ℕ) → IsTime (time_at w addr)
+time_bound w addr t h = by (nat_lt (number_at w addr) (2 ^ 63)) (nat_lt (number_at w (addr + 8)) (2 ^ 63)) refl refl h
+  where
+    by : (a b : Bool) → nat_lt (number_at w addr) (2 ^ 63) ≡ a → nat_lt (number_at w (addr + 8)) (2 ^ 63) ≡ b → (if a && b then Some (number_at w addr * 1000000000 + number_at w (addr + 8)) else None) ≡ Some t → t < 2 ^ 63 * 1000000001
+    by true true d e k =
+        let s : number_at w addr < 2 ^ 63 = grind (arith, nat_tests, d) in
+        let n : number_at w (addr + 8) < 2 ^ 63 = grind (arith, nat_tests, e) in
+        let same : number_at w addr * 1000000000 + number_at w (addr + 8) ≡ t = cc in
+        omega (arith, s, n, same)
+    by true false d e k = absurd cc
+    by false b d e k = absurd cc
+
+no_time : IsTime None
+no_time t h = absurd cc
+
+time_of_bound : (w : WorldState) (behind : Option ℕ) (e : Sqe) → IsTime (time_of w behind e)
+time_of_bound w behind e = by (is_timer e.opcode && is_ok (check_of w behind e))
+  where
+    by : (b : Bool) → IsTime (if b then time_at w e.addr else None)
+    by true = time_bound w e.addr
+    by false = no_time
+
+-- a timer that passes its tests has a time
+passes_timed : (w : WorldState) (behind : Option ℕ) (e : Sqe) → result_err (check_of w behind e) ≡ None → is_timer e.opcode ≡ true → IsSome (time_of w behind e)
+passes_timed w behind e h t = by_timer (check_of w behind e) refl h
+  where
+    timed_some : (op : Op) → result_err (timed w e op) ≡ None → is_some (time_at w e.addr) ≡ true
+    timed_some op k = one (not (e.len == 1)) (nat_lt 1 e.operation_flags) (nat_lt 65536 (e.addr + 16)) (is_some (time_at w e.addr)) refl k
+      where
+        one : (a b c d : Bool) → is_some (time_at w e.addr) ≡ d → result_err (if a then invalid else if b then invalid else if c then bad_address else if d then Ok op else invalid) ≡ None → is_some (time_at w e.addr) ≡ true
+        one true b c d m k = absurd cc
+        one false true c d m k = absurd cc
+        one false false true d m k = absurd cc
+        one false false false true m k = m
+        one false false false false m k = absurd cc
+
+    row_some : (n : ℕ) → n ≡ e.opcode → (n ≡ 11) ⊎ (n ≡ 15) → result_err (row_of w behind e (op_of n)) ≡ None → is_some (time_at w e.addr) ≡ true
+    row_some n m (inl k) g = let o : op_of n ≡ Some Timeout = ap op_of k in timed_some Timeout (sym (ap (λ x. result_err (row_of w behind e x)) o) ∙ g)
+    row_some n m (inr k) g =
+        let o : op_of n ≡ Some LinkTimeout = ap op_of k in
+        guard (can_guard behind && (e.off == 0)) (sym (ap (λ x. result_err (row_of w behind e x)) o) ∙ g)
+      where
+        guard : (b : Bool) → result_err (if b then timed w e LinkTimeout else invalid) ≡ None → is_some (time_at w e.addr) ≡ true
+        guard true p = timed_some LinkTimeout p
+        guard false p = absurd cc
+
+    kind : (e.opcode ≡ 11) ⊎ (e.opcode ≡ 15)
+    kind = by (e.opcode == 11) (e.opcode == 15) refl refl t
+      where
+        by : (a b : Bool) → (e.opcode == 11) ≡ a → (e.opcode == 15) ≡ b → (a || b) ≡ true → (e.opcode ≡ 11) ⊎ (e.opcode ≡ 15)
+        by true b p q r = inl (eqb-true e.opcode 11 p)
+        by false true p q r = inr (eqb-true e.opcode 15 q)
+        by false false p q r = absurd cc
+
+    there : is_some (time_at w e.addr) ≡ true
+    there = flags (bit_and e.flags refused_flags == 0) h
+      where
+        flags : (b : Bool) → result_err (if b then row_of w behind e (op_of e.opcode) else invalid) ≡ None → is_some (time_at w e.addr) ≡ true
+        flags true k = row_some e.opcode refl kind k
+        flags false k = absurd cc
+
+    by_timer : (r : Result Op ℤ) → check_of w behind e ≡ r → result_err r ≡ None → is_some (time_of w behind e) ≡ true
+    by_timer (Ok op) m k = ap (λ b. is_some (if b && is_ok (check_of w behind e) then time_at w e.addr else None)) t ∙ ap (λ r. is_some (if is_ok r then time_at w e.addr else None)) m ∙ there
+    by_timer (Err n) m k = absurd cc
 
 -- a row of a batch that passed its tests
-pub batch_row : (w : WorldState) (first : ℕ) (es : List Sqe) (i : ℕ) (x : Row) → slice_get (rows_of first es) i ≡ Some x → passes x.entry ≡ true → RowFormed w x
-batch_row w first es i x e p = by (slice_get es i) (sym (get-batch first es i) ∙ e)
-  where
-    by : (o : Option Sqe) → option_map (λ e. new_row e (first + chain_of es i)) o ≡ Some x → RowFormed w x
-    by None k = absurd cc
-    by (Some s) k = let same : new_row s (first + chain_of es i) ≡ x = cc in subst (RowFormed w) same (queued_row w s (first + chain_of es i) (passes_supported s (ap (λ (y : Row). passes y.entry) same ∙ p)))
-
--- the rows of a batch are queued, and have no target
-pub batch_untimed : (first : ℕ) (es : List Sqe) (i : ℕ) (x : Row) → slice_get (rows_of first es) i ≡ Some x → (is_issued x.phase ≡ false) × (x.target ≡ None)
-batch_untimed first es i x e = by (slice_get es i) (sym (get-batch first es i) ∙ e)
-  where
-    by : (o : Option Sqe) → option_map (λ e. new_row e (first + chain_of es i)) o ≡ Some x → (is_issued x.phase ≡ false) × (x.target ≡ None)
-    by None k = absurd cc
-    by (Some s) k = let same : new_row s (first + chain_of es i) ≡ x = cc in (ap (λ (y : Row). is_issued y.phase) (sym same), ap (λ (y : Row). y.target) (sym same))
+pub batch_row : (w : WorldState) (first : ℕ) (es : List Sqe) (i : ℕ) (x : Row) → slice_get (rows_of w first es) i ≡ Some x → error_at w es i ≡ None → RowFormed w x
+batch_row w first es i x e p =
+    let b = became w first es i x e in
+    let passes : result_err (check_of w (behind_in es i) b.entry) ≡ None = sym (ap (option_and_then (error_of w es i)) b.there) ∙ p in
+    subst (RowFormed w) (sym b.is) (record {
+      opcode = λ u. passes_supported w (behind_in es i) b.entry passes;
+      holds = λ j. absurd cc;
+      time = λ u. time_of_bound w (behind_in es i) b.entry;
+      timed = λ u t. passes_timed w (behind_in es i) b.entry passes t;
+      due = λ j. absurd cc;
+    })
 
 pub formed_rows-append : (w : WorldState) (xs ys : List Row) → FormedRows w xs → FormedRows w ys → FormedRows w (xs ++ ys)
 formed_rows-append w xs ys h k = record { each = at xs h.each }
@@ -116,7 +181,7 @@ formed_rows-updated w f rows r g h = record { each = λ j y e. by j y (updated_g
 
 -- in another world of the setup
 row_moved : (w v : WorldState) (x : Row) → OneWorldSetup w v → RowFormed w x → RowFormed v x
-row_moved w v x s h = record { opcode = h.opcode; holds = λ i u. there (h.holds i u); untargeted = h.untargeted }
+row_moved w v x s h = record { opcode = h.opcode; holds = λ i u. there (h.holds i u); time = h.time; timed = h.timed; due = h.due }
   where
     there : HoldsDescriptor w x → HoldsDescriptor v x
     there d = let e = descriptor_alike w v s d.fd d.descriptor d.there in record { fd = d.fd; held = d.held; descriptor = e.0; there = e.1; fits = ap (fits_end x.entry.opcode) e.2 ∙ d.fits }

@@ -1,6 +1,8 @@
 -- What a submission keeps.
 use Rattle.std.proofs.Common.{◌≡◌, ℕ, ℤ, Bool, true, false, refl, sym, ◌∙◌, ap, subst, List, ◌++◌, length, ◌+◌, ◌*◌, ◌-◌, ◌%◌, ◌<◌, ◌≤◌, ◌^◌, ◌⊎◌, inl, inr, length-append, length-take, arith}
-use Rattle.std.specs.Prelude.{Option, Some, None, slice_get, nat_lt}
+use Rattle.std.specs.Prelude.{Option, Some, None, is_none, slice_get, nat_lt, if◌then◌else◌}
+use Rattle.std.specs.List.{prefix_len}
+use Rattle.entries.specs.declared.entry.Sqe.{Sqe}
 use Rattle.std.proofs.lemmas.Bool.Decides.{nat_tests}
 use Rattle.std.proofs.lemmas.Grind.{common_steps}
 use Rattle.std.proofs.lemmas.Option.{gets}
@@ -8,39 +10,49 @@ use Rattle.entries.specs.declared.row.Row.{Row}
 use Rattle.ring_words.specs.Rings.{SubWords, SubFormed, waiting, sub_list}
 use Rattle.ring_words.proofs.Laws.{formed_taken, sub_length}
 use Rattle.ring_words.proofs.Order.{waiting_behind}
-use Rattle.links_drains.specs.Batches.{rows_of, direct_of}
+use Rattle.links_drains.specs.Batches.{errors_of, halts, rows_of, direct_of, taken_of}
 use Rattle.links_drains.specs.Endings.{result_in, Direct}
-use Rattle.model_files.specs.Worlds.{PutsWithin}
+use Rattle.model_files.specs.Worlds.{PutsWithin, WorldState}
 use Rattle.opcodes.proofs.Counting.{puts_more}
 use Rattle.timeouts_cancel.specs.Falls.{fall_of}
-use Rattle.links_drains.specs.Phases.{is_issued, ended_of}
+use Rattle.links_drains.specs.Links.{is_guard}
+use Rattle.links_drains.specs.Phases.{is_unfinished, ended_of}
 use Rattle.links_drains.proofs.Batching.{length-rows_of}
 use Rattle.links_drains.proofs.Chains.{chained-batch, get-behind}
 use Rattle.links_drains.proofs.Counting.{counted-append, ended-append}
 use Rattle.links_drains.proofs.DirectPairs.{direct-batch, unlisted_passes}
-use Rattle.timeouts_cancel.specs.Falls.{NoTimers}
-use Rattle.machine.specs.Submission.{offered, taken_words, taken_entries}
-use Rattle.machine.specs.Steps.{taken, submitted}
-use Rattle.machine.specs.Whole.{Mostly, RowFormed, WellFormed}
+use Rattle.timeouts_cancel.specs.Falls.{GuardsStand}
+use Rattle.machine.specs.Submission.{offered, offered_entries, taken_words, taken_entries, up_to_entry}
+use Rattle.machine.specs.Steps.{entries_for, taken, submitted, words_for}
+use Rattle.machine.specs.Whole.{GuardStands, Mostly, RowFormed, WellFormed}
 use Rattle.machine.specs.declared.whole.Machine.{Machine}
 use Rattle.machine.proofs.FormedMachines.{mostly}
 use Rattle.machine.proofs.Endings.{formed_fallen_but}
-use Rattle.machine.proofs.Untimed.{untimed_but}
-use Rattle.machine.proofs.FormedRows.{length-batch_of, length-entries_at, counted-rows_of, batch_row, batch_untimed}
+use Rattle.machine.proofs.GuardLemmas.{batch_behind, batch_guard, guard_before, stand_behind}
+use Rattle.machine.proofs.TakingWords.{length-up_to_entry}
+use Rattle.machine.proofs.FormedRows.{length-entries_at, counted-rows_of, batch_row}
 
 -- ---- how many
 
 pub length-offered : (w : SubWords) (k : ℕ) → SubFormed w → length (offered w k) ≤ waiting w.head w.tail
 length-offered w k f = let a = length-take k (sub_list w) in let b = sub_length w f in omega (arith, a, b)
 
-pub length-taken_words : (b : Bool) (w : SubWords) (k : ℕ) → length (taken_words b w k) ≤ length (offered w k)
-length-taken_words true w k = omega arith
-length-taken_words false w k = length-batch_of w.slots (offered w k)
+pub length-taken_words : (b : Bool) (v : WorldState) (w : SubWords) (k : ℕ) → length (taken_words b v w k) ≤ length (offered w k)
+length-taken_words b v w k = by (halts b v (offered_entries w k))
+  where
+    by : (c : Bool) → length (if c then up_to_entry w.slots (length (taken_entries b v w k)) (offered w k) else offered w k) ≤ length (offered w k)
+    by true = length-up_to_entry w.slots (length (taken_entries b v w k)) (offered w k)
+    by false = omega arith
 
-pub length-taken_entries : (b : Bool) (w : SubWords) (k : ℕ) → length (taken_entries b w k) ≤ length (offered w k)
-length-taken_entries b w k =
-    let a = length-entries_at w.slots (taken_words b w k) in
-    let c = length-taken_words b w k in
+-- no more are taken than are offered
+length-taken_of : (b : Bool) (v : WorldState) (es : List Sqe) → length (taken_of b v es) ≤ length es
+length-taken_of true v es = omega arith
+length-taken_of false v es = let a = length-take (prefix_len is_none (errors_of v es) + 1) es in omega (arith, a)
+
+pub length-taken_entries : (b : Bool) (v : WorldState) (w : SubWords) (k : ℕ) → length (taken_entries b v w k) ≤ length (offered w k)
+length-taken_entries b v w k =
+    let a = length-taken_of b v (offered_entries w k) in
+    let c = length-entries_at w.slots (offered w k) in
     omega (arith, a, c)
 
 pub waits_behind : (h t k n : ℕ) → h < 2 ^ 32 → t < 2 ^ 32 → k ≤ waiting h t → waiting h t ≤ n → waiting ((h + k) % 2 ^ 32) t ≤ n
@@ -55,15 +67,15 @@ pub mostly_taken : (m : Machine) (k : ℕ) → Mostly m → length m.table + len
 mostly_taken m k h l = record {
   submissions = formed_taken m.submissions _ _ h.submissions (below_wrap _) (below_wrap _);
   completions = h.completions;
-  entries_wait = waits_behind m.submissions.head m.submissions.tail (length (taken_words m.submit_all m.submissions k)) (length m.submissions.array) h.submissions.head h.submissions.tail (within (length-taken_words m.submit_all m.submissions k) (length-offered m.submissions k h.submissions)) h.entries_wait;
+  entries_wait = waits_behind m.submissions.head m.submissions.tail (length (words_for m k)) (length m.submissions.array) h.submissions.head h.submissions.tail (within (length-taken_words m.submit_all m.world m.submissions k) (length-offered m.submissions k h.submissions)) h.entries_wait;
   completions_wait = h.completions_wait;
   flags = h.flags;
   front = h.front;
-  overflowed = let a = ended-append m.table (rows_of (length m.table) (taken_entries m.submit_all m.submissions k)) in let b = h.overflowed in omega (arith, a, b);
-  rows = count (length-append m.table (rows_of (length m.table) (taken_entries m.submit_all m.submissions k))) (length-rows_of (length m.table) (taken_entries m.submit_all m.submissions k)) (length-taken_entries m.submit_all m.submissions k);
-  chained = chained-batch m.table (taken_entries m.submit_all m.submissions k) h.chained;
+  overflowed = let a = ended-append m.table (rows_of m.world (length m.table) (entries_for m k)) in let b = h.overflowed in omega (arith, a, b);
+  rows = count (length-append m.table (rows_of m.world (length m.table) (entries_for m k))) (length-rows_of m.world (length m.table) (entries_for m k)) (length-taken_entries m.submit_all m.world m.submissions k);
+  chained = chained-batch m.world m.table (entries_for m k) h.chained;
   world = h.world;
-  counted = h.counted ∙ more (counted-append m.table (rows_of (length m.table) (taken_entries m.submit_all m.submissions k))) (counted-rows_of (length m.table) (taken_entries m.submit_all m.submissions k));
+  counted = h.counted ∙ more (counted-append m.table (rows_of m.world (length m.table) (entries_for m k))) (counted-rows_of m.world (length m.table) (entries_for m k));
   clock = h.clock;
   threads = h.threads;
 }
@@ -93,45 +105,51 @@ old_or_new rows more j y h = by (nat_lt j (length rows)) refl
 
 -- the rows of a batch that don't end at once are well formed
 pub formed_submitted : (m : Machine) (k : ℕ) → WellFormed m → length m.table + length (offered m.submissions k) ≤ 65536 → WellFormed (submitted m k)
-formed_submitted m k f l = formed_fallen_but (taken m k) direct (mostly_taken m k (mostly m f) l) puts (λ j y e. by j y (old_or_new m.table batch j y e))
+formed_submitted m k f l = formed_fallen_but (taken m k) direct (mostly_taken m k (mostly m f) l) puts (λ j y e. by j y (old_or_new m.table batch j y e)) (λ r x e g u n. guarded r x g u n (old_or_new m.table batch r x e))
   where
     batch : List Row
-    batch = rows_of (length m.table) (taken_entries m.submit_all m.submissions k)
+    batch = rows_of m.world (length m.table) (entries_for m k)
 
     direct : List (ℕ × ℤ)
-    direct = direct_of (length m.table) (taken_entries m.submit_all m.submissions k)
+    direct = direct_of m.world (length m.table) (entries_for m k)
 
     puts : PutsWithin (65536 * (ended_of (taken m k).table + length (fall_of (taken m k).table m.counted direct))) m.world
     puts = puts_more (65536 * ended_of m.table) _ m.world (let a = ended-append m.table batch in omega (arith, a)) f.puts
 
     at : (i : ℕ) (y : Row) → slice_get batch i ≡ Some y → (o : Option ℤ) → result_in direct (length m.table + i) ≡ o → RowFormed m.world y ⊎ ((res : ℤ) × (result_in direct (length m.table + i) ≡ Some res))
-    at i y e None g = inl (batch_row m.world (length m.table) (taken_entries m.submit_all m.submissions k) i y e (unlisted_passes (length m.table) (taken_entries m.submit_all m.submissions k) i y e g))
+    at i y e None g = inl (batch_row m.world (length m.table) (entries_for m k) i y e (unlisted_passes m.world (length m.table) (entries_for m k) i y e g))
     at i y e (Some res) g = inr (res, g)
 
     by : (j : ℕ) (y : Row) → (slice_get m.table j ≡ Some y) ⊎ ((i : ℕ) × (j ≡ length m.table + i) × (slice_get batch i ≡ Some y)) → RowFormed m.world y ⊎ ((res : ℤ) × (result_in direct j ≡ Some res))
     by j y (inl e) = inl (f.requests j y e)
     by j y (inr e) = subst (λ n. RowFormed m.world y ⊎ ((res : ℤ) × (result_in direct n ≡ Some res))) (sym e.1) (at e.0 y e.2 (result_in direct (length m.table + e.0)) refl)
 
+    guarded : (r : ℕ) (x : Row) → is_guard x ≡ true → is_unfinished x.phase ≡ true → result_in direct r ≡ None → (slice_get m.table r ≡ Some x) ⊎ ((i : ℕ) × (r ≡ length m.table + i) × (slice_get batch i ≡ Some x)) → GuardStands (m.table ++ batch) r x
+    guarded r x g u n (inl e) = guard_before m.table batch r x (f.guards r x e g u)
+    guarded r x g u n (inr e) =
+        let none = sym (ap (result_in direct) e.1) ∙ n in
+        subst (λ j. GuardStands (m.table ++ batch) j x) (sym e.1) (batch_guard m.world m.table (entries_for m k) e.0 x e.2 g (unlisted_passes m.world (length m.table) (entries_for m k) e.0 x e.2 none))
+
 -- ---- what its fall asks of the machine
 
 pub record FallsIn (n : Machine) (direct : List (ℕ × ℤ)) : Type 0 where
   pub direct_rows : Direct n.table direct
-  pub untimed : NoTimers n.table
+  pub guards : GuardsStand n.table
   pub mostly : Mostly n
 
-pub falls_in : (m n : Machine) (k : ℕ) → WellFormed m → length m.table + length (offered m.submissions k) ≤ 65536 → n ≡ taken m k → FallsIn n (direct_of (length m.table) (taken_entries m.submit_all m.submissions k))
+pub falls_in : (m n : Machine) (k : ℕ) → WellFormed m → length m.table + length (offered m.submissions k) ≤ 65536 → n ≡ taken m k → FallsIn n (direct_of m.world (length m.table) (entries_for m k))
 falls_in m n k f l e = subst (λ (x : Machine). FallsIn x direct) (sym e) (record {
-  direct_rows = direct-batch m.table (taken_entries m.submit_all m.submissions k);
-  untimed = untimed_but m.world (taken m k).table (λ j y h. by j y (old_or_new m.table batch j y h));
+  direct_rows = direct-batch m.world m.table (entries_for m k);
+  guards = λ r t x h g u w. by r t x g u w (old_or_new m.table batch r x h);
   mostly = mostly_taken m k (mostly m f) l;
 })
   where
     batch : List Row
-    batch = rows_of (length m.table) (taken_entries m.submit_all m.submissions k)
+    batch = rows_of m.world (length m.table) (entries_for m k)
 
     direct : List (ℕ × ℤ)
-    direct = direct_of (length m.table) (taken_entries m.submit_all m.submissions k)
+    direct = direct_of m.world (length m.table) (entries_for m k)
 
-    by : (j : ℕ) (y : Row) → (slice_get m.table j ≡ Some y) ⊎ ((i : ℕ) × (j ≡ length m.table + i) × (slice_get batch i ≡ Some y)) → RowFormed m.world y ⊎ ((is_issued y.phase ≡ false) × (y.target ≡ None))
-    by j y (inl h) = inl (f.requests j y h)
-    by j y (inr h) = inr (batch_untimed (length m.table) (taken_entries m.submit_all m.submissions k) h.0 y h.2)
+    by : (r t : ℕ) (x : Row) → is_guard x ≡ true → is_unfinished x.phase ≡ true → x.target ≡ Some t → (slice_get m.table r ≡ Some x) ⊎ ((i : ℕ) × (r ≡ length m.table + i) × (slice_get batch i ≡ Some x)) → t + 1 ≡ r
+    by r t x g u w (inl h) = stand_behind m.table f.guards r t x h g u w
+    by r t x g u w (inr h) = batch_behind m.world (length m.table) (entries_for m k) h.0 t x h.2 g w ∙ sym h.1

@@ -69,6 +69,7 @@ formed_thread m f t x h e s = record {
   world = h.world;
   puts = h.puts;
   requests = h.requests;
+  guards = h.guards;
   counted = h.counted;
   chained = h.chained;
   clock = h.clock;

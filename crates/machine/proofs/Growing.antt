@@ -3,7 +3,7 @@ use Rattle.std.proofs.Common.{◌≡◌, ℕ, ℤ, pos, negsuc, Bool, true, fals
 use Rattle.std.specs.Prelude.{Option, Some, None, is_some, min, slice_get, nat_lt, ◌==◌, ◌&&◌, ◌||◌, if◌then◌else◌}
 use Rattle.entries.specs.declared.completion.Cqe.{Cqe}
 use Rattle.entries.specs.declared.row.Row.{Row}
-use Rattle.entries.specs.declared.row.Phase.TheVariants.{Issued, Ended}
+use Rattle.entries.specs.declared.row.Phase.TheVariants.{Ended}
 use Rattle.places.specs.Lists.{updated}
 use Rattle.places.proofs.ListLemmas.{length-updated}
 use Rattle.places.specs.declared.value.Stage.{Stage}
@@ -25,9 +25,10 @@ use Rattle.sqpoll.specs.declared.poller.Poller.{Poller}
 use Rattle.sqpoll.specs.declared.poller.Poller.TheVariants.{Awake, Asleep}
 use Rattle.model_files.proofs.Fixing as worlds
 use Rattle.machine.specs.Cancels.{verdict_of, ending_with}
-use Rattle.machine.specs.Submission.{taken_entries, einval, ebusy, ebadf}
+use Rattle.machine.specs.Submission.{einval, ebusy, ebadf}
 use Rattle.timeouts_cancel.specs.Falls.{fall_of}
-use Rattle.machine.specs.Steps.{refusal, sleep_refusal, after, stepped, executed, entered, entered_alone, entered_beside, submitting, before_submission, is_busy, is_unknown, gets_events, wakes, woken, shown, awaited, ready_count, held_back, with_poller, closed, is_open, posted, flushed, completions_of, ended, all_ended, fallen, taken, submitted, answered, issued, cancelled, finished, finished_as, lacks_descriptor, held_by}
+use Rattle.std.specs.Option.{option_map_or}
+use Rattle.machine.specs.Steps.{refusal, sleep_refusal, after, stepped, executed, entered, entered_alone, entered_beside, submitting, before_submission, is_busy, is_unknown, gets_events, wakes, woken, shown, awaited, ready_count, held_back, with_poller, closed, is_open, posted, flushed, completions_of, ended, all_ended, fallen, taken, submitted, answered, issued, cancelled, finished, finished_as, lacks_descriptor, all_started, entries_for, expired, expiring, is_guard_of, started, waiting_target}
 use Rattle.machine.specs.Threads.{ThreadState, program_of}
 use Rattle.machine.specs.Whole.{Grows, WellFormed}
 use Rattle.scenario.specs.declared.setup.Instruction.{Instruction}
@@ -102,13 +103,13 @@ grows_more m more = record {
 pub grows_taken : (m : Machine) (k : ℕ) → Grows m (taken m k)
 grows_taken m k = record {
   setup = record { array = refl; slots = refl; completions = refl; world = worlds.setup_self _; programs = refl; poller = refl; submit_all = refl };
-  rows = let a = length-append m.table (rows_of (length m.table) (taken_entries m.submit_all m.submissions k)) in omega (arith, a);
-  stay = stay_append m.table (rows_of (length m.table) (taken_entries m.submit_all m.submissions k));
+  rows = let a = length-append m.table (rows_of m.world (length m.table) (entries_for m k)) in omega (arith, a);
+  stay = stay_append m.table (rows_of m.world (length m.table) (entries_for m k));
   backlog = le_refl _;
 }
 
 pub grows_submitted : (m : Machine) (k : ℕ) → Grows m (submitted m k)
-grows_submitted m k = grows_then m (taken m k) (submitted m k) (grows_taken m k) (grows_fallen (taken m k) (direct_of (length m.table) (taken_entries m.submit_all m.submissions k)))
+grows_submitted m k = grows_then m (taken m k) (submitted m k) (grows_taken m k) (grows_fallen (taken m k) (direct_of m.world (length m.table) (entries_for m k)))
 
 -- ---- threads
 
@@ -167,9 +168,9 @@ grows_before m k flags = by (gets_events flags || nat_lt 0 k)
 grows_submitting : (m : Machine) (t k w flags : ℕ) → Grows m (submitting m t k w flags)
 grows_submitting m t k w flags = by (is_busy m k)
   where
-    by : (b : Bool) → Grows m (if b then answered m t ebusy else awaited (submitted m k) t (length (taken_entries m.submit_all m.submissions k)) k w flags)
+    by : (b : Bool) → Grows m (if b then answered m t ebusy else awaited (submitted m k) t (length (entries_for m k)) k w flags)
     by true = grows_answered m t ebusy
-    by false = grows_then m (submitted m k) _ (grows_submitted m k) (grows_awaited (submitted m k) t (length (taken_entries m.submit_all m.submissions k)) k w flags)
+    by false = grows_then m (submitted m k) _ (grows_submitted m k) (grows_awaited (submitted m k) t (length (entries_for m k)) k w flags)
 
 grows_entered : (m : Machine) (t k w flags : ℕ) → Grows m (entered m m.poller t k w flags)
 grows_entered m t k w flags = by m.poller refl
@@ -263,18 +264,26 @@ has_poller m h = by m.poller h
     by None k = absurd cc
     by (Some p) k = refl
 
+-- a row is issued by itself
+pub grows_started : (m : Machine) (r c n : ℕ) → Grows m (record m { table = updated (started c n) m.table r })
+grows_started m r c n = record {
+  setup = record { array = refl; slots = refl; completions = refl; world = worlds.setup_self _; programs = refl; poller = refl; submit_all = refl };
+  rows = let a = length-updated (started c n) m.table r in omega (arith, a);
+  stay = stay_updated (started c n) m.table r (λ x. refl);
+  backlog = le_refl _;
+}
+
 pub grows_issued : (m : Machine) (r : ℕ) (o : Option Row) → Grows m (issued m r o)
 grows_issued m r None = grows_self m
 grows_issued m r (Some x) = by (lacks_descriptor m.world x)
   where
-    by : (b : Bool) → Grows m (if b then fallen m ((r, ebadf) ∷ []) else record m { table = updated (λ row. record row { phase = Issued; held = held_by row }) m.table r })
+    by : (b : Bool) → Grows m (if b then fallen m ((r, ebadf) ∷ []) else record m { table = all_started m.clock m.counted m.table r })
     by true = grows_fallen m ((r, ebadf) ∷ [])
-    by false = record {
-      setup = record { array = refl; slots = refl; completions = refl; world = worlds.setup_self _; programs = refl; poller = refl; submit_all = refl };
-      rows = let a = length-updated (λ (row : Row). record row { phase = Issued; held = held_by row }) m.table r in omega (arith, a);
-      stay = stay_updated (λ (row : Row). record row { phase = Issued; held = held_by row }) m.table r (λ x. refl);
-      backlog = le_refl _;
-    }
+    by false = started_with (option_map_or (is_guard_of r) (slice_get m.table (r + 1)) false)
+      where
+        started_with : (b : Bool) → Grows m (record m { table = if b then updated (started m.clock m.counted) (updated (started m.clock m.counted) m.table r) (r + 1) else updated (started m.clock m.counted) m.table r })
+        started_with true = grows_then m (record m { table = updated (started m.clock m.counted) m.table r }) _ (grows_started m r m.clock m.counted) (grows_started (record m { table = updated (started m.clock m.counted) m.table r }) (r + 1) m.clock m.counted)
+        started_with false = grows_started m r m.clock m.counted
 
 pub grows_finished : (m : Machine) (r : ℕ) (c : Choice) → WellFormed m → (o : Option Row) → Grows m (finished m r o c)
 grows_finished m r c f None = grows_self m
@@ -291,11 +300,15 @@ grows_finished m r c f (Some x) = choosing (is_cancel x.entry.opcode)
     choosing true = grows_fallen m (ending_with r (verdict_of m.table m.world r x.entry))
     choosing false = by (outcome_of (is_held_by m.table) m.world x c) refl
 
+pub grows_expired : (m : Machine) (r : ℕ) (o : Option Row) → Grows m (expired m r o)
+grows_expired m r None = grows_self m
+grows_expired m r (Some x) = grows_fallen m (expiring r (waiting_target m.table m.world x x.target))
+
 pub grows_after : (m : Machine) (e : Event) → WellFormed m → refusal m e ≡ None → Grows m (after m e)
 grows_after m (Step t) f h = grows_stepped m t f (slice_get m.threads t) refl
 grows_after m (Take n) f h = grows_submitted m n
 grows_after m Sleep f h = grows_poller m Asleep (has_poller m h)
 grows_after m (Issue r) f h = grows_issued m r (slice_get m.table r)
 grows_after m (Finish r c) f h = grows_finished m r c f (slice_get m.table r)
-grows_after m (Expire r) f h = grows_self m
+grows_after m (Expire r) f h = grows_expired m r (slice_get m.table r)
 grows_after m (Tick d) f h = record { setup = record { array = refl; slots = refl; completions = refl; world = worlds.setup_self _; programs = refl; poller = refl; submit_all = refl }; rows = le_refl _; stay = λ r l. refl; backlog = le_refl _ }

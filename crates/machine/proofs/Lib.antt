@@ -12,7 +12,8 @@ pub mod FormedRows
 pub mod FormedThreads
 pub mod FormedMachines
 pub mod Growing
-pub mod Untimed
+pub mod GuardLemmas
+pub mod ExpiryLemmas
 pub mod CancelLemmas
 pub mod Endings
 pub mod FormedSubmissions

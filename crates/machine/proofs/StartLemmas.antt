@@ -196,6 +196,7 @@ formed_start s h b w =
       world = world_start_formed s.memory s.objects s.fds (memory_fits s a) (objects_fit s a);
       puts = puts_start s.memory s.objects s.fds;
       requests = λ r x k. absurd (none_there x k);
+      guards = λ r x k. absurd (none_there x k);
       chained = chained-none;
       counted = refl;
       clock = omega arith;

@@ -1,54 +1,17 @@
 -- How far the words of the submission ring have been read, and which entries they name.
-use Rattle.std.proofs.Common.{◌≡◌, ℕ, zero, suc, Bool, true, false, cond, refl, sym, ◌∙◌, ap, List, [], ◌∷◌, ◌++◌, length, take, ◌+◌, ◌<◌, ◌≤◌, arith}
-use Rattle.std.specs.Prelude.{Option, Some, None, slice_get, min}
-use Rattle.std.specs.Option.{option_map_or}
+use Rattle.std.proofs.Common.{◌≡◌, ℕ, zero, suc, Bool, true, false, cond, refl, sym, ◌∙◌, ap, List, [], ◌∷◌, ◌++◌, length, take, drop, ◌+◌, ◌-◌, ◌<◌, ◌≤◌, arith}
+use Rattle.std.specs.Prelude.{Option, Some, None, is_some, slice_get, min}
 use Rattle.std.proofs.lemmas.Grind.{common_steps}
-use Rattle.std.specs.List.{prefix_len}
 use Rattle.std.proofs.Math.Dec.{ltb}
 use Rattle.std.proofs.lemmas.Bool.Decides.{nat_tests}
 use Rattle.std.proofs.lemmas.List.{append-nil, take_more}
 use Rattle.std.proofs.lemmas.List.Elements.{filter_map-append}
 use Rattle.std.proofs.lemmas.Option.{slice_get_within, get_or_from_slice_get}
 use Rattle.entries.specs.declared.entry.Sqe.{Sqe}
-use Rattle.places.proofs.ListLemmas.{slice_get-take_below}
-use Rattle.ring_words.specs.Rings.{SubWords, sub_list}
-use Rattle.links_drains.specs.Batches.{passes, up_to_failure, taken_of}
-use Rattle.machine.specs.Submission.{offered, passes_at, batch_of, entries_at, taken_entries}
-
--- ---- how many pass
-
-pub prefix_on : {X : Type 0} (p : X → Bool) (xs : List X) (i : ℕ) (x : X) → i ≤ prefix_len p xs → slice_get xs i ≡ Some x → p x ≡ true → i + 1 ≤ prefix_len p xs
-prefix_on p [] i x h g t = absurd cc
-prefix_on p (y ∷ ys) zero x h g t = let e : y ≡ x = cc in rw (e, t) (omega arith)
-prefix_on p (y ∷ ys) (suc i) x h g t = by (p y) h (λ k. prefix_on p ys i x k g t)
-  where
-    by : (b : Bool) → suc i ≤ cond b (1 + prefix_len p ys) 0 → (i ≤ prefix_len p ys → i + 1 ≤ prefix_len p ys) → suc i + 1 ≤ cond b (1 + prefix_len p ys) 0
-    by true k f = let m = f (omega (arith, k)) in omega (arith, m)
-    by false k f = absurd (omega (arith, k))
-
-pub prefix_end : {X : Type 0} (p : X → Bool) (xs : List X) (i : ℕ) (x : X) → i ≤ prefix_len p xs → slice_get xs i ≡ Some x → p x ≡ false → i ≡ prefix_len p xs
-prefix_end p [] i x h g t = absurd cc
-prefix_end p (y ∷ ys) zero x h g t = let e : y ≡ x = cc in rw (e, t) refl
-prefix_end p (y ∷ ys) (suc i) x h g t = by (p y) h (λ k. prefix_end p ys i x k g t)
-  where
-    by : (b : Bool) → suc i ≤ cond b (1 + prefix_len p ys) 0 → (i ≤ prefix_len p ys → i ≡ prefix_len p ys) → suc i ≡ cond b (1 + prefix_len p ys) 0
-    by true k f = let m = f (omega (arith, k)) in omega (arith, m)
-    by false k f = absurd (omega (arith, k))
-
-pub prefix_most : {X : Type 0} (p : X → Bool) (xs : List X) → prefix_len p xs ≤ length xs
-prefix_most p [] = omega arith
-prefix_most p (x ∷ xs) = by (p x) (prefix_most p xs)
-  where
-    by : (b : Bool) → prefix_len p xs ≤ length xs → cond b (1 + prefix_len p xs) 0 ≤ suc (length xs)
-    by true m = omega (arith, m)
-    by false m = omega arith
+use Rattle.machine.specs.Submission.{entries_at, up_to_entry}
 
 pub lt-ltb : (a b : ℕ) → a < b → ltb a b ≡ true
 lt-ltb a b h = grind (arith, nat_tests)
-
--- a word that waits is one of those that are offered
-pub offered_get : (w : SubWords) (k i x : ℕ) → slice_get (sub_list w) i ≡ Some x → i < k → slice_get (offered w k) i ≡ Some x
-offered_get w k i x h l = slice_get-take_below (sub_list w) k i l ∙ h
 
 -- offering all that wait is offering no more
 pub take_least : {X : Type 0} (k : ℕ) (xs : List X) → take (min k (length xs)) xs ≡ take k xs
@@ -65,63 +28,89 @@ entries-named slots words x e h = filter_map-append (slice_get slots) words (x �
 pub entries-skipped : (slots : List Sqe) (words : List ℕ) (x : ℕ) → slice_get slots x ≡ None → entries_at slots (words ++ x ∷ []) ≡ entries_at slots words
 entries-skipped slots words x h = filter_map-append (slice_get slots) words (x ∷ []) ∙ ap (λ es. entries_at slots words ++ es) (rw h refl) ∙ append-nil (entries_at slots words)
 
--- ---- up to the first that fails
-
--- an entry that passes is not the last
-up_to_failure-passes : (e : Sqe) (es : List Sqe) → passes e ≡ true → up_to_failure (e ∷ es) ≡ e ∷ up_to_failure es
-up_to_failure-passes e es h =
-    let n : 1 + prefix_len passes es + 1 ≡ suc (prefix_len passes es + 1) = omega arith in
-    rw h (ap (λ k. take k (e ∷ es)) n)
-
--- one that fails is
-up_to_failure-fails : (e : Sqe) (es : List Sqe) → passes e ≡ false → up_to_failure (e ∷ es) ≡ e ∷ []
-up_to_failure-fails e es h = rw h refl
-
--- the words that a submission takes name the entries up to and with the first that fails
-pub entries_cut : (slots : List Sqe) (ws : List ℕ) → entries_at slots (batch_of slots ws) ≡ up_to_failure (entries_at slots ws)
-entries_cut slots [] = refl
-entries_cut slots (w ∷ ws) = by (slice_get slots w) refl (entries_cut slots ws)
+-- how many entries one word and others name
+entries_more : (slots : List Sqe) (x : ℕ) (words : List ℕ) → length (entries_at slots (x ∷ words)) ≡ cond (is_some (slice_get slots x)) (suc (length (entries_at slots words))) (length (entries_at slots words))
+entries_more slots x words = by (slice_get slots x) refl
   where
-    n : 1 + prefix_len (passes_at slots) ws + 1 ≡ suc (prefix_len (passes_at slots) ws + 1)
-    n = omega arith
+    by : (o : Option Sqe) → slice_get slots x ≡ o → length (entries_at slots (x ∷ words)) ≡ cond (is_some (slice_get slots x)) (suc (length (entries_at slots words))) (length (entries_at slots words))
+    by None h = rw h refl
+    by (Some e) h = rw h refl
 
-    goes_on : passes_at slots w ≡ true → batch_of slots (w ∷ ws) ≡ w ∷ batch_of slots ws
-    goes_on h = rw h (ap (λ k. take k (w ∷ ws)) n)
+-- ---- up to the n-th entry
 
-    listed : (e : Sqe) → slice_get slots w ≡ Some e → entries_at slots (w ∷ ws) ≡ e ∷ entries_at slots ws
-    listed e h = rw h refl
-
-    named : (e : Sqe) → slice_get slots w ≡ Some e → (b : Bool) → passes e ≡ b → entries_at slots (batch_of slots ws) ≡ up_to_failure (entries_at slots ws) → entries_at slots (batch_of slots (w ∷ ws)) ≡ up_to_failure (entries_at slots (w ∷ ws))
-    named e h true p k =
-        ap (entries_at slots) (goes_on (ap (λ o. option_map_or passes o true) h ∙ p))
-        ∙ rw h (ap (λ es. e ∷ es) k)
-        ∙ sym (ap up_to_failure (listed e h) ∙ up_to_failure-passes e (entries_at slots ws) p)
-    named e h false p k =
-        ap (entries_at slots) (let f : passes_at slots w ≡ false = ap (λ o. option_map_or passes o true) h ∙ p in stops f)
-        ∙ rw h refl
-        ∙ sym (ap up_to_failure (listed e h) ∙ up_to_failure-fails e (entries_at slots ws) p)
-      where
-        stops : passes_at slots w ≡ false → batch_of slots (w ∷ ws) ≡ w ∷ []
-        stops f = rw f refl
-
-    by : (o : Option Sqe) → slice_get slots w ≡ o → entries_at slots (batch_of slots ws) ≡ up_to_failure (entries_at slots ws) → entries_at slots (batch_of slots (w ∷ ws)) ≡ up_to_failure (entries_at slots (w ∷ ws))
-    by None h k =
-        ap (entries_at slots) (goes_on (ap (λ o. option_map_or passes o true) h))
-        ∙ skipped (batch_of slots ws) h ∙ k ∙ ap up_to_failure (sym (skipped ws h))
-      where
-        skipped : (vs : List ℕ) → slice_get slots w ≡ None → entries_at slots (w ∷ vs) ≡ entries_at slots vs
-        skipped vs h = rw h refl
-    by (Some e) h k = named e h (passes e) refl k
-
--- and none of them is left out as they become rows
-pub cut_twice : (es : List Sqe) → up_to_failure (up_to_failure es) ≡ up_to_failure es
-cut_twice [] = refl
-cut_twice (e ∷ es) = by (passes e) refl (cut_twice es)
+pub length-up_to_entry : (slots : List Sqe) (n : ℕ) (words : List ℕ) → length (up_to_entry slots n words) ≤ length words
+length-up_to_entry slots zero words = omega arith
+length-up_to_entry slots (suc n) [] = omega arith
+length-up_to_entry slots (suc n) (x ∷ words) = by (is_some (slice_get slots x)) (length-up_to_entry slots n words) (length-up_to_entry slots (suc n) words)
   where
-    by : (b : Bool) → passes e ≡ b → up_to_failure (up_to_failure es) ≡ up_to_failure es → up_to_failure (up_to_failure (e ∷ es)) ≡ up_to_failure (e ∷ es)
-    by true p k = let m = up_to_failure-passes e es p in ap up_to_failure m ∙ up_to_failure-passes e (up_to_failure es) p ∙ ap (λ xs. e ∷ xs) k ∙ sym m
-    by false p k = let m = up_to_failure-fails e es p in ap up_to_failure m ∙ up_to_failure-fails e [] p ∙ sym m
+    by : (b : Bool) → length (up_to_entry slots n words) ≤ length words → length (up_to_entry slots (suc n) words) ≤ length words → suc (length (up_to_entry slots (cond b n (suc n)) words)) ≤ suc (length words)
+    by true h k = omega (arith, h)
+    by false h k = omega (arith, k)
 
-pub all_taken : (submit_all : Bool) (w : SubWords) (k : ℕ) → taken_of submit_all (taken_entries submit_all w k) ≡ taken_entries submit_all w k
-all_taken true w k = refl
-all_taken false w k = let e = entries_cut w.slots (offered w k) in ap up_to_failure e ∙ cut_twice (entries_at w.slots (offered w k)) ∙ sym e
+-- So many words have been read, and so many entries are still to come.
+pub record Reading (slots : List Sqe) (words : List ℕ) (n count left : ℕ) : Type 0 where
+  pub told : up_to_entry slots n words ≡ take count words ++ up_to_entry slots left (drop count words)
+  pub named : left ≤ length (entries_at slots (drop count words))
+  pub enough : n ≤ count + left
+  pub within : count ≤ length words
+
+pub reading_none : (slots : List Sqe) (words : List ℕ) (n : ℕ) → n ≤ length (entries_at slots words) → Reading slots words n 0 n
+reading_none slots words n h = record { told = refl; named = h; enough = omega arith; within = omega arith }
+
+drop_there : (words : List ℕ) (i x : ℕ) → slice_get words i ≡ Some x → drop i words ≡ x ∷ drop (i + 1) words
+drop_there [] i x h = absurd cc
+drop_there (y ∷ words) zero x h = let e : y ≡ x = cc in let m : suc zero ≡ zero + 1 = omega arith in ap (λ z. z ∷ words) e ∙ ap (λ k. x ∷ drop k (y ∷ words)) m
+drop_there (y ∷ words) (suc i) x h = let m : suc (i + 1) ≡ suc i + 1 = omega arith in drop_there words i x h ∙ ap (λ k. x ∷ drop k (y ∷ words)) m
+
+past_end : (words : List ℕ) (i : ℕ) → length words ≤ i → drop i words ≡ []
+past_end [] zero h = refl
+past_end [] (suc i) h = refl
+past_end (y ∷ words) zero h = absurd (omega (arith, h))
+past_end (y ∷ words) (suc i) h = past_end words i (omega (arith, h))
+
+-- while entries are to come there is a word
+pub reading_there : (slots : List Sqe) (words : List ℕ) (n count left : ℕ) → Reading slots words n count left → 0 < left → count < length words
+reading_there slots words n count left r l = grind (arith, less)
+  where
+    less : length words ≤ count → left ≤ 0
+    less h = let m = r.named in let e = ap (λ ws. length (entries_at slots ws)) (past_end words count h) in omega (arith, m, e)
+
+step_told : (slots : List Sqe) (x : ℕ) (words : List ℕ) (left : ℕ) (b : Bool) → is_some (slice_get slots x) ≡ b → 0 < left → up_to_entry slots left (x ∷ words) ≡ x ∷ up_to_entry slots (cond b (left - 1) left) words
+step_told slots x words zero b h l = absurd (omega (arith, l))
+step_told slots x words (suc left) b h l = let m : suc left - 1 ≡ left = omega arith in ap (λ c. x ∷ up_to_entry slots (cond c left (suc left)) words) h ∙ ap (λ k. x ∷ up_to_entry slots (cond b k (suc left)) words) (sym m)
+
+-- one word more
+pub reading_on : (slots : List Sqe) (words : List ℕ) (n count left x : ℕ) (b : Bool) → Reading slots words n count left → 0 < left → slice_get words count ≡ Some x → is_some (slice_get slots x) ≡ b → Reading slots words n (count + 1) (cond b (left - 1) left)
+reading_on slots words n count left x b r l h k = record {
+  told = r.told ∙ ap (λ ws. take count words ++ up_to_entry slots left ws) here ∙ ap (λ ws. take count words ++ ws) (step_told slots x (drop (count + 1) words) left b k l)
+      ∙ pushed (take count words) x (up_to_entry slots (cond b (left - 1) left) (drop (count + 1) words)) ∙ ap (λ ws. ws ++ up_to_entry slots (cond b (left - 1) left) (drop (count + 1) words)) (sym (one_more words count x h));
+  named = by b (let m = r.named in let e = ap (λ ws. length (entries_at slots ws)) here ∙ entries_more slots x (drop (count + 1) words) ∙ ap (λ c. cond c (suc (length rest)) (length rest)) k in rw (← e) m);
+  enough = most b;
+  within = let l = slice_get_within words count x h in omega (arith, l);
+}
+  where
+    here : drop count words ≡ x ∷ drop (count + 1) words
+    here = drop_there words count x h
+
+    rest : List Sqe
+    rest = entries_at slots (drop (count + 1) words)
+
+    pushed : (xs : List ℕ) (y : ℕ) (ys : List ℕ) → xs ++ y ∷ ys ≡ (xs ++ y ∷ []) ++ ys
+    pushed [] y ys = refl
+    pushed (z ∷ xs) y ys = ap (λ zs. z ∷ zs) (pushed xs y ys)
+
+    by : (c : Bool) → left ≤ cond c (suc (length rest)) (length rest) → cond c (left - 1) left ≤ length rest
+    by true m = omega (arith, m)
+    by false m = m
+
+    most : (c : Bool) → n ≤ count + 1 + cond c (left - 1) left
+    most true = let m = r.enough in omega (arith, m, l)
+    most false = let m = r.enough in omega (arith, m)
+
+-- none is to come
+pub reading_end : (slots : List Sqe) (words : List ℕ) (n count left : ℕ) → Reading slots words n count left → left ≤ 0 → take count words ≡ up_to_entry slots n words
+reading_end slots words n count left r l = by left (omega (arith, l)) r.told
+  where
+    by : (k : ℕ) → k ≡ 0 → up_to_entry slots n words ≡ take count words ++ up_to_entry slots k (drop count words) → take count words ≡ up_to_entry slots n words
+    by zero e t = sym (t ∙ append-nil (take count words))
+    by (suc k) e t = absurd (omega (arith, e))

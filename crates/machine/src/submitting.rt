@@ -52,26 +52,26 @@ impl Machine {
 
     // How many of the words that are offered a submission takes: all of them, or those up to and with the
     // one that names the last entry that it takes.
-    fn word_count(&self, offered: u32, taken: u32, halted: bool) -> u32
-        requires offered { offered ≤ length (sub_list self.now.submissions) }
-        requires named { taken ≤ length (offered_entries self.now.submissions offered) }
-        ensures words { offered self.now.submissions result ≡ (if halted then up_to_entry self.now.submissions.slots taken (offered self.now.submissions offered) else offered self.now.submissions offered) }
-        ensures within { result ≤ offered }
+    fn word_count(&self, most: u32, taken: u32, halted: bool) -> u32
+        requires offered { most ≤ length (sub_list self.now.submissions) }
+        requires named { taken ≤ length (offered_entries self.now.submissions most) }
+        ensures words { offered self.now.submissions result ≡ (if halted then up_to_entry self.now.submissions.slots taken (offered self.now.submissions most) else offered self.now.submissions most) }
+        ensures within { result ≤ most }
         ensures enough { taken ≤ result }
     {
         if halted {
-            self.words_up_to(offered, taken)
+            self.words_up_to(most, taken)
         } else {
-            offered
+            most
         }
     }
 
     // How many words there are up to and with the one that names the n-th entry.
-    fn words_up_to(&self, offered: u32, n: u32) -> u32
-        requires offered { offered ≤ length (sub_list self.now.submissions) }
-        requires named { n ≤ length (offered_entries self.now.submissions offered) }
-        ensures words { offered self.now.submissions result ≡ up_to_entry self.now.submissions.slots n (offered self.now.submissions offered) }
-        ensures within { result ≤ offered }
+    fn words_up_to(&self, most: u32, n: u32) -> u32
+        requires offered { most ≤ length (sub_list self.now.submissions) }
+        requires named { n ≤ length (offered_entries self.now.submissions most) }
+        ensures words { offered self.now.submissions result ≡ up_to_entry self.now.submissions.slots n (offered self.now.submissions most) }
+        ensures within { result ≤ most }
         ensures enough { n ≤ result }
     {
         let mut count = 0;

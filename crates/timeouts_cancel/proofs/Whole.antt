@@ -1,6 +1,6 @@
 -- A fall is whole: running its filters again adds nothing.
-use Rattle.std.proofs.Common.{◌≡◌, ℕ, ℤ, pos, Bool, true, false, refl, sym, ◌∙◌, ap, subst, List, ◌+◌, ◌<◌}
-use Rattle.std.specs.Prelude.{Option, Some, None, slice_get, ◌==◌, ◌&&◌, nat_le}
+use Rattle.std.proofs.Common.{◌≡◌, ℕ, ℤ, pos, Bool, true, false, refl, sym, ◌∙◌, ap, subst, List, [], ◌∷◌, ◌+◌, ◌<◌}
+use Rattle.std.specs.Prelude.{Option, Some, None, slice_get, ◌==◌, ◌&&◌, ◌||◌, nat_le, if◌then◌else◌}
 use Rattle.std.specs.Option.{option_map_or}
 use Rattle.std.proofs.lemmas.Bool.{eqb-true, eq-eqb}
 use Rattle.entries.specs.declared.row.Row.{Row}
@@ -53,6 +53,32 @@ unlisted rows c direct r row h u n =
       met = given_none _ (pos 0) b.1;
       guards = given_none _ ecanceled a.1;
     }
+
+-- ---- targets
+
+unlisted_none : (es : List Ending) (r : ℕ) → is_listed es r ≡ false → result_in es r ≡ None
+unlisted_none [] r h = refl
+unlisted_none (e ∷ es) r h = by (e.0 == r) (is_listed es r) refl h (unlisted_none es r)
+  where
+    by : (a b : Bool) → is_listed es r ≡ b → (a || b) ≡ false → (is_listed es r ≡ false → result_in es r ≡ None) → (if a then Some e.1 else result_in es r) ≡ None
+    by true b k g more = absurd cc
+    by false true k g more = absurd cc
+    by false false k g more = more k
+
+-- where a guard doesn't fall, its target doesn't
+pub target_stays : (rows : List Row) (c : ℕ) (direct : List Ending) (r t : ℕ) (row target : Row) → slice_get rows r ≡ Some row → is_unfinished row.phase ≡ true → is_guard row ≡ true → row.target ≡ Some t
+    → slice_get rows t ≡ Some target → is_unfinished target.phase ≡ true → is_guard target ≡ false → result_in (fall_of rows c direct) r ≡ None → result_in (fall_of rows c direct) t ≡ None
+target_stays rows c direct r t row target h u g k there v other n =
+    in_fall rows c direct t target there v ∙ ap (λ o. or_else o (given (guards_listed (ms rows c direct) target) ecanceled)) none
+    ∙ ap (λ b. given (b && option_map_or (is_listed (ms rows c direct)) target.target false) ecanceled) other
+  where
+    out : is_listed (ms rows c direct) t ≡ false
+    out =
+        sym (ap (λ o. option_map_or (is_listed (ms rows c direct)) o false) k) ∙ sym (ap (λ b. b && option_map_or (is_listed (ms rows c direct)) row.target false) g)
+        ∙ (unlisted rows c direct r row h u n).guards
+
+    none : result_in (ms rows c direct) t ≡ None
+    none = unlisted_none (ms rows c direct) t out
 
 -- ---- what severs is direct
 

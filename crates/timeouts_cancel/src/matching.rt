@@ -157,7 +157,7 @@ mod tests {
     fn issue(table: &mut Table, r: u32, held: Option<u32>) -> Result<(), AllocError> {
         let mut notes = Recorder::new(table.allocator());
         if (r as usize) < table.len() {
-            table.issue(r, held, &mut notes)?;
+            table.issue(r, held, None, 0, &mut notes)?;
         }
         Ok(())
     }
@@ -175,7 +175,8 @@ mod tests {
         ];
         let mut table = Table::new(alloc);
         let mut notes = Recorder::new(alloc);
-        table.take_batch(&entries, true, &mut notes)?;
+        let world = World::new(alloc, &[], &[], &[])?;
+        table.take_batch(&entries, &world, true, &mut notes)?;
         for (r, held) in [(0, Some(3)), (1, None), (2, Some(3)), (3, None), (4, None)] {
             issue(&mut table, r, held)?;
         }

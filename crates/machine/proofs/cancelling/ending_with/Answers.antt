@@ -1,4 +1,4 @@
-use Rattle.std.proofs.Common.{◌≡◌, ◌∙◌, ap, ℕ, ℤ, List, [], ◌∷◌, ◌++◌, nat_lt, append_assoc, FitsSigned, to_z, w32, rules}
+use Rattle.std.proofs.Common.{◌∙◌, ap, ℕ, ℤ, List, [], ◌∷◌, ◌++◌, nat_lt, append_assoc, FitsSigned, w32, rules}
 use Rattle.std.proofs.lemmas.Int.{to_z-of_z}
 use Rattle.links_drains.specs.Endings.{Ending}
 use Rattle.machine.specs.Cancels.{canceled}

@@ -4,7 +4,7 @@ use Rattle.machine.specs.Cancels.{verdict_of, ending_with}
 use Rattle.machine.specs.Steps.{fallen}
 use Rattle.machine.proofs.CancelLemmas.{direct_cancel}
 use Rattle.machine.proofs.FormedMachines.{mostly}
-use Rattle.machine.proofs.Untimed.{untimed}
+use Rattle.machine.proofs.GuardLemmas.{stand_behind}
 use Rattle.machine.proofs.whole.Machine.cancel.Goals as goal
 
 listed : (c : goal.After-fall-arg-2-1) → c.deref.result.now ≡ ending_with c.args.r (verdict_of c.args.self.now.table c.args.self.now.world c.args.r c.args.entry.now)
@@ -15,8 +15,8 @@ fall-requires-clause-direct c =
     let x = c.requires.there in
     subst (Direct c.args.self.now.table) (sym (listed c)) (direct_cancel c.args.self.now.table c.args.self.now.world c.args.r c.args.entry.now x.0 x.1 x.2)
 
-pub fall-requires-clause-untimed : goal.fall-requires-clause-untimed
-fall-requires-clause-untimed c = untimed c.args.self.now c.requires.formed
+pub fall-requires-clause-guards : goal.fall-requires-clause-guards
+fall-requires-clause-guards c = stand_behind c.args.self.now.table c.requires.formed.guards
 
 pub fall-requires-clause-mostly : goal.fall-requires-clause-mostly
 fall-requires-clause-mostly c = mostly c.args.self.now c.requires.formed

@@ -1,5 +1,6 @@
 use Rattle.std.proofs.Common.{◌≡◌, ◌∙◌, ℕ, ℤ, ap, sym, List, length, arith}
 use Rattle.std.specs.Prelude.{slice_get}
+use Rattle.links_drains.proofs.Counting.{counted-le-length}
 use Rattle.timeouts_cancel.specs.Falls.{fall_of}
 use Rattle.machine.proofs.Endings.{fall_within, can_fall, can_end_room, can_end_counts}
 use Rattle.machine.proofs.whole.Machine.fall.Goals as goal
@@ -19,3 +20,10 @@ pub end_all-requires-clause-counts : goal.end_all-requires-clause-counts
 end_all-requires-clause-counts c =
     let k = can_end_counts c.args.self.now (fall_of c.args.self.now.table c.args.self.now.counted c.args.direct.now) c.requires.mostly (can_fall c.args.self.now.table c.args.self.now.counted c.args.direct.now) in
     let n = ap length (listed c) in omega (arith, k, n)
+
+pub fall-requires-clause-counted : goal.fall-requires-clause-counted
+fall-requires-clause-counted c =
+    let a = counted-le-length c.args.self.now.table in
+    let n = c.requires.mostly.counted in
+    let l = c.requires.mostly.rows in
+    omega (arith, a, n, l)

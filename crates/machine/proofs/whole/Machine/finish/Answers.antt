@@ -16,7 +16,7 @@ use Rattle.machine.proofs.Endings.{direct_one}
 use Rattle.machine.proofs.PipeCounts.{puts_fit}
 use Rattle.machine.proofs.FormedMachines.{mostly, mostly_world}
 use Rattle.opcodes.proofs.Staying.{stays_after}
-use Rattle.machine.proofs.Untimed.{untimed}
+use Rattle.machine.proofs.GuardLemmas.{stand_behind}
 use Rattle.machine.proofs.whole.Machine.finish.Goals as goal
 
 pub cancel-requires-clause-there : goal.cancel-requires-clause-there
@@ -36,8 +36,8 @@ returns-then-is_cancel-clause-ok c =
 pub carry_out-requires-clause-puts : goal.carry_out-requires-clause-puts
 carry_out-requires-clause-puts c = puts_fit c.args.self.now c.requires.formed
 
-pub fall-requires-clause-untimed : goal.fall-requires-clause-untimed
-fall-requires-clause-untimed c = untimed c.args.self.now c.requires.formed
+pub fall-requires-clause-guards : goal.fall-requires-clause-guards
+fall-requires-clause-guards c = stand_behind c.args.self.now.table c.requires.formed.guards
 
 pub fall-requires-clause-direct : goal.fall-requires-clause-direct
 fall-requires-clause-direct c = let x = finished_row c.args.self.now c.args.r c.args.choice c.requires.accepted in direct_one c.args.self.now.table c.args.r _ x.0 x.1 x.2

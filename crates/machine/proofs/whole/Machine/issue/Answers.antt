@@ -1,23 +1,73 @@
-use Rattle.std.proofs.Common.{sym, ◌∙◌}
+use Rattle.std.proofs.Common.{◌≡◌, sym, ◌∙◌, ap, subst, true, false, ℕ, ◌+◌, arith, OnOk}
+use Rattle.std.specs.Prelude.{slice_get, Some}
+use Rattle.std.specs.Option.{option_map_or}
 use Rattle.std.proofs.lemmas.Option.{slice_get_within}
-use Rattle.machine.proofs.EnterLemmas.{issued_row, issued_told}
+use Rattle.entries.specs.declared.row.Row.{Row}
+use Rattle.places.specs.Lists.{updated}
+use Rattle.links_drains.specs.Phases.{is_ended, is_unfinished}
+use Rattle.machine.specs.Steps.{is_guard_of, started}
+use Rattle.machine.specs.declared.whole.Machine.{Machine}
+use Rattle.machine.proofs.EnterLemmas.{can_start, issued_told}
 use Rattle.machine.proofs.Endings.{direct_one}
 use Rattle.machine.proofs.FormedMachines.{mostly}
-use Rattle.machine.proofs.Untimed.{untimed}
+use Rattle.machine.proofs.GuardLemmas.{apart, guard_told, same_row, stand_behind, unfinished_queued}
 use Rattle.machine.proofs.whole.Machine.issue.Goals as goal
 
 pub fall-requires-clause-direct : goal.fall-requires-clause-direct
-fall-requires-clause-direct c = let x = issued_row c.args.self.now c.args.r c.requires.accepted in direct_one c.args.self.now.table c.args.r _ x.0 x.1 x.2
+fall-requires-clause-direct c = let x = can_start c.args.self.now c.args.r c.requires.accepted in direct_one c.args.self.now.table c.args.r _ x.row x.there (ap is_ended x.queued)
 
-pub fall-requires-clause-untimed : goal.fall-requires-clause-untimed
-fall-requires-clause-untimed c = untimed c.args.self.now c.requires.formed
+pub fall-requires-clause-guards : goal.fall-requires-clause-guards
+fall-requires-clause-guards c = stand_behind c.args.self.now.table c.requires.formed.guards
 
 pub fall-requires-clause-mostly : goal.fall-requires-clause-mostly
 fall-requires-clause-mostly c = mostly c.args.self.now c.requires.formed
 
-pub issue-requires : goal.issue-requires
-issue-requires c = let x = issued_row c.args.self.now c.args.r c.requires.accepted in slice_get_within c.args.self.now.table c.args.r x.0 x.1
+pub start-requires-clause-time : goal.start-requires-clause-time
+start-requires-clause-time c =
+    let m = c.args.self.now in
+    let x = can_start m c.args.r c.requires.accepted in
+    let there : slice_get m.table c.args.r ≡ Some c.in-Some.row = sym c.get.ensures ∙ c.in-Some.is in
+    let same = same_row x.row c.in-Some.row (sym x.there ∙ there) in
+    (c.requires.formed.requests c.args.r c.in-Some.row there).time (ap (λ (y : Row). is_unfinished y.phase) (sym same) ∙ ap is_unfinished x.queued)
 
-pub returns-clause-ok : goal.returns-clause-ok
-returns-clause-ok c =
-    issued_told c.issue.result c.args.self.now c.args.r c.in-Some.row c.held_by.result c.issue.new.self (sym c.get.ensures ∙ c.in-Some.is) (sym c.lacks_descriptor.ensures ∙ c.if-lacks_descriptor.false) c.held_by.ensures c.issue.ensures.ok
+pub guard_of-requires : goal.guard_of-requires
+guard_of-requires c =
+    let x = can_start c.args.self.now c.args.r c.requires.accepted in
+    let w = slice_get_within c.args.self.now.table c.args.r x.row x.there in
+    let l = c.requires.formed.rows in
+    record { few = omega (arith, w, l) }
+
+pub overflow_add-r : goal.overflow_add-r
+overflow_add-r c =
+    let x = can_start c.args.self.now c.args.r c.requires.accepted in
+    let w = slice_get_within c.args.self.now.table c.args.r x.row x.there in
+    let l = c.requires.formed.rows in
+    omega (arith, w, l)
+
+-- what stands behind the row is as it was
+behind : (m n : Machine) (r : ℕ) → n ≡ record m { table = updated (started m.clock m.counted) m.table r } → slice_get n.table (r + 1) ≡ slice_get m.table (r + 1)
+behind m n r h = ap (λ (x : Machine). slice_get x.table (r + 1)) h ∙ apart (started m.clock m.counted) m.table r (r + 1) (λ o. absurd (omega (arith, o)))
+
+pub start-requires-in-Some-guard_of-clause-time : goal.start-requires-in-Some-guard_of-clause-time
+start-requires-in-Some-guard_of-clause-time c =
+    let m = c.args.self.now in
+    let g = c.in-Some-guard_of.ensures.some in
+    let there = sym (behind m c.start.new.self c.args.r c.in_ok-start.ensures.ok) ∙ g.0 in
+    let t = guard_told c.args.r c.in-Some-guard_of.guard g.1 in
+    (c.requires.formed.requests (c.args.r + 1) c.in-Some-guard_of.guard there).time (unfinished_queued c.in-Some-guard_of.guard.phase t.queued)
+
+pub returns-in-Some-guard_of-clause-ok : goal.returns-in-Some-guard_of-clause-ok
+returns-in-Some-guard_of-clause-ok c =
+    let m : Machine = c.args.self.now in
+    let there : slice_get m.table c.args.r ≡ Some c.in-Some.row = sym c.get.ensures ∙ c.in-Some.is in
+    let g = c.in-Some-guard_of.ensures.some in
+    let at = sym (behind m c.start.new.self c.args.r c.in_ok-start.ensures.ok) ∙ g.0 in
+    let told = issued_told m c.args.r c.in-Some.row true there (sym c.lacks_descriptor.ensures ∙ c.if-lacks_descriptor.false) (ap (λ o. option_map_or (is_guard_of c.args.r) o false) at ∙ g.1) in
+    subst (λ (n : Machine). OnOk c.start-in-Some-guard_of.result (c.start-in-Some-guard_of.new.self ≡ n)) (ap (λ (s : Machine). record s { table = updated (started s.clock s.counted) s.table (c.args.r + 1) }) c.in_ok-start.ensures.ok ∙ told) c.start-in-Some-guard_of.ensures.ok
+
+pub returns-in-None-clause-ok : goal.returns-in-None-clause-ok
+returns-in-None-clause-ok c =
+    let m : Machine = c.args.self.now in
+    let there : slice_get m.table c.args.r ≡ Some c.in-Some.row = sym c.get.ensures ∙ c.in-Some.is in
+    let none = ap (λ o. option_map_or (is_guard_of c.args.r) o false) (sym (behind m c.start.new.self c.args.r c.in_ok-start.ensures.ok)) ∙ c.in-None.ensures.none in
+    c.in_ok-start.ensures.ok ∙ issued_told m c.args.r c.in-Some.row false there (sym c.lacks_descriptor.ensures ∙ c.if-lacks_descriptor.false) none

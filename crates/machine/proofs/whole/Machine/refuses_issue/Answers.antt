@@ -1,4 +1,4 @@
-use Rattle.machine.proofs.Untimed.{guards_follow}
+use Rattle.machine.proofs.GuardLemmas.{guards_follow}
 use Rattle.machine.proofs.whole.Machine.refuses_issue.Goals as goal
 
 pub eligible-requires : goal.eligible-requires

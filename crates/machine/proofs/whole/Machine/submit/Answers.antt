@@ -9,8 +9,8 @@ fall-requires-clause-direct c =
     let f = falls_in c.args.self.now _ c.args.to_submit c.requires.formed (accepted_fits c.args.self.now c.args.to_submit c.requires.accepted) c.in_ok-batch.ensures.ok in
     subst (λ (ds : List (ℕ × ℤ)). Direct c.take.new.self.table ds) (sym (c.deref.ensures.value ∙ c.in_ok-batch.ensures.direct)) f.direct_rows
 
-pub fall-requires-clause-untimed : goal.fall-requires-clause-untimed
-fall-requires-clause-untimed c = (falls_in c.args.self.now _ c.args.to_submit c.requires.formed (accepted_fits c.args.self.now c.args.to_submit c.requires.accepted) c.in_ok-batch.ensures.ok).untimed
+pub fall-requires-clause-guards : goal.fall-requires-clause-guards
+fall-requires-clause-guards c = (falls_in c.args.self.now _ c.args.to_submit c.requires.formed (accepted_fits c.args.self.now c.args.to_submit c.requires.accepted) c.in_ok-batch.ensures.ok).guards
 
 pub fall-requires-clause-mostly : goal.fall-requires-clause-mostly
 fall-requires-clause-mostly c = (falls_in c.args.self.now _ c.args.to_submit c.requires.formed (accepted_fits c.args.self.now c.args.to_submit c.requires.accepted) c.in_ok-batch.ensures.ok).mostly

@@ -1,0 +1,32 @@
+-- What ends as a row expires.
+use Rattle.std.proofs.Common.{◌≡◌, ℕ, Bool, true, false, refl, sym, ◌∙◌, ap, List, [], ◌∷◌, arith}
+use Rattle.std.specs.Prelude.{Option, Some, None, slice_get, ◌&&◌, if◌then◌else◌}
+use Rattle.entries.specs.declared.row.Row.{Row}
+use Rattle.entries.specs.declared.row.Phase.TheVariants.{Issued}
+use Rattle.links_drains.specs.Endings.{Direct, ecanceled}
+use Rattle.links_drains.specs.Links.{is_guard}
+use Rattle.links_drains.specs.Phases.{is_ended, is_unfinished}
+use Rattle.model_files.specs.Worlds.{WorldState}
+use Rattle.machine.specs.Steps.{waiting_target, waits_at}
+use Rattle.machine.specs.Submission.{etime}
+use Rattle.machine.specs.Whole.{WellFormed}
+use Rattle.machine.specs.declared.whole.Machine.{Machine}
+use Rattle.machine.proofs.Endings.{direct_two}
+
+-- a target that waits is one of a guard
+waiting_told : (rows : List Row) (w : WorldState) (x : Row) (o : Option ℕ) (t : ℕ) → waiting_target rows w x o ≡ Some t → (is_guard x ≡ true) × (o ≡ Some t)
+waiting_told rows w x None t h = absurd cc
+waiting_told rows w x (Some n) t h = by (is_guard x) (waits_at rows w n) refl h
+  where
+    by : (a b : Bool) → is_guard x ≡ a → (if a && b then Some n else None) ≡ Some t → (is_guard x ≡ true) × (Some n ≡ Some t)
+    by true true k g = (k, g)
+    by true false k g = absurd cc
+    by false b k g = absurd cc
+
+-- a guard ends behind its target
+pub direct_pair : (m : Machine) (r t : ℕ) (x : Row) → WellFormed m → slice_get m.table r ≡ Some x → x.phase ≡ Issued → waiting_target m.table m.world x x.target ≡ Some t → Direct m.table ((t, ecanceled) ∷ (r, etime) ∷ [])
+direct_pair m r t x f h q k =
+    let w = waiting_told m.table m.world x x.target t k in
+    let s = f.guards r x h w.0 (ap is_unfinished q) in
+    let same : s.target ≡ t = let o = sym s.is ∙ w.1 in cc in
+    direct_two m.table t r ecanceled etime s.row x (ap (slice_get m.table) (sym same) ∙ s.there) (ap is_ended (s.alike ∙ q)) h (ap is_ended q) (let b = s.behind in omega (arith, same, b))

@@ -1,0 +1,243 @@
+-- Guards stand behind their targets.
+use Rattle.std.proofs.Common.{◌≡◌, ℕ, ℤ, zero, suc, Bool, true, false, not, cond, refl, sym, ◌∙◌, ap, subst, List, [], ◌∷◌, ◌++◌, length, ◌+◌, ◌-◌, inl, inr, arith}
+use Rattle.std.specs.Prelude.{Option, Some, None, option_map, is_none, slice_get, bit_and, ◌==◌, ◌&&◌, if◌then◌else◌}
+use Rattle.std.specs.Option.{option_and_then, option_map_or}
+use Rattle.std.specs.Result.{result_err}
+use Rattle.std.specs.List.{list_any, enumerate_from}
+use Rattle.std.proofs.lemmas.Bool.{cases_eq, eq-eqb, eqb-true, ne_eqb}
+use Rattle.entries.specs.declared.entry.Sqe.{Sqe}
+use Rattle.entries.specs.declared.row.Row.{Row}
+use Rattle.entries.specs.declared.row.Phase.{Phase}
+use Rattle.entries.specs.declared.row.Phase.TheVariants.{Queued, Issued, Ended}
+use Rattle.model_files.specs.Worlds.{WorldState}
+use Rattle.opcodes.specs.declared.op.Op.TheVariants.{LinkTimeout}
+use Rattle.opcodes.specs.Check.{can_guard, check_of, invalid, op_of, refused_flags, row_of, timed}
+use Rattle.places.specs.Lists.{updated}
+use Rattle.links_drains.specs.Batches.{behind_in, chain_of, error_at, error_of, row_of as batch_row_of, rows_of, shown_on}
+use Rattle.links_drains.specs.Eligible.{GuardsFollow, is_eligible, may_start, waits_for}
+use Rattle.links_drains.specs.Links.{is_guard, is_linked}
+use Rattle.links_drains.specs.Phases.{is_queued, is_unfinished}
+use Rattle.links_drains.proofs.Chains.{Became, became, get-batch, get-behind}
+use Rattle.links_drains.proofs.RowsKept.{get-updated}
+use Rattle.timeouts_cancel.specs.Falls.{GuardsStand}
+use Rattle.machine.specs.Steps.{all_started, is_guard_of, started}
+use Rattle.machine.specs.Whole.{AllGuardsStand, GuardStands, WellFormed}
+use Rattle.machine.specs.declared.whole.Machine.{Machine}
+
+-- ---- what others ask of guards
+
+-- a guard stands just behind its target
+pub stand_behind : (rows : List Row) → AllGuardsStand rows → GuardsStand rows
+stand_behind rows h r t row e g u k =
+    let s = h r row e g u in
+    let same : s.target ≡ t = let o = sym s.is ∙ k in cc in
+    ap (λ n. n + 1) (sym same) ∙ s.behind
+
+pub guards_follow : (m : Machine) → WellFormed m → GuardsFollow m.table
+guards_follow m f k guard e g u =
+    let s = f.guards k guard e g u in
+    (s.target, s.row, (let b = s.behind in omega (arith, b)), s.there, ap is_unfinished s.alike ∙ u, s.unit)
+
+-- ---- rows behind others
+
+front : (rows more : List Row) (i : ℕ) (x : Row) → slice_get rows i ≡ Some x → slice_get (rows ++ more) i ≡ Some x
+front [] more i x h = absurd cc
+front (y ∷ rows) more zero x h = h
+front (y ∷ rows) more (suc i) x h = front rows more i x h
+
+pub guard_before : (rows more : List Row) (r : ℕ) (x : Row) → GuardStands rows r x → GuardStands (rows ++ more) r x
+guard_before rows more r x s = record { target = s.target; is = s.is; behind = s.behind; row = s.row; there = front rows more s.target s.row s.there; other = s.other; unit = s.unit; alike = s.alike }
+
+-- ---- guards of a batch
+
+-- a LINK_TIMEOUT that passes its tests stands behind another opcode
+passes_behind : (w : WorldState) (behind : Option ℕ) (e : Sqe) → e.opcode ≡ 15 → result_err (check_of w behind e) ≡ None → can_guard behind ≡ true
+passes_behind w behind e o h = flags (bit_and e.flags refused_flags == 0) h
+  where
+    op : op_of e.opcode ≡ Some LinkTimeout
+    op = ap op_of o
+
+    both : (a b : Bool) → result_err (if a && b then timed w e LinkTimeout else invalid) ≡ None → a ≡ true
+    both true b k = refl
+    both false b k = absurd cc
+
+    flags : (b : Bool) → result_err (if b then row_of w behind e (op_of e.opcode) else invalid) ≡ None → can_guard behind ≡ true
+    flags true k = both (can_guard behind) (e.off == 0) (sym (ap (λ p. result_err (row_of w behind e p)) op) ∙ k)
+    flags false k = absurd cc
+
+-- An entry stands before a guard, and is linked to it.
+record Before (es : List Sqe) (i : ℕ) : Type 0 where
+  index : ℕ
+  is : i ≡ suc index
+  entry : Sqe
+  there : slice_get es index ≡ Some entry
+  linked : is_linked entry ≡ true
+  other : (entry.opcode == 15) ≡ false
+
+stands_before : (es : List Sqe) (i : ℕ) → can_guard (behind_in es i) ≡ true → Before es i
+stands_before es zero h = absurd cc
+stands_before es (suc j) h = by (slice_get es j) refl h
+  where
+    shown : (p : Sqe) → slice_get es j ≡ Some p → (b : Bool) → is_linked p ≡ b → can_guard (if b then Some p.opcode else None) ≡ true → Before es (suc j)
+    shown p e true l k = record { index = j; is = refl; entry = p; there = e; linked = l; other = negated (p.opcode == 15) k }
+      where
+        negated : (c : Bool) → not c ≡ true → c ≡ false
+        negated true q = absurd cc
+        negated false q = refl
+    shown p e false l k = absurd cc
+
+    by : (o : Option Sqe) → slice_get es j ≡ o → can_guard (option_and_then shown_on o) ≡ true → Before es (suc j)
+    by None e k = absurd cc
+    by (Some p) e k = shown p e (is_linked p) refl k
+
+pub batch_guard : (w : WorldState) (rows : List Row) (es : List Sqe) (i : ℕ) (x : Row) → slice_get (rows_of w (length rows) es) i ≡ Some x → is_guard x ≡ true → error_at w es i ≡ None
+    → GuardStands (rows ++ rows_of w (length rows) es) (length rows + i) x
+batch_guard w rows es i x h g p = subst (GuardStands (rows ++ rows_of w first es) (first + i)) (sym b.is) (record {
+  target = first + v.index;
+  is = ap (λ c. if c && is_none (error_of w es i b.entry) then Some (first + i - 1) else None) number ∙ ap (λ o. if is_none o then Some (first + i - 1) else None) passes ∙ (let k = v.is in let n : first + i - 1 ≡ first + v.index = omega (arith, k) in ap Some n);
+  behind = let k = v.is in omega (arith, k);
+  row = batch_row_of w first es v.index v.entry;
+  there = get-behind rows (rows_of w first es) v.index ∙ get-batch w first es v.index ∙ ap (option_map (batch_row_of w first es v.index)) v.there;
+  other = v.other;
+  unit = ap (λ n. first + n) (sym (ap (chain_of es) v.is ∙ ap (λ o. cond (option_map_or is_linked o false) (chain_of es v.index) (suc v.index)) v.there ∙ ap (λ c. cond c (chain_of es v.index) (suc v.index)) v.linked));
+  alike = refl;
+})
+  where
+    first : ℕ
+    first = length rows
+
+    b : Became w first es i x
+    b = became w first es i x h
+
+    number : (b.entry.opcode == 15) ≡ true
+    number = sym (ap is_guard b.is) ∙ g
+
+    passes : error_of w es i b.entry ≡ None
+    passes = sym (ap (option_and_then (error_of w es i)) b.there) ∙ p
+
+    v : Before es i
+    v = stands_before es i (passes_behind w (behind_in es i) b.entry (eqb-true b.entry.opcode 15 number) passes)
+
+-- a guard of a batch has no target, or stands behind it
+pub batch_behind : (w : WorldState) (first : ℕ) (es : List Sqe) (i t : ℕ) (x : Row) → slice_get (rows_of w first es) i ≡ Some x → is_guard x ≡ true → x.target ≡ Some t → t + 1 ≡ first + i
+batch_behind w first es i t x h g k = by (error_of w es i b.entry) refl (sym (ap (λ (y : Row). y.target) b.is) ∙ k)
+  where
+    b : Became w first es i x
+    b = became w first es i x h
+
+    number : (b.entry.opcode == 15) ≡ true
+    number = sym (ap is_guard b.is) ∙ g
+
+    by : (o : Option ℤ) → error_of w es i b.entry ≡ o → (if (b.entry.opcode == 15) && is_none o then Some (first + i - 1) else None) ≡ Some t → t + 1 ≡ first + i
+    by None e q =
+        let v = stands_before es i (passes_behind w (behind_in es i) b.entry (eqb-true b.entry.opcode 15 number) e) in
+        let s : first + i - 1 ≡ t = let o : Some (first + i - 1) ≡ Some t = sym (ap (λ c. if c && true then Some (first + i - 1) else None) number) ∙ q in cc in
+        let k = v.is in
+        omega (arith, s, k)
+    by (Some n) e q = absurd (let o : None ≡ Some t = sym (ap (λ c. if c && false then Some (first + i - 1) else None) number) ∙ q in cc)
+
+-- ---- a row is issued, and its guard with it
+
+here : (f : Row → Row) (rows : List Row) (r : ℕ) (x : Row) → slice_get rows r ≡ Some x → slice_get (updated f rows r) r ≡ Some (f x)
+here f rows r x h = get-updated f rows r r ∙ ap (λ b. cond b (option_map f (slice_get rows r)) (slice_get rows r)) (eq-eqb r r refl) ∙ ap (option_map f) h
+
+pub apart : (f : Row → Row) (rows : List Row) (r i : ℕ) → (r ≡ i → ⊥) → slice_get (updated f rows r) i ≡ slice_get rows i
+apart f rows r i h = get-updated f rows r i ∙ ap (λ b. cond b (option_map f (slice_get rows i)) (slice_get rows i)) (ne_eqb r i h)
+
+pub same_row : (a b : Row) → Some a ≡ Some b → a ≡ b
+same_row a b h = cc
+
+-- what is told of the queued guard of a row
+pub record IsGuardOf (r : ℕ) (y : Row) : Type 0 where
+  pub guard : is_guard y ≡ true
+  pub queued : is_queued y.phase ≡ true
+  pub target : y.target ≡ Some r
+
+pub guard_told : (r : ℕ) (y : Row) → is_guard_of r y ≡ true → IsGuardOf r y
+guard_told r y h = by (is_guard y) (is_queued y.phase) refl refl h
+  where
+    number : (o : Option ℕ) → option_map_or (λ t. t == r) o false ≡ true → o ≡ Some r
+    number None k = absurd cc
+    number (Some t) k = ap Some (eqb-true t r k)
+
+    by : (a b : Bool) → is_guard y ≡ a → is_queued y.phase ≡ b → (a && (b && option_map_or (λ t. t == r) y.target false)) ≡ true → IsGuardOf r y
+    by true true p q k = record { guard = p; queued = q; target = number y.target k }
+    by true false p q k = absurd cc
+    by false b p q k = absurd cc
+
+told_guard : (r : ℕ) (y : Row) → is_guard y ≡ true → is_queued y.phase ≡ true → y.target ≡ Some r → is_guard_of r y ≡ true
+told_guard r y g q t = ap (λ b. b && (is_queued y.phase && option_map_or (λ n. n == r) y.target false)) g ∙ ap (λ b. b && option_map_or (λ n. n == r) y.target false) q ∙ ap (λ o. option_map_or (λ n. n == r) o false) t ∙ eq-eqb r r refl
+
+pub unfinished_queued : (p : Phase) → is_queued p ≡ true → is_unfinished p ≡ true
+unfinished_queued Queued h = refl
+unfinished_queued Issued h = absurd cc
+unfinished_queued (Ended n) h = absurd cc
+
+pub started_guards : (c n : ℕ) (rows : List Row) (r : ℕ) (x : Row) → slice_get rows r ≡ Some x → x.phase ≡ Queued → is_guard x ≡ false → AllGuardsStand rows → AllGuardsStand (all_started c n rows r)
+started_guards c n rows r x h q plain s = by (slice_get rows (r + 1)) refl
+  where
+    f : Row → Row
+    f = started c n
+
+    not_itself : (rs : List Row) (i : ℕ) (y : Row) → slice_get rs i ≡ Some y → is_guard y ≡ true → r ≡ i → slice_get rs r ≡ Some (f x) → ⊥
+    not_itself rs i y e g k o = let m = same_row (f x) y (sym o ∙ ap (slice_get rs) k ∙ e) in let z : false ≡ true = sym plain ∙ ap is_guard m ∙ g in cc
+
+    -- the row alone is issued
+    alone : ((y : Row) → slice_get rows (r + 1) ≡ Some y → is_guard_of r y ≡ true → ⊥) → AllGuardsStand (updated f rows r)
+    alone none i y e g u = elim (cases_eq r i) [
+      | inl k ↦ absurd (not_itself (updated f rows r) i y e g k (here f rows r x h))
+      | inr k ↦
+          let e' = sym (apart f rows r i k) ∙ e in
+          let w = s i y e' g u in
+          let away : (r ≡ w.target) → ⊥ = λ t.
+              let at : i ≡ r + 1 = sym w.behind ∙ ap (λ n. n + 1) (sym t) in
+              let mine = same_row x w.row (sym h ∙ ap (slice_get rows) t ∙ w.there) in
+              let queued : is_queued y.phase ≡ true = ap is_queued (sym w.alike ∙ sym (ap (λ (z : Row). z.phase) mine) ∙ q) in
+              none y (sym (ap (slice_get rows) at) ∙ e') (told_guard r y g queued (w.is ∙ ap Some (sym t))) in
+          record { target = w.target; is = w.is; behind = w.behind; row = w.row; there = apart f rows r w.target away ∙ w.there; other = w.other; unit = w.unit; alike = w.alike }
+    ]
+
+    -- and its guard with it
+    pair : (y : Row) → slice_get rows (r + 1) ≡ Some y → IsGuardOf r y → AllGuardsStand (updated f (updated f rows r) (r + 1))
+    pair y e t i z o g u = elim (cases_eq (r + 1) i) [
+      | inl k ↦
+          let w = s (r + 1) y e t.guard (unfinished_queued y.phase t.queued) in
+          let target : w.target ≡ r = let m = w.behind in omega (arith, m) in
+          let mine = same_row x w.row (sym h ∙ ap (slice_get rows) (sym target) ∙ w.there) in
+          let is = same_row (f y) z (sym (here f (updated f rows r) (r + 1) y (apart f rows r (r + 1) (λ m. absurd (omega (arith, m))) ∙ e)) ∙ ap (slice_get (updated f (updated f rows r) (r + 1))) k ∙ o) in
+          subst (GuardStands (updated f (updated f rows r) (r + 1)) i) is (record {
+            target = r; is = t.target; behind = k; row = f x; there = apart f (updated f rows r) (r + 1) r (λ m. absurd (omega (arith, m))) ∙ here f rows r x h;
+            other = plain; unit = ap (λ (v : Row). v.unit) mine ∙ w.unit; alike = refl;
+          })
+      | inr k ↦ elim (cases_eq r i) [
+        | inl l ↦ absurd (not_itself (updated f (updated f rows r) (r + 1)) i z o g l (apart f (updated f rows r) (r + 1) r (λ m. absurd (omega (arith, m))) ∙ here f rows r x h))
+        | inr l ↦
+            let o' = sym (apart f (updated f rows r) (r + 1) i k ∙ apart f rows r i l) ∙ o in
+            let w = s i z o' g u in
+            let away : (r ≡ w.target) → ⊥ = λ m. k (ap (λ n. n + 1) m ∙ w.behind) in
+            let past : (r + 1 ≡ w.target) → ⊥ = λ m.
+                let guard = same_row y w.row (sym e ∙ ap (slice_get rows) m ∙ w.there) in
+                let b : false ≡ true = sym w.other ∙ sym (ap is_guard guard) ∙ t.guard in cc in
+            record { target = w.target; is = w.is; behind = w.behind; row = w.row; there = apart f (updated f rows r) (r + 1) w.target past ∙ apart f rows r w.target away ∙ w.there; other = w.other; unit = w.unit; alike = w.alike }
+      ]
+    ]
+
+    told : (b : Bool) → option_map_or (is_guard_of r) (slice_get rows (r + 1)) false ≡ b → AllGuardsStand (if b then updated f (updated f rows r) (r + 1) else updated f rows r) → AllGuardsStand (all_started c n rows r)
+    told b k a = subst (λ (d : Bool). AllGuardsStand (if d then updated f (updated f rows r) (r + 1) else updated f rows r)) (sym k) a
+
+    chosen : (y : Row) → slice_get rows (r + 1) ≡ Some y → (b : Bool) → is_guard_of r y ≡ b → AllGuardsStand (all_started c n rows r)
+    chosen y e true k = told true (ap (λ o. option_map_or (is_guard_of r) o false) e ∙ k) (pair y e (guard_told r y k))
+    chosen y e false k = told false (ap (λ o. option_map_or (is_guard_of r) o false) e ∙ k) (alone (λ z a t. let m = same_row z y (sym a ∙ e) in let b : true ≡ false = sym t ∙ ap (is_guard_of r) m ∙ k in cc))
+
+    by : (o : Option Row) → slice_get rows (r + 1) ≡ o → AllGuardsStand (all_started c n rows r)
+    by None e = told false (ap (λ o. option_map_or (is_guard_of r) o false) e) (alone (λ z a t. let b : None ≡ Some z = sym e ∙ a in cc))
+    by (Some y) e = chosen y e (is_guard_of r y) refl
+
+-- a row that may be issued is no guard
+pub eligible_no_guard : (rows : List Row) (r : ℕ) (x : Row) → slice_get rows r ≡ Some x → is_eligible rows r ≡ true → is_guard x ≡ false
+eligible_no_guard rows r x h e = by (is_queued x.phase) (is_guard x) (list_any (λ (p : ℕ × Row). waits_for rows r x p.0 p.1) (enumerate_from 0 rows)) refl (sym (ap (λ o. option_map_or (may_start rows r) o false) h) ∙ e)
+  where
+    by : (a b c : Bool) → is_guard x ≡ b → (a && (not b && not c)) ≡ true → is_guard x ≡ false
+    by true true c k m = absurd cc
+    by true false c k m = k
+    by false b c k m = absurd cc

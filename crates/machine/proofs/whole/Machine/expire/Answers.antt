@@ -1,0 +1,23 @@
+use Rattle.std.proofs.Common.{◌≡◌, sym, ◌∙◌, ap}
+use Rattle.std.specs.Prelude.{slice_get, Some}
+use Rattle.entries.specs.declared.row.Row.{Row}
+use Rattle.entries.specs.declared.row.Phase.TheVariants.{Issued}
+use Rattle.machine.proofs.EnterLemmas.{expired_row}
+use Rattle.machine.proofs.ExpiryLemmas.{direct_pair}
+use Rattle.machine.proofs.GuardLemmas.{same_row, stand_behind}
+use Rattle.machine.proofs.whole.Machine.expire.Goals as goal
+
+pub fall-requires-clause-direct : goal.fall-requires-clause-direct
+fall-requires-clause-direct c =
+    let m = c.args.self.now in
+    let x = expired_row m c.args.r c.requires.accepted in
+    let there : slice_get m.table c.args.r ≡ Some c.in-Some.row = sym c.get.ensures ∙ c.in-Some.is in
+    let same = same_row x.0 c.in-Some.row (sym x.1 ∙ there) in
+    let issued : c.in-Some.row.phase ≡ Issued = ap (λ (y : Row). y.phase) (sym same) ∙ x.2 in
+    direct_pair m c.args.r c.in-Some-waiting_target.target c.in-Some.row c.requires.formed there issued (sym c.waiting_target.ensures ∙ c.in-Some-waiting_target.is)
+
+pub fall-requires-clause-guards : goal.fall-requires-clause-guards
+fall-requires-clause-guards c = stand_behind c.args.self.now.table c.requires.formed.guards
+
+pub fall-requires-in-None-clause-guards : goal.fall-requires-in-None-clause-guards
+fall-requires-in-None-clause-guards c = stand_behind c.args.self.now.table c.requires.formed.guards

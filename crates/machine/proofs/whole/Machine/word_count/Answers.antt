@@ -1,0 +1,13 @@
+use Rattle.std.proofs.Common.{arith}
+use Rattle.std.proofs.lemmas.List.{length-take-le}
+use Rattle.ring_words.specs.Rings.{sub_list}
+use Rattle.machine.specs.Submission.{offered}
+use Rattle.machine.proofs.FormedRows.{length-entries_at}
+use Rattle.machine.proofs.whole.Machine.word_count.Goals as goal
+
+pub returns-else-halted-clause-enough : goal.returns-else-halted-clause-enough
+returns-else-halted-clause-enough c =
+    let w = c.args.self.now.submissions in
+    let n = length-take-le c.args.most (sub_list w) c.requires.offered in
+    let l = length-entries_at w.slots (offered w c.args.most) in
+    omega (arith, n, l, c.requires.named)
