@@ -6,6 +6,8 @@ mod guards;
 pub mod laws;
 mod matching;
 mod merging;
+#[cfg(test)]
+mod tests;
 mod timers;
 
 pub use falling::fall;
