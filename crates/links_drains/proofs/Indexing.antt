@@ -1,15 +1,17 @@
--- What the sets beside the rows have, once the rows are changed.
+-- What the sets and thresholds beside the rows have, once the rows are changed.
 use Rattle.std.proofs.Common.{◌≡◌, ◌≢◌, ℕ, zero, suc, Bool, true, false, cond, refl, sym, ◌∙◌, ap, subst, List, [], ◌∷◌, ◌++◌, length, take, ◌+◌, ◌-◌, ◌<◌, ◌≤◌, ◌⊎◌, inl, inr, arith}
 use Rattle.std.specs.Prelude.{Some, slice_get, slice_set, ◌==◌, ◌&&◌}
 use Rattle.std.specs.Option.{option_map_or}
 use Rattle.std.proofs.lemmas.Bool.{cases_eq, cases_lt, eq-eqb, eqb-true, ne_eqb, and_left}
-use Rattle.std.proofs.lemmas.List.{length-set, length-take}
+use Rattle.std.proofs.lemmas.List.{get_or_past, length-set, length-take}
 use Rattle.std.proofs.lemmas.Option.{slice_get_within, slice_get_past}
 use Rattle.entries.specs.declared.row.Row.{Row}
 use Rattle.places.proofs.ListLemmas.{slice_get-set, slice_get-push, slice_get-take_below, slice_get-take_above, updated_set}
+use Rattle.links_drains.specs.Counts.{never, threshold_in, threshold_of}
 use Rattle.links_drains.specs.Links.{asks_to_drain, Chained, GoesOn}
-use Rattle.links_drains.specs.Indexes.{HasRoom, Indexed, IndexedBut, Cleared, Forgotten}
+use Rattle.links_drains.specs.Indexes.{HasRoom, Indexed, IndexedBut, Cleared, Unreached, Forgotten}
 use Rattle.links_drains.specs.Sets.{has}
+use Rattle.links_drains.specs.Thresholds.{threshold_at}
 use Rattle.links_drains.specs.Units.{passes_at, is_going, is_open, is_barrier}
 use Rattle.links_drains.specs.declared.index.Index.{Index}
 use Rattle.links_drains.proofs.Chains.{chained-none, chained-take, chained-updated}
@@ -71,6 +73,13 @@ tied test rows r x row b old new e h t others written q = elim (cases_eq q r) [
   | inr other ↦ written q ∙ ap (λ d. cond d b (has old q)) (ne_eqb q r other) ∙ others q other
 ]
 
+pub tied_thresholds : (rows : List Row) (r : ℕ) (x row : Row) (n : ℕ) (old new : List ℕ) → x ≡ row → slice_get rows r ≡ Some row → n ≡ threshold_of x
+    → ((q : ℕ) → q ≢ r → threshold_at old q ≡ threshold_in rows q) → ((q : ℕ) → threshold_at new q ≡ cond (q == r) n (threshold_at old q)) → (q : ℕ) → threshold_at new q ≡ threshold_in rows q
+tied_thresholds rows r x row n old new e h t others written q = elim (cases_eq q r) [
+  | inl same ↦ written q ∙ ap (λ d. cond d n (threshold_at old q)) (eq-eqb q r same) ∙ t ∙ ap threshold_of e ∙ sym (ap (λ o. option_map_or threshold_of o never) (ap (slice_get rows) same ∙ h))
+  | inr other ↦ written q ∙ ap (λ d. cond d n (threshold_at old q)) (ne_eqb q r other) ∙ others q other
+]
+
 tied_barriers : (rows : List Row) (unit : ℕ) (b : Bool) (old new : List ℕ) → b ≡ is_barrier rows unit → ((u : ℕ) → u ≢ unit → has old u ≡ is_barrier rows u)
     → ((u : ℕ) → has new u ≡ cond (u == unit) b (has old u)) → (u : ℕ) → has new u ≡ is_barrier rows u
 tied_barriers rows unit b old new t others written u = elim (cases_eq u unit) [
@@ -80,15 +89,19 @@ tied_barriers rows unit b old new t others written u = elim (cases_eq u unit) [
 
 pub updated_index : (rows : List Row) (r : ℕ) (x row : Row) (b : Bool) (old new : Index) → x ≡ row → b ≡ is_barrier rows x.unit → IndexedBut r row.unit rows old
     → length new.unfinished ≡ length old.unfinished → length new.flagged ≡ length old.flagged → length new.barriers ≡ length old.barriers → length new.issued ≡ length old.issued
+    → length new.thresholds ≡ length old.thresholds
     → ((q : ℕ) → has new.unfinished q ≡ passes_at is_open rows q) → ((q : ℕ) → has new.flagged q ≡ passes_at asks_to_drain rows q)
-    → ((u : ℕ) → has new.barriers u ≡ cond (u == x.unit) b (has old.barriers u)) → ((q : ℕ) → has new.issued q ≡ passes_at is_going rows q) → Indexed rows new
-updated_index rows r x row stands old new e t i la lb lc ld a b c d = record {
+    → ((u : ℕ) → has new.barriers u ≡ cond (u == x.unit) b (has old.barriers u)) → ((q : ℕ) → has new.issued q ≡ passes_at is_going rows q)
+    → ((q : ℕ) → threshold_at new.thresholds q ≡ threshold_in rows q) → Indexed rows new
+updated_index rows r x row stands old new e t i la lb lc ld le a b c d f = record {
   chained = i.chained;
-  room = let x = i.room.unfinished in let y = i.room.flagged in let z = i.room.barriers in let s = i.room.issued in record { unfinished = omega (arith, la, x); flagged = omega (arith, lb, y); barriers = omega (arith, lc, z); issued = omega (arith, ld, s) };
+  room = let x = i.room.unfinished in let y = i.room.flagged in let z = i.room.barriers in let s = i.room.issued in let u = i.room.thresholds in
+      record { unfinished = omega (arith, la, x); flagged = omega (arith, lb, y); barriers = omega (arith, lc, z); issued = omega (arith, ld, s); thresholds = omega (arith, le, u) };
   unfinished = a;
   flagged = b;
   barriers = tied_barriers rows x.unit stands old.barriers new.barriers t (λ u other. i.barriers u (λ same. other (same ∙ sym (ap (λ (y : Row). y.unit) e)))) c;
   issued = d;
+  thresholds = f;
 }
 
 -- ---- the rows change
@@ -108,6 +121,7 @@ indexed_set rows index r before row i h same = record {
   flagged = λ q other. i.flagged q ∙ ap (λ o. option_map_or asks_to_drain o false) (sym (get_other rows r q row (slice_get_within rows r before h) other));
   barriers = λ u other. i.barriers u ∙ both _ _ _ _ (sym (any_of_set asks_to_drain rows r u before row h same other)) (sym (any_of_set is_open rows r u before row h same other));
   issued = λ q other. i.issued q ∙ ap (λ o. option_map_or is_going o false) (sym (get_other rows r q row (slice_get_within rows r before h) other));
+  thresholds = λ q other. i.thresholds q ∙ ap (λ o. option_map_or threshold_of o never) (sym (get_other rows r q row (slice_get_within rows r before h) other));
 }
 
 -- a row is added behind the others
@@ -122,6 +136,7 @@ indexed_push rows index row i room on = record {
   flagged = λ q other. i.flagged q ∙ ap (λ o. option_map_or asks_to_drain o false) (sym (get_before rows row q other));
   barriers = λ u other. i.barriers u ∙ both _ _ _ _ (sym (any_of_push asks_to_drain rows u row other)) (sym (any_of_push is_open rows u row other));
   issued = λ q other. i.issued q ∙ ap (λ o. option_map_or is_going o false) (sym (get_before rows row q other));
+  thresholds = λ q other. i.thresholds q ∙ ap (λ o. option_map_or threshold_of o never) (sym (get_before rows row q other));
 }
 
 -- rows are dropped
@@ -137,6 +152,18 @@ tie_dropped test rows n old new h c r = elim (cases_lt r n) [
   where
     gone : n ≤ r → false ≡ passes_at test (take n rows) r
     gone past = sym (ap (λ o. option_map_or test o false) (slice_get-take_above rows n r past))
+
+thresholds_dropped : (rows : List Row) (n : ℕ) (old new : List ℕ) → ((r : ℕ) → threshold_at old r ≡ threshold_in rows r) → Unreached n (length rows) old new → (r : ℕ) → threshold_at new r ≡ threshold_in (take n rows) r
+thresholds_dropped rows n old new h c r = elim (cases_lt r n) [
+  | inl less ↦ c.below r less ∙ h r ∙ ap (λ o. option_map_or threshold_of o never) (sym (slice_get-take_below rows n r less))
+  | inr past ↦ elim (cases_lt r (length rows)) [
+    | inl inside ↦ c.inside r past inside ∙ gone past
+    | inr out ↦ c.past r out ∙ h r ∙ ap (λ o. option_map_or threshold_of o never) (slice_get_past rows r out) ∙ gone past
+  ]
+]
+  where
+    gone : n ≤ r → never ≡ threshold_in (take n rows) r
+    gone past = sym (ap (λ o. option_map_or threshold_of o never) (slice_get-take_above rows n r past))
 
 kept_row : (rows : List Row) (n r : ℕ) (x : Row) → slice_get (take n rows) r ≡ Some x → (r < n) × (slice_get rows r ≡ Some x)
 kept_row rows n r x h = by (cases_lt r n)
@@ -165,11 +192,12 @@ barrier_dropped rows n u old new chained h c others = elim (cases_lt u n) [
 pub indexed_none : (rows : List Row) (old new : Index) → Indexed rows old → Forgotten 0 (length rows) old new → Indexed [] new
 indexed_none rows old new i f = record {
   chained = chained-none;
-  room = record { unfinished = omega arith; flagged = omega arith; barriers = omega arith; issued = omega arith };
+  room = record { unfinished = omega arith; flagged = omega arith; barriers = omega arith; issued = omega arith; thresholds = omega arith };
   unfinished = tie_dropped is_open rows 0 old.unfinished new.unfinished i.unfinished f.unfinished;
   flagged = tie_dropped asks_to_drain rows 0 old.flagged new.flagged i.flagged f.flagged;
   barriers = λ u. barrier_dropped rows 0 u old.barriers new.barriers i.chained i.barriers f.barriers (λ less. absurd (omega (arith, less)));
   issued = tie_dropped is_going rows 0 old.issued new.issued i.issued f.issued;
+  thresholds = thresholds_dropped rows 0 old.thresholds new.thresholds i.thresholds f.thresholds;
 }
 
 -- the last row that is kept
@@ -184,22 +212,24 @@ last_kept rows n some h = let w = element rows (n - 1) (omega (arith, some, h)) 
 pub indexed_take : (rows : List Row) (old new : Index) (n : ℕ) (last : Row) → Indexed rows old → 0 < n → slice_get rows (n - 1) ≡ Some last → Forgotten n (length rows) old new → IndexedBut (n - 1) last.unit (take n rows) new
 indexed_take rows old new n last i some h f = record {
   chained = chained-take rows n i.chained;
-  room = let t = length-take n rows in let a = i.room.unfinished in let b = i.room.flagged in let d = i.room.barriers in let e = i.room.issued in let x = f.unfinished.len in let y = f.flagged.len in let z = f.barriers.len in let w = f.issued.len in
-      record { unfinished = omega (arith, t, a, x); flagged = omega (arith, t, b, y); barriers = omega (arith, t, d, z); issued = omega (arith, t, e, w) };
+  room = let t = length-take n rows in let a = i.room.unfinished in let b = i.room.flagged in let d = i.room.barriers in let e = i.room.issued in let g = i.room.thresholds in let x = f.unfinished.len in let y = f.flagged.len in let z = f.barriers.len in let w = f.issued.len in let u = f.thresholds.len in
+      record { unfinished = omega (arith, t, a, x); flagged = omega (arith, t, b, y); barriers = omega (arith, t, d, z); issued = omega (arith, t, e, w); thresholds = omega (arith, t, g, u) };
   unfinished = λ q other. tie_dropped is_open rows n old.unfinished new.unfinished i.unfinished f.unfinished q;
   flagged = λ q other. tie_dropped asks_to_drain rows n old.flagged new.flagged i.flagged f.flagged q;
   barriers = λ u other. barrier_dropped rows n u old.barriers new.barriers i.chained i.barriers f.barriers
       (λ less r x past g e. other (sym e ∙ sym (i.chained.run (n - 1) r last x h g (omega (arith, past)) (omega (arith, e, less)))));
   issued = λ q other. tie_dropped is_going rows n old.issued new.issued i.issued f.issued q;
+  thresholds = λ q other. thresholds_dropped rows n old.thresholds new.thresholds i.thresholds f.thresholds q;
 }
 
--- no row, and no number in any set
-pub indexed_empty : (index : Index) → index.unfinished ≡ [] → index.flagged ≡ [] → index.barriers ≡ [] → index.issued ≡ [] → Indexed [] index
-indexed_empty index a b c d = record {
+-- no row, no number in any set, and no threshold
+pub indexed_empty : (index : Index) → index.unfinished ≡ [] → index.flagged ≡ [] → index.barriers ≡ [] → index.issued ≡ [] → index.thresholds ≡ [] → Indexed [] index
+indexed_empty index a b c d e = record {
   chained = chained-none;
-  room = record { unfinished = omega arith; flagged = omega arith; barriers = omega arith; issued = omega arith };
+  room = record { unfinished = omega arith; flagged = omega arith; barriers = omega arith; issued = omega arith; thresholds = omega arith };
   unfinished = λ r. ap (λ w. has w r) a ∙ has_past [] r (omega arith);
   flagged = λ r. ap (λ w. has w r) b ∙ has_past [] r (omega arith);
   barriers = λ u. ap (λ w. has w u) c ∙ has_past [] u (omega arith);
   issued = λ r. ap (λ w. has w r) d ∙ has_past [] r (omega arith);
+  thresholds = λ r. ap (λ w. threshold_at w r) e ∙ get_or_past [] r never (omega arith);
 }

@@ -10,7 +10,9 @@ pub mod Fixed
 pub mod Indexing
 pub mod IssuedRows
 pub mod Listing
+pub mod MetRows
 pub mod Numbers
+pub mod Reaching
 pub mod Rising
 pub mod Remaining
 pub mod RestOfUnit

@@ -1,8 +1,10 @@
--- What the sets beside the rows have.
+-- What the sets and thresholds beside the rows have.
 use Rattle.std.specs.Prelude.{◌≡◌, ◌≢◌, ℕ, ◌*◌, ◌≤◌, ◌<◌, false, List, length}
 use Rattle.entries.specs.declared.row.Row.{Row}
+use Rattle.links_drains.specs.Counts.{never, threshold_in}
 use Rattle.links_drains.specs.Links.{asks_to_drain, Chained}
 use Rattle.links_drains.specs.Sets.{has}
+use Rattle.links_drains.specs.Thresholds.{threshold_at}
 use Rattle.links_drains.specs.Units.{passes_at, is_going, is_open, is_barrier}
 use Rattle.links_drains.specs.declared.index.Index.{Index}
 
@@ -12,6 +14,7 @@ pub record HasRoom (n : ℕ) (index : Index) : Type 0 where
   pub flagged : n ≤ 64 * length index.flagged
   pub barriers : n ≤ 64 * length index.barriers
   pub issued : n ≤ 64 * length index.issued
+  pub thresholds : n ≤ length index.thresholds
 
 pub record Indexed (rows : List Row) (index : Index) : Type 0 where
   pub chained : Chained rows
@@ -20,8 +23,9 @@ pub record Indexed (rows : List Row) (index : Index) : Type 0 where
   pub flagged : (r : ℕ) → has index.flagged r ≡ passes_at asks_to_drain rows r
   pub barriers : (unit : ℕ) → has index.barriers unit ≡ is_barrier rows unit
   pub issued : (r : ℕ) → has index.issued r ≡ passes_at is_going rows r
+  pub thresholds : (r : ℕ) → threshold_at index.thresholds r ≡ threshold_in rows r
 
--- All but what the sets say of one row, and of its unit.
+-- All but what they say of one row, and of its unit.
 pub record IndexedBut (r unit : ℕ) (rows : List Row) (index : Index) : Type 0 where
   pub chained : Chained rows
   pub room : HasRoom (length rows) index
@@ -29,6 +33,7 @@ pub record IndexedBut (r unit : ℕ) (rows : List Row) (index : Index) : Type 0 
   pub flagged : (q : ℕ) → q ≢ r → has index.flagged q ≡ passes_at asks_to_drain rows q
   pub barriers : (u : ℕ) → u ≢ unit → has index.barriers u ≡ is_barrier rows u
   pub issued : (q : ℕ) → q ≢ r → has index.issued q ≡ passes_at is_going rows q
+  pub thresholds : (q : ℕ) → q ≢ r → threshold_at index.thresholds q ≡ threshold_in rows q
 
 -- The numbers from one up to another were taken out of a set.
 pub record Cleared (from to : ℕ) (old new : List ℕ) : Type 0 where
@@ -37,9 +42,17 @@ pub record Cleared (from to : ℕ) (old new : List ℕ) : Type 0 where
   pub inside : (i : ℕ) → from ≤ i → i < to → has new i ≡ false
   pub past : (i : ℕ) → to ≤ i → has new i ≡ has old i
 
+-- Nothing reaches the numbers from one up to another.
+pub record Unreached (from to : ℕ) (old new : List ℕ) : Type 0 where
+  pub len : length new ≡ length old
+  pub below : (i : ℕ) → i < from → threshold_at new i ≡ threshold_at old i
+  pub inside : (i : ℕ) → from ≤ i → i < to → threshold_at new i ≡ never
+  pub past : (i : ℕ) → to ≤ i → threshold_at new i ≡ threshold_at old i
+
 -- They were taken out of each set.
 pub record Forgotten (from to : ℕ) (old new : Index) : Type 0 where
   pub unfinished : Cleared from to old.unfinished new.unfinished
   pub flagged : Cleared from to old.flagged new.flagged
   pub barriers : Cleared from to old.barriers new.barriers
   pub issued : Cleared from to old.issued new.issued
+  pub thresholds : Unreached from to old.thresholds new.thresholds

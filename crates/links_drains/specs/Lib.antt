@@ -1,4 +1,5 @@
 pub mod Batches
+pub mod Counts
 pub mod Eligible
 pub mod Endings
 pub mod Holding
@@ -8,4 +9,5 @@ pub mod Phases
 pub mod Rows
 pub mod Sets
 pub mod Tables
+pub mod Thresholds
 pub mod Units

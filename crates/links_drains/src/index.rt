@@ -1,13 +1,15 @@
-//! Sets beside the rows that tell at once which of them may be issued.
-ghost use Rattle.std.specs.Prelude.{◌≡◌, ℕ, ◌+◌, ◌*◌, ◌<◌, ◌≤◌, [], true, Some, IfOk, IfSome, IfNone, OnOk, MatchBool, length, slice_get, take};
+//! Sets and thresholds beside the rows that tell at once which of them may be issued, and which end by a count.
+ghost use Rattle.std.specs.Prelude.{◌≡◌, ℕ, ◌+◌, ◌-◌, ◌*◌, ◌^◌, ◌<◌, ◌≤◌, [], true, Some, IfOk, IfSome, IfNone, OnOk, MatchBool, length, slice_get, take};
 ghost use Rattle.entries.specs.declared.row.Row.{Row};
 ghost use Rattle.links_drains.specs.Eligible.{is_eligible, GuardsFollow};
 ghost use Rattle.links_drains.specs.Links.{asks_to_drain as has_drain, Chained};
 ghost use Rattle.links_drains.specs.Sets.{has, IsNext, NoneFrom};
+ghost use Rattle.links_drains.specs.Thresholds.{IsNextReached, NoneReachedFrom};
 ghost use Rattle.links_drains.specs.Units.{passes_at, is_open, is_barrier as stands_before, HasRowOf, HasNoRowOf};
 
 use crate::links::{asks_to_drain, is_guard, is_issued, is_queued, is_unfinished};
 use crate::sets::NumberSet;
+use crate::thresholds::{NEVER, Thresholds, threshold_of};
 use entries::Row;
 use std::alloc::{AllocError, Global};
 
@@ -22,6 +24,8 @@ pub(crate) struct Index {
     barriers: NumberSet,
     /// The issued rows.
     issued: NumberSet,
+    /// How many completions have to be counted before a row ends by it.
+    thresholds: Thresholds,
 }
 
 impl Index {
@@ -36,6 +40,7 @@ impl Index {
             flagged: NumberSet::new(alloc),
             barriers: NumberSet::new(alloc),
             issued: NumberSet::new(alloc),
+            thresholds: Thresholds::new(alloc),
         }
     }
 
@@ -49,7 +54,8 @@ impl Index {
         self.unfinished.make_room(rows.len())?;
         self.flagged.make_room(rows.len())?;
         self.barriers.make_room(rows.len())?;
-        self.issued.make_room(rows.len())
+        self.issued.make_room(rows.len())?;
+        self.thresholds.make_room(rows.len())
     }
 
     /// A row has come, or has changed within its unit, or has become the last.
@@ -63,6 +69,7 @@ impl Index {
         let stands = is_barrier(&self.flagged, &self.unfinished, rows, row.unit);
         self.barriers.write(row.unit as usize, stands);
         self.issued.write(r, is_issued(row));
+        self.thresholds.write(r, threshold_of(row));
     }
 
     /// The rows from a number on go. It takes time by how many they are.
@@ -87,6 +94,7 @@ impl Index {
             self.flagged.write(r, false);
             self.barriers.write(r, false);
             self.issued.write(r, false);
+            self.thresholds.write(r, NEVER);
         }
     }
 
@@ -121,6 +129,15 @@ impl Index {
         self.issued.next(from)
     }
 
+    /// The least row from a number on that ends as so many completions were counted.
+    pub(crate) fn next_met(&self, total: u32, from: usize) -> Option<usize>
+        requires { total < 2 ^ 32 - 1 }
+        ensures some { IfSome result (λ r. IsNextReached self.now.thresholds total from r) }
+        ensures none { IfNone result (NoneReachedFrom self.now.thresholds total from) }
+    {
+        self.thresholds.next(from, total)
+    }
+
     /// An index of the same rows.
     pub(crate) fn copy(&self, alloc: Global) -> Result<Index, AllocError>
         ensures { IfOk result (λ index. index ≡ self.now) }
@@ -130,6 +147,7 @@ impl Index {
             flagged: self.flagged.copy(alloc)?,
             barriers: self.barriers.copy(alloc)?,
             issued: self.issued.copy(alloc)?,
+            thresholds: self.thresholds.copy(alloc)?,
         })
     }
 }

@@ -10,6 +10,7 @@ mod rest;
 mod sets;
 pub mod submission;
 pub mod table;
+mod thresholds;
 
 pub use links::{is_guard, is_issued, is_soft_linked, is_unfinished};
 pub use submission::Batch;

@@ -1,5 +1,6 @@
 //! Links between the requests of a chain (io_uring_enter(2)).
 ghost use Rattle.std.specs.Prelude.{◌≡◌};
+ghost use Rattle.links_drains.specs.Counts.{is_count_timeout};
 ghost use Rattle.links_drains.specs.Links.{is_soft_linked, is_linked, is_guard, asks_to_drain};
 ghost use Rattle.links_drains.specs.Phases.{is_issued, is_queued, is_unfinished};
 
@@ -51,6 +52,13 @@ pub fn is_issued(row: &Row) -> bool
     ensures { result ≡ is_issued row.now.phase }
 {
     matches!(row.phase, Phase::Issued)
+}
+
+/// Whether a row is an issued TIMEOUT that ends once so many completions were counted.
+pub(crate) fn is_count_timeout(row: &Row) -> bool
+    ensures { result ≡ is_count_timeout row.now }
+{
+    is_issued(row) && row.entry.opcode == Op::Timeout as u8 && 0 < row.entry.off
 }
 
 /// Whether a row hasn't ended.

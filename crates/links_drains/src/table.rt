@@ -1,11 +1,12 @@
 //! The table of all rows that were ever submitted.
-ghost use Rattle.std.specs.Prelude.{◌≡◌, ℕ, ◌+◌, ◌<◌, ◌≤◌, ◌^◌, ◌++◌, ◌∷◌, [], take, map, Some, None, IfOk, IfSome, IfNone, OnOk, OnErr, OnSome, length, option_map, slice_get, slice_set};
+ghost use Rattle.std.specs.Prelude.{◌≡◌, ℕ, ◌+◌, ◌-◌, ◌<◌, ◌≤◌, ◌^◌, ◌++◌, ◌∷◌, [], take, map, Some, None, IfOk, IfSome, IfNone, OnOk, OnErr, OnSome, length, option_map, slice_get, slice_set};
 ghost use Rattle.entries.specs.declared.row.Row.{Row};
 ghost use Rattle.entries.specs.declared.row.Phase.TheVariants.{Issued};
 ghost use Rattle.places.specs.Lists.{updated};
 ghost use Rattle.places.specs.View.{Keeps, named, put_at};
 ghost use Rattle.places.specs.declared.place.Place.{Place};
 ghost use Rattle.model_files.specs.Holders.{is_held};
+ghost use Rattle.links_drains.specs.Counts.{IsNextMet, NoneMetFrom};
 ghost use Rattle.links_drains.specs.Eligible.{is_eligible, GuardsFollow};
 ghost use Rattle.links_drains.specs.Holding.{is_held_by};
 ghost use Rattle.links_drains.specs.Links.{GoesOn};
@@ -168,6 +169,20 @@ impl Table {
         ensures few { IfSome result (λ r. r < 65536) }
     {
         match self.index.next_issued(from as usize) {
+            Some(r) => Some(r as u32),
+            None => None,
+        }
+    }
+
+    /// The least row from a number on that is an issued TIMEOUT for which as many completions were counted
+    /// as it waits for. It takes no more time where more rows are issued or have ended.
+    pub fn next_met(&self, total: u32, from: u32) -> Option<u32>
+        requires { total < 2 ^ 32 - 1 }
+        ensures some { IfSome result (λ r. IsNextMet self.now total from r) }
+        ensures none { IfNone result (NoneMetFrom self.now total from) }
+        ensures few { IfSome result (λ r. r < 65536) }
+    {
+        match self.index.next_met(total, from as usize) {
             Some(r) => Some(r as u32),
             None => None,
         }
@@ -452,16 +467,78 @@ mod tests {
         Ok(())
     }
 
-    // Puts the first row back to where it was issued.
-    fn put_back_issued(table: &mut Table) {
-        let Some(row) = table.get(0) else {
+    // A TIMEOUT that waits for a count of completions.
+    fn counting(off: u64) -> Sqe {
+        Sqe {
+            opcode: 11,
+            off,
+            ..nop(7)
+        }
+    }
+
+    // Whether the rows that are met at a total are a row and a later one.
+    fn are_met(table: &Table, total: u32, first: u32, second: u32) -> bool
+        requires total { total < 1000 }
+        requires second { second < 65536 }
+    {
+        table.next_met(total, 0) == Some(first)
+            && table.next_met(total, first) == Some(first)
+            && table.next_met(total, first + 1) == Some(second)
+            && table.next_met(total, second + 1).is_none()
+    }
+
+    // Whether TIMEOUTs that wait for 2, 1 and 2 completions behind a NOP are met once they are issued.
+    fn meets_the_issued(table: &mut Table) -> Result<bool, AllocError>
+        requires { length table.old ≡ 4 }
+        ensures len { length table.new ≡ length table.old }
+    {
+        let queued = table.next_met(9, 0);
+        hold(table, 1, 3)?;
+        hold(table, 3, 3)?;
+        Ok(queued.is_none() && table.next_met(1, 0).is_none() && are_met(table, 2, 1, 3))
+    }
+
+    // Whether the first of them isn't met once it ended, and again once it is put back with a base.
+    fn meets_what_is_put_back(table: &mut Table) -> Result<bool, AllocError>
+        requires { length table.old ≡ 4 }
+        ensures len { length table.new ≡ length table.old }
+    {
+        end(table, 1)?;
+        let ended = table.next_met(9, 0) == Some(3);
+        put_back_issued(table, 1, 4);
+        Ok(ended && table.next_met(5, 0) == Some(3) && are_met(table, 6, 1, 3))
+    }
+
+    // Whether a copy has those that are met, once the table that it came from has lost them.
+    fn copy_alone_meets(table: &mut Table) -> Result<bool, AllocError> {
+        let copied = table.copy(table.allocator())?;
+        table.truncate(1);
+        Ok(table.next_met(9, 0).is_none() && are_met(&copied, 6, 1, 3))
+    }
+
+    #[test]
+    fn counts_are_met_in_order(rt: HostRuntime) -> Result<(), AllocError> {
+        let mut table = table_of(rt.alloc(), &[nop(7), counting(2), counting(1), counting(2)])?;
+        assert_eq!(rt; table.len(), 4);
+        assert!(rt; meets_the_issued(&mut table)?);
+        assert!(rt; meets_what_is_put_back(&mut table)?);
+        assert!(rt; copy_alone_meets(&mut table)?);
+        Ok(())
+    }
+
+    // Puts a row back to where it was issued, as a number of completions had been counted.
+    fn put_back_issued(table: &mut Table, r: u32, base: u32)
+        ensures { length table.new ≡ length table.old }
+    {
+        let Some(row) = table.get(r) else {
             return;
         };
         let issued = Row {
             phase: Phase::Issued,
+            base,
             ..row
         };
-        table.put(Place::Request(0), Some(Value::Requested(issued)));
+        table.put(Place::Request(r), Some(Value::Requested(issued)));
     }
 
     // The table of a batch of no more than nine.
@@ -489,7 +566,7 @@ mod tests {
         hold(&mut table, 0, 5)?;
         end(&mut table, 0)?;
         assert_eq!(rt; table.held().holds(5), false);
-        put_back_issued(&mut table);
+        put_back_issued(&mut table, 0, 0);
         assert_eq!(rt; table.held().holds(5), true);
         assert!(rt; copy_alone_holds(rt.alloc(), &mut table, 5)?);
         Ok(())

@@ -1,11 +1,12 @@
 -- Which rows a step ends, and with what results: those that it ends of itself, and those that fall with them (io_uring_enter(2)).
-use Rattle.std.specs.Prelude.{◌≡◌, ℕ, ℤ, pos, negsuc, ◌+◌, ◌==◌, Bool, true, false, not, ◌&&◌, ◌||◌, nat_lt, nat_le, if◌then◌else◌, Option, Some, None, slice_get, List, length}
+use Rattle.std.specs.Prelude.{◌≡◌, ℕ, ℤ, pos, negsuc, ◌+◌, ◌==◌, Bool, true, false, not, ◌&&◌, ◌||◌, nat_lt, if◌then◌else◌, Option, Some, None, slice_get, List, length}
 use Rattle.std.specs.Option.{option_map_or}
 use Rattle.std.specs.List.{filter, list_any}
 use Rattle.entries.specs.declared.row.Row.{Row}
+pub use Rattle.links_drains.specs.Counts.{is_count_timeout, is_met}
 use Rattle.links_drains.specs.Endings.{Ending, ecanceled, result_in, is_listed, given, or_else, endings}
 use Rattle.links_drains.specs.Links.{is_soft_linked, is_guard}
-use Rattle.links_drains.specs.Phases.{is_issued, is_unfinished, counts}
+use Rattle.links_drains.specs.Phases.{is_unfinished, counts}
 
 -- ---- rows and results
 
@@ -27,10 +28,6 @@ is_bad row res =
     if is_transfer row.entry.opcode then not (is_number res row.entry.len)
     else not (is_guard row) && is_negative res
 
--- a TIMEOUT that ends once so many completions were counted
-abbrev pub is_count_timeout : Row → Bool
-is_count_timeout row = is_issued row.phase && ((row.entry.opcode == 11) && nat_lt 0 row.entry.off)
-
 -- ---- the four filters
 
 -- a list of endings, and those that a test adds to it: a row that is listed keeps its result
@@ -48,10 +45,6 @@ is_severed rows es r row = list_any (λ (e : Ending). severs_by r row (slice_get
 -- how many listed rows count
 abbrev pub counted_in : List Row → List Ending → ℕ
 counted_in rows es = length (filter (λ (e : Ending). option_map_or counts (slice_get rows e.0) false) es)
-
--- whether as many completions were counted as a TIMEOUT waits for
-abbrev pub is_met : ℕ → Row → Bool
-is_met total row = is_count_timeout row && nat_le (row.base + row.entry.off) total
 
 -- whether a row guards one that is listed
 abbrev pub guards_listed : List Ending → Row → Bool

@@ -1,0 +1,38 @@
+-- TIMEOUTs that end once so many completions were counted (io_uring_enter(2), IORING_OP_TIMEOUT).
+use Rattle.std.specs.Prelude.{◌≡◌, ℕ, ◌+◌, ◌==◌, ◌≤◌, ◌<◌, min, Bool, true, false, ◌&&◌, nat_lt, nat_le, if◌then◌else◌, Some, List, slice_get}
+use Rattle.std.specs.Option.{option_map_or}
+use Rattle.entries.specs.declared.row.Row.{Row}
+use Rattle.links_drains.specs.Phases.{is_issued}
+
+-- a TIMEOUT that ends once so many completions were counted
+abbrev pub is_count_timeout : Row → Bool
+is_count_timeout row = is_issued row.phase && ((row.entry.opcode == 11) && nat_lt 0 row.entry.off)
+
+-- whether as many completions were counted as a TIMEOUT waits for
+abbrev pub is_met : ℕ → Row → Bool
+is_met total row = is_count_timeout row && nat_le (row.base + row.entry.off) total
+
+-- r is the least row from a number on for which as many completions were counted as it waits for.
+pub record IsNextMet (rows : List Row) (total from r : ℕ) : Type 0 where
+  pub after : from ≤ r
+  pub row : Row
+  pub there : slice_get rows r ≡ Some row
+  pub met : is_met total row ≡ true
+  pub least : (i : ℕ) (x : Row) → from ≤ i → i < r → slice_get rows i ≡ Some x → is_met total x ≡ false
+
+abbrev pub NoneMetFrom : List Row → ℕ → ℕ → Type 0
+NoneMetFrom rows total from = (i : ℕ) (x : Row) → from ≤ i → slice_get rows i ≡ Some x → is_met total x ≡ false
+
+-- ---- as thresholds
+
+-- what no total reaches
+abbrev pub never : ℕ
+never = 4294967295
+
+-- the total at which a row is met
+abbrev pub threshold_of : Row → ℕ
+threshold_of row = if is_count_timeout row then min (row.base + row.entry.off) never else never
+
+-- the threshold of the row of a number
+abbrev pub threshold_in : List Row → ℕ → ℕ
+threshold_in rows r = option_map_or threshold_of (slice_get rows r) never

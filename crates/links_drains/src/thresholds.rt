@@ -1,0 +1,155 @@
+//! The least number from one on whose threshold is reached.
+ghost use Rattle.std.specs.Prelude.{◌≡◌, ℕ, ◌+◌, ◌-◌, ◌^◌, ◌<◌, ◌≤◌, ◌==◌, [], IfOk, IfSome, IfNone, OnOk, length, if◌then◌else◌};
+ghost use Rattle.entries.specs.declared.row.Row.{Row};
+ghost use Rattle.links_drains.specs.Counts.{threshold_of as threshold_of_row};
+ghost use Rattle.links_drains.specs.Thresholds.{threshold_at, IsNextReached, NoneReachedFrom};
+
+use crate::links::is_count_timeout;
+use entries::Row;
+use std::alloc::{AllocError, Global};
+use std::marker::Model;
+
+/// What no total reaches.
+pub(crate) const NEVER: u32 = u32::MAX;
+
+/// How many numbers have one minimum.
+const BLOCK: usize = 256;
+
+/// Thresholds of the numbers below 65,536. Its contracts see the list of them.
+#[derive(Drop)]
+pub(crate) struct Thresholds {
+    each: Vec<u32>,
+    /// The least threshold of each block.
+    minima: Vec<u32>,
+    /// The least of them all.
+    least: u32,
+}
+
+impl Model for Thresholds {
+    ghost use Rattle.std.specs.Prelude.{ℕ, List};
+    ghost use Rattle.links_drains.specs.Thresholds.{Bounded};
+
+    ghost Value = { List ℕ };
+
+    ghost view = { λ a. a.each.items };
+
+    ghost invariant = { λ a. Bounded a.each.items a.minima.items a.least };
+}
+
+impl Thresholds {
+    /// No number. It takes no memory.
+    pub(crate) fn new(alloc: Global) -> Thresholds
+        ensures { result ≡ [] }
+    {
+        Thresholds {
+            each: Vec::new(alloc),
+            minima: Vec::new(alloc),
+            least: NEVER,
+        }
+    }
+
+    /// Makes room for a number, where there is room for all below it. Nothing reaches the new one.
+    pub(crate) fn make_room(&mut self, k: usize) -> Result<(), AllocError>
+        requires below { k ≤ length self.old }
+        requires small { k < 65536 }
+        ensures ok { OnOk result (k < length self.new) }
+        ensures len { length self.old ≤ length self.new }
+        ensures at { (i : ℕ) → threshold_at self.new i ≡ threshold_at self.old i }
+    {
+        if k / BLOCK >= self.minima.len() {
+            self.minima.push(NEVER)?;
+        }
+        if k >= self.each.len() {
+            self.each.push(NEVER)?;
+        }
+        Ok(())
+    }
+
+    /// Gives a number another threshold. Where it is the same one, it takes constant time.
+    pub(crate) fn write(&mut self, k: usize, threshold: u32)
+        requires { k < length self.old }
+        ensures len { length self.new ≡ length self.old }
+        ensures at { (i : ℕ) → threshold_at self.new i ≡ (if i == k then threshold else threshold_at self.old i) }
+    {
+        if self.each[k] == threshold {
+            return;
+        }
+        self.each[k] = threshold;
+        let block = k / BLOCK;
+        let first = block * BLOCK;
+        let end = self.each.len().min(first + BLOCK);
+        self.minima[block] = minimum(&self.each[first..end]);
+        self.least = minimum(&self.minima);
+    }
+
+    /// The least number from one on whose threshold a total reaches. It takes constant time where the total
+    /// reaches none at all, and looks into no block of which it reaches none.
+    pub(crate) fn next(&self, from: usize, total: u32) -> Option<usize>
+        requires { total < 2 ^ 32 - 1 }
+        ensures some { IfSome result (λ k. IsNextReached self.now total from k) }
+        ensures none { IfNone result (NoneReachedFrom self.now total from) }
+    {
+        if total < self.least {
+            return None;
+        }
+        for block in from / BLOCK..self.minima.len() {
+            if self.minima[block] <= total {
+                let first = from.max(block * BLOCK);
+                let end = self.each.len().min((block + 1) * BLOCK);
+                if let Some(k) = next_between(&self.each, first, end, total) {
+                    return Some(k);
+                }
+            }
+        }
+        None
+    }
+
+    /// The same thresholds.
+    pub(crate) fn copy(&self, alloc: Global) -> Result<Thresholds, AllocError>
+        ensures { IfOk result (λ thresholds. thresholds ≡ self.now) }
+    {
+        Ok(Thresholds {
+            each: Vec::from_slice(alloc, &self.each)?,
+            minima: Vec::from_slice(alloc, &self.minima)?,
+            least: self.least,
+        })
+    }
+}
+
+// The least of some thresholds.
+fn minimum(thresholds: &[u32]) -> u32
+    ensures { (i : ℕ) → result ≤ threshold_at thresholds.now i }
+{
+    let mut least = NEVER;
+    for threshold in thresholds {
+        if *threshold < least {
+            least = *threshold;
+        }
+    }
+    least
+}
+
+// The least number from one on and below another whose threshold a total reaches.
+fn next_between(thresholds: &[u32], from: usize, end: usize, total: u32) -> Option<usize>
+    requires { end ≤ length thresholds.now }
+    ensures some { IfSome result (λ k. IsNextReached thresholds.now total from k) }
+    ensures none { IfNone result ((i : ℕ) → from ≤ i → i < end → total < threshold_at thresholds.now i) }
+{
+    for k in from..end {
+        if thresholds[k] <= total {
+            return Some(k);
+        }
+    }
+    None
+}
+
+/// The total at which a row ends: where it is an issued TIMEOUT that counts completions, what had been counted
+/// as it was issued and what it waits for.
+pub(crate) fn threshold_of(row: &Row) -> u32
+    ensures { result ≡ threshold_of_row row.now }
+{
+    if !is_count_timeout(row) || row.entry.off >= u64::from(NEVER) {
+        return NEVER;
+    }
+    row.base.saturating_add(row.entry.off as u32)
+}
