@@ -1,62 +1,19 @@
 -- The TIMEOUTs whose count of completions is met, one after the other.
-use Rattle.std.proofs.Common.{◌≡◌, ℕ, ℤ, pos, Bool, true, false, cond, refl, sym, ◌∙◌, ap, List, [], ◌∷◌, ◌++◌, ◌+◌, ◌-◌, ◌<◌, ◌≤◌, ◌⊎◌, inl, inr, arith}
-use Rattle.std.specs.Prelude.{Option, Some, None, slice_get, ◌==◌, ◌&&◌, nat_lt, nat_le}
-use Rattle.std.proofs.lemmas.Bool.{and_left, cases_lt}
+use Rattle.std.proofs.Common.{◌≡◌, ℕ, ℤ, pos, Bool, true, false, cond, refl, sym, ◌∙◌, ap, List, [], ◌∷◌, ◌++◌, ◌+◌, ◌-◌, arith}
+use Rattle.std.specs.Prelude.{Option, Some, None, ◌==◌, ◌&&◌, nat_lt, nat_le}
 use Rattle.entries.specs.declared.row.Phase.{Phase}
 use Rattle.entries.specs.declared.row.Phase.TheVariants.{Queued, Issued, Ended}
 use Rattle.entries.specs.declared.row.Row.{Row}
 use Rattle.links_drains.specs.Endings.{Ending, paired, given}
 use Rattle.links_drains.specs.Phases.{is_unfinished, is_issued}
-use Rattle.links_drains.specs.Units.{IsNextIssued, NoneIssuedFrom, is_going}
 use Rattle.links_drains.proofs.Listing.{result_of}
 use Rattle.timeouts_cancel.specs.Falls.{is_met, is_count_timeout}
-use Rattle.timeouts_cancel.specs.Timers.{met_rows, IsNextMet, NoneMetFrom, Unmet}
+use Rattle.links_drains.specs.Counts.{IsNextMet, NoneMetFrom}
+use Rattle.timeouts_cancel.specs.Timers.{met_rows}
 use Rattle.timeouts_cancel.specs.Walks.{upto}
 use Rattle.timeouts_cancel.proofs.Listed.{upto_all}
 use Rattle.timeouts_cancel.proofs.Severing.{both}
-use Rattle.timeouts_cancel.proofs.Sweeping.{same_row}
 use Rattle.timeouts_cancel.proofs.Walking.{of_one, upto_more, upto_gap}
-
--- ---- from one issued row to the next
-
-pub unmet_none : (rows : List Row) (total from : ℕ) → Unmet rows total from from
-unmet_none rows total from = record { after = omega arith; none = λ i x low high g. absurd (omega (arith, low, high)) }
-
--- a row that isn't issued isn't met
-going_not : (total : ℕ) (row : Row) → is_going row ≡ false → is_met total row ≡ false
-going_not total row h = and_left _ _ (and_left _ _ h)
-
--- the next issued row isn't met
-pub unmet_on : (rows : List Row) (total from at r : ℕ) (row : Row) → Unmet rows total from at → IsNextIssued rows at r → slice_get rows r ≡ Some row → is_met total row ≡ false → Unmet rows total from (r + 1)
-unmet_on rows total from at r row p next h fails = record {
-  after = let a = p.after in let b = next.after in omega (arith, a, b);
-  none = λ i x low high g. by i x low high g (cases_lt i at) (cases_lt i r);
-}
-  where
-    by : (i : ℕ) (x : Row) → from ≤ i → i < r + 1 → slice_get rows i ≡ Some x → (i < at) ⊎ (at ≤ i) → (i < r) ⊎ (r ≤ i) → is_met total x ≡ false
-    by i x low high g (inl less) s = p.none i x low less g
-    by i x low high g (inr le) (inl less) = going_not total x (next.least i x le less g)
-    by i x low high g (inr le) (inr last) = let e : i ≡ r = omega (arith, high, last) in ap (is_met total) (same_row x row (sym g ∙ ap (slice_get rows) e ∙ h)) ∙ fails
-
-pub met_found : (rows : List Row) (total from at r : ℕ) (row : Row) → Unmet rows total from at → IsNextIssued rows at r → slice_get rows r ≡ Some row → is_met total row ≡ true → IsNextMet rows total from r
-met_found rows total from at r row p next h is = record {
-  after = let a = p.after in let b = next.after in omega (arith, a, b);
-  row = row;
-  there = h;
-  met = is;
-  least = λ i x low high g. by i x low high g (cases_lt i at);
-}
-  where
-    by : (i : ℕ) (x : Row) → from ≤ i → i < r → slice_get rows i ≡ Some x → (i < at) ⊎ (at ≤ i) → is_met total x ≡ false
-    by i x low high g (inl less) = p.none i x low less g
-    by i x low high g (inr le) = going_not total x (next.least i x le high g)
-
-pub met_none : (rows : List Row) (total from at : ℕ) → Unmet rows total from at → NoneIssuedFrom rows at → NoneMetFrom rows total from
-met_none rows total from at p none i x low g = by (cases_lt i at)
-  where
-    by : (i < at) ⊎ (at ≤ i) → is_met total x ≡ false
-    by (inl less) = p.none i x low less g
-    by (inr le) = going_not total x (none i x le g)
 
 -- ---- from one met TIMEOUT to the next
 

@@ -18,6 +18,13 @@ overflow_add-total c =
     let l = counted_few c.args.table.now c.args.direct.now c.deref.result.now (c.deref.ensures.value ∙ c.in_ok-severed.ensures) in
     omega (arith, l, c.count.ensures)
 
+pub met-requires : goal.met-requires
+met-requires c =
+    let l = counted_few c.args.table.now c.args.direct.now c.deref.result.now (c.deref.ensures.value ∙ c.in_ok-severed.ensures) in
+    let f = c.requires.few in
+    let n = c.requires.counted in
+    omega (arith, l, c.count.ensures, f, n)
+
 pub merge-requires-clause-first : goal.merge-requires-clause-first
 merge-requires-clause-first c = severed_direct c.args.table.now c.args.direct.now _ (c.deref-2.ensures.value ∙ c.in_ok-severed.ensures)
 
