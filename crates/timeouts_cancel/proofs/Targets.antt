@@ -6,7 +6,7 @@ use Rattle.std.proofs.lemmas.Bool.{eqb-true, eq-eqb}
 use Rattle.std.proofs.lemmas.List.{append-nil}
 use Rattle.std.proofs.lemmas.Option.{slice_get_within}
 use Rattle.entries.specs.declared.row.Row.{Row}
-use Rattle.links_drains.specs.Endings.{Ending, paired, given, ecanceled, is_listed, Direct}
+use Rattle.links_drains.specs.Endings.{Ending, endings, paired, given, ecanceled, is_listed, Direct}
 use Rattle.links_drains.specs.Links.{is_guard}
 use Rattle.links_drains.specs.Phases.{is_unfinished}
 use Rattle.links_drains.proofs.Listing.{result_of}
@@ -17,7 +17,6 @@ use Rattle.timeouts_cancel.proofs.Again.{any_at, any_found}
 use Rattle.timeouts_cancel.proofs.Listed.{upto_all}
 use Rattle.timeouts_cancel.proofs.Sweeping.{same_ending}
 use Rattle.timeouts_cancel.proofs.Walking.{of_one, split, take_behind, upto_more, upto_none, upto_gap}
-use Rattle.links_drains.specs.Endings.{endings}
 
 -- what a guard ends with
 abbrev pub guard_result : List Ending → ℕ → Row → Option ℤ
