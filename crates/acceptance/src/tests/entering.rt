@@ -34,7 +34,7 @@ const UP_TO_THE_SECOND_STEP: [Event; 6] = [
 ];
 
 // The record of a scheduled event, of the number that events are counted by from 1.
-fn scheduled_record(alloc: Global, text: &str, number: usize) -> Result<Record, Fail> {
+pub fn scheduled_record(alloc: Global, text: &str, number: usize) -> Result<Record, Fail> {
     let script = read_script(alloc, text.as_bytes())?;
     let events = script.schedule().get(..number).ok_or("too few events")?;
     last_record(alloc, text, events)
