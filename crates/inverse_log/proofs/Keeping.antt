@@ -1,7 +1,5 @@
 -- What a trail keeps, after a step either way, an event more, or a shorter trace.
 use Rattle.std.proofs.Common.{◌≡◌, ℕ, suc, ◌+◌, ◌-◌, ◌^◌, ◌<◌, ◌≤◌, List, [], ◌∷◌, ◌++◌, length, take, get_or, sym, ap, ◌∙◌, subst, arith, length-append}
-use Rattle.std.specs.Prelude.{Result, Ok, Err, OnErr, true}
-use Rattle.std.specs.Result.{is_err}
 use Rattle.std.proofs.lemmas.List.{take-take, length-take}
 use Rattle.places.specs.declared.value.Change.{Change}
 use Rattle.machine.specs.declared.whole.Machine.{Machine}
@@ -40,17 +38,6 @@ keeps_back setup es rs at state state' walked walked' k e c = record {
   here = e;
   most = k.most;
   counted = c;
-}
-
--- back where another run of the same events stood
-pub keeps_again : (setup setup' : Setup) (es es' : List Event) (rs : List (List Change)) (at at' : ℕ) (state state' : Machine) (walked : ℕ) → Keeps setup' es' rs at' state' walked → setup' ≡ setup → es' ≡ es → at ≤ length es → state ≡ moment setup es at → Keeps setup' es' rs at state walked
-keeps_again setup setup' es es' rs at at' state state' walked k a b l h = record {
-  linked = k.linked;
-  recorded = k.recorded;
-  within = subst (λ (fs : List Event). at ≤ length fs) (sym b) l;
-  here = h ∙ sym (ap (λ s. moment s es at) a) ∙ sym (ap (λ fs. moment setup' fs at) b);
-  most = k.most;
-  counted = k.counted;
 }
 
 pub keeps_on : (setup : Setup) (es : List Event) (rs : List (List Change)) (at : ℕ) (state state' : Machine) (walked walked' : ℕ) (e : Event) → Keeps setup es rs at state walked → at < length es → e ≡ get_or es at e → Next state e state' → walked' < 2 ^ 64 → Keeps setup es rs (at + 1) state' walked'
@@ -95,8 +82,3 @@ keeps_cut setup es es' rs rs' at state walked n k h ge gr =
       most = omega arith;
       counted = k.counted;
     })
-
--- what an error says
-pub on_err : {T E : Type 0} {P : Type 0} (r : Result T E) → is_err r ≡ true → OnErr r P → P
-on_err (Ok x) h p = absurd cc
-on_err (Err e) h p = p

@@ -152,18 +152,18 @@ impl Trail {
 
     /// On to a moment from the state of an earlier one, by counted steps. Where memory is refused it
     /// stays where it was.
-    pub fn on_from(&mut self, state: State, from: usize, to: usize) -> Result<(), AllocError>
+    pub fn on_from(&mut self, mut state: State, from: usize, to: usize) -> Result<(), AllocError>
         requires state { state ≡ moment self.old.setup self.old.events from }
         requires later { from ≤ to }
         requires within { to ≤ length self.old.events }
         ensures ok { OnOk result (self.new ≡ reached self.old to (to - from)) }
         ensures err { OnErr result (self.new ≡ self.old) }
     {
-        let before = mem::replace(&mut self.state, state);
+        mem::swap(&mut self.state, &mut state);
         let at = mem::replace(&mut self.at, from);
         let gone = self.on_to(to, Tally::Counted);
         if gone.is_err() {
-            self.state = before;
+            mem::swap(&mut self.state, &mut state);
             self.at = at;
         }
         gone
