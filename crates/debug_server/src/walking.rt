@@ -48,10 +48,8 @@ pub fn walk<R: Read, W: Write>(
         Err(ScriptFault::Memory) => return Err(RunFault::Memory),
         Err(fault) => return Err(RunFault::Script(fault)),
     };
-    match walk_script(alloc, &script, reader, writer) {
-        Ok(()) => Ok(()),
-        Err(fault) => Err(fault),
-    }
+    walk_script(alloc, &script, reader, writer)?;
+    Ok(())
 }
 
 // Runs a script's schedule, and replies to the lines that the reader gives.
