@@ -93,10 +93,7 @@ pub(crate) fn walk_events<R: Read, W: Write>(
     ensures open { result ≢ Err (RunFault.Serve Closed) }
     ensures other { IfErr result IsOfRun }
 {
-    let mut session = match Session::of(alloc, setup, events) {
-        Ok(session) => session,
-        Err(fault) => return Err(fault),
-    };
+    let mut session = Session::of(alloc, setup, events)?;
     match serve(&mut session, reader, writer, &mut NoSource) {
         Ok(()) => Ok(()),
         Err(fault) => Err(RunFault::Serve(fault)),

@@ -1,7 +1,11 @@
 //! The program: one job, over the libraries.
 #![tactic(auto)]
 
+#[cfg(test)]
+mod failing;
 mod files;
+#[cfg(test)]
+mod tests;
 
 use debug_server::{
     Fault, Form, Job, RunFault, ServeFault, Traced, job, migrate_trace, replay, trace_script, walk,

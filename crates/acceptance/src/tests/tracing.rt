@@ -1,13 +1,13 @@
 //! Traces of scripts, and sessions over them.
 
+use crate::tests::calls::script_of;
 use crate::tests::devices::{SOUND, SlowReader, SlowWriter};
 use crate::tests::sessions::reply;
 use crate::tests::{INPUT, ONE_NOP, OUTPUT};
 use debug_server::{Form, RunFault, Session, migrate_trace, replay, trace_script};
-use script::{Script, read_script};
+use script::{Script, TraceFault};
 use std::alloc::Global;
 use std::test::Fail;
-use traces::TraceFault;
 
 /// The events of the run of one NOP, in the first form.
 const EVENTS: [u8; 108] = [
@@ -71,11 +71,6 @@ fn faults_of_migrated_traces(rt: HostRuntime) -> Result<(), Fail> {
     let other = fault_of(rt.alloc(), &whole);
     assert!(rt; other == Some(RunFault::Trace(TraceFault::Magic)));
     Ok(())
-}
-
-fn script_of(alloc: Global) -> Result<Script, Fail> {
-    let script = read_script(alloc, ONE_NOP.as_bytes())?;
-    Ok(script)
 }
 
 // The reply to a line of the session over a script's setup and events.
