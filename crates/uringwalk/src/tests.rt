@@ -76,7 +76,10 @@ fn check_faults(
     let out = format!(in rt.alloc(); "{folder}/out")?;
     for number in 1..=CALLS {
         let (failed, written) = write_and_fail(rt, out.as_str(), number);
-        assert!(rt; failed && matches!(written, Err(Fault::File)), "call {number}");
+        assert!(rt;
+            failed && matches!(written, Err(Fault::File)),
+            "call {number}"
+        );
         check_folder(rt, folder, names, bytes)?;
     }
     let (failed, written) = write_and_fail(rt, out.as_str(), CALLS + 1);

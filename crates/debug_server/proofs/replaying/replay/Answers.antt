@@ -9,5 +9,5 @@ pub returns-in_err-walk_events-clause-schedule : goal.returns-in_err-walk_events
 returns-in_err-walk_events-clause-schedule g c =
     let p = err_from_is_err_and c.from_residual.result c.from_residual.ensures.1 in
     rw (p.1, p.2) (λ i n e.
-      let k = c.in_err-walk_events.ensures.schedule i n e in
-      (c.in-Ok.found.0, c.in-Ok.found.1.items, c.in-Ok.ensures.found, rw (← c.deref.ensures.value) k.0, k.1))
+    let k = c.in_err-walk_events.ensures.schedule i n e in
+    (c.in-Ok.found.0, c.in-Ok.found.1.items, c.in-Ok.ensures.found, rw (← c.deref.ensures.value) k.0, k.1))
