@@ -5,7 +5,7 @@ use crate::tests::devices::{SOUND, SlowReader, SlowWriter};
 use crate::tests::sessions::reply;
 use crate::tests::{INPUT, ONE_NOP, OUTPUT};
 use debug_server::{Form, RunFault, Session, migrate_trace, replay, trace_script};
-use script::{Script, TraceFault};
+use script::{Script, TraceFault, read_trace, read_trace2};
 use std::alloc::Global;
 use std::test::Fail;
 
@@ -52,6 +52,21 @@ fn a_migrated_trace_is_that_of_the_script(rt: HostRuntime) -> Result<(), Fail> {
     let (_, whole) = traced(rt.alloc(), Form::Whole)?;
     assert_eq!(rt; events, 6);
     assert!(rt; bytes.as_slice() == whole.as_slice());
+    Ok(())
+}
+
+// How many events a trace of the second form has.
+fn events_of(alloc: Global, bytes: &[u8]) -> Result<usize, Fail> {
+    let (_setup, events) = read_trace2(alloc, bytes)?;
+    Ok(events.len())
+}
+
+#[test]
+fn what_is_traced_is_read(rt: HostRuntime) -> Result<(), Fail> {
+    let events = read_trace(rt.alloc(), &EVENTS)?;
+    assert_eq!(rt; events.len(), 6);
+    let (_, whole) = traced(rt.alloc(), Form::Whole)?;
+    assert_eq!(rt; events_of(rt.alloc(), &whole)?, 6);
     Ok(())
 }
 
