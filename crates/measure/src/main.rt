@@ -30,6 +30,12 @@ use waiting::ENDED;
 
 #[cfg(test)]
 mod tests;
+#[cfg(test)]
+mod waiting_tests;
+
+/// The words that a run is asked for by, each with the most that its number can be.
+const WORDS: &str =
+    "measure nops N | jumps N (109200 at most) | overflow N | issues N | polls N (65520) | full N | ticks N | traces N (1048576) | transfers N | syncs N (109120) | cancels N | counts N | meets N | cascade N | met N | severed N (61340)";
 
 /// How often the last events are done, and undone.
 const ROUNDS: usize = 200;
@@ -248,9 +254,7 @@ fn main(rt: HostRuntime) -> io::Result<ExitCode> {
         return end(&rt, measure_traces(&rt, count));
     }
     let Some(plan) = plan_of(&texts) else {
-        eprintln!(rt;
-            "measure nops N | jumps N | overflow N | issues N | polls N | full N | ticks N | transfers N | syncs N | traces N | cancels N | counts N | meets N | cascade N | met N | severed N"
-        )?;
+        eprintln!(rt; "{WORDS}")?;
         return Ok(ExitCode::from(2));
     };
     let load = load_of(alloc, plan)?;

@@ -56,9 +56,14 @@ pub enum Plan {
 }
 
 /// Reads the word for traces, and how many events they have.
-pub fn traces_of(words: &[&str]) -> Option<u32> {
-    match words {
-        ["traces", size] => size.parse::<u32>().ok(),
+pub fn traces_of(words: &[&str]) -> Option<u32>
+    ensures { IfSome result (λ n. n ≤ 1048576) }
+{
+    let ["traces", size] = words else {
+        return None;
+    };
+    match size.parse::<u32>() {
+        Ok(size) if size <= MOST_EVENTS => Some(size),
         _ => None,
     }
 }
