@@ -11,3 +11,4 @@ pub mod Breaking
 pub mod Numerals
 pub mod Moving
 pub mod Faulting
+pub mod Stepping

@@ -1,19 +1,13 @@
 -- A schedule without a transfer of no bytes has only transfers of some.
-use Rattle.std.proofs.Common.{◌≡◌, ℕ, zero, suc, Bool, true, false, refl, List, [], ◌∷◌, arith}
-use Rattle.std.specs.Prelude.{◌||◌}
+use Rattle.std.proofs.Common.{◌≡◌, ℕ, zero, suc, true, false, refl, List, [], ◌∷◌, arith}
 use Rattle.std.specs.List.{list_all, list_any}
-use Rattle.std.proofs.lemmas.Bool.{and_from, lt-ltb}
+use Rattle.std.proofs.lemmas.Bool.{and_from, or_parts, lt-ltb}
 use Rattle.opcodes.specs.declared.choice.Choice.{Choice}
 use Rattle.opcodes.specs.declared.choice.Choice.TheVariants.{Full, Short, Eio}
 use Rattle.scenario.specs.declared.event.Event.{Event}
 use Rattle.scenario.specs.declared.event.Event.TheVariants.{Step, Take, Sleep, Issue, Finish, Expire, Tick}
 use Rattle.script.specs.Scripts.{is_short_of_nothing}
 use Rattle.traces.specs.Spelling.{has_transfer}
-
-or_no : (a b : Bool) → (a || b) ≡ false → (a ≡ false) × (b ≡ false)
-or_no false false h = (refl, refl)
-or_no false true h = absurd cc
-or_no true b h = absurd cc
 
 moves : (e : Event) → is_short_of_nothing e ≡ false → has_transfer e ≡ true
 moves (Step n) h = refl
@@ -29,4 +23,4 @@ moves (Tick d) h = refl
 
 pub all_move : (es : List Event) → list_any is_short_of_nothing es ≡ false → list_all has_transfer es ≡ true
 all_move [] h = refl
-all_move (e ∷ es) h = let b = or_no _ _ h in and_from _ _ (moves e b.0) (all_move es b.1)
+all_move (e ∷ es) h = let b = or_parts _ _ h in and_from _ _ (moves e b.0) (all_move es b.1)

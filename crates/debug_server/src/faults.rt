@@ -74,6 +74,12 @@ pub enum Fault {
     Run(RunFault),
 }
 
+impl From<RunFault> for Fault {
+    fn from(fault: RunFault) -> Fault {
+        Fault::Run(fault)
+    }
+}
+
 impl fmt::Display for RunFault {
     fn fmt<W: fmt::Write>(&self, f: &mut fmt::Formatter<W>) -> fmt::Result {
         match self {

@@ -7,6 +7,7 @@ mod faults;
 mod lines;
 mod memory;
 mod replaying;
+mod running;
 mod serving;
 mod session;
 mod source;

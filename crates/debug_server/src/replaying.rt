@@ -48,8 +48,6 @@ pub fn replay<R: Read, W: Write>(
         Err(TraceFault::Memory) => return Err(RunFault::Memory),
         Err(fault) => return Err(RunFault::Trace(fault)),
     };
-    match walk_events(alloc, &setup, &events, reader, writer) {
-        Ok(()) => Ok(()),
-        Err(fault) => Err(fault),
-    }
+    walk_events(alloc, &setup, &events, reader, writer)?;
+    Ok(())
 }

@@ -8,9 +8,10 @@ ghost use Rattle.debug_server.specs.Schedules.{visit_over, IsOfSchedule, fault_o
 
 use crate::answering;
 use crate::faults::RunFault;
+use crate::running::fault_by;
 use crate::visitor::Visitor;
 use inverse_log::{ExtendRefusal, Walker};
-use machine::{Event, Refusal, Setup};
+use machine::{Event, Setup};
 use script::Script;
 use std::alloc::{AllocError, Global};
 use std::marker::Model;
@@ -73,8 +74,7 @@ fn fault_of(refusal: ExtendRefusal) -> RunFault
 {
     match refusal {
         ExtendRefusal::TraceFull => RunFault::Memory,
-        ExtendRefusal::Refused(_, Refusal::Memory) => RunFault::Memory,
-        ExtendRefusal::Refused(i, refusal) => RunFault::Schedule(i, refusal),
+        ExtendRefusal::Refused(i, refusal) => fault_by(i, refusal),
     }
 }
 

@@ -13,7 +13,7 @@ ghost use Rattle.traces.specs.declared.fault.TraceFault.{TraceFault as Misspelt}
 ghost use Rattle.debug_server.specs.Tracing.{IsSpelling, IsTraceOf, IsOfTracing, IsOfMigration};
 
 use crate::faults::RunFault;
-use crate::session::Session;
+use crate::running::run_schedule;
 use crate::task::Form;
 use scenario::Event;
 use script::{Script, ScriptFault, read_script};
@@ -36,7 +36,7 @@ pub fn trace_script(alloc: Global, text: &[u8], form: Form) -> Result<Traced, Ru
     ensures other { IfErr result IsOfTracing }
 {
     let script = script_of(alloc, text)?;
-    Session::new(alloc, &script)?;
+    run_schedule(alloc, &script)?;
     match spelled(alloc, &script, form) {
         Ok(bytes) => Ok(Traced {
             events: script.schedule().len() as u32,

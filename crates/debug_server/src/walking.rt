@@ -48,10 +48,8 @@ pub fn walk<R: Read, W: Write>(
         Err(ScriptFault::Memory) => return Err(RunFault::Memory),
         Err(fault) => return Err(RunFault::Script(fault)),
     };
-    match walk_script(alloc, &script, reader, writer) {
-        Ok(()) => Ok(()),
-        Err(fault) => Err(fault),
-    }
+    walk_script(alloc, &script, reader, writer)?;
+    Ok(())
 }
 
 // Runs a script's schedule, and replies to the lines that the reader gives.
@@ -95,10 +93,7 @@ pub(crate) fn walk_events<R: Read, W: Write>(
     ensures open { result ≢ Err (RunFault.Serve Closed) }
     ensures other { IfErr result IsOfRun }
 {
-    let mut session = match Session::of(alloc, setup, events) {
-        Ok(session) => session,
-        Err(fault) => return Err(fault),
-    };
+    let mut session = Session::of(alloc, setup, events)?;
     match serve(&mut session, reader, writer, &mut NoSource) {
         Ok(()) => Ok(()),
         Err(fault) => Err(RunFault::Serve(fault)),

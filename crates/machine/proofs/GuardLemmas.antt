@@ -190,10 +190,10 @@ started_guards c n rows r x h q plain s = by (slice_get rows (r + 1)) refl
           let e' = sym (apart f rows r i k) ∙ e in
           let w = s i y e' g u in
           let away : (r ≡ w.target) → ⊥ = λ t.
-              let at : i ≡ r + 1 = sym w.behind ∙ ap (λ n. n + 1) (sym t) in
-              let mine = same_row x w.row (sym h ∙ ap (slice_get rows) t ∙ w.there) in
-              let queued : is_queued y.phase ≡ true = ap is_queued (sym w.alike ∙ sym (ap (λ (z : Row). z.phase) mine) ∙ q) in
-              none y (sym (ap (slice_get rows) at) ∙ e') (told_guard r y g queued (w.is ∙ ap Some (sym t))) in
+          let at : i ≡ r + 1 = sym w.behind ∙ ap (λ n. n + 1) (sym t) in
+          let mine = same_row x w.row (sym h ∙ ap (slice_get rows) t ∙ w.there) in
+          let queued : is_queued y.phase ≡ true = ap is_queued (sym w.alike ∙ sym (ap (λ (z : Row). z.phase) mine) ∙ q) in
+          none y (sym (ap (slice_get rows) at) ∙ e') (told_guard r y g queued (w.is ∙ ap Some (sym t))) in
           record { target = w.target; is = w.is; behind = w.behind; row = w.row; there = apart f rows r w.target away ∙ w.there; other = w.other; unit = w.unit; alike = w.alike }
     ]
 
@@ -206,8 +206,14 @@ started_guards c n rows r x h q plain s = by (slice_get rows (r + 1)) refl
           let mine = same_row x w.row (sym h ∙ ap (slice_get rows) (sym target) ∙ w.there) in
           let is = same_row (f y) z (sym (here f (updated f rows r) (r + 1) y (apart f rows r (r + 1) (λ m. absurd (omega (arith, m))) ∙ e)) ∙ ap (slice_get (updated f (updated f rows r) (r + 1))) k ∙ o) in
           subst (GuardStands (updated f (updated f rows r) (r + 1)) i) is (record {
-            target = r; is = t.target; behind = k; row = f x; there = apart f (updated f rows r) (r + 1) r (λ m. absurd (omega (arith, m))) ∙ here f rows r x h;
-            other = plain; unit = ap (λ (v : Row). v.unit) mine ∙ w.unit; alike = refl;
+            target = r;
+            is = t.target;
+            behind = k;
+            row = f x;
+            there = apart f (updated f rows r) (r + 1) r (λ m. absurd (omega (arith, m))) ∙ here f rows r x h;
+            other = plain;
+            unit = ap (λ (v : Row). v.unit) mine ∙ w.unit;
+            alike = refl;
           })
       | inr k ↦ elim (cases_eq r i) [
         | inl l ↦ absurd (not_itself (updated f (updated f rows r) (r + 1)) i z o g l (apart f (updated f rows r) (r + 1) r (λ m. absurd (omega (arith, m))) ∙ here f rows r x h))
@@ -216,8 +222,8 @@ started_guards c n rows r x h q plain s = by (slice_get rows (r + 1)) refl
             let w = s i z o' g u in
             let away : (r ≡ w.target) → ⊥ = λ m. k (ap (λ n. n + 1) m ∙ w.behind) in
             let past : (r + 1 ≡ w.target) → ⊥ = λ m.
-                let guard = same_row y w.row (sym e ∙ ap (slice_get rows) m ∙ w.there) in
-                let b : false ≡ true = sym w.other ∙ sym (ap is_guard guard) ∙ t.guard in cc in
+            let guard = same_row y w.row (sym e ∙ ap (slice_get rows) m ∙ w.there) in
+            let b : false ≡ true = sym w.other ∙ sym (ap is_guard guard) ∙ t.guard in cc in
             record { target = w.target; is = w.is; behind = w.behind; row = w.row; there = apart f (updated f rows r) (r + 1) w.target past ∙ apart f rows r w.target away ∙ w.there; other = w.other; unit = w.unit; alike = w.alike }
       ]
     ]

@@ -14,7 +14,9 @@ use crate::whole::Machine;
 use entries::{Phase, Row};
 use links_drains::is_guard;
 use model_files::{DescriptorState, World};
-use opcodes::{Choice, EBADF, Op, Outcome, carry_out, fits_end, is_cancel, outcome, uses_descriptor};
+use opcodes::{
+    Choice, EBADF, Op, Outcome, carry_out, fits_end, is_cancel, outcome, uses_descriptor,
+};
 use places::Recorder;
 use std::alloc::AllocError;
 

@@ -77,7 +77,11 @@ impl Machine {
         let mut count = 0;
         let mut left = n;
         while left > 0 {
-            if self.submissions.entry(self.submissions.word(count)).is_some() {
+            if self
+                .submissions
+                .entry(self.submissions.word(count))
+                .is_some()
+            {
                 left -= 1;
             }
             count += 1;

@@ -1,7 +1,7 @@
 -- Plans that a machine has room for.
 use Rattle.std.specs.Prelude.{◌≤◌}
 use Rattle.measure.specs.declared.plan.Plan.{Plan}
-use Rattle.measure.specs.declared.plan.Plan.TheVariants.{Nops, Jumps, Overflow, Issues, Polls, Full, Ticks, Transfers, Syncs}
+use Rattle.measure.specs.declared.plan.Plan.TheVariants.{Nops, Jumps, Overflow, Issues, Polls, Full, Ticks, Transfers, Syncs, Cancels, Counts, Meets, Cascade, Met, Severed}
 
 -- a setup has programs for the requests and the pushes, a trace room for the events
 abbrev pub HasLimits : Plan → Type 0
@@ -14,3 +14,9 @@ HasLimits (Full n) = n ≤ 1048576
 HasLimits (Ticks n) = n ≤ 1048576
 HasLimits (Transfers n) = n ≤ 109120
 HasLimits (Syncs n) = n ≤ 109120
+HasLimits (Cancels n) = n ≤ 61340
+HasLimits (Counts n) = n ≤ 61340
+HasLimits (Meets n) = n ≤ 61340
+HasLimits (Cascade n) = n ≤ 61340
+HasLimits (Met n) = n ≤ 61340
+HasLimits (Severed n) = n ≤ 61340

@@ -12,6 +12,8 @@ pub enum Fault {
     Extend(ExtendRefusal),
     Walk(WalkRefusal),
     Trace(TraceFault),
+    /// A trace that was read and written isn't what it was.
+    Differs,
     Memory,
     Io(io::Error),
 }
@@ -59,6 +61,7 @@ impl fmt::Display for Fault {
             Fault::Extend(refusal) => write!(f, "extend {refusal:?}"),
             Fault::Walk(refusal) => write!(f, "walk {refusal:?}"),
             Fault::Trace(fault) => write!(f, "trace {fault:?}"),
+            Fault::Differs => write!(f, "trace that differs once written"),
             Fault::Memory => write!(f, "memory"),
             Fault::Io(error) => write!(f, "{error}"),
         }

@@ -5,6 +5,7 @@ ghost use Rattle.measure.specs.Plans.{HasLimits};
 use crate::files::{full_files, sync_load, transfer_load};
 use crate::parts::{Load, Requests, entry, request_load, setup_of};
 use crate::plan::{MOST_OVERFLOWING, Plan};
+use crate::waiting::{cancel_load, cascade_load, count_load, meet_load, met_load, sever_load};
 use entries::Sqe;
 use machine::{Event, Instruction};
 use opcodes::Choice;
@@ -42,6 +43,12 @@ pub fn load_of(alloc: Global, plan: Plan) -> Result<Load, AllocError>
         }),
         Plan::Transfers(events) => transfer_load(alloc, events),
         Plan::Syncs(events) => sync_load(alloc, events),
+        Plan::Cancels(rows) => cancel_load(alloc, rows),
+        Plan::Counts(rows) => count_load(alloc, rows),
+        Plan::Meets(rows) => meet_load(alloc, rows),
+        Plan::Cascade(rows) => cascade_load(alloc, rows),
+        Plan::Met(rows) => met_load(alloc, rows),
+        Plan::Severed(rows) => sever_load(alloc, rows),
     }
 }
 

@@ -1,6 +1,8 @@
 //! Large runs, built in process, walked both ways and timed: counts on standard output, times on standard error.
 #![tactic(auto)]
 
+mod batches;
+mod comparing;
 mod fault;
 mod files;
 mod jumps;
@@ -8,11 +10,14 @@ mod load;
 mod parts;
 mod plan;
 mod spelling;
+mod waiting;
 
+use comparing::{differing, fit_of};
 use fault::Fault;
 use inverse_log::Walker;
 use jumps::{JUMPS, jump, search};
 use load::{ISSUED, load_of};
+use machine::State;
 use parts::Load;
 use places::{Place, Record, Value};
 use plan::{Plan, plan_of, traces_of};
@@ -21,12 +26,22 @@ use std::process::ExitCode;
 use std::rt::Clock;
 use std::time::Instant;
 use std::{env, io};
+use waiting::ENDED;
 
 #[cfg(test)]
 mod tests;
+#[cfg(test)]
+mod waiting_tests;
+
+/// The words that a run is asked for by, each with the most that its number can be.
+const WORDS: &str =
+    "measure nops N | jumps N (109200 at most) | overflow N | issues N | polls N (65520) | full N | ticks N | traces N (1048576) | transfers N | syncs N (109120) | cancels N | counts N | meets N | cascade N | met N | severed N (61340)";
 
 /// How often the last events are done, and undone.
 const ROUNDS: usize = 200;
+
+/// How often a step that ends many rows is.
+const FEW_ROUNDS: usize = 20;
 
 // So many events in so many microseconds, on standard error.
 fn report(rt: &impl Eprint, what: &str, events: usize, micros: u128) -> io::Result<()> {
@@ -106,21 +121,23 @@ fn walk_through(
     Ok(())
 }
 
-// Walks between two moments, on and back, again and again.
+// Walks from a moment to the end and back, again and again; each time so much is done.
 fn walk_rounds(
     rt: &(impl Eprint + Clock),
     walker: &mut Walker,
     start: usize,
-    end: usize,
+    rounds: usize,
+    done: usize,
 ) -> Result<(), Fault> {
-    let steps = ROUNDS.saturating_mul(end.abs_diff(start));
+    let end = walker.len();
     let (mut on, mut back) = (0u128, 0u128);
-    for _round in 0..ROUNDS {
+    for _round in 0..rounds {
         on = on.saturating_add(timed(rt, walker, end)?);
         back = back.saturating_add(timed(rt, walker, start)?);
     }
-    report(rt, "again", steps, on)?;
-    report(rt, "undone", steps, back)?;
+    let all = rounds.saturating_mul(done);
+    report(rt, "again", all, on)?;
+    report(rt, "undone", all, back)?;
     Ok(())
 }
 
@@ -132,12 +149,42 @@ fn walk_last(
     last: usize,
 ) -> Result<(), Fault> {
     add(rt, walker, load)?;
-    let end = walker.len();
-    let start = end.saturating_sub(last);
+    let start = walker.len().saturating_sub(last);
     walker.goto(start)?;
-    walk_rounds(rt, walker, start, end)?;
+    walk_rounds(rt, walker, start, ROUNDS, last)?;
     print_counts(rt, walker)?;
     Ok(())
+}
+
+// Adds the events, walks the last of them on and back, again and again, and compares what its record names with
+// what differs, and what stands before it with what stands there once it is undone.
+fn walk_cascade(
+    rt: &(impl Print + Eprint + Clock + AllocGlobal),
+    walker: &mut Walker,
+    load: &Load,
+    rows: usize,
+) -> Result<(), Fault> {
+    add(rt, walker, load)?;
+    let end = walker.len();
+    let start = end.saturating_sub(1);
+    walker.goto(start)?;
+    let before = walker.state().copy(rt.alloc())?;
+    walk_rounds(rt, walker, start, FEW_ROUNDS, rows)?;
+    println!(rt; "differ once undone {}", differing(&before, walker.state()))?;
+    walker.goto(end)?;
+    print_named(rt, walker, &before)?;
+    print_counts(rt, walker)?;
+    Ok(())
+}
+
+// What the last record names, behind the state before it.
+fn print_named(rt: &impl Print, walker: &Walker, before: &State) -> io::Result<()> {
+    let after = walker.state();
+    if let Some(record) = walker.records().last() {
+        let fit = fit_of(record, before, after);
+        println!(rt; "named {}, rightly {}", fit.places, fit.right)?;
+    }
+    println!(rt; "differ {}", differing(before, after))
 }
 
 // Adds the events, jumps between their moments, and searches them from the end to the start.
@@ -175,6 +222,11 @@ fn measure(
         Plan::Jumps(_) | Plan::Full(_) => walk_jumps(rt, &mut walker, load),
         Plan::Issues(_) => walk_last(rt, &mut walker, load, ISSUED as usize),
         Plan::Polls(_) => walk_last(rt, &mut walker, load, 2 * ISSUED as usize),
+        Plan::Cancels(_) => walk_last(rt, &mut walker, load, 2 * ENDED as usize),
+        Plan::Counts(_) | Plan::Meets(_) => walk_last(rt, &mut walker, load, ENDED as usize),
+        Plan::Cascade(rows) | Plan::Met(rows) | Plan::Severed(rows) => {
+            walk_cascade(rt, &mut walker, load, rows as usize)
+        }
         _ => walk_through(rt, &mut walker, load),
     }
 }
@@ -202,9 +254,7 @@ fn main(rt: HostRuntime) -> io::Result<ExitCode> {
         return end(&rt, measure_traces(&rt, count));
     }
     let Some(plan) = plan_of(&texts) else {
-        eprintln!(rt;
-            "measure nops N | jumps N | overflow N | issues N | polls N | full N | ticks N | transfers N | syncs N | traces N"
-        )?;
+        eprintln!(rt; "{WORDS}")?;
         return Ok(ExitCode::from(2));
     };
     let load = load_of(alloc, plan)?;

@@ -14,6 +14,9 @@ pub const MOST_EVENTS: u32 = 1048576;
 /// The most events of requests on a file: 16 programs of 1,364 requests each.
 pub const MOST_FILE_EVENTS: u32 = 109120;
 
+/// The most rows beside those that end them: 15 batches of 4,096, but for 100.
+pub const MOST_WAITING: u32 = 61340;
+
 /// A run. Each request is pushed, entered, issued, finished and reaped, in five events.
 #[derive(Clone, Copy)]
 pub enum Plan {
@@ -38,12 +41,29 @@ pub enum Plan {
     Transfers(u32),
     /// So many events of WRITEs, each of which changes one byte of a file of 65,536 bytes, and of FSYNCs.
     Syncs(u32),
+    /// Cancels, each of which looks at so many issued rows and finds the last, which is running.
+    Cancels(u32),
+    /// NOPs that finish beside so many TIMEOUTs that wait for a count of completions. None of these is met.
+    Counts(u32),
+    /// The same, but each NOP meets a TIMEOUT.
+    Meets(u32),
+    /// A cancel that ends so many rows in one step. The run compares what its record names with what differs.
+    Cascade(u32),
+    /// The same of a NOP that meets so many TIMEOUTs.
+    Met(u32),
+    /// The same of a cancel that ends the first row of each chain, of so many rows in all.
+    Severed(u32),
 }
 
 /// Reads the word for traces, and how many events they have.
-pub fn traces_of(words: &[&str]) -> Option<u32> {
-    match words {
-        ["traces", size] => size.parse::<u32>().ok(),
+pub fn traces_of(words: &[&str]) -> Option<u32>
+    ensures { IfSome result (λ n. n ≤ 1048576) }
+{
+    let ["traces", size] = words else {
+        return None;
+    };
+    match size.parse::<u32>() {
+        Ok(size) if size <= MOST_EVENTS => Some(size),
         _ => None,
     }
 }
@@ -66,6 +86,23 @@ pub fn plan_of(words: &[&str]) -> Option<Plan>
         "ticks" if size <= MOST_EVENTS => Some(Plan::Ticks(size)),
         "transfers" if size <= MOST_FILE_EVENTS => Some(Plan::Transfers(size)),
         "syncs" if size <= MOST_FILE_EVENTS => Some(Plan::Syncs(size)),
+        _ if size <= MOST_WAITING => waiting_plan(name, size),
+        _ => None,
+    }
+}
+
+// Reads the words for many issued rows.
+fn waiting_plan(name: &str, size: u32) -> Option<Plan>
+    requires { size ≤ 61340 }
+    ensures { IfSome result HasLimits }
+{
+    match name {
+        "cancels" => Some(Plan::Cancels(size)),
+        "counts" => Some(Plan::Counts(size)),
+        "meets" => Some(Plan::Meets(size)),
+        "cascade" => Some(Plan::Cascade(size)),
+        "met" => Some(Plan::Met(size)),
+        "severed" => Some(Plan::Severed(size)),
         _ => None,
     }
 }

@@ -35,10 +35,15 @@ fn trace_of(alloc: Global, before: &[u8], count: u32) -> Result<Vec<u8>, AllocEr
     Ok(bytes)
 }
 
-fn measure_first(
-    rt: &(impl Print + Eprint + Clock + AllocGlobal),
-    count: u32,
-) -> Result<(), Fault> {
+fn check_same(read: &[u8], written: &[u8]) -> Result<(), Fault> {
+    if read == written {
+        Ok(())
+    } else {
+        Err(Fault::Differs)
+    }
+}
+
+fn measure_first(rt: &(impl Eprint + Clock + AllocGlobal), count: u32) -> Result<(), Fault> {
     let bytes = trace_of(rt.alloc(), &FIRST, count)?;
     let start = Instant::now(rt)?;
     let events = read_trace(rt.alloc(), &bytes)?;
@@ -48,14 +53,10 @@ fn measure_first(
     let wrote = start.elapsed(rt)?.as_micros();
     report(rt, "read, form 1", events.len(), read)?;
     report(rt, "write, form 1", events.len(), wrote)?;
-    println!(rt; "same {}", written.as_slice() == bytes.as_slice())?;
-    Ok(())
+    check_same(&bytes, &written)
 }
 
-fn measure_second(
-    rt: &(impl Print + Eprint + Clock + AllocGlobal),
-    count: u32,
-) -> Result<(), Fault> {
+fn measure_second(rt: &(impl Eprint + Clock + AllocGlobal), count: u32) -> Result<(), Fault> {
     let bytes = trace_of(rt.alloc(), &SECOND, count)?;
     let start = Instant::now(rt)?;
     let (setup, events) = read_trace2(rt.alloc(), &bytes)?;
@@ -65,15 +66,16 @@ fn measure_second(
     let wrote = start.elapsed(rt)?.as_micros();
     report(rt, "read, form 2", events.len(), read)?;
     report(rt, "write, form 2", events.len(), wrote)?;
-    println!(rt; "same {}", written.as_slice() == bytes.as_slice())?;
-    Ok(())
+    check_same(&bytes, &written)
 }
 
-/// Reads and writes traces of so many events.
+/// Reads traces of so many events, and writes them again.
 pub fn measure_traces(
     rt: &(impl Print + Eprint + Clock + AllocGlobal),
     count: u32,
 ) -> Result<(), Fault> {
     measure_first(rt, count)?;
-    measure_second(rt, count)
+    measure_second(rt, count)?;
+    println!(rt; "events {count}")?;
+    Ok(())
 }

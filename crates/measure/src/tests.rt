@@ -2,7 +2,8 @@
 
 use crate::load::load_of;
 use crate::parts::Load;
-use crate::plan::Plan;
+use crate::plan::{Plan, plan_of, traces_of};
+use crate::spelling::measure_traces;
 use machine::{Event, State};
 use places::{Place, Record};
 use std::alloc::Global;
@@ -60,4 +61,20 @@ fn syncs_change_one_byte_each(rt: HostRuntime) -> Result<(), Fail> {
     let want = [write, sync, write, sync, write, sync, write, sync];
     assert_eq!(rt; named.as_slice(), want.as_slice());
     Ok(())
+}
+
+// Two of each event, and one that begins anew.
+#[test]
+fn traces_are_read_and_written(rt: HostRuntime) -> Result<(), Fail> {
+    measure_traces(&rt, 0)?;
+    measure_traces(&rt, 9)?;
+    Ok(())
+}
+
+#[test]
+fn no_run_is_larger_than_its_most(rt: HostRuntime) {
+    assert!(rt; traces_of(&["traces", "1048576"]) == Some(1048576));
+    assert!(rt; traces_of(&["traces", "1048577"]).is_none());
+    assert!(rt; plan_of(&["full", "1048577"]).is_none());
+    assert!(rt; plan_of(&["nops", "109201"]).is_none());
 }

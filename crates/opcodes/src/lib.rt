@@ -15,7 +15,9 @@ pub use checks::{Context, check, time_of};
 pub use choice::Choice;
 pub use effect::carry_out;
 pub use ending::Outcome;
-pub use errno::{EALREADY, EBADF, EBUSY, ECANCELED, EFAULT, EFBIG, EINVAL, EIO, ENOENT, EPIPE, ETIME};
+pub use errno::{
+    EALREADY, EBADF, EBUSY, ECANCELED, EFAULT, EFBIG, EINVAL, EIO, ENOENT, EPIPE, ETIME,
+};
 pub use op::{Op, fits_end, is_cancel, is_timer, uses_descriptor};
 pub use results::outcome;
 pub use running::is_running;

@@ -1,4 +1,4 @@
-//! Scripts: a JSON text that gives a setup and a schedule of events.
+//! Scripts: a JSON text that gives a setup and a schedule of events; and traces, given on from their crate.
 #![tactic(auto)]
 
 mod descriptor;
@@ -20,3 +20,4 @@ mod threads;
 pub use fault::{Key, Path, ScriptFault};
 pub use parts::Script;
 pub use reading::read_script;
+pub use traces::{TraceFault, migrate, read_trace, read_trace2, write_trace, write_trace2};

@@ -81,10 +81,6 @@ pub record IsWhole (rows : List Row) (counted : ℕ) (direct es : List Ending) :
   pub met : with_met rows counted es ≡ es
   pub guards : with_guards rows es ≡ es
 
--- No unfinished row is a TIMEOUT that counts completions, and none guards another.
-abbrev pub NoTimers : List Row → Type 0
-NoTimers rows = (r : ℕ) (row : Row) → slice_get rows r ≡ Some row → is_unfinished row.phase ≡ true → (is_count_timeout row ≡ false) × (row.target ≡ None)
-
 -- An unfinished guard that has a target stands just behind it.
 abbrev pub GuardsStand : List Row → Type 0
 GuardsStand rows = (r t : ℕ) (row : Row) → slice_get rows r ≡ Some row → is_guard row ≡ true → is_unfinished row.phase ≡ true → row.target ≡ Some t → t + 1 ≡ r

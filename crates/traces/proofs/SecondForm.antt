@@ -154,7 +154,8 @@ starts text other rest n h =
     let same : take 8 (other ++ rest) ≡ take 8 other = take_at other rest 8 n ∙ sym (take_all 8 other (omega arith)) in
     subst (λ (k : ℕ). take k other ≡ take k text) (sym alone) (sym same ∙ front)
 
-not_first : (setup : Setup) (events : List Event) (bytes : List ℕ) → IsTrace2 setup events bytes → BeginsAs magic bytes → ⊥
+-- A trace of the second form doesn't begin as one of the first.
+pub not_first : (setup : Setup) (events : List Event) (bytes : List ℕ) → IsTrace2 setup events bytes → BeginsAs magic bytes → ⊥
 not_first setup events bytes h b = other_magic (starts magic magic2 (setup_bytes setup ++ counted_bytes events) refl (subst (BeginsAs magic) h.spelled b))
 
 -- what the reader of the first form says of a trace of the second
@@ -171,13 +172,19 @@ first_of_second setup events bytes (SetupFault offset) h f = absurd (not_first s
 second_magic : BeginsAs magic2 magic → ⊥
 second_magic h = let e : 49 ≡ 50 = ap (λ (xs : List ℕ). get_or xs 7 0) h in omega (arith, e)
 
+not_second : (events : List Event) (bytes : List ℕ) → IsTrace events bytes → BeginsAs magic2 bytes → ⊥
+not_second events bytes h b = second_magic (starts magic2 magic (counted_bytes events) refl (subst (BeginsAs magic2) h.1 b))
+
 -- and the other way round
 pub second_of_first : (events : List Event) (bytes : List ℕ) (fault : TraceFault) → IsTrace events bytes → IsFault2 bytes fault → fault ≡ Magic
 second_of_first events bytes fault h f =
     elim f [
       | inl other ↦ other.1
-      | inr body ↦ absurd (second_magic (starts magic2 magic (counted_bytes events) refl (subst (BeginsAs magic2) h.1 body.0)))
+      | inr body ↦ absurd (not_second events bytes h body.0)
     ]
+
+pub second_faults : (events : List Event) (bytes : List ℕ) → IsTrace events bytes → IsFault2 bytes Magic
+second_faults events bytes h = inl (not_second events bytes h, refl)
 
 -- what is written is read again
 pub again_setup : (r : Result (Setup × Vec Event) TraceFault) (setup : Setup) (events : List Event)

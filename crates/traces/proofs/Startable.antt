@@ -4,7 +4,7 @@ use Rattle.std.specs.Prelude.{Option, Some, None, slice_get, ◌==◌, ◌&&◌,
 use Rattle.std.specs.Option.{option_map_or}
 use Rattle.std.specs.List.{list_all, list_any}
 use Rattle.std.specs.Str.{bytes_eq}
-use Rattle.std.proofs.lemmas.Bool.{and_parts, and_from, leb-true, le-leb, ltb-true, lt-ltb}
+use Rattle.std.proofs.lemmas.Bool.{and_parts, and_from, or_parts, leb-true, le-leb, ltb-true, lt-ltb}
 use Rattle.std.proofs.lemmas.List.Folds.{list_any-append}
 use Rattle.std.proofs.lemmas.List.{append-nil, append_assoc}
 use Rattle.ring_words.specs.Rings.{rounded}
@@ -35,18 +35,13 @@ agree [] (c ∷ cs) = refl
 agree (b ∷ bs) [] = refl
 agree (b ∷ bs) (c ∷ cs) = ap (λ x. (b == c) && x) (agree bs cs)
 
-or_no : (a b : Bool) → (a || b) ≡ false → (a ≡ false) × (b ≡ false)
-or_no false false h = (refl, refl)
-or_no false true h = absurd cc
-or_no true b h = absurd cc
-
 no_no : (a : Bool) → not a ≡ true → a ≡ false
 no_no false h = refl
 no_no true h = absurd cc
 
 none_in : (name : List ℕ) (before behind : List Object) (o : Object) → list_any (is_named name) (before ++ o ∷ behind) ≡ false → bytes_eq name o.name ≡ false
-none_in name [] behind o h = (or_no _ _ h).0
-none_in name (p ∷ before) behind o h = none_in name before behind o (or_no _ _ h).1
+none_in name [] behind o h = (or_parts _ _ h).0
+none_in name (p ∷ before) behind o h = none_in name before behind o (or_parts _ _ h).1
 
 new_name : (before behind : List Object) (o : Object) → names_once (before ++ o ∷ behind) ≡ true → has_name before o.name ≡ false
 new_name [] behind o h = refl
@@ -148,7 +143,7 @@ once_more : (before : List Object) (o : Object) → names_once before ≡ true �
 once_more [] o once fresh = refl
 once_more (p ∷ ps) o once fresh =
     let n = and_parts (not (list_any (is_named p.name) ps)) (names_once ps) once in
-    let f = or_no (is_same p.name o.name) (has_name ps o.name) fresh in
+    let f = or_parts (is_same p.name o.name) (has_name ps o.name) fresh in
     let other : list_any (is_named p.name) (ps ++ o ∷ []) ≡ false =
     list_any-append (is_named p.name) ps (o ∷ []) ∙ ap (λ b. b || (bytes_eq p.name o.name || false)) (no_no _ n.0) ∙ ap (λ b. b || false) (sym (agree p.name o.name) ∙ f.0) in
     and_from _ _ (yes_no _ other) (once_more ps o n.1 f.1)

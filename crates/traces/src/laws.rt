@@ -28,14 +28,16 @@ pub fn one_setup_and_events_of_a_trace()
     ensures { (a b : Setup) (d e : List Event) (bytes : List ℕ) → IsTrace2 a d bytes → IsTrace2 b e bytes → (a ≡ b) × (d ≡ e) }
 {}
 
-/// What is wrong with a trace of the first form, read as one of the second, is how it begins.
+/// What is wrong with a trace of the first form, read as one of the second, is how it begins, and nothing else.
 pub fn first_form_is_not_second()
-    ensures { (events : List Event) (bytes : List ℕ) (fault : TraceFault) → IsTrace events bytes → IsFault2 bytes fault → fault ≡ TraceFault.Magic }
+    ensures wrong { (events : List Event) (bytes : List ℕ) → IsTrace events bytes → IsFault2 bytes TraceFault.Magic }
+    ensures only { (events : List Event) (bytes : List ℕ) (fault : TraceFault) → IsTrace events bytes → IsFault2 bytes fault → fault ≡ TraceFault.Magic }
 {}
 
 /// And the other way round.
 pub fn second_form_is_not_first()
-    ensures { (setup : Setup) (events : List Event) (bytes : List ℕ) (fault : TraceFault) → IsTrace2 setup events bytes → IsFault bytes fault → fault ≡ TraceFault.Magic }
+    ensures wrong { (setup : Setup) (events : List Event) (bytes : List ℕ) → IsTrace2 setup events bytes → IsFault bytes TraceFault.Magic }
+    ensures only { (setup : Setup) (events : List Event) (bytes : List ℕ) (fault : TraceFault) → IsTrace2 setup events bytes → IsFault bytes fault → fault ≡ TraceFault.Magic }
 {}
 
 /// A setup that a run can start from has a trace.

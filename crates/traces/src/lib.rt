@@ -48,6 +48,8 @@ pub use second::{migrate, read_trace2, write_trace2};
 pub use writing::write_trace;
 
 #[cfg(test)]
+mod full_tests;
+#[cfg(test)]
 mod second_tests;
 #[cfg(test)]
 mod tests;

@@ -14,13 +14,13 @@ use std::process::Abort;
 use std::test::Fail;
 
 /// The trace of a setup with one entry, no threads and no events.
-const SMALLEST: [u8; 37] = [
+pub(crate) const SMALLEST: [u8; 37] = [
     0x55, 0x52, 0x54, 0x52, 0x41, 0x43, 0x45, 0x32, 1, 0, 2, 0, 0, 0, 0, 0, 0, 0, 0, 0, 0, 0, 0, 0,
     0, 0, 0, 0, 0, 0, 0, 0, 0, 0, 0, 0, 0,
 ];
 
 /// The trace of examples/one_nop.json.
-const ONE_NOP_2: [u8; 225] = [
+pub(crate) const ONE_NOP_2: [u8; 225] = [
     85, 82, 84, 82, 65, 67, 69, 50, 1, 0, 2, 0, 0, 0, 0, 0, 0, 0, 0, 0, 0, 0, 0, 0, 0, 0, 0, 0, 0,
     1, 0, 0, 0, 4, 0, 0, 0, 1, 0, 0, 0, 0, 0, 0, 0, 0, 0, 0, 0, 0, 0, 0, 0, 0, 0, 0, 0, 0, 0, 0, 0,
     0, 0, 0, 0, 0, 0, 0, 0, 0, 0, 0, 0, 0, 7, 0, 0, 0, 0, 0, 0, 0, 0, 0, 0, 0, 0, 0, 0, 0, 0, 0, 0,
@@ -32,7 +32,7 @@ const ONE_NOP_2: [u8; 225] = [
 ];
 
 /// A trace with each kind of object, descriptor and instruction, both options, and two events.
-const WHOLE: [u8; 220] = [
+pub(crate) const WHOLE: [u8; 220] = [
     85, 82, 84, 82, 65, 67, 69, 50, 4, 0, 8, 0, 3, 4, 3, 2, 1, 3, 0, 0, 0, 0, 7, 9, 3, 0, 0, 0, 1,
     102, 1, 2, 0, 0, 0, 1, 2, 2, 112, 95, 2, 64, 0, 0, 0, 2, 101, 57, 3, 254, 255, 255, 255, 255,
     255, 255, 255, 4, 0, 0, 0, 0, 0, 1, 1, 1, 2, 2, 0, 2, 0, 0, 0, 2, 0, 0, 0, 3, 255, 255, 0, 0,
@@ -92,7 +92,7 @@ const CHANGES: [(usize, u8, u32, usize); 43] = [
 ];
 
 /// The number of the fault, and the offset that it names.
-fn fault_of(alloc: Global, bytes: &[u8]) -> (u32, usize) {
+pub(crate) fn fault_of(alloc: Global, bytes: &[u8]) -> (u32, usize) {
     match read_trace2(alloc, bytes) {
         Ok(_) => (0, 0),
         Err(TraceFault::Setup(offset)) => (8, offset),
@@ -266,10 +266,15 @@ fn whole_setup(rt: HostRuntime) -> Result<(), Fail> {
     Ok(())
 }
 
+/// What a trace is once it was read and written.
+pub(crate) fn written_again(alloc: Global, bytes: &[u8]) -> Result<Vec<u8>, TraceFault> {
+    let (setup, events) = read_trace2(alloc, bytes)?;
+    Ok(write_trace2(alloc, &setup, &events)?)
+}
+
 #[test]
 fn whole_setup_again(rt: HostRuntime) -> Result<(), Fail> {
-    let (setup, events) = read_trace2(rt.alloc(), &WHOLE)?;
-    let trace = write_trace2(rt.alloc(), &setup, &events)?;
+    let trace = written_again(rt.alloc(), &WHOLE)?;
     assert_eq!(rt; trace.as_slice(), WHOLE.as_slice());
     Ok(())
 }
@@ -285,13 +290,6 @@ fn changed_bytes(rt: HostRuntime) {
             fault_of(rt.alloc(), &bytes),
             (fault, offset),
             "byte {place} is {byte}"
-        );
-    }
-    for length in 0..220usize {
-        assert_eq!(rt;
-            fault_of(rt.alloc(), &WHOLE[..length]),
-            (2, 0),
-            "{length} bytes"
         );
     }
 }

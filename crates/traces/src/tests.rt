@@ -16,13 +16,13 @@ pub(crate) const ONE_NOP: [u8; 108] = [
 ];
 
 /// A trace of one step of thread 0.
-const ONE_STEP: [u8; 28] = [
+pub(crate) const ONE_STEP: [u8; 28] = [
     0x55, 0x52, 0x54, 0x52, 0x41, 0x43, 0x45, 0x31, 1, 0, 0, 0, 1, 0, 0, 0, 0, 0, 0, 0, 0, 0, 0, 0,
     0, 0, 0, 0,
 ];
 
 /// A trace of an event of each other kind, with each choice.
-const EVERY_KIND: [u8; 108] = [
+pub(crate) const EVERY_KIND: [u8; 108] = [
     0x55, 0x52, 0x54, 0x52, 0x41, 0x43, 0x45, 0x31, 6, 0, 0, 0, 2, 0, 0, 0, 2, 1, 0, 0, 0, 0, 0, 0,
     0, 0, 0, 0, 3, 0, 0, 0, 0, 0, 0, 0, 0, 0, 0, 0, 0, 0, 0, 0, 5, 0, 0, 0, 3, 0, 0, 0, 2, 0, 0, 0,
     0, 0, 0, 0, 5, 0, 0, 0, 3, 0, 0, 0, 0, 0, 0, 0, 1, 0, 0, 0, 6, 0, 0, 0, 255, 255, 255, 255, 0,
@@ -38,7 +38,7 @@ fn with_byte(place: usize, byte: u8) -> [u8; 28]
     bytes
 }
 
-fn fault_number(alloc: Global, bytes: &[u8]) -> u32 {
+pub(crate) fn fault_number(alloc: Global, bytes: &[u8]) -> u32 {
     match read_trace(alloc, bytes) {
         Ok(_) => 0,
         Err(fault) => fault.number(),
@@ -102,14 +102,7 @@ fn faults_of_one_step(rt: HostRuntime) -> Result<(), Fail> {
 }
 
 #[test]
-fn beginnings_and_changed_bytes(rt: HostRuntime) {
-    for length in 0..108usize {
-        assert_eq!(rt;
-            fault_number(rt.alloc(), &ONE_NOP[..length]),
-            2,
-            "{length} bytes"
-        );
-    }
+fn changed_bytes(rt: HostRuntime) {
     let mut met = [0; 9];
     for place in 0..108usize {
         let mut bytes = ONE_NOP;

@@ -4,7 +4,7 @@ ghost use Rattle.std.specs.IoError.{error_kind};
 ghost use Rattle.uringwalk.specs.Files.{told_as};
 
 use debug_server::{Fault, RunFault};
-use std::fs::File;
+use std::fs::{File, OpenFile};
 use std::io::{ErrorKind, Read, Write};
 use std::rt::Files;
 use std::{fs, io};
@@ -37,6 +37,12 @@ pub fn read_file(rt: &(impl Files + AllocGlobal), path: &str, most: u64) -> Resu
     }
 }
 
+// Writes a file to its end, and to the device.
+fn fill(file: &mut (impl Write + OpenFile), bytes: &[u8]) -> io::Result<()> {
+    file.write_all(bytes)?;
+    file.sync_all()
+}
+
 // Makes a new file of these bytes, and says whether the name was free.
 fn create_free(rt: &(impl Files + AllocGlobal), path: &str, bytes: &[u8]) -> io::Result<bool> {
     let mut file = match File::create_new(rt, path) {
@@ -44,7 +50,7 @@ fn create_free(rt: &(impl Files + AllocGlobal), path: &str, bytes: &[u8]) -> io:
         Err(error) if error.kind() == ErrorKind::AlreadyExists => return Ok(false),
         Err(error) => return Err(error),
     };
-    match file.write_all(bytes) {
+    match fill(&mut file, bytes) {
         Ok(()) => Ok(true),
         Err(error) => {
             fs::remove_file(rt, path)?;

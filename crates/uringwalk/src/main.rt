@@ -1,7 +1,11 @@
 //! The program: one job, over the libraries.
 #![tactic(auto)]
 
+#[cfg(test)]
+mod failing;
 mod files;
+#[cfg(test)]
+mod tests;
 
 use debug_server::{
     Fault, Form, Job, RunFault, ServeFault, Traced, job, migrate_trace, replay, trace_script, walk,
@@ -21,38 +25,35 @@ const TRACE_AND_ONE: u64 = 16777229;
 /// descriptors, 16 programs of 4,096 stores of 4,096 bytes, and 1,048,576 events.
 const WHOLE_TRACE_AND_ONE: u64 = 287966118;
 
-// A session over a script's file, from standard input to standard output.
-fn walk_file(rt: &(impl Files + Input + Print + AllocGlobal), path: &str) -> Result<(), Fault> {
-    let text = read_file(rt, path, SCRIPT_AND_ONE)?;
-    let mut input = rt.reader();
-    let mut output = io::writer(rt);
-    match walk(rt.alloc(), &text, &mut input, &mut output) {
-        Ok(()) => Ok(()),
-        Err(fault) => Err(Fault::Run(fault)),
-    }
+/// What a session stands over.
+#[derive(Clone, Copy)]
+enum Over {
+    Script,
+    Trace,
 }
 
-// A session over a trace's file, from standard input to standard output.
-fn replay_file(rt: &(impl Files + Input + Print + AllocGlobal), path: &str) -> Result<(), Fault> {
-    let trace = read_file(rt, path, WHOLE_TRACE_AND_ONE)?;
+// A session over a file, from standard input to standard output.
+fn answer_over(
+    rt: &(impl Files + Input + Print + AllocGlobal),
+    over: Over,
+    path: &str,
+) -> Result<(), Fault> {
+    let most = match over {
+        Over::Script => SCRIPT_AND_ONE,
+        Over::Trace => WHOLE_TRACE_AND_ONE,
+    };
+    let bytes = read_file(rt, path, most)?;
     let mut input = rt.reader();
     let mut output = io::writer(rt);
-    match replay(rt.alloc(), &trace, &mut input, &mut output) {
-        Ok(()) => Ok(()),
-        Err(fault) => Err(Fault::Run(fault)),
+    match over {
+        Over::Script => walk(rt.alloc(), &bytes, &mut input, &mut output)?,
+        Over::Trace => replay(rt.alloc(), &bytes, &mut input, &mut output)?,
     }
+    Ok(())
 }
 
 // Writes a trace to its file, and prints how many events it has.
-fn keep(
-    rt: &(impl Files + Print + AllocGlobal),
-    out: &str,
-    made: Result<Traced, RunFault>,
-) -> Result<(), Fault> {
-    let trace = match made {
-        Ok(trace) => trace,
-        Err(fault) => return Err(Fault::Run(fault)),
-    };
+fn keep(rt: &(impl Files + Print + AllocGlobal), out: &str, trace: &Traced) -> Result<(), Fault> {
     write_file(rt, out, &trace.bytes)?;
     match println!(rt; "events {}", trace.events) {
         Ok(()) => Ok(()),
@@ -68,7 +69,7 @@ fn trace_file(
     form: Form,
 ) -> Result<(), Fault> {
     let text = read_file(rt, script, SCRIPT_AND_ONE)?;
-    keep(rt, out, trace_script(rt.alloc(), &text, form))
+    keep(rt, out, &trace_script(rt.alloc(), &text, form)?)
 }
 
 // A trace of the first form, behind a script's setup, in a file.
@@ -80,13 +81,13 @@ fn migrate_file(
 ) -> Result<(), Fault> {
     let text = read_file(rt, script, SCRIPT_AND_ONE)?;
     let bytes = read_file(rt, trace, TRACE_AND_ONE)?;
-    keep(rt, out, migrate_trace(rt.alloc(), &text, &bytes))
+    keep(rt, out, &migrate_trace(rt.alloc(), &text, &bytes)?)
 }
 
 fn run(rt: &(impl Files + Input + Print + AllocGlobal), job: Job<'_>) -> Result<(), Fault> {
     match job {
-        Job::Walk(script) => walk_file(rt, script),
-        Job::Replay(trace) => replay_file(rt, trace),
+        Job::Walk(script) => answer_over(rt, Over::Script, script),
+        Job::Replay(trace) => answer_over(rt, Over::Trace, trace),
         Job::Trace { script, out, form } => trace_file(rt, script, out, form),
         Job::Migrate { script, trace, out } => migrate_file(rt, script, trace, out),
     }

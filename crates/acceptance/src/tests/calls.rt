@@ -14,7 +14,8 @@ use std::alloc::Global;
 use std::process::Abort;
 use std::test::Fail;
 
-fn script_of(alloc: Global) -> Result<Script, Fail> {
+// The script of one NOP.
+pub fn script_of(alloc: Global) -> Result<Script, Fail> {
     let script = read_script(alloc, ONE_NOP.as_bytes())?;
     Ok(script)
 }

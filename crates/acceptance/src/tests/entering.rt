@@ -1,9 +1,8 @@
 //! What records name of entering, of completions that are kept, and of the poller; and what is refused there.
 
 use crate::tests::ONE_NOP;
-use crate::tests::records::{last_record, names_just, state_behind};
+use crate::tests::records::{REQUEST_AND_STEP, last_record, names_just, state_behind};
 use machine::{Event, Refusal};
-use opcodes::Choice;
 use places::{Place, Record};
 use script::read_script;
 use std::alloc::Global;
@@ -23,15 +22,6 @@ const POLLED: &str =
 const ENTER_OF_NOTHING: &str = r#"{"entries":1,"threads":[[["enter",0,0,0]]],"schedule":[]}"#;
 
 const UP_TO_ENTER: [Event; 3] = [Event::Step(0), Event::Step(0), Event::Step(0)];
-
-const UP_TO_THE_SECOND_STEP: [Event; 6] = [
-    Event::Step(0),
-    Event::Step(0),
-    Event::Step(0),
-    Event::Issue(0),
-    Event::Finish(0, Choice::Full),
-    Event::Step(0),
-];
 
 // The record of a scheduled event, of the number that events are counted by from 1.
 pub fn scheduled_record(alloc: Global, text: &str, number: usize) -> Result<Record, Fail> {
@@ -99,7 +89,7 @@ fn an_enter_that_waits_names_the_stage(rt: HostRuntime) -> Result<(), Fail> {
 
 #[test]
 fn the_second_step_of_an_enter_names_its_thread(rt: HostRuntime) -> Result<(), Fail> {
-    let record = last_record(rt.alloc(), WAITING, &UP_TO_THE_SECOND_STEP)?;
+    let record = last_record(rt.alloc(), WAITING, &REQUEST_AND_STEP)?;
     let places = [
         Place::ThreadStage(0),
         Place::ProgramCounter(0),

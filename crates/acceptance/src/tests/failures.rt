@@ -1,9 +1,9 @@
 //! A device that fails at one of its calls.
 
 use crate::tests::devices::{Failure, Plan, SOUND, SlowReader, SlowWriter};
+use crate::tests::sessions::session_of;
 use crate::tests::{INPUT, ONE_NOP, OUTPUT};
 use debug_server::{NoSource, RunFault, ServeFault, Session, serve, walk};
-use script::{Script, read_script};
 use std::alloc::Global;
 use std::io::ErrorKind;
 use std::process::Abort;
@@ -22,11 +22,6 @@ fn lines(bytes: &[u8]) -> usize {
 
 fn is_beginning(bytes: &[u8]) -> bool {
     OUTPUT.as_bytes().starts_with(bytes)
-}
-
-fn session_of(alloc: Global, script: &Script) -> Result<Session, Fail> {
-    let session = Session::new(alloc, script)?;
-    Ok(session)
 }
 
 // Serves a session over devices that fail as planned: the answer, and what was written.
@@ -76,13 +71,8 @@ fn check_read_of(
     assert!(rt; is_closed(rt.alloc(), session), "at {call}");
 }
 
-fn check_read(
-    rt: &(impl Abort + AllocGlobal),
-    script: &Script,
-    call: usize,
-    kind: ErrorKind,
-) -> Result<(), Fail> {
-    let mut session = session_of(rt.alloc(), script)?;
+fn check_read(rt: &(impl Abort + AllocGlobal), call: usize, kind: ErrorKind) -> Result<(), Fail> {
+    let mut session = session_of(rt.alloc(), ONE_NOP)?;
     check_read_of(rt, &mut session, call, kind);
     Ok(())
 }
@@ -125,13 +115,8 @@ fn check_write_of(
     assert!(rt; is_closed(rt.alloc(), session), "at {call}");
 }
 
-fn check_write(
-    rt: &(impl Abort + AllocGlobal),
-    script: &Script,
-    call: usize,
-    failure: Failure,
-) -> Result<(), Fail> {
-    let mut session = session_of(rt.alloc(), script)?;
+fn check_write(rt: &(impl Abort + AllocGlobal), call: usize, failure: Failure) -> Result<(), Fail> {
+    let mut session = session_of(rt.alloc(), ONE_NOP)?;
     check_write_of(rt, &mut session, call, failure);
     Ok(())
 }
@@ -160,34 +145,26 @@ fn check_walk_write(rt: &(impl Abort + AllocGlobal), call: usize, failure: Failu
     assert!(rt; is_cut_at(&written, call), "at {call}");
 }
 
-fn script_of(alloc: Global) -> Result<Script, Fail> {
-    let script = read_script(alloc, ONE_NOP.as_bytes())?;
-    Ok(script)
-}
-
 #[test]
 fn each_read_fails(rt: HostRuntime) -> Result<(), Fail> {
-    let script = script_of(rt.alloc())?;
     for call in 1..READS + 1 {
-        check_read(&rt, &script, call, ErrorKind::UnexpectedEof)?;
+        check_read(&rt, call, ErrorKind::UnexpectedEof)?;
     }
     Ok(())
 }
 
 #[test]
 fn an_interrupted_read_is_a_fault(rt: HostRuntime) -> Result<(), Fail> {
-    let script = script_of(rt.alloc())?;
     for call in [1, 7, 40, READS] {
-        check_read(&rt, &script, call, ErrorKind::Interrupted)?;
+        check_read(&rt, call, ErrorKind::Interrupted)?;
     }
     Ok(())
 }
 
 #[test]
 fn each_write_fails(rt: HostRuntime) -> Result<(), Fail> {
-    let script = script_of(rt.alloc())?;
     for call in 1..WRITES + 1 {
-        check_write(&rt, &script, call, Failure::Error(ErrorKind::BrokenPipe))?;
+        check_write(&rt, call, Failure::Error(ErrorKind::BrokenPipe))?;
     }
     Ok(())
 }
@@ -195,18 +172,16 @@ fn each_write_fails(rt: HostRuntime) -> Result<(), Fail> {
 // The eleventh call is the first flush.
 #[test]
 fn an_interrupted_write_is_a_fault(rt: HostRuntime) -> Result<(), Fail> {
-    let script = script_of(rt.alloc())?;
     for call in [1, 10, 11, 12, WRITES] {
-        check_write(&rt, &script, call, Failure::Error(ErrorKind::Interrupted))?;
+        check_write(&rt, call, Failure::Error(ErrorKind::Interrupted))?;
     }
     Ok(())
 }
 
 #[test]
 fn a_write_of_nothing_is_a_fault(rt: HostRuntime) -> Result<(), Fail> {
-    let script = script_of(rt.alloc())?;
     for call in [1, 10, 12, 99] {
-        check_write(&rt, &script, call, Failure::Nothing)?;
+        check_write(&rt, call, Failure::Nothing)?;
     }
     Ok(())
 }

@@ -23,6 +23,16 @@ pub const ONE_REQUEST: [Event; 5] = [
     Event::Finish(0, Choice::Full),
 ];
 
+/// The same, and one more step of the thread.
+pub const REQUEST_AND_STEP: [Event; 6] = [
+    Event::Step(0),
+    Event::Step(0),
+    Event::Step(0),
+    Event::Issue(0),
+    Event::Finish(0, Choice::Full),
+    Event::Step(0),
+];
+
 /// Two requests of a thread, which are entered together and end one after the other.
 pub const TWO_REQUESTS: [Event; 9] = [
     Event::Step(0),

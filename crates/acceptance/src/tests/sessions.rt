@@ -46,7 +46,8 @@ fn replies_over_memory(rt: HostRuntime) -> Result<(), Fail> {
     Ok(())
 }
 
-fn session_of(alloc: Global, text: &str) -> Result<Session, Fail> {
+// The session of a script, at its end.
+pub fn session_of(alloc: Global, text: &str) -> Result<Session, Fail> {
     let script: Script = read_script(alloc, text.as_bytes())?;
     let session = Session::new(alloc, &script)?;
     Ok(session)

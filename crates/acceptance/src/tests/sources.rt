@@ -2,9 +2,9 @@
 ghost use Rattle.std.specs.Prelude.{◌≡◌, None, option_map, drop, slice_get};
 
 use crate::tests::devices::{SOUND, SlowReader, SlowWriter};
+use crate::tests::sessions::session_of;
 use debug_server::{ServeFault, Session, Source, serve};
 use machine::Event;
-use script::{Script, read_script};
 use std::alloc::{AllocError, Global};
 use std::test::Fail;
 
@@ -46,12 +46,6 @@ impl Source for Starved {
     }
 }
 
-fn session_of(alloc: Global) -> Result<Session, Fail> {
-    let script: Script = read_script(alloc, TWO_STORES.as_bytes())?;
-    let session = Session::new(alloc, &script)?;
-    Ok(session)
-}
-
 // One step, two, a tick, one step, three.
 fn five_answers(alloc: Global) -> Result<Answers, Fail> {
     let (step, tick) = (Event::Step(0), Event::Tick(1));
@@ -83,7 +77,7 @@ fn served_anew<S: Source>(
     lines: &[u8],
     source: &mut S,
 ) -> Result<(Result<(), ServeFault>, Vec<u8>), Fail> {
-    let mut session = session_of(alloc)?;
+    let mut session = session_of(alloc, TWO_STORES)?;
     Ok(served(alloc, &mut session, lines, source))
 }
 

@@ -1,10 +1,9 @@
 //! Walks to where a watch or a break stops.
 
 use crate::tests::ONE_NOP;
-use crate::tests::records::TWO_REQUESTS;
+use crate::tests::records::{REQUEST_AND_STEP, TWO_REQUESTS};
 use inverse_log::Walker;
 use machine::Event;
-use opcodes::Choice;
 use places::{Place, Value};
 use script::read_script;
 use std::alloc::Global;
@@ -15,16 +14,6 @@ use watches::{Stop, Watches, cont, rcont};
 /// A write to an eventfd, and a read of it.
 const COUNTER_ADDED_AND_READ: &str =
     r#"{"entries":8,"memory":[[0,"0500000000000000"]],"objects":[{"name":"e","eventfd":0}],"fds":["e"],"threads":[[["put",0,{"op":23,"fd":3,"addr":0,"len":8,"ud":1}],["push",0],["put",1,{"op":22,"fd":3,"addr":8,"len":8,"ud":2}],["push",1],["enter",2,0,0]]],"schedule":[]}"#;
-
-/// The run of one NOP.
-const REAPED: [Event; 6] = [
-    Event::Step(0),
-    Event::Step(0),
-    Event::Step(0),
-    Event::Issue(0),
-    Event::Finish(0, Choice::Full),
-    Event::Step(0),
-];
 
 // A walker at the start of a script.
 fn walker_over(alloc: Global, text: &str) -> Result<Walker, Fail> {
@@ -58,7 +47,7 @@ fn check_stops(
     watches: &Watches,
     wanted: &[(bool, Stop)],
 ) -> Result<(), Fail> {
-    walker.extend(&REAPED)?;
+    walker.extend(&REQUEST_AND_STEP)?;
     for (on, stop) in wanted {
         assert_eq!(rt; next_stop(walker, watches, *on)?, *stop);
     }

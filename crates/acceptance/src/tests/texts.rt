@@ -2,10 +2,9 @@
 
 use debug_server::{Fault, RunFault, ServeFault};
 use machine::Refusal;
-use script::{Key, Path, ScriptFault};
+use script::{Key, Path, ScriptFault, TraceFault};
 use std::alloc::Global;
 use std::test::Fail;
-use traces::TraceFault;
 
 fn reads(alloc: Global, fault: RunFault, line: &str) -> Result<bool, Fail> {
     let text = format!(in alloc; "{}", Fault::Run(fault))?;

@@ -1,13 +1,13 @@
 //! Traces of scripts, and sessions over them.
 
+use crate::tests::calls::script_of;
 use crate::tests::devices::{SOUND, SlowReader, SlowWriter};
 use crate::tests::sessions::reply;
 use crate::tests::{INPUT, ONE_NOP, OUTPUT};
 use debug_server::{Form, RunFault, Session, migrate_trace, replay, trace_script};
-use script::{Script, read_script};
+use script::{Script, TraceFault, read_trace, read_trace2};
 use std::alloc::Global;
 use std::test::Fail;
-use traces::TraceFault;
 
 /// The events of the run of one NOP, in the first form.
 const EVENTS: [u8; 108] = [
@@ -55,6 +55,21 @@ fn a_migrated_trace_is_that_of_the_script(rt: HostRuntime) -> Result<(), Fail> {
     Ok(())
 }
 
+// How many events a trace of the second form has.
+fn events_of(alloc: Global, bytes: &[u8]) -> Result<usize, Fail> {
+    let (_setup, events) = read_trace2(alloc, bytes)?;
+    Ok(events.len())
+}
+
+#[test]
+fn what_is_traced_is_read(rt: HostRuntime) -> Result<(), Fail> {
+    let events = read_trace(rt.alloc(), &EVENTS)?;
+    assert_eq!(rt; events.len(), 6);
+    let (_, whole) = traced(rt.alloc(), Form::Whole)?;
+    assert_eq!(rt; events_of(rt.alloc(), &whole)?, 6);
+    Ok(())
+}
+
 // The fault of a migration.
 fn fault_of(alloc: Global, bytes: &[u8]) -> Option<RunFault> {
     match migrated(alloc, bytes) {
@@ -71,11 +86,6 @@ fn faults_of_migrated_traces(rt: HostRuntime) -> Result<(), Fail> {
     let other = fault_of(rt.alloc(), &whole);
     assert!(rt; other == Some(RunFault::Trace(TraceFault::Magic)));
     Ok(())
-}
-
-fn script_of(alloc: Global) -> Result<Script, Fail> {
-    let script = read_script(alloc, ONE_NOP.as_bytes())?;
-    Ok(script)
 }
 
 // The reply to a line of the session over a script's setup and events.

@@ -31,13 +31,13 @@ returns-clause-grows c =
     let same = words_least w c.args.to_submit c.offered-offered.result c.offered-offered.ensures.least in
     let listed : c.deref.result.now ≡ offered_entries w c.args.to_submit = c.deref.ensures.value ∙ c.in_ok-entries.ensures ∙ ap (entries_at w.slots) same in
     let words : offered w c.word_count-count.result ≡ words_for m c.args.to_submit =
-        c.word_count-count.ensures.words ∙ ap (λ (ws : List ℕ). if c.in_ok-batch.batch.halted then up_to_entry w.slots c.in_ok-batch.batch.taken ws else ws) same
-        ∙ ap (λ (b : Bool). if b then up_to_entry w.slots c.in_ok-batch.batch.taken (offered w c.args.to_submit) else offered w c.args.to_submit) (c.in_ok-batch.ensures.halted ∙ ap (halts m.submit_all m.world) listed)
-        ∙ ap (λ (n : ℕ). if halts m.submit_all m.world (offered_entries w c.args.to_submit) then up_to_entry w.slots n (offered w c.args.to_submit) else offered w c.args.to_submit) (c.in_ok-batch.ensures.taken ∙ ap (λ (es : List Sqe). length (taken_of m.submit_all m.world es)) listed) in
+    c.word_count-count.ensures.words ∙ ap (λ (ws : List ℕ). if c.in_ok-batch.batch.halted then up_to_entry w.slots c.in_ok-batch.batch.taken ws else ws) same
+    ∙ ap (λ (b : Bool). if b then up_to_entry w.slots c.in_ok-batch.batch.taken (offered w c.args.to_submit) else offered w c.args.to_submit) (c.in_ok-batch.ensures.halted ∙ ap (halts m.submit_all m.world) listed)
+    ∙ ap (λ (n : ℕ). if halts m.submit_all m.world (offered_entries w c.args.to_submit) then up_to_entry w.slots n (offered w c.args.to_submit) else offered w c.args.to_submit) (c.in_ok-batch.ensures.taken ∙ ap (λ (es : List Sqe). length (taken_of m.submit_all m.world es)) listed) in
     let least = c.offered-offered.ensures.least in
     let within = c.word_count-count.ensures.within in
     let told : record m { submissions = c.take_first.new.self; table = c.take_batch.new.self } ≡ taken m c.args.to_submit =
-        take_told m c.args.to_submit c.word_count-count.result c.in_ok-batch.batch.taken c.take_first.new.self c.take_batch.new.self words (omega (arith, least, within))
-        (c.in_ok-batch.ensures.ok ∙ ap (λ (es : List Sqe). m.table ++ rows_of m.world (length m.table) (taken_of m.submit_all m.world es)) listed)
-        (c.in_ok-batch.ensures.taken ∙ ap (λ (es : List Sqe). length (taken_of m.submit_all m.world es)) listed) c.take_first.ensures.next in
+    take_told m c.args.to_submit c.word_count-count.result c.in_ok-batch.batch.taken c.take_first.new.self c.take_batch.new.self words (omega (arith, least, within))
+    (c.in_ok-batch.ensures.ok ∙ ap (λ (es : List Sqe). m.table ++ rows_of m.world (length m.table) (taken_of m.submit_all m.world es)) listed)
+    (c.in_ok-batch.ensures.taken ∙ ap (λ (es : List Sqe). length (taken_of m.submit_all m.world es)) listed) c.take_first.ensures.next in
     subst (Grows m) (sym told) (grows_taken m c.args.to_submit)

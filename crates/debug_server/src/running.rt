@@ -1,0 +1,58 @@
+//! Events that are run, and of which nothing is kept.
+ghost use Rattle.std.specs.Prelude.{◌≡◌, ◌≤◌, ℕ, None, length, OnOk, IfErr};
+ghost use Rattle.machine.specs.Runs.{start, Accepts, IsRefused};
+ghost use Rattle.scenario.specs.declared.event.Refusal.{Refusal as Denial};
+ghost use Rattle.scenario.specs.declared.setup.Setup.{Setup as Start};
+ghost use Rattle.scenario.specs.Setups.{setup_refusal};
+ghost use Rattle.debug_server.specs.Schedules.{StopsBy, IsOfSchedule, fault_by};
+
+use crate::faults::RunFault;
+use machine::{Event, Refusal, Setup, State};
+use script::Script;
+use std::alloc::Global;
+
+/// What an event that is refused stops a schedule by.
+pub(crate) fn fault_by(index: u32, refusal: Refusal) -> RunFault
+    ensures { result ≡ fault_by index refusal }
+{
+    match refusal {
+        Refusal::Memory => RunFault::Memory,
+        refusal => RunFault::Schedule(index, refusal),
+    }
+}
+
+/// Runs the schedule of a script.
+pub(crate) fn run_schedule(alloc: Global, script: &Script) -> Result<(), RunFault>
+    ensures accepts { OnOk result (Accepts (start script.now.setup) script.now.schedule) }
+    ensures schedule { IfErr result (λ e. (i : ℕ) → (n : Denial) → e ≡ RunFault.Schedule i n → IsRefused script.now.setup script.now.schedule i n) }
+    ensures other { IfErr result IsOfSchedule }
+{
+    run_from(alloc, script.setup(), script.schedule())
+}
+
+// Runs some events from a setup.
+fn run_from(alloc: Global, setup: &Setup, events: &[Event]) -> Result<(), RunFault>
+    requires starts { setup_refusal setup.now ≡ None }
+    requires most { length events.now ≤ 1048576 }
+    ensures accepts { OnOk result (Accepts (start setup.now) events.now) }
+    ensures stops { IfErr result (λ e. StopsBy setup.now events.now e) }
+{
+    let Ok(mut state) = State::new(alloc, setup) else {
+        return Err(RunFault::Memory);
+    };
+    step_all(&mut state, events)
+}
+
+// Runs some events, each of whose records is dropped.
+fn step_all(state: &mut State, events: &[Event]) -> Result<(), RunFault>
+    requires most { length events.now ≤ 1048576 }
+    ensures accepts { OnOk result (Accepts state.old events.now) }
+    ensures stops { IfErr result (λ e. (setup : Start) → state.old ≡ start setup → StopsBy setup events.now e) }
+{
+    for i in 0..events.len() {
+        if let Err(refusal) = state.step(events[i]) {
+            return Err(fault_by(i as u32, refusal));
+        }
+    }
+    Ok(())
+}

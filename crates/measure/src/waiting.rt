@@ -1,0 +1,176 @@
+//! Runs of many issued rows: cancels that look at them, counts that meet them, and steps that end them all.
+ghost use Rattle.std.specs.Prelude.{◌≤◌};
+
+use crate::batches::{BATCH, batch_load};
+use crate::parts::{Load, entry};
+use entries::Sqe;
+use machine::Event;
+use opcodes::Choice;
+use std::alloc::{AllocError, Global};
+
+const NOP: u8 = 0;
+
+const TIMEOUT: u8 = 11;
+
+const ASYNC_CANCEL: u8 = 14;
+
+/// IOSQE_IO_LINK.
+const LINK: u8 = 4;
+
+/// IORING_ASYNC_CANCEL_ALL.
+const CANCEL_ALL: u32 = 1;
+
+/// A count of completions that no run comes to.
+const FAR: u64 = 1048576;
+
+/// The user_data of the one row that a cancel looks for.
+const WANTED: u64 = 9;
+
+/// How many rows end one after the other, as others stand beside them.
+pub const ENDED: u32 = 100;
+
+/// Cancels beside so many issued rows: each is issued and finished, and finds the last row, which is running.
+pub fn cancel_load(alloc: Global, count: u32) -> Result<Load, AllocError>
+    requires { count ≤ 61340 }
+{
+    let cancel = Sqe {
+        addr: WANTED,
+        ..entry(ASYNC_CANCEL)
+    };
+    let wanted = Sqe {
+        user_data: WANTED,
+        ..entry(NOP)
+    };
+    let mut slots = vec![in alloc; 0u32; ENDED as usize]?;
+    for row in 0..count {
+        slots.push(if row + 1 < count { 1 } else { 2 })?;
+    }
+    let mut load = batch_load(alloc, &[cancel, timeout(0, 0), wanted], &slots)?;
+    issue_all(&mut load.events, ENDED, ENDED + count)?;
+    for row in 0..ENDED {
+        load.events.push(Event::Issue(row))?;
+        load.events.push(Event::Finish(row, Choice::Full))?;
+    }
+    Ok(load)
+}
+
+/// NOPs that finish beside so many TIMEOUTs, which wait for a count of completions: none of them is met.
+pub fn count_load(alloc: Global, count: u32) -> Result<Load, AllocError>
+    requires { count ≤ 61340 }
+{
+    let mut slots = vec![in alloc; 0u32; ENDED as usize]?;
+    for _row in 0..count {
+        slots.push(1)?;
+    }
+    finish_load(alloc, &[entry(NOP), timeout(FAR, 0)], &slots)
+}
+
+/// The same, but the last of the TIMEOUTs, as many as there are NOPs, are met, one as each NOP finishes.
+pub fn meet_load(alloc: Global, count: u32) -> Result<Load, AllocError>
+    requires { count ≤ 61340 }
+{
+    let met = count.min(ENDED);
+    let mut entries = Vec::from_slice(alloc, &[entry(NOP), timeout(FAR, 0)])?;
+    let mut slots = vec![in alloc; 0u32; ENDED as usize]?;
+    for _row in met..count {
+        slots.push(1)?;
+    }
+    for turn in 0..met {
+        entries.push(timeout(u64::from(turn) + 1, 0))?;
+        slots.push(turn + 2)?;
+    }
+    finish_load(alloc, &entries, &slots)
+}
+
+// All rows of a list are issued, and the first of them finish.
+fn finish_load(alloc: Global, entries: &[Sqe], slots: &[u32]) -> Result<Load, AllocError> {
+    let mut load = batch_load(alloc, entries, slots)?;
+    issue_all(&mut load.events, 0, slots.len() as u32)?;
+    for row in 0..ENDED {
+        load.events.push(Event::Finish(row, Choice::Full))?;
+    }
+    Ok(load)
+}
+
+/// A cancel with IORING_ASYNC_CANCEL_ALL, and so many rows that it ends.
+pub fn cascade_load(alloc: Global, count: u32) -> Result<Load, AllocError>
+    requires { count ≤ 61340 }
+{
+    let slots = one_and(alloc, count)?;
+    end_load(alloc, &[cancel_all(), timeout(0, 0)], &slots)
+}
+
+/// A NOP, and so many TIMEOUTs that wait for its completion.
+pub fn met_load(alloc: Global, count: u32) -> Result<Load, AllocError>
+    requires { count ≤ 61340 }
+{
+    let slots = one_and(alloc, count)?;
+    end_load(alloc, &[entry(NOP), timeout(1, 0)], &slots)
+}
+
+/// A cancel with IORING_ASYNC_CANCEL_ALL, and chains of so many rows in all, as long as a batch: it ends the
+/// first row of each, and so severs the others.
+pub fn sever_load(alloc: Global, count: u32) -> Result<Load, AllocError>
+    requires { count ≤ 61340 }
+{
+    let linked = Sqe {
+        flags: LINK,
+        ..entry(NOP)
+    };
+    let mut slots = one_and(alloc, count)?;
+    for row in 2..slots.len() {
+        if row % BATCH != 0 {
+            slots[row] = 2;
+        }
+    }
+    let mut load = batch_load(alloc, &[cancel_all(), timeout(0, LINK), linked], &slots)?;
+    for row in 0..slots.len() {
+        if slots[row] < 2 {
+            load.events.push(Event::Issue(row as u32))?;
+        }
+    }
+    load.events.push(Event::Finish(0, Choice::Full))?;
+    Ok(load)
+}
+
+// The first slot once, and the second for so many rows.
+fn one_and(alloc: Global, count: u32) -> Result<Vec<u32>, AllocError> {
+    let mut slots = vec![in alloc; 0u32; 1]?;
+    for _row in 0..count {
+        slots.push(1)?;
+    }
+    Ok(slots)
+}
+
+// All rows of a list are issued, and the first finishes.
+fn end_load(alloc: Global, entries: &[Sqe], slots: &[u32]) -> Result<Load, AllocError> {
+    let mut load = batch_load(alloc, entries, slots)?;
+    issue_all(&mut load.events, 0, slots.len() as u32)?;
+    load.events.push(Event::Finish(0, Choice::Full))?;
+    Ok(load)
+}
+
+fn cancel_all() -> Sqe {
+    Sqe {
+        addr: 7,
+        operation_flags: CANCEL_ALL,
+        ..entry(ASYNC_CANCEL)
+    }
+}
+
+// A TIMEOUT of no time, that waits for a count of completions.
+fn timeout(off: u64, flags: u8) -> Sqe {
+    Sqe {
+        off,
+        flags,
+        len: 1,
+        ..entry(TIMEOUT)
+    }
+}
+
+fn issue_all(events: &mut Vec<Event>, from: u32, to: u32) -> Result<(), AllocError> {
+    for row in from..to {
+        events.push(Event::Issue(row))?;
+    }
+    Ok(())
+}

@@ -1,0 +1,169 @@
+//! Files one of whose calls fails.
+
+use std::alloc::Allocator;
+use std::cell::Cell;
+use std::fs::{Metadata, OpenFile, OpenOptions};
+use std::io;
+use std::io::{ErrorKind, Read, Seek, SeekFrom, Write};
+use std::rt::Files;
+
+/// How many bytes a write takes at most.
+const AT_ONCE: usize = 4;
+
+/// How many calls are left up to and with the one that fails, or 0 once it failed.
+#[derive(Drop)]
+pub struct Calls {
+    left: Cell<u32>,
+}
+
+impl Calls {
+    /// The call of a number fails, from 1 on.
+    pub fn new(number: u32) -> Calls {
+        Calls {
+            left: Cell::new(number),
+        }
+    }
+
+    /// Whether the call that fails was made.
+    pub fn have_failed(&self) -> bool {
+        self.left.get() == 0
+    }
+
+    // Fails once.
+    fn count(&self) -> io::Result<()> {
+        match self.left.get() {
+            0 => Ok(()),
+            left => {
+                self.left.set(left - 1);
+                if left == 1 {
+                    Err(io::Error::from(ErrorKind::StorageFull))
+                } else {
+                    Ok(())
+                }
+            }
+        }
+    }
+}
+
+/// Files whose calls are counted.
+#[derive(Drop)]
+pub struct CountedFiles<'a, R> {
+    pub files: &'a R,
+    pub calls: &'a Calls,
+}
+
+/// An open one.
+#[derive(Drop)]
+pub struct CountedFile<'a, F> {
+    file: F,
+    calls: &'a Calls,
+}
+
+impl<'a, R: Files> Files for CountedFiles<'a, R> {
+    type File = CountedFile<'a, R::File>;
+
+    type Dir = R::Dir;
+
+    fn open_file(&self, how: &OpenOptions, path: &str) -> io::Result<CountedFile<'a, R::File>> {
+        self.calls.count()?;
+        let file = self.files.open_file(how, path)?;
+        Ok(CountedFile {
+            file,
+            calls: self.calls,
+        })
+    }
+
+    fn open_dir(&self, path: &str) -> io::Result<R::Dir> {
+        self.calls.count()?;
+        self.files.open_dir(path)
+    }
+
+    fn metadata(&self, path: &str) -> io::Result<Metadata> {
+        self.calls.count()?;
+        self.files.metadata(path)
+    }
+
+    fn symlink_metadata(&self, path: &str) -> io::Result<Metadata> {
+        self.calls.count()?;
+        self.files.symlink_metadata(path)
+    }
+
+    fn copy(&self, from: &str, to: &str) -> io::Result<u64> {
+        self.calls.count()?;
+        self.files.copy(from, to)
+    }
+
+    fn rename(&self, from: &str, to: &str) -> io::Result<()> {
+        self.calls.count()?;
+        self.files.rename(from, to)
+    }
+
+    fn remove_file(&self, path: &str) -> io::Result<()> {
+        self.calls.count()?;
+        self.files.remove_file(path)
+    }
+
+    fn create_dir(&self, path: &str) -> io::Result<()> {
+        self.calls.count()?;
+        self.files.create_dir(path)
+    }
+
+    fn remove_dir(&self, path: &str) -> io::Result<()> {
+        self.calls.count()?;
+        self.files.remove_dir(path)
+    }
+
+    fn remove_dir_all<B: Allocator>(&self, alloc: B, path: &str) -> io::Result<()> {
+        self.calls.count()?;
+        self.files.remove_dir_all(alloc, path)
+    }
+}
+
+impl<F: Read> Read for CountedFile<'_, F> {
+    fn read(&mut self, buf: &mut [u8]) -> io::Result<usize> {
+        self.calls.count()?;
+        self.file.read(buf)
+    }
+}
+
+impl<F: Write> Write for CountedFile<'_, F> {
+    fn write(&mut self, buf: &[u8]) -> io::Result<usize> {
+        self.calls.count()?;
+        let most = buf.len().min(AT_ONCE);
+        self.file.write(&buf[..most])
+    }
+
+    fn flush(&mut self) -> io::Result<()> {
+        self.calls.count()?;
+        self.file.flush()
+    }
+}
+
+impl<F: Seek> Seek for CountedFile<'_, F> {
+    fn seek(&mut self, to: SeekFrom) -> io::Result<u64> {
+        self.calls.count()?;
+        self.file.seek(to)
+    }
+}
+
+impl<F: OpenFile> OpenFile for CountedFile<'_, F> {
+    fn metadata(&self) -> io::Result<Metadata> {
+        self.calls.count()?;
+        self.file.metadata()
+    }
+
+    fn set_len(&self, size: u64) -> io::Result<()> {
+        self.calls.count()?;
+        self.file.set_len(size)
+    }
+
+    fn sync_all(&self) -> io::Result<()> {
+        self.calls.count()?;
+        self.file.sync_all()
+    }
+
+    fn sync_data(&self) -> io::Result<()> {
+        self.calls.count()?;
+        self.file.sync_data()
+    }
+}
