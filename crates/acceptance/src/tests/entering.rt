@@ -1,10 +1,11 @@
 //! What records name of entering, of completions that are kept, and of the poller; and what is refused there.
 
 use crate::tests::ONE_NOP;
-use crate::tests::records::{REQUEST_AND_STEP, last_record, names_just, state_behind};
+use crate::tests::records::{
+    REQUEST_AND_STEP, last_record, names_just, scheduled_record, state_behind,
+};
 use machine::{Event, Refusal};
-use places::{Place, Record};
-use script::read_script;
+use places::Place;
 use std::alloc::Global;
 use std::test::Fail;
 
@@ -22,13 +23,6 @@ const POLLED: &str =
 const ENTER_OF_NOTHING: &str = r#"{"entries":1,"threads":[[["enter",0,0,0]]],"schedule":[]}"#;
 
 const UP_TO_ENTER: [Event; 3] = [Event::Step(0), Event::Step(0), Event::Step(0)];
-
-// The record of a scheduled event, of the number that events are counted by from 1.
-pub fn scheduled_record(alloc: Global, text: &str, number: usize) -> Result<Record, Fail> {
-    let script = read_script(alloc, text.as_bytes())?;
-    let events = script.schedule().get(..number).ok_or("too few events")?;
-    last_record(alloc, text, events)
-}
 
 // The number that refuses an event behind some others, from the start of a script.
 fn refusal_behind(

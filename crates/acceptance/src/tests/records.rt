@@ -106,6 +106,13 @@ pub fn last_record(alloc: Global, text: &str, events: &[Event]) -> Result<Record
     last_of(&mut state, events)
 }
 
+// The record of a scheduled event, of the number that events are counted by from 1.
+pub fn scheduled_record(alloc: Global, text: &str, number: usize) -> Result<Record, Fail> {
+    let script = read_script(alloc, text.as_bytes())?;
+    let events = script.schedule().get(..number).ok_or("too few events")?;
+    last_record(alloc, text, events)
+}
+
 // The state that some events lead to, from the start of a script.
 pub fn state_behind(alloc: Global, text: &str, events: &[Event]) -> Result<State, Fail> {
     let mut state = start_of(alloc, text)?;

@@ -1,7 +1,6 @@
 //! What records name of timeouts, of their guards, and of the rows that fall with them.
 
-use crate::tests::entering::scheduled_record;
-use crate::tests::records::names_just;
+use crate::tests::records::{names_just, scheduled_record};
 use crate::tests::shown::shows;
 use places::Place;
 use std::test::Fail;
