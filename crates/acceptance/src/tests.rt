@@ -15,6 +15,7 @@ mod shown;
 mod sources;
 mod stops;
 mod texts;
+mod timers;
 mod tracing;
 mod words;
 

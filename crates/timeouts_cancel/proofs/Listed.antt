@@ -1,7 +1,8 @@
 -- Lists of endings: how long they are, and where they split.
 use Rattle.std.proofs.Common.{◌≡◌, ℕ, ℤ, Bool, true, false, cond, refl, sym, ◌∙◌, ap, List, [], ◌∷◌, length, ◌+◌, ◌<◌, ◌≤◌, ◌⊎◌, inl, inr, arith}
-use Rattle.std.specs.Prelude.{Option, Some, None, slice_get}
+use Rattle.std.specs.Prelude.{Option, Some, None, slice_get, ◌==◌}
 use Rattle.std.specs.List.{cons_option}
+use Rattle.std.proofs.lemmas.Bool.{eqb-true}
 use Rattle.std.proofs.lemmas.List.{take_all}
 use Rattle.std.proofs.lemmas.Option.{slice_get_within}
 use Rattle.entries.specs.declared.row.Row.{Row}
@@ -42,6 +43,22 @@ joined_listed f rows es = alike (λ r row. or_else (result_in es r) (result_in (
   where
     by : (r : ℕ) (row : Row) → slice_get rows r ≡ Some row → (b : Bool) → is_unfinished row.phase ≡ b → cond b (or_else (result_in es r) (result_in (endings f rows) r)) None ≡ cond b (or_else (result_in es r) (f r row)) None
     by r row h true u = ap (or_else (result_in es r)) (listed_row f rows r row h u)
+    by r row h false u = refl
+
+or_else_same : (o : Option ℤ) → or_else o None ≡ o
+or_else_same None = refl
+or_else_same (Some x) = refl
+
+pub nothing_in : (es : List Ending) → (length es == 0) ≡ true → es ≡ []
+nothing_in [] h = refl
+nothing_in (e ∷ es) h = absurd (let k = eqb-true (length (e ∷ es)) 0 h in omega (arith, k))
+
+-- a test that gives nothing adds none
+pub joined_none : (f : ℕ → Row → Option ℤ) (rows : List Row) → joined rows (λ r row. result_in [] r) (endings f rows) ≡ endings f rows
+joined_none f rows = alike (λ r row. or_else (result_in (endings f rows) r) None) f rows (λ r row h. by r row h (is_unfinished row.phase) refl)
+  where
+    by : (r : ℕ) (row : Row) → slice_get rows r ≡ Some row → (b : Bool) → is_unfinished row.phase ≡ b → cond b (or_else (result_in (endings f rows) r) None) None ≡ cond b (f r row) None
+    by r row h true u = or_else_same (result_in (endings f rows) r) ∙ listed_row f rows r row h u
     by r row h false u = refl
 
 -- ---- where a list splits

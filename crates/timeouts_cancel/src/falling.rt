@@ -6,7 +6,7 @@ ghost use Rattle.timeouts_cancel.specs.Falls.{fall_of, first_listed, with_severe
 ghost use Rattle.timeouts_cancel.specs.Walks.{Walked, Sweeping};
 
 use crate::guards::guards;
-use crate::merging::merge;
+use crate::merging::add;
 use crate::timers::{count, met};
 use entries::Row;
 use links_drains::{Table, is_soft_linked, is_unfinished};
@@ -31,9 +31,9 @@ pub fn fall(
     let severed = with_severed(table, direct)?;
     let total = counted + count(table, &severed);
     let met = met(table, total)?;
-    let ended = merge(table, &severed, &met)?;
+    let ended = add(table, severed, &met)?;
     let guards = guards(table, &ended)?;
-    merge(table, &ended, &guards)
+    add(table, ended, &guards)
 }
 
 // The rows that a step ends of itself, and the later ones of each unit that they sever. It looks at no

@@ -1,15 +1,32 @@
 //! Lists of rows that end are put together.
-ghost use Rattle.std.specs.Prelude.{◌≡◌, ◌+◌, ◌≤◌, IfOk, IfSome, IfNone, length};
-ghost use Rattle.links_drains.specs.Endings.{Direct, result_in};
+ghost use Rattle.std.specs.Prelude.{◌≡◌, ◌+◌, ◌≤◌, ℕ, ℤ, Option, IfOk, IfSome, IfNone, length};
+ghost use Rattle.entries.specs.declared.row.Row.{Row};
+ghost use Rattle.links_drains.specs.Endings.{Direct, endings, result_in};
 ghost use Rattle.timeouts_cancel.specs.Falls.{joined};
 ghost use Rattle.timeouts_cancel.specs.Merges.{IsLeast, Rises, Splits};
 
 use links_drains::Table;
 use std::alloc::AllocError;
 
-/// Two lists of rows that end as one, in the order of their numbers: a row of both keeps the result that
-/// the first has.
-pub(crate) fn merge(
+/// A list of rows that end, and others that end too, in the order of their numbers: a row of both keeps the
+/// result that the first has. Where there are no others it takes no memory.
+pub(crate) fn add(
+    table: &Table,
+    first: Vec<(u32, i32)>,
+    others: &[(u32, i32)],
+) -> Result<Vec<(u32, i32)>, AllocError>
+    requires first { (f : ℕ → Row → Option ℤ) × (first.items ≡ endings f table.now) }
+    requires others { Direct table.now others.now }
+    ensures { IfOk result (λ all. all.items ≡ joined table.now (λ r row. result_in others.now r) first.items) }
+{
+    if others.is_empty() {
+        return Ok(first);
+    }
+    merge(table, &first, others)
+}
+
+// Two lists of rows that end as one.
+fn merge(
     table: &Table,
     first: &[(u32, i32)],
     second: &[(u32, i32)],

@@ -24,7 +24,7 @@ const ENTER_OF_NOTHING: &str = r#"{"entries":1,"threads":[[["enter",0,0,0]]],"sc
 const UP_TO_ENTER: [Event; 3] = [Event::Step(0), Event::Step(0), Event::Step(0)];
 
 // The record of a scheduled event, of the number that events are counted by from 1.
-fn scheduled_record(alloc: Global, text: &str, number: usize) -> Result<Record, Fail> {
+pub fn scheduled_record(alloc: Global, text: &str, number: usize) -> Result<Record, Fail> {
     let script = read_script(alloc, text.as_bytes())?;
     let events = script.schedule().get(..number).ok_or("too few events")?;
     last_record(alloc, text, events)

@@ -10,7 +10,7 @@ const FAILING: &str =
     r#"{"entries":2,"base":4294967294,"threads":[[["put",1,{"op":99,"fd":-2,"ud":4}],["push",5],["push",1],["enter",2,0,0],["enter",0,0,4]],[]],"schedule":[["step",0],["step",0],["step",0],["step",0],["step",0],["tick",18446744073709551615]]}"#;
 
 // Whether a script's session replies just this to some lines.
-fn shows(alloc: Global, script: &str, input: &str, output: &str) -> Result<bool, Fail> {
+pub fn shows(alloc: Global, script: &str, input: &str, output: &str) -> Result<bool, Fail> {
     let written = replies(alloc, script.as_bytes(), input.as_bytes())?;
     Ok(written.as_slice() == output.as_bytes())
 }

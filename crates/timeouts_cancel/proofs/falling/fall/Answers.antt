@@ -1,11 +1,11 @@
-use Rattle.std.proofs.Common.{◌≡◌, ◌∙◌, ◌+◌, sym, ap, subst, arith, List}
+use Rattle.std.proofs.Common.{◌≡◌, ◌∙◌, ◌+◌, ap, subst, arith, List}
 use Rattle.std.specs.Prelude.{IfOk}
 use Rattle.links_drains.specs.Endings.{Ending}
 use Rattle.entries.specs.declared.row.Row.{Row}
 use Rattle.timeouts_cancel.specs.Falls.{counted_in}
 use Rattle.timeouts_cancel.specs.Guarding.{guarding}
 use Rattle.timeouts_cancel.proofs.Whole.{ms}
-use Rattle.timeouts_cancel.proofs.Filters.{severed_direct, met_direct, joined_direct, guards_direct, severed_few, counted_few, met_so, fall_so}
+use Rattle.timeouts_cancel.proofs.Filters.{met_direct, joined_direct, guards_direct, severed_few, counted_few, met_so, fall_so}
 use Rattle.timeouts_cancel.proofs.falling.fall.Goals as goal
 
 pub count-requires : goal.count-requires
@@ -25,29 +25,22 @@ met-requires c =
     let n = c.requires.counted in
     omega (arith, l, c.count.ensures, f, n)
 
-pub merge-requires-clause-first : goal.merge-requires-clause-first
-merge-requires-clause-first c = severed_direct c.args.table.now c.args.direct.now _ (c.deref-2.ensures.value ∙ c.in_ok-severed.ensures)
-
-pub merge-requires-clause-second : goal.merge-requires-clause-second
-merge-requires-clause-second c = met_direct c.args.table.now _ _ (c.deref-3.ensures.value ∙ c.in_ok-met.ensures)
+pub add-requires-clause-others : goal.add-requires-clause-others
+add-requires-clause-others c = met_direct c.args.table.now _ _ (c.deref-2.ensures.value ∙ c.in_ok-met.ensures)
 
 pub guards-requires-clause-listed : goal.guards-requires-clause-listed
-guards-requires-clause-listed c = joined_direct c.args.table.now _ _ _ (c.deref-4.ensures.value ∙ c.in_ok-ended.ensures)
+guards-requires-clause-listed c = joined_direct c.args.table.now _ _ _ (c.deref-3.ensures.value ∙ c.in_ok-ended.ensures)
 
-pub merge-requires-2-clause-first : goal.merge-requires-2-clause-first
-merge-requires-2-clause-first c = joined_direct c.args.table.now _ _ _ (c.deref-5.ensures.value ∙ c.in_ok-ended.ensures)
-
-pub merge-requires-2-clause-second : goal.merge-requires-2-clause-second
-merge-requires-2-clause-second c = guards_direct c.args.table.now _ _ (c.deref-6.ensures.value ∙ c.in_ok-guards.ensures)
+pub add-requires-2-clause-others : goal.add-requires-2-clause-others
+add-requires-2-clause-others c = guards_direct c.args.table.now _ _ (c.deref-4.ensures.value ∙ c.in_ok-guards.ensures)
 
 pub returns : goal.returns
 returns c =
     let rows : List Row = c.args.table.now in
-    let severed : List Ending = c.deref-2.result.now in
-    let same : c.deref.result.now ≡ severed = c.deref.ensures.value ∙ sym c.deref-2.ensures.value in
-    let total : c.args.counted + c.count.result ≡ c.args.counted + counted_in rows severed = ap (λ n. c.args.counted + n) (c.count.ensures ∙ ap (counted_in rows) same) in
+    let severed : List Ending = c.in_ok-severed.severed.items in
+    let total : c.args.counted + c.count.result ≡ c.args.counted + counted_in rows severed = ap (λ n. c.args.counted + n) (c.count.ensures ∙ ap (counted_in rows) c.deref.ensures.value) in
     let ended : c.in_ok-ended.ended.items ≡ ms rows c.args.counted c.args.direct.now =
-    met_so rows c.args.counted (c.args.counted + c.count.result) c.args.direct.now severed c.deref-3.result.now c.in_ok-ended.ended.items (c.deref-2.ensures.value ∙ c.in_ok-severed.ensures) total (c.deref-3.ensures.value ∙ c.in_ok-met.ensures) c.in_ok-ended.ensures in
-    let guards : c.deref-6.result.now ≡ guarding rows c.deref-5.result.now = c.deref-6.ensures.value ∙ c.in_ok-guards.ensures ∙ ap (guarding rows) (c.deref-4.ensures.value ∙ sym c.deref-5.ensures.value) in
-    let all = fall_so rows c.args.counted c.args.direct.now c.deref-5.result.now c.deref-6.result.now (c.deref-5.ensures.value ∙ ended) guards in
-    subst (λ (xs : List Ending). IfOk c.merge-2.result (λ endings. endings.items ≡ xs)) all c.merge-2.ensures
+    met_so rows c.args.counted (c.args.counted + c.count.result) c.args.direct.now severed c.deref-2.result.now c.in_ok-ended.ended.items c.in_ok-severed.ensures total (c.deref-2.ensures.value ∙ c.in_ok-met.ensures) c.in_ok-ended.ensures in
+    let guards : c.deref-4.result.now ≡ guarding rows c.in_ok-ended.ended.items = c.deref-4.ensures.value ∙ c.in_ok-guards.ensures ∙ ap (guarding rows) c.deref-3.ensures.value in
+    let all = fall_so rows c.args.counted c.args.direct.now c.in_ok-ended.ended.items c.deref-4.result.now ended guards in
+    subst (λ (xs : List Ending). IfOk c.add-2.result (λ endings. endings.items ≡ xs)) all c.add-2.ensures
