@@ -62,7 +62,7 @@ pub fn count_load(alloc: Global, count: u32) -> Result<Load, AllocError>
     for _row in 0..count {
         slots.push(1)?;
     }
-    finish_load(alloc, &[entry(NOP), timeout(FAR, 0)], &slots)
+    finish_load(alloc, &[entry(NOP), timeout(FAR, 0)], &slots, count)
 }
 
 /// The same, but the last of the TIMEOUTs, as many as there are NOPs, are met, one as each NOP finishes.
@@ -79,13 +79,20 @@ pub fn meet_load(alloc: Global, count: u32) -> Result<Load, AllocError>
         entries.push(timeout(u64::from(turn) + 1, 0))?;
         slots.push(turn + 2)?;
     }
-    finish_load(alloc, &entries, &slots)
+    finish_load(alloc, &entries, &slots, count)
 }
 
-// All rows of a list are issued, and the first of them finish.
-fn finish_load(alloc: Global, entries: &[Sqe], slots: &[u32]) -> Result<Load, AllocError> {
+// So many rows beside the first ones are issued as these are, and the first ones finish.
+fn finish_load(
+    alloc: Global,
+    entries: &[Sqe],
+    slots: &[u32],
+    count: u32,
+) -> Result<Load, AllocError>
+    requires { count ≤ 61340 }
+{
     let mut load = batch_load(alloc, entries, slots)?;
-    issue_all(&mut load.events, 0, slots.len() as u32)?;
+    issue_all(&mut load.events, 0, ENDED + count)?;
     for row in 0..ENDED {
         load.events.push(Event::Finish(row, Choice::Full))?;
     }
@@ -96,16 +103,28 @@ fn finish_load(alloc: Global, entries: &[Sqe], slots: &[u32]) -> Result<Load, Al
 pub fn cascade_load(alloc: Global, count: u32) -> Result<Load, AllocError>
     requires { count ≤ 61340 }
 {
-    let slots = one_and(alloc, count)?;
-    end_load(alloc, &[cancel_all(), timeout(0, 0)], &slots)
+    end_load(alloc, cancel_all(), timeout(0, 0), count)
 }
 
 /// A NOP, and so many TIMEOUTs that wait for its completion.
 pub fn met_load(alloc: Global, count: u32) -> Result<Load, AllocError>
     requires { count ≤ 61340 }
 {
-    let slots = one_and(alloc, count)?;
-    end_load(alloc, &[entry(NOP), timeout(1, 0)], &slots)
+    end_load(alloc, entry(NOP), timeout(1, 0), count)
+}
+
+// A row, and so many others beside it, are issued; then the row finishes.
+fn end_load(alloc: Global, first: Sqe, other: Sqe, count: u32) -> Result<Load, AllocError>
+    requires { count ≤ 61340 }
+{
+    let mut slots = vec![in alloc; 0u32; 1]?;
+    for _row in 0..count {
+        slots.push(1)?;
+    }
+    let mut load = batch_load(alloc, &[first, other], &slots)?;
+    issue_all(&mut load.events, 0, count + 1)?;
+    load.events.push(Event::Finish(0, Choice::Full))?;
+    Ok(load)
 }
 
 /// A cancel with IORING_ASYNC_CANCEL_ALL, and chains of so many rows in all, as long as a batch: it ends the
@@ -117,37 +136,32 @@ pub fn sever_load(alloc: Global, count: u32) -> Result<Load, AllocError>
         flags: LINK,
         ..entry(NOP)
     };
-    let mut slots = one_and(alloc, count)?;
-    for row in 2..slots.len() {
-        if row % BATCH != 0 {
-            slots[row] = 2;
-        }
+    let mut slots = vec![in alloc; 0u32; 1]?;
+    for row in 1..count + 1 {
+        slots.push(if begins_chain(row) { 1 } else { 2 })?;
     }
     let mut load = batch_load(alloc, &[cancel_all(), timeout(0, LINK), linked], &slots)?;
-    for row in 0..slots.len() {
-        if slots[row] < 2 {
-            load.events.push(Event::Issue(row as u32))?;
+    issue_firsts(&mut load.events, count)?;
+    load.events.push(Event::Finish(0, Choice::Full))?;
+    Ok(load)
+}
+
+// Whether a chain begins with a row: behind the cancel, or with a batch.
+fn begins_chain(row: u32) -> bool {
+    row == 1 || row % BATCH as u32 == 0
+}
+
+// The cancel and the first row of each chain are issued.
+fn issue_firsts(events: &mut Vec<Event>, count: u32) -> Result<(), AllocError>
+    requires { count ≤ 61340 }
+{
+    events.push(Event::Issue(0))?;
+    for row in 1..count + 1 {
+        if begins_chain(row) {
+            events.push(Event::Issue(row))?;
         }
     }
-    load.events.push(Event::Finish(0, Choice::Full))?;
-    Ok(load)
-}
-
-// The first slot once, and the second for so many rows.
-fn one_and(alloc: Global, count: u32) -> Result<Vec<u32>, AllocError> {
-    let mut slots = vec![in alloc; 0u32; 1]?;
-    for _row in 0..count {
-        slots.push(1)?;
-    }
-    Ok(slots)
-}
-
-// All rows of a list are issued, and the first finishes.
-fn end_load(alloc: Global, entries: &[Sqe], slots: &[u32]) -> Result<Load, AllocError> {
-    let mut load = batch_load(alloc, entries, slots)?;
-    issue_all(&mut load.events, 0, slots.len() as u32)?;
-    load.events.push(Event::Finish(0, Choice::Full))?;
-    Ok(load)
+    Ok(())
 }
 
 fn cancel_all() -> Sqe {
