@@ -545,9 +545,9 @@ mod tests {
     fn table_of(alloc: Global, entries: &[Sqe]) -> Result<Table, AllocError>
         requires { length entries.now ≤ 9 }
     {
+        let world = World::new(alloc, &[], &[], &[])?;
         let mut table = Table::new(alloc);
         let mut notes = Recorder::new(alloc);
-        let world = World::new(alloc, &[], &[], &[])?;
         table.take_batch(entries, &world, true, &mut notes)?;
         Ok(table)
     }

@@ -8,6 +8,7 @@ ghost use Rattle.timeouts_cancel.specs.Falls.{GuardsStand};
 use crate::{due, fall};
 use entries::{Row, Sqe};
 use links_drains::{Table, is_unfinished, new_row};
+use model_files::World;
 use places::{Part, Place, Recorder, Value};
 use std::alloc::{AllocError, Global};
 
@@ -33,7 +34,7 @@ fn entry(opcode: u8, flags: u8, off: u64) -> Sqe {
 fn issue(table: &mut Table, r: u32) -> Result<(), AllocError> {
     let mut notes = Recorder::new(table.allocator());
     if (r as usize) < table.len() {
-        table.issue(r, None, &mut notes)?;
+        table.issue(r, None, None, 0, &mut notes)?;
     }
     Ok(())
 }
@@ -146,7 +147,8 @@ fn counting(alloc: Global) -> Result<Table, AllocError> {
     ];
     let mut table = Table::new(alloc);
     let mut notes = Recorder::new(alloc);
-    table.take_batch(&entries, true, &mut notes)?;
+    let world = World::new(alloc, &[], &[], &[])?;
+    table.take_batch(&entries, &world, true, &mut notes)?;
     for r in [0, 3, 4, 5] {
         issue(&mut table, r)?;
     }
@@ -172,7 +174,8 @@ fn guarded(alloc: Global) -> Result<Table, AllocError> {
     ];
     let mut table = Table::new(alloc);
     let mut notes = Recorder::new(alloc);
-    table.take_batch(&entries, true, &mut notes)?;
+    let world = World::new(alloc, &[], &[], &[])?;
+    table.take_batch(&entries, &world, true, &mut notes)?;
     for r in [0, 1, 2, 3] {
         issue(&mut table, r)?;
     }
@@ -191,7 +194,7 @@ fn guards_end_with_their_targets(rt: HostRuntime) -> Result<(), AllocError> {
 
 #[test]
 fn due_at_the_deadline(rt: HostRuntime) -> Result<(), AllocError> {
-    let row = new_row(entry(11, 0, 0), 0);
+    let row = new_row(entry(11, 0, 0), 0, None, None);
     let timed = Row {
         deadline: Some(100),
         ..row
