@@ -1,11 +1,12 @@
 //! What cancels, counts of completions and steps that end many rows change.
+ghost use Rattle.measure.specs.Plans.{HasLimits};
 
 use crate::comparing::{differing, fit_of};
 use crate::load::load_of;
 use crate::parts::Load;
 use crate::plan::{Plan, plan_of};
 use entries::Phase;
-use machine::State;
+use machine::{Event, State};
 use places::{Place, Value};
 use std::alloc::Global;
 use std::test::Fail;
@@ -20,40 +21,60 @@ fn before_last(alloc: Global, load: &Load, last: usize) -> Result<State, Fail> {
     Ok(state)
 }
 
-// How many places the last events name, each: each names just what differs.
-fn named_by_last(alloc: Global, load: &Load, last: usize) -> Result<Vec<usize>, Fail> {
-    let mut state = before_last(alloc, load, last)?;
-    let mut named = Vec::new(alloc);
-    for at in load.events.len().saturating_sub(last)..load.events.len() {
-        let before = state.copy(alloc)?;
-        let record = state.step(load.events[at])?;
-        let fit = fit_of(&record, &before, &state);
-        if fit.right != fit.places {
-            return Err(Fail::from("a record names what doesn't differ"));
-        }
-        named.push(fit.places)?;
+// How many places an event names, each of which differs behind it.
+fn named_by(alloc: Global, state: &mut State, event: Event) -> Result<usize, Fail> {
+    let before = state.copy(alloc)?;
+    let record = state.step(event)?;
+    let fit = fit_of(&record, &before, state);
+    if fit.right == fit.places {
+        Ok(fit.places)
+    } else {
+        Err(Fail::from("a record names what doesn't differ"))
     }
-    Ok(named)
 }
 
-// Does the last event of a run and undoes it. Says how many places its record names, how many differ before
-// and behind it, and how many once it is undone.
-fn cascade_of(alloc: Global, plan: Plan) -> Result<[usize; 3], Fail> {
+// How many places the last two events of a run name.
+fn named_by_last(alloc: Global, plan: Plan) -> Result<[usize; 2], Fail>
+    requires { HasLimits plan }
+{
+    let load = load_of(alloc, plan)?;
+    let mut state = before_last(alloc, &load, 2)?;
+    let [.., first, second] = load.events.as_slice() else {
+        return Err(Fail::from("fewer than two events"));
+    };
+    Ok([
+        named_by(alloc, &mut state, *first)?,
+        named_by(alloc, &mut state, *second)?,
+    ])
+}
+
+// Does an event and undoes it. Says how many places its record names rightly, how many differ behind it, and
+// how many once it is undone.
+fn there_and_back(alloc: Global, state: &mut State, event: Event) -> Result<[usize; 3], Fail> {
+    let before = state.copy(alloc)?;
+    let record = state.step(event)?;
+    let named = fit_of(&record, &before, state).right;
+    let differs = differing(&before, state);
+    state.put_back(&record);
+    Ok([named, differs, differing(&before, state)])
+}
+
+// The same of the last event of a run.
+fn cascade_of(alloc: Global, plan: Plan) -> Result<[usize; 3], Fail>
+    requires { HasLimits plan }
+{
     let load = load_of(alloc, plan)?;
     let mut state = before_last(alloc, &load, 1)?;
-    let before = state.copy(alloc)?;
-    let Some(event) = load.events.last() else {
-        return Err(Fail::from("no events"));
-    };
-    let record = state.step(*event)?;
-    let named = fit_of(&record, &before, &state).right;
-    let differs = differing(&before, &state);
-    state.put_back(&record);
-    Ok([named, differs, differing(&before, &state)])
+    match load.events.last() {
+        Some(event) => there_and_back(alloc, &mut state, *event),
+        None => Err(Fail::from("no events")),
+    }
 }
 
 // What the first row of a run ends with, and the last one.
-fn results(alloc: Global, plan: Plan, rows: u32) -> Result<[i32; 2], Fail> {
+fn results(alloc: Global, plan: Plan, rows: u32) -> Result<[i32; 2], Fail>
+    requires { HasLimits plan }
+{
     let load = load_of(alloc, plan)?;
     let state = before_last(alloc, &load, 0)?;
     let mut results = [1, 1];
@@ -95,9 +116,7 @@ fn each_batch_has_a_chain(rt: HostRuntime) -> Result<(), Fail> {
 
 #[test]
 fn cancels_find_a_running_row(rt: HostRuntime) -> Result<(), Fail> {
-    let load = load_of(rt.alloc(), Plan::Cancels(5))?;
-    let named = named_by_last(rt.alloc(), &load, 2)?;
-    assert_eq!(rt; named.as_slice(), [1, 4].as_slice());
+    assert_eq!(rt; named_by_last(rt.alloc(), Plan::Cancels(5))?, [1, 4]);
     assert_eq!(rt; results(rt.alloc(), Plan::Cancels(5), 99)?, [-114, -114]);
     Ok(())
 }
@@ -105,10 +124,8 @@ fn cancels_find_a_running_row(rt: HostRuntime) -> Result<(), Fail> {
 #[test]
 fn counts_are_met_one_by_one(rt: HostRuntime) -> Result<(), Fail> {
     let alloc = rt.alloc();
-    let none = named_by_last(alloc, &load_of(alloc, Plan::Counts(5))?, 2)?;
-    assert_eq!(rt; none.as_slice(), [4, 4].as_slice());
-    let each = named_by_last(alloc, &load_of(alloc, Plan::Meets(100))?, 2)?;
-    assert_eq!(rt; each.as_slice(), [6, 6].as_slice());
+    assert_eq!(rt; named_by_last(alloc, Plan::Counts(5))?, [4, 4]);
+    assert_eq!(rt; named_by_last(alloc, Plan::Meets(100))?, [6, 6]);
     Ok(())
 }
 
