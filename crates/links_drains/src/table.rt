@@ -389,9 +389,9 @@ mod tests {
 
     #[test]
     fn records_leave_no_row_that_came(rt: HostRuntime) -> Result<(), AllocError> {
+        let world = World::new(rt.alloc(), &[], &[], &[])?;
         let mut table = Table::new(rt.alloc());
         let mut notes = Recorder::new(rt.alloc());
-        let world = World::new(rt.alloc(), &[], &[], &[])?;
         let batch = table.take_batch(&[nop(7), nop(8)], &world, false, &mut notes)?;
         assert_eq!(rt; batch.taken, 2);
         assert_eq!(rt; notes.close(&table).rows_left(2), 0);

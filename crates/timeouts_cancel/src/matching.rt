@@ -173,9 +173,9 @@ mod tests {
             entry(14, 1),
             entry(6, 1),
         ];
+        let world = World::new(alloc, &[], &[], &[])?;
         let mut table = Table::new(alloc);
         let mut notes = Recorder::new(alloc);
-        let world = World::new(alloc, &[], &[], &[])?;
         table.take_batch(&entries, &world, true, &mut notes)?;
         for (r, held) in [(0, Some(3)), (1, None), (2, Some(3)), (3, None), (4, None)] {
             issue(&mut table, r, held)?;

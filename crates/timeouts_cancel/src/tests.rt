@@ -145,9 +145,9 @@ fn counting(alloc: Global) -> Result<Table, AllocError> {
         entry(11, 0, 5),
         entry(0, 0, 0),
     ];
+    let world = World::new(alloc, &[], &[], &[])?;
     let mut table = Table::new(alloc);
     let mut notes = Recorder::new(alloc);
-    let world = World::new(alloc, &[], &[], &[])?;
     table.take_batch(&entries, &world, true, &mut notes)?;
     for r in [0, 3, 4, 5] {
         issue(&mut table, r)?;
@@ -172,9 +172,9 @@ fn guarded(alloc: Global) -> Result<Table, AllocError> {
         entry(0, 4, 0),
         entry(15, 0, 0),
     ];
+    let world = World::new(alloc, &[], &[], &[])?;
     let mut table = Table::new(alloc);
     let mut notes = Recorder::new(alloc);
-    let world = World::new(alloc, &[], &[], &[])?;
     table.take_batch(&entries, &world, true, &mut notes)?;
     for r in [0, 1, 2, 3] {
         issue(&mut table, r)?;
