@@ -1,6 +1,6 @@
 //! A walk over memory.
 ghost use Rattle.std.specs.Prelude.{◌≡◌, ◌≢◌, ◌⊎◌, ◌++◌, List, ℕ, [], true, Ok, Err, IfOk, IfErr};
-ghost use Rattle.machine.specs.Runs.{IsRefused};
+ghost use Rattle.machine.specs.Runs.{start, Accepts, IsRefused};
 ghost use Rattle.scenario.specs.declared.event.Refusal.{Refusal as Denial};
 ghost use Rattle.script.specs.declared.fault.ScriptFault.{ScriptFault as Misread};
 ghost use Rattle.script.specs.Scripts.{Plan, Reads};
@@ -15,8 +15,8 @@ use std::alloc::Global;
 
 /// What the session of a script replies to its input.
 pub fn replies(alloc: Global, script: &[u8], input: &[u8]) -> Result<Vec<u8>, RunFault>
-    // It read a beginning of the input, the whole of it or past a line that quits, and wrote just the replies to that, without a source.
-    ensures ok { IfOk result (λ out. (p : Plan) × Reads script.now (Ok p) × (taken : List ℕ) × (rest : List ℕ) × (input.now ≡ taken ++ rest)
+    // The schedule runs. It read a beginning of the input, the whole of it or past a line that quits, and wrote just the replies to that, without a source.
+    ensures ok { IfOk result (λ out. (p : Plan) × Reads script.now (Ok p) × Accepts (start p.setup) p.schedule × (taken : List ℕ) × (rest : List ℕ) × (input.now ≡ taken ++ rest)
         × (out.items ≡ output (visit_over p.setup p.schedule) (lines_of taken) (unanswered (lines_of taken)))
         × (((talk (visit_over p.setup p.schedule) (lines_of taken) (unanswered (lines_of taken))).quits ≡ true) ⊎ (rest ≡ []))) }
     // A fault of the script is its first one, a fault of the schedule its first refused event.

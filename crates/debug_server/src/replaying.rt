@@ -1,7 +1,7 @@
 //! Walking a trace of the second form.
 ghost use Rattle.std.specs.Prelude.{◌≡◌, ◌≢◌, ℕ, Bool, List, Err, OnOk, IfErr};
 ghost use Rattle.std.specs.Io.KnownBytes.{Keeps};
-ghost use Rattle.machine.specs.Runs.{IsRefused};
+ghost use Rattle.machine.specs.Runs.{start, Accepts, IsRefused};
 ghost use Rattle.scenario.specs.declared.event.Event.{Event as Happening};
 ghost use Rattle.scenario.specs.declared.event.Refusal.{Refusal as Denial};
 ghost use Rattle.scenario.specs.declared.setup.Setup.{Setup as Start};
@@ -29,8 +29,8 @@ pub fn replay<R: Read, W: Write>(
     reader: &mut R,
     writer: &mut W,
 ) -> Result<(), RunFault>
-    // What is written is the output of the session of the trace's setup and events, without a source.
-    ensures ok { OnOk result ((setup : Start) × (events : List Happening) × IsTrace2 setup events trace.now × (answers : List Told) × Unanswered answers × (v : Visit) × (q : Bool)
+    // The events run, and what is written is the output of the session of the trace's setup and events, without a source.
+    ensures ok { OnOk result ((setup : Start) × (events : List Happening) × IsTrace2 setup events trace.now × Accepts (start setup) events × (answers : List Told) × Unanswered answers × (v : Visit) × (q : Bool)
         × Served (visit_over setup events) (R.remaining reader.old) (R.remaining reader.new) (W.contents writer.old) (W.contents writer.new) answers v q) }
     // A fault of the trace is its first one, a fault of its events the first refused one. Nothing was written then.
     ensures trace { IfErr result (λ e. (f : Misspelt) → e ≡ RunFault.Trace f → IsFault2 trace.now f × Keeps (W.contents writer.old) (W.contents writer.new)) }
@@ -38,7 +38,7 @@ pub fn replay<R: Read, W: Write>(
         → (setup : Start) × (events : List Happening) × IsTrace2 setup events trace.now × IsRefused setup events i n × Keeps (W.contents writer.old) (W.contents writer.new)) }
     ensures memory { IfErr result (λ e. e ≡ RunFault.Memory → Keeps (W.contents writer.old) (W.contents writer.new)) }
     // At a fault of serving a beginning of that output was written.
-    ensures begins { IfErr result (λ e. (f : Serving) → e ≡ RunFault.Serve f → (setup : Start) × (events : List Happening) × IsTrace2 setup events trace.now × (answers : List Told) × Unanswered answers
+    ensures begins { IfErr result (λ e. (f : Serving) → e ≡ RunFault.Serve f → (setup : Start) × (events : List Happening) × IsTrace2 setup events trace.now × Accepts (start setup) events × (answers : List Told) × Unanswered answers
         × Broke (visit_over setup events) (R.remaining reader.old) (R.remaining reader.new) (W.contents writer.old) (W.contents writer.new) answers) }
     ensures open { result ≢ Err (RunFault.Serve Closed) }
     ensures other { IfErr result IsOfReplay }

@@ -11,9 +11,9 @@ returns-in_err-session-clause-schedule g c =
 pub returns-in-Ok-clause-ok : goal.returns-in-Ok-clause-ok
 returns-in-Ok-clause-ok g c =
     let s = c.in-Ok.ensures.ok in
-    (s.0, none_asked _ _ s.0 s.1, _, _, served_at c.in_ok-session.session _ _ _ _ _ _ s.0 _ c.in_ok-session.ensures.ok s.2)
+    (c.in_ok-session.ensures.accepts, s.0, none_asked _ _ s.0 s.1, _, _, served_at c.in_ok-session.session _ _ _ _ _ _ s.0 _ c.in_ok-session.ensures.ok s.2)
 
 pub returns-clause-begins : goal.returns-clause-begins
 returns-clause-begins g c f e =
     let s = c.in-Err.ensures.begins (open_at c.in_ok-session.session _ c.in_ok-session.ensures.ok) in
-    (s.0, none_asked _ _ s.0 s.2, broke_at c.in_ok-session.session _ _ _ _ _ s.0 c.in_ok-session.ensures.ok s.3)
+    (c.in_ok-session.ensures.accepts, s.0, none_asked _ _ s.0 s.2, broke_at c.in_ok-session.session _ _ _ _ _ s.0 c.in_ok-session.ensures.ok s.3)
