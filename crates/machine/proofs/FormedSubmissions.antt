@@ -90,7 +90,7 @@ mostly_taken m k h l = record {
     more x y = omega arith
 
 -- a row is one of those before, or of the batch
-old_or_new : (rows more : List Row) (j : ℕ) (y : Row) → slice_get (rows ++ more) j ≡ Some y → (slice_get rows j ≡ Some y) ⊎ ((i : ℕ) × (j ≡ length rows + i) × (slice_get more i ≡ Some y))
+pub old_or_new : (rows more : List Row) (j : ℕ) (y : Row) → slice_get (rows ++ more) j ≡ Some y → (slice_get rows j ≡ Some y) ⊎ ((i : ℕ) × (j ≡ length rows + i) × (slice_get more i ≡ Some y))
 old_or_new rows more j y h = by (nat_lt j (length rows)) refl
   where
     by : (b : Bool) → nat_lt j (length rows) ≡ b → (slice_get rows j ≡ Some y) ⊎ ((i : ℕ) × (j ≡ length rows + i) × (slice_get more i ≡ Some y))

@@ -118,6 +118,17 @@ batch_guard w rows es i x h g p = subst (GuardStands (rows ++ rows_of w first es
     v : Before es i
     v = stands_before es i (passes_behind w (behind_in es i) b.entry (eqb-true b.entry.opcode 15 number) passes)
 
+-- a guard of a batch that has a target passed its tests, and stands behind it
+pub batch_target : (w : WorldState) (rows : List Row) (es : List Sqe) (i t : ℕ) (x : Row) → slice_get (rows_of w (length rows) es) i ≡ Some x → is_guard x ≡ true → x.target ≡ Some t → GuardStands (rows ++ rows_of w (length rows) es) (length rows + i) x
+batch_target w rows es i t x h g k = by (error_of w es i b.entry) refl (sym (ap (λ (y : Row). y.target) b.is) ∙ k)
+  where
+    b : Became w (length rows) es i x
+    b = became w (length rows) es i x h
+
+    by : (o : Option ℤ) → error_of w es i b.entry ≡ o → (if (b.entry.opcode == 15) && is_none o then Some (length rows + i - 1) else None) ≡ Some t → GuardStands (rows ++ rows_of w (length rows) es) (length rows + i) x
+    by None e q = batch_guard w rows es i x h g (ap (option_and_then (error_of w es i)) b.there ∙ e)
+    by (Some n) e q = absurd (let o : None ≡ Some t = sym (ap (λ c. if c && false then Some (length rows + i - 1) else None) (sym (ap is_guard b.is) ∙ g)) ∙ q in cc)
+
 -- a guard of a batch has no target, or stands behind it
 pub batch_behind : (w : WorldState) (first : ℕ) (es : List Sqe) (i t : ℕ) (x : Row) → slice_get (rows_of w first es) i ≡ Some x → is_guard x ≡ true → x.target ≡ Some t → t + 1 ≡ first + i
 batch_behind w first es i t x h g k = by (error_of w es i b.entry) refl (sym (ap (λ (y : Row). y.target) b.is) ∙ k)

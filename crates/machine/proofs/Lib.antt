@@ -13,6 +13,7 @@ pub mod FormedThreads
 pub mod FormedMachines
 pub mod Growing
 pub mod GuardLemmas
+pub mod WholeFalls
 pub mod ExpiryLemmas
 pub mod CancelLemmas
 pub mod Endings

@@ -1,8 +1,10 @@
 //! Laws of the definitions.
-ghost use Rattle.std.specs.Prelude.{◌≡◌, None};
+ghost use Rattle.std.specs.Prelude.{◌≡◌, ℕ, None, List};
+ghost use Rattle.links_drains.specs.Endings.{Ending};
 ghost use Rattle.places.specs.declared.place.Place.{Place};
 ghost use Rattle.machine.specs.Whole.{view, OneSetup, WellFormed};
-ghost use Rattle.machine.specs.Steps.{refusal, after};
+ghost use Rattle.timeouts_cancel.specs.Falls.{fall_of, IsWhole};
+ghost use Rattle.machine.specs.Steps.{refusal, after, taken};
 ghost use Rattle.machine.specs.declared.whole.Machine.{Machine};
 ghost use Rattle.scenario.specs.declared.event.Event.{Event};
 
@@ -14,4 +16,14 @@ pub fn shown_alike()
 /// Accepted events keep machines well formed.
 pub fn stays_formed()
     ensures { (m : Machine) (e : Event) → WellFormed m → refusal m e ≡ None → WellFormed (after m e) }
+{}
+
+/// Whatever a step of a machine ends of itself, running the filters again over what falls adds none.
+pub fn falls_whole()
+    ensures { (m : Machine) (direct : List Ending) → WellFormed m → IsWhole m.table m.counted direct (fall_of m.table m.counted direct) }
+{}
+
+/// And so it is once the entries of a submission have become rows.
+pub fn submissions_fall_whole()
+    ensures { (m : Machine) (k : ℕ) (direct : List Ending) → WellFormed m → IsWhole (taken m k).table m.counted direct (fall_of (taken m k).table m.counted direct) }
 {}

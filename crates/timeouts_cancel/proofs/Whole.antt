@@ -180,12 +180,12 @@ listed_before rows c direct t g h =
 pub guards_again : (rows : List Row) (c : ℕ) (direct : List Ending) → GuardsFormed rows → with_guards rows (fall_of rows c direct) ≡ fall_of rows c direct
 guards_again rows c direct formed =
     joined_nothing (λ r row. given (guards_listed (fall_of rows c direct) row) ecanceled) (λ r row. or_else (result_in (ms rows c direct) r) (given (guards_listed (ms rows c direct) row) ecanceled)) rows
-    (λ r row h u n. none r row h (unlisted rows c direct r row h u (in_fall rows c direct r row h u ∙ n)).guards (is_guard row) refl row.target refl)
+    (λ r row h u n. none r row h u (unlisted rows c direct r row h u (in_fall rows c direct r row h u ∙ n)).guards (is_guard row) refl row.target refl)
   where
-    none : (r : ℕ) (row : Row) → slice_get rows r ≡ Some row → guards_listed (ms rows c direct) row ≡ false → (b : Bool) → is_guard row ≡ b → (o : Option ℕ) → row.target ≡ o → given (guards_listed (fall_of rows c direct) row) ecanceled ≡ None
-    none r row h k false g o t = ap (λ b. given (b && option_map_or (is_listed (fall_of rows c direct)) row.target false) ecanceled) g
-    none r row h k true g None t = ap (λ (o : Option ℕ). given (is_guard row && option_map_or (is_listed (fall_of rows c direct)) o false) ecanceled) t ∙ ap (λ b. given (b && false) ecanceled) g
-    none r row h k true g (Some x) t = by (is_listed (fall_of rows c direct) x) refl
+    none : (r : ℕ) (row : Row) → slice_get rows r ≡ Some row → is_unfinished row.phase ≡ true → guards_listed (ms rows c direct) row ≡ false → (b : Bool) → is_guard row ≡ b → (o : Option ℕ) → row.target ≡ o → given (guards_listed (fall_of rows c direct) row) ecanceled ≡ None
+    none r row h u k false g o t = ap (λ b. given (b && option_map_or (is_listed (fall_of rows c direct)) row.target false) ecanceled) g
+    none r row h u k true g None t = ap (λ (o : Option ℕ). given (is_guard row && option_map_or (is_listed (fall_of rows c direct)) o false) ecanceled) t ∙ ap (λ b. given (b && false) ecanceled) g
+    none r row h u k true g (Some x) t = by (is_listed (fall_of rows c direct) x) refl
       where
         as_told : guards_listed (fall_of rows c direct) row ≡ is_listed (fall_of rows c direct) x
         as_told = ap (λ (o : Option ℕ). is_guard row && option_map_or (is_listed (fall_of rows c direct)) o false) t ∙ ap (λ b. b && is_listed (fall_of rows c direct) x) g
@@ -195,7 +195,7 @@ guards_again rows c direct formed =
 
         by : (b : Bool) → is_listed (fall_of rows c direct) x ≡ b → given (guards_listed (fall_of rows c direct) row) ecanceled ≡ None
         by false e = ap (λ b. given b ecanceled) (as_told ∙ e)
-        by true e = absurd (true_false (is_listed (ms rows c direct) x) (listed_before rows c direct x (λ target there. formed r x row target h g t there) e) (sym before ∙ k))
+        by true e = absurd (true_false (is_listed (ms rows c direct) x) (listed_before rows c direct x (λ target there. formed r x row target h g u t there) e) (sym before ∙ k))
 
 pub whole : (rows : List Row) (c : ℕ) (direct : List Ending) → GuardsFormed rows → IsWhole rows c direct (fall_of rows c direct)
 whole rows c direct formed = record { listed = direct_again rows c direct; severed = severed_again rows c direct; met = met_again rows c direct; guards = guards_again rows c direct formed }

@@ -70,9 +70,9 @@ with_guards rows es = joined rows (λ r row. given (guards_listed es row) ecance
 abbrev pub fall_of : List Row → ℕ → List Ending → List Ending
 fall_of rows counted direct = with_guards rows (with_met rows counted (with_severed rows (first_listed rows direct)))
 
--- No guard's target is a guard.
+-- No unfinished guard's target is a guard.
 abbrev pub GuardsFormed : List Row → Type 0
-GuardsFormed rows = (r t : ℕ) (row target : Row) → slice_get rows r ≡ Some row → is_guard row ≡ true → row.target ≡ Some t → slice_get rows t ≡ Some target → is_guard target ≡ false
+GuardsFormed rows = (r t : ℕ) (row target : Row) → slice_get rows r ≡ Some row → is_guard row ≡ true → is_unfinished row.phase ≡ true → row.target ≡ Some t → slice_get rows t ≡ Some target → is_guard target ≡ false
 
 -- The filters, run again over a list, add nothing.
 pub record IsWhole (rows : List Row) (counted : ℕ) (direct es : List Ending) : Type 0 where
