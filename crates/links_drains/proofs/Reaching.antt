@@ -1,5 +1,5 @@
 -- Thresholds of numbers, by the minima of their blocks.
-use Rattle.std.proofs.Common.{◌≡◌, ℕ, ◌+◌, ◌-◌, ◌*◌, ◌/◌, ◌<◌, ◌≤◌, cond, ◌==◌, List, [], ◌∷◌, ◌++◌, length, set, drop, min, refl, sym, ap, ◌∙◌, inl, inr, subst, arith}
+use Rattle.std.proofs.Common.{◌≡◌, ◌≢◌, ℕ, ◌+◌, ◌-◌, ◌*◌, ◌/◌, ◌<◌, ◌≤◌, cond, ◌==◌, List, [], ◌∷◌, ◌++◌, length, set, drop, min, refl, sym, ap, ◌∙◌, inl, inr, subst, arith}
 use Rattle.std.proofs.lemmas.Bool.{cases_eq, cases_lt, eq-eqb, ne_eqb}
 use Rattle.std.specs.Prelude.{slice_range}
 use Rattle.std.proofs.lemmas.List.{get_or-set_same, get_or-drop, get_or-take, get_or-set_other, get_or_past, get_or_append_left, get_or_push, length-set, length_push}
@@ -92,8 +92,22 @@ in_range xs a b i x low high h =
 
 -- a bound of a block's numbers is one of each number of the block
 pub block_bound : (xs : List ℕ) (k i end x : ℕ) → i / 256 ≡ k / 256 → end ≡ min (length xs) (k / 256 * 256 + 256) → x < never + 1
-    → ((j : ℕ) → x ≤ threshold_at (slice_range xs (k / 256 * 256) end) j) → x ≤ threshold_at xs i
+    → ((j : ℕ) → k / 256 * 256 ≤ j → j < end → x ≤ threshold_at xs j) → x ≤ threshold_at xs i
 block_bound xs k i end x same last most h = elim (cases_lt i (length xs)) [
-  | inl inside ↦ in_range xs (k / 256 * 256) end i x (omega (arith, same)) (omega (arith, same, inside, last)) (h (i - k / 256 * 256))
+  | inl inside ↦ h i (omega (arith, same)) (omega (arith, same, inside, last))
   | inr past ↦ let e = get_or_past xs i never past in omega (arith, e, most)
+]
+
+-- a bound of all numbers there are is one of each number
+pub whole_bound : (xs : List ℕ) (i x : ℕ) → x < never + 1 → ((j : ℕ) → 0 ≤ j → j < length xs → x ≤ threshold_at xs j) → x ≤ threshold_at xs i
+whole_bound xs i x most h = elim (cases_lt i (length xs)) [
+  | inl inside ↦ h i (omega arith) inside
+  | inr past ↦ let e = get_or_past xs i never past in omega (arith, e, most)
+]
+
+-- a bound of one number and of the others is one of each
+pub bound_of_both : (xs : List ℕ) (k i x : ℕ) → x ≤ threshold_at xs k → (i ≢ k → x ≤ threshold_at xs i) → x ≤ threshold_at xs i
+bound_of_both xs k i x one others = elim (cases_eq i k) [
+  | inl same ↦ rw (same) one
+  | inr other ↦ others other
 ]

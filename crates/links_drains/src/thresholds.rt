@@ -1,5 +1,5 @@
 //! The least number from one on whose threshold is reached.
-ghost use Rattle.std.specs.Prelude.{◌≡◌, ℕ, ◌+◌, ◌-◌, ◌^◌, ◌<◌, ◌≤◌, ◌==◌, [], IfOk, IfSome, IfNone, OnOk, length, if◌then◌else◌};
+ghost use Rattle.std.specs.Prelude.{◌≡◌, ◌≢◌, ℕ, ◌+◌, ◌-◌, ◌^◌, ◌<◌, ◌≤◌, ◌==◌, [], IfOk, IfSome, IfNone, OnOk, length, if◌then◌else◌};
 ghost use Rattle.entries.specs.declared.row.Row.{Row};
 ghost use Rattle.links_drains.specs.Counts.{threshold_of as threshold_of_row};
 ghost use Rattle.links_drains.specs.Thresholds.{threshold_at, IsNextReached, NoneReachedFrom};
@@ -71,15 +71,18 @@ impl Thresholds {
         ensures len { length self.new ≡ length self.old }
         ensures at { (i : ℕ) → threshold_at self.new i ≡ (if i == k then threshold else threshold_at self.old i) }
     {
-        if self.each[k] == threshold {
+        let old = self.each[k];
+        if old == threshold {
             return;
         }
         self.each[k] = threshold;
         let block = k / BLOCK;
         let first = block * BLOCK;
         let end = self.each.len().min(first + BLOCK);
-        self.minima[block] = minimum(&self.each[first..end]);
-        self.least = minimum(&self.minima);
+        let bound = self.minima[block];
+        let minimum = bound_after(bound, old, k, &self.each, first, end);
+        self.minima[block] = minimum;
+        self.least = bound_after(self.least, bound, block, &self.minima, 0, self.minima.len());
     }
 
     /// The least number from one on whose threshold a total reaches. It takes constant time where the total
@@ -114,6 +117,25 @@ impl Thresholds {
             least: self.least,
         })
     }
+}
+
+// A bound of the thresholds from one number on and below another, of which one has changed. It looks at all of
+// them only where that one may have been the least.
+fn bound_after(bound: u32, old: u32, k: usize, each: &[u32], from: usize, end: usize) -> u32
+    requires there { k < length each.now }
+    requires order { from ≤ end }
+    requires within { end ≤ length each.now }
+    requires others { (i : ℕ) → from ≤ i → i < end → i ≢ k → bound ≤ threshold_at each.now i }
+    ensures { (i : ℕ) → from ≤ i → i < end → result ≤ threshold_at each.now i }
+{
+    let new = each[k];
+    if new <= bound {
+        return new;
+    }
+    if bound < old {
+        return bound;
+    }
+    minimum(&each[from..end])
 }
 
 // The least of some thresholds.

@@ -65,7 +65,20 @@ impl Machine {
         ensures keeps { Keeps everywhere (view self.old) (view self.new) notes.old.made notes.new.made }
     {
         let endings = fall(&self.table, self.counted, direct)?;
+        self.expect(endings.len(), notes)?;
         self.end_all(&endings, notes)
+    }
+
+    // Takes the memory at once of the notes that so many endings make: of their rows, and of the completions
+    // that the ring has no slots for.
+    fn expect(&self, n: usize, notes: &mut Recorder) -> Result<(), AllocError>
+        ensures { notes.new.made ≡ notes.old.made }
+    {
+        if n < 2 {
+            return Ok(());
+        }
+        let kept = n.saturating_sub(self.completions.size() as usize);
+        notes.expect_rows(n.saturating_add(kept))
     }
 
     /// Rows end with their results, one after the other.

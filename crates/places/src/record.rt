@@ -161,7 +161,7 @@ fn left_of(list: Listed, rows: &[RowNote], n: usize) -> usize
 {
     let mut left = n;
     for note in rows {
-        left = after_change(list, note.change(), left);
+        left = note.left_after(list, left);
     }
     left
 }

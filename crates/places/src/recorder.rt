@@ -126,6 +126,14 @@ impl Recorder {
         Ok(())
     }
 
+    /// Takes the memory of n more notes of rows at once, where so many are to come. It promises none.
+    pub fn expect_rows(&mut self, n: usize) -> Result<(), AllocError>
+        ensures made { self.new.made ≡ self.old.made }
+        ensures kept { HasAsMuch self.old self.new }
+    {
+        self.rows.room(n, 0)
+    }
+
     /// The next n notes of numbers take no memory.
     pub fn room_for_numbers(&mut self, n: usize) -> Result<(), AllocError>
         ensures made { self.new.made ≡ self.old.made }

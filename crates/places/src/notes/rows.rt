@@ -5,7 +5,9 @@ ghost use Rattle.places.specs.declared.value.Value.TheVariants.{Requested};
 ghost use Rattle.places.specs.declared.place.Place.TheVariants.{Request};
 ghost use Rattle.places.specs.Slots.{row_change, value_of, other_place, slot_at};
 ghost use Rattle.places.specs.Places.{is_other};
+ghost use Rattle.places.specs.Notes.{after_change};
 
+use crate::listed::Listed;
 use crate::notes::slots::Slotted;
 use crate::place::Place;
 use crate::value::{Change, Stage, Value};
@@ -84,6 +86,18 @@ impl RowNote {
         ensures { row_change result ≡ record { place = place; old = option_map value_of old } }
     {
         RowNote::Other(place.kind(), place.index(), old)
+    }
+
+    /// How many of so many elements of a list stay once what was absent is taken back, with all behind it.
+    #[tactic(auto, unfolding(crate::specs::Slots::other_place))]
+    pub fn left_after(&self, list: Listed, left: usize) -> usize
+        ensures { result ≡ after_change list (row_change self.now).place (row_change self.now).old left }
+    {
+        match (list, self) {
+            (Listed::Requests, RowNote::Absent(row)) => left.min(*row as usize),
+            (Listed::Overflowed, RowNote::Other(21, index, None)) => left.min(*index as usize),
+            _ => left,
+        }
     }
 
     fn place(&self) -> Place
