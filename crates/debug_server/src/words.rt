@@ -4,7 +4,10 @@ use crate::task::{Form, Job};
 use clap::{Arg, ArgAction, ArgMatches, Command, Error};
 use std::alloc::{AllocError, Global};
 
-const EXAMPLE: &str = "Example: echo where | uringwalk walk script.json";
+const EXAMPLE: &str = "Example: echo where | uringwalk walk examples/one_nop.json";
+
+const COMMANDS: &str =
+    "Commands, one a line: where, show PLACE, goto N, back N, on N, watch PLACE, break PLACE = VALUE, unwatch, cont, rcont, sync, quit. docs/USE.md tells what they do, and what faults and refusals mean.";
 
 const SCRIPT: &str = "A script: a setup, programs and a schedule, as JSON";
 
@@ -21,7 +24,7 @@ fn file<'a>(alloc: Global, name: &'a str, help: &'a str) -> Arg<'a> {
 fn walk_words<'a>(alloc: Global) -> Result<Command<'a>, AllocError> {
     Command::new(alloc, "walk")
         .about("Run a script's schedule, and answer commands from standard input")
-        .after_help(EXAMPLE)
+        .after_help(COMMANDS)
         .arg(file(alloc, "SCRIPT", SCRIPT))
 }
 
@@ -49,7 +52,8 @@ fn migrate_words<'a>(alloc: Global) -> Result<Command<'a>, AllocError> {
 
 fn replay_words<'a>(alloc: Global) -> Result<Command<'a>, AllocError> {
     Command::new(alloc, "replay")
-        .about("Run a trace of form 2, and answer commands from standard input")
+        .about("Run a trace of form 2, as trace makes it, and answer commands from standard input")
+        .after_help(COMMANDS)
         .arg(file(alloc, "TRACE", "A trace of form 2"))
 }
 
