@@ -90,24 +90,18 @@ in_range xs a b i x low high h =
     let at : a + (i - a) ≡ i = omega (arith, low) in
     subst (λ n. x ≤ n) (part ∙ rest ∙ ap (threshold_at xs) at) h
 
+-- what bounds a number that is there bounds its threshold, and past the end is no threshold
+bound_at : (xs : List ℕ) (i x : ℕ) → x < never + 1 → (i < length xs → x ≤ threshold_at xs i) → x ≤ threshold_at xs i
+bound_at xs i x most h = elim (cases_lt i (length xs)) [
+  | inl inside ↦ h inside
+  | inr past ↦ let e = get_or_past xs i never past in omega (arith, e, most)
+]
+
 -- a bound of a block's numbers is one of each number of the block
 pub block_bound : (xs : List ℕ) (k i end x : ℕ) → i / 256 ≡ k / 256 → end ≡ min (length xs) (k / 256 * 256 + 256) → x < never + 1
     → ((j : ℕ) → k / 256 * 256 ≤ j → j < end → x ≤ threshold_at xs j) → x ≤ threshold_at xs i
-block_bound xs k i end x same last most h = elim (cases_lt i (length xs)) [
-  | inl inside ↦ h i (omega (arith, same)) (omega (arith, same, inside, last))
-  | inr past ↦ let e = get_or_past xs i never past in omega (arith, e, most)
-]
+block_bound xs k i end x same last most h = bound_at xs i x most (λ inside. h i (omega (arith, same)) (omega (arith, same, inside, last)))
 
 -- a bound of all numbers there are is one of each number
 pub whole_bound : (xs : List ℕ) (i x : ℕ) → x < never + 1 → ((j : ℕ) → 0 ≤ j → j < length xs → x ≤ threshold_at xs j) → x ≤ threshold_at xs i
-whole_bound xs i x most h = elim (cases_lt i (length xs)) [
-  | inl inside ↦ h i (omega arith) inside
-  | inr past ↦ let e = get_or_past xs i never past in omega (arith, e, most)
-]
-
--- a bound of one number and of the others is one of each
-pub bound_of_both : (xs : List ℕ) (k i x : ℕ) → x ≤ threshold_at xs k → (i ≢ k → x ≤ threshold_at xs i) → x ≤ threshold_at xs i
-bound_of_both xs k i x one others = elim (cases_eq i k) [
-  | inl same ↦ rw (same) one
-  | inr other ↦ others other
-]
+whole_bound xs i x most h = bound_at xs i x most (λ inside. h i (omega arith) inside)
