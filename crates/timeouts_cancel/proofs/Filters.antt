@@ -5,7 +5,7 @@ use Rattle.links_drains.specs.Endings.{Ending, result_in, Direct}
 use Rattle.timeouts_cancel.specs.Falls.{joined, with_met, counted_in, fall_of}
 use Rattle.timeouts_cancel.specs.Guarding.{guarding}
 use Rattle.timeouts_cancel.specs.Timers.{met_rows}
-use Rattle.timeouts_cancel.specs.Walks.{ss, test}
+use Rattle.timeouts_cancel.specs.Walks.{severed_endings, result_by}
 use Rattle.timeouts_cancel.proofs.Listed.{direct_endings, few_endings, joined_listed}
 use Rattle.timeouts_cancel.proofs.Meeting.{met_result}
 use Rattle.timeouts_cancel.proofs.Tallying.{few_counted}
@@ -14,8 +14,8 @@ use Rattle.timeouts_cancel.proofs.Whole.{ms}
 
 -- ---- each filter's list is of unfinished rows, in the order of their numbers
 
-pub severed_direct : (rows : List Row) (direct es : List Ending) → es ≡ ss rows direct → Direct rows es
-severed_direct rows direct es h = subst (Direct rows) (sym h) (direct_endings (test rows direct) rows)
+pub severed_direct : (rows : List Row) (direct es : List Ending) → es ≡ severed_endings rows direct → Direct rows es
+severed_direct rows direct es h = subst (Direct rows) (sym h) (direct_endings (result_by rows direct) rows)
 
 pub met_direct : (rows : List Row) (total : ℕ) (es : List Ending) → es ≡ met_rows rows total → Direct rows es
 met_direct rows total es h = subst (Direct rows) (sym h) (direct_endings (met_result total) rows)
@@ -28,15 +28,15 @@ guards_direct rows listed es h = subst (Direct rows) (sym h) (direct_endings (gu
 
 -- ---- how many there are
 
-pub severed_few : (rows : List Row) (direct es : List Ending) → es ≡ ss rows direct → length es ≤ length rows
-severed_few rows direct es h = let l = few_endings (test rows direct) rows in let e = ap length h in omega (arith, l, e)
+pub severed_few : (rows : List Row) (direct es : List Ending) → es ≡ severed_endings rows direct → length es ≤ length rows
+severed_few rows direct es h = let l = few_endings (result_by rows direct) rows in let e = ap length h in omega (arith, l, e)
 
-pub counted_few : (rows : List Row) (direct es : List Ending) → es ≡ ss rows direct → counted_in rows es ≤ length rows
+pub counted_few : (rows : List Row) (direct es : List Ending) → es ≡ severed_endings rows direct → counted_in rows es ≤ length rows
 counted_few rows direct es h = let l = severed_few rows direct es h in let m = few_counted rows es in omega (arith, l, m)
 
 -- ---- the third filter and the fourth
 
-pub met_so : (rows : List Row) (c total : ℕ) (direct severed met all : List Ending) → severed ≡ ss rows direct → total ≡ c + counted_in rows severed → met ≡ met_rows rows total → all ≡ joined rows (λ r row. result_in met r) severed → all ≡ ms rows c direct
+pub met_so : (rows : List Row) (c total : ℕ) (direct severed met all : List Ending) → severed ≡ severed_endings rows direct → total ≡ c + counted_in rows severed → met ≡ met_rows rows total → all ≡ joined rows (λ r row. result_in met r) severed → all ≡ ms rows c direct
 met_so rows c total direct severed met all a t m h =
     h ∙ ap (λ xs. joined rows (λ r row. result_in xs r) severed) m
     ∙ joined_listed (met_result total) rows severed

@@ -8,7 +8,7 @@ use Rattle.links_drains.specs.Links.{is_soft_linked, Chained}
 use Rattle.links_drains.specs.Phases.{is_unfinished}
 use Rattle.links_drains.specs.Endings.{Ending, paired, endings, given, ecanceled, Direct}
 use Rattle.timeouts_cancel.specs.Falls.{is_severed, is_bad}
-use Rattle.timeouts_cancel.specs.Walks.{Severs, Walked, Sweeping, ds, ss, test, upto}
+use Rattle.timeouts_cancel.specs.Walks.{Severs, Walked, Sweeping, own_endings, severed_endings, result_by, upto}
 use Rattle.timeouts_cancel.proofs.Walking.{of_one, upto_more, upto_gap, test_direct, test_other, severed_if, NotDirect, split, between, listed_direct, below_next, above_next}
 
 pub none_within : {X : Type 0} (zs : List X) (n : ℕ) → slice_get zs n ≡ None → n < length zs → ⊥
@@ -55,7 +55,7 @@ sweep_direct rows direct k i es unit e row d w h m t u =
     let t2 : slice_get rows e.0 ≡ Some row = ap (slice_get rows) m ∙ t in
     let one = test_direct rows direct i e row d h t2 in
     record {
-      listed = ap (λ xs. xs ++ e ∷ []) w.listed ∙ ap (λ r. upto (test rows direct) rows r ++ e ∷ []) (sym m) ∙ ap (λ o. upto (test rows direct) rows e.0 ++ of_one (paired e.0 o)) (sym one) ∙ sym (upto_more (test rows direct) rows e.0 row t2) ∙ ap (λ r. upto (test rows direct) rows (r + 1)) m;
+      listed = ap (λ xs. xs ++ e ∷ []) w.listed ∙ ap (λ r. upto (result_by rows direct) rows r ++ e ∷ []) (sym m) ∙ ap (λ o. upto (result_by rows direct) rows e.0 ++ of_one (paired e.0 o)) (sym one) ∙ sym (upto_more (result_by rows direct) rows e.0 row t2) ∙ ap (λ r. upto (result_by rows direct) rows (r + 1)) m;
       below = λ j p q l. below j p q l (split j i);
       above = λ j p q l. let x = d.rising i j e p h q (omega (arith, l)) in omega (arith, x, m);
       at = w.at;
@@ -95,10 +95,10 @@ pub sweep_other : (rows : List Row) (direct : List Ending) (k i : ℕ) (es fs : 
 sweep_other rows direct k i es fs unit row d w other t u f =
     let lower : w.cause.0 < k = w.below w.at w.cause w.there w.passed in
     let severs : Severs rows k row w.cause = record { before = w.head; there = w.is_head; less = lower; unit = w.unit_is ∙ sym u; soft = w.soft; bad = w.bad } in
-    let b : is_severed rows (ds rows direct) k row ≡ true = severed_if rows direct k row w.at w.cause d w.there severs in
+    let b : is_severed rows (own_endings rows direct) k row ≡ true = severed_if rows direct k row w.at w.cause d w.there severs in
     let one = test_other rows direct k row t (not_direct rows direct k i es unit w other) ∙ ap (λ x. cond (is_unfinished row.phase) (given x ecanceled) None) b in
     record {
-      listed = f ∙ ap (λ xs. xs ++ of_one (paired k (cond (is_unfinished row.phase) (Some ecanceled) None))) w.listed ∙ ap (λ o. upto (test rows direct) rows k ++ of_one (paired k o)) (sym one) ∙ sym (upto_more (test rows direct) rows k row t);
+      listed = f ∙ ap (λ xs. xs ++ of_one (paired k (cond (is_unfinished row.phase) (Some ecanceled) None))) w.listed ∙ ap (λ o. upto (result_by rows direct) rows k ++ of_one (paired k o)) (sym one) ∙ sym (upto_more (result_by rows direct) rows k row t);
       below = λ j p q l. let x = w.below j p q l in omega (arith, x);
       above = above_other direct k i w.above other;
       at = w.at;
@@ -154,7 +154,7 @@ sweep_end rows direct k i es unit c d w stop = record {
 
 -- ---- the end of the walk
 
-pub walked_all : (rows : List Row) (direct : List Ending) (k i : ℕ) (es : List Ending) → Walked rows direct k i es → length direct ≤ i → es ≡ ss rows direct
+pub walked_all : (rows : List Row) (direct : List Ending) (k i : ℕ) (es : List Ending) → Walked rows direct k i es → length direct ≤ i → es ≡ severed_endings rows direct
 walked_all rows direct k i es w l =
-    let gap = upto_gap (test rows direct) rows k (length rows) (λ r x a b g. between rows direct k i es r x w a (λ j p q m. let n = slice_get_within direct j p q in absurd (omega (arith, n, l, m))) g) in
-    w.listed ∙ sym gap ∙ ap (endings (test rows direct)) (take_all (k + length rows) rows (omega arith))
+    let gap = upto_gap (result_by rows direct) rows k (length rows) (λ r x a b g. between rows direct k i es r x w a (λ j p q m. let n = slice_get_within direct j p q in absurd (omega (arith, n, l, m))) g) in
+    w.listed ∙ sym gap ∙ ap (endings (result_by rows direct)) (take_all (k + length rows) rows (omega arith))

@@ -13,7 +13,7 @@ use Rattle.timeouts_cancel.specs.Falls.{is_severed, is_bad, severs_by}
 use Rattle.links_drains.proofs.Listing.{endings_step, result_of}
 use Rattle.links_drains.proofs.Rising.{ends_at}
 use Rattle.timeouts_cancel.proofs.Again.{any_found, result_there, listed_row}
-use Rattle.timeouts_cancel.specs.Walks.{Severs, Walked, ds, test, upto}
+use Rattle.timeouts_cancel.specs.Walks.{Severs, Walked, own_endings, result_by, upto}
 use Rattle.timeouts_cancel.proofs.Severing.{severs_is, severed_by}
 
 -- ---- the endings of the first rows
@@ -91,13 +91,13 @@ result_at (x ∷ es) (suc i) e h k = by (x.0 == e.0) refl (result_at es i e (λ 
     by false g m = m
 
 -- what a direct pair gives
-pub test_direct : (rows : List Row) (direct : List Ending) (i : ℕ) (e : Ending) (row : Row) → Direct rows direct → slice_get direct i ≡ Some e → slice_get rows e.0 ≡ Some row → result_of (test rows direct) e.0 row ≡ Some e.1
+pub test_direct : (rows : List Row) (direct : List Ending) (i : ℕ) (e : Ending) (row : Row) → Direct rows direct → slice_get direct i ≡ Some e → slice_get rows e.0 ≡ Some row → result_of (result_by rows direct) e.0 row ≡ Some e.1
 test_direct rows direct i e row d h t =
     let w = d.each i e h in
     let same : w.0 ≡ row = some_same w.0 row (sym w.1 ∙ t) in
     let u : is_unfinished row.phase ≡ true = subst (λ (x : Row). is_unfinished x.phase ≡ true) same w.2 in
     let l = listed_row (λ r row. result_in direct r) rows e.0 row t u ∙ result_at direct i e d.rising h in
-    ap (λ b. cond b (test rows direct e.0 row) None) u ∙ ap (λ o. or_else o (given (is_severed rows (ds rows direct) e.0 row) ecanceled)) l
+    ap (λ b. cond b (result_by rows direct e.0 row) None) u ∙ ap (λ o. or_else o (given (is_severed rows (own_endings rows direct) e.0 row) ecanceled)) l
   where
     some_same : (a b : Row) → Some a ≡ Some b → a ≡ b
     some_same a b k = cc
@@ -114,34 +114,34 @@ undirected direct r n = by (result_in direct r) refl
     by (Some res) e = absurd (let t = result_there direct r res e in n t.0 (r, res) t.1 refl)
 
 -- what severs a row is a direct pair
-pub severed_so : (rows : List Row) (direct : List Ending) (r : ℕ) (row : Row) → is_severed rows (ds rows direct) r row ≡ true → (i : ℕ) × (e : Ending) × (slice_get direct i ≡ Some e) × Severs rows r row e
+pub severed_so : (rows : List Row) (direct : List Ending) (r : ℕ) (row : Row) → is_severed rows (own_endings rows direct) r row ≡ true → (i : ℕ) × (e : Ending) × (slice_get direct i ≡ Some e) × Severs rows r row e
 severed_so rows direct r row h =
-    let f = any_found (λ (x : Ending). severs_by r row (slice_get rows x.0) x) (ds rows direct) h in
+    let f = any_found (λ (x : Ending). severs_by r row (slice_get rows x.0) x) (own_endings rows direct) h in
     let w = ends_at (λ r row. result_in direct r) rows f.0 f.1 f.2 in
     let t = result_there direct f.1.0 f.1.1 w.3 in
     let s = severs_is rows r row f.1 f.3 in
     (t.0, (f.1.0, f.1.1), t.1, record { before = s.before; there = s.there; less = s.less; unit = s.unit; soft = s.soft; bad = s.bad })
 
-pub severed_if : (rows : List Row) (direct : List Ending) (r : ℕ) (row : Row) (i : ℕ) (e : Ending) → Direct rows direct → slice_get direct i ≡ Some e → Severs rows r row e → is_severed rows (ds rows direct) r row ≡ true
+pub severed_if : (rows : List Row) (direct : List Ending) (r : ℕ) (row : Row) (i : ℕ) (e : Ending) → Direct rows direct → slice_get direct i ≡ Some e → Severs rows r row e → is_severed rows (own_endings rows direct) r row ≡ true
 severed_if rows direct r row i e d h s =
     let w = d.each i e h in
     let l = listed_row (λ r row. result_in direct r) rows e.0 w.0 w.1 w.2 ∙ result_at direct i e d.rising h in
-    let t = result_there (ds rows direct) e.0 e.1 l in
-    severed_by rows (ds rows direct) r row t.0 (e.0, e.1) t.1 (record { before = s.before; there = s.there; less = s.less; unit = s.unit; soft = s.soft; bad = s.bad })
+    let t = result_there (own_endings rows direct) e.0 e.1 l in
+    severed_by rows (own_endings rows direct) r row t.0 (e.0, e.1) t.1 (record { before = s.before; there = s.there; less = s.less; unit = s.unit; soft = s.soft; bad = s.bad })
 
 -- what the second filter gives a row that is no direct one
-pub test_other : (rows : List Row) (direct : List Ending) (r : ℕ) (row : Row) → slice_get rows r ≡ Some row → NotDirect direct r → result_of (test rows direct) r row ≡ (cond (is_unfinished row.phase) (given (is_severed rows (ds rows direct) r row) ecanceled) None)
+pub test_other : (rows : List Row) (direct : List Ending) (r : ℕ) (row : Row) → slice_get rows r ≡ Some row → NotDirect direct r → result_of (result_by rows direct) r row ≡ (cond (is_unfinished row.phase) (given (is_severed rows (own_endings rows direct) r row) ecanceled) None)
 test_other rows direct r row h n = by (is_unfinished row.phase) refl
   where
-    by : (b : Bool) → is_unfinished row.phase ≡ b → cond b (test rows direct r row) None ≡ cond b (given (is_severed rows (ds rows direct) r row) ecanceled) None
+    by : (b : Bool) → is_unfinished row.phase ≡ b → cond b (result_by rows direct r row) None ≡ cond b (given (is_severed rows (own_endings rows direct) r row) ecanceled) None
     by false u = refl
-    by true u = ap (λ o. or_else o (given (is_severed rows (ds rows direct) r row) ecanceled)) (listed_row (λ r row. result_in direct r) rows r row h u ∙ undirected direct r n)
+    by true u = ap (λ o. or_else o (given (is_severed rows (own_endings rows direct) r row) ecanceled)) (listed_row (λ r row. result_in direct r) rows r row h u ∙ undirected direct r n)
 
 -- ---- the walk
 
 pub walked_none : (rows : List Row) (direct : List Ending) → Walked rows direct 0 0 []
 walked_none rows direct = record {
-  listed = sym (upto_none (test rows direct) rows);
+  listed = sym (upto_none (result_by rows direct) rows);
   below = λ j e h l. absurd (omega (arith, l));
   above = λ j e h l. omega arith;
   clear = λ r row j e g h k l s. absurd (omega (arith, l));
@@ -156,15 +156,15 @@ split j i = by (nat_lt j i) refl
 
 -- between the walked rows and the next direct one none is listed
 pub between : (rows : List Row) (direct : List Ending) (k i : ℕ) (es : List Ending) (r : ℕ) (row : Row) → Walked rows direct k i es → k ≤ r → ((j : ℕ) (e : Ending) → slice_get direct j ≡ Some e → i ≤ j → r < e.0) → slice_get rows r ≡ Some row
-    → result_of (test rows direct) r row ≡ None
+    → result_of (result_by rows direct) r row ≡ None
 between rows direct k i es r row w l next h =
-    test_other rows direct r row h (λ j e g same. by j e g same (split j i)) ∙ none (is_unfinished row.phase) (is_severed rows (ds rows direct) r row) refl
+    test_other rows direct r row h (λ j e g same. by j e g same (split j i)) ∙ none (is_unfinished row.phase) (is_severed rows (own_endings rows direct) r row) refl
   where
     by : (j : ℕ) (e : Ending) → slice_get direct j ≡ Some e → e.0 ≡ r → (j < i) ⊎ (i ≤ j) → ⊥
     by j e g same (inl a) = let b = w.below j e g a in absurd (omega (arith, b, same, l))
     by j e g same (inr a) = let b = next j e g a in absurd (omega (arith, b, same))
 
-    none : (u b : Bool) → is_severed rows (ds rows direct) r row ≡ b → cond u (given b ecanceled) None ≡ None
+    none : (u b : Bool) → is_severed rows (own_endings rows direct) r row ≡ b → cond u (given b ecanceled) None ≡ None
     none true false e = refl
     none false b e = refl
     none true true e = absurd (let f = severed_so rows direct r row e in sever f.0 f.1 f.2 f.3 (split f.0 i))
@@ -175,14 +175,14 @@ between rows direct k i es r row w l next h =
 
 -- the rows up to a direct one, and that one
 pub listed_direct : (rows : List Row) (direct : List Ending) (k i : ℕ) (es : List Ending) (e : Ending) (row : Row) → Direct rows direct → Walked rows direct k i es → slice_get direct i ≡ Some e → slice_get rows e.0 ≡ Some row
-    → es ++ e ∷ [] ≡ upto (test rows direct) rows (e.0 + 1)
+    → es ++ e ∷ [] ≡ upto (result_by rows direct) rows (e.0 + 1)
 listed_direct rows direct k i es e row d w h t =
     let low = w.above i e h (omega arith) in
     let m : k + (e.0 - k) ≡ e.0 = omega (arith, low) in
-    let gap = upto_gap (test rows direct) rows k (e.0 - k) (λ r x a b g. between rows direct k i es r x w a (λ j p q l. later r b j p q l) g) in
-    ap (λ xs. xs ++ e ∷ []) (w.listed ∙ sym gap ∙ ap (upto (test rows direct) rows) m)
-    ∙ ap (λ o. upto (test rows direct) rows e.0 ++ of_one (paired e.0 o)) (sym (test_direct rows direct i e row d h t))
-    ∙ sym (upto_more (test rows direct) rows e.0 row t)
+    let gap = upto_gap (result_by rows direct) rows k (e.0 - k) (λ r x a b g. between rows direct k i es r x w a (λ j p q l. later r b j p q l) g) in
+    ap (λ xs. xs ++ e ∷ []) (w.listed ∙ sym gap ∙ ap (upto (result_by rows direct) rows) m)
+    ∙ ap (λ o. upto (result_by rows direct) rows e.0 ++ of_one (paired e.0 o)) (sym (test_direct rows direct i e row d h t))
+    ∙ sym (upto_more (result_by rows direct) rows e.0 row t)
   where
     later : (r : ℕ) → r < k + (e.0 - k) → (j : ℕ) (p : Ending) → slice_get direct j ≡ Some p → i ≤ j → r < p.0
     later r b j p q l = by (split i j)

@@ -8,7 +8,7 @@ use Rattle.links_drains.specs.Phases.{is_unfinished}
 use Rattle.links_drains.specs.Endings.{Ending, result_in, given, or_else, is_listed, ecanceled}
 use Rattle.links_drains.specs.Links.{is_guard}
 use Rattle.timeouts_cancel.specs.Falls.{joined, with_severed, with_met, with_guards, is_severed, is_bad, is_count_timeout, guards_listed, is_met, counted_in, fall_of, severs_by, GuardsFormed, IsWhole}
-use Rattle.timeouts_cancel.specs.Walks.{Severs, ds, ss}
+use Rattle.timeouts_cancel.specs.Walks.{Severs, own_endings, severed_endings}
 use Rattle.links_drains.proofs.Rising.{ends_at, rising}
 use Rattle.timeouts_cancel.proofs.Again.{any_at, any_found, result_there, listed_row, or_else_none, given_none, given_is, joined_nothing}
 use Rattle.timeouts_cancel.proofs.Tallying.{joined_counts, guard_counts, met_counts}
@@ -17,19 +17,19 @@ use Rattle.timeouts_cancel.proofs.Severing.{both, guard_not_bad, timeout_not_bad
 -- ---- the lists, one filter after another
 
 abbrev pub ms : List Row → ℕ → List Ending → List Ending
-ms rows c direct = with_met rows c (ss rows direct)
+ms rows c direct = with_met rows c (severed_endings rows direct)
 
 -- what they have for an unfinished row
-in_ds : (rows : List Row) (direct : List Ending) (r : ℕ) (row : Row) → slice_get rows r ≡ Some row → is_unfinished row.phase ≡ true → result_in (ds rows direct) r ≡ result_in direct r
+in_ds : (rows : List Row) (direct : List Ending) (r : ℕ) (row : Row) → slice_get rows r ≡ Some row → is_unfinished row.phase ≡ true → result_in (own_endings rows direct) r ≡ result_in direct r
 in_ds rows direct r row h u = listed_row (λ r row. result_in direct r) rows r row h u
 
 in_ss : (rows : List Row) (direct : List Ending) (r : ℕ) (row : Row) → slice_get rows r ≡ Some row → is_unfinished row.phase ≡ true
-    → result_in (ss rows direct) r ≡ or_else (result_in (ds rows direct) r) (given (is_severed rows (ds rows direct) r row) ecanceled)
-in_ss rows direct r row h u = listed_row (λ r row. or_else (result_in (ds rows direct) r) (given (is_severed rows (ds rows direct) r row) ecanceled)) rows r row h u
+    → result_in (severed_endings rows direct) r ≡ or_else (result_in (own_endings rows direct) r) (given (is_severed rows (own_endings rows direct) r row) ecanceled)
+in_ss rows direct r row h u = listed_row (λ r row. or_else (result_in (own_endings rows direct) r) (given (is_severed rows (own_endings rows direct) r row) ecanceled)) rows r row h u
 
 in_ms : (rows : List Row) (c : ℕ) (direct : List Ending) (r : ℕ) (row : Row) → slice_get rows r ≡ Some row → is_unfinished row.phase ≡ true
-    → result_in (ms rows c direct) r ≡ or_else (result_in (ss rows direct) r) (given (is_met (c + counted_in rows (ss rows direct)) row) (pos 0))
-in_ms rows c direct r row h u = listed_row (λ r row. or_else (result_in (ss rows direct) r) (given (is_met (c + counted_in rows (ss rows direct)) row) (pos 0))) rows r row h u
+    → result_in (ms rows c direct) r ≡ or_else (result_in (severed_endings rows direct) r) (given (is_met (c + counted_in rows (severed_endings rows direct)) row) (pos 0))
+in_ms rows c direct r row h u = listed_row (λ r row. or_else (result_in (severed_endings rows direct) r) (given (is_met (c + counted_in rows (severed_endings rows direct)) row) (pos 0))) rows r row h u
 
 in_fall : (rows : List Row) (c : ℕ) (direct : List Ending) (r : ℕ) (row : Row) → slice_get rows r ≡ Some row → is_unfinished row.phase ≡ true
     → result_in (fall_of rows c direct) r ≡ or_else (result_in (ms rows c direct) r) (given (guards_listed (ms rows c direct) row) ecanceled)
@@ -38,15 +38,15 @@ in_fall rows c direct r row h u = listed_row (λ r row. or_else (result_in (ms r
 -- a row that the fall doesn't list: no filter gives it a result
 pub record Unlisted (rows : List Row) (c : ℕ) (direct : List Ending) (r : ℕ) (row : Row) : Type 0 where
   pub undirected : result_in direct r ≡ None
-  pub severed : is_severed rows (ds rows direct) r row ≡ false
-  pub met : is_met (c + counted_in rows (ss rows direct)) row ≡ false
+  pub severed : is_severed rows (own_endings rows direct) r row ≡ false
+  pub met : is_met (c + counted_in rows (severed_endings rows direct)) row ≡ false
   pub guards : guards_listed (ms rows c direct) row ≡ false
 
 pub unlisted : (rows : List Row) (c : ℕ) (direct : List Ending) (r : ℕ) (row : Row) → slice_get rows r ≡ Some row → is_unfinished row.phase ≡ true → result_in (fall_of rows c direct) r ≡ None → Unlisted rows c direct r row
 unlisted rows c direct r row h u n =
     let a = or_else_none (result_in (ms rows c direct) r) _ (sym (in_fall rows c direct r row h u) ∙ n) in
-    let b = or_else_none (result_in (ss rows direct) r) _ (sym (in_ms rows c direct r row h u) ∙ a.0) in
-    let d = or_else_none (result_in (ds rows direct) r) _ (sym (in_ss rows direct r row h u) ∙ b.0) in
+    let b = or_else_none (result_in (severed_endings rows direct) r) _ (sym (in_ms rows c direct r row h u) ∙ a.0) in
+    let d = or_else_none (result_in (own_endings rows direct) r) _ (sym (in_ss rows direct r row h u) ∙ b.0) in
     record {
       undirected = sym (in_ds rows direct r row h u) ∙ d.0;
       severed = given_none _ ecanceled d.1;
@@ -86,7 +86,7 @@ true_false : (b : Bool) → b ≡ true → b ≡ false → ⊥
 true_false b h k = cc
 
 -- a row that ends badly in the fall is a direct one, or is severed by one
-from_direct : (rows : List Row) (c : ℕ) (direct : List Ending) (r : ℕ) (row : Row) (e : Ending) (i : ℕ) → slice_get (fall_of rows c direct) i ≡ Some e → Severs rows r row e → is_severed rows (ds rows direct) r row ≡ true
+from_direct : (rows : List Row) (c : ℕ) (direct : List Ending) (r : ℕ) (row : Row) (e : Ending) (i : ℕ) → slice_get (fall_of rows c direct) i ≡ Some e → Severs rows r row e → is_severed rows (own_endings rows direct) r row ≡ true
 from_direct rows c direct r row e i h s =
     let w = ends_at (λ r row. or_else (result_in (ms rows c direct) r) (given (guards_listed (ms rows c direct) row) ecanceled)) rows i e h in
     let same : w.0 ≡ s.before = some_same w.0 s.before (sym w.1 ∙ s.there) in
@@ -97,31 +97,31 @@ from_direct rows c direct r row e i h s =
     some_same : (a b : Row) → Some a ≡ Some b → a ≡ b
     some_same a b k = cc
 
-    of_direct : (x : ℤ) → x ≡ e.1 → result_in (ds rows direct) e.0 ≡ Some x → is_severed rows (ds rows direct) r row ≡ true
-    of_direct x k d = let t = result_there (ds rows direct) e.0 e.1 (d ∙ ap Some k) in severed_by rows (ds rows direct) r row t.0 (e.0, e.1) t.1 (record { before = s.before; there = s.there; less = s.less; unit = s.unit; soft = s.soft; bad = s.bad })
+    of_direct : (x : ℤ) → x ≡ e.1 → result_in (own_endings rows direct) e.0 ≡ Some x → is_severed rows (own_endings rows direct) r row ≡ true
+    of_direct x k d = let t = result_there (own_endings rows direct) e.0 e.1 (d ∙ ap Some k) in severed_by rows (own_endings rows direct) r row t.0 (e.0, e.1) t.1 (record { before = s.before; there = s.there; less = s.less; unit = s.unit; soft = s.soft; bad = s.bad })
 
-    of_severed : is_severed rows (ds rows direct) e.0 s.before ≡ true → is_severed rows (ds rows direct) r row ≡ true
+    of_severed : is_severed rows (own_endings rows direct) e.0 s.before ≡ true → is_severed rows (own_endings rows direct) r row ≡ true
     of_severed k =
-        let f = any_found (λ (x : Ending). severs_by e.0 s.before (slice_get rows x.0) x) (ds rows direct) k in
-        severed_by rows (ds rows direct) r row f.0 f.1 f.2 (severs_then rows e.0 r s.before row f.1 s.less s.unit (severs_is rows e.0 s.before f.1 f.3))
+        let f = any_found (λ (x : Ending). severs_by e.0 s.before (slice_get rows x.0) x) (own_endings rows direct) k in
+        severed_by rows (own_endings rows direct) r row f.0 f.1 f.2 (severs_then rows e.0 r s.before row f.1 s.less s.unit (severs_is rows e.0 s.before f.1 f.3))
 
-    severed : is_unfinished s.before.phase ≡ true → (o : Option ℤ) → result_in (ds rows direct) e.0 ≡ o → or_else o (given (is_severed rows (ds rows direct) e.0 s.before) ecanceled) ≡ Some e.1 → is_severed rows (ds rows direct) r row ≡ true
-    severed u None d k = of_severed (given_is (is_severed rows (ds rows direct) e.0 s.before) ecanceled e.1 k).0
+    severed : is_unfinished s.before.phase ≡ true → (o : Option ℤ) → result_in (own_endings rows direct) e.0 ≡ o → or_else o (given (is_severed rows (own_endings rows direct) e.0 s.before) ecanceled) ≡ Some e.1 → is_severed rows (own_endings rows direct) r row ≡ true
+    severed u None d k = of_severed (given_is (is_severed rows (own_endings rows direct) e.0 s.before) ecanceled e.1 k).0
     severed u (Some x) d k = let y : x ≡ e.1 = cc in of_direct x y d
 
-    met : is_unfinished s.before.phase ≡ true → (o : Option ℤ) → result_in (ss rows direct) e.0 ≡ o → or_else o (given (is_met (c + counted_in rows (ss rows direct)) s.before) (pos 0)) ≡ Some e.1 → is_severed rows (ds rows direct) r row ≡ true
+    met : is_unfinished s.before.phase ≡ true → (o : Option ℤ) → result_in (severed_endings rows direct) e.0 ≡ o → or_else o (given (is_met (c + counted_in rows (severed_endings rows direct)) s.before) (pos 0)) ≡ Some e.1 → is_severed rows (own_endings rows direct) r row ≡ true
     met u None d k =
-        let y = given_is (is_met (c + counted_in rows (ss rows direct)) s.before) (pos 0) e.1 k in
-        let t = both (is_count_timeout s.before) (nat_le (s.before.base + s.before.entry.off) (c + counted_in rows (ss rows direct))) y.0 in
+        let y = given_is (is_met (c + counted_in rows (severed_endings rows direct)) s.before) (pos 0) e.1 k in
+        let t = both (is_count_timeout s.before) (nat_le (s.before.base + s.before.entry.off) (c + counted_in rows (severed_endings rows direct))) y.0 in
         absurd (true_false (is_bad s.before e.1) s.bad (ap (is_bad s.before) y.1 ∙ timeout_not_bad s.before t.0))
-    met u (Some x) d k = severed u (result_in (ds rows direct) e.0) refl (sym (in_ss rows direct e.0 s.before s.there u) ∙ d ∙ k)
+    met u (Some x) d k = severed u (result_in (own_endings rows direct) e.0) refl (sym (in_ss rows direct e.0 s.before s.there u) ∙ d ∙ k)
 
-    guarded : is_unfinished s.before.phase ≡ true → (o : Option ℤ) → result_in (ms rows c direct) e.0 ≡ o → or_else o (given (guards_listed (ms rows c direct) s.before) ecanceled) ≡ Some e.1 → is_severed rows (ds rows direct) r row ≡ true
+    guarded : is_unfinished s.before.phase ≡ true → (o : Option ℤ) → result_in (ms rows c direct) e.0 ≡ o → or_else o (given (guards_listed (ms rows c direct) s.before) ecanceled) ≡ Some e.1 → is_severed rows (own_endings rows direct) r row ≡ true
     guarded u None d k =
         let y = given_is (guards_listed (ms rows c direct) s.before) ecanceled e.1 k in
         let t = both (is_guard s.before) (option_map_or (is_listed (ms rows c direct)) s.before.target false) y.0 in
         absurd (true_false (is_bad s.before e.1) s.bad (guard_not_bad s.before e.1 t.0))
-    guarded u (Some x) d k = met u (result_in (ss rows direct) e.0) refl (sym (in_ms rows c direct e.0 s.before s.there u) ∙ d ∙ k)
+    guarded u (Some x) d k = met u (result_in (severed_endings rows direct) e.0) refl (sym (in_ms rows c direct e.0 s.before s.there u) ∙ d ∙ k)
 
 pub severed_again : (rows : List Row) (c : ℕ) (direct : List Ending) → with_severed rows (fall_of rows c direct) ≡ fall_of rows c direct
 severed_again rows c direct =
@@ -136,7 +136,7 @@ severed_again rows c direct =
         by true e =
             let f = any_found (λ (x : Ending). severs_by r row (slice_get rows x.0) x) (fall_of rows c direct) e in
             let k = from_direct rows c direct r row f.1 f.0 f.2 (severs_is rows r row f.1 f.3) in
-            absurd (true_false (is_severed rows (ds rows direct) r row) k (unlisted rows c direct r row h u n).severed)
+            absurd (true_false (is_severed rows (own_endings rows direct) r row) k (unlisted rows c direct r row h u n).severed)
 
 pub direct_again : (rows : List Row) (c : ℕ) (direct : List Ending) → joined rows (λ r row. result_in direct r) (fall_of rows c direct) ≡ fall_of rows c direct
 direct_again rows c direct =
@@ -146,12 +146,12 @@ direct_again rows c direct =
 -- ---- what is counted
 
 -- the TIMEOUTs and guards that fall don't count
-pub counted_fall : (rows : List Row) (c : ℕ) (direct : List Ending) → counted_in rows (fall_of rows c direct) ≡ counted_in rows (ss rows direct)
+pub counted_fall : (rows : List Row) (c : ℕ) (direct : List Ending) → counted_in rows (fall_of rows c direct) ≡ counted_in rows (severed_endings rows direct)
 counted_fall rows c direct =
-    joined_counts rows (λ r row. or_else (result_in (ss rows direct) r) (given (is_met (c + counted_in rows (ss rows direct)) row) (pos 0))) (λ r row. guards_listed (ms rows c direct) row) ecanceled
+    joined_counts rows (λ r row. or_else (result_in (severed_endings rows direct) r) (given (is_met (c + counted_in rows (severed_endings rows direct)) row) (pos 0))) (λ r row. guards_listed (ms rows c direct) row) ecanceled
     (λ r row h. guard_counts row (both (is_guard row) (option_map_or (is_listed (ms rows c direct)) row.target false) h).0)
-    ∙ joined_counts rows (λ r row. or_else (result_in (ds rows direct) r) (given (is_severed rows (ds rows direct) r row) ecanceled)) (λ r row. is_met (c + counted_in rows (ss rows direct)) row) (pos 0)
-    (λ r row h. met_counts (c + counted_in rows (ss rows direct)) row h)
+    ∙ joined_counts rows (λ r row. or_else (result_in (own_endings rows direct) r) (given (is_severed rows (own_endings rows direct) r row) ecanceled)) (λ r row. is_met (c + counted_in rows (severed_endings rows direct)) row) (pos 0)
+    (λ r row h. met_counts (c + counted_in rows (severed_endings rows direct)) row h)
 
 pub met_again : (rows : List Row) (c : ℕ) (direct : List Ending) → with_met rows c (fall_of rows c direct) ≡ fall_of rows c direct
 met_again rows c direct =

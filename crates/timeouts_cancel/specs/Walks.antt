@@ -15,15 +15,15 @@ pub record Severs (rows : List Row) (r : ℕ) (row : Row) (e : Ending) : Type 0 
   pub bad : is_bad before e.1 ≡ true
 
 -- the rows that a step ends of itself, and those that they sever
-abbrev pub ds : List Row → List Ending → List Ending
-ds rows direct = first_listed rows direct
+abbrev pub own_endings : List Row → List Ending → List Ending
+own_endings rows direct = first_listed rows direct
 
-abbrev pub ss : List Row → List Ending → List Ending
-ss rows direct = with_severed rows (ds rows direct)
+abbrev pub severed_endings : List Row → List Ending → List Ending
+severed_endings rows direct = with_severed rows (own_endings rows direct)
 
 -- the results after two filters
-abbrev pub test : List Row → List Ending → ℕ → Row → Option ℤ
-test rows direct r row = or_else (result_in (ds rows direct) r) (given (is_severed rows (ds rows direct) r row) ecanceled)
+abbrev pub result_by : List Row → List Ending → ℕ → Row → Option ℤ
+result_by rows direct r row = or_else (result_in (own_endings rows direct) r) (given (is_severed rows (own_endings rows direct) r row) ecanceled)
 
 -- the endings of the first rows
 abbrev pub upto : (ℕ → Row → Option ℤ) → List Row → ℕ → List Ending
@@ -31,14 +31,14 @@ upto f rows k = endings f (take k rows)
 
 -- The rows before one have been walked over: so many direct pairs are among them, the others aren't, and no row from there on is severed by the first.
 pub record Walked (rows : List Row) (direct : List Ending) (k i : ℕ) (es : List Ending) : Type 0 where
-  pub listed : es ≡ upto (test rows direct) rows k
+  pub listed : es ≡ upto (result_by rows direct) rows k
   pub below : (j : ℕ) (e : Ending) → slice_get direct j ≡ Some e → j < i → e.0 < k
   pub above : (j : ℕ) (e : Ending) → slice_get direct j ≡ Some e → i ≤ j → k ≤ e.0
   pub clear : (r : ℕ) (row : Row) (j : ℕ) (e : Ending) → k ≤ r → slice_get rows r ≡ Some row → slice_get direct j ≡ Some e → j < i → Severs rows r row e → ⊥
 
 -- The rows before one have been walked over, the last of them in a unit that one of them severs.
 pub record Sweeping (rows : List Row) (direct : List Ending) (k i : ℕ) (es : List Ending) (unit : ℕ) : Type 0 where
-  pub listed : es ≡ upto (test rows direct) rows k
+  pub listed : es ≡ upto (result_by rows direct) rows k
   pub below : (j : ℕ) (e : Ending) → slice_get direct j ≡ Some e → j < i → e.0 < k
   pub above : (j : ℕ) (e : Ending) → slice_get direct j ≡ Some e → i ≤ j → k ≤ e.0
   pub at : ℕ

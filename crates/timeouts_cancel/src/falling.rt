@@ -10,7 +10,7 @@ use crate::merging::add;
 use crate::timers::{count, met};
 use entries::Row;
 use links_drains::{Table, is_soft_linked, is_unfinished};
-use opcodes::ECANCELED;
+use opcodes::{ECANCELED, Op};
 use std::alloc::AllocError;
 
 /// The rows that end, with their results, in the order of their numbers: those that a step ends of itself,
@@ -137,8 +137,9 @@ fn severs(row: &Row, res: i32) -> bool
 fn is_bad(row: &Row, res: i32) -> bool
     ensures { result ≡ is_bad row.now res }
 {
-    if row.entry.opcode == 22 || row.entry.opcode == 23 {
+    let opcode = row.entry.opcode;
+    if opcode == Op::Read as u8 || opcode == Op::Write as u8 {
         return !(res >= 0 && res as u32 == row.entry.len);
     }
-    row.entry.opcode != 15 && res < 0
+    opcode != Op::LinkTimeout as u8 && res < 0
 }
