@@ -65,9 +65,6 @@ left l [] n = n
 left l (c ∷ cs) n = left l cs (after_change l c.place c.old n)
 
 -- the same of rows
-abbrev pub rows_after : Place → Option Value → ℕ → ℕ
-rows_after p x n = after_change Requests p x n
-
 abbrev pub rows_left : List Change → ℕ → ℕ
 rows_left cs n = left Requests cs n
 

@@ -94,7 +94,8 @@ impl Recorder {
         }
     }
 
-    /// The next n notes take no memory, of whatever places.
+    /// The next n notes of each sort take no memory: of numbers, of completion slots, and of the other
+    /// places that a setup has.
     pub fn room(&mut self, n: usize) -> Result<(), AllocError>
         ensures made { self.new.made ≡ self.old.made }
         ensures numbers { OnOk result (n ≤ self.new.numbers) }
