@@ -25,10 +25,11 @@ use Rattle.places.specs.Lists.{updated}
 use Rattle.places.proofs.ListLemmas.{updated_set}
 use Rattle.places.specs.declared.value.Stage.TheVariants.{Ready}
 use Rattle.machine.specs.Threads.{ThreadState}
-use Rattle.machine.specs.Whole.{WellFormed}
+use Rattle.machine.specs.Whole.{AllGuardsStand, WellFormed}
 use Rattle.machine.specs.declared.whole.Machine.{Machine}
 use Rattle.scenario.specs.declared.event.Refusal.{Refusal}
 use Rattle.scenario.specs.declared.event.Refusal.TheVariants.{WrongPhase, NotEligible, NotDue}
+use Rattle.machine.proofs.IssuingRows.{started_at_once}
 use Rattle.machine.proofs.TakingWords.{lt-ltb}
 
 -- nothing kept stands in the way of a submission, once there was a flush
@@ -180,8 +181,9 @@ started_machine (Err e) m rows news o = o
 started_machine (Ok y) m rows news o = ap (λ rs. record m { table = rs }) o
 
 -- the machine once a row is issued, with its guard or alone
-pub issued_told : (m : Machine) (r : ℕ) (x : Row) (b : Bool) → slice_get m.table r ≡ Some x → lacks_descriptor m.world x ≡ false → option_map_or (is_guard_of r) (slice_get m.table (r + 1)) false ≡ b
+pub issued_told : (m : Machine) (r : ℕ) (x : Row) (b : Bool) → AllGuardsStand m.table → slice_get m.table r ≡ Some x → lacks_descriptor m.world x ≡ false → option_map_or (is_guard_of r) (slice_get m.table (r + 1)) false ≡ b
     → record m { table = if b then updated (started m.clock m.counted) (updated (started m.clock m.counted) m.table r) (r + 1) else updated (started m.clock m.counted) m.table r } ≡ issued m r (slice_get m.table r)
-issued_told m r x b h l k =
+issued_told m r x b s h l k =
     sym (ap (issued m r) h ∙ ap (λ b. cond b (fallen m ((r, ebadf) ∷ [])) (record m { table = all_started m.clock m.counted m.table r })) l
+    ∙ ap (λ rows. record m { table = rows }) (started_at_once m.clock m.counted m.table r s)
     ∙ ap (λ (d : Bool). record m { table = if d then updated (started m.clock m.counted) (updated (started m.clock m.counted) m.table r) (r + 1) else updated (started m.clock m.counted) m.table r }) k)

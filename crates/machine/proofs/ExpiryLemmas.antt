@@ -11,7 +11,7 @@ use Rattle.machine.specs.Steps.{waiting_target, waits_at}
 use Rattle.machine.specs.Submission.{etime}
 use Rattle.machine.specs.Whole.{WellFormed}
 use Rattle.machine.specs.declared.whole.Machine.{Machine}
-use Rattle.machine.proofs.Endings.{direct_two}
+use Rattle.machine.proofs.FallenRows.{direct_two}
 
 -- a target that waits is one of a guard
 waiting_told : (rows : List Row) (w : WorldState) (x : Row) (o : Option ℕ) (t : ℕ) → waiting_target rows w x o ≡ Some t → (is_guard x ≡ true) × (o ≡ Some t)

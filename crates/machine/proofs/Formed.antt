@@ -48,7 +48,7 @@ use Rattle.timeouts_cancel.specs.Falls.{fall_of}
 use Rattle.opcodes.proofs.Counting.{puts_after, puts_more}
 use Rattle.machine.proofs.FormedMachines.{formed_issued, formed_world, mostly, mostly_world, rows_moved, formed_flushed, wakeup_flag, formed_put, formed_push, formed_taken_out}
 use Rattle.machine.proofs.FormedSubmissions.{formed_submitted, length-taken_entries}
-use Rattle.machine.proofs.Endings.{falls_some, formed_fallen, formed_fallen_but, threads_fallen}
+use Rattle.machine.proofs.FallenRows.{falls_some, formed_fallen, formed_fallen_but, threads_fallen}
 use Rattle.machine.proofs.EnterLemmas.{CanStart, can_start}
 use Rattle.machine.proofs.GuardLemmas.{eligible_no_guard}
 use Rattle.machine.proofs.PipeCounts.{puts_fit}

@@ -26,12 +26,14 @@ use Rattle.links_drains.specs.Phases.{ended_of}
 use Rattle.model_files.specs.Worlds.{PutsWithin}
 use Rattle.overflow.specs.Backlogs.{BacklogState, is_clear, fits, Delivery, DeliveryFormed, all_posted, flushed as flushed_delivery}
 use Rattle.overflow.proofs.KeptInOrder.{posted_formed, flushed_formed}
-use Rattle.machine.specs.Steps.{all_started, delivery, flushed, ended, held_by, is_guard_of, is_usable, lacks_descriptor, number_in, started}
+use Rattle.machine.specs.InTurn.{ended}
+use Rattle.machine.specs.Steps.{all_started, delivery, flushed, held_by, is_guard_of, is_usable, lacks_descriptor, number_in, started}
 use Rattle.machine.specs.Whole.{AllGuardsStand, Mostly, is_asleep, flag_word, HoldsDescriptor, RowFormed, WellFormed, Stands}
 use Rattle.machine.specs.declared.whole.Machine.{Machine}
 use Rattle.links_drains.proofs.Chains.{chained-updated}
 use Rattle.machine.proofs.FormedRows.{FormedRows, formed_rows-updated, formed_rows-moved}
-use Rattle.machine.proofs.GuardLemmas.{apart, guard_told, started_guards}
+use Rattle.machine.proofs.GuardLemmas.{apart, guard_told, started_guards, started_in_turn}
+use Rattle.machine.proofs.IssuingRows.{started_at_once}
 
 pub mostly : (m : Machine) → WellFormed m → Mostly m
 mostly m h = record { submissions = h.submissions; completions = h.completions; entries_wait = h.entries_wait; completions_wait = h.completions_wait; flags = h.flags; front = h.front; overflowed = h.overflowed; rows = h.rows; chained = h.chained; world = h.world; counted = h.counted; clock = h.clock; threads = h.threads }
@@ -211,8 +213,8 @@ queued_not_ended Queued h = refl
 queued_not_ended Issued h = absurd cc
 queued_not_ended (Ended n) h = absurd cc
 
-pub formed_issued : (m : Machine) (r : ℕ) (x : Row) → WellFormed m → slice_get m.table r ≡ Some x → x.phase ≡ Queued → is_guard x ≡ false → lacks_descriptor m.world x ≡ false → WellFormed (record m { table = all_started m.clock m.counted m.table r })
-formed_issued m r x h e q plain l = by (slice_get m.table (r + 1)) refl
+issued_in_turn : (m : Machine) (r : ℕ) (x : Row) → WellFormed m → slice_get m.table r ≡ Some x → x.phase ≡ Queued → is_guard x ≡ false → lacks_descriptor m.world x ≡ false → WellFormed (record m { table = started_in_turn m.clock m.counted m.table r })
+issued_in_turn m r x h e q plain l = by (slice_get m.table (r + 1)) refl
   where
     f : Row → Row
     f = started m.clock m.counted
@@ -220,24 +222,27 @@ formed_issued m r x h e q plain l = by (slice_get m.table (r + 1)) refl
     first : Started m (updated f m.table r)
     first = started_one m m.table r m.clock m.counted x (record { mostly = mostly m h; ended = refl; formed = record { each = h.requests } }) e (ap is_ended q) l
 
-    whole : (rows : List Row) → all_started m.clock m.counted m.table r ≡ rows → Started m rows → WellFormed (record m { table = all_started m.clock m.counted m.table r })
+    whole : (rows : List Row) → started_in_turn m.clock m.counted m.table r ≡ rows → Started m rows → WellFormed (record m { table = started_in_turn m.clock m.counted m.table r })
     whole rows k s = subst (λ rs. WellFormed (record m { table = rs })) (sym k)
         (formed_of (record m { table = rows }) s.mostly (subst (λ n. PutsWithin (65536 * n) m.world) (sym s.ended) h.puts) s.formed
         (subst AllGuardsStand k (started_guards m.clock m.counted m.table r x e q plain h.guards)))
 
-    told : (b : Bool) → option_map_or (is_guard_of r) (slice_get m.table (r + 1)) false ≡ b → all_started m.clock m.counted m.table r ≡ (if b then updated f (updated f m.table r) (r + 1) else updated f m.table r)
+    told : (b : Bool) → option_map_or (is_guard_of r) (slice_get m.table (r + 1)) false ≡ b → started_in_turn m.clock m.counted m.table r ≡ (if b then updated f (updated f m.table r) (r + 1) else updated f m.table r)
     told b k = ap (λ (d : Bool). if d then updated f (updated f m.table r) (r + 1) else updated f m.table r) k
 
-    chosen : (y : Row) → slice_get m.table (r + 1) ≡ Some y → (b : Bool) → is_guard_of r y ≡ b → WellFormed (record m { table = all_started m.clock m.counted m.table r })
+    chosen : (y : Row) → slice_get m.table (r + 1) ≡ Some y → (b : Bool) → is_guard_of r y ≡ b → WellFormed (record m { table = started_in_turn m.clock m.counted m.table r })
     chosen y g false k = whole (updated f m.table r) (told false (ap (λ o. option_map_or (is_guard_of r) o false) g ∙ k)) first
     chosen y g true k =
         let t = guard_told r y k in
         whole (updated f (updated f m.table r) (r + 1)) (told true (ap (λ o. option_map_or (is_guard_of r) o false) g ∙ k))
         (started_one m (updated f m.table r) (r + 1) m.clock m.counted y first (apart f m.table r (r + 1) (λ o. absurd (omega (arith, o))) ∙ g) (queued_not_ended y.phase t.queued) (guard_lacks_none m.world y t.guard))
 
-    by : (o : Option Row) → slice_get m.table (r + 1) ≡ o → WellFormed (record m { table = all_started m.clock m.counted m.table r })
+    by : (o : Option Row) → slice_get m.table (r + 1) ≡ o → WellFormed (record m { table = started_in_turn m.clock m.counted m.table r })
     by None g = whole (updated f m.table r) (told false (ap (λ o. option_map_or (is_guard_of r) o false) g)) first
     by (Some y) g = chosen y g (is_guard_of r y) refl
+
+pub formed_issued : (m : Machine) (r : ℕ) (x : Row) → WellFormed m → slice_get m.table r ≡ Some x → x.phase ≡ Queued → is_guard x ≡ false → lacks_descriptor m.world x ≡ false → WellFormed (record m { table = all_started m.clock m.counted m.table r })
+formed_issued m r x h e q plain l = subst (λ rows. WellFormed (record m { table = rows })) (sym (started_at_once m.clock m.counted m.table r h.guards)) (issued_in_turn m r x h e q plain l)
 
 -- ---- the memory and the objects change
 

@@ -27,7 +27,7 @@ use Rattle.machine.specs.Steps.{entries_for, taken, submitted, words_for}
 use Rattle.machine.specs.Whole.{GuardStands, Mostly, RowFormed, WellFormed}
 use Rattle.machine.specs.declared.whole.Machine.{Machine}
 use Rattle.machine.proofs.FormedMachines.{mostly}
-use Rattle.machine.proofs.Endings.{formed_fallen_but}
+use Rattle.machine.proofs.FallenRows.{formed_fallen_but}
 use Rattle.machine.proofs.GuardLemmas.{batch_behind, batch_guard, guard_before, stand_behind}
 use Rattle.machine.proofs.TakingWords.{length-up_to_entry}
 use Rattle.machine.proofs.FormedRows.{length-entries_at, counted-rows_of, batch_row}

@@ -9,7 +9,9 @@ use Rattle.places.proofs.ListLemmas.{length-updated}
 use Rattle.places.specs.declared.value.Stage.{Stage}
 use Rattle.places.specs.declared.value.Stage.TheVariants.{Ready, Waiting}
 use Rattle.model_files.specs.Worlds.{WorldState, descriptor_of, world_closed, world_stored, OneSetup as OneWorldSetup}
+use Rattle.links_drains.specs.Endings.{result_in}
 use Rattle.links_drains.specs.Holding.{is_held_by}
+use Rattle.links_drains.specs.Rows.{fixed_of}
 use Rattle.opcodes.specs.declared.choice.Choice.{Choice}
 use Rattle.opcodes.specs.declared.ending.Outcome.{Outcome}
 use Rattle.opcodes.specs.declared.ending.Outcome.TheVariants.{Res, Waits, BadChoice}
@@ -28,7 +30,8 @@ use Rattle.machine.specs.Cancels.{verdict_of, ending_with}
 use Rattle.machine.specs.Submission.{einval, ebusy, ebadf}
 use Rattle.timeouts_cancel.specs.Falls.{fall_of}
 use Rattle.std.specs.Option.{option_map_or}
-use Rattle.machine.specs.Steps.{refusal, sleep_refusal, after, stepped, executed, entered, entered_alone, entered_beside, submitting, before_submission, is_busy, is_unknown, gets_events, wakes, woken, shown, awaited, ready_count, held_back, with_poller, closed, is_open, posted, flushed, completions_of, ended, all_ended, fallen, taken, submitted, answered, issued, cancelled, finished, finished_as, lacks_descriptor, all_started, entries_for, expired, expiring, is_guard_of, started, waiting_target}
+use Rattle.machine.specs.InTurn.{completion_at, ended}
+use Rattle.machine.specs.Steps.{refusal, sleep_refusal, after, stepped, executed, entered, entered_alone, entered_beside, submitting, before_submission, is_busy, is_unknown, gets_events, wakes, woken, shown, awaited, ready_count, held_back, with_poller, closed, is_open, posted, flushed, completions_of, ended_by, all_ended, fallen, taken, submitted, answered, issued, cancelled, finished, finished_as, lacks_descriptor, all_started, entries_for, expired, expiring, is_guard_of, started, started_with, waiting_target}
 use Rattle.machine.specs.Threads.{ThreadState, program_of}
 use Rattle.machine.specs.Whole.{Grows, WellFormed}
 use Rattle.scenario.specs.declared.setup.Instruction.{Instruction}
@@ -37,6 +40,7 @@ use Rattle.machine.specs.declared.whole.Machine.{Machine}
 use Rattle.scenario.specs.declared.event.Event.{Event}
 use Rattle.scenario.specs.declared.event.Event.TheVariants.{Step, Take, Sleep, Issue, Finish, Expire, Tick}
 use Rattle.machine.proofs.ListsChanged.{map_updated}
+use Rattle.machine.proofs.MappedRows.{mapped_length, mapped_stay}
 use Rattle.links_drains.proofs.Remaining.{stay_then, stay_updated, stay_append}
 use Rattle.machine.proofs.Restored.{setup_self, setup_then}
 
@@ -73,7 +77,7 @@ grows_flushed m = record {
 
 pub grows_ended : (m : Machine) (r : ℕ) (res : ℤ) → Grows m (ended m r res)
 grows_ended m r res =
-    let p = grows_posted m (completions_of (slice_get m.table r) res) in
+    let p = grows_posted m (completion_at (slice_get m.table r) res) in
     record {
       setup = record { array = refl; slots = refl; completions = p.setup.completions; world = worlds.setup_self _; programs = refl; poller = refl; submit_all = refl };
       rows = let a = length-updated (λ (row : Row). record row { phase = Ended res }) m.table r in omega (arith, a);
@@ -81,9 +85,19 @@ grows_ended m r res =
       backlog = p.backlog;
     }
 
-pub grows_all_ended : (m : Machine) (ps : List (ℕ × ℤ)) → Grows m (all_ended m ps)
-grows_all_ended m [] = grows_self m
-grows_all_ended m (p ∷ ps) = grows_then m (ended m p.0 p.1) (all_ended (ended m p.0 p.1) ps) (grows_ended m p.0 p.1) (grows_all_ended (ended m p.0 p.1) ps)
+pub grows_all_ended : (m : Machine) (es : List (ℕ × ℤ)) → Grows m (all_ended m es)
+grows_all_ended m es =
+    let p = grows_posted m (completions_of m.table es) in
+    record {
+      setup = record { array = refl; slots = refl; completions = p.setup.completions; world = worlds.setup_self _; programs = refl; poller = refl; submit_all = refl };
+      rows = let a = mapped_length (ended_by es) m.table in omega (arith, a);
+      stay = mapped_stay (ended_by es) m.table (λ q. by q (result_in es q.0));
+      backlog = p.backlog;
+    }
+  where
+    by : (q : ℕ × Row) (o : Option ℤ) → fixed_of (option_map_or (λ res. record q.1 { phase = Ended res }) o q.1) ≡ fixed_of q.1
+    by q None = refl
+    by q (Some res) = refl
 
 pub grows_fallen : (m : Machine) (direct : List (ℕ × ℤ)) → Grows m (fallen m direct)
 unfolding fallen
@@ -279,11 +293,16 @@ grows_issued m r (Some x) = by (lacks_descriptor m.world x)
   where
     by : (b : Bool) → Grows m (if b then fallen m ((r, ebadf) ∷ []) else record m { table = all_started m.clock m.counted m.table r })
     by true = grows_fallen m ((r, ebadf) ∷ [])
-    by false = started_with (option_map_or (is_guard_of r) (slice_get m.table (r + 1)) false)
+    by false = record {
+      setup = record { array = refl; slots = refl; completions = refl; world = worlds.setup_self _; programs = refl; poller = refl; submit_all = refl };
+      rows = let a = mapped_length (started_with m.clock m.counted r) m.table in omega (arith, a);
+      stay = mapped_stay (started_with m.clock m.counted r) m.table (λ q. same q ((q.0 == r) || is_guard_of r q.1));
+      backlog = le_refl _;
+    }
       where
-        started_with : (b : Bool) → Grows m (record m { table = if b then updated (started m.clock m.counted) (updated (started m.clock m.counted) m.table r) (r + 1) else updated (started m.clock m.counted) m.table r })
-        started_with true = grows_then m (record m { table = updated (started m.clock m.counted) m.table r }) _ (grows_started m r m.clock m.counted) (grows_started (record m { table = updated (started m.clock m.counted) m.table r }) (r + 1) m.clock m.counted)
-        started_with false = grows_started m r m.clock m.counted
+        same : (q : ℕ × Row) (c : Bool) → fixed_of (if c then started m.clock m.counted q.1 else q.1) ≡ fixed_of q.1
+        same q true = refl
+        same q false = refl
 
 pub grows_finished : (m : Machine) (r : ℕ) (c : Choice) → WellFormed m → (o : Option Row) → Grows m (finished m r o c)
 grows_finished m r c f None = grows_self m

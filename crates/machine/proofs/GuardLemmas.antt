@@ -20,7 +20,7 @@ use Rattle.links_drains.specs.Phases.{is_queued, is_unfinished}
 use Rattle.links_drains.proofs.Chains.{Became, became, get-batch, get-behind}
 use Rattle.links_drains.proofs.RowsKept.{get-updated}
 use Rattle.timeouts_cancel.specs.Falls.{GuardsStand}
-use Rattle.machine.specs.Steps.{all_started, is_guard_of, started}
+use Rattle.machine.specs.Steps.{is_guard_of, started}
 use Rattle.machine.specs.Whole.{AllGuardsStand, GuardStands, WellFormed}
 use Rattle.machine.specs.declared.whole.Machine.{Machine}
 
@@ -184,7 +184,14 @@ unfinished_queued Queued h = refl
 unfinished_queued Issued h = absurd cc
 unfinished_queued (Ended n) h = absurd cc
 
-pub started_guards : (c n : ℕ) (rows : List Row) (r : ℕ) (x : Row) → slice_get rows r ≡ Some x → x.phase ≡ Queued → is_guard x ≡ false → AllGuardsStand rows → AllGuardsStand (all_started c n rows r)
+-- the rows once one of them is issued, and then the queued guard behind it
+abbrev pub started_in_turn : ℕ → ℕ → List Row → ℕ → List Row
+started_in_turn c n rows r =
+    if option_map_or (is_guard_of r) (slice_get rows (r + 1)) false
+    then updated (started c n) (updated (started c n) rows r) (r + 1)
+    else updated (started c n) rows r
+
+pub started_guards : (c n : ℕ) (rows : List Row) (r : ℕ) (x : Row) → slice_get rows r ≡ Some x → x.phase ≡ Queued → is_guard x ≡ false → AllGuardsStand rows → AllGuardsStand (started_in_turn c n rows r)
 started_guards c n rows r x h q plain s = by (slice_get rows (r + 1)) refl
   where
     f : Row → Row
@@ -239,14 +246,14 @@ started_guards c n rows r x h q plain s = by (slice_get rows (r + 1)) refl
       ]
     ]
 
-    told : (b : Bool) → option_map_or (is_guard_of r) (slice_get rows (r + 1)) false ≡ b → AllGuardsStand (if b then updated f (updated f rows r) (r + 1) else updated f rows r) → AllGuardsStand (all_started c n rows r)
+    told : (b : Bool) → option_map_or (is_guard_of r) (slice_get rows (r + 1)) false ≡ b → AllGuardsStand (if b then updated f (updated f rows r) (r + 1) else updated f rows r) → AllGuardsStand (started_in_turn c n rows r)
     told b k a = subst (λ (d : Bool). AllGuardsStand (if d then updated f (updated f rows r) (r + 1) else updated f rows r)) (sym k) a
 
-    chosen : (y : Row) → slice_get rows (r + 1) ≡ Some y → (b : Bool) → is_guard_of r y ≡ b → AllGuardsStand (all_started c n rows r)
+    chosen : (y : Row) → slice_get rows (r + 1) ≡ Some y → (b : Bool) → is_guard_of r y ≡ b → AllGuardsStand (started_in_turn c n rows r)
     chosen y e true k = told true (ap (λ o. option_map_or (is_guard_of r) o false) e ∙ k) (pair y e (guard_told r y k))
     chosen y e false k = told false (ap (λ o. option_map_or (is_guard_of r) o false) e ∙ k) (alone (λ z a t. let m = same_row z y (sym a ∙ e) in let b : true ≡ false = sym t ∙ ap (is_guard_of r) m ∙ k in cc))
 
-    by : (o : Option Row) → slice_get rows (r + 1) ≡ o → AllGuardsStand (all_started c n rows r)
+    by : (o : Option Row) → slice_get rows (r + 1) ≡ o → AllGuardsStand (started_in_turn c n rows r)
     by None e = told false (ap (λ o. option_map_or (is_guard_of r) o false) e) (alone (λ z a t. let b : None ≡ Some z = sym e ∙ a in cc))
     by (Some y) e = chosen y e (is_guard_of r y) refl
 

@@ -13,10 +13,15 @@ pub mod FormedThreads
 pub mod FormedMachines
 pub mod Growing
 pub mod GuardLemmas
+pub mod MappedRows
+pub mod IssuingRows
 pub mod WholeFalls
 pub mod ExpiryLemmas
 pub mod CancelLemmas
 pub mod Endings
+pub mod PostedTogether
+pub mod AtOnce
+pub mod FallenRows
 pub mod FormedSubmissions
 pub mod Formed
 pub mod Linking

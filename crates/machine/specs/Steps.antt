@@ -1,7 +1,8 @@
 -- Which events are refused, and what the others change.
-use Rattle.std.specs.Prelude.{◌≡◌, ℤ, pos, negsuc, ℕ, ◌+◌, ◌-◌, ◌%◌, ◌^◌, ◌==◌, Bool, false, not, ◌&&◌, ◌||◌, nat_lt, min, if◌then◌else◌, Option, Some, None, option_map, slice_get, slice_set, List, [], ◌∷◌, ◌++◌, length}
+use Rattle.std.specs.Prelude.{◌≡◌, ℤ, pos, negsuc, ℕ, ◌+◌, ◌-◌, ◌%◌, ◌^◌, ◌==◌, Bool, false, not, ◌&&◌, ◌||◌, nat_lt, min, if◌then◌else◌, Option, Some, None, option_map, slice_get, slice_set, List, [], ◌∷◌, ◌++◌, length, map}
 use Rattle.std.specs.Int.Bits.{bit_and}
 use Rattle.std.specs.Option.{option_map_or}
+use Rattle.std.specs.List.{enumerate_from, filter_map}
 use Rattle.entries.specs.declared.completion.Cqe.{Cqe}
 use Rattle.entries.specs.declared.entry.Sqe.{Sqe}
 use Rattle.entries.specs.declared.row.Row.{Row}
@@ -28,10 +29,10 @@ use Rattle.sqpoll.specs.declared.poller.Poller.TheVariants.{Awake, Asleep}
 use Rattle.sqpoll.specs.Pollers.{is_awake}
 use Rattle.links_drains.specs.Batches.{rows_of, direct_of}
 use Rattle.links_drains.specs.Eligible.{is_eligible}
-use Rattle.links_drains.specs.Endings.{Ending, ecanceled}
+use Rattle.links_drains.specs.Endings.{Ending, ecanceled, result_in}
 use Rattle.links_drains.specs.Links.{has_flag, is_guard}
 use Rattle.links_drains.specs.Phases.{counts, is_issued, is_queued}
-use Rattle.timeouts_cancel.specs.Falls.{fall_of}
+use Rattle.timeouts_cancel.specs.Falls.{counted_in, fall_of}
 use Rattle.timeouts_cancel.specs.Timers.{is_due}
 use Rattle.machine.specs.Cancels.{verdict_of, ending_with}
 use Rattle.machine.specs.Submission.{offered, taken_words, taken_entries, einval, ebusy, ebadf, etime}
@@ -180,29 +181,26 @@ refusal m (Tick d) = if nat_lt (m.clock + d) (2 ^ 64) then None else Some ClockF
 -- ---- changes
 
 -- the completion of a row that ends with a result
-abbrev pub completions_of : Option Row → ℤ → List Cqe
-completions_of None res = []
-completions_of (Some row) res = record { user_data = row.entry.user_data; res = res; flags = 0 } ∷ []
+abbrev pub completion_of : ℤ → Row → Cqe
+completion_of res row = record { user_data = row.entry.user_data; res = res; flags = 0 }
 
--- by how much a row that ends is counted
-abbrev pub count_of : Option Row → ℕ
-count_of None = 0
-count_of (Some row) = if counts row then 1 else 0
+-- the completions of the rows that a list names, in its order
+abbrev pub completions_of : List Row → List Ending → List Cqe
+completions_of rows es = filter_map (λ (e : Ending). option_map (completion_of e.1) (slice_get rows e.0)) es
 
--- the machine once a row has ended with a result
-abbrev pub ended : Machine → ℕ → ℤ → Machine
-ended m r res = record (posted m (completions_of (slice_get m.table r) res)) {
-  table = updated (λ row. record row { phase = Ended res }) m.table r;
-  counted = m.counted + count_of (slice_get m.table r);
+-- a row with its number, once those that a list names have ended
+abbrev pub ended_by : List Ending → ℕ × Row → Row
+ended_by es p = option_map_or (λ res. record p.1 { phase = Ended res }) (result_in es p.0) p.1
+
+-- the machine once the rows that a list names have ended, each with its result: their completions are posted in the list's order, and those of them that count are counted
+abbrev pub all_ended : Machine → List Ending → Machine
+all_ended m es = record (posted m (completions_of m.table es)) {
+  table = map (ended_by es) (enumerate_from 0 m.table);
+  counted = m.counted + counted_in m.table es;
 }
 
--- the machine once rows have ended, one after the other, each with its result
-abbrev pub all_ended : Machine → List (ℕ × ℤ) → Machine
-all_ended m [] = m
-all_ended m (p ∷ ps) = all_ended (ended m p.0 p.1) ps
-
 -- the machine once rows have ended, and those that fall with them
-unfoldable pub fallen : Machine → List (ℕ × ℤ) → Machine
+unfoldable pub fallen : Machine → List Ending → Machine
 fallen m direct = all_ended m (fall_of m.table m.counted direct)
 
 -- the words that a submission takes, and the entries of these that become rows
@@ -335,12 +333,13 @@ started clock counted row = record row { phase = Issued; held = held_by row; dea
 abbrev pub is_guard_of : ℕ → Row → Bool
 is_guard_of r row = is_guard row && (is_queued row.phase && option_map_or (λ t. t == r) row.target false)
 
--- the rows once one of them is issued, and with it its queued guard, which is the row behind it
+-- a row with its number, once one of a number is issued, and with it its queued guard
+abbrev pub started_with : ℕ → ℕ → ℕ → ℕ × Row → Row
+started_with clock counted r p = if (p.0 == r) || is_guard_of r p.1 then started clock counted p.1 else p.1
+
+-- the rows then
 abbrev pub all_started : ℕ → ℕ → List Row → ℕ → List Row
-all_started clock counted rows r =
-    if option_map_or (is_guard_of r) (slice_get rows (r + 1)) false
-    then updated (started clock counted) (updated (started clock counted) rows r) (r + 1)
-    else updated (started clock counted) rows r
+all_started clock counted rows r = map (started_with clock counted r) (enumerate_from 0 rows)
 
 -- the machine once a row is issued; one without its descriptor ends
 abbrev pub issued : Machine → ℕ → Option Row → Machine

@@ -1,7 +1,8 @@
 //! Requests end: their completions are posted, and they are counted.
 ghost use Rattle.std.specs.Prelude.{◌≡◌, ◌+◌, ◌<◌, ◌≤◌, ◌^◌, ℕ, ℤ, OnOk, Some, length, slice_get};
 ghost use Rattle.places.specs.View.{Keeps};
-ghost use Rattle.machine.specs.Steps.{delivery, ended, all_ended, fallen};
+ghost use Rattle.machine.specs.InTurn.{ended, ended_in_turn};
+ghost use Rattle.machine.specs.Steps.{delivery, fallen};
 ghost use Rattle.links_drains.specs.Endings.{Direct};
 ghost use Rattle.timeouts_cancel.specs.Falls.{GuardsStand};
 ghost use Rattle.overflow.specs.Backlogs.{DeliveryFormed};
@@ -91,7 +92,7 @@ impl Machine {
         requires room { length self.old.backlog.items + length endings.now ≤ 65536 }
         requires delivery { DeliveryFormed (delivery self.old) }
         requires counts { self.old.counted + length endings.now < 2 ^ 32 }
-        ensures ok { OnOk result (self.new ≡ all_ended self.old endings.now) }
+        ensures ok { OnOk result (self.new ≡ ended_in_turn self.old endings.now) }
         ensures grows { Grows self.old self.new }
         ensures keeps { Keeps everywhere (view self.old) (view self.new) notes.old.made notes.new.made }
     {

@@ -4,7 +4,8 @@ ghost use Rattle.links_drains.specs.Endings.{Ending};
 ghost use Rattle.places.specs.declared.place.Place.{Place};
 ghost use Rattle.machine.specs.Whole.{view, OneSetup, WellFormed};
 ghost use Rattle.timeouts_cancel.specs.Falls.{fall_of, IsWhole};
-ghost use Rattle.machine.specs.Steps.{refusal, after, taken};
+ghost use Rattle.machine.specs.InTurn.{ended_in_turn};
+ghost use Rattle.machine.specs.Steps.{refusal, after, before_submission, fallen, taken};
 ghost use Rattle.machine.specs.declared.whole.Machine.{Machine};
 ghost use Rattle.scenario.specs.declared.event.Event.{Event};
 
@@ -26,4 +27,19 @@ pub fn falls_whole()
 /// And so it is once the entries of a submission have become rows.
 pub fn submissions_fall_whole()
     ensures { (m : Machine) (k : ℕ) (direct : List Ending) → WellFormed m → IsWhole (taken m k).table m.counted direct (fall_of (taken m k).table m.counted direct) }
+{}
+
+/// The rows that fall might as well end one after the other.
+pub fn falls_in_turn()
+    ensures { (m : Machine) (direct : List Ending) → WellFormed m → fallen m direct ≡ ended_in_turn m (fall_of m.table m.counted direct) }
+{}
+
+/// And so it is once the entries of a submission have become rows.
+pub fn submissions_fall_in_turn()
+    ensures { (m : Machine) (k : ℕ) (direct : List Ending) → WellFormed m → fallen (taken m k) direct ≡ ended_in_turn (taken m k) (fall_of (taken m k).table m.counted direct) }
+{}
+
+/// A submission finds a well formed machine, as kept completions have moved into the ring.
+pub fn submissions_find_formed()
+    ensures { (m : Machine) (k flags : ℕ) → WellFormed m → WellFormed (before_submission m k flags) }
 {}

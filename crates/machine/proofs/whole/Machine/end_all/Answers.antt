@@ -1,7 +1,7 @@
 use Rattle.std.proofs.Common.{ap, subst, sym, ◌∙◌, List, ℕ, ℤ, pos, slice_index_or, w32, FitsSigned, rules}
 use Rattle.std.proofs.lemmas.List.{take_more}
 use Rattle.std.proofs.lemmas.Int.{to_z-of_z}
-use Rattle.machine.specs.Steps.{ended}
+use Rattle.machine.specs.InTurn.{ended}
 use Rattle.machine.proofs.Endings.{Ending, ending_on}
 use Rattle.machine.proofs.whole.Machine.end_all.Goals as goal
 

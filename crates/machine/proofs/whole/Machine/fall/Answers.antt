@@ -1,8 +1,12 @@
-use Rattle.std.proofs.Common.{◌≡◌, ◌∙◌, ℕ, ℤ, ap, sym, List, length, arith}
+use Rattle.std.proofs.Common.{◌≡◌, ◌∙◌, ℕ, ℤ, ap, sym, subst, List, OnOk, length, arith}
 use Rattle.std.specs.Prelude.{slice_get}
 use Rattle.links_drains.proofs.Counting.{counted-le-length}
 use Rattle.timeouts_cancel.specs.Falls.{fall_of}
-use Rattle.machine.proofs.Endings.{fall_within, can_fall, can_end_room, can_end_counts}
+use Rattle.machine.proofs.Endings.{can_end_room, can_end_counts}
+use Rattle.machine.specs.InTurn.{ended_in_turn}
+use Rattle.machine.specs.declared.whole.Machine.{Machine}
+use Rattle.machine.proofs.AtOnce.{posts}
+use Rattle.machine.proofs.FallenRows.{fall_in_turn, fall_within, can_fall}
 use Rattle.machine.proofs.whole.Machine.fall.Goals as goal
 
 listed : (c : goal.After-end_all-arg-2-1) → c.deref.result.now ≡ fall_of c.args.self.now.table c.args.self.now.counted c.args.direct.now
@@ -27,3 +31,7 @@ fall-requires-clause-counted c =
     let n = c.requires.mostly.counted in
     let l = c.requires.mostly.rows in
     omega (arith, a, n, l)
+
+pub returns-clause-ok : goal.returns-clause-ok
+returns-clause-ok c =
+    subst (λ (n : Machine). OnOk c.end_all.result (c.end_all.new.self ≡ n)) (ap (ended_in_turn c.args.self.now) (c.deref.ensures.value ∙ c.in_ok-endings.ensures) ∙ sym (fall_in_turn c.args.self.now c.args.direct.now (posts c.args.self.now c.requires.mostly))) c.end_all.ensures.ok

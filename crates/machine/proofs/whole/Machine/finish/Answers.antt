@@ -12,7 +12,7 @@ use Rattle.machine.specs.Steps.{fallen, cancelled, finished, finished_as, after}
 use Rattle.machine.specs.Whole.{Mostly}
 use Rattle.machine.specs.declared.whole.Machine.{Machine}
 use Rattle.machine.proofs.EnterLemmas.{finished_row}
-use Rattle.machine.proofs.Endings.{direct_one}
+use Rattle.machine.proofs.FallenRows.{direct_one}
 use Rattle.machine.proofs.PipeCounts.{puts_fit}
 use Rattle.machine.proofs.FormedMachines.{mostly, mostly_world}
 use Rattle.opcodes.proofs.Staying.{stays_after}

@@ -8,7 +8,7 @@ use Rattle.links_drains.specs.Phases.{is_ended, is_unfinished}
 use Rattle.machine.specs.Steps.{is_guard_of, started}
 use Rattle.machine.specs.declared.whole.Machine.{Machine}
 use Rattle.machine.proofs.EnterLemmas.{can_start, issued_told}
-use Rattle.machine.proofs.Endings.{direct_one}
+use Rattle.machine.proofs.FallenRows.{direct_one}
 use Rattle.machine.proofs.FormedMachines.{mostly}
 use Rattle.machine.proofs.GuardLemmas.{apart, guard_told, same_row, stand_behind, unfinished_queued}
 use Rattle.machine.proofs.whole.Machine.issue.Goals as goal
@@ -62,7 +62,7 @@ returns-in-Some-guard_of-clause-ok c =
     let there : slice_get m.table c.args.r ≡ Some c.in-Some.row = sym c.get.ensures ∙ c.in-Some.is in
     let g = c.in-Some-guard_of.ensures.some in
     let at = sym (behind m c.start.new.self c.args.r c.in_ok-start.ensures.ok) ∙ g.0 in
-    let told = issued_told m c.args.r c.in-Some.row true there (sym c.lacks_descriptor.ensures ∙ c.if-lacks_descriptor.false) (ap (λ o. option_map_or (is_guard_of c.args.r) o false) at ∙ g.1) in
+    let told = issued_told m c.args.r c.in-Some.row true c.requires.formed.guards there (sym c.lacks_descriptor.ensures ∙ c.if-lacks_descriptor.false) (ap (λ o. option_map_or (is_guard_of c.args.r) o false) at ∙ g.1) in
     subst (λ (n : Machine). OnOk c.start-in-Some-guard_of.result (c.start-in-Some-guard_of.new.self ≡ n)) (ap (λ (s : Machine). record s { table = updated (started s.clock s.counted) s.table (c.args.r + 1) }) c.in_ok-start.ensures.ok ∙ told) c.start-in-Some-guard_of.ensures.ok
 
 pub returns-in-None-clause-ok : goal.returns-in-None-clause-ok
@@ -70,4 +70,4 @@ returns-in-None-clause-ok c =
     let m : Machine = c.args.self.now in
     let there : slice_get m.table c.args.r ≡ Some c.in-Some.row = sym c.get.ensures ∙ c.in-Some.is in
     let none = ap (λ o. option_map_or (is_guard_of c.args.r) o false) (sym (behind m c.start.new.self c.args.r c.in_ok-start.ensures.ok)) ∙ c.in-None.ensures.none in
-    c.in_ok-start.ensures.ok ∙ issued_told m c.args.r c.in-Some.row false there (sym c.lacks_descriptor.ensures ∙ c.if-lacks_descriptor.false) none
+    c.in_ok-start.ensures.ok ∙ issued_told m c.args.r c.in-Some.row false c.requires.formed.guards there (sym c.lacks_descriptor.ensures ∙ c.if-lacks_descriptor.false) none

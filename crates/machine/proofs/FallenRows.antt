@@ -1,0 +1,134 @@
+-- The rows that fall, and the machine once they have.
+use Rattle.std.proofs.Common.{◌≡◌, ℕ, ℤ, zero, suc, Bool, true, false, cond, refl, sym, ◌∙◌, ap, subst, List, [], ◌∷◌, length, ◌+◌, ◌*◌, ◌<◌, ◌≤◌, ◌⊎◌, inl, inr, arith}
+use Rattle.std.proofs.lemmas.Bool.{eq-eqb}
+use Rattle.std.proofs.lemmas.Option.{slice_get_within}
+use Rattle.std.specs.Prelude.{Some, None, slice_get, not}
+use Rattle.entries.specs.declared.row.Row.{Row}
+use Rattle.model_files.specs.Worlds.{PutsWithin}
+use Rattle.opcodes.proofs.Counting.{puts_more}
+use Rattle.links_drains.specs.Endings.{result_in, Direct}
+use Rattle.links_drains.specs.Links.{is_guard}
+use Rattle.links_drains.specs.Phases.{is_ended, is_unfinished, ended_of}
+use Rattle.links_drains.proofs.Counting.{ended-ended}
+use Rattle.timeouts_cancel.specs.Falls.{fall_of}
+use Rattle.timeouts_cancel.proofs.Whole.{unlisted, fall_unfinished, fall_rising, target_stays}
+use Rattle.machine.specs.InTurn.{ended, ended_in_turn}
+use Rattle.machine.specs.Steps.{fallen}
+use Rattle.machine.specs.Whole.{AllGuardsStand, GuardStands, Mostly, RowFormed, WellFormed}
+use Rattle.machine.specs.declared.whole.Machine.{Machine}
+use Rattle.machine.proofs.AtOnce.{Posts, posts, at_once}
+use Rattle.machine.proofs.Endings.{CanEnd, can_end, ended_in_turn_rows, ended_in_turn_stays, mostly_ended_in_turn, world_ended_in_turn}
+use Rattle.machine.proofs.FormedMachines.{mostly, formed_of}
+use Rattle.machine.proofs.FormedRows.{ended_row}
+
+not_ended : (b : Bool) → not b ≡ true → b ≡ false
+not_ended true h = absurd cc
+not_ended false h = refl
+
+pub can_fall : (rows : List Row) (c : ℕ) (direct : List (ℕ × ℤ)) → CanEnd rows (fall_of rows c direct)
+can_fall rows c direct = can_end rows 0 (fall_of rows c direct) (record {
+  each = λ i p h. let w = fall_unfinished rows c direct i p h in (w.0, w.1, not_ended (is_ended w.0.phase) w.2);
+  above = λ i p h. omega arith;
+  less = fall_rising rows c direct;
+})
+
+-- they might as well end one after the other
+pub fall_in_turn : (m : Machine) (direct : List (ℕ × ℤ)) → Posts m → fallen m direct ≡ ended_in_turn m (fall_of m.table m.counted direct)
+unfolding fallen
+fall_in_turn m direct h = at_once m (fall_of m.table m.counted direct) h (can_fall m.table m.counted direct)
+
+pub threads_fallen : (m : Machine) (direct : List (ℕ × ℤ)) → (fallen m direct).threads ≡ m.threads
+unfolding fallen
+threads_fallen m direct = refl
+
+-- each row that falls ends
+ended_all : (m : Machine) (ps : List (ℕ × ℤ)) → CanEnd m.table ps → ended_of (ended_in_turn m ps).table ≡ ended_of m.table + length ps
+ended_all m [] h = omega arith
+ended_all m (p ∷ ps) h =
+    let a = ended_all (ended m p.0 p.1) ps h.3 in
+    let b = ended-ended m.table p.0 h.0 p.1 h.1 h.2 in
+    omega (arith, a, b)
+
+-- a row that ends of itself is among those that fall
+pub falls_some : (rows : List Row) (c r : ℕ) (res : ℤ) (x : Row) → slice_get rows r ≡ Some x → is_ended x.phase ≡ false → 1 ≤ length (fall_of rows c ((r, res) ∷ []))
+falls_some rows c r res x e u = by (fall_of rows c ((r, res) ∷ [])) refl
+  where
+    listed : result_in ((r, res) ∷ []) r ≡ Some res
+    listed = ap (λ b. cond b (Some res) None) (eq-eqb r r refl)
+
+    by : (ps : List (ℕ × ℤ)) → fall_of rows c ((r, res) ∷ []) ≡ ps → 1 ≤ length ps
+    by [] k = absurd (let d = (unlisted rows c ((r, res) ∷ []) r x e (ap not u) (ap (λ ps. result_in ps r) k)).undirected in let z = sym d ∙ listed in cc)
+    by (p ∷ ps) k = omega arith
+
+-- guards that stand behind their targets, but for some that a step ends of itself, do once rows have fallen
+guards_in_turn : (m : Machine) (direct : List (ℕ × ℤ)) → ((r : ℕ) (x : Row) → slice_get m.table r ≡ Some x → is_guard x ≡ true → is_unfinished x.phase ≡ true → result_in direct r ≡ None → GuardStands m.table r x) → AllGuardsStand (ended_in_turn m (fall_of m.table m.counted direct)).table
+guards_in_turn m direct h r x e g u = by (ended_in_turn_rows m falls r x e)
+  where
+    falls : List (ℕ × ℤ)
+    falls = fall_of m.table m.counted direct
+
+    by : ((slice_get m.table r ≡ Some x) × (result_in falls r ≡ None)) ⊎ (is_ended x.phase ≡ true) → GuardStands (ended_in_turn m falls).table r x
+    by (inr k) = absurd (let o = sym u ∙ ap not k in cc)
+    by (inl k) =
+        let s = h r x k.0 g u (unlisted m.table m.counted direct r x k.0 u k.1).undirected in
+        let out = target_stays m.table m.counted direct r s.target x s.row k.0 u g s.is s.there (ap is_unfinished s.alike ∙ u) s.other k.1 in
+        record { target = s.target; is = s.is; behind = s.behind; row = s.row; there = ended_in_turn_stays m falls s.target out ∙ s.there; other = s.other; unit = s.unit; alike = s.alike }
+
+-- rows that aren't well formed end, if they are among those that a step ends of itself
+formed_in_turn_but : (m : Machine) (direct : List (ℕ × ℤ)) → Mostly m → PutsWithin (65536 * (ended_of m.table + length (fall_of m.table m.counted direct))) m.world → ((j : ℕ) (y : Row) → slice_get m.table j ≡ Some y → RowFormed m.world y ⊎ ((res : ℤ) × (result_in direct j ≡ Some res)))
+    → ((r : ℕ) (x : Row) → slice_get m.table r ≡ Some x → is_guard x ≡ true → is_unfinished x.phase ≡ true → result_in direct r ≡ None → GuardStands m.table r x) → WellFormed (ended_in_turn m (fall_of m.table m.counted direct))
+formed_in_turn_but m direct f puts h guards =
+    formed_of (ended_in_turn m (fall_of m.table m.counted direct)) (mostly_ended_in_turn m (fall_of m.table m.counted direct) f (can_fall m.table m.counted direct))
+    (subst (λ w. PutsWithin (65536 * ended_of (ended_in_turn m (fall_of m.table m.counted direct)).table) w) (sym (world_ended_in_turn m (fall_of m.table m.counted direct)))
+    (subst (λ n. PutsWithin (65536 * n) m.world) (sym (ended_all m (fall_of m.table m.counted direct) (can_fall m.table m.counted direct))) puts))
+    (record { each = λ j y e. subst (λ w. RowFormed w y) (sym (world_ended_in_turn m (fall_of m.table m.counted direct))) (by j y (ended_in_turn_rows m (fall_of m.table m.counted direct) j y e)) })
+    (guards_in_turn m direct guards)
+  where
+    stays : (j : ℕ) (y : Row) → slice_get m.table j ≡ Some y → result_in (fall_of m.table m.counted direct) j ≡ None → (b : Bool) → is_ended y.phase ≡ b → RowFormed m.world y ⊎ ((res : ℤ) × (result_in direct j ≡ Some res)) → RowFormed m.world y
+    stays j y e n true u k = ended_row m.world y u
+    stays j y e n false u (inl k) = k
+    stays j y e n false u (inr k) = absurd (let d = (unlisted m.table m.counted direct j y e (ap not u) n).undirected in let x = sym d ∙ k.1 in cc)
+
+    by : (j : ℕ) (y : Row) → ((slice_get m.table j ≡ Some y) × (result_in (fall_of m.table m.counted direct) j ≡ None)) ⊎ (is_ended y.phase ≡ true) → RowFormed m.world y
+    by j y (inl a) = stays j y a.0 a.1 (is_ended y.phase) refl (h j y a.0)
+    by j y (inr a) = ended_row m.world y a
+
+pub formed_fallen_but : (m : Machine) (direct : List (ℕ × ℤ)) → Mostly m → PutsWithin (65536 * (ended_of m.table + length (fall_of m.table m.counted direct))) m.world → ((j : ℕ) (y : Row) → slice_get m.table j ≡ Some y → RowFormed m.world y ⊎ ((res : ℤ) × (result_in direct j ≡ Some res)))
+    → ((r : ℕ) (x : Row) → slice_get m.table r ≡ Some x → is_guard x ≡ true → is_unfinished x.phase ≡ true → result_in direct r ≡ None → GuardStands m.table r x) → WellFormed (fallen m direct)
+formed_fallen_but m direct f puts h guards = subst WellFormed (sym (fall_in_turn m direct (posts m f))) (formed_in_turn_but m direct f puts h guards)
+
+pub formed_fallen : (m : Machine) (direct : List (ℕ × ℤ)) → WellFormed m → WellFormed (fallen m direct)
+formed_fallen m direct f =
+    formed_fallen_but m direct (mostly m f) (puts_more (65536 * ended_of m.table) (65536 * (ended_of m.table + length (fall_of m.table m.counted direct))) m.world (omega arith) f.puts) (λ j y e. inl (f.requests j y e))
+    (λ r x e g u n. f.guards r x e g u)
+
+-- each of them is a row
+pub fall_within : (rows : List Row) (c : ℕ) (direct : List (ℕ × ℤ)) (i : ℕ) (p : ℕ × ℤ) → slice_get (fall_of rows c direct) i ≡ Some p → p.0 < length rows
+fall_within rows c direct i p h = let w = fall_unfinished rows c direct i p h in slice_get_within rows p.0 w.0 w.1
+
+-- two rows that are unfinished, in their order
+pub direct_two : (rows : List Row) (t r : ℕ) (n res : ℤ) (y x : Row) → slice_get rows t ≡ Some y → is_ended y.phase ≡ false → slice_get rows r ≡ Some x → is_ended x.phase ≡ false → t < r → Direct rows ((t, n) ∷ (r, res) ∷ [])
+direct_two rows t r n res y x g v h u l = record { each = each; rising = rising }
+  where
+    each : (i : ℕ) (p : ℕ × ℤ) → slice_get ((t, n) ∷ (r, res) ∷ []) i ≡ Some p → (z : Row) × (slice_get rows p.0 ≡ Some z) × (is_unfinished z.phase ≡ true)
+    each zero p e = let m : t ≡ p.0 = cc in (y, ap (slice_get rows) (sym m) ∙ g, ap not v)
+    each (suc zero) p e = let m : r ≡ p.0 = cc in (x, ap (slice_get rows) (sym m) ∙ h, ap not u)
+    each (suc (suc i)) p e = absurd cc
+
+    rising : (i j : ℕ) (p q : ℕ × ℤ) → slice_get ((t, n) ∷ (r, res) ∷ []) i ≡ Some p → slice_get ((t, n) ∷ (r, res) ∷ []) j ≡ Some q → i < j → p.0 < q.0
+    rising i zero p q e o k = absurd (omega (arith, k))
+    rising zero (suc zero) p q e o k = let a : t ≡ p.0 = cc in let b : r ≡ q.0 = cc in omega (arith, a, b, l)
+    rising (suc i) (suc zero) p q e o k = absurd (omega (arith, k))
+    rising i (suc (suc j)) p q e o k = absurd cc
+
+-- one row that is unfinished is what a step can end of itself
+pub direct_one : (rows : List Row) (r : ℕ) (res : ℤ) (x : Row) → slice_get rows r ≡ Some x → is_ended x.phase ≡ false → Direct rows ((r, res) ∷ [])
+direct_one rows r res x h u = record { each = each; rising = rising }
+  where
+    each : (i : ℕ) (p : ℕ × ℤ) → slice_get ((r, res) ∷ []) i ≡ Some p → (y : Row) × (slice_get rows p.0 ≡ Some y) × (is_unfinished y.phase ≡ true)
+    each zero p e = let n : r ≡ p.0 = cc in (x, ap (slice_get rows) (sym n) ∙ h, ap not u)
+    each (suc i) p e = absurd cc
+
+    rising : (i j : ℕ) (p q : ℕ × ℤ) → slice_get ((r, res) ∷ []) i ≡ Some p → slice_get ((r, res) ∷ []) j ≡ Some q → i < j → p.0 < q.0
+    rising i zero p q e g l = absurd (omega (arith, l))
+    rising i (suc j) p q e g l = absurd cc
