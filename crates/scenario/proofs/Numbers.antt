@@ -28,13 +28,17 @@ within : {E : Type 0} (r : Result ℕ E) (len v k : ℕ) → OkIff r ((0 < len) 
 within (Ok n) len v k h l = grind (arith, nat_tests)
 within (Err e) len v k h l = grind (arith, nat_tests)
 
--- the number of a numeral, where parsing finds one
-pub number_parsed : {E : Type 0} (word : List ℕ) (r : Result ℕ E) → is_numeral word ≡ true → ParsesUnsigned 32 10 word r → result_ok r ≡ number_of word
-number_parsed word r h p =
+-- the value of a numeral, where parsing finds one
+pub numeral_parsed : {E : Type 0} (bits : ℕ) (word : List ℕ) (r : Result ℕ E) → is_numeral word ≡ true → ParsesUnsigned bits 10 word r → result_ok r ≡ cond (nat_lt (digits_value 10 word) (2 ^ bits)) (Some (digits_value 10 word)) None
+numeral_parsed bits word r h p =
     let digits : list_all is_ascii_digit word ≡ true = first_true _ _ _ h in
     let some : nat_lt 0 (length word) ≡ true = second_true (list_all is_ascii_digit word) (nat_lt 0 (length word)) _ h in
     let some_bytes : 0 < length word = search (rules, nat_tests) in
-    within r (length word) (digits_value 10 word) (2 ^ 32) (parse_digits numerals 32 word r p digits) some_bytes ∙ rw h
+    within r (length word) (digits_value 10 word) (2 ^ bits) (parse_digits numerals bits word r p digits) some_bytes
+
+-- the same of 32 bits
+pub number_parsed : {E : Type 0} (word : List ℕ) (r : Result ℕ E) → is_numeral word ≡ true → ParsesUnsigned 32 10 word r → result_ok r ≡ number_of word
+number_parsed word r h p = numeral_parsed 32 word r h p ∙ rw h
 
 -- a numeral is text
 pub numeral_is_text : (word : List ℕ) → is_numeral word ≡ true → IsUtf8 word

@@ -172,6 +172,13 @@ fn slots_are_limited(rt: HostRuntime) -> Result<(), Fail> {
     Ok(())
 }
 
+// A word names no place with any of these indexes.
+fn check_no_places(rt: &impl Abort, setup: &Setup, name: &[u8], indexes: &[&[u8]]) {
+    for index in indexes {
+        assert!(rt; matches!(place_of(setup, &[name, index]), Err(PlaceFault::Place)));
+    }
+}
+
 fn check_memory_and_descriptors(rt: &impl Abort, setup: &Setup) {
     assert!(rt;
         is_place(
@@ -182,14 +189,10 @@ fn check_memory_and_descriptors(rt: &impl Abort, setup: &Setup) {
     assert!(rt; matches!(place_of(setup, &[b"mem", b"65536"]), Err(PlaceFault::Place)));
     assert!(rt; matches!(place_of(setup, &[b"mem", b"x"]), Err(PlaceFault::Number)));
     assert!(rt; is_place(place_of(setup, &[b"pos", b"3"]), Place::Position(3)));
-    for word in [b"2", b"4", b"6", b"7"] {
-        assert!(rt; matches!(place_of(setup, &[b"pos", word]), Err(PlaceFault::Place)));
-    }
+    check_no_places(rt, setup, b"pos", &[b"2", b"4", b"6", b"7"]);
     assert!(rt; matches!(place_of(setup, &[b"pos", b"x"]), Err(PlaceFault::Number)));
     assert!(rt; is_place(place_of(setup, &[b"open", b"6"]), Place::OpenMark(6)));
-    for word in [b"2", b"7"] {
-        assert!(rt; matches!(place_of(setup, &[b"open", word]), Err(PlaceFault::Place)));
-    }
+    check_no_places(rt, setup, b"open", &[b"2", b"7"]);
 }
 
 #[test]
@@ -256,6 +259,9 @@ fn check_counters_of_objects(rt: &impl Abort, setup: &Setup) {
         let found = place_of(setup, &[name.as_bytes(), object.as_bytes()]);
         assert!(rt; is_place(found, place), "{name} {object}");
     }
+}
+
+fn check_no_counters_of_objects(rt: &impl Abort, setup: &Setup) {
     for (name, object) in [
         ("len", "p"),
         ("dlen", "e"),
@@ -274,5 +280,6 @@ fn check_counters_of_objects(rt: &impl Abort, setup: &Setup) {
 fn words_name_counters_of_objects(rt: HostRuntime) -> Result<(), Fail> {
     let setup = setup_of_all_kinds(rt.alloc())?;
     check_counters_of_objects(&rt, &setup);
+    check_no_counters_of_objects(&rt, &setup);
     Ok(())
 }

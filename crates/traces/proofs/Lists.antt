@@ -1,8 +1,8 @@
 -- A list of items that is read is the list that was written.
-use Rattle.std.proofs.Common.{◌≡◌, ℕ, zero, suc, ◌^◌, ◌<◌, ◌≤◌, Bool, true, false, List, [], ◌∷◌, ◌++◌, length, Result, Ok, refl, sym, ap, subst, ◌∙◌, append_assoc, arith}
-use Rattle.std.specs.Prelude.{nat_le, ◌&&◌}
+use Rattle.std.proofs.Common.{◌≡◌, ℕ, zero, suc, ◌^◌, ◌<◌, ◌≤◌, Bool, true, List, [], ◌∷◌, ◌++◌, length, Result, Ok, refl, sym, ap, subst, ◌∙◌, append_assoc, arith}
+use Rattle.std.specs.Prelude.{nat_le}
 use Rattle.std.specs.List.{flat_map, list_all, AllByRecursion}
-use Rattle.std.proofs.lemmas.Bool.{leb-true}
+use Rattle.std.proofs.lemmas.Bool.{and_parts, and_from, leb-true}
 use Rattle.std.proofs.lemmas.List.{append-nil}
 use Rattle.std.proofs.lemmas.List.Concat.{flat_map-cons}
 use Rattle.byteorder.specs.Endian.{little_bytes}
@@ -87,32 +87,23 @@ list_again A item bytes Fits r most offset xs rest small le fit =
     let regrouped : list_bytes bytes xs ++ rest ≡ little_bytes 4 (length xs) ++ (flat_map bytes xs ++ rest) = append_assoc (little_bytes 4 (length xs)) (flat_map bytes xs) rest in
     (b.0, ap (λ (input : List ℕ). list_at most item (spot offset input)) regrouped ∙ rw (a.1, b.1) refl)
 
-pub both_true : (a b : Bool) → (a && b) ≡ true → (a ≡ true) × (b ≡ true)
-both_true true true e = (refl, refl)
-both_true true false e = absurd cc
-both_true false true e = absurd cc
-both_true false false e = absurd cc
-
-pub and_true : (a b : Bool) → a ≡ true → b ≡ true → (a && b) ≡ true
-and_true a b e f = rw (e, f) refl
-
 -- a test of each item behind those before it
 pub behind_fit : {A : Type 0} (keeps : List A → A → Bool) (before xs : List A) → all_behind keeps before xs ≡ true → FitBehind (λ b x. keeps b x ≡ true) before xs
 behind_fit keeps before [] h = tt
 behind_fit keeps before (x ∷ xs) h =
-    let p = both_true _ _ h in
+    let p = and_parts _ _ h in
     (p.0, behind_fit keeps (before ++ x ∷ []) xs p.1)
 
 pub fit_behind : {A : Type 0} (keeps : List A → A → Bool) (before xs : List A) → FitBehind (λ b x. keeps b x ≡ true) before xs → all_behind keeps before xs ≡ true
 fit_behind keeps before [] h = refl
-fit_behind keeps before (x ∷ xs) h = and_true _ _ h.0 (fit_behind keeps (before ++ x ∷ []) xs h.1)
+fit_behind keeps before (x ∷ xs) h = and_from _ _ h.0 (fit_behind keeps (before ++ x ∷ []) xs h.1)
 
 -- a test of each item, and a fact of it
 pub all_fit : {A : Type 0} (keeps : A → Bool) (Wide : A → Type 0) (before xs : List A) → list_all keeps xs ≡ true → AllByRecursion Wide xs
     → FitBehind (λ b x. (keeps x ≡ true) × Wide x) before xs
 all_fit keeps Wide before [] h w = tt
 all_fit keeps Wide before (x ∷ xs) h w =
-    let p = both_true _ _ h in
+    let p = and_parts _ _ h in
     ((p.0, w.0), all_fit keeps Wide (before ++ x ∷ []) xs p.1 w.1)
 
 pub fit_all : {A : Type 0} (keeps : A → Bool) (Wide : A → Type 0) (before xs : List A) → FitBehind (λ b x. (keeps x ≡ true) × Wide x) before xs
@@ -120,7 +111,7 @@ pub fit_all : {A : Type 0} (keeps : A → Bool) (Wide : A → Type 0) (before xs
 fit_all keeps Wide before [] h = (refl, tt)
 fit_all keeps Wide before (x ∷ xs) h =
     let more = fit_all keeps Wide (before ++ x ∷ []) xs h.1 in
-    (and_true _ _ h.0.0 more.0, (h.0.1, more.1))
+    (and_from _ _ h.0.0 more.0, (h.0.1, more.1))
 
 pub no_more : {A : Type 0} (xs : List A) → AllByRecursion (λ x. Unit {0}) xs
 no_more [] = tt

@@ -1,7 +1,7 @@
 -- Objects and descriptors that are read are those that were written.
 use Rattle.std.proofs.Common.{◌≡◌, ℕ, zero, suc, ◌-◌, ◌^◌, ◌<◌, ◌≤◌, true, List, ◌++◌, length, get_or, Option, Some, None, Ok, refl, sym, ap, subst, ◌∙◌, append_assoc, arith, inl, inr}
 use Rattle.std.specs.Prelude.{nat_le, nat_lt, ◌==◌, ◌&&◌, slice_get}
-use Rattle.std.proofs.lemmas.Bool.{leb-true, ltb-true, eqb-true}
+use Rattle.std.proofs.lemmas.Bool.{and_parts, and_from, leb-true, ltb-true, eqb-true}
 use Rattle.std.proofs.lemmas.Bool.Decides.{nat_tests}
 use Rattle.std.proofs.lemmas.Option.{slice_get_cases, slice_get_read}
 use Rattle.byteorder.specs.Endian.{little_bytes}
@@ -16,13 +16,13 @@ use Rattle.traces.specs.Limits.{is_within, is_new_name, keeps_contents, keeps_ob
 use Rattle.traces.specs.Setups.{long_bytes, name_bytes, contents_bytes, object_bytes, descriptor_bytes}
 use Rattle.traces.specs.Reading.{◌>>=◌, kept, number_in, bytes_at, long_at, name_at, contents_of, contents_at, object_at, end_of, end_at, descriptor_at}
 use Rattle.traces.proofs.Taking.{IsBytes, bind_ok, kept_ok, ok_is, spot, Takes, Takes-then, Again, width1, width4, width8, number_in_takes, number_in_again, bytes_takes, bytes_again, long_takes, long_again}
-use Rattle.traces.proofs.Lists.{Reads, both_true, and_true}
+use Rattle.traces.proofs.Lists.{Reads}
 
 pub within_least : (least most n : ℕ) → is_within least most n ≡ true → least ≤ n
-within_least least most n h = leb-true _ _ (both_true (nat_le least n) (nat_le n most) h).0
+within_least least most n h = leb-true _ _ (and_parts (nat_le least n) (nat_le n most) h).0
 
 pub within_most : (least most n : ℕ) → is_within least most n ≡ true → n ≤ most
-within_most least most n h = leb-true _ _ (both_true (nat_le least n) (nat_le n most) h).1
+within_most least most n h = leb-true _ _ (and_parts (nat_le least n) (nat_le n most) h).1
 
 -- ---- names
 
@@ -148,13 +148,13 @@ object_takes before s o t fits e =
     let both = Takes-then s (name_bytes a.0.0) a.0.1 (contents_bytes b.0.0) b.0.1 name.0 contents.0 in
     let made : Object × Spot = (record { name = a.0.0; contents = b.0.0 }, b.0.1) in
     subst (λ (p : Object × Spot). Takes s (object_bytes p.0) p.1 × (keeps_object before p.0 ≡ true)) (ok_is made (o, t) b.2)
-    (both, and_true _ _ (and_true _ _ name.1 name.2) contents.1)
+    (both, and_from _ _ (and_from _ _ name.1 name.2) contents.1)
 
 object_again : (before : List Object) (offset : ℕ) (o : Object) (rest : List ℕ) → keeps_object before o ≡ true → Again (object_at before) offset (object_bytes o ++ rest) o rest
 unfolding object_at
 object_again before offset o rest keeps =
-    let p = both_true (is_within 1 16 (length o.name) && is_new_name before o.name) (keeps_contents o.contents) keeps in
-    let q = both_true (is_within 1 16 (length o.name)) (is_new_name before o.name) p.0 in
+    let p = and_parts (is_within 1 16 (length o.name) && is_new_name before o.name) (keeps_contents o.contents) keeps in
+    let q = and_parts (is_within 1 16 (length o.name)) (is_new_name before o.name) p.0 in
     let a = name_again before offset o.name (contents_bytes o.contents ++ rest) q.0 q.1 in
     let b = contents_again a.0 o.contents rest p.1 in
     let regrouped : object_bytes o ++ rest ≡ name_bytes o.name ++ (contents_bytes o.contents ++ rest) = append_assoc (name_bytes o.name) (contents_bytes o.contents) rest in

@@ -5,7 +5,7 @@ use Rattle.std.specs.List.{list_all, AllByRecursion}
 use Rattle.std.specs.Int.{w32, cast_signed, cast_unsigned}
 use Rattle.std.proofs.lemmas.Int.{of_z-to_z, to_z-of_z, ints}
 use Rattle.std.proofs.Math.Facts.{sfits_to_z}
-use Rattle.std.proofs.lemmas.Bool.{leb-true, ltb-true}
+use Rattle.std.proofs.lemmas.Bool.{and_parts, and_from, leb-true, ltb-true}
 use Rattle.std.proofs.lemmas.List.{take_at}
 use Rattle.byteorder.specs.Endian.{little_bytes}
 use Rattle.entries.specs.declared.entry.Sqe.{Sqe}
@@ -18,7 +18,7 @@ use Rattle.traces.specs.Setups.{long_bytes, instruction_bytes, program_bytes}
 use Rattle.traces.specs.Reading.{◌>>=◌, kept, number_at, number_in, bytes_at, count_at, entry_of, put_at, push_at, store_at, enter_at, close_at, instruction_of, instruction_at, program_at}
 use Rattle.traces.proofs.Taking.{IsBytes, IsBytes-take, bind_ok, kept_ok, ok_is, spot, Takes, Takes-then, Again, width1, width4, number_takes, number_again, number_in_takes, number_in_again, bytes_takes, bytes_again}
 use Rattle.traces.proofs.Entries.{entry_fits, rest_long, entry_spelled, entry_long, entry_again}
-use Rattle.traces.proofs.Lists.{Reads, list_takes, list_again, both_true, and_true, all_fit, fit_all}
+use Rattle.traces.proofs.Lists.{Reads, list_takes, list_again, all_fit, fit_all}
 use Rattle.traces.proofs.ObjectLaws.{within_least, within_most}
 
 abbrev kind_of : Instruction → ℕ
@@ -97,7 +97,7 @@ store_takes slots s i t fits e =
     let sized = subst (λ (n : ℕ). Takes a.0.1 (little_bytes 4 n ++ d.0.0) d.0.1 × (nat_le n 4096 ≡ true) × (nat_le (a.0.0 + n) 65536 ≡ true)) (sym bytes.1) (long, count.2, g.0) in
     let both = Takes-then s (little_bytes 4 a.0.0) a.0.1 (long_bytes d.0.0) d.0.1 address.0 sized.0 in
     subst (λ (p : Instruction × Spot). TailTakes slots 3 s p.0 p.1) (ok_is (Store a.0.0 d.0.0, d.0.1) (i, t) d.2)
-    (both, refl, (and_true _ _ sized.1 sized.2, tt))
+    (both, refl, (and_from _ _ sized.1 sized.2, tt))
 
 enter_takes : (slots : ℕ) (s : Spot) (i : Instruction) (t : Spot) → IsBytes s.rest → enter_at s ≡ Ok (i, t) → TailTakes slots 4 s i t
 unfolding enter_at
@@ -189,7 +189,7 @@ store_again offset address bytes rest short inside few low =
 
 stored_again : (slots offset address : ℕ) (bytes rest : List ℕ) → keeps_instruction slots (Store address bytes) ≡ true → Again store_at offset (tail_of (Store address bytes) ++ rest) (Store address bytes) rest
 stored_again slots offset address bytes rest keeps =
-    let p = both_true (nat_le (length bytes) 4096) (nat_le (address + length bytes) 65536) keeps in
+    let p = and_parts (nat_le (length bytes) 4096) (nat_le (address + length bytes) 65536) keeps in
     let few : length bytes ≤ 4096 = leb-true _ _ p.0 in
     let inside : address + length bytes ≤ 65536 = leb-true _ _ p.1 in
     store_again offset address bytes rest p.0 p.1 (omega arith) (omega arith)
@@ -252,13 +252,13 @@ unfolding program_at
 program_takes slots few before s p t fits e =
     let h = list_takes Instruction (λ before. instruction_at slots) instruction_bytes (λ before i. (keeps_instruction slots i ≡ true) × HasWidths i) (instruction_reads slots few) 4096 s p t fits e in
     let all = fit_all (keeps_instruction slots) HasWidths [] p h.2 in
-    (h.0, (and_true _ _ h.1 all.0, all.1))
+    (h.0, (and_from _ _ h.1 all.0, all.1))
 
 program_again : (slots : ℕ) → slots ≤ 4096 → (before : List (List Instruction)) (offset : ℕ) (p : List Instruction) (rest : List ℕ) → (keeps_program slots p ≡ true) × AllByRecursion HasWidths p
     → Again (program_at slots) offset (program_bytes p ++ rest) p rest
 unfolding program_at
 program_again slots few before offset p rest kept =
-    let q = both_true (nat_le (length p) 4096) (list_all (keeps_instruction slots) p) kept.0 in
+    let q = and_parts (nat_le (length p) 4096) (list_all (keeps_instruction slots) p) kept.0 in
     list_again Instruction (λ before. instruction_at slots) instruction_bytes (λ before i. (keeps_instruction slots i ≡ true) × HasWidths i) (instruction_reads slots few) 4096 offset p rest (omega arith) q.0
     (all_fit (keeps_instruction slots) HasWidths [] p q.1 kept.1)
 

@@ -5,6 +5,7 @@ use Rattle.std.specs.Prelude.{IfOk, IfErr, MatchResult}
 use Rattle.std.specs.Global.{Vec}
 use Rattle.std.specs.List.{list_all, AllByRecursion}
 use Rattle.std.proofs.lemmas.Bool.Decides.{nat_tests}
+use Rattle.std.proofs.lemmas.Bool.{and_from}
 use Rattle.opcodes.specs.declared.choice.Choice.TheVariants.{Full, Short, Eio}
 use Rattle.scenario.specs.declared.event.Event.TheVariants.{Step, Take, Sleep, Issue, Finish, Expire, Tick}
 use Rattle.scenario.specs.declared.event.Event.{Event}
@@ -20,7 +21,6 @@ use Rattle.traces.specs.Reading.{number_in, setup_at, behind_magic, IsBodyFault,
 use Rattle.traces.proofs.Taking.{IsBytes, IsBytes-drop, ok_is, spot}
 use Rattle.traces.proofs.Traces.{same_trace, no_counted_fault, begins}
 use Rattle.traces.proofs.SetupLaws.{Spelled, setup_takes, setup_again}
-use Rattle.traces.proofs.Lists.{and_true}
 use Rattle.traces.proofs.Trimming.{plain_spelled}
 
 -- the fault of the events behind a setup
@@ -139,7 +139,7 @@ has_transfer_of (Tick d) h = refl
 -- events that fit have no transfer of no bytes
 pub transfers : (es : List Event) → AllByRecursion Fits es → list_all has_transfer es ≡ true
 transfers [] h = refl
-transfers (e ∷ es) h = and_true _ _ (has_transfer_of e h.0) (transfers es h.1)
+transfers (e ∷ es) h = and_from _ _ (has_transfer_of e h.0) (transfers es h.1)
 
 -- ---- the other form
 

@@ -2,7 +2,7 @@
 use Rattle.std.proofs.Common.{◌≡◌, ℕ, zero, suc, ◌^◌, ◌<◌, ◌≤◌, Bool, true, false, List, [], ◌++◌, length, Option, Some, Result, Ok, refl, sym, ap, subst, ◌∙◌, append_assoc, arith}
 use Rattle.std.specs.Prelude.{nat_le, nat_lt, ◌==◌, ◌&&◌, ◌||◌}
 use Rattle.std.specs.List.{list_all, AllByRecursion}
-use Rattle.std.proofs.lemmas.Bool.{leb-true, le-leb, ltb-true, eqb-true}
+use Rattle.std.proofs.lemmas.Bool.{and_parts, and_from, leb-true, le-leb, ltb-true, eqb-true}
 use Rattle.byteorder.specs.Endian.{little_bytes}
 use Rattle.ring_words.specs.Rings.{rounded}
 use Rattle.places.specs.declared.object.Object.{Object}
@@ -15,17 +15,17 @@ use Rattle.traces.specs.Limits.{is_within, is_size, is_completion_size, all_behi
 use Rattle.traces.specs.Setups.{list_bytes, long_bytes, object_bytes, descriptor_bytes, program_bytes, options_number, setup_bytes, is_trimmed, IsPlain}
 use Rattle.traces.specs.Reading.{◌>>=◌, kept, number_at, number_in, long_at, list_at, object_at, descriptor_at, program_at, memory_at, setup_at}
 use Rattle.traces.proofs.Taking.{IsBytes, bind_ok, kept_ok, ok_is, spot, Takes, Takes-then, Again, width1, width2, width4, number_takes, number_again, number_in_takes, number_in_again, long_takes, long_again}
-use Rattle.traces.proofs.Lists.{list_takes, list_again, both_true, and_true, behind_fit, fit_behind, all_fit, fit_all, no_more}
+use Rattle.traces.proofs.Lists.{list_takes, list_again, behind_fit, fit_behind, all_fit, fit_all, no_more}
 use Rattle.traces.proofs.ObjectLaws.{object_reads, descriptor_reads}
 use Rattle.traces.proofs.ProgramLaws.{program_reads}
 
 -- ---- sizes
 
 pub size_rounded : (most n : ℕ) → is_size most n ≡ true → rounded n ≡ n
-size_rounded most n h = eqb-true (rounded n) n (both_true (nat_le n most) (rounded n == n) h).1
+size_rounded most n h = eqb-true (rounded n) n (and_parts (nat_le n most) (rounded n == n) h).1
 
 pub size_most : (most n : ℕ) → is_size most n ≡ true → n ≤ most
-size_most most n h = leb-true n most (both_true (nat_le n most) (rounded n == n) h).0
+size_most most n h = leb-true n most (and_parts (nat_le n most) (rounded n == n) h).0
 
 rounded_zero : rounded 0 ≡ 1
 unfolding rounded
@@ -36,7 +36,7 @@ size_some most zero h = let e : rounded 0 ≡ 0 = size_rounded most 0 h in absur
 size_some most (suc n) h = omega arith
 
 within_is : (least most n : ℕ) → least ≤ n → n ≤ most → is_within least most n ≡ true
-within_is least most n a b = and_true (nat_le least n) (nat_le n most) (le-leb _ _ a) (le-leb _ _ b)
+within_is least most n a b = and_from (nat_le least n) (nat_le n most) (le-leb _ _ a) (le-leb _ _ b)
 
 pub size_within : (most n : ℕ) → is_size most n ≡ true → is_within 1 most n ≡ true
 size_within most n h = within_is 1 most n (size_some most n h) (size_most most n h)
@@ -288,7 +288,7 @@ parts_again offset entries completions options base memory objects fds threads r
     let r2 = little_bytes 1 options ++ r3 in
     let r1 = little_bytes 2 completions ++ r2 in
     let slots : entries ≤ 4096 = size_most 4096 entries p.entries_ok in
-    let most : completions ≤ 8192 = size_most 8192 completions (both_true (is_size 8192 completions) (nat_le entries completions) p.completions_ok).0 in
+    let most : completions ≤ 8192 = size_most 8192 completions (and_parts (is_size 8192 completions) (nat_le entries completions) p.completions_ok).0 in
     let low : options < 4 = ltb-true options 4 p.options_ok in
     let small : base < 2 ^ 32 = p.base_ok in
     let few : length objects ≤ 32 = leb-true _ _ p.objects_few in
@@ -316,17 +316,17 @@ of_parts : (entries completions options base : ℕ) (memory : List ℕ) (objects
     → Parts entries completions options base memory objects fds threads → Spelled (setup_of entries completions options base memory objects fds threads)
 unfolding keeps_ranges
 of_parts entries completions options base memory objects fds threads p =
-    let q = both_true (is_size 8192 completions) (nat_le entries completions) p.completions_ok in
+    let q = and_parts (is_size 8192 completions) (nat_le entries completions) p.completions_ok in
     let same : rounded entries ≡ entries = size_rounded 4096 entries p.entries_ok in
     let also : rounded completions ≡ completions = size_rounded 8192 completions q.0 in
     let order : nat_le (rounded entries) (rounded completions) ≡ true = rw (same, also) q.1 in
-    let rings = and_true (is_within 1 4096 entries) (is_within 1 8192 completions && nat_le (rounded entries) (rounded completions)) (size_within 4096 entries p.entries_ok)
-    (and_true (is_within 1 8192 completions) (nat_le (rounded entries) (rounded completions)) (size_within 8192 completions q.0) order) in
-    let things = and_true _ _ (and_true _ _ (and_true _ _ (and_true _ _ p.memory_few p.objects_few) p.objects_ok) p.fds_few) p.fds_ok in
+    let rings = and_from (is_within 1 4096 entries) (is_within 1 8192 completions && nat_le (rounded entries) (rounded completions)) (size_within 4096 entries p.entries_ok)
+    (and_from (is_within 1 8192 completions) (nat_le (rounded entries) (rounded completions)) (size_within 8192 completions q.0) order) in
+    let things = and_from _ _ (and_from _ _ (and_from _ _ (and_from _ _ p.memory_few p.objects_few) p.objects_ok) p.fds_few) p.fds_ok in
     let programs : list_all (keeps_program (rounded entries)) threads ≡ true = subst (λ (n : ℕ). list_all (keeps_program n) threads ≡ true) (sym same) p.threads_ok in
     record {
       plain = record { entries = p.entries_ok; completions = (completions, refl, q.0); memory = p.memory_trim };
-      ranges = and_true _ _ (and_true _ _ rings things) (and_true _ _ p.threads_few programs);
+      ranges = and_from _ _ (and_from _ _ rings things) (and_from _ _ p.threads_few programs);
       widths = record { base = p.base_ok; threads = p.widths };
     }
 
@@ -345,22 +345,22 @@ to_parts x completions cq s =
     let entries_ok : is_size 4096 x.entries ≡ true = s.plain.entries in
     let same_number : s.plain.completions.0 ≡ completions = let e : Some s.plain.completions.0 ≡ Some completions = sym s.plain.completions.1 ∙ cq in cc in
     let size : is_size 8192 completions ≡ true = subst (λ (n : ℕ). is_size 8192 n ≡ true) same_number s.plain.completions.2 in
-    let q = both_true (keeps_rings x && keeps_objects x) (keeps_threads x) s.ranges in
-    let r = both_true (keeps_rings x) (keeps_objects x) q.0 in
-    let rings = both_true (is_within 1 4096 x.entries) (keeps_completions x.entries x.cq) r.0 in
+    let q = and_parts (keeps_rings x && keeps_objects x) (keeps_threads x) s.ranges in
+    let r = and_parts (keeps_rings x) (keeps_objects x) q.0 in
+    let rings = and_parts (is_within 1 4096 x.entries) (keeps_completions x.entries x.cq) r.0 in
     let beside : keeps_completions x.entries (Some completions) ≡ true = subst (λ (o : Option ℕ). keeps_completions x.entries o ≡ true) cq rings.1 in
-    let order = both_true (is_within 1 8192 completions) (nat_le (rounded x.entries) (rounded completions)) beside in
+    let order = and_parts (is_within 1 8192 completions) (nat_le (rounded x.entries) (rounded completions)) beside in
     let same : rounded x.entries ≡ x.entries = size_rounded 4096 x.entries entries_ok in
     let also : rounded completions ≡ completions = size_rounded 8192 completions size in
     let above : nat_le x.entries completions ≡ true = subst (λ (n : ℕ). nat_le n completions ≡ true) same (subst (λ (n : ℕ). nat_le (rounded x.entries) n ≡ true) also order.1) in
-    let o5 = both_true (nat_le (length x.memory) 65536 && nat_le (length x.objects) 32 && all_behind keeps_object [] x.objects && nat_le (length x.fds) 64) (list_all (keeps_descriptor x.objects) x.fds) r.1 in
-    let o4 = both_true (nat_le (length x.memory) 65536 && nat_le (length x.objects) 32 && all_behind keeps_object [] x.objects) (nat_le (length x.fds) 64) o5.0 in
-    let o3 = both_true (nat_le (length x.memory) 65536 && nat_le (length x.objects) 32) (all_behind keeps_object [] x.objects) o4.0 in
-    let o2 = both_true (nat_le (length x.memory) 65536) (nat_le (length x.objects) 32) o3.0 in
-    let th = both_true (nat_le (length x.threads) 16) (list_all (keeps_program (rounded x.entries)) x.threads) q.1 in
+    let o5 = and_parts (nat_le (length x.memory) 65536 && nat_le (length x.objects) 32 && all_behind keeps_object [] x.objects && nat_le (length x.fds) 64) (list_all (keeps_descriptor x.objects) x.fds) r.1 in
+    let o4 = and_parts (nat_le (length x.memory) 65536 && nat_le (length x.objects) 32 && all_behind keeps_object [] x.objects) (nat_le (length x.fds) 64) o5.0 in
+    let o3 = and_parts (nat_le (length x.memory) 65536 && nat_le (length x.objects) 32) (all_behind keeps_object [] x.objects) o4.0 in
+    let o2 = and_parts (nat_le (length x.memory) 65536) (nat_le (length x.objects) 32) o3.0 in
+    let th = and_parts (nat_le (length x.threads) 16) (list_all (keeps_program (rounded x.entries)) x.threads) q.1 in
     record {
       entries_ok = entries_ok;
-      completions_ok = and_true (is_size 8192 completions) (nat_le x.entries completions) size above;
+      completions_ok = and_from (is_size 8192 completions) (nat_le x.entries completions) size above;
       options_ok = options_small x.sqpoll x.submit_all;
       base_ok = s.widths.base;
       memory_few = o2.0;

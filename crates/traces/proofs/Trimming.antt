@@ -2,14 +2,13 @@
 use Rattle.std.proofs.Common.{◌≡◌, ℕ, zero, suc, ◌+◌, ◌-◌, ◌*◌, ◌<◌, ◌≤◌, Bool, true, false, cond, eqb, ltb, List, [], ◌∷◌, ◌++◌, length, take, get_or, Option, Some, None, refl, sym, ap, subst, ◌∙◌, arith}
 use Rattle.std.specs.Prelude.{nat_le, ◌==◌, ◌&&◌, ◌||◌, not, slice_index}
 use Rattle.std.specs.List.{list_all}
-use Rattle.std.proofs.lemmas.Bool.{leb-true, le-leb, le-ltb}
+use Rattle.std.proofs.lemmas.Bool.{and_parts, and_from, leb-true, le-leb, le-ltb}
 use Rattle.std.proofs.lemmas.Bool.Decides.{nat_tests}
 use Rattle.std.proofs.lemmas.List.{append_assoc, take_more}
 use Rattle.ring_words.specs.Rings.{rounded, first_not_below}
 use Rattle.scenario.specs.declared.setup.Setup.{Setup}
 use Rattle.traces.specs.Limits.{is_within, is_size, all_behind, keeps_object, keeps_descriptor, keeps_program, keeps_completions, keeps_rings, keeps_objects, keeps_threads, keeps_ranges, Widths}
 use Rattle.traces.specs.Setups.{cut_behind, trimmed, is_trimmed, completion_size, plain}
-use Rattle.traces.proofs.Lists.{both_true, and_true}
 use Rattle.traces.proofs.ObjectLaws.{within_most}
 use Rattle.traces.proofs.SetupLaws.{size_rounded, size_most, size_within, Spelled}
 
@@ -109,9 +108,9 @@ chosen : (p : ℕ → Bool) (n x : ℕ) (xs ys : List ℕ) → list_all p (x ∷
 unfolding last_of
 chosen p n x [] ys all le =
     let not_below : ltb x n ≡ false = le-ltb _ _ le in
-    rw not_below (both_true (p x) (list_all p []) all).0
+    rw not_below (and_parts (p x) (list_all p []) all).0
 chosen p n x (y ∷ ys) more all le =
-    let parts = both_true (p x) (list_all p (y ∷ ys)) all in
+    let parts = and_parts (p x) (list_all p (y ∷ ys)) all in
     picked p (ltb x n) x (first_not_below n (y ∷ (ys ++ more))) parts.0 (λ h. chosen p n y ys more parts.1 le)
 
 -- what each size of a submission ring is
@@ -147,54 +146,54 @@ size_rounded_up n le = chosen (is_size 8192) n 1 (small_sizes ++ 8192 ∷ []) []
 
 completion_is : (entries : ℕ) (cq : Option ℕ) → is_within 1 4096 entries ≡ true → keeps_completions entries cq ≡ true
     → is_size 8192 (completion_size entries cq) ≡ true
-completion_is entries None e h = (both_true (is_size 4096 (rounded entries)) (is_size 8192 (2 * rounded entries)) (entries_rounded entries (within_most 1 4096 entries e))).1
-completion_is entries (Some cq) e h = size_rounded_up cq (within_most 1 8192 cq (both_true (is_within 1 8192 cq) (nat_le (rounded entries) (rounded cq)) h).0)
+completion_is entries None e h = (and_parts (is_size 4096 (rounded entries)) (is_size 8192 (2 * rounded entries)) (entries_rounded entries (within_most 1 4096 entries e))).1
+completion_is entries (Some cq) e h = size_rounded_up cq (within_most 1 8192 cq (and_parts (is_within 1 8192 cq) (nat_le (rounded entries) (rounded cq)) h).0)
 
 -- what a size takes of its width
 pub entries_most : (n : ℕ) → is_within 1 4096 n ≡ true → rounded n ≤ 4096
-entries_most n h = size_most 4096 (rounded n) (both_true (is_size 4096 (rounded n)) (is_size 8192 (2 * rounded n)) (entries_rounded n (within_most 1 4096 n h))).0
+entries_most n h = size_most 4096 (rounded n) (and_parts (is_size 4096 (rounded n)) (is_size 8192 (2 * rounded n)) (entries_rounded n (within_most 1 4096 n h))).0
 
 pub completion_most : (entries : ℕ) (cq : Option ℕ) → is_within 1 4096 entries ≡ true → keeps_completions entries cq ≡ true → completion_size entries cq ≤ 8192
 completion_most entries cq e h = size_most 8192 (completion_size entries cq) (completion_is entries cq e h)
 
 pub rings_kept : (s : Setup) → keeps_rings s ≡ true → (is_within 1 4096 s.entries ≡ true) × (keeps_completions s.entries s.cq ≡ true)
-rings_kept s h = both_true (is_within 1 4096 s.entries) (keeps_completions s.entries s.cq) h
+rings_kept s h = and_parts (is_within 1 4096 s.entries) (keeps_completions s.entries s.cq) h
 
 completion_above : (entries : ℕ) (cq : Option ℕ) → keeps_completions entries cq ≡ true → rounded entries ≤ completion_size entries cq
 completion_above entries None h = omega arith
-completion_above entries (Some cq) h = leb-true _ _ (both_true (is_within 1 8192 cq) (nat_le (rounded entries) (rounded cq)) h).1
+completion_above entries (Some cq) h = leb-true _ _ (and_parts (is_within 1 8192 cq) (nat_le (rounded entries) (rounded cq)) h).1
 
 -- ---- setups
 
 pub plain_spelled : (s : Setup) → keeps_ranges s ≡ true → Widths s → Spelled (plain s)
 unfolding keeps_ranges
 plain_spelled s ranges widths =
-    let q = both_true (keeps_rings s && keeps_objects s) (keeps_threads s) ranges in
-    let r = both_true (keeps_rings s) (keeps_objects s) q.0 in
-    let rings = both_true (is_within 1 4096 s.entries) (keeps_completions s.entries s.cq) r.0 in
+    let q = and_parts (keeps_rings s && keeps_objects s) (keeps_threads s) ranges in
+    let r = and_parts (keeps_rings s) (keeps_objects s) q.0 in
+    let rings = and_parts (is_within 1 4096 s.entries) (keeps_completions s.entries s.cq) r.0 in
     let entries = rounded s.entries in
     let completions = completion_size s.entries s.cq in
-    let size : is_size 4096 entries ≡ true = (both_true (is_size 4096 entries) (is_size 8192 (2 * entries)) (entries_rounded s.entries (within_most 1 4096 s.entries rings.0))).0 in
+    let size : is_size 4096 entries ≡ true = (and_parts (is_size 4096 entries) (is_size 8192 (2 * entries)) (entries_rounded s.entries (within_most 1 4096 s.entries rings.0))).0 in
     let other : is_size 8192 completions ≡ true = completion_is s.entries s.cq rings.0 rings.1 in
     let same : rounded entries ≡ entries = size_rounded 4096 entries size in
     let also : rounded completions ≡ completions = size_rounded 8192 completions other in
     let above : entries ≤ completions = completion_above s.entries s.cq rings.1 in
     let order : nat_le (rounded entries) (rounded completions) ≡ true =
     ap (λ (n : ℕ). nat_le n (rounded completions)) same ∙ ap (λ (n : ℕ). nat_le entries n) also ∙ le-leb _ _ above in
-    let new_rings = and_true (is_within 1 4096 entries) (is_within 1 8192 completions && nat_le (rounded entries) (rounded completions)) (size_within 4096 entries size)
-    (and_true (is_within 1 8192 completions) (nat_le (rounded entries) (rounded completions)) (size_within 8192 completions other) order) in
-    let o5 = both_true (nat_le (length s.memory) 65536 && nat_le (length s.objects) 32 && all_behind keeps_object [] s.objects && nat_le (length s.fds) 64) (list_all (keeps_descriptor s.objects) s.fds) r.1 in
-    let o4 = both_true (nat_le (length s.memory) 65536 && nat_le (length s.objects) 32 && all_behind keeps_object [] s.objects) (nat_le (length s.fds) 64) o5.0 in
-    let o3 = both_true (nat_le (length s.memory) 65536 && nat_le (length s.objects) 32) (all_behind keeps_object [] s.objects) o4.0 in
-    let o2 = both_true (nat_le (length s.memory) 65536) (nat_le (length s.objects) 32) o3.0 in
+    let new_rings = and_from (is_within 1 4096 entries) (is_within 1 8192 completions && nat_le (rounded entries) (rounded completions)) (size_within 4096 entries size)
+    (and_from (is_within 1 8192 completions) (nat_le (rounded entries) (rounded completions)) (size_within 8192 completions other) order) in
+    let o5 = and_parts (nat_le (length s.memory) 65536 && nat_le (length s.objects) 32 && all_behind keeps_object [] s.objects && nat_le (length s.fds) 64) (list_all (keeps_descriptor s.objects) s.fds) r.1 in
+    let o4 = and_parts (nat_le (length s.memory) 65536 && nat_le (length s.objects) 32 && all_behind keeps_object [] s.objects) (nat_le (length s.fds) 64) o5.0 in
+    let o3 = and_parts (nat_le (length s.memory) 65536 && nat_le (length s.objects) 32) (all_behind keeps_object [] s.objects) o4.0 in
+    let o2 = and_parts (nat_le (length s.memory) 65536) (nat_le (length s.objects) 32) o3.0 in
     let long : length s.memory ≤ 65536 = leb-true _ _ o2.0 in
     let memory : nat_le (length (trimmed s.memory)) 65536 ≡ true = le-leb _ _ (omega (arith, trimmed_length s.memory)) in
-    let things = and_true _ _ (and_true _ _ (and_true _ _ (and_true _ _ memory o2.1) o3.1) o4.1) o5.1 in
-    let th = both_true (nat_le (length s.threads) 16) (list_all (keeps_program (rounded s.entries)) s.threads) q.1 in
+    let things = and_from _ _ (and_from _ _ (and_from _ _ (and_from _ _ memory o2.1) o3.1) o4.1) o5.1 in
+    let th = and_parts (nat_le (length s.threads) 16) (list_all (keeps_program (rounded s.entries)) s.threads) q.1 in
     let programs : list_all (keeps_program (rounded entries)) s.threads ≡ true = subst (λ (n : ℕ). list_all (keeps_program n) s.threads ≡ true) (sym same) th.1 in
     record {
       plain = record { entries = size; completions = (completions, refl, other); memory = trimmed_is s.memory };
-      ranges = and_true _ _ (and_true _ _ new_rings things) (and_true _ _ th.0 programs);
+      ranges = and_from _ _ (and_from _ _ new_rings things) (and_from _ _ th.0 programs);
       widths = record { base = widths.base; threads = widths.threads };
     }
 
@@ -212,13 +211,13 @@ pub record Asked (s : Setup) : Type 0 where
 pub asked : (s : Setup) → keeps_ranges s ≡ true → Asked s
 unfolding keeps_ranges
 asked s ranges =
-    let q = both_true (keeps_rings s && keeps_objects s) (keeps_threads s) ranges in
-    let r = both_true (keeps_rings s) (keeps_objects s) q.0 in
-    let o5 = both_true (nat_le (length s.memory) 65536 && nat_le (length s.objects) 32 && all_behind keeps_object [] s.objects && nat_le (length s.fds) 64) (list_all (keeps_descriptor s.objects) s.fds) r.1 in
-    let o4 = both_true (nat_le (length s.memory) 65536 && nat_le (length s.objects) 32 && all_behind keeps_object [] s.objects) (nat_le (length s.fds) 64) o5.0 in
-    let o3 = both_true (nat_le (length s.memory) 65536 && nat_le (length s.objects) 32) (all_behind keeps_object [] s.objects) o4.0 in
-    let o2 = both_true (nat_le (length s.memory) 65536) (nat_le (length s.objects) 32) o3.0 in
-    let th = both_true (nat_le (length s.threads) 16) (list_all (keeps_program (rounded s.entries)) s.threads) q.1 in
+    let q = and_parts (keeps_rings s && keeps_objects s) (keeps_threads s) ranges in
+    let r = and_parts (keeps_rings s) (keeps_objects s) q.0 in
+    let o5 = and_parts (nat_le (length s.memory) 65536 && nat_le (length s.objects) 32 && all_behind keeps_object [] s.objects && nat_le (length s.fds) 64) (list_all (keeps_descriptor s.objects) s.fds) r.1 in
+    let o4 = and_parts (nat_le (length s.memory) 65536 && nat_le (length s.objects) 32 && all_behind keeps_object [] s.objects) (nat_le (length s.fds) 64) o5.0 in
+    let o3 = and_parts (nat_le (length s.memory) 65536 && nat_le (length s.objects) 32) (all_behind keeps_object [] s.objects) o4.0 in
+    let o2 = and_parts (nat_le (length s.memory) 65536) (nat_le (length s.objects) 32) o3.0 in
+    let th = and_parts (nat_le (length s.threads) 16) (list_all (keeps_program (rounded s.entries)) s.threads) q.1 in
     record {
       rings = r.0;
       memory = leb-true _ _ o2.0;

@@ -5,6 +5,7 @@ use Rattle.std.specs.List.{flat_map, list_all, AllByRecursion}
 use Rattle.std.proofs.lemmas.Bool.Decides.{nat_tests}
 use Rattle.std.proofs.lemmas.List.{flat_map_more, take_more}
 use Rattle.std.proofs.lemmas.List.Recursion.{and_at}
+use Rattle.std.proofs.lemmas.Bool.{and_parts, and_from}
 use Rattle.byteorder.specs.Endian.{little_bytes}
 use Rattle.entries.specs.declared.entry.Sqe.{Sqe}
 use Rattle.entries.specs.Layout.{entry_bytes}
@@ -13,7 +14,6 @@ use Rattle.traces.specs.Setups.{instruction_bytes}
 use Rattle.places.specs.declared.object.Object.{Object}
 use Rattle.places.specs.declared.object.Descriptor.{Descriptor}
 use Rattle.traces.specs.Limits.{is_within, is_new_name, all_behind, keeps_contents, keeps_object, end_number, keeps_descriptor}
-use Rattle.traces.proofs.Lists.{both_true, and_true}
 use Rattle.traces.proofs.ObjectLaws.{within_most, end_there}
 
 -- one more item
@@ -46,17 +46,17 @@ item_kept {A} p xs i x lt there all =
 pub behind_kept : (keeps : List Object → Object → Bool) (xs before : List Object) (i : ℕ) (x : Object) → i < length xs → x ≡ get_or xs i x → all_behind keeps before xs ≡ true
     → (front : List Object) × (keeps front x ≡ true)
 behind_kept keeps [] before i x lt there all = absurd (omega arith)
-behind_kept keeps (y ∷ ys) before zero x lt there all = (before, subst (λ (z : Object). keeps before z ≡ true) (sym there) (both_true _ _ all).0)
-behind_kept keeps (y ∷ ys) before (suc i) x lt there all = behind_kept keeps ys (before ++ y ∷ []) i x (omega arith) there (both_true _ _ all).1
+behind_kept keeps (y ∷ ys) before zero x lt there all = (before, subst (λ (z : Object). keeps before z ≡ true) (sym there) (and_parts _ _ all).0)
+behind_kept keeps (y ∷ ys) before (suc i) x lt there all = behind_kept keeps ys (before ++ y ∷ []) i x (omega arith) there (and_parts _ _ all).1
 
 -- numbers of objects that there are
 pub numbers_small : (objects : List Object) (ds : List Descriptor) → length objects ≤ 32 → list_all (keeps_descriptor objects) ds ≡ true → list_all (λ d. nat_lt d.object 256) ds ≡ true
 numbers_small objects [] few all = refl
 numbers_small objects (d ∷ ds) few all =
-    let p = both_true _ _ all in
+    let p = and_parts _ _ all in
     let there : d.object < length objects = end_there objects d.object (end_number d.end) p.0 in
     let below : nat_lt d.object 256 ≡ true = grind (arith, nat_tests) in
-    and_true _ _ below (numbers_small objects ds few p.1)
+    and_from _ _ below (numbers_small objects ds few p.1)
 
 three : (a b c d : List ℕ) → ((a ++ b) ++ c) ++ d ≡ a ++ (b ++ (c ++ d))
 three a b c d = simp append_assoc
@@ -71,7 +71,7 @@ put_written slot entry old one two bytes new e f g h =
 -- what an object that keeps its ranges has
 pub object_kept : (before : List Object) (o : Object) → keeps_object before o ≡ true → (length o.name < 256) × (keeps_contents o.contents ≡ true)
 object_kept before o h =
-    let p = both_true (is_within 1 16 (length o.name) && is_new_name before o.name) (keeps_contents o.contents) h in
-    let q = both_true (is_within 1 16 (length o.name)) (is_new_name before o.name) p.0 in
+    let p = and_parts (is_within 1 16 (length o.name) && is_new_name before o.name) (keeps_contents o.contents) h in
+    let q = and_parts (is_within 1 16 (length o.name)) (is_new_name before o.name) p.0 in
     let most : length o.name ≤ 16 = within_most 1 16 (length o.name) q.0 in
     (omega arith, p.1)

@@ -100,12 +100,17 @@ fn push_descriptor(out: &mut Vec<u8>, number: u8) -> Result<(), AllocError> {
     out.extend_from_slice(&[object, end])
 }
 
-// 32 objects, and 64 descriptors of them.
+// 32 objects.
 fn push_objects(out: &mut Vec<u8>) -> Result<(), AllocError> {
     out.extend_from_slice(&[32, 0, 0, 0])?;
     for number in 0..32 {
         push_object(out, number)?;
     }
+    Ok(())
+}
+
+// 64 descriptors of the 32 objects.
+fn push_descriptors(out: &mut Vec<u8>) -> Result<(), AllocError> {
     out.extend_from_slice(&[64, 0, 0, 0])?;
     for number in 0..64 {
         push_descriptor(out, number)?;
@@ -127,6 +132,7 @@ fn full_trace(alloc: Global) -> Result<Vec<u8>, AllocError> {
     let mut out = Vec::new(alloc);
     out.extend_from_slice(b"URTRACE2\0\x10\0\x20\x03\xff\xff\xff\xff\x03\0\0\0\0\0\x05")?;
     push_objects(&mut out)?;
+    push_descriptors(&mut out)?;
     push_threads(&mut out)?;
     out.extend_from_slice(&EVERY_KIND[8..])?;
     Ok(out)
