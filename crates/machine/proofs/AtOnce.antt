@@ -1,10 +1,9 @@
 -- Rows that end at once are as if they ended one after the other.
 use Rattle.std.proofs.Common.{◌≡◌, ℕ, ℤ, Bool, true, false, cond, refl, sym, ◌∙◌, ap, List, [], ◌∷◌, length, map, ◌+◌, arith}
-use Rattle.std.proofs.lemmas.Bool.{eqb-true, eq-eqb}
+use Rattle.std.proofs.lemmas.Bool.{eqb-true}
 use Rattle.std.specs.Prelude.{Option, Some, None, option_map, slice_get, not, ◌==◌}
 use Rattle.std.specs.List.{cons_option, enumerate_from, filter}
 use Rattle.std.specs.Option.{option_map_or}
-use Rattle.entries.specs.declared.completion.Cqe.{Cqe}
 use Rattle.entries.specs.declared.row.Row.{Row}
 use Rattle.entries.specs.declared.row.Phase.TheVariants.{Ended}
 use Rattle.places.specs.Lists.{updated}
@@ -23,6 +22,7 @@ use Rattle.machine.specs.Whole.{Mostly, WellFormed, flag_word, is_asleep}
 use Rattle.machine.specs.declared.whole.Machine.{Machine}
 use Rattle.machine.proofs.Endings.{CanEnd}
 use Rattle.machine.proofs.FormedMachines.{delivers, overflow_flag}
+use Rattle.machine.proofs.GuardLemmas.{here}
 use Rattle.machine.proofs.MappedRows.{mapped_at}
 use Rattle.machine.proofs.PostedTogether.{none_posted, posted_together}
 
@@ -116,7 +116,7 @@ same_rows : (rows : List Row) (e : Ending) (es : List Ending) → CanEnd rows (e
 same_rows rows e es h = same_list _ _ (λ i. mapped_at (ended_by es) (updated (ending e.1) rows e.0) i ∙ ap (option_map (λ row. ended_by es (i, row))) (get-updated (ending e.1) rows e.0 i) ∙ by i (e.0 == i) refl (slice_get rows i) ∙ sym (mapped_at (ended_by (e ∷ es)) rows i))
   where
     there : slice_get (updated (ending e.1) rows e.0) e.0 ≡ Some (ending e.1 h.0)
-    there = get-updated (ending e.1) rows e.0 e.0 ∙ ap (λ b. cond b (option_map (ending e.1) (slice_get rows e.0)) (slice_get rows e.0)) (eq-eqb e.0 e.0 refl) ∙ ap (option_map (ending e.1)) h.1
+    there = here (ending e.1) rows e.0 h.0 h.1
 
     once : result_in es e.0 ≡ None
     once = listed_once (updated (ending e.1) rows e.0) es e.0 (ending e.1 h.0) h.3 there refl

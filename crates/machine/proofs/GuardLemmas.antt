@@ -149,7 +149,7 @@ batch_behind w first es i t x h g k = by (error_of w es i b.entry) refl (sym (ap
 
 -- ---- a row is issued, and its guard with it
 
-here : (f : Row → Row) (rows : List Row) (r : ℕ) (x : Row) → slice_get rows r ≡ Some x → slice_get (updated f rows r) r ≡ Some (f x)
+pub here : (f : Row → Row) (rows : List Row) (r : ℕ) (x : Row) → slice_get rows r ≡ Some x → slice_get (updated f rows r) r ≡ Some (f x)
 here f rows r x h = get-updated f rows r r ∙ ap (λ b. cond b (option_map f (slice_get rows r)) (slice_get rows r)) (eq-eqb r r refl) ∙ ap (option_map f) h
 
 pub apart : (f : Row → Row) (rows : List Row) (r i : ℕ) → (r ≡ i → ⊥) → slice_get (updated f rows r) i ≡ slice_get rows i

@@ -1,5 +1,5 @@
 -- A row and its guard that are issued at once are as if they were issued one after the other.
-use Rattle.std.proofs.Common.{◌≡◌, ℕ, Bool, true, false, cond, refl, sym, ◌∙◌, ap, List, ◌+◌, ◌⊎◌, inl, inr, arith}
+use Rattle.std.proofs.Common.{◌≡◌, ℕ, Bool, true, false, cond, refl, sym, ◌∙◌, ap, List, ◌+◌, inl, inr, arith}
 use Rattle.std.proofs.lemmas.Bool.{cases_eq, eq-eqb, ne_eqb}
 use Rattle.std.specs.Prelude.{Option, Some, None, option_map, slice_get, ◌==◌, ◌||◌, if◌then◌else◌}
 use Rattle.std.specs.Option.{option_map_or}
@@ -9,12 +9,8 @@ use Rattle.places.proofs.ListLemmas.{same_list}
 use Rattle.links_drains.proofs.RowsKept.{get-updated}
 use Rattle.machine.specs.Steps.{all_started, is_guard_of, started, started_with}
 use Rattle.machine.specs.Whole.{AllGuardsStand}
-use Rattle.machine.proofs.GuardLemmas.{apart, guard_told, started_in_turn, unfinished_queued}
+use Rattle.machine.proofs.GuardLemmas.{apart, guard_told, here, started_in_turn, unfinished_queued}
 use Rattle.machine.proofs.MappedRows.{mapped_at}
-
--- an element that is changed
-changed : (f : Row → Row) (rows : List Row) (r : ℕ) (row : Row) → slice_get rows r ≡ Some row → slice_get (updated f rows r) r ≡ Some (f row)
-changed f rows r row h = get-updated f rows r r ∙ ap (λ b. cond b (option_map f (slice_get rows r)) (slice_get rows r)) (eq-eqb r r refl) ∙ ap (option_map f) h
 
 none_changed : (f : Row → Row) (rows : List Row) (r i : ℕ) → slice_get rows i ≡ None → slice_get (updated f rows r) i ≡ None
 none_changed f rows r i h = get-updated f rows r i ∙ ap (λ o. cond (r == i) (option_map f o) o) h ∙ by (r == i)
@@ -38,8 +34,8 @@ started_at_once c n rows r s = same_list _ _ (λ i. mapped_at (started_with c n 
 
     -- the row itself
     itself : (row : Row) → slice_get rows r ≡ Some row → (b : Bool) → follows ≡ b → slice_get (started_in_turn c n rows r) r ≡ Some (f row)
-    itself row h true e = ap (λ rs. slice_get rs r) (told true e) ∙ apart f (updated f rows r) (r + 1) r (λ o. absurd (omega (arith, o))) ∙ changed f rows r row h
-    itself row h false e = ap (λ rs. slice_get rs r) (told false e) ∙ changed f rows r row h
+    itself row h true e = ap (λ rs. slice_get rs r) (told true e) ∙ apart f (updated f rows r) (r + 1) r (λ o. absurd (omega (arith, o))) ∙ here f rows r row h
+    itself row h false e = ap (λ rs. slice_get rs r) (told false e) ∙ here f rows r row h
 
     -- a row that is neither it nor behind it
     other : (i : ℕ) → (r ≡ i → ⊥) → (r + 1 ≡ i → ⊥) → (b : Bool) → follows ≡ b → slice_get (started_in_turn c n rows r) i ≡ slice_get rows i
@@ -48,7 +44,7 @@ started_at_once c n rows r s = same_list _ _ (λ i. mapped_at (started_with c n 
 
     -- the row behind it
     next : (row : Row) → slice_get rows (r + 1) ≡ Some row → (b : Bool) → is_guard_of r row ≡ b → slice_get (started_in_turn c n rows r) (r + 1) ≡ Some (if b then f row else row)
-    next row h true g = ap (λ rs. slice_get rs (r + 1)) (told true (ap (λ o. option_map_or (is_guard_of r) o false) h ∙ g)) ∙ changed f (updated f rows r) (r + 1) row (apart f rows r (r + 1) (λ o. absurd (omega (arith, o))) ∙ h)
+    next row h true g = ap (λ rs. slice_get rs (r + 1)) (told true (ap (λ o. option_map_or (is_guard_of r) o false) h ∙ g)) ∙ here f (updated f rows r) (r + 1) row (apart f rows r (r + 1) (λ o. absurd (omega (arith, o))) ∙ h)
     next row h false g = ap (λ rs. slice_get rs (r + 1)) (told false (ap (λ o. option_map_or (is_guard_of r) o false) h ∙ g)) ∙ apart f rows r (r + 1) (λ o. absurd (omega (arith, o))) ∙ h
 
     -- its guard stands behind it

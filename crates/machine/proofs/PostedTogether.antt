@@ -1,10 +1,10 @@
 -- Completions that are posted together are as if the first had been posted before the others.
-use Rattle.std.proofs.Common.{◌≡◌, ℕ, zero, suc, Bool, true, false, refl, sym, ◌∙◌, ap, List, [], ◌∷◌, ◌++◌, length, take, drop, append_assoc, length-append, ◌-◌, ◌<◌, ◌≤◌, ◌⊎◌, inl, inr, min, arith}
+use Rattle.std.proofs.Common.{◌≡◌, ℕ, zero, suc, Bool, true, false, refl, sym, ◌∙◌, ap, List, [], ◌∷◌, ◌++◌, length, take, drop, append_assoc, length-append, ◌-◌, ◌<◌, ◌≤◌, ◌⊎◌, inl, inr, arith}
 use Rattle.std.specs.Prelude.{not, ◌==◌}
 use Rattle.std.proofs.lemmas.Bool.{cases_lt, ne_eqb}
 use Rattle.std.proofs.lemmas.List.{append-nil}
 use Rattle.entries.specs.declared.completion.Cqe.{Cqe}
-use Rattle.ring_words.specs.Rings.{SubWords, waiting, with_flag}
+use Rattle.ring_words.specs.Rings.{SubWords, with_flag}
 use Rattle.ring_words.specs.declared.flag.RingFlag.TheVariants.{CqOverflow}
 use Rattle.overflow.specs.Backlogs.{BacklogState, kept, is_clear, free_slots, posted_one, posted_in_order, Delivery, DeliveryFormed, flagged, fits, backlog_with, all_posted_at, all_posted}
 use Rattle.overflow.proofs.KeptInOrder.{fits_behind, fits_clear, kept_with}
