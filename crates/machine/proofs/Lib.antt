@@ -22,3 +22,4 @@ pub mod Formed
 pub mod Linking
 pub mod StartLemmas
 pub mod PipeCounts
+pub mod Refusals

@@ -3,4 +3,5 @@ pub mod Submission
 pub mod Whole
 pub mod Cancels
 pub mod Steps
+pub mod Refusals
 pub mod Runs
