@@ -27,3 +27,4 @@ pub mod Formed
 pub mod Linking
 pub mod StartLemmas
 pub mod PipeCounts
+pub mod Refusals

@@ -4,4 +4,5 @@ pub mod Whole
 pub mod Cancels
 pub mod Steps
 pub mod InTurn
+pub mod Refusals
 pub mod Runs

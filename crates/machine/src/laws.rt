@@ -1,13 +1,17 @@
 //! Laws of the definitions.
-ghost use Rattle.std.specs.Prelude.{◌≡◌, ℕ, None, List};
+ghost use Rattle.std.specs.Prelude.{◌≡◌, ◌<◌, ℕ, true, false, Some, None, List};
 ghost use Rattle.links_drains.specs.Endings.{Ending};
 ghost use Rattle.places.specs.declared.place.Place.{Place};
 ghost use Rattle.machine.specs.Whole.{view, OneSetup, WellFormed};
 ghost use Rattle.timeouts_cancel.specs.Falls.{fall_of, IsWhole};
 ghost use Rattle.machine.specs.InTurn.{ended_in_turn};
+ghost use Rattle.machine.specs.Refusals.{has_cause, number_of};
 ghost use Rattle.machine.specs.Steps.{refusal, after, before_submission, fallen, taken};
 ghost use Rattle.machine.specs.declared.whole.Machine.{Machine};
 ghost use Rattle.scenario.specs.declared.event.Event.{Event};
+ghost use Rattle.scenario.specs.declared.event.Refusal.{Refusal};
+
+use scenario::Refusal;
 
 /// Machines of one setup are one where they show the same in each place.
 pub fn shown_alike()
@@ -42,4 +46,22 @@ pub fn submissions_fall_in_turn()
 /// A submission finds a well formed machine, as kept completions have moved into the ring.
 pub fn submissions_find_formed()
     ensures { (m : Machine) (k flags : ℕ) → WellFormed m → WellFormed (before_submission m k flags) }
+{}
+
+/// The number of a refusal is that of its variant.
+pub fn number_told(refusal: Refusal) -> u32
+    ensures { result ≡ number_of refusal }
+{
+    refusal as u32
+}
+
+/// Of the causes that an event has to be refused, that of the least number is told.
+pub fn least_cause_told()
+    ensures told { (m : Machine) (e : Event) (n : Refusal) → refusal m e ≡ Some n → has_cause m e n ≡ true }
+    ensures least { (m : Machine) (e : Event) (n k : Refusal) → refusal m e ≡ Some n → number_of k < number_of n → has_cause m e k ≡ false }
+{}
+
+/// And where none is told, it has none.
+pub fn no_cause_untold()
+    ensures { (m : Machine) (e : Event) → refusal m e ≡ None → (n : Refusal) → has_cause m e n ≡ false }
 {}

@@ -1,0 +1,254 @@
+-- The refusal that is told is the first, in the order of the numbers, whose cause an event has.
+use Rattle.std.proofs.Common.{◌≡◌, ℕ, Bool, true, false, cond, refl, sym, ◌∙◌, ap, subst, List, [], ◌∷◌, length, ◌+◌, ◌-◌, ◌<◌, ◌^◌, ◌⊎◌, inl, inr, arith}
+use Rattle.std.specs.Prelude.{Option, Some, None, is_none, not, ◌==◌, ◌&&◌, ◌||◌, slice_get, nat_lt, nat_le, unwrap_or}
+use Rattle.std.specs.List.{find}
+use Rattle.std.specs.Option.{option_map_or, option_and_then}
+use Rattle.std.proofs.lemmas.Bool.{cases_order, le-leb, lt-leb}
+use Rattle.std.proofs.lemmas.Bool.Decides.{nat_tests}
+use Rattle.std.proofs.lemmas.Option.{slice_get_cases, slice_get_within}
+use Rattle.entries.specs.declared.row.Row.{Row}
+use Rattle.entries.specs.declared.row.Phase.{Phase}
+use Rattle.entries.specs.declared.row.Phase.TheVariants.{Queued, Issued, Ended}
+use Rattle.opcodes.specs.declared.choice.Choice.{Choice}
+use Rattle.opcodes.specs.declared.choice.Choice.TheVariants.{Full, Short, Eio}
+use Rattle.opcodes.specs.declared.ending.Outcome.{Outcome}
+use Rattle.opcodes.specs.declared.ending.Outcome.TheVariants.{Res, Waits, BadChoice as IsBadChoice}
+use Rattle.opcodes.specs.Opcodes.{is_cancel, is_timer}
+use Rattle.opcodes.specs.Outcomes.{outcome_of}
+use Rattle.places.specs.declared.value.Stage.{Stage}
+use Rattle.places.specs.declared.value.Stage.TheVariants.{Ready, Waiting}
+use Rattle.ring_words.specs.Rings.{sub_list, waiting}
+use Rattle.sqpoll.specs.declared.poller.Poller.{Poller}
+use Rattle.sqpoll.specs.declared.poller.Poller.TheVariants.{Awake, Asleep as IsAsleep}
+use Rattle.links_drains.specs.Eligible.{is_eligible}
+use Rattle.links_drains.specs.Holding.{is_held_by}
+use Rattle.links_drains.specs.Phases.{is_issued, is_queued}
+use Rattle.timeouts_cancel.specs.Timers.{is_due}
+use Rattle.machine.specs.Threads.{ThreadState}
+use Rattle.machine.specs.Steps.{before_submission, choice_refusal, enter_refusal, expire_refusal, finish_refusal, flushed, full_refusal, gets_events, instruction_refusal, is_busy, is_unknown, issue_refusal, next_refusal, outcome_refusal, phase_refusal, ready_count, refusal, sleep_refusal, submission_refusal, take_refusal, thread_refusal}
+use Rattle.machine.specs.Whole.{is_asleep}
+use Rattle.machine.specs.Refusals.{cannot_end, exceeds_rows, executes, has_cause, is_at_end, is_bad_choice, is_in_full, is_push, is_reap, is_unready, is_waits, number_of, submits_too_many, waits_still}
+use Rattle.machine.specs.declared.whole.Machine.{Machine}
+use Rattle.scenario.specs.declared.setup.Instruction.{Instruction}
+use Rattle.scenario.specs.declared.setup.Instruction.TheVariants.{Put, Push, Store, Enter, Reap, Close}
+use Rattle.scenario.specs.declared.event.Event.{Event}
+use Rattle.scenario.specs.declared.event.Event.TheVariants.{Step, Take, Sleep, Issue, Finish, Expire, Tick}
+use Rattle.scenario.specs.declared.event.Refusal.{Refusal}
+use Rattle.scenario.specs.declared.event.Refusal.TheVariants.{NoSuchThread, ThreadDone, SqFull, NothingToReap, StillWaiting, NoSuchRequest, WrongPhase, NotEligible, NotReady, NotDue, BadChoice, NoPoller, Asleep, NotIdle, ClockFull, RequestsFull, Memory}
+
+-- ---- the first of all refusals, in the order of their numbers
+
+abbrev refusals : List Refusal
+refusals = NoSuchThread ∷ ThreadDone ∷ SqFull ∷ NothingToReap ∷ StillWaiting ∷ NoSuchRequest ∷ WrongPhase ∷ NotEligible ∷ NotReady ∷ NotDue ∷ BadChoice ∷ NoPoller ∷ Asleep ∷ NotIdle ∷ ClockFull ∷ RequestsFull ∷ Memory ∷ []
+
+-- each stands where its number says
+stands_at : (k : Refusal) → (i : ℕ) × (number_of k ≡ i + 1) × (slice_get refusals i ≡ Some k)
+stands_at NoSuchThread = (0, refl, refl)
+stands_at ThreadDone = (1, refl, refl)
+stands_at SqFull = (2, refl, refl)
+stands_at NothingToReap = (3, refl, refl)
+stands_at StillWaiting = (4, refl, refl)
+stands_at NoSuchRequest = (5, refl, refl)
+stands_at WrongPhase = (6, refl, refl)
+stands_at NotEligible = (7, refl, refl)
+stands_at NotReady = (8, refl, refl)
+stands_at NotDue = (9, refl, refl)
+stands_at BadChoice = (10, refl, refl)
+stands_at NoPoller = (11, refl, refl)
+stands_at Asleep = (12, refl, refl)
+stands_at NotIdle = (13, refl, refl)
+stands_at ClockFull = (14, refl, refl)
+stands_at RequestsFull = (15, refl, refl)
+stands_at Memory = (16, refl, refl)
+
+-- so those of one number are one
+same_number : (j k : Refusal) → number_of j ≡ number_of k → j ≡ k
+same_number j k e = let x = stands_at j in let y = stands_at k in let same : x.0 ≡ y.0 = omega (arith, x.1, y.1, e) in ap (λ o. unwrap_or o j) (sym x.2 ∙ ap (slice_get refusals) same ∙ y.2)
+
+-- a list of refusals numbered from one on, to the last
+Numbered : ℕ → List Refusal → Type 0
+Numbered i [] = i ≡ 18
+Numbered i (x ∷ xs) = (number_of x ≡ i) × Numbered (i + 1) xs
+
+abbrev all_numbered : Numbered 1 refusals
+unfolding Numbered
+all_numbered = (refl, (refl, (refl, (refl, (refl, (refl, (refl, (refl, (refl, (refl, (refl, (refl, (refl, (refl, (refl, (refl, (refl, refl)))))))))))))))))
+
+-- What is told where a test says which causes there are: the least number, or none.
+abbrev Told : (Refusal → Bool) → Option Refusal → Type 0
+Told test None = (k : Refusal) → test k ≡ false
+Told test (Some n) = (test n ≡ true) × ((k : Refusal) → number_of k < number_of n → test k ≡ false)
+
+lt_or_same : (a b : ℕ) → a < b + 1 → (a < b) ⊎ (a ≡ b)
+lt_or_same a b l = elim (cases_order a b) [ inl same ↦ inr same | inr o ↦ elim o [ inl under ↦ inl under | inr over ↦ absurd (omega (arith, l, over)) ] ]
+
+most : (k : Refusal) (i : ℕ) → i ≡ 18 → number_of k < i
+most k i e = let x = stands_at k in let l = slice_get_within refusals x.0 k x.2 in omega (arith, x.1, l, e)
+
+first_told : (test : Refusal → Bool) (i : ℕ) (xs : List Refusal) → Numbered i xs → ((k : Refusal) → number_of k < i → test k ≡ false) → Told test (find test xs)
+unfolding Numbered
+first_told test i [] e below = λ k. below k (most k i e)
+first_told test i (x ∷ xs) e below = by (λ b. first_told test (i + 1) xs e.1 b) (test x) refl
+  where
+    further : test x ≡ false → (k : Refusal) → number_of k < i + 1 → test k ≡ false
+    further h k l = elim (lt_or_same (number_of k) i l) [ inl under ↦ below k under | inr same ↦ ap test (same_number k x (same ∙ sym e.0)) ∙ h ]
+
+    by : (((k : Refusal) → number_of k < i + 1 → test k ≡ false) → Told test (find test xs)) → (b : Bool) → test x ≡ b → Told test (cond b (Some x) (find test xs))
+    by next true h = (h, λ k l. below k (subst (λ n. number_of k < n) e.0 l))
+    by next false h = next (further h)
+
+-- ---- events
+
+abbrev First : Machine → Event → Type 0
+First m e = refusal m e ≡ find (has_cause m e) refusals
+
+take_first : (m : Machine) (n : ℕ) → First m (Take n)
+take_first m n = by m.poller
+  where
+    by : (o : Option Poller) → take_refusal m o n ≡ cond (is_none o) (Some NoPoller) (cond (is_asleep o) (Some Asleep) (cond (exceeds_rows m n) (Some RequestsFull) None))
+    by None = refl
+    by (Some Awake) = refl
+    by (Some IsAsleep) = refl
+
+sleep_first : (m : Machine) → First m Sleep
+sleep_first m = by m.poller
+  where
+    idle : (b : Bool) → cond b None (Some NotIdle) ≡ cond (not b) (Some NotIdle) None
+    idle true = refl
+    idle false = refl
+
+    by : (o : Option Poller) → sleep_refusal m o ≡ cond (is_none o) (Some NoPoller) (cond (is_asleep o) (Some Asleep) (cond (not (waiting m.submissions.head m.submissions.tail == 0)) (Some NotIdle) None))
+    by None = refl
+    by (Some Awake) = idle (waiting m.submissions.head m.submissions.tail == 0)
+    by (Some IsAsleep) = refl
+
+issue_first : (m : Machine) (r : ℕ) → First m (Issue r)
+issue_first m r = by (slice_get m.table r)
+  where
+    at : (p : Phase) (b : Bool) → elim p as (λ q. Option Refusal) [ Queued ↦ cond b None (Some NotEligible) | Issued ↦ Some WrongPhase | Ended res ↦ Some WrongPhase ] ≡ cond (not (is_queued p)) (Some WrongPhase) (cond (is_queued p && not b) (Some NotEligible) None)
+    at Queued true = refl
+    at Queued false = refl
+    at Issued b = refl
+    at (Ended res) b = refl
+
+    by : (o : Option Row) → issue_refusal m.table r o ≡ cond (is_none o) (Some NoSuchRequest) (cond (option_map_or (λ row. not (is_queued row.phase)) o false) (Some WrongPhase) (cond (option_map_or (λ row. is_queued row.phase && not (is_eligible m.table r)) o false) (Some NotEligible) None))
+    by None = refl
+    by (Some row) = at row.phase (is_eligible m.table r)
+
+-- an issued row that is no timer
+choice_first : (m : Machine) (c : Choice) (row : Row) → choice_refusal (is_held_by m.table) m.world row c ≡ cond (is_unready m c row) (Some NotReady) (cond (cannot_end m c row) (Some BadChoice) None)
+choice_first m c row = by (is_cancel row.entry.opcode) c (outcome_of (is_held_by m.table) m.world row c)
+  where
+    by : (b : Bool) (c : Choice) (o : Outcome) → cond b (full_refusal c) (outcome_refusal o) ≡ cond (not b && is_waits o) (Some NotReady) (cond (cond b (not (is_in_full c)) (is_bad_choice o)) (Some BadChoice) None)
+    by true Full o = refl
+    by true (Short n) o = refl
+    by true Eio o = refl
+    by false c (Res res) = refl
+    by false c Waits = refl
+    by false c IsBadChoice = refl
+
+finish_first : (m : Machine) (r : ℕ) (c : Choice) → First m (Finish r c)
+finish_first m r c = by (slice_get m.table r)
+  where
+    at : (p : Phase) (timer : Bool) (x y : Option Refusal) → x ≡ y → cond (not timer) (phase_refusal p x) (Some WrongPhase) ≡ cond (not (is_issued p) || timer) (Some WrongPhase) y
+    at Queued true x y e = refl
+    at Queued false x y e = refl
+    at Issued true x y e = refl
+    at Issued false x y e = e
+    at (Ended res) true x y e = refl
+    at (Ended res) false x y e = refl
+
+    by : (o : Option Row) → finish_refusal (is_held_by m.table) m.world o c ≡ cond (is_none o) (Some NoSuchRequest) (cond (option_map_or (λ row. not (is_issued row.phase) || is_timer row.entry.opcode) o false) (Some WrongPhase) (cond (option_map_or (is_unready m c) o false) (Some NotReady) (cond (option_map_or (cannot_end m c) o false) (Some BadChoice) None)))
+    by None = refl
+    by (Some row) = at row.phase (is_timer row.entry.opcode) _ _ (choice_first m c row)
+
+expire_first : (m : Machine) (r : ℕ) → First m (Expire r)
+expire_first m r = by (slice_get m.table r)
+  where
+    at : (p : Phase) (timer due : Bool) → cond (not timer) (Some WrongPhase) (phase_refusal p (cond due None (Some NotDue))) ≡ cond (not (is_issued p) || not timer) (Some WrongPhase) (cond (not due) (Some NotDue) None)
+    at Queued true due = refl
+    at Queued false due = refl
+    at Issued true true = refl
+    at Issued true false = refl
+    at Issued false due = refl
+    at (Ended res) true due = refl
+    at (Ended res) false due = refl
+
+    by : (o : Option Row) → expire_refusal m.clock o ≡ cond (is_none o) (Some NoSuchRequest) (cond (option_map_or (λ row. not (is_issued row.phase) || not (is_timer row.entry.opcode)) o false) (Some WrongPhase) (cond (option_map_or (λ row. not (is_due m.clock row)) o false) (Some NotDue) None))
+    by None = refl
+    by (Some row) = at row.phase (is_timer row.entry.opcode) (is_due m.clock row)
+
+-- more than the greatest number of 64 bits
+passes_clock : (n : ℕ) → not (nat_lt n (2 ^ 64)) ≡ nat_lt (2 ^ 64 - 1) n
+passes_clock n = grind (arith, nat_tests)
+
+tick_first : (m : Machine) (d : ℕ) → First m (Tick d)
+tick_first m d = by (nat_lt (m.clock + d) (2 ^ 64)) ∙ ap (λ b. cond b (Some ClockFull) None) (passes_clock (m.clock + d))
+  where
+    by : (b : Bool) → cond b None (Some ClockFull) ≡ cond (not b) (Some ClockFull) None
+    by true = refl
+    by false = refl
+
+-- ---- instructions
+
+-- a program is at its end where it has no instruction
+ends : {X : Type 0} (xs : List X) (n : ℕ) → nat_le (length xs) n ≡ is_none (slice_get xs n)
+ends xs n = elim (slice_get_cases xs n).1 [ inl there ↦ lt-leb (length xs) n there.1 ∙ ap is_none (sym there.2) | inr past ↦ le-leb (length xs) n past.0 ∙ ap is_none (sym past.1) ]
+
+-- a flush leaves what a submission makes
+as_before : (m : Machine) (k : ℕ) (b : Bool) → submission_refusal (cond b (flushed m) m) k ≡ submission_refusal m k
+unfolding sub_list
+as_before m k true = refl
+as_before m k false = refl
+
+enter_first : (m : Machine) (k w flags : ℕ) → instruction_refusal m (Enter k w flags) ≡ cond (submits_too_many m (Enter k w flags)) (Some RequestsFull) None
+enter_first m k w flags = by m.poller
+  where
+    alone : (unknown busy : Bool) → cond unknown None (cond busy None (submission_refusal m k)) ≡ cond ((not unknown && not busy) && exceeds_rows m k) (Some RequestsFull) None
+    alone true busy = refl
+    alone false true = refl
+    alone false false = refl
+
+    by : (o : Option Poller) → enter_refusal m o k flags ≡ cond ((is_none o && (not (is_unknown flags) && not (is_busy (before_submission m k flags) k))) && exceeds_rows m k) (Some RequestsFull) None
+    by None = ap (λ x. cond (is_unknown flags) None (cond (is_busy (before_submission m k flags) k) None x)) (as_before m k (gets_events flags || nat_lt 0 k)) ∙ alone (is_unknown flags) (is_busy (before_submission m k flags) k)
+    by (Some p) = refl
+
+step_first : (m : Machine) (t : ℕ) → First m (Step t)
+step_first m t = by (slice_get m.threads t)
+  where
+    at : (s : Stage) (o : Option Instruction) → next_refusal m s o ≡ cond (is_none o) (Some ThreadDone) (cond (option_map_or is_push (executes s o) false && (waiting m.submissions.head m.submissions.tail == length m.submissions.array)) (Some SqFull) (cond (option_map_or is_reap (executes s o) false && (ready_count m == 0)) (Some NothingToReap) (cond (waits_still m s) (Some StillWaiting) (cond (option_map_or (submits_too_many m) (executes s o) false) (Some RequestsFull) None))))
+    at s None = refl
+    at Ready (Some (Put slot entry)) = refl
+    at Ready (Some (Push index)) = refl
+    at Ready (Some (Store address bytes)) = refl
+    at Ready (Some (Enter k w flags)) = enter_first m k w flags
+    at Ready (Some Reap) = refl
+    at Ready (Some (Close fd)) = refl
+    at (Waiting n w) (Some i) = refl
+
+    by : (o : Option ThreadState) → thread_refusal m o ≡ cond (is_none o) (Some NoSuchThread) (cond (option_map_or is_at_end o false) (Some ThreadDone) (cond (option_map_or is_push (option_and_then (λ x. executes x.stage (slice_get x.program x.counter)) o) false && (waiting m.submissions.head m.submissions.tail == length m.submissions.array)) (Some SqFull) (cond (option_map_or is_reap (option_and_then (λ x. executes x.stage (slice_get x.program x.counter)) o) false && (ready_count m == 0)) (Some NothingToReap) (cond (option_map_or (λ x. waits_still m x.stage) o false) (Some StillWaiting) (cond (option_map_or (submits_too_many m) (option_and_then (λ x. executes x.stage (slice_get x.program x.counter)) o) false) (Some RequestsFull) None)))))
+    by None = refl
+    by (Some x) = rw (ends x.program x.counter) (at x.stage (slice_get x.program x.counter))
+
+first_is_told : (m : Machine) (e : Event) → refusal m e ≡ find (has_cause m e) refusals
+first_is_told m (Step t) = step_first m t
+first_is_told m (Take n) = take_first m n
+first_is_told m Sleep = sleep_first m
+first_is_told m (Issue r) = issue_first m r
+first_is_told m (Finish r c) = finish_first m r c
+first_is_told m (Expire r) = expire_first m r
+first_is_told m (Tick d) = tick_first m d
+
+-- ---- the laws
+
+told_as : (m : Machine) (e : Event) → Told (has_cause m e) (refusal m e)
+told_as m e = subst (Told (has_cause m e)) (sym (first_is_told m e)) (first_told (has_cause m e) 1 refusals all_numbered (λ k l. let x = stands_at k in absurd (omega (arith, x.1, l))))
+
+pub told : (m : Machine) (e : Event) (n : Refusal) → refusal m e ≡ Some n → has_cause m e n ≡ true
+told m e n h = (subst (Told (has_cause m e)) h (told_as m e)).0
+
+pub least : (m : Machine) (e : Event) (n k : Refusal) → refusal m e ≡ Some n → number_of k < number_of n → has_cause m e k ≡ false
+least m e n k h l = (subst (Told (has_cause m e)) h (told_as m e)).1 k l
+
+pub untold : (m : Machine) (e : Event) → refusal m e ≡ None → (n : Refusal) → has_cause m e n ≡ false
+untold m e h = subst (Told (has_cause m e)) h (told_as m e)

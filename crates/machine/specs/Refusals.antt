@@ -1,0 +1,145 @@
+-- The cause of each refusal, by itself. Of all that an event has, that of the least number is told.
+use Rattle.std.specs.Prelude.{ℕ, ◌+◌, ◌-◌, ◌^◌, ◌==◌, Bool, true, false, not, ◌&&◌, ◌||◌, nat_lt, nat_le, if◌then◌else◌, Option, None, is_none, slice_get, length}
+use Rattle.std.specs.Option.{option_map_or, option_and_then}
+use Rattle.entries.specs.declared.row.Row.{Row}
+use Rattle.opcodes.specs.declared.choice.Choice.{Choice}
+use Rattle.opcodes.specs.declared.choice.Choice.TheVariants.{Full, Short, Eio}
+use Rattle.opcodes.specs.declared.ending.Outcome.{Outcome}
+use Rattle.opcodes.specs.declared.ending.Outcome.TheVariants.{Res, Waits, BadChoice}
+use Rattle.opcodes.specs.Opcodes.{is_cancel, is_timer}
+use Rattle.opcodes.specs.Outcomes.{outcome_of}
+use Rattle.places.specs.declared.value.Stage.{Stage}
+use Rattle.places.specs.declared.value.Stage.TheVariants.{Ready, Waiting}
+use Rattle.ring_words.specs.Rings.{waiting}
+use Rattle.links_drains.specs.Eligible.{is_eligible}
+use Rattle.links_drains.specs.Holding.{is_held_by}
+use Rattle.links_drains.specs.Phases.{is_issued, is_queued}
+use Rattle.timeouts_cancel.specs.Timers.{is_due}
+use Rattle.machine.specs.Submission.{offered}
+use Rattle.machine.specs.Threads.{ThreadState}
+use Rattle.machine.specs.Steps.{before_submission, is_busy, is_unknown, ready_count}
+use Rattle.machine.specs.Whole.{is_asleep}
+use Rattle.machine.specs.declared.whole.Machine.{Machine}
+use Rattle.scenario.specs.declared.setup.Instruction.{Instruction}
+use Rattle.scenario.specs.declared.setup.Instruction.TheVariants.{Push, Enter, Reap}
+use Rattle.scenario.specs.declared.event.Event.{Event}
+use Rattle.scenario.specs.declared.event.Event.TheVariants.{Step, Take, Sleep, Issue, Finish, Expire, Tick}
+use Rattle.scenario.specs.declared.event.Refusal.{Refusal}
+use Rattle.scenario.specs.declared.event.Refusal.TheVariants.{NoSuchThread, ThreadDone, SqFull, NothingToReap, StillWaiting, NoSuchRequest, WrongPhase, NotEligible, NotReady, NotDue, BadChoice as IsBadChoice, NoPoller, Asleep, NotIdle, ClockFull, RequestsFull, Memory}
+
+-- the number of a refusal
+abbrev pub number_of : Refusal → ℕ
+number_of NoSuchThread = 1
+number_of ThreadDone = 2
+number_of SqFull = 3
+number_of NothingToReap = 4
+number_of StillWaiting = 5
+number_of NoSuchRequest = 6
+number_of WrongPhase = 7
+number_of NotEligible = 8
+number_of NotReady = 9
+number_of NotDue = 10
+number_of IsBadChoice = 11
+number_of NoPoller = 12
+number_of Asleep = 13
+number_of NotIdle = 14
+number_of ClockFull = 15
+number_of RequestsFull = 16
+number_of Memory = 17
+
+-- ---- threads
+
+-- whether the counter of a thread has come to the end of its program
+abbrev pub is_at_end : ThreadState → Bool
+is_at_end x = nat_le (length x.program) x.counter
+
+-- what of its program a thread executes next: nothing while it waits
+abbrev pub executes : Stage → Option Instruction → Option Instruction
+executes Ready i = i
+executes (Waiting n w) i = None
+
+abbrev pub instruction_at : Machine → ℕ → Option Instruction
+instruction_at m t = option_and_then (λ x. executes x.stage (slice_get x.program x.counter)) (slice_get m.threads t)
+
+abbrev pub is_push : Instruction → Bool
+is_push (Push index) = true
+is_push i = false
+
+abbrev pub is_reap : Instruction → Bool
+is_reap Reap = true
+is_reap i = false
+
+-- whether fewer completions are in the ring than a thread waits for
+abbrev pub waits_still : Machine → Stage → Bool
+waits_still m Ready = false
+waits_still m (Waiting n w) = nat_lt (ready_count m) w
+
+-- ---- submissions
+
+-- Whether the rows and what a submission of at most k entries is offered are above 65,536. A flush before it changes neither.
+abbrev pub exceeds_rows : Machine → ℕ → Bool
+exceeds_rows m k = nat_lt 65536 (length m.table + length (offered m.submissions k))
+
+-- whether an Enter runs a submission: there is no poller, its flags are known (EINVAL), and no completion is kept behind its flush (EBUSY)
+abbrev pub runs_submission : Machine → ℕ → ℕ → Bool
+runs_submission m k flags = is_none m.poller && (not (is_unknown flags) && not (is_busy (before_submission m k flags) k))
+
+-- whether an instruction runs one that is too large
+abbrev pub submits_too_many : Machine → Instruction → Bool
+submits_too_many m (Enter to_submit min_complete flags) = runs_submission m to_submit flags && exceeds_rows m to_submit
+submits_too_many m i = false
+
+-- ---- ends
+
+abbrev pub is_in_full : Choice → Bool
+is_in_full Full = true
+is_in_full (Short n) = false
+is_in_full Eio = false
+
+abbrev pub is_waits : Outcome → Bool
+is_waits (Res res) = false
+is_waits Waits = true
+is_waits BadChoice = false
+
+abbrev pub is_bad_choice : Outcome → Bool
+is_bad_choice (Res res) = false
+is_bad_choice Waits = false
+is_bad_choice BadChoice = true
+
+-- whether a row's outcome is that its object isn't ready; a cancel or a removal has none
+abbrev pub is_unready : Machine → Choice → Row → Bool
+is_unready m c row = not (is_cancel row.entry.opcode) && is_waits (outcome_of (is_held_by m.table) m.world row c)
+
+-- whether it is that the choice isn't one of the row's; a cancel or a removal ends in full alone
+abbrev pub cannot_end : Machine → Choice → Row → Bool
+cannot_end m c row = if is_cancel row.entry.opcode then not (is_in_full c) else is_bad_choice (outcome_of (is_held_by m.table) m.world row c)
+
+-- ---- the causes
+
+-- Whether an event has the cause of a refusal, whatever others it has; in the order of their numbers. What is asked of a thread, a row or
+-- a poller is no cause where there is none. Want of memory has no cause in a machine.
+abbrev pub has_cause : Machine → Event → Refusal → Bool
+has_cause m (Step t) NoSuchThread = is_none (slice_get m.threads t)
+has_cause m (Step t) ThreadDone = option_map_or is_at_end (slice_get m.threads t) false
+has_cause m (Step t) SqFull = option_map_or is_push (instruction_at m t) false && (waiting m.submissions.head m.submissions.tail == length m.submissions.array)
+has_cause m (Step t) NothingToReap = option_map_or is_reap (instruction_at m t) false && (ready_count m == 0)
+has_cause m (Step t) StillWaiting = option_map_or (λ x. waits_still m x.stage) (slice_get m.threads t) false
+has_cause m (Issue r) NoSuchRequest = is_none (slice_get m.table r)
+has_cause m (Finish r c) NoSuchRequest = is_none (slice_get m.table r)
+has_cause m (Expire r) NoSuchRequest = is_none (slice_get m.table r)
+has_cause m (Issue r) WrongPhase = option_map_or (λ row. not (is_queued row.phase)) (slice_get m.table r) false
+has_cause m (Finish r c) WrongPhase = option_map_or (λ row. not (is_issued row.phase) || is_timer row.entry.opcode) (slice_get m.table r) false
+has_cause m (Expire r) WrongPhase = option_map_or (λ row. not (is_issued row.phase) || not (is_timer row.entry.opcode)) (slice_get m.table r) false
+has_cause m (Issue r) NotEligible = option_map_or (λ row. is_queued row.phase && not (is_eligible m.table r)) (slice_get m.table r) false
+has_cause m (Finish r c) NotReady = option_map_or (is_unready m c) (slice_get m.table r) false
+has_cause m (Expire r) NotDue = option_map_or (λ row. not (is_due m.clock row)) (slice_get m.table r) false
+has_cause m (Finish r c) IsBadChoice = option_map_or (cannot_end m c) (slice_get m.table r) false
+has_cause m (Take n) NoPoller = is_none m.poller
+has_cause m Sleep NoPoller = is_none m.poller
+has_cause m (Take n) Asleep = is_asleep m.poller
+has_cause m Sleep Asleep = is_asleep m.poller
+has_cause m Sleep NotIdle = not (waiting m.submissions.head m.submissions.tail == 0)
+has_cause m (Tick d) ClockFull = nat_lt (2 ^ 64 - 1) (m.clock + d)
+has_cause m (Step t) RequestsFull = option_map_or (submits_too_many m) (instruction_at m t) false
+has_cause m (Take n) RequestsFull = exceeds_rows m n
+has_cause m e n = false
