@@ -6,6 +6,7 @@ pub mod Writing
 pub mod Asking
 pub mod Alone
 pub mod Torn
+pub mod SyncLaws
 pub mod Stopping
 pub mod Breaking
 pub mod Numerals

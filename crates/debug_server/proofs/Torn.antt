@@ -33,7 +33,7 @@ choice_decides (Short a) (Short b) = Decides-like _ (λ e. ap Short e) (λ e. cc
 choice_decides Eio Eio = (λ e. refl, λ e. refl)
 choice_decides _ _ = differing (λ e. cc)
 
-event_decides : (a b : Event) → Decides (same_event a b) (a ≡ b)
+pub event_decides : (a b : Event) → Decides (same_event a b) (a ≡ b)
 event_decides (Step a) (Step b) = Decides-like _ (λ e. ap Step e) (λ e. cc) (Decides-eqb a b)
 event_decides (Take a) (Take b) = Decides-like _ (λ e. ap Take e) (λ e. cc) (Decides-eqb a b)
 event_decides Sleep Sleep = (λ e. refl, λ e. refl)

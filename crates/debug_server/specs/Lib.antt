@@ -10,3 +10,4 @@ pub mod Tracing
 pub mod Pending
 pub mod Schedules
 pub mod Closing
+pub mod Jobs

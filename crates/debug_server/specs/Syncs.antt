@@ -1,11 +1,13 @@
 -- What a run and the trace of a source have in common, and what is refused of the rest.
-use Rattle.std.specs.Prelude.{ℕ, ◌+◌, ◌==◌, ◌&&◌, List, [], ◌∷◌, Bool, true, false, if◌then◌else◌, Option, Some, None, is_some}
+use Rattle.std.specs.Prelude.{◌≡◌, ◌≢◌, ℕ, ◌+◌, ◌<◌, ◌==◌, ◌&&◌, List, [], ◌∷◌, take, slice_get, Bool, true, false, if◌then◌else◌, Option, Some, None, is_some}
 use Rattle.opcodes.specs.declared.choice.Choice.{Choice}
 use Rattle.opcodes.specs.declared.choice.Choice.TheVariants.{Full, Short, Eio}
 use Rattle.scenario.specs.declared.event.Event.{Event}
 use Rattle.scenario.specs.declared.event.Event.TheVariants.{Step, Take, Sleep, Issue, Finish, Expire, Tick}
+use Rattle.scenario.specs.declared.event.Refusal.{Refusal}
 use Rattle.machine.specs.declared.whole.Machine.{Machine}
 use Rattle.machine.specs.Steps.{refusal, after}
+use Rattle.machine.specs.Runs.{run, Accepts}
 
 abbrev pub same_choice : Choice → Choice → Bool
 same_choice Full Full = true
@@ -33,3 +35,20 @@ torn_from i (e ∷ es) (f ∷ fs) = if same_event e f then torn_from (i + 1) es 
 unfoldable pub refused_from : ℕ → Machine → List Event → Option ℕ
 refused_from i m [] = None
 refused_from i m (e ∷ es) = if is_some (refusal m e) then Some i else refused_from (i + 1) (after m e) es
+
+-- ---- what is said by it
+
+-- The event at k is the first that doesn't stand in the other trace at its place: those before it do, and there stands another, or none.
+pub record IsTorn (es fs : List Event) (k : ℕ) : Type 0 where
+  pub event : Event
+  pub there : slice_get es k ≡ Some event
+  pub same : (i : ℕ) → i < k → slice_get es i ≡ slice_get fs i
+  pub differs : slice_get fs k ≢ Some event
+
+-- The event at k is the first that is refused in its turn: those before it run.
+pub record IsFirstRefused (m : Machine) (es : List Event) (k : ℕ) : Type 0 where
+  pub event : Event
+  pub there : slice_get es k ≡ Some event
+  pub runs : Accepts m (take k es)
+  pub reason : Refusal
+  pub refused : refusal (run m (take k es)) event ≡ Some reason

@@ -4,6 +4,7 @@
 mod answering;
 mod commands;
 mod faults;
+pub mod laws;
 mod lines;
 mod memory;
 mod replaying;

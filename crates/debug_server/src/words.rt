@@ -1,6 +1,9 @@
 //! The program's words.
+ghost use Rattle.std.specs.Prelude.{◌↔◌, IsTrue, IfOk};
+ghost use Rattle.debug_server.specs.Jobs.{LosesScript};
 
 use crate::task::{Form, Job};
+use clap::error::ErrorKind;
 use clap::{Arg, ArgAction, ArgMatches, Command, Error};
 use std::alloc::{AllocError, Global};
 
@@ -8,6 +11,14 @@ const EXAMPLE: &str = "Example: echo where | uringwalk walk examples/one_nop.jso
 
 const COMMANDS: &str =
     "Commands, one a line: where, show PLACE, goto N, back N, on N, watch PLACE, break PLACE = VALUE, unwatch, cont, rcont, sync, quit. docs/USE.md tells what they do, and what faults and refusals mean.";
+
+const TRACED: &str =
+    "OUT is made, or takes the place of a file of its name, but never of SCRIPT. Example:\n  uringwalk trace examples/one_nop.json one_nop.trace\n  echo where | uringwalk replay one_nop.trace";
+
+const MIGRATED: &str =
+    "IN is a trace that trace has written with --form 1. OUT is made, or takes the place of a file of its name, IN among them, but never of SCRIPT. Example:\n  uringwalk trace --form 1 examples/one_nop.json one_nop.trace\n  uringwalk migrate examples/one_nop.json one_nop.trace one_nop.trace";
+
+const ONTO_SCRIPT: &str = "OUT is SCRIPT's own file: the trace would take the script's place";
 
 const SCRIPT: &str = "A script: a setup, programs and a schedule, as JSON";
 
@@ -37,6 +48,7 @@ fn trace_words<'a>(alloc: Global) -> Result<Command<'a>, AllocError> {
         .action(ArgAction::Set);
     Command::new(alloc, "trace")
         .about("Run a script's schedule, and write its trace to a file")
+        .after_help(TRACED)
         .arg(file(alloc, "SCRIPT", SCRIPT))?
         .arg(file(alloc, "OUT", "Where the trace is written to"))?
         .arg(form)
@@ -45,6 +57,7 @@ fn trace_words<'a>(alloc: Global) -> Result<Command<'a>, AllocError> {
 fn migrate_words<'a>(alloc: Global) -> Result<Command<'a>, AllocError> {
     Command::new(alloc, "migrate")
         .about("Put a script's setup before the events of a trace of form 1")
+        .after_help(MIGRATED)
         .arg(file(alloc, "SCRIPT", SCRIPT))?
         .arg(file(alloc, "IN", "A trace of form 1"))?
         .arg(file(alloc, "OUT", "Where the trace of form 2 is written to"))
@@ -86,9 +99,23 @@ fn job_of<'a>(name: &str, matches: &ArgMatches<'a>) -> Job<'a> {
     }
 }
 
-/// Reads the words of the program. Words that can't be read, and help, are errors with their text.
-pub fn job<'a>(alloc: Global, words: &'a [&'a str]) -> Result<Job<'a>, Error> {
-    let command = Command::new(alloc, "uringwalk")
+// Whether a trace would take its script's place.
+fn loses_script(job: Job<'_>) -> bool
+    ensures { IsTrue result ↔ LosesScript job.entry }
+{
+    match job {
+        Job::Trace { script, out, .. } => out == script,
+        Job::Migrate { script, out, .. } => out == script,
+        Job::Walk(_) | Job::Replay(_) => false,
+    }
+}
+
+/// Reads the words of the program. Words that can't be read, help, and a trace onto its script are
+/// errors with their text.
+pub fn job<'a>(alloc: Global, words: &'a [&'a str]) -> Result<Job<'a>, Error>
+    ensures keeps_script { IfOk result (λ j. LosesScript j → ⊥) }
+{
+    let mut command = Command::new(alloc, "uringwalk")
         .about("A reversible debugger for io_uring programs")
         .after_help(EXAMPLE)
         .subcommand_required(true)
@@ -96,9 +123,13 @@ pub fn job<'a>(alloc: Global, words: &'a [&'a str]) -> Result<Job<'a>, Error> {
         .subcommand(trace_words(alloc)?)?
         .subcommand(migrate_words(alloc)?)?
         .subcommand(replay_words(alloc)?)?;
-    let matches = command.try_get_matches_from(words)?;
-    Ok(match matches.subcommand() {
+    let matches = command.try_get_matches_from_mut(words)?;
+    let job = match matches.subcommand() {
         Some((name, matches)) => job_of(name, matches),
         None => Job::Walk(""),
-    })
+    };
+    if loses_script(job) {
+        return Err(command.error(ErrorKind::ArgumentConflict, ONTO_SCRIPT)?);
+    }
+    Ok(job)
 }

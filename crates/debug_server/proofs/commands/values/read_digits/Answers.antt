@@ -1,6 +1,7 @@
 use Rattle.std.proofs.Common.{List, ℕ, ◌∙◌, subst}
 use Rattle.std.specs.Str.Parse.{ParsesUnsigned}
-use Rattle.debug_server.proofs.Numerals.{wide_parsed, numeral_is_text}
+use Rattle.scenario.proofs.Numbers.{numeral_is_text}
+use Rattle.debug_server.proofs.Numerals.{wide_parsed}
 use Rattle.debug_server.proofs.commands.values.read_digits.Goals as goal
 
 pub returns-in-Ok : goal.returns-in-Ok
