@@ -1,7 +1,7 @@
 //! Runs whose rows come in batches: a thread pushes one, and the poller takes it at once.
 ghost use Rattle.std.specs.Prelude.{◌≤◌};
 
-use crate::parts::{Load, setup_of};
+use crate::parts::{Load, add_steps, put_entries, setup_of};
 use entries::Sqe;
 use machine::{Event, Instruction};
 use places::Items;
@@ -15,10 +15,8 @@ pub const BATCH: usize = 4096;
 pub fn batch_load(alloc: Global, entries: &[Sqe], slots: &[u32]) -> Result<Load, AllocError> {
     let mut threads = Vec::new(alloc);
     let mut events = Vec::new(alloc);
-    threads.push(put_program(alloc, entries)?)?;
-    for _entry in entries {
-        events.push(Event::Step(0))?;
-    }
+    threads.push(Items::of(put_entries(alloc, entries)?))?;
+    add_steps(&mut events, 0, entries.len())?;
     for thread in 1..16u32 {
         let batch = batch_of(slots, thread as usize - 1);
         threads.push(push_slots(alloc, batch)?)?;
@@ -39,14 +37,6 @@ fn batch_of(slots: &[u32], number: usize) -> &[u32]
     &slots[first..end]
 }
 
-fn put_program(alloc: Global, entries: &[Sqe]) -> Result<Items<Instruction>, AllocError> {
-    let mut program = Vec::new(alloc);
-    for (slot, entry) in (0..BATCH as u32).zip(entries) {
-        program.push(Instruction::Put(slot, *entry))?;
-    }
-    Ok(Items::of(program))
-}
-
 fn push_slots(alloc: Global, slots: &[u32]) -> Result<Items<Instruction>, AllocError> {
     let mut program = Vec::new(alloc);
     for slot in slots {
@@ -57,9 +47,7 @@ fn push_slots(alloc: Global, slots: &[u32]) -> Result<Items<Instruction>, AllocE
 
 // A thread's pushes, all of which the poller then takes.
 fn add_batch(events: &mut Vec<Event>, thread: u32, rows: usize) -> Result<(), AllocError> {
-    for _row in 0..rows {
-        events.push(Event::Step(thread))?;
-    }
+    add_steps(events, thread, rows)?;
     if rows > 0 {
         events.push(Event::Take(BATCH as u32))?;
     }

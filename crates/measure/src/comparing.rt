@@ -52,14 +52,20 @@ pub fn fit_of(record: &Record, before: &State, after: &State) -> RecordFit {
 
 /// In how many places two states differ.
 pub fn differing(before: &State, after: &State) -> usize {
+    let mut differing = differing_words(before, after);
+    for kind in 0..10 {
+        differing = differing.saturating_add(differing_of(before, after, kind));
+    }
+    differing
+}
+
+// In how many of the places that have no index.
+fn differing_words(before: &State, after: &State) -> usize {
     let mut differing = 0usize;
     for word in &WORDS {
         if differs(before, after, *word) {
             differing = differing.saturating_add(1);
         }
-    }
-    for kind in 0..10 {
-        differing = differing.saturating_add(differing_of(before, after, kind));
     }
     differing
 }

@@ -3,12 +3,11 @@ ghost use Rattle.std.specs.Prelude.{◌≤◌};
 ghost use Rattle.measure.specs.Plans.{HasLimits};
 
 use crate::files::{full_files, sync_load, transfer_load};
-use crate::parts::{Load, Requests, entry, request_load, setup_of};
+use crate::parts::{Load, Requests, add_ends, entry, request_load, setup_of};
 use crate::plan::{MOST_OVERFLOWING, Plan};
 use crate::waiting::{cancel_load, cascade_load, count_load, meet_load, met_load, sever_load};
 use entries::Sqe;
 use machine::{Event, Instruction};
-use opcodes::Choice;
 use places::{Contents, Descriptor, End, Items, Object};
 use std::alloc::{AllocError, Global};
 
@@ -161,15 +160,6 @@ fn add_takes(events: &mut Vec<Event>, thread: u32, pushes: u32) -> Result<(), Al
     for _push in 0..pushes {
         events.push(Event::Step(thread))?;
         events.push(Event::Take(1))?;
-    }
-    Ok(())
-}
-
-// Each of some rows is issued and finished.
-fn add_ends(events: &mut Vec<Event>, from: u32, to: u32) -> Result<(), AllocError> {
-    for row in from..to {
-        events.push(Event::Issue(row))?;
-        events.push(Event::Finish(row, Choice::Full))?;
     }
     Ok(())
 }

@@ -59,6 +59,15 @@ pub fn entry(opcode: u8) -> Sqe {
     }
 }
 
+/// A program that puts entries into the slots from 0 on, as many as a ring has at most.
+pub fn put_entries(alloc: Global, entries: &[Sqe]) -> Result<Vec<Instruction>, AllocError> {
+    let mut program = Vec::new(alloc);
+    for (slot, entry) in (0..4096u32).zip(entries) {
+        program.push(Instruction::Put(slot, *entry))?;
+    }
+    Ok(program)
+}
+
 /// So many events of 16 threads that make requests, one after the other: as many as the programs hold at most.
 pub fn request_load(alloc: Global, count: u32, requests: &Requests<'_>) -> Result<Load, AllocError>
     requires { requests.now.in_program ≤ 1365 }
@@ -86,10 +95,7 @@ fn program(
     requests: &Requests<'_>,
     count: u32,
 ) -> Result<Items<Instruction>, AllocError> {
-    let mut program = Vec::new(alloc);
-    for (slot, entry) in (0..4u32).zip(requests.entries) {
-        program.push(Instruction::Put(slot, *entry))?;
-    }
+    let mut program = put_entries(alloc, requests.entries)?;
     for turn in 0..count {
         add_instructions(&mut program, requests.slots[turn as usize % 4])?;
     }
@@ -115,9 +121,7 @@ fn add_puts(
     requests: u32,
 ) -> Result<(), AllocError> {
     if requests > 0 {
-        for _entry in entries {
-            events.push(Event::Step(thread))?;
-        }
+        add_steps(events, thread, entries.len())?;
     }
     Ok(())
 }
@@ -134,6 +138,23 @@ fn add_requests(
 {
     for request in 0..requests {
         add_request(events, thread, first + request)?;
+    }
+    Ok(())
+}
+
+/// So many steps of a thread.
+pub fn add_steps(events: &mut Vec<Event>, thread: u32, steps: usize) -> Result<(), AllocError> {
+    for _step in 0..steps {
+        events.push(Event::Step(thread))?;
+    }
+    Ok(())
+}
+
+/// Each of some rows is issued and finished.
+pub fn add_ends(events: &mut Vec<Event>, from: u32, to: u32) -> Result<(), AllocError> {
+    for row in from..to {
+        events.push(Event::Issue(row))?;
+        events.push(Event::Finish(row, Choice::Full))?;
     }
     Ok(())
 }

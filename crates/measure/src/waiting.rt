@@ -2,7 +2,7 @@
 ghost use Rattle.std.specs.Prelude.{◌≤◌};
 
 use crate::batches::{BATCH, batch_load};
-use crate::parts::{Load, entry};
+use crate::parts::{Load, add_ends, entry};
 use entries::Sqe;
 use machine::Event;
 use opcodes::Choice;
@@ -47,10 +47,7 @@ pub fn cancel_load(alloc: Global, count: u32) -> Result<Load, AllocError>
     }
     let mut load = batch_load(alloc, &[cancel, timeout(0, 0), wanted], &slots)?;
     issue_all(&mut load.events, ENDED, ENDED + count)?;
-    for row in 0..ENDED {
-        load.events.push(Event::Issue(row))?;
-        load.events.push(Event::Finish(row, Choice::Full))?;
-    }
+    add_ends(&mut load.events, 0, ENDED)?;
     Ok(load)
 }
 
@@ -59,9 +56,7 @@ pub fn count_load(alloc: Global, count: u32) -> Result<Load, AllocError>
     requires { count ≤ 61340 }
 {
     let mut slots = vec![in alloc; 0u32; ENDED as usize]?;
-    for _row in 0..count {
-        slots.push(1)?;
-    }
+    add_rows(&mut slots, 1, count)?;
     finish_load(alloc, &[entry(NOP), timeout(FAR, 0)], &slots, count)
 }
 
@@ -72,9 +67,7 @@ pub fn meet_load(alloc: Global, count: u32) -> Result<Load, AllocError>
     let met = count.min(ENDED);
     let mut entries = Vec::from_slice(alloc, &[entry(NOP), timeout(FAR, 0)])?;
     let mut slots = vec![in alloc; 0u32; ENDED as usize]?;
-    for _row in met..count {
-        slots.push(1)?;
-    }
+    add_rows(&mut slots, 1, count - met)?;
     for turn in 0..met {
         entries.push(timeout(u64::from(turn) + 1, 0))?;
         slots.push(turn + 2)?;
@@ -118,9 +111,7 @@ fn end_load(alloc: Global, first: Sqe, other: Sqe, count: u32) -> Result<Load, A
     requires { count ≤ 61340 }
 {
     let mut slots = vec![in alloc; 0u32; 1]?;
-    for _row in 0..count {
-        slots.push(1)?;
-    }
+    add_rows(&mut slots, 1, count)?;
     let mut load = batch_load(alloc, &[first, other], &slots)?;
     issue_all(&mut load.events, 0, count + 1)?;
     load.events.push(Event::Finish(0, Choice::Full))?;
@@ -180,6 +171,14 @@ fn timeout(off: u64, flags: u8) -> Sqe {
         len: 1,
         ..entry(TIMEOUT)
     }
+}
+
+// So many more rows of a slot.
+fn add_rows(slots: &mut Vec<u32>, slot: u32, count: u32) -> Result<(), AllocError> {
+    for _row in 0..count {
+        slots.push(slot)?;
+    }
+    Ok(())
 }
 
 fn issue_all(events: &mut Vec<Event>, from: u32, to: u32) -> Result<(), AllocError> {
