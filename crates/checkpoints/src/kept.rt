@@ -1,5 +1,5 @@
 //! The copies that are kept.
-ghost use Rattle.std.specs.Prelude.{◌≡◌, ◌<◌, ◌/◌, ◌++◌, length, slice_get, Some, OnOk, OnErr};
+ghost use Rattle.std.specs.Prelude.{◌≡◌, ◌<◌, ◌/◌, ◌++◌, [], length, slice_get, Some, IsOk, OnOk, OnErr};
 ghost use Rattle.checkpoints.specs.Checkpoints.{no_states, nearest as nearest_to, IsNearest};
 
 use machine::State;
@@ -62,6 +62,7 @@ impl Kept {
     /// Adds the states of the next multiples, in order. Where memory is refused they are dropped.
     pub fn keep(&mut self, mut states: Vec<State>) -> Result<(), AllocError>
         ensures ok { OnOk result (self.new ≡ record self.old { states = self.old.states ++ states.items }) }
+        ensures none { states.items ≡ [] → IsOk result }
         ensures err { OnErr result (self.new ≡ self.old) }
     {
         self.states.append(&mut states)

@@ -1,5 +1,5 @@
 //! Events that are run, and of which nothing is kept.
-ghost use Rattle.std.specs.Prelude.{◌≡◌, ◌≤◌, ℕ, None, length, OnOk, IfErr};
+ghost use Rattle.std.specs.Prelude.{◌≡◌, ◌≤◌, ℕ, [], None, length, IsOk, OnOk, IfErr};
 ghost use Rattle.machine.specs.Runs.{start, Accepts, IsRefused};
 ghost use Rattle.scenario.specs.declared.event.Refusal.{Refusal as Denial};
 ghost use Rattle.scenario.specs.declared.setup.Setup.{Setup as Start};
@@ -47,6 +47,7 @@ fn run_from(alloc: Global, setup: &Setup, events: &[Event]) -> Result<(), RunFau
 fn step_all(state: &mut State, events: &[Event]) -> Result<(), RunFault>
     requires most { length events.now ≤ 1048576 }
     ensures accepts { OnOk result (Accepts state.old events.now) }
+    ensures none { events.now ≡ [] → IsOk result }
     ensures stops { IfErr result (λ e. (setup : Start) → state.old ≡ start setup → StopsBy setup events.now e) }
 {
     for i in 0..events.len() {

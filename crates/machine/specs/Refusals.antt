@@ -116,8 +116,9 @@ cannot_end m c row = if is_cancel row.entry.opcode then not (is_in_full c) else 
 
 -- ---- the causes
 
--- Whether an event has the cause of a refusal, whatever others it has; in the order of their numbers. What is asked of a thread, a row or
--- a poller is no cause where there is none. Want of memory has no cause in a machine.
+-- Whether an event has the cause of a refusal, whatever others it has; in the order of their numbers. What is asked of a thread or
+-- a row is no cause where there is none. A row without a deadline is never due, and a Take exceeds the rows whatever the poller does.
+-- Want of memory has no cause in a machine.
 abbrev pub has_cause : Machine → Event → Refusal → Bool
 has_cause m (Step t) NoSuchThread = is_none (slice_get m.threads t)
 has_cause m (Step t) ThreadDone = option_map_or is_at_end (slice_get m.threads t) false

@@ -87,9 +87,9 @@ fn kept_bytes(records: &[Record]) -> usize {
     sum
 }
 
-fn ended(walker: &Walker) -> u64 {
+fn counted(walker: &Walker) -> u64 {
     match walker.state().value(Place::Counted) {
-        Some(Value::Number(ended)) => ended,
+        Some(Value::Number(counted)) => counted,
         _ => 0,
     }
 }
@@ -103,7 +103,7 @@ fn print_counts(rt: &(impl Print + Eprint), walker: &Walker) -> io::Result<()> {
     println!(rt; "events {}", walker.len())?;
     println!(rt; "position {}", walker.at())?;
     println!(rt; "walked {}", walker.walked())?;
-    println!(rt; "ended {}", ended(walker))
+    println!(rt; "counted {}", counted(walker))
 }
 
 // Adds the events, goes to the end, to the start and to the end again.

@@ -1,5 +1,5 @@
 //! Walks to where a watch or a break stops.
-ghost use Rattle.std.specs.Prelude.{◌≡◌, ◌≢◌, ◌+◌, ◌-◌, ◌<◌, ◌≤◌, ◌↔◌, true, false, Some, None, length, IsTrue, IfOk, OnOk, OnErr};
+ghost use Rattle.std.specs.Prelude.{◌≡◌, ◌≢◌, ◌+◌, ◌-◌, ◌<◌, ◌≤◌, ◌↔◌, true, false, Some, None, length, IsTrue, IsOk, IfOk, OnOk, OnErr};
 ghost use Rattle.std.specs.List.{list_any};
 ghost use Rattle.places.specs.View.{View, Exact, named};
 ghost use Rattle.machine.specs.Whole.{view};
@@ -57,6 +57,7 @@ pub fn cont(walker: &mut Walker, watches: &Watches) -> Result<Stop, AllocError>
     ensures stop { IfOk result (λ stop. stop ≡ later_of walker.old watches.now) }
     ensures meaning { IfOk result (IsLater walker.old watches.now) }
     ensures lands { IfOk result (λ stop. walker.new ≡ moved walker.old (position_of walker.old stop)) }
+    ensures none { walker.old.at ≡ length walker.old.events → IsOk result }
     ensures err { OnErr result (walker.new ≡ walker.old) }
 {
     let (from, len) = (walker.at(), walker.len());

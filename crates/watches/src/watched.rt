@@ -1,5 +1,5 @@
 //! Watched places, and values to stop at.
-ghost use Rattle.std.specs.Prelude.{◌≡◌, ◌+◌, ◌<◌, ◌≤◌, length, IfOk, OnOk, OnErr};
+ghost use Rattle.std.specs.Prelude.{◌≡◌, ◌+◌, ◌<◌, ◌≤◌, true, length, IsOk, IfOk, OnOk, OnErr};
 ghost use Rattle.places.specs.Places.{same_place};
 ghost use Rattle.watches.specs.Watching.{nothing, watched, broken, is_watched};
 
@@ -78,6 +78,7 @@ impl Watches {
     pub fn watch(&mut self, place: Place) -> Result<u32, AllocError>
         requires { length self.old.places < 64 }
         ensures ok { OnOk result (self.new ≡ watched self.old place) }
+        ensures there { is_watched self.old.places place ≡ true → IsOk result }
         ensures number { IfOk result (λ n. n ≡ length self.new.places) }
         ensures err { OnErr result (self.new ≡ self.old) }
     {
