@@ -1,5 +1,5 @@
-//! Tests that cross crates: what records name, each public call once with ample memory, and sessions over
-//! readers and writers that give little or fail.
+//! Tests that cross crates: each public call once with ample memory, the texts of faults and of all kinds of values,
+//! and sessions over readers and writers that give little or fail.
 #![tactic(auto)]
 
 #[cfg(test)]

@@ -1,21 +1,12 @@
 //! The run of one NOP through all layers.
 
 mod calls;
-mod cancels;
-mod chains;
 mod devices;
-mod entering;
 mod failures;
-mod files;
-mod notes;
-mod pipes;
-mod records;
 mod sessions;
 mod shown;
 mod sources;
-mod stops;
 mod texts;
-mod timers;
 mod tracing;
 mod words;
 

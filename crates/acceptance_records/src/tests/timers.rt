@@ -1,7 +1,6 @@
 //! What records name of timeouts, of their guards, and of the rows that fall with them.
 
 use crate::tests::records::{names_just, scheduled_record};
-use crate::tests::shown::shows;
 use places::Place;
 use std::test::Fail;
 
@@ -45,16 +44,6 @@ fn a_guard_that_ends_a_chain_names_ten_places(rt: HostRuntime) -> Result<(), Fai
         Place::Counted,
     ];
     assert!(rt; names_just(&record, &places));
-    Ok(())
-}
-
-#[test]
-fn a_walk_back_restores_what_a_guard_ended(rt: HostRuntime) -> Result<(), Fail> {
-    let input =
-        "show row 1\nshow counted\nback 1\nshow row 0\nshow row 1\nshow row 2\nshow row 3\nshow cq.tail\nshow counted\n";
-    let output =
-        "op 15 user 2 unit 0 ended -62\n3\nat 12 of 13\nop 22 user 1 unit 0 issued\nop 15 user 2 unit 0 issued\nop 0 user 3 unit 0 queued\nop 0 user 4 unit 0 queued\n0\n0\n";
-    assert!(rt; shows(rt.alloc(), GUARD_OF_A_READ_THAT_WAITS, input, output)?);
     Ok(())
 }
 

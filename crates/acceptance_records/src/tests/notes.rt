@@ -10,7 +10,7 @@ use std::test::Fail;
 struct FiveOnTheClock {}
 
 impl At for FiveOnTheClock {
-    ghost use Rattle.acceptance.specs.Clocks.{five_on_the_clock};
+    ghost use Rattle.acceptance_records.specs.Clocks.{five_on_the_clock};
 
     ghost seen = { λ a. five_on_the_clock };
 
