@@ -13,10 +13,10 @@ const COMMANDS: &str =
     "Commands, one a line: where, show PLACE, goto N, back N, on N, watch PLACE, break PLACE = VALUE, unwatch, cont, rcont, sync, quit. docs/USE.md tells what they do, and what faults and refusals mean.";
 
 const TRACED: &str =
-    "OUT is made, or takes the place of a file of its name; it can't be the word that is given for SCRIPT. Example:\n  uringwalk trace examples/one_nop.json one_nop.trace\n  echo where | uringwalk replay one_nop.trace";
+    "OUT is made, or takes the place of a file of its name; it can't be SCRIPT's own file. Example:\n  uringwalk trace examples/one_nop.json one_nop.trace\n  echo where | uringwalk replay one_nop.trace";
 
 const MIGRATED: &str =
-    "IN is a trace that trace has written with --form 1. OUT is made, or takes the place of a file of its name, IN among them; it can't be the word that is given for SCRIPT. Example:\n  uringwalk trace --form 1 examples/one_nop.json one_nop.trace\n  uringwalk migrate examples/one_nop.json one_nop.trace one_nop.trace";
+    "IN is a trace that trace has written with --form 1. OUT is made, or takes the place of a file of its name, IN among them; it can't be SCRIPT's own file. Example:\n  uringwalk trace --form 1 examples/one_nop.json one_nop.trace\n  uringwalk migrate examples/one_nop.json one_nop.trace one_nop.trace";
 
 const ONTO_SCRIPT: &str = "OUT is SCRIPT's own file: the trace would take the script's place";
 

@@ -4,8 +4,10 @@ ghost use Rattle.std.specs.IoError.{error_kind};
 ghost use Rattle.uringwalk.specs.Files.{told_as};
 
 use debug_server::{Fault, RunFault};
+use std::alloc::Global;
 use std::fs::{File, OpenFile};
 use std::io::{ErrorKind, Read, Write};
+use std::path::PathBuf;
 use std::rt::Files;
 use std::{fs, io};
 
@@ -19,6 +21,33 @@ pub fn fault_of(error: &io::Error) -> Fault
     match error.kind() {
         ErrorKind::OutOfMemory => Fault::Run(RunFault::Memory),
         _ => Fault::File,
+    }
+}
+
+// Where a path leads to, through links; nothing where that can't be told, or nothing stands there.
+fn real_path(
+    rt: &(impl Files + AllocGlobal),
+    path: &str,
+) -> Result<Option<PathBuf<Global>>, Fault> {
+    match fs::canonicalize(rt, path) {
+        Ok(place) => Ok(Some(place)),
+        Err(error) if error.kind() == ErrorKind::OutOfMemory => Err(fault_of(&error)),
+        Err(_) => Ok(None),
+    }
+}
+
+/// Whether two paths lead to one file that is there, by links among them (realpath(3)). A second name of a file,
+/// a hard link, is another file here: what takes its place leaves the first one.
+pub fn lead_to_one_file(
+    rt: &(impl Files + AllocGlobal),
+    one: &str,
+    other: &str,
+) -> Result<bool, Fault> {
+    let one = real_path(rt, one)?;
+    let other = real_path(rt, other)?;
+    match (&one, &other) {
+        (Some(one), Some(other)) => Ok(one.as_path() == other.as_path()),
+        _ => Ok(false),
     }
 }
 

@@ -10,7 +10,7 @@ mod tests;
 use debug_server::{
     Fault, Form, Job, RunFault, ServeFault, Traced, job, migrate_trace, replay, trace_script, walk,
 };
-use files::{read_file, write_file};
+use files::{lead_to_one_file, read_file, write_file};
 use std::process::ExitCode;
 use std::rt::Files;
 use std::{env, fmt, io};
@@ -24,6 +24,10 @@ const TRACE_AND_ONE: u64 = 16777229;
 /// One byte more than a trace of the second form may have: 65,536 bytes of memory, 32 files as long, 64
 /// descriptors, 16 programs of 4,096 stores of 4,096 bytes, and 1,048,576 events.
 const WHOLE_TRACE_AND_ONE: u64 = 287966118;
+
+/// What is told where OUT is another path of the script's file.
+const ONTO_SCRIPT: &str =
+    "error: OUT leads to SCRIPT's own file: the trace would take the script's place";
 
 /// What a session stands over.
 #[derive(Clone, Copy)]
@@ -93,6 +97,15 @@ fn run(rt: &(impl Files + Input + Print + AllocGlobal), job: Job<'_>) -> Result<
     }
 }
 
+// Whether a trace would take the place of its script, which another path names.
+fn loses_script(rt: &(impl Files + AllocGlobal), job: Job<'_>) -> Result<bool, Fault> {
+    match job {
+        Job::Trace { script, out, .. } => lead_to_one_file(rt, script, out),
+        Job::Migrate { script, out, .. } => lead_to_one_file(rt, script, out),
+        Job::Walk(_) | Job::Replay(_) => Ok(false),
+    }
+}
+
 // Ends with a status, and a line on standard error if it can be written.
 fn fail<T: fmt::Display>(rt: &impl Eprint, status: u8, line: &T) -> ExitCode {
     match eprintln!(rt; "{line}") {
@@ -100,21 +113,39 @@ fn fail<T: fmt::Display>(rt: &impl Eprint, status: u8, line: &T) -> ExitCode {
     }
 }
 
+// Ends for want of memory.
+fn fail_for_memory(rt: &impl Eprint) -> ExitCode {
+    fail(rt, 1, &Fault::Run(RunFault::Memory))
+}
+
 fn main(rt: HostRuntime) -> io::Result<ExitCode> {
     let alloc = rt.alloc();
     let words = match env::args(&rt) {
-        Ok(words) => words,
+        Ok(words) => words.collect::<Vec<String>>(alloc),
         Err(error) if error.kind() == io::ErrorKind::OutOfMemory => {
-            return Ok(fail(&rt, 1, &Fault::Run(RunFault::Memory)));
+            return Ok(fail_for_memory(&rt));
         }
         Err(_) => return Ok(fail(&rt, 2, &"error: a word is not UTF-8 text")),
     };
-    let words: Vec<String> = words.collect(alloc)?;
-    let texts: Vec<&str> = words.iter().map(|word| word.as_str()).collect(alloc)?;
+    let Ok(words) = words else {
+        return Ok(fail_for_memory(&rt));
+    };
+    let Ok(texts) = words
+        .iter()
+        .map(|word| word.as_str())
+        .collect::<Vec<&str>>(alloc)
+    else {
+        return Ok(fail_for_memory(&rt));
+    };
     let job = match job(alloc, &texts) {
         Ok(job) => job,
         Err(error) => return Ok(fail(&rt, 2, &error)),
     };
+    match loses_script(&rt, job) {
+        Ok(false) => {}
+        Ok(true) => return Ok(fail(&rt, 2, &ONTO_SCRIPT)),
+        Err(fault) => return Ok(fail(&rt, 1, &fault)),
+    }
     match run(&rt, job) {
         Ok(()) => Ok(ExitCode::SUCCESS),
         Err(fault) => Ok(fail(&rt, 1, &fault)),
