@@ -11,3 +11,4 @@ pub mod Pending
 pub mod Schedules
 pub mod Closing
 pub mod Jobs
+pub mod Failing

@@ -1,6 +1,7 @@
 //! What ends a run or a session early.
 
 use machine::Refusal;
+use machine::laws::number_told;
 use script::{Key, Path, ScriptFault};
 use std::fmt;
 use thiserror::Error;
@@ -39,9 +40,36 @@ pub enum RunFault {
 pub struct PathText(pub Path);
 
 impl fmt::Display for PathText {
+    ghost use Rattle.std.specs.Prelude.{Some};
+    ghost use Rattle.debug_server.specs.Failing.{path_text};
+
+    ghost output = { λ text. Some (path_text text.0) };
+
     fn fmt<W: fmt::Write>(&self, f: &mut fmt::Formatter<W>) -> fmt::Result {
         let PathText(path) = self;
-        let key = match path.key {
+        write!(
+            f,
+            "{}{}{}",
+            KeyText(path.key),
+            IndexText(path.item),
+            IndexText(path.inner)
+        )
+    }
+}
+
+// A key's word.
+#[derive(Clone, Copy)]
+struct KeyText(Key);
+
+impl fmt::Display for KeyText {
+    ghost use Rattle.std.specs.Prelude.{Some};
+    ghost use Rattle.debug_server.specs.Failing.{key_text};
+
+    ghost output = { λ text. Some (key_text text.0) };
+
+    fn fmt<W: fmt::Write>(&self, f: &mut fmt::Formatter<W>) -> fmt::Result {
+        let KeyText(key) = self;
+        f.write_str(match key {
             Key::Document => "document",
             Key::Entries => "entries",
             Key::Cq => "cq",
@@ -53,34 +81,67 @@ impl fmt::Display for PathText {
             Key::Fds => "fds",
             Key::Threads => "threads",
             Key::Schedule => "schedule",
-        };
-        write!(f, "{key}")?;
-        if let Some(i) = path.item {
-            write!(f, " {i}")?;
+        })
+    }
+}
+
+// An index behind a space, or nothing.
+#[derive(Clone, Copy)]
+struct IndexText(Option<u32>);
+
+impl fmt::Display for IndexText {
+    ghost use Rattle.std.specs.Prelude.{Some};
+    ghost use Rattle.debug_server.specs.Failing.{index_text};
+
+    ghost output = { λ text. Some (index_text text.0) };
+
+    fn fmt<W: fmt::Write>(&self, f: &mut fmt::Formatter<W>) -> fmt::Result {
+        match self {
+            IndexText(Some(index)) => write!(f, " {index}"),
+            IndexText(None) => Ok(()),
         }
-        if let Some(j) = path.inner {
-            write!(f, " {j}")?;
-        }
-        Ok(())
     }
 }
 
 /// What the program prints as it fails.
 #[derive(Debug, Drop, Error)]
 pub enum Fault {
-    #[error("fault file")]
+    /// A file couldn't be read or written.
     File,
-    #[error("{0}")]
     Run(RunFault),
 }
 
 impl From<RunFault> for Fault {
+    ghost use Rattle.std.specs.Prelude.{◌≡◌};
+    ghost use Rattle.debug_server.specs.declared.faults.Fault.TheVariants.{Run};
+
+    ghost from_gives = { λ run e. e ≡ Run run };
+
     fn from(fault: RunFault) -> Fault {
         Fault::Run(fault)
     }
 }
 
+impl fmt::Display for Fault {
+    ghost use Rattle.std.specs.Prelude.{Some};
+    ghost use Rattle.debug_server.specs.Failing.{failure_text};
+
+    ghost output = { λ fault. Some (failure_text fault) };
+
+    fn fmt<W: fmt::Write>(&self, f: &mut fmt::Formatter<W>) -> fmt::Result {
+        match self {
+            Fault::File => f.write_str("fault file"),
+            Fault::Run(fault) => write!(f, "{fault}"),
+        }
+    }
+}
+
 impl fmt::Display for RunFault {
+    ghost use Rattle.std.specs.Prelude.{Some};
+    ghost use Rattle.debug_server.specs.Failing.{run_fault_text};
+
+    ghost output = { λ fault. Some (run_fault_text fault) };
+
     fn fmt<W: fmt::Write>(&self, f: &mut fmt::Formatter<W>) -> fmt::Result {
         match self {
             RunFault::Script(ScriptFault::NotJson) => write!(f, "fault script 1"),
@@ -95,7 +156,7 @@ impl fmt::Display for RunFault {
             }
             RunFault::Script(ScriptFault::Memory) | RunFault::Memory => write!(f, "fault memory"),
             RunFault::Schedule(i, refusal) => {
-                let number = *refusal as u32;
+                let number = number_told(*refusal);
                 write!(f, "fault schedule {i} {number}")
             }
             RunFault::Serve(fault) => {
