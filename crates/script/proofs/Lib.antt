@@ -3,6 +3,7 @@ pub mod Chain
 pub mod Clean
 pub mod Each
 pub mod Numbered
+pub mod Once
 pub mod KeptLimits
 pub mod Marks
 pub mod Starts

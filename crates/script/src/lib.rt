@@ -7,6 +7,7 @@ mod event;
 mod fault;
 mod instruction;
 mod keys;
+pub mod laws;
 mod memory;
 mod names;
 mod number;
