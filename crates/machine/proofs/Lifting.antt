@@ -1,16 +1,18 @@
 -- What a part keeps, the whole machine keeps.
-use Rattle.std.proofs.Common.{◌≡◌, ℕ, Bool, true, false, refl, sym, ◌∙◌, ap, List}
-use Rattle.std.specs.Prelude.{Option, Some, unwrap_or, if◌then◌else◌}
+use Rattle.std.proofs.Common.{◌≡◌, ℕ, ◌<◌, Bool, true, false, refl, sym, ◌∙◌, ap, subst, length, List}
+use Rattle.std.specs.Prelude.{Option, Some, unwrap_or, option_map, slice_get, slice_set, if◌then◌else◌}
+use Rattle.entries.specs.declared.entry.Sqe.{Sqe}
 use Rattle.entries.specs.declared.row.Row.{Row}
 use Rattle.places.specs.declared.place.Place.{Place}
 use Rattle.places.specs.declared.place.Place.TheVariants.{SubmissionHead, SubmissionTail, SubmissionFlags, SubmissionDropped, CompletionHead, CompletionTail, Array, Slot, Completion, MemoryByte, FileByte, DurableByte, FileLength, DurableLength, Position, OpenMark, PipeByte, PutCount, TakenCount, EventCount, Request, Backlog, BacklogFront, Clock, Counted, PollerStage, ProgramCounter, ThreadStage, Last, Got}
 use Rattle.places.specs.declared.value.Value.{Value}
-use Rattle.places.specs.declared.value.Value.TheVariants.{Number}
+use Rattle.places.specs.declared.value.Value.TheVariants.{Number, Entry}
 use Rattle.places.specs.declared.value.Change.{Change}
 use Rattle.places.specs.Places.{same_place}
 use Rattle.places.specs.View.{View, named, undo, put_at, Keeps, Noted}
 use Rattle.places.proofs.SamePlace.{same_place_is}
 use Rattle.places.proofs.Keeping.{keeps_noted}
+use Rattle.ring_words.proofs.Seen.{sub_seen_slot}
 use Rattle.ring_words.specs.Rings.{SubWords, sub_owns, sub_seen, sub_can_put, ComWords, com_owns, com_seen, com_can_put}
 use Rattle.model_files.specs.Worlds.{WorldState, world_owns, world_seen, world_can_put}
 use Rattle.links_drains.specs.Rows.{table_owns, table_seen, table_can_put}
@@ -147,6 +149,12 @@ seen_submissions m w p v o h SubmissionDropped = h SubmissionDropped
 seen_submissions m w p v o h (Array i) = h (Array i)
 seen_submissions m w p v o h (Slot i) = h (Slot i)
 seen_submissions m w p v o h q = apart sub_owns p q v (view m q) o refl
+
+-- an entry slot is noted, and then written
+pub keeps_slot : (m : Machine) (i : ℕ) (b e : Sqe) (cs ds : List Change) → slice_get m.submissions.slots i ≡ Some b → i < length m.submissions.slots → Noted cs ds (Slot i) (Some (Entry b)) → Keeps everywhere (view m) (view (record m { submissions = record m.submissions { slots = slice_set m.submissions.slots i e } })) cs ds
+keeps_slot m i b e cs ds was there noted =
+    let w = record m.submissions { slots = slice_set m.submissions.slots i e } in
+    keeps_noted everywhere (view m) (view (record m { submissions = w })) cs ds (Slot i) (Some (Entry e)) refl (subst (λ (o : Option Sqe). Noted cs ds (Slot i) (option_map Entry o)) (sym was) noted) (seen_submissions m w (Slot i) (Some (Entry e)) refl (sub_seen_slot m.submissions i e there))
 
 pub seen_completions : (m : Machine) (w : ComWords) (p : Place) (v : Option Value) → com_owns p ≡ true → ((q : Place) → com_seen w q ≡ put_at (com_seen m.completions) p v q) → (q : Place) → view (record m { completions = w }) q ≡ put_at (view m) p v q
 seen_completions m w p v o h CompletionHead = h CompletionHead

@@ -7,7 +7,7 @@ ghost use Rattle.scenario.specs.declared.setup.Instruction.TheVariants.{Put, Pus
 
 use crate::whole::Machine;
 use entries::Sqe;
-use places::Recorder;
+use places::{Place, Recorder, Value};
 use std::alloc::AllocError;
 
 impl Machine {
@@ -25,7 +25,11 @@ impl Machine {
         ensures grows { Grows self.old self.new }
         ensures keeps { Keeps everywhere (view self.old) (view self.new) notes.old.made notes.new.made }
     {
-        self.submissions.put_entry(slot, entry, notes)?;
+        let Some(before) = self.submissions.entry(slot) else {
+            unreachable!()
+        };
+        notes.note(Place::Slot(slot), Some(Value::Entry(before)))?;
+        self.submissions.put_entry(slot, entry);
         self.threads.go_on(t, notes)
     }
 

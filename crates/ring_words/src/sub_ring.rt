@@ -227,25 +227,12 @@ impl SubRing {
         self.slots.get(index as usize).copied()
     }
 
-    /// Writes an entry slot, as an application does. The note may take memory.
-    pub fn put_entry(
-        &mut self,
-        slot: u32,
-        entry: Sqe,
-        notes: &mut Recorder,
-    ) -> Result<(), AllocError>
+    /// Writes an entry slot, as an application does. What stood there is its caller's to note.
+    pub fn put_entry(&mut self, slot: u32, entry: Sqe)
         requires { slot < length self.old.slots }
-        ensures next { OnOk result (self.new ≡ record self.old { slots = slice_set self.old.slots slot entry }) }
-        ensures err { OnErr result (self.new ≡ self.old) }
-        ensures keeps { Keeps sub_owns (sub_seen self.old) (sub_seen self.new) notes.old.made notes.new.made }
-        ensures spends_numbers { notes.old.numbers ≤ notes.new.numbers }
-        ensures spends_completions { notes.old.completions ≤ notes.new.completions }
-        ensures spends_others { notes.old.others ≤ notes.new.others + 1 }
+        ensures { self.new ≡ record self.old { slots = slice_set self.old.slots slot entry } }
     {
-        let at = slot as usize;
-        notes.note(Place::Slot(slot), Some(Value::Entry(self.slots[at])))?;
-        self.slots[at] = entry;
-        Ok(())
+        self.slots[slot as usize] = entry;
     }
 
     /// Adds an index behind the others.

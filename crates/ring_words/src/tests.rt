@@ -102,24 +102,23 @@ fn indexes_are_taken_at_once(rt: HostRuntime) -> Result<(), Fail> {
     Ok(())
 }
 
-fn check_entries(rt: &(impl Abort + AllocGlobal), ring: &mut SubRing) -> Result<(), Fail> {
-    let mut notes = Recorder::new(rt.alloc());
+fn check_entries(rt: &impl Abort, ring: &mut SubRing) {
     assert_eq!(rt; ring.size(), 2);
     assert_eq!(rt; ring.entry(2), None);
     let entry = Sqe {
         user_data: 5,
         ..zero()
     };
-    ring.put_entry(1, entry, &mut notes)?;
+    ring.put_entry(1, entry);
     assert_eq!(rt; ring.entry(0), Some(zero()));
     assert_eq!(rt; ring.entry(1), Some(entry));
-    Ok(())
 }
 
 #[test]
 fn entries_stand_in_slots(rt: HostRuntime) -> Result<(), Fail> {
     let mut ring = SubRing::new(rt.alloc(), 2, 0)?;
-    check_entries(&rt, &mut ring)
+    check_entries(&rt, &mut ring);
+    Ok(())
 }
 
 fn check_flags(rt: &(impl Abort + AllocGlobal), ring: &mut SubRing) -> Result<(), Fail> {

@@ -1,4 +1,4 @@
-use Rattle.std.proofs.Common.{◌≡◌, sym, rules}
+use Rattle.std.proofs.Common.{sym, rules}
 use Rattle.ring_words.specs.Rings.{SubFormed}
 use Rattle.ring_words.proofs.Laws.{sub_length}
 use Rattle.ring_words.proofs.sub_ring.SubRing.waiting.Goals as goal
