@@ -1,7 +1,7 @@
 -- Plans that a machine has room for.
 use Rattle.std.specs.Prelude.{◌≤◌}
 use Rattle.measure.specs.declared.plan.Plan.{Plan}
-use Rattle.measure.specs.declared.plan.Plan.TheVariants.{Nops, Jumps, Overflow, Issues, Polls, Full, Ticks, Transfers, Syncs, Cancels, Counts, Meets, Cascade, Met, Severed}
+use Rattle.measure.specs.declared.plan.Plan.TheVariants.{Nops, Jumps, Overflow, Issues, Polls, Full, Ticks, Transfers, Syncs, Cancels, Counts, Meets, Cascade, Met, Severed, Links, Drains, Mixed}
 
 -- a setup has programs for the requests and the pushes, a trace room for the events
 abbrev pub HasLimits : Plan → Type 0
@@ -20,3 +20,6 @@ HasLimits (Meets n) = n ≤ 61340
 HasLimits (Cascade n) = n ≤ 61340
 HasLimits (Met n) = n ≤ 61340
 HasLimits (Severed n) = n ≤ 61340
+HasLimits (Links n) = n ≤ 61340
+HasLimits (Drains n) = n ≤ 61340
+HasLimits (Mixed n) = n ≤ 109040

@@ -1,15 +1,10 @@
 //! Requests on a file: transfers of whole pages, and single bytes that are brought to the device.
 
+use crate::numbers::{FSYNC, READ, WRITE};
 use crate::parts::{Load, Requests, entry, request_load};
 use entries::Sqe;
 use places::{Contents, Descriptor, End, Items, Object};
 use std::alloc::{AllocError, Global};
-
-const FSYNC: u8 = 3;
-
-const READ: u8 = 22;
-
-const WRITE: u8 = 23;
 
 /// The descriptor of the file.
 const FD: i32 = 3;
@@ -60,8 +55,8 @@ pub fn full_files(alloc: Global) -> Result<Items<Object>, AllocError> {
     Ok(Items::of(files))
 }
 
-// An entry on the file.
-fn transfer(opcode: u8, off: u64, addr: u64, len: u32) -> Sqe {
+/// An entry on the file.
+pub fn transfer(opcode: u8, off: u64, addr: u64, len: u32) -> Sqe {
     Sqe {
         fd: FD,
         off,
@@ -80,7 +75,7 @@ fn file_load(
 ) -> Result<Load, AllocError> {
     let requests = Requests {
         entries,
-        slots: [0, 2, 1, 2],
+        slots: [0, 2, 1, 2, 0, 2, 1, 2],
         in_program: PROGRAM_REQUESTS,
     };
     let mut load = request_load(alloc, count, &requests)?;
@@ -90,7 +85,8 @@ fn file_load(
     Ok(load)
 }
 
-fn file_object(alloc: Global, file: Vec<u8>) -> Result<Object, AllocError> {
+/// A file of these bytes.
+pub fn file_object(alloc: Global, file: Vec<u8>) -> Result<Object, AllocError> {
     Ok(Object {
         name: Items::of(vec![in alloc; b'f'; 1]?),
         contents: Contents::File(Items::of(file)),

@@ -3,19 +3,15 @@ ghost use Rattle.std.specs.Prelude.{◌≤◌};
 ghost use Rattle.measure.specs.Plans.{HasLimits};
 
 use crate::files::{full_files, sync_load, transfer_load};
+use crate::numbers::{NOP, POLL_ADD};
 use crate::parts::{Load, Requests, add_ends, entry, request_load, setup_of};
 use crate::plan::{MOST_OVERFLOWING, Plan};
+use crate::turns::{drain_load, link_load, mixed_load};
 use crate::waiting::{cancel_load, cascade_load, count_load, meet_load, met_load, sever_load};
 use entries::Sqe;
 use machine::{Event, Instruction};
 use places::{Contents, Descriptor, End, Items, Object};
 use std::alloc::{AllocError, Global};
-
-/// The opcode of a NOP.
-const NOP: u8 = 0;
-
-/// The opcode of a POLL_ADD.
-const POLL_ADD: u8 = 6;
 
 /// How many requests one program of 4,096 instructions holds, behind one put.
 const PROGRAM_REQUESTS: u32 = 1365;
@@ -48,13 +44,16 @@ pub fn load_of(alloc: Global, plan: Plan) -> Result<Load, AllocError>
         Plan::Cascade(rows) => cascade_load(alloc, rows),
         Plan::Met(rows) => met_load(alloc, rows),
         Plan::Severed(rows) => sever_load(alloc, rows),
+        Plan::Links(rows) => link_load(alloc, rows),
+        Plan::Drains(rows) => drain_load(alloc, rows),
+        Plan::Mixed(events) => mixed_load(alloc, events),
     }
 }
 
 fn nop_load(alloc: Global, count: u32) -> Result<Load, AllocError> {
     let requests = Requests {
         entries: &[entry(NOP)],
-        slots: [0; 4],
+        slots: [0; 8],
         in_program: PROGRAM_REQUESTS,
     };
     request_load(alloc, count, &requests)

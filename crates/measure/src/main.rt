@@ -7,9 +7,11 @@ mod fault;
 mod files;
 mod jumps;
 mod load;
+mod numbers;
 mod parts;
 mod plan;
 mod spelling;
+mod turns;
 mod waiting;
 
 use comparing::{differing, fit_of};
@@ -31,11 +33,13 @@ use waiting::ENDED;
 #[cfg(test)]
 mod tests;
 #[cfg(test)]
+mod turns_tests;
+#[cfg(test)]
 mod waiting_tests;
 
 /// The words that a run is asked for by, each with the most that its number can be.
 const WORDS: &str =
-    "measure nops N | jumps N (109200 at most) | overflow N | issues N | polls N (65520) | full N | ticks N | traces N (1048576) | transfers N | syncs N (109120) | cancels N | counts N | meets N | cascade N | met N | severed N (61340)";
+    "measure nops N | jumps N (109200 at most) | overflow N | issues N | polls N (65520) | full N | ticks N | traces N (1048576) | transfers N | syncs N (109120) | mixed N (109040) | cancels N | counts N | meets N | cascade N | met N | severed N | links N | drains N (61340)";
 
 /// How often the last events are done, and undone.
 const ROUNDS: usize = 200;
@@ -222,6 +226,7 @@ fn measure(
         Plan::Jumps(_) | Plan::Full(_) => walk_jumps(rt, &mut walker, load),
         Plan::Issues(_) => walk_last(rt, &mut walker, load, ISSUED as usize),
         Plan::Polls(_) => walk_last(rt, &mut walker, load, 2 * ISSUED as usize),
+        Plan::Links(_) | Plan::Drains(_) => walk_last(rt, &mut walker, load, 2 * ENDED as usize),
         Plan::Cancels(_) => walk_last(rt, &mut walker, load, 2 * ENDED as usize),
         Plan::Counts(_) | Plan::Meets(_) => walk_last(rt, &mut walker, load, ENDED as usize),
         Plan::Cascade(rows) | Plan::Met(rows) | Plan::Severed(rows) => {

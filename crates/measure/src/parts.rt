@@ -20,7 +20,7 @@ pub struct Requests<'a> {
     /// What each thread puts into the slots, from slot 0 on, before its first request.
     pub entries: &'a [Sqe],
     /// The slots that its requests push, in turn.
-    pub slots: [u32; 4],
+    pub slots: [u32; 8],
     /// How many requests one program of 4,096 instructions holds behind its puts: three instructions each.
     pub in_program: u32,
 }
@@ -97,7 +97,7 @@ fn program(
 ) -> Result<Items<Instruction>, AllocError> {
     let mut program = put_entries(alloc, requests.entries)?;
     for turn in 0..count {
-        add_instructions(&mut program, requests.slots[turn as usize % 4])?;
+        add_instructions(&mut program, requests.slots[turn as usize % 8])?;
     }
     Ok(Items::of(program))
 }

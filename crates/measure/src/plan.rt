@@ -14,6 +14,9 @@ pub const MOST_EVENTS: u32 = 1048576;
 /// The most events of requests on a file: 16 programs of 1,364 requests each.
 pub const MOST_FILE_EVENTS: u32 = 109120;
 
+/// The most events of requests of several opcodes: 16 programs of 1,363 requests each.
+pub const MOST_MIXED_EVENTS: u32 = 109040;
+
 /// The most rows beside those that end them: 15 batches of 4,096, but for 100.
 pub const MOST_WAITING: u32 = 61340;
 
@@ -53,6 +56,13 @@ pub enum Plan {
     Met(u32),
     /// The same of a cancel that ends the first row of each chain, of so many rows in all.
     Severed(u32),
+    /// So many rows in chains as long as a batch, each of which ends in its turn. The last of them end again and
+    /// again.
+    Links(u32),
+    /// The same of rows each of which drains.
+    Drains(u32),
+    /// So many events of requests of seven opcodes in turn.
+    Mixed(u32),
 }
 
 /// Reads the word for traces, and how many events they have.
@@ -86,6 +96,7 @@ pub fn plan_of(words: &[&str]) -> Option<Plan>
         "ticks" if size <= MOST_EVENTS => Some(Plan::Ticks(size)),
         "transfers" if size <= MOST_FILE_EVENTS => Some(Plan::Transfers(size)),
         "syncs" if size <= MOST_FILE_EVENTS => Some(Plan::Syncs(size)),
+        "mixed" if size <= MOST_MIXED_EVENTS => Some(Plan::Mixed(size)),
         _ if size <= MOST_WAITING => waiting_plan(name, size),
         _ => None,
     }
@@ -103,6 +114,8 @@ fn waiting_plan(name: &str, size: u32) -> Option<Plan>
         "cascade" => Some(Plan::Cascade(size)),
         "met" => Some(Plan::Met(size)),
         "severed" => Some(Plan::Severed(size)),
+        "links" => Some(Plan::Links(size)),
+        "drains" => Some(Plan::Drains(size)),
         _ => None,
     }
 }

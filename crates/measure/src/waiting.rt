@@ -2,20 +2,12 @@
 ghost use Rattle.std.specs.Prelude.{◌≤◌};
 
 use crate::batches::{BATCH, batch_load};
+use crate::numbers::{ASYNC_CANCEL, LINK, NOP, TIMEOUT};
 use crate::parts::{Load, add_ends, entry};
 use entries::Sqe;
 use machine::Event;
 use opcodes::Choice;
 use std::alloc::{AllocError, Global};
-
-const NOP: u8 = 0;
-
-const TIMEOUT: u8 = 11;
-
-const ASYNC_CANCEL: u8 = 14;
-
-/// IOSQE_IO_LINK.
-const LINK: u8 = 4;
 
 /// IORING_ASYNC_CANCEL_ALL.
 const CANCEL_ALL: u32 = 1;
