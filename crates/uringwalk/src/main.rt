@@ -100,8 +100,9 @@ fn run(rt: &(impl Files + Input + Print + AllocGlobal), job: Job<'_>) -> Result<
 // Whether a trace would take the place of its script, which another path names.
 fn loses_script(rt: &(impl Files + AllocGlobal), job: Job<'_>) -> Result<bool, Fault> {
     match job {
-        Job::Trace { script, out, .. } => lead_to_one_file(rt, script, out),
-        Job::Migrate { script, out, .. } => lead_to_one_file(rt, script, out),
+        Job::Trace { script, out, .. } | Job::Migrate { script, out, .. } => lead_to_one_file(
+            rt, script, out,
+        ),
         Job::Walk(_) | Job::Replay(_) => Ok(false),
     }
 }
