@@ -1,9 +1,9 @@
 //! Requests on a file: transfers of whole pages, and single bytes that are brought to the device.
 
 use crate::numbers::{FSYNC, READ, WRITE};
-use crate::parts::{Load, Requests, entry, request_load};
+use crate::parts::{Load, Requests, entry, request_load, whole};
 use entries::Sqe;
-use places::{Contents, Descriptor, End, Items, Object};
+use places::{Contents, Items, Object};
 use std::alloc::{AllocError, Global};
 
 /// The descriptor of the file.
@@ -81,7 +81,7 @@ fn file_load(
     let mut load = request_load(alloc, count, &requests)?;
     load.setup.entries = 4;
     load.setup.objects = Items::of(vec![in alloc; file_object(alloc, file)?]?);
-    load.setup.fds = Items::of(vec![in alloc; whole_file()]?);
+    load.setup.fds = Items::of(vec![in alloc; whole(0)]?);
     Ok(load)
 }
 
@@ -91,11 +91,4 @@ pub fn file_object(alloc: Global, file: Vec<u8>) -> Result<Object, AllocError> {
         name: Items::of(vec![in alloc; b'f'; 1]?),
         contents: Contents::File(Items::of(file)),
     })
-}
-
-fn whole_file() -> Descriptor {
-    Descriptor {
-        object: 0,
-        end: End::Whole,
-    }
 }

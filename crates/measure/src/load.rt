@@ -3,14 +3,14 @@ ghost use Rattle.std.specs.Prelude.{◌≤◌};
 ghost use Rattle.measure.specs.Plans.{HasLimits};
 
 use crate::files::{full_files, sync_load, transfer_load};
-use crate::numbers::{NOP, POLL_ADD};
-use crate::parts::{Load, Requests, add_ends, entry, request_load, setup_of};
+use crate::numbers::NOP;
+use crate::parts::{Load, Requests, add_ends, entry, eventfd, poll, request_load, setup_of, whole};
 use crate::plan::{MOST_OVERFLOWING, Plan};
 use crate::turns::{drain_load, link_load, mixed_load};
 use crate::waiting::{cancel_load, cascade_load, count_load, meet_load, met_load, sever_load};
 use entries::Sqe;
 use machine::{Event, Instruction};
-use places::{Contents, Descriptor, End, Items, Object};
+use places::Items;
 use std::alloc::{AllocError, Global};
 
 /// How many requests one program of 4,096 instructions holds, behind one put.
@@ -85,32 +85,13 @@ fn issue_load(alloc: Global, count: u32) -> Result<Load, AllocError>
 fn poll_load(alloc: Global, count: u32) -> Result<Load, AllocError>
     requires { count ≤ 65520 }
 {
-    let poll = Sqe {
-        fd: 3,
-        operation_flags: 1,
-        ..entry(POLL_ADD)
-    };
-    let mut load = submitted_load(alloc, count, poll)?;
-    load.setup.objects = one_eventfd(alloc)?;
-    load.setup.fds = Items::of(vec![in alloc; Descriptor {
-        object: 0,
-        end: End::Whole
-    }; 64]?);
+    let mut load = submitted_load(alloc, count, poll(3))?;
+    load.setup.objects = Items::of(vec![in alloc; eventfd(alloc)?]?);
+    load.setup.fds = Items::of(vec![in alloc; whole(0); 64]?);
     let half = count / 2;
     add_ends(&mut load.events, 0, half)?;
     add_ends(&mut load.events, half, count.min(half + ISSUED))?;
     Ok(load)
-}
-
-// An eventfd whose counter is 1.
-fn one_eventfd(alloc: Global) -> Result<Items<Object>, AllocError> {
-    let name = Vec::from_slice(alloc, b"e")?;
-    let mut objects = Vec::new(alloc);
-    objects.push(Object {
-        name: Items::of(name),
-        contents: Contents::EventFd(1),
-    })?;
-    Ok(Items::of(objects))
 }
 
 // As many NOPs as the programs push are submitted; behind them the clock ticks.

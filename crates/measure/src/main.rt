@@ -226,8 +226,9 @@ fn measure(
         Plan::Jumps(_) | Plan::Full(_) => walk_jumps(rt, &mut walker, load),
         Plan::Issues(_) => walk_last(rt, &mut walker, load, ISSUED as usize),
         Plan::Polls(_) => walk_last(rt, &mut walker, load, 2 * ISSUED as usize),
-        Plan::Links(_) | Plan::Drains(_) => walk_last(rt, &mut walker, load, 2 * ENDED as usize),
-        Plan::Cancels(_) => walk_last(rt, &mut walker, load, 2 * ENDED as usize),
+        Plan::Links(_) | Plan::Drains(_) | Plan::Cancels(_) => {
+            walk_last(rt, &mut walker, load, 2 * ENDED as usize)
+        }
         Plan::Counts(_) | Plan::Meets(_) => walk_last(rt, &mut walker, load, ENDED as usize),
         Plan::Cascade(rows) | Plan::Met(rows) | Plan::Severed(rows) => {
             walk_cascade(rt, &mut walker, load, rows as usize)

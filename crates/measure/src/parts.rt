@@ -1,10 +1,11 @@
 //! What the runs are made of: setups, entries, and requests that are made again and again.
 ghost use Rattle.std.specs.Prelude.{◌≤◌};
 
+use crate::numbers::POLL_ADD;
 use entries::Sqe;
 use machine::{Event, Instruction, Setup};
 use opcodes::Choice;
-use places::Items;
+use places::{Contents, Descriptor, End, Items, Object};
 use std::alloc::{AllocError, Global};
 
 /// A setup, and events that run from it.
@@ -56,6 +57,31 @@ pub fn entry(opcode: u8) -> Sqe {
         personality: 0,
         splice_fd_in: 0,
         rest: [0; 16],
+    }
+}
+
+/// A POLL_ADD that asks whether a descriptor can be read.
+pub fn poll(fd: i32) -> Sqe {
+    Sqe {
+        fd,
+        operation_flags: 1,
+        ..entry(POLL_ADD)
+    }
+}
+
+/// An eventfd whose counter is 1.
+pub fn eventfd(alloc: Global) -> Result<Object, AllocError> {
+    Ok(Object {
+        name: Items::of(vec![in alloc; b'e'; 1]?),
+        contents: Contents::EventFd(1),
+    })
+}
+
+/// A descriptor of a file or an eventfd.
+pub fn whole(object: u32) -> Descriptor {
+    Descriptor {
+        object,
+        end: End::Whole,
     }
 }
 

@@ -1,7 +1,7 @@
 //! What the events of the file plans change.
+ghost use Rattle.measure.specs.Plans.{HasLimits};
 
 use crate::load::load_of;
-use crate::parts::Load;
 use crate::plan::{Plan, plan_of, traces_of};
 use crate::spelling::measure_traces;
 use machine::{Event, State};
@@ -27,8 +27,11 @@ fn bytes_named(record: &Record) -> [usize; 3] {
     named
 }
 
-// What each request names as it ends, in turn: the run's other events name no bytes.
-fn named_by_requests(alloc: Global, load: &Load) -> Result<Vec<[usize; 3]>, Fail> {
+// What each request of a run names as it ends, in turn: the run's other events name no bytes.
+fn named_by_requests(alloc: Global, plan: Plan) -> Result<Vec<[usize; 3]>, Fail>
+    requires { HasLimits plan }
+{
+    let load = load_of(alloc, plan)?;
     let mut state = State::new(alloc, &load.setup)?;
     let mut named = Vec::new(alloc);
     for event in &load.events {
@@ -45,8 +48,7 @@ fn named_by_requests(alloc: Global, load: &Load) -> Result<Vec<[usize; 3]>, Fail
 
 #[test]
 fn transfers_change_4096_bytes_each(rt: HostRuntime) -> Result<(), Fail> {
-    let load = load_of(rt.alloc(), Plan::Transfers(43))?;
-    let named = named_by_requests(rt.alloc(), &load)?;
+    let named = named_by_requests(rt.alloc(), Plan::Transfers(43))?;
     let (read, write) = ([4096, 0, 0], [0, 4096, 0]);
     let want = [read, write, read, write, read, write, read, write];
     assert_eq!(rt; named.as_slice(), want.as_slice());
@@ -55,8 +57,7 @@ fn transfers_change_4096_bytes_each(rt: HostRuntime) -> Result<(), Fail> {
 
 #[test]
 fn syncs_change_one_byte_each(rt: HostRuntime) -> Result<(), Fail> {
-    let load = load_of(rt.alloc(), Plan::Syncs(43))?;
-    let named = named_by_requests(rt.alloc(), &load)?;
+    let named = named_by_requests(rt.alloc(), Plan::Syncs(43))?;
     let (write, sync) = ([0, 1, 0], [0, 0, 1]);
     let want = [write, sync, write, sync, write, sync, write, sync];
     assert_eq!(rt; named.as_slice(), want.as_slice());

@@ -3,10 +3,10 @@ ghost use Rattle.std.specs.Prelude.{◌≤◌};
 
 use crate::batches::batch_load;
 use crate::files::{file_object, transfer};
-use crate::numbers::{ASYNC_CANCEL, DRAIN, FSYNC, LINK, NOP, POLL_ADD, READ, WRITE};
-use crate::parts::{Load, Requests, add_ends, entry, request_load};
+use crate::numbers::{ASYNC_CANCEL, DRAIN, FSYNC, LINK, NOP, READ, WRITE};
+use crate::parts::{Load, Requests, add_ends, entry, eventfd, poll, request_load, whole};
 use entries::Sqe;
-use places::{Contents, Descriptor, End, Items, Object};
+use places::{Items, Object};
 use std::alloc::{AllocError, Global};
 
 /// How many bytes a transfer of the mixed run moves.
@@ -60,11 +60,6 @@ pub fn mixed_load(alloc: Global, count: u32) -> Result<Load, AllocError> {
 }
 
 fn mixed_entries() -> [Sqe; 7] {
-    let poll = Sqe {
-        fd: 4,
-        operation_flags: 1,
-        ..entry(POLL_ADD)
-    };
     let cancel = Sqe {
         addr: 9,
         ..entry(ASYNC_CANCEL)
@@ -74,7 +69,7 @@ fn mixed_entries() -> [Sqe; 7] {
         transfer(READ, 0, 0, MOVED),
         transfer(READ, u64::from(MOVED), 0, MOVED),
         transfer(WRITE, 2 * u64::from(MOVED), 0, MOVED),
-        poll,
+        poll(4),
         transfer(FSYNC, 0, 0, 0),
         cancel,
     ]
@@ -85,16 +80,5 @@ fn mixed_objects(alloc: Global) -> Result<Items<Object>, AllocError> {
     let mut file = vec![in alloc; 1u8; 64]?;
     file.extend_from_slice(&[2; 64])?;
     file.extend_from_slice(&[0; 64])?;
-    let eventfd = Object {
-        name: Items::of(vec![in alloc; b'e'; 1]?),
-        contents: Contents::EventFd(1),
-    };
-    Ok(Items::of(vec![in alloc; file_object(alloc, file)?, eventfd]?))
-}
-
-fn whole(object: u32) -> Descriptor {
-    Descriptor {
-        object,
-        end: End::Whole,
-    }
+    Ok(Items::of(vec![in alloc; file_object(alloc, file)?, eventfd(alloc)?]?))
 }

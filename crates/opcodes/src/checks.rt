@@ -102,7 +102,7 @@ fn time_at(world: &World, address: u32) -> Option<u128>
     Some(u128::from(seconds) * SECOND + u128::from(nanoseconds))
 }
 
-// Whether a LINK_TIMEOUT can stand behind an entry of an opcode, or begin a chain.
+// Whether a LINK_TIMEOUT can stand behind an entry of an opcode: not behind another one, nor first in a chain.
 fn can_guard(behind: Option<u8>) -> bool
     ensures { result ≡ can_guard behind }
 {
