@@ -1,15 +1,19 @@
 -- What is fed, with what the source was asked by then.
-use Rattle.std.proofs.Common.{◌≡◌, ℕ, ◌+◌, ◌==◌, ◌<◌, List, [], ◌∷◌, ◌++◌, length, take, get_or, not, codes, Bool, true, false, Option, None, refl, sym, ap, ◌∙◌, subst}
+use Rattle.std.proofs.Common.{◌≡◌, inl, inr, ℕ, ◌+◌, ◌==◌, ◌<◌, List, [], ◌∷◌, ◌++◌, length, take, get_or, not, codes, Bool, true, false, Option, None, refl, sym, ap, ◌∙◌, subst, append_assoc}
 use Rattle.std.proofs.KnownBytes.{Appends-nil}
 use Rattle.std.specs.Str.{bytes_eq}
 use Rattle.std.specs.Io.KnownBytes.{Appends, Consumes, Keeps, IsAtEnd}
 use Rattle.debug_server.specs.Visits.{Visit}
 use Rattle.debug_server.specs.Replies.{Told, Reply, reply}
 use Rattle.debug_server.specs.Lines.{lines_of}
-use Rattle.debug_server.specs.Talks.{asks, told, turn, Fits, output, Asked, Served, Broke}
+use Rattle.debug_server.specs.Talks.{asks, told, turn, Fits, Talk, talk, output, Asked, Served, BrokeBy}
+use Rattle.debug_server.specs.declared.faults.ServeFault.{ServeFault}
+use Rattle.debug_server.specs.declared.faults.ServeFault.TheVariants.{Memory}
 use Rattle.debug_server.specs.Pending.{IsPending, grown, WritesFront, Gave, FillsBy, BreaksBy, EndsBy, FrontBy, ReadsBy}
-use Rattle.debug_server.proofs.Feeding.{byte_at, ended_at, cut_at, fed_on, fed_quit, cut_on, fills_start}
-use Rattle.debug_server.proofs.Reading.{reads_start, reads_on, served_quit, served_end, broke_read, broke_end, broke_feed, ends_empty, ends_line, front_line, ends_at, front_at}
+use Rattle.debug_server.proofs.Bytes.{lines_of-ended}
+use Rattle.debug_server.proofs.Turns.{alone_asked, lacking}
+use Rattle.debug_server.proofs.Feeding.{byte_at, ended_at, cut_at, fed_on, fed_quit, cut_on, lacks_on, fills_start}
+use Rattle.debug_server.proofs.Reading.{reads_start, reads_on, served_quit, served_end, broke_read, broke_end, broke_feed, ended_later, fed_later, last_lacking, last_used, ends_empty, ends_line, front_line, ends_at}
 
 -- a line that the code tells from the one that asks
 pub silent_line : (line text : List ℕ) (r : Bool) → r ≡ not (bytes_eq line text) → text ≡ codes "sync" → r ≡ true → asks line ≡ false
@@ -27,6 +31,14 @@ asking_line line text r e t h = ap (bytes_eq line) (sym t) ∙ yes (bytes_eq lin
     yes : (q : Bool) → not q ≡ false → q ≡ true
     yes true k = refl
     yes false k = absurd (cc)
+
+-- a line that asks and gets no answer, and more behind it
+line_lacks : (v : Visit) (line text : List ℕ) (b : ℕ) → IsPending line → b ≡ 10 → text ≡ line → asks text ≡ true → (more : List ℕ) → (talk v (lines_of ((line ++ b ∷ []) ++ more)) []).left ≡ None
+line_lacks v line text b p e t h more =
+    ap (λ x. (talk v (lines_of ((line ++ x ∷ []) ++ more)) []).left) e
+    ∙ ap (λ l. (talk v (lines_of l) []).left) (append_assoc line (10 ∷ []) more)
+    ∙ ap (λ ls. (talk v ls []).left) (lines_of-ended line more p.plain)
+    ∙ lacking v line (lines_of more) (ap asks (sym t) ∙ h)
 
 module _ {S : Type 0} (gives : S → Told → S → Type 0) where
   -- one list of answers after another
@@ -75,23 +87,30 @@ module _ {S : Type 0} (gives : S → Told → S → Type 0) where
             (k ∙ ap (λ (r : Reply). r.quits) same) l;
       }
 
-  pub cut_by : (s s' : S) (v : Visit) (line text : List ℕ) (b : ℕ) (answer : Told) (h h' : Option (List ℕ)) → IsPending line → b ≡ 10 → text ≡ line → Gave gives text s answer s' → WritesFront h h' (reply v text answer).text → BreaksBy gives s v (line ++ b ∷ []) h h'
-  cut_by s s' v line text b answer h h' p e t g f =
+  pub cut_by : (s s' : S) (fault : ServeFault) (v : Visit) (line text : List ℕ) (b : ℕ) (answer : Told) (h h' : Option (List ℕ)) → IsPending line → b ≡ 10 → text ≡ line → Gave gives text s answer s' → WritesFront h h' (reply v text answer).text → BreaksBy gives s s' fault v (line ++ b ∷ []) h h'
+  cut_by s s' fault v line text b answer h h' p e t g f =
       let P : List ℕ → Type 0 = λ x. WritesFront h h' x in
       record {
         answers = g.answers;
         mid = s';
         asked = g.asked;
+        no_more = inl refl;
         breaks = cut_at v line text g.answers b h h' p g.fits e t (subst P (ap (λ (r : Reply). r.text) (given v text s s' answer g)) f);
       }
 
   -- the source gave nothing, so nothing was written
-  pub unasked_by : (s : S) (v : Visit) (bytes : List ℕ) (h : Option (List ℕ)) → BreaksBy gives s v bytes h h
-  unasked_by s v bytes h = record {
+  pub unasked_by : (s s' : S) (fault : ServeFault) (v : Visit) (line text : List ℕ) (b : ℕ) (h : Option (List ℕ)) → IsPending line → b ≡ 10 → text ≡ line → fault ≡ Memory → asks text ≡ true → BreaksBy gives s s' fault v (line ++ b ∷ []) h h
+  unasked_by s s' fault v line text b h p e t m a = record {
     answers = [];
     mid = s;
     asked = refl;
-    breaks = record { front = []; appended = Appends-nil h; begins = λ more others. (output v (lines_of (bytes ++ more)) others, refl) };
+    no_more = inr (m, line_lacks v line text b p e t a);
+    breaks = record {
+      front = [];
+      appended = Appends-nil h;
+      begins = λ more others. (output v (lines_of ((line ++ b ∷ []) ++ more)) others, refl);
+      asked = λ more. alone_asked (lines_of ((line ++ b ∷ []) ++ more)) v;
+    };
   }
 
   -- ---- some bytes
@@ -113,11 +132,12 @@ module _ {S : Type 0} (gives : S → Told → S → Type 0) where
     fills = fed_quit w v u line bytes now line' f.answers g.answers i h h' h'' lt f.fills g.fills;
   }
 
-  pub cut_more : (s m : S) (w v : Visit) (line bytes now : List ℕ) (i : ℕ) (h h' h'' : Option (List ℕ)) → i < length bytes → FillsBy gives s m w (line ++ take i bytes) h h' false v now → BreaksBy gives m v (now ++ get_or bytes i 0 ∷ []) h' h'' → BreaksBy gives s w (line ++ bytes) h h''
-  cut_more s m w v line bytes now i h h' h'' lt f b = record {
+  pub cut_more : (s m s' : S) (fault : ServeFault) (w v : Visit) (line bytes now : List ℕ) (i : ℕ) (h h' h'' : Option (List ℕ)) → i < length bytes → FillsBy gives s m w (line ++ take i bytes) h h' false v now → BreaksBy gives m s' fault v (now ++ get_or bytes i 0 ∷ []) h' h'' → BreaksBy gives s s' fault w (line ++ bytes) h h''
+  cut_more s m s' fault w v line bytes now i h h' h'' lt f b = record {
     answers = f.answers ++ b.answers;
     mid = b.mid;
     asked = asked_trans s m b.mid f.answers b.answers f.asked b.asked;
+    no_more = elim b.no_more [ inl e ↦ inl e | inr k ↦ inr (k.0, lacks_on w v line bytes now f.answers b.answers i h h' lt f.fills k.1) ];
     breaks = cut_on w v line bytes now f.answers b.answers i h h' h'' lt f.fills b.breaks;
   }
 
@@ -138,18 +158,30 @@ module _ {S : Type 0} (gives : S → Told → S → Type 0) where
             (k ∙ ap (λ (r : Reply). r.quits) same);
       }
 
-  pub front_by : (s s' : S) (v : Visit) (line : List ℕ) (answer : Told) (h h' : Option (List ℕ)) → IsPending line → 0 < length line → Gave gives line s answer s' → WritesFront h h' (reply v line answer).text → FrontBy gives s v line h h'
-  front_by s s' v line answer h h' p some g f =
+  pub front_by : (s s' : S) (fault : ServeFault) (v : Visit) (line : List ℕ) (answer : Told) (h h' : Option (List ℕ)) → IsPending line → 0 < length line → Gave gives line s answer s' → WritesFront h h' (reply v line answer).text → FrontBy gives s s' fault v line h h'
+  front_by s s' fault v line answer h h' p some g f =
       let P : List ℕ → Type 0 = λ x. WritesFront h h' x in
       record {
         answers = g.answers;
         mid = s';
         asked = g.asked;
+        no_more = inl refl;
+        used = last_used v line g.answers p some g.fits;
         front = front_line v line g.answers h h' p some g.fits (subst P (ap (λ (r : Reply). r.text) (given v line s s' answer g)) f);
       }
 
-  pub front_none : (s : S) (v : Visit) (line : List ℕ) (h : Option (List ℕ)) → FrontBy gives s v line h h
-  front_none s v line h = record { answers = []; mid = s; asked = refl; front = record { front = []; rest = output v (lines_of line) []; whole = refl; appended = Appends-nil h } }
+  pub front_none : (s s' : S) (fault : ServeFault) (v : Visit) (line : List ℕ) (h : Option (List ℕ)) → IsPending line → 0 < length line → fault ≡ Memory → asks line ≡ true → FrontBy gives s s' fault v line h h
+  front_none s s' fault v line h p some m a = record {
+    answers = [];
+    mid = s;
+    asked = refl;
+    no_more = inr (m, last_lacking v line p some a);
+    used = alone_asked (lines_of line) v;
+    front = record { front = []; rest = output v (lines_of line) []; whole = refl; appended = Appends-nil h };
+  }
+
+  pub front_at : (s s' : S) (fault : ServeFault) (v : Visit) (line text : List ℕ) (h h' : Option (List ℕ)) → text ≡ line → FrontBy gives s s' fault v text h h' → FrontBy gives s s' fault v line h h'
+  front_at s s' fault v line text h h' e f = let P : List ℕ → Type 0 = λ l. FrontBy gives s s' fault v l h h' in subst P e f
 
   -- ---- reads
 
@@ -167,10 +199,6 @@ module _ {S : Type 0} (gives : S → Told → S → Type 0) where
   abbrev pub Ok_by : S → S → Visit → Option (List ℕ) → Option (List ℕ) → Option (List ℕ) → Option (List ℕ) → Visit → Bool → Type 0
   Ok_by s s' w r r' h h' u q = (answers : List Told) × Asked gives s answers s' × Served w r r' h h' answers u q
 
-  -- and at Err
-  abbrev pub Err_by : S → Visit → Option (List ℕ) → Option (List ℕ) → Option (List ℕ) → Option (List ℕ) → Type 0
-  Err_by s w r r' h h' = (answers : List Told) × (mid : S) × Asked gives s answers mid × Broke w r r' h h' answers
-
   pub quit_by : (s m s' : S) (w v u : Visit) (r r' r'' h h' h'' : Option (List ℕ)) (line bytes line' : List ℕ) → ReadsBy gives s m w r r' h h' v line → Consumes r' r'' bytes → FillsBy gives m s' v (line ++ bytes) h' h'' true u line' → Ok_by s s' w r r'' h h'' u true
   quit_by s m s' w v u r r' r'' h h' h'' line bytes line' f c g = (
     f.answers ++ g.answers,
@@ -185,21 +213,33 @@ module _ {S : Type 0} (gives : S → Told → S → Type 0) where
     served_end w v u r r' r'' h h' h'' f.answers g.answers line q f.reads c e (ends_at v u line text g.answers h' h'' q t g.ends),
   )
 
-  pub broke_by : (s m : S) (w v : Visit) (r r' r'' h h' : Option (List ℕ)) (line : List ℕ) → ReadsBy gives s m w r r' h h' v line → Keeps r' r'' → Err_by s w r r'' h h'
-  broke_by s m w v r r' r'' h h' line f k = (f.answers, m, f.asked, broke_read w v r r' r'' h h' f.answers line f.reads k)
+  -- ---- at a fault
 
-  pub broke_end_by : (s m : S) (w v : Visit) (r r' r'' h h' h'' : Option (List ℕ)) (line text : List ℕ) → ReadsBy gives s m w r r' h h' v line → Consumes r' r'' [] → text ≡ line → FrontBy gives m v text h' h'' → Err_by s w r r'' h h''
-  broke_end_by s m w v r r' r'' h h' h'' line text f c t g = (
-    f.answers ++ g.answers,
-    g.mid,
-    asked_trans s m g.mid f.answers g.answers f.asked g.asked,
-    broke_end w v r r' r'' h h' h'' f.answers g.answers line f.reads c (front_at v line text g.answers h' h'' t g.front),
-  )
+  pub broke_by : (s m : S) (fault : ServeFault) (w v : Visit) (r r' r'' h h' : Option (List ℕ)) (line : List ℕ) → ReadsBy gives s m w r r' h h' v line → Keeps r' r'' → BrokeBy gives s m fault w r r'' h h'
+  broke_by s m fault w v r r' r'' h h' line f k = record {
+    answers = f.answers;
+    last = m;
+    given = f.asked;
+    broke = broke_read w v r r' r'' h h' f.answers line f.reads k;
+    no_more = inl refl;
+  }
 
-  pub broke_feed_by : (s m : S) (w v : Visit) (r r' r'' h h' h'' : Option (List ℕ)) (line bytes : List ℕ) → ReadsBy gives s m w r r' h h' v line → Consumes r' r'' bytes → BreaksBy gives m v (line ++ bytes) h' h'' → Err_by s w r r'' h h''
-  broke_feed_by s m w v r r' r'' h h' h'' line bytes f c g = (
-    f.answers ++ g.answers,
-    g.mid,
-    asked_trans s m g.mid f.answers g.answers f.asked g.asked,
-    broke_feed w v r r' r'' h h' h'' f.answers g.answers line bytes f.reads c g.breaks,
-  )
+  pub broke_end_by : (s m s' : S) (fault : ServeFault) (w v : Visit) (r r' r'' h h' h'' : Option (List ℕ)) (line text : List ℕ) → ReadsBy gives s m w r r' h h' v line → Consumes r' r'' [] → text ≡ line → FrontBy gives m s' fault v text h' h'' → BrokeBy gives s s' fault w r r'' h h''
+  broke_end_by s m s' fault w v r r' r'' h h' h'' line text f c t k =
+      let g = front_at m s' fault v line text h' h'' t k in
+      record {
+        answers = f.answers ++ g.answers;
+        last = g.mid;
+        given = asked_trans s m g.mid f.answers g.answers f.asked g.asked;
+        broke = broke_end w v r r' r'' h h' h'' f.answers g.answers line f.reads c g.front g.used;
+        no_more = elim g.no_more [ inl e ↦ inl e | inr n ↦ inr (n.0, ap (λ (x : Talk). x.left) (ended_later w v r r' h h' f.answers g.answers line f.reads) ∙ n.1) ];
+      }
+
+  pub broke_feed_by : (s m s' : S) (fault : ServeFault) (w v : Visit) (r r' r'' h h' h'' : Option (List ℕ)) (line bytes : List ℕ) → ReadsBy gives s m w r r' h h' v line → Consumes r' r'' bytes → BreaksBy gives m s' fault v (line ++ bytes) h' h'' → BrokeBy gives s s' fault w r r'' h h''
+  broke_feed_by s m s' fault w v r r' r'' h h' h'' line bytes f c g = record {
+    answers = f.answers ++ g.answers;
+    last = g.mid;
+    given = asked_trans s m g.mid f.answers g.answers f.asked g.asked;
+    broke = broke_feed w v r r' r'' h h' h'' f.answers g.answers line bytes f.reads c g.breaks;
+    no_more = elim g.no_more [ inl e ↦ inl e | inr n ↦ inr (n.0, ap (λ (x : Talk). x.left) (fed_later w v r r' h h' f.answers g.answers line bytes f.reads) ∙ n.1 []) ];
+  }

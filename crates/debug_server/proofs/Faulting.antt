@@ -1,8 +1,7 @@
 -- Which faults a walk over events or a script can have.
-use Rattle.std.proofs.Common.{◌≡◌, ◌≢◌, Result, Ok, Err}
+use Rattle.std.proofs.Common.{◌≢◌, Result, Ok, Err}
 use Rattle.std.specs.Prelude.{IfErr}
 use Rattle.script.specs.declared.fault.ScriptFault.{ScriptFault}
-use Rattle.traces.specs.declared.fault.TraceFault.{TraceFault}
 use Rattle.debug_server.specs.declared.faults.RunFault.{RunFault}
 use Rattle.debug_server.specs.declared.faults.RunFault.TheVariants.{Script, Schedule, Serve, Memory, Net, Trace}
 use Rattle.debug_server.specs.Schedules.{IsOfRun, IsOfWalk}

@@ -1,15 +1,15 @@
 -- How what was written and what is left to say move on with each byte.
 use Rattle.std.proofs.lemmas.List.{take_more}
-use Rattle.std.proofs.Common.{◌≡◌, ℕ, ◌+◌, take, drop, get_or, take-append-drop, ◌==◌, ◌<◌, List, [], ◌∷◌, ◌++◌, length, Bool, true, false, Option, refl, sym, ap, ◌∙◌, subst, append_assoc, append-nil}
+use Rattle.std.proofs.Common.{◌≡◌, ℕ, ◌+◌, take, drop, get_or, take-append-drop, ◌==◌, ◌<◌, List, [], ◌∷◌, ◌++◌, length, Bool, true, false, Option, None, refl, sym, ap, ◌∙◌, subst, append_assoc, append-nil}
 use Rattle.std.proofs.KnownBytes.{Appends-nil, Appends-trans}
 use Rattle.std.specs.Io.KnownBytes.{Appends}
 use Rattle.debug_server.specs.Visits.{Visit}
 use Rattle.debug_server.specs.Replies.{Told}
 use Rattle.debug_server.specs.Lines.{lines_of}
-use Rattle.debug_server.specs.Talks.{asks, Fits, turn, Talk, talk, said, output}
+use Rattle.debug_server.specs.Talks.{asks, Fits, turn, Talk, talk, said, output, AllAsked}
 use Rattle.debug_server.specs.Pending.{IsPending, grown, rest_of, Fed, Fills, Breaks, WritesFront}
 use Rattle.debug_server.proofs.Bytes.{lines_of-ended}
-use Rattle.debug_server.proofs.Turns.{talk_line, said_said, grown_alike}
+use Rattle.debug_server.proofs.Turns.{talk_line, said_said, grown_alike, rest_asked}
 
 pub fed_start : (w : Visit) (line : List ℕ) → Fed w line [] [] false w line
 fed_start w line = record { law = λ more others. refl }
@@ -88,6 +88,10 @@ breaks_ended w line given h h' p fits f = record {
     f.rest ++ (rest_of (turn w line given).quits (turn w line given).next more others).text,
     ap (λ (x : Talk). x.text) t ∙ ap (λ l. l ++ (rest_of (turn w line given).quits (turn w line given).next more others).text) f.whole ∙ append_assoc f.front f.rest (rest_of (turn w line given).quits (turn w line given).next more others).text,
   );
+  asked = λ more.
+      let t = ap (talk w (lines_of ((line ++ 10 ∷ []) ++ more))) (sym (append-nil given)) ∙ (fed_ended w w line [] given [] line (fed_start w line) p fits).law more [] in
+      let P : Talk → Type 0 = λ x. AllAsked x.left in
+      subst P (sym t) (rest_asked (turn w line given).quits (turn w line given).next more);
 }
 
 pub breaks_more : (w : Visit) (bytes rest : List ℕ) (ts : List Told) (h h' : Option (List ℕ)) → Breaks w bytes ts h h' → Breaks w (bytes ++ rest) ts h h'
@@ -95,7 +99,15 @@ breaks_more w bytes rest ts h h' b = record {
   front = b.front;
   appended = b.appended;
   begins = λ more others. ((b.begins (rest ++ more) others).0, ap (λ l. output w (lines_of l) (ts ++ others)) (append_assoc bytes rest more) ∙ (b.begins (rest ++ more) others).1);
+  asked = λ more. let P : List ℕ → Type 0 = λ l. AllAsked (talk w (lines_of l) ts).left in subst P (sym (append_assoc bytes rest more)) (b.asked (rest ++ more));
 }
+
+-- the talk goes on from where what was fed led
+pub talk_later : (w v : Visit) (bytes line bytes' : List ℕ) (ts ts' : List Told) (h h' : Option (List ℕ)) (f : Fills w bytes ts h h' false v line) (more : List ℕ) → talk w (lines_of ((bytes ++ bytes') ++ more)) (ts ++ ts') ≡ said f.written (talk v (lines_of ((line ++ bytes') ++ more)) ts')
+talk_later w v bytes line bytes' ts ts' h h' f more =
+    ap (λ l. talk w (lines_of l) (ts ++ ts')) (append_assoc bytes bytes' more)
+    ∙ f.fed.law (bytes' ++ more) ts'
+    ∙ ap (λ l. said f.written (talk v (lines_of l) ts')) (sym (append_assoc line bytes' more))
 
 pub breaks_later : (w v : Visit) (bytes line bytes' : List ℕ) (ts ts' : List Told) (h h' h'' : Option (List ℕ)) → Fills w bytes ts h h' false v line → Breaks v (line ++ bytes') ts' h' h'' → Breaks w (bytes ++ bytes') (ts ++ ts') h h''
 breaks_later w v bytes line bytes' ts ts' h h' h'' f b = record {
@@ -110,6 +122,7 @@ breaks_later w v bytes line bytes' ts ts' h h' h'' f b = record {
         ∙ ap (λ l. f.written ++ l) (b.begins more others).1
         ∙ sym (append_assoc f.written b.front (b.begins more others).0),
   );
+  asked = λ more. let P : Talk → Type 0 = λ x. AllAsked x.left in subst P (sym (talk_later w v bytes line bytes' ts ts' h h' f more)) (b.asked more);
 }
 
 -- ---- as the code has them
@@ -157,3 +170,12 @@ cut_on w v line bytes now ts ts' i h h' h'' lt f b =
     let P : List ℕ → Type 0 = λ l. Breaks w l (ts ++ ts') h h'' in
     subst P (behind line bytes i) (breaks_more w (line ++ take (i + 1) bytes) (drop (i + 1) bytes) (ts ++ ts') h h''
     (subst P (seam line bytes i lt) (breaks_later w v (line ++ take i bytes) now (get_or bytes i 0 ∷ []) ts ts' h h' h'' f b)))
+
+-- where the rest lacks an answer
+pub lacks_on : (w v : Visit) (line bytes now : List ℕ) (ts ts' : List Told) (i : ℕ) (h h' : Option (List ℕ)) → i < length bytes → Fills w (line ++ take i bytes) ts h h' false v now → ((more : List ℕ) → (talk v (lines_of ((now ++ get_or bytes i 0 ∷ []) ++ more)) ts').left ≡ None) → (more : List ℕ) → (talk w (lines_of ((line ++ bytes) ++ more)) (ts ++ ts')).left ≡ None
+lacks_on w v line bytes now ts ts' i h h' lt f k more =
+    let all : line ++ bytes ≡ ((line ++ take i bytes) ++ get_or bytes i 0 ∷ []) ++ drop (i + 1) bytes = sym (ap (λ l. l ++ drop (i + 1) bytes) (seam line bytes i lt) ∙ behind line bytes i) in
+    ap (λ l. (talk w (lines_of (l ++ more)) (ts ++ ts')).left) all
+    ∙ ap (λ l. (talk w (lines_of l) (ts ++ ts')).left) (append_assoc ((line ++ take i bytes) ++ get_or bytes i 0 ∷ []) (drop (i + 1) bytes) more)
+    ∙ ap (λ (x : Talk). x.left) (talk_later w v (line ++ take i bytes) now (get_or bytes i 0 ∷ []) ts ts' h h' f (drop (i + 1) bytes ++ more))
+    ∙ k (drop (i + 1) bytes ++ more)

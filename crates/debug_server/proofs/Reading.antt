@@ -1,15 +1,15 @@
 -- The end of the input, and reads.
-use Rattle.std.proofs.Common.{◌≡◌, ◌⊎◌, inl, inr, ℕ, take, ◌<◌, List, [], ◌∷◌, ◌++◌, length, Bool, true, false, cond, Option, Some, refl, sym, ap, ◌∙◌, subst, append_assoc, append-nil}
+use Rattle.std.proofs.Common.{◌≡◌, ◌⊎◌, inl, inr, ℕ, take, ◌<◌, List, [], ◌∷◌, ◌++◌, length, Bool, true, false, cond, Option, Some, None, refl, sym, ap, ◌∙◌, subst, append_assoc, append-nil}
 use Rattle.std.proofs.KnownBytes.{Appends-nil, Appends-trans, Consumes-nil, Consumes-trans, Consumes-kept}
 use Rattle.std.specs.Io.KnownBytes.{Appends, Consumes, Keeps, IsAtEnd}
 use Rattle.debug_server.specs.Visits.{Visit}
 use Rattle.debug_server.specs.Replies.{Told, Reply}
 use Rattle.debug_server.specs.Lines.{lines_of}
-use Rattle.debug_server.specs.Talks.{asks, Fits, turn, Talk, talk, said, silent, output, Served, Broke}
+use Rattle.debug_server.specs.Talks.{asks, Fits, turn, Talk, talk, said, silent, output, Served, AllAsked, Broke}
 use Rattle.debug_server.specs.Pending.{IsPending, rest_of, Fills, Breaks, WritesFront, Ends, Reads}
 use Rattle.debug_server.proofs.Bytes.{lines_of-last}
-use Rattle.debug_server.proofs.Turns.{talk_line}
-use Rattle.debug_server.proofs.Feeding.{fills_start, fills_trans, breaks_later, fed_whole}
+use Rattle.debug_server.proofs.Turns.{talk_line, rest_asked, lacking}
+use Rattle.debug_server.proofs.Feeding.{fills_start, fills_trans, breaks_later, talk_later, fed_whole}
 
 after_quit : (q : Bool) (r : Reply) → said r.text (cond q (silent r.next true (Some [])) (silent r.next false (Some []))) ≡ record { text = r.text; next = r.next; quits = q; left = Some [] }
 after_quit true r = ap (λ (x : List ℕ). let u : Talk = record { text = x; next = r.next; quits = true; left = Some [] } in u) (append-nil r.text)
@@ -92,21 +92,38 @@ broke_read w v r r' r'' h h' ts line f k = record {
   read = Consumes-kept r r' r'' f.taken f.read k;
   begins = ap (λ (x : Talk). x.text) (fed_whole w v f.taken ts f.fills.written false line f.fills.fed);
   written = f.fills.appended;
+  asked = let P : Talk → Type 0 = λ x. AllAsked x.left in subst P (sym (fed_whole w v f.taken ts f.fills.written false line f.fills.fed)) (rest_asked false v line);
 }
 
+-- what is left of the talk over all that was read
+pub ended_later : (w v : Visit) (r r' h h' : Option (List ℕ)) (ts ts' : List Told) (line : List ℕ) (f : Reads w r r' h h' ts v line) → talk w (lines_of (f.taken ++ [])) (ts ++ ts') ≡ said f.fills.written (talk v (lines_of line) ts')
+ended_later w v r r' h h' ts ts' line f = f.fills.fed.law [] ts' ∙ ap (λ l. said f.fills.written (talk v (lines_of l) ts')) (append-nil line)
+
+pub fed_later : (w v : Visit) (r r' h h' : Option (List ℕ)) (ts ts' : List Told) (line bytes : List ℕ) (f : Reads w r r' h h' ts v line) → talk w (lines_of (f.taken ++ bytes)) (ts ++ ts') ≡ said f.fills.written (talk v (lines_of ((line ++ bytes) ++ [])) ts')
+fed_later w v r r' h h' ts ts' line bytes f = ap (λ l. talk w (lines_of l) (ts ++ ts')) (sym (append-nil (f.taken ++ bytes))) ∙ talk_later w v f.taken line bytes ts ts' h h' f.fills []
+
+-- the last line asks, and gets no answer
+pub last_lacking : (v : Visit) (line : List ℕ) → IsPending line → 0 < length line → asks line ≡ true → (talk v (lines_of line) []).left ≡ None
+last_lacking v line p some h = ap (λ ls. (talk v ls []).left) (lines_of-last line p.plain some) ∙ lacking v line [] h
+
+-- no answer is left over behind the last line
+pub last_used : (v : Visit) (line : List ℕ) (given : List Told) → IsPending line → 0 < length line → Fits (asks line) given → AllAsked (talk v (lines_of line) given).left
+last_used v line given p some fits = let P : Talk → Type 0 = λ x. AllAsked x.left in subst P (sym (last_line v line given p some fits)) tt
+
 -- the last line was answered in part
-pub broke_end : (w v : Visit) (r r' r'' h h' h'' : Option (List ℕ)) (ts ts' : List Told) (line : List ℕ) → Reads w r r' h h' ts v line → Consumes r' r'' [] → WritesFront h' h'' (output v (lines_of line) ts') → Broke w r r'' h h'' (ts ++ ts')
-broke_end w v r r' r'' h h' h'' ts ts' line f c g = record {
+abbrev pub broke_end : (w v : Visit) (r r' r'' h h' h'' : Option (List ℕ)) (ts ts' : List Told) (line : List ℕ) (f : Reads w r r' h h' ts v line) → Consumes r' r'' [] → WritesFront h' h'' (output v (lines_of line) ts') → AllAsked (talk v (lines_of line) ts').left → Broke w r r'' h h'' (ts ++ ts')
+broke_end w v r r' r'' h h' h'' ts ts' line f c g u = record {
   taken = f.taken ++ [];
   front = f.fills.written ++ g.front;
   rest = g.rest;
   read = Consumes-trans r r' r'' f.taken [] f.read c;
   begins = ap (λ (x : Talk). x.text) (f.fills.fed.law [] ts') ∙ ap (λ l. f.fills.written ++ output v (lines_of l) ts') (append-nil line) ∙ ap (λ l. f.fills.written ++ l) g.whole ∙ sym (append_assoc f.fills.written g.front g.rest);
   written = Appends-trans h h' h'' f.fills.written g.front f.fills.appended g.appended;
+  asked = let P : Talk → Type 0 = λ x. AllAsked x.left in subst P (sym (ended_later w v r r' h h' ts ts' line f)) u;
 }
 
 -- some line was answered in part
-pub broke_feed : (w v : Visit) (r r' r'' h h' h'' : Option (List ℕ)) (ts ts' : List Told) (line bytes : List ℕ) → Reads w r r' h h' ts v line → Consumes r' r'' bytes → Breaks v (line ++ bytes) ts' h' h'' → Broke w r r'' h h'' (ts ++ ts')
+abbrev pub broke_feed : (w v : Visit) (r r' r'' h h' h'' : Option (List ℕ)) (ts ts' : List Told) (line bytes : List ℕ) → Reads w r r' h h' ts v line → Consumes r' r'' bytes → Breaks v (line ++ bytes) ts' h' h'' → Broke w r r'' h h'' (ts ++ ts')
 broke_feed w v r r' r'' h h' h'' ts ts' line bytes f c g =
     let all = breaks_later w v f.taken line bytes ts ts' h h' h'' f.fills g in
     record {
@@ -116,6 +133,7 @@ broke_feed w v r r' r'' h h' h'' ts ts' line bytes f c g =
       read = Consumes-trans r r' r'' f.taken bytes f.read c;
       begins = ap (λ l. output w (lines_of l) (ts ++ ts')) (sym (append-nil (f.taken ++ bytes))) ∙ ap (output w (lines_of ((f.taken ++ bytes) ++ []))) (sym (append-nil (ts ++ ts'))) ∙ (all.begins [] []).1;
       written = all.appended;
+      asked = let P : Talk → Type 0 = λ x. AllAsked x.left in subst P (sym (fed_later w v r r' h h' ts ts' line bytes f)) (g.asked []);
     }
 
 -- a read of no bytes into a buffer with room
@@ -128,6 +146,3 @@ at_end r r' buffer n e room h = record { none = subst (Consumes r r') (ap (λ m.
 
 pub ends_at : (v u : Visit) (line text : List ℕ) (ts : List Told) (h h' : Option (List ℕ)) (q : Bool) → text ≡ line → Ends v text ts h h' q u → Ends v line ts h h' q u
 ends_at v u line text ts h h' q e f = let P : List ℕ → Type 0 = λ l. Ends v l ts h h' q u in subst P e f
-
-pub front_at : (v : Visit) (line text : List ℕ) (ts : List Told) (h h' : Option (List ℕ)) → text ≡ line → WritesFront h h' (output v (lines_of text) ts) → WritesFront h h' (output v (lines_of line) ts)
-front_at v line text ts h h' e f = let P : List ℕ → Type 0 = λ l. WritesFront h h' (output v (lines_of l) ts) in subst P e f

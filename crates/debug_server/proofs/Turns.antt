@@ -7,8 +7,8 @@ use Rattle.debug_server.specs.Visits.{Visit}
 use Rattle.debug_server.specs.Commands.{command_of}
 use Rattle.debug_server.specs.Replies.{Told, Reply, reply}
 use Rattle.debug_server.specs.Lines.{onto_line, lines_of}
-use Rattle.debug_server.specs.Talks.{asks, told, untold, lacks, Fits, turn, Talk, talk, said, silent}
-use Rattle.debug_server.specs.Pending.{IsPending, grown}
+use Rattle.debug_server.specs.Talks.{asks, told, untold, lacks, Fits, turn, Talk, talk, said, silent, AllAsked}
+use Rattle.debug_server.specs.Pending.{IsPending, grown, rest_of}
 use Rattle.debug_server.proofs.Bytes.{onto_lines, onto_lines-cons, onto_lines-nil, lines_of-plain, grown_room, grown_full}
 
 -- only a short line asks
@@ -45,6 +45,32 @@ then_said r ls ts = said r.text (cond r.quits (silent r.next true (Some ts)) (ta
 
 pub talk_line : (w : Visit) (l : List ℕ) (ls : List (List ℕ)) (given others : List Told) → Fits (asks l) given → talk w (l ∷ ls) (given ++ others) ≡ then_said (turn w l given) ls others
 talk_line w l ls given others h = rw (lacks_fits (asks l) given others h, told_fits (asks l) given others h, untold_fits (asks l) given others h) refl
+
+-- where the talk over later lines leaves no answer, so does a reply before it
+abbrev AskedLater : List (List ℕ) → Type 0
+AskedLater ls = (v : Visit) → AllAsked (talk v ls []).left
+
+asked_behind : (ls : List (List ℕ)) (r : Reply) (q : Bool) → AskedLater ls → AllAsked (said r.text (cond q (silent r.next true (Some [])) (talk r.next ls []))).left
+asked_behind ls r true f = tt
+asked_behind ls r false f = f r.next
+
+asked_line : (q : Bool) (v : Visit) (l : List ℕ) (ls : List (List ℕ)) → AskedLater ls → AllAsked (cond (lacks q []) (silent v false None) (said (reply v l (told q [])).text (cond (reply v l (told q [])).quits (silent (reply v l (told q [])).next true (Some (untold q []))) (talk (reply v l (told q [])).next ls (untold q []))))).left
+asked_line true v l ls f = tt
+asked_line false v l ls f = asked_behind ls (reply v l None) (reply v l None).quits f
+
+-- without an answer a talk goes up to the first line that asks
+pub alone_asked : (ls : List (List ℕ)) (v : Visit) → AllAsked (talk v ls []).left
+alone_asked [] v = tt
+alone_asked (l ∷ ls) v = asked_line (asks l) v l ls (λ w. alone_asked ls w)
+
+-- what is left to say without an answer
+pub rest_asked : (q : Bool) (v : Visit) (line : List ℕ) → AllAsked (rest_of q v line []).left
+rest_asked true v line = tt
+rest_asked false v line = alone_asked (lines_of line) v
+
+-- a line that asks, and no answer
+pub lacking : (v : Visit) (l : List ℕ) (ls : List (List ℕ)) → asks l ≡ true → (talk v (l ∷ ls) []).left ≡ None
+lacking v l ls h = rw h refl
 
 pub said_said : (a b : List ℕ) (t : Talk) → said a (said b t) ≡ said (a ++ b) t
 said_said a b t = ap (λ (x : List ℕ). let u : Talk = record { text = x; next = t.next; quits = t.quits; left = t.left } in u) (sym (append_assoc a b t.text))

@@ -1,11 +1,13 @@
 -- A line that has not ended yet. Past its limit no byte of it matters, so the first 257 stand for all.
-use Rattle.std.specs.Prelude.{◌≡◌, ◌≤◌, ℕ, ◌==◌, not, List, [], ◌∷◌, ◌++◌, length, take, Bool, true, false, if◌then◌else◌, Option, Some}
+use Rattle.std.specs.Prelude.{◌≡◌, ◌⊎◌, ◌≤◌, ℕ, ◌==◌, not, List, [], ◌∷◌, ◌++◌, length, take, Bool, true, false, if◌then◌else◌, Option, Some, None}
 use Rattle.std.specs.List.{list_all}
 use Rattle.std.specs.Io.KnownBytes.{Appends, Consumes}
 use Rattle.debug_server.specs.Visits.{Visit}
 use Rattle.debug_server.specs.Replies.{Told}
 use Rattle.debug_server.specs.Lines.{lines_of}
-use Rattle.debug_server.specs.Talks.{asks, told, Fits, Talk, talk, said, silent, output, Asked}
+use Rattle.debug_server.specs.Talks.{asks, told, Fits, Talk, talk, said, silent, output, Asked, AllAsked, AskedNoMore}
+use Rattle.debug_server.specs.declared.faults.ServeFault.{ServeFault}
+use Rattle.debug_server.specs.declared.faults.ServeFault.TheVariants.{Memory}
 
 -- no newline, and no byte past the limit
 pub record IsPending (line : List ℕ) : Type 0 where
@@ -35,6 +37,7 @@ pub record Breaks (v : Visit) (bytes : List ℕ) (answers : List Told) (held hel
   pub front : List ℕ
   pub appended : Appends held held' front
   pub begins : (more : List ℕ) (others : List Told) → (rest : List ℕ) × (output v (lines_of (bytes ++ more)) (answers ++ others) ≡ front ++ rest)
+  pub asked : (more : List ℕ) → AllAsked (talk v (lines_of (bytes ++ more)) answers).left
 
 -- A beginning of the text was written.
 pub record WritesFront (held held' : Option (List ℕ)) (text : List ℕ) : Type 0 where
@@ -69,10 +72,11 @@ pub record FillsBy {S : Type 0} (gives : S → Told → S → Type 0) (before af
   pub asked : Asked gives before answers after
   pub fills : Fills v bytes answers held held' q v' line
 
-pub record BreaksBy {S : Type 0} (gives : S → Told → S → Type 0) (before : S) (v : Visit) (bytes : List ℕ) (held held' : Option (List ℕ)) : Type 0 where
+pub record BreaksBy {S : Type 0} (gives : S → Told → S → Type 0) (before after : S) (fault : ServeFault) (v : Visit) (bytes : List ℕ) (held held' : Option (List ℕ)) : Type 0 where
   pub answers : List Told
   pub mid : S
   pub asked : Asked gives before answers mid
+  pub no_more : (mid ≡ after) ⊎ ((fault ≡ Memory) × ((more : List ℕ) → (talk v (lines_of (bytes ++ more)) answers).left ≡ None))
   pub breaks : Breaks v bytes answers held held'
 
 pub record EndsBy {S : Type 0} (gives : S → Told → S → Type 0) (before after : S) (v : Visit) (line : List ℕ) (held held' : Option (List ℕ)) (q : Bool) (v' : Visit) : Type 0 where
@@ -81,10 +85,12 @@ pub record EndsBy {S : Type 0} (gives : S → Told → S → Type 0) (before aft
   pub ends : Ends v line answers held held' q v'
 
 -- A beginning of the replies to the line that the input ends in was written.
-pub record FrontBy {S : Type 0} (gives : S → Told → S → Type 0) (before : S) (v : Visit) (line : List ℕ) (held held' : Option (List ℕ)) : Type 0 where
+pub record FrontBy {S : Type 0} (gives : S → Told → S → Type 0) (before after : S) (fault : ServeFault) (v : Visit) (line : List ℕ) (held held' : Option (List ℕ)) : Type 0 where
   pub answers : List Told
   pub mid : S
   pub asked : Asked gives before answers mid
+  pub no_more : AskedNoMore mid after fault (talk v (lines_of line) answers).left
+  pub used : AllAsked (talk v (lines_of line) answers).left
   pub front : WritesFront held held' (output v (lines_of line) answers)
 
 pub record ReadsBy {S : Type 0} (gives : S → Told → S → Type 0) (before after : S) (v : Visit) (unread unread' held held' : Option (List ℕ)) (v' : Visit) (line : List ℕ) : Type 0 where

@@ -5,6 +5,8 @@ use Rattle.std.specs.Io.KnownBytes.{Appends, Consumes, IsAtEnd}
 use Rattle.debug_server.specs.Visits.{Visit}
 use Rattle.debug_server.specs.Replies.{Told, Reply, reply}
 use Rattle.debug_server.specs.Lines.{lines_of}
+use Rattle.debug_server.specs.declared.faults.ServeFault.{ServeFault}
+use Rattle.debug_server.specs.declared.faults.ServeFault.TheVariants.{Memory}
 
 -- whether the source is asked for a line
 unfoldable pub asks : List ℕ → Bool
@@ -90,6 +92,16 @@ pub record Served (v : Visit) (unread unread' held held' : Option (List ℕ)) (a
   pub asked : (talk v (lines_of taken) answers).left ≡ Some []
   pub whole : (q ≡ true) ⊎ IsAtEnd unread'
 
+-- No answer is left over: each was asked for by one of the lines.
+abbrev pub AllAsked : Option (List Told) → Type 0
+AllAsked None = Unit {0}
+AllAsked (Some []) = Unit {0}
+AllAsked (Some (a ∷ ts)) = ⊥
+
+-- The source was asked no more than it answered; or it was, by a line that got no answer, for want of memory.
+abbrev pub AskedNoMore : {S : Type 0} → S → S → ServeFault → Option (List Told) → Type 0
+AskedNoMore last after fault left = (last ≡ after) ⊎ ((fault ≡ Memory) × (left ≡ None))
+
 -- Some bytes were read, and a beginning of the replies to them was written.
 pub record Broke (v : Visit) (unread unread' held held' : Option (List ℕ)) (answers : List Told) : Type 0 where
   pub taken : List ℕ
@@ -98,3 +110,12 @@ pub record Broke (v : Visit) (unread unread' held held' : Option (List ℕ)) (an
   pub read : Consumes unread unread' taken
   pub begins : output v (lines_of taken) answers ≡ front ++ rest
   pub written : Appends held held' front
+  pub asked : AllAsked (talk v (lines_of taken) answers).left
+
+-- The same with a source, which gave just these answers, in order, and was asked no more.
+pub record BrokeBy {S : Type 0} (gives : S → Told → S → Type 0) (before after : S) (fault : ServeFault) (v : Visit) (unread unread' held held' : Option (List ℕ)) : Type 0 where
+  pub answers : List Told
+  pub last : S
+  pub given : Asked gives before answers last
+  pub broke : Broke v unread unread' held held' answers
+  pub no_more : AskedNoMore last after fault (talk v (lines_of broke.taken) answers).left

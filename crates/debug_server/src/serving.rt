@@ -1,8 +1,8 @@
 //! Serving lines from a reader to a writer.
-ghost use Rattle.std.specs.Prelude.{◌≡◌, ◌≢◌, ◌↔◌, ◌++◌, ◌∷◌, [], List, true, false, option_map, IsTrue, IfOk, OnOk, OnErr, IsErrOf};
+ghost use Rattle.std.specs.Prelude.{◌≡◌, ◌≢◌, ◌↔◌, ◌++◌, ◌∷◌, [], List, true, false, option_map, IsTrue, IfOk, IfErr, OnOk, OnErr, IsErrOf};
 ghost use Rattle.std.specs.Io.KnownBytes.{Appends, Keeps};
 ghost use Rattle.debug_server.specs.Replies.{Told, reply};
-ghost use Rattle.debug_server.specs.Talks.{Asked, Served, Broke};
+ghost use Rattle.debug_server.specs.Talks.{asks, Asked, Served, BrokeBy};
 ghost use Rattle.debug_server.specs.Pending.{IsPending, WritesFront, Gave, FillsBy, BreaksBy, EndsBy, FrontBy};
 
 use crate::answering::answer;
@@ -48,6 +48,7 @@ fn write_out<W: Write>(writer: &mut W, bytes: &[u8]) -> Result<(), ServeFault>
 // What the source has, for a line that asks it.
 fn ask<S: Source>(source: &mut S, line: &[u8]) -> Result<Option<Vec<Event>>, ServeFault>
     ensures ok { IfOk result (λ answer. Gave S.gives line.now source.old (option_map (λ v. v.items) answer) source.new) }
+    ensures err { IfErr result (λ fault. (fault ≡ ServeFault.Memory) × (asks line.now ≡ true)) }
     ensures open { result ≢ Err ServeFault.Closed }
 {
     if line != b"sync".as_slice() {
@@ -99,7 +100,7 @@ fn take_byte<W: Write, S: Source>(
     source: &mut S,
 ) -> Result<bool, ServeFault>
     ensures ok { IfOk result (λ q. FillsBy S.gives source.old source.new visitor.old (line.old ++ byte ∷ []) (W.contents writer.old) (W.contents writer.new) q visitor.new line.new) }
-    ensures err { OnErr result (BreaksBy S.gives source.old visitor.old (line.old ++ byte ∷ []) (W.contents writer.old) (W.contents writer.new)) }
+    ensures err { IfErr result (λ fault. BreaksBy S.gives source.old source.new fault visitor.old (line.old ++ byte ∷ []) (W.contents writer.old) (W.contents writer.new)) }
     ensures open { result ≢ Err ServeFault.Closed }
 {
     if byte != b'\n' {
@@ -123,7 +124,7 @@ fn feed<W: Write, S: Source>(
     source: &mut S,
 ) -> Result<bool, ServeFault>
     ensures ok { IfOk result (λ q. FillsBy S.gives source.old source.new visitor.old (line.old ++ bytes.now) (W.contents writer.old) (W.contents writer.new) q visitor.new line.new) }
-    ensures err { OnErr result (BreaksBy S.gives source.old visitor.old (line.old ++ bytes.now) (W.contents writer.old) (W.contents writer.new)) }
+    ensures err { IfErr result (λ fault. BreaksBy S.gives source.old source.new fault visitor.old (line.old ++ bytes.now) (W.contents writer.old) (W.contents writer.new)) }
     ensures open { result ≢ Err ServeFault.Closed }
 {
     for byte in bytes {
@@ -144,7 +145,7 @@ fn finish<W: Write, S: Source>(
 ) -> Result<bool, ServeFault>
     requires { IsPending line.now }
     ensures ok { IfOk result (λ q. EndsBy S.gives source.old source.new visitor.old line.now (W.contents writer.old) (W.contents writer.new) q visitor.new) }
-    ensures err { OnErr result (FrontBy S.gives source.old visitor.old line.now (W.contents writer.old) (W.contents writer.new)) }
+    ensures err { IfErr result (λ fault. FrontBy S.gives source.old source.new fault visitor.old line.now (W.contents writer.old) (W.contents writer.new)) }
     ensures open { result ≢ Err ServeFault.Closed }
 {
     if line.len() == 0 {
@@ -165,8 +166,8 @@ fn converse<R: Read, W: Write, S: Source>(
 ) -> Result<bool, ServeFault>
     ensures ok { IfOk result (λ q. (answers : List Told) × Asked S.gives source.old answers source.new
         × Served visitor.old (R.remaining reader.old) (R.remaining reader.new) (W.contents writer.old) (W.contents writer.new) answers visitor.new q) }
-    ensures err { OnErr result ((answers : List Told) × (mid : S) × Asked S.gives source.old answers mid
-        × Broke visitor.old (R.remaining reader.old) (R.remaining reader.new) (W.contents writer.old) (W.contents writer.new) answers) }
+    ensures err { IfErr result (λ fault. BrokeBy S.gives source.old source.new fault visitor.old
+        (R.remaining reader.old) (R.remaining reader.new) (W.contents writer.old) (W.contents writer.new)) }
     ensures open { result ≢ Err ServeFault.Closed }
 {
     let mut line = Line::new();
@@ -205,11 +206,10 @@ pub fn serve<R: Read, W: Write, S: Source>(
         × Served session.old.visit (R.remaining reader.old) (R.remaining reader.new)
         (W.contents writer.old) (W.contents writer.new) answers session.new.visit session.new.is_closed) }
 
-    // At an error it is a beginning of that.
+    // At an error it is a beginning of that, and the source was asked for just what was answered.
     ensures err { OnErr result (session.new.is_closed ≡ true) }
-    ensures begins { session.old.is_closed ≡ false → OnErr result ((answers : List Told) × (mid : S) × Asked S.gives source.old answers mid
-        × Broke session.old.visit (R.remaining reader.old) (R.remaining reader.new)
-        (W.contents writer.old) (W.contents writer.new) answers) }
+    ensures begins { session.old.is_closed ≡ false → IfErr result (λ fault. BrokeBy S.gives source.old source.new fault session.old.visit
+        (R.remaining reader.old) (R.remaining reader.new) (W.contents writer.old) (W.contents writer.new)) }
 {
     if session.is_closed {
         return Err(ServeFault::Closed);

@@ -16,4 +16,4 @@ returns-in-Ok-clause-ok g c =
 pub returns-clause-begins : goal.returns-clause-begins
 returns-clause-begins g c f e =
     let s = c.in-Err.ensures.begins (open_at c.in_ok-session.session _ c.in_ok-session.ensures.ok) in
-    (c.in_ok-session.ensures.accepts, s.0, none_asked _ _ s.0 s.2, broke_at c.in_ok-session.session _ _ _ _ _ s.0 c.in_ok-session.ensures.ok s.3)
+    (c.in_ok-session.ensures.accepts, s.answers, none_asked _ _ s.answers s.given, broke_at c.in_ok-session.session _ _ _ _ _ s.answers c.in_ok-session.ensures.ok s.broke)
