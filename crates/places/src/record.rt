@@ -1,5 +1,5 @@
 //! Records: the places that differ, with what stood there.
-ghost use Rattle.std.specs.Prelude.{◌≡◌, ◌∷◌, [], map, MatchOption};
+ghost use Rattle.std.specs.Prelude.{◌≡◌, ◌∷◌, [], map, MatchOption, None};
 ghost use Rattle.places.specs.View.{NamesOnce};
 ghost use Rattle.places.specs.Notes.{rows_left, backlog_left, left, after_change, number_in};
 ghost use Rattle.places.specs.Slots.{row_change};
@@ -61,7 +61,8 @@ impl<'a> Model for Changes<'a> {
 impl<'a> Changes<'a> {
     /// The next change, if one is left.
     pub fn next(&mut self) -> Option<Change>
-        ensures { MatchOption result (self.old ≡ []) (λ c. self.old ≡ c ∷ self.new) }
+        ensures told { MatchOption result (self.old ≡ []) (λ c. self.old ≡ c ∷ self.new) }
+        ensures none { result ≡ None → self.new ≡ [] }
     {
         if let [first, rest @ ..] = self.numbers {
             self.numbers = rest;

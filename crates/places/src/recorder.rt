@@ -102,6 +102,7 @@ impl Recorder {
         ensures completions { OnOk result (n ≤ self.new.completions) }
         ensures others { OnOk result (n ≤ self.new.others) }
         ensures kept { HasAsMuch self.old self.new }
+        ensures there { n ≤ self.old.numbers → n ≤ self.old.completions → n ≤ self.old.others → IsOk result }
     {
         self.room_for_numbers(n)?;
         self.room_for_completions(n)?;
