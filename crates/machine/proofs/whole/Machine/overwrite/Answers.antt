@@ -7,13 +7,13 @@ loop-change-init c = restored_from _ _ c.requires.once
 
 pub put-requires : goal.put-requires
 put-requires c =
-    let at = subst (Restored c.args.self.now c.args.rest.now c.loop-change.self) c.in-Some.ensures c.loop-change.invariant in
+    let at = subst (Restored c.args.self.now c.args.rest.now c.loop-change.self) c.in-Some.ensures.told c.loop-change.invariant in
     let k = some_of _ (sym c.is_some.ensures ∙ c.if-is_some.true) in
     next_can_put c.requires.back.0 _ _ _ _ _ k.0 k.1 c.requires.back.1 at
 
 pub loop-change-preserved-then-is_some : goal.loop-change-preserved-then-is_some
 loop-change-preserved-then-is_some c =
-    let at = subst (Restored c.args.self.now c.args.rest.now c.loop-change.self) c.in-Some.ensures c.loop-change.invariant in
+    let at = subst (Restored c.args.self.now c.args.rest.now c.loop-change.self) c.in-Some.ensures.told c.loop-change.invariant in
     let k = some_of _ (sym c.is_some.ensures ∙ c.if-is_some.true) in
     let rows = rw k.1 at c.put.ensures.rows in
     let items = rw k.1 at c.put.ensures.backlog in
@@ -21,7 +21,7 @@ loop-change-preserved-then-is_some c =
 
 pub loop-change-preserved : goal.loop-change-preserved
 loop-change-preserved c =
-    let at = subst (Restored c.args.self.now c.args.rest.now c.loop-change.self) c.in-Some.ensures c.loop-change.invariant in
+    let at = subst (Restored c.args.self.now c.args.rest.now c.loop-change.self) c.in-Some.ensures.told c.loop-change.invariant in
     restored_skip c.requires.back.0 _ _ _ _ _ (none_of _ (sym c.is_some.ensures ∙ c.if-is_some.false)) c.requires.back.1 at
 
 pub returns-clause-undone : goal.returns-clause-undone
