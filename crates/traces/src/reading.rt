@@ -56,6 +56,7 @@ pub(crate) fn read_counted(alloc: Global, bytes: &[u8]) -> Result<Vec<Event>, Tr
 fn read_first(alloc: Global, bytes: &[u8]) -> Result<Vec<Event>, TraceFault>
     ensures found { IfOk result (λ events. IsTrace events.items bytes.now) }
     ensures fault { IfErr result (λ fault. (fault ≡ TraceFault.Memory) ⊎ IsFault bytes.now fault) }
+    ensures other { (BeginsAs magic bytes.now → ⊥) → result ≡ Err TraceFault.Magic }
 {
     let there = MAGIC.len().min(bytes.len());
     if bytes[..there] != MAGIC[..there] {
@@ -75,6 +76,9 @@ pub fn read_trace(alloc: Global, bytes: &[u8]) -> Result<Vec<Event>, TraceFault>
 
     // Which fault it is.
     ensures fault { IfErr result (λ fault. (fault ≡ TraceFault.Memory) ⊎ IsFault bytes.now fault) }
+
+    // Bytes that begin otherwise are refused without memory.
+    ensures other { (BeginsAs magic bytes.now → ⊥) → result ≡ Err TraceFault.Magic }
 {
     read_first(alloc, bytes)
 }

@@ -4,7 +4,7 @@ ghost use Rattle.std.specs.List.{list_all};
 ghost use Rattle.scenario.specs.declared.event.Event.{Event};
 ghost use Rattle.scenario.specs.declared.setup.Setup.{Setup};
 ghost use Rattle.traces.specs.Spots.{Spot};
-ghost use Rattle.traces.specs.Spelling.{counted_bytes, most_events, has_transfer, AreEvents, IsTrace};
+ghost use Rattle.traces.specs.Spelling.{counted_bytes, magic, most_events, has_transfer, AreEvents, IsTrace};
 ghost use Rattle.traces.specs.Faults.{BeginsAs, IsFault};
 ghost use Rattle.traces.specs.Limits.{keeps_ranges};
 ghost use Rattle.traces.specs.Setups.{plain, magic2, trace2_bytes, IsTrace2};
@@ -37,6 +37,7 @@ fn read_body(alloc: Global, cursor: Cursor<'_>) -> Result<(Setup, Vec<Event>), T
 fn read_second(alloc: Global, bytes: &[u8]) -> Result<(Setup, Vec<Event>), TraceFault>
     ensures found { IfOk result (λ found. IsTrace2 found.0 found.1.items bytes.now) }
     ensures fault { IfErr result (λ fault. (fault ≡ TraceFault.Memory) ⊎ IsFault2 bytes.now fault) }
+    ensures other { (BeginsAs magic2 bytes.now → ⊥) → result ≡ Err TraceFault.Magic }
 {
     let there = MAGIC.len().min(bytes.len());
     if bytes[..there] != MAGIC[..there] {
@@ -59,6 +60,9 @@ pub fn read_trace2(alloc: Global, bytes: &[u8]) -> Result<(Setup, Vec<Event>), T
 
     // Which fault it is.
     ensures fault { IfErr result (λ fault. (fault ≡ TraceFault.Memory) ⊎ IsFault2 bytes.now fault) }
+
+    // Bytes that begin otherwise are refused without memory.
+    ensures other { (BeginsAs magic2 bytes.now → ⊥) → result ≡ Err TraceFault.Magic }
 {
     read_second(alloc, bytes)
 }
@@ -90,6 +94,9 @@ pub fn migrate(alloc: Global, setup: &Setup, bytes: &[u8]) -> Result<Vec<u8>, Tr
 
     // Which fault it is.
     ensures fault { IfErr result (λ fault. (fault ≡ TraceFault.Memory) ⊎ IsFault bytes.now fault) }
+
+    // Bytes that begin otherwise are refused without memory.
+    ensures other { (BeginsAs magic bytes.now → ⊥) → result ≡ Err TraceFault.Magic }
 {
     let events = read_trace(alloc, bytes)?;
     Ok(write_trace2(alloc, setup, &events)?)
