@@ -38,6 +38,7 @@ pub fn rcont(walker: &mut Walker, watches: &Watches) -> Result<Stop, AllocError>
     ensures stop { IfOk result (λ stop. stop ≡ earlier_of walker.old watches.now.places) }
     ensures meaning { IfOk result (IsEarlier walker.old watches.now.places) }
     ensures lands { IfOk result (λ stop. walker.new ≡ jumped walker.old (position_of walker.old stop)) }
+    ensures near { walker.old.at ≤ position_of walker.old (earlier_of walker.old watches.now.places) + walker.old.window → IsOk result }
     ensures err { OnErr result (walker.new ≡ walker.old) }
 {
     let stop = earlier(walker, watches);

@@ -16,4 +16,4 @@ loop-change-preserved c =
     sym (named_later c.in-Some.change c.next.new.self c.args.place other) ∙ ap (λ (cs : List Change). names cs c.args.place) (sym c.in-Some.ensures.told) ∙ c.loop-change.invariant
 
 pub returns : goal.returns
-returns c = sym (named_none c.args.place) ∙ ap (λ (cs : List Change). names cs c.args.place) (sym c.in_default.ensures) ∙ c.loop-change.invariant
+returns c = sym (named_none c.args.place) ∙ ap (λ (cs : List Change). names cs c.args.place) (sym c.in_default.ensures.told) ∙ c.loop-change.invariant
