@@ -1,10 +1,10 @@
 //! Reading a script, key by key.
-ghost use Rattle.std.specs.Prelude.{◌≡◌, ◌≢◌, ◌≤◌, ◌<◌, ◌⊎◌, option_map, map, IfOk, IfErr};
+ghost use Rattle.std.specs.Prelude.{◌≡◌, ◌≢◌, ◌≤◌, ◌<◌, ◌⊎◌, length, option_map, map, IfOk, IfErr};
 ghost use Rattle.serde_json.specs.View.{view};
 ghost use Rattle.script.specs.Faults.{Gives};
 ghost use Rattle.script.specs.Memory.{memory_of};
 ghost use Rattle.script.specs.Objects.{objects_of, fds_of};
-ghost use Rattle.script.specs.Scripts.{entries_of, large_enough, cq_of, flag_of, base_of, threads_of, schedule_of, script_of, Reads, IsNoJson};
+ghost use Rattle.script.specs.Scripts.{entries_of, large_enough, cq_of, flag_of, base_of, threads_of, schedule_of, script_of, limit, Reads, IsNoJson};
 ghost use Rattle.ring_words.specs.Rings.{rounded};
 
 use crate::descriptor::read_descriptors;
@@ -174,6 +174,7 @@ pub fn read_script(alloc: Global, text: &[u8]) -> Result<Script, ScriptFault>
     ensures not_json { result ≡ Err ScriptFault.NotJson → IsNoJson text.now }
     ensures no_json { IsNoJson text.now
         → (result ≡ Err ScriptFault.NotJson) ⊎ (result ≡ Err ScriptFault.Memory) }
+    ensures long { limit < length text.now → result ≢ Err ScriptFault.Memory }
 {
     if text.len() > LIMIT {
         return Err(ScriptFault::Limit(key_path(Key::Document)));
