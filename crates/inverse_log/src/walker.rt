@@ -124,7 +124,7 @@ impl Walker {
     }
 
     /// Adds events at the end of the trace, and keeps the position. A copy that can't be made is want of
-    /// memory at the event that leads to it.
+    /// memory at the event that leads to it, a list of copies that can't grow at the last event.
     pub fn extend(&mut self, events: &[Event]) -> Result<(), ExtendRefusal>
         ensures ok { OnOk result (self.new ≡ extended self.old events.now) }
         ensures accepts { OnOk result (Accepts (ending self.old) events.now) }

@@ -53,7 +53,7 @@ timed w entry op =
     if is_some (time_at w entry.addr) then Ok op else
     invalid
 
--- whether a LINK_TIMEOUT can stand behind an entry of an opcode, or begin a chain
+-- whether a LINK_TIMEOUT can stand behind an entry of an opcode: not behind another one, nor first in a chain
 abbrev pub can_guard : Option ℕ → Bool
 can_guard None = false
 can_guard (Some opcode) = not (opcode == 15)
