@@ -5,6 +5,7 @@ use places::value::is_same;
 use places::{At, Part, Place, Recorder, Value};
 use ring_words::{ComRing, RingFlag, RingRefusal, SubRing};
 use std::alloc::{AllocError, Global};
+use std::process::Abort;
 use std::test::Fail;
 
 /// The three parts, over a completion ring of two slots.
@@ -43,6 +44,13 @@ impl Parts {
         )
     }
 
+    fn post_each(&mut self, numbers: &[u64]) -> Result<(), AllocError> {
+        for user_data in numbers {
+            self.post(*user_data)?;
+        }
+        Ok(())
+    }
+
     fn flush(&mut self) -> Result<(), AllocError> {
         if self.completions.waiting() > self.completions.size()
             || self.backlog.front() as usize > self.backlog.len()
@@ -72,14 +80,23 @@ impl Parts {
         let flags = self.submissions.flags();
         (ring, self.backlog.kept(), self.backlog.len(), flags)
     }
+
+    /// What the record of the parts leaves of two kept completions, and of two rows.
+    fn left_of_two(self) -> (usize, usize) {
+        let Parts { notes, backlog, .. } = self;
+        let record = notes.close(&backlog);
+        (record.backlog_left(2), record.rows_left(2))
+    }
 }
 
-#[test]
-fn what_does_not_fit_is_kept(rt: HostRuntime) -> Result<(), Fail> {
-    let mut parts = Parts::new(rt.alloc())?;
-    for user_data in [1, 2, 3] {
-        parts.post(user_data)?;
-    }
+// The parts once completions were posted.
+fn parts_with(alloc: Global, numbers: &[u64]) -> Result<Parts, Fail> {
+    let mut parts = Parts::new(alloc)?;
+    parts.post_each(numbers)?;
+    Ok(parts)
+}
+
+fn check_kept(rt: &impl Abort, parts: &mut Parts) -> Result<(), Fail> {
     assert_eq!(rt; parts.counts(), (2, 1, 1, 2));
     assert!(rt; parts.submissions.has_flag(RingFlag::CqOverflow));
     assert_eq!(rt; parts.reap()?, 1);
@@ -89,11 +106,12 @@ fn what_does_not_fit_is_kept(rt: HostRuntime) -> Result<(), Fail> {
 }
 
 #[test]
-fn what_is_kept_waits_its_turn(rt: HostRuntime) -> Result<(), Fail> {
-    let mut parts = Parts::new(rt.alloc())?;
-    for user_data in [1, 2, 3, 4] {
-        parts.post(user_data)?;
-    }
+fn what_does_not_fit_is_kept(rt: HostRuntime) -> Result<(), Fail> {
+    let mut parts = parts_with(rt.alloc(), &[1, 2, 3])?;
+    check_kept(&rt, &mut parts)
+}
+
+fn check_flushed(rt: &impl Abort, parts: &mut Parts) -> Result<(), Fail> {
     assert_eq!(rt; parts.reap()?, 1);
     parts.flush()?;
     assert_eq!(rt; parts.counts(), (2, 1, 2, 2));
@@ -102,36 +120,43 @@ fn what_is_kept_waits_its_turn(rt: HostRuntime) -> Result<(), Fail> {
     }
     parts.flush()?;
     assert_eq!(rt; parts.counts(), (1, 0, 2, 0));
+    Ok(())
+}
+
+fn check_last(rt: &impl Abort, parts: &mut Parts) -> Result<(), Fail> {
     assert_eq!(rt; parts.reap()?, 4);
     assert_eq!(rt; parts.backlog.front(), 2);
     assert!(rt; parts.backlog.is_empty());
     Ok(())
 }
 
-#[test]
-fn kept_completions_have_places(rt: HostRuntime) -> Result<(), Fail> {
-    let mut parts = Parts::new(rt.alloc())?;
-    for user_data in [1, 2, 3, 4] {
-        parts.post(user_data)?;
-    }
-    let Parts { notes, backlog, .. } = parts;
-    let last = Some(Value::Completed(completion(4)));
-    assert!(rt; is_same(backlog.at(Place::Backlog(1)), last));
-    assert!(rt; is_same(backlog.at(Place::Backlog(2)), None));
-    let record = notes.close(&backlog);
-    assert_eq!(rt; record.backlog_left(2), 0);
-    assert_eq!(rt; record.rows_left(2), 2);
-    Ok(())
+fn check_turns(rt: &impl Abort, parts: &mut Parts) -> Result<(), Fail> {
+    check_flushed(rt, parts)?;
+    check_last(rt, parts)
 }
 
 #[test]
-fn kept_completions_are_put_back(rt: HostRuntime) -> Result<(), Fail> {
-    let mut parts = Parts::new(rt.alloc())?;
-    for user_data in [1, 2, 3, 4] {
-        parts.post(user_data)?;
-    }
+fn what_is_kept_waits_its_turn(rt: HostRuntime) -> Result<(), Fail> {
+    let mut parts = parts_with(rt.alloc(), &[1, 2, 3, 4])?;
+    check_turns(&rt, &mut parts)
+}
+
+fn check_places(rt: &impl Abort, backlog: &Backlog) {
     let last = Some(Value::Completed(completion(4)));
-    let mut backlog = parts.backlog.copy(rt.alloc())?;
+    assert!(rt; is_same(backlog.at(Place::Backlog(1)), last));
+    assert!(rt; is_same(backlog.at(Place::Backlog(2)), None));
+}
+
+#[test]
+fn kept_completions_have_places(rt: HostRuntime) -> Result<(), Fail> {
+    let parts = parts_with(rt.alloc(), &[1, 2, 3, 4])?;
+    check_places(&rt, &parts.backlog);
+    assert_eq!(rt; parts.left_of_two(), (0, 2));
+    Ok(())
+}
+
+fn check_put_back(rt: &impl Abort, backlog: &mut Backlog) {
+    let last = Some(Value::Completed(completion(4)));
     assert_eq!(rt; backlog.len(), 2);
     backlog.put(Place::Backlog(1), None);
     assert_eq!(rt; backlog.len(), 1);
@@ -141,7 +166,19 @@ fn kept_completions_are_put_back(rt: HostRuntime) -> Result<(), Fail> {
     assert!(rt; backlog.is_empty());
     backlog.truncate(0);
     assert_eq!(rt; backlog.len(), 0);
+}
+
+// A copy is put back, and leaves what it came from.
+fn check_copy(rt: &(impl Abort + AllocGlobal), kept: &Backlog) -> Result<(), Fail> {
+    let mut backlog = kept.copy(rt.alloc())?;
+    check_put_back(rt, &mut backlog);
     Ok(())
+}
+
+#[test]
+fn kept_completions_are_put_back(rt: HostRuntime) -> Result<(), Fail> {
+    let parts = parts_with(rt.alloc(), &[1, 2, 3, 4])?;
+    check_copy(&rt, &parts.backlog)
 }
 
 fn completion(user_data: u64) -> Cqe {
