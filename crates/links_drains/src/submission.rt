@@ -191,46 +191,53 @@ mod tests {
         }
     }
 
-    // How many of three entries become rows, and which of them end at once.
-    fn taken(
+    fn taken_over(
         alloc: Global,
         entries: &[Sqe],
+        world: &World,
         submit_all: bool,
-    ) -> Result<(u32, Vec<(u32, i32)>), AllocError>
+    ) -> Result<Batch, AllocError>
+        requires few { length entries.now ≤ 65536 }
+        requires memory { length world.now.memory ≡ 65536 }
+    {
+        let mut table = Table::new(alloc);
+        let mut notes = Recorder::new(alloc);
+        table.take_batch(entries, world, submit_all, &mut notes)
+    }
+
+    // How many entries become rows of an empty table, and which of them end at once.
+    fn taken(alloc: Global, entries: &[Sqe], submit_all: bool) -> Result<Batch, AllocError>
         requires { length entries.now ≤ 65536 }
     {
         let world = World::new(alloc, &[], &[], &[])?;
-        let mut table = Table::new(alloc);
-        let mut notes = Recorder::new(alloc);
-        let batch = table.take_batch(entries, &world, submit_all, &mut notes)?;
-        Ok((batch.taken, batch.direct))
+        taken_over(alloc, entries, &world, submit_all)
     }
 
     #[test]
     fn stops_behind_a_failure(rt: HostRuntime) -> Result<(), AllocError> {
         let entries = [entry(0, 0), entry(99, 0), entry(0, 0)];
-        let (count, direct) = taken(rt.alloc(), &entries, false)?;
-        assert_eq!(rt; count, 2);
-        assert_eq!(rt; direct.as_slice(), [(1, -22)].as_slice());
+        let batch = taken(rt.alloc(), &entries, false)?;
+        assert_eq!(rt; batch.taken, 2);
+        assert_eq!(rt; batch.direct.as_slice(), [(1, -22)].as_slice());
         Ok(())
     }
 
     #[test]
     fn goes_on_behind_a_failure(rt: HostRuntime) -> Result<(), AllocError> {
         let entries = [entry(0, 0), entry(99, 0), entry(0, 0)];
-        let (count, direct) = taken(rt.alloc(), &entries, true)?;
-        assert_eq!(rt; count, 3);
-        assert_eq!(rt; direct.as_slice(), [(1, -22)].as_slice());
+        let batch = taken(rt.alloc(), &entries, true)?;
+        assert_eq!(rt; batch.taken, 3);
+        assert_eq!(rt; batch.direct.as_slice(), [(1, -22)].as_slice());
         Ok(())
     }
 
     #[test]
     fn a_chain_fails_as_a_whole(rt: HostRuntime) -> Result<(), AllocError> {
         let entries = [entry(0, 8), entry(99, 4), entry(0, 0)];
-        let (count, direct) = taken(rt.alloc(), &entries, true)?;
-        assert_eq!(rt; count, 3);
+        let batch = taken(rt.alloc(), &entries, true)?;
+        assert_eq!(rt; batch.taken, 3);
         let ends = [(0, -125), (1, -22), (2, -125)];
-        assert_eq!(rt; direct.as_slice(), ends.as_slice());
+        assert_eq!(rt; batch.direct.as_slice(), ends.as_slice());
         Ok(())
     }
 }

@@ -320,7 +320,9 @@ pub fn new_row(entry: Sqe, unit: u32, time: Option<u128>, target: Option<u32>) -
 #[cfg(test)]
 mod tests {
     use super::*;
+    use crate::submission::Batch;
     use model_files::World;
+    use std::process::Abort;
 
     fn nop(user_data: u64) -> Sqe {
         Sqe {
@@ -362,64 +364,95 @@ mod tests {
         first && second && table.phase(2).is_none() && table.len() == 2
     }
 
-    #[test]
-    fn rows_are_told(rt: HostRuntime) -> Result<(), AllocError> {
-        let mut table = table_of(rt.alloc(), &[nop(7), nop(8)])?;
+    fn check_rows(rt: &impl Abort, table: &mut Table) -> Result<(), AllocError> {
         assert_eq!(rt; table.len(), 2);
         assert!(rt; table.get(0) == Some(new_row(nop(7), 0, None, None)));
-        end(&mut table, 1)?;
-        assert!(rt; tells_two_rows(&table));
+        end(table, 1)?;
+        assert!(rt; tells_two_rows(table));
         Ok(())
     }
 
-    // Whether a copy keeps a row that its table lets go.
-    fn copy_keeps_the_last(table: &mut Table) -> Result<bool, AllocError> {
+    #[test]
+    fn rows_are_told(rt: HostRuntime) -> Result<(), AllocError> {
+        let mut table = table_of(rt.alloc(), &[nop(7), nop(8)])?;
+        check_rows(&rt, &mut table)
+    }
+
+    // A copy keeps a row that its table lets go.
+    fn check_copy(rt: &impl Abort, table: &mut Table) -> Result<(), AllocError> {
         let copied = table.copy(table.allocator())?;
         table.truncate(1);
-        Ok(table.len() == 1 && copied.len() == 2 && names_last(&copied))
+        assert_eq!(rt; table.len(), 1);
+        assert_eq!(rt; copied.len(), 2);
+        assert!(rt; names_last(&copied));
+        Ok(())
     }
 
     #[test]
     fn copies_stay(rt: HostRuntime) -> Result<(), AllocError> {
         let mut table = table_of(rt.alloc(), &[nop(7), nop(8)])?;
-        assert!(rt; copy_keeps_the_last(&mut table)?);
-        Ok(())
+        check_copy(&rt, &mut table)
+    }
+
+    // How many rows two entries become.
+    fn take_two(table: &mut Table, world: &World, notes: &mut Recorder) -> Result<u32, AllocError>
+        requires rows { table.old ≡ [] }
+        requires memory { length world.now.memory ≡ 65536 }
+    {
+        let batch = table.take_batch(&[nop(7), nop(8)], world, false, notes)?;
+        Ok(batch.taken)
+    }
+
+    // The same, and how many of two rows the record of that leaves.
+    fn taken_and_left(alloc: Global, world: &World) -> (Result<u32, AllocError>, usize)
+        requires { length world.now.memory ≡ 65536 }
+    {
+        let mut table = Table::new(alloc);
+        let mut notes = Recorder::new(alloc);
+        let taken = take_two(&mut table, world, &mut notes);
+        (taken, notes.close(&table).rows_left(2))
     }
 
     #[test]
     fn records_leave_no_row_that_came(rt: HostRuntime) -> Result<(), AllocError> {
         let world = World::new(rt.alloc(), &[], &[], &[])?;
-        let mut table = Table::new(rt.alloc());
-        let mut notes = Recorder::new(rt.alloc());
-        let batch = table.take_batch(&[nop(7), nop(8)], &world, false, &mut notes)?;
-        assert_eq!(rt; batch.taken, 2);
-        assert_eq!(rt; notes.close(&table).rows_left(2), 0);
+        let (taken, left) = taken_and_left(rt.alloc(), &world);
+        assert!(rt; matches!(taken, Ok(2)));
+        assert_eq!(rt; left, 0);
         Ok(())
     }
 
-    #[test]
-    fn an_issued_row_holds(rt: HostRuntime) -> Result<(), AllocError> {
-        let mut table = table_of(rt.alloc(), &[nop(7)])?;
+    fn check_holder(rt: &impl Abort, table: &mut Table) -> Result<(), AllocError> {
         assert_eq!(rt; table.len(), 1);
-        hold(&mut table, 0, 3)?;
+        hold(table, 0, 3)?;
         assert_eq!(rt; table.phase(0), Some(Phase::Issued));
-        assert_eq!(rt; held_by(&table, 0), Some(3));
+        assert_eq!(rt; held_by(table, 0), Some(3));
         assert_eq!(rt; table.held().holds(3), true);
         assert_eq!(rt; table.held().holds(4), false);
         Ok(())
     }
 
     #[test]
-    fn held_until_the_last_row_ends(rt: HostRuntime) -> Result<(), AllocError> {
-        let mut table = table_of(rt.alloc(), &[nop(7), nop(8)])?;
+    fn an_issued_row_holds(rt: HostRuntime) -> Result<(), AllocError> {
+        let mut table = table_of(rt.alloc(), &[nop(7)])?;
+        check_holder(&rt, &mut table)
+    }
+
+    fn check_two_holders(rt: &impl Abort, table: &mut Table) -> Result<(), AllocError> {
         assert_eq!(rt; table.len(), 2);
-        hold(&mut table, 0, 66)?;
-        hold(&mut table, 1, 66)?;
-        end(&mut table, 0)?;
+        hold(table, 0, 66)?;
+        hold(table, 1, 66)?;
+        end(table, 0)?;
         assert_eq!(rt; table.held().holds(66), true);
-        end(&mut table, 1)?;
+        end(table, 1)?;
         assert_eq!(rt; table.held().holds(66), false);
         Ok(())
+    }
+
+    #[test]
+    fn held_until_the_last_row_ends(rt: HostRuntime) -> Result<(), AllocError> {
+        let mut table = table_of(rt.alloc(), &[nop(7), nop(8)])?;
+        check_two_holders(&rt, &mut table)
     }
 
     // A row is issued, and holds a descriptor.
@@ -449,21 +482,32 @@ mod tests {
             && table.next_issued(second + 1).is_none()
     }
 
-    #[test]
-    fn issued_rows_in_order(rt: HostRuntime) -> Result<(), AllocError> {
-        let mut table = table_of(rt.alloc(), &[nop(7), nop(8), nop(9)])?;
+    // Whether the issued rows of a table's copy are a row and a later one.
+    fn are_issued_in_copy(table: &Table, first: u32, second: u32) -> Result<bool, AllocError>
+        requires { second < 65536 }
+    {
+        let copied = table.copy(table.allocator())?;
+        Ok(are_issued(&copied, first, second))
+    }
+
+    fn check_issued(rt: &impl Abort, table: &mut Table) -> Result<(), AllocError> {
         assert_eq!(rt; table.len(), 3);
         assert_eq!(rt; table.next_issued(0), None);
-        hold(&mut table, 2, 3)?;
-        hold(&mut table, 1, 3)?;
-        assert!(rt; are_issued(&table, 1, 2));
-        let copied = table.copy(rt.alloc())?;
-        assert!(rt; are_issued(&copied, 1, 2));
-        end(&mut table, 1)?;
+        hold(table, 2, 3)?;
+        hold(table, 1, 3)?;
+        assert!(rt; are_issued(table, 1, 2));
+        assert!(rt; are_issued_in_copy(table, 1, 2)?);
+        end(table, 1)?;
         assert_eq!(rt; table.next_issued(0), Some(2));
         table.truncate(2);
         assert_eq!(rt; table.next_issued(0), None);
         Ok(())
+    }
+
+    #[test]
+    fn issued_rows_in_order(rt: HostRuntime) -> Result<(), AllocError> {
+        let mut table = table_of(rt.alloc(), &[nop(7), nop(8), nop(9)])?;
+        check_issued(&rt, &mut table)
     }
 
     // A TIMEOUT that waits for a count of completions.
@@ -515,14 +559,18 @@ mod tests {
         Ok(table.next_met(9, 0).is_none() && are_met(&copied, 6, 1, 3))
     }
 
+    fn check_counts(rt: &impl Abort, table: &mut Table) -> Result<(), AllocError> {
+        assert_eq!(rt; table.len(), 4);
+        assert!(rt; meets_the_issued(table)?);
+        assert!(rt; meets_what_is_put_back(table)?);
+        assert!(rt; copy_alone_meets(table)?);
+        Ok(())
+    }
+
     #[test]
     fn counts_are_met_in_order(rt: HostRuntime) -> Result<(), AllocError> {
         let mut table = table_of(rt.alloc(), &[nop(7), counting(2), counting(1), counting(2)])?;
-        assert_eq!(rt; table.len(), 4);
-        assert!(rt; meets_the_issued(&mut table)?);
-        assert!(rt; meets_what_is_put_back(&mut table)?);
-        assert!(rt; copy_alone_meets(&mut table)?);
-        Ok(())
+        check_counts(&rt, &mut table)
     }
 
     // Puts a row back to where it was issued, as a number of completions had been counted.
@@ -540,15 +588,31 @@ mod tests {
         table.put(Place::Request(r), Some(Value::Requested(issued)));
     }
 
+    // A batch comes into a table that has no rows.
+    fn fill(table: &mut Table, entries: &[Sqe], world: &World) -> Result<Batch, AllocError>
+        requires rows { table.old ≡ [] }
+        requires few { length entries.now ≤ 9 }
+        requires memory { length world.now.memory ≡ 65536 }
+    {
+        let mut notes = Recorder::new(table.allocator());
+        table.take_batch(entries, world, true, &mut notes)
+    }
+
+    fn table_over(alloc: Global, entries: &[Sqe], world: &World) -> Result<Table, AllocError>
+        requires few { length entries.now ≤ 9 }
+        requires memory { length world.now.memory ≡ 65536 }
+    {
+        let mut table = Table::new(alloc);
+        fill(&mut table, entries, world)?;
+        Ok(table)
+    }
+
     // The table of a batch of no more than nine.
     fn table_of(alloc: Global, entries: &[Sqe]) -> Result<Table, AllocError>
         requires { length entries.now ≤ 9 }
     {
         let world = World::new(alloc, &[], &[], &[])?;
-        let mut table = Table::new(alloc);
-        let mut notes = Recorder::new(alloc);
-        table.take_batch(entries, &world, true, &mut notes)?;
-        Ok(table)
+        table_over(alloc, entries, &world)
     }
 
     // Whether a copy keeps its holders, once the table that it came from has lost its rows.
@@ -558,17 +622,21 @@ mod tests {
         Ok(!table.held().holds(fd) && copied.held().holds(fd))
     }
 
+    fn check_held_again(rt: &impl Abort, table: &mut Table) -> Result<(), AllocError> {
+        assert_eq!(rt; table.len(), 1);
+        hold(table, 0, 5)?;
+        end(table, 0)?;
+        assert_eq!(rt; table.held().holds(5), false);
+        put_back_issued(table, 0, 0);
+        assert_eq!(rt; table.held().holds(5), true);
+        assert!(rt; copy_alone_holds(table.allocator(), table, 5)?);
+        Ok(())
+    }
+
     #[test]
     fn held_again_once_put_back(rt: HostRuntime) -> Result<(), AllocError> {
         let mut table = table_of(rt.alloc(), &[nop(7)])?;
-        assert_eq!(rt; table.len(), 1);
-        hold(&mut table, 0, 5)?;
-        end(&mut table, 0)?;
-        assert_eq!(rt; table.held().holds(5), false);
-        put_back_issued(&mut table, 0, 0);
-        assert_eq!(rt; table.held().holds(5), true);
-        assert!(rt; copy_alone_holds(rt.alloc(), &mut table, 5)?);
-        Ok(())
+        check_held_again(&rt, &mut table)
     }
 
     // Whether the rest of a row's unit is a list.
@@ -576,16 +644,20 @@ mod tests {
         Ok(table.rest_of(r)?.as_slice() == want)
     }
 
+    fn check_rest(rt: &impl Abort, table: &mut Table) -> Result<(), AllocError> {
+        assert_eq!(rt; table.len(), 4);
+        assert!(rt; has_rest(table, 0, &[1, 2])?);
+        end(table, 1)?;
+        assert!(rt; has_rest(table, 0, &[2])?);
+        assert!(rt; has_rest(table, 2, &[])?);
+        assert!(rt; has_rest(table, 4, &[])?);
+        Ok(())
+    }
+
     #[test]
     fn the_rest_of_a_unit(rt: HostRuntime) -> Result<(), AllocError> {
         let linked = Sqe { flags: 4, ..nop(7) };
         let mut table = table_of(rt.alloc(), &[linked, linked, nop(7), nop(7)])?;
-        assert_eq!(rt; table.len(), 4);
-        assert!(rt; has_rest(&table, 0, &[1, 2])?);
-        end(&mut table, 1)?;
-        assert!(rt; has_rest(&table, 0, &[2])?);
-        assert!(rt; has_rest(&table, 2, &[])?);
-        assert!(rt; has_rest(&table, 4, &[])?);
-        Ok(())
+        check_rest(&rt, &mut table)
     }
 }
