@@ -2,7 +2,8 @@
 ghost use Rattle.std.specs.Prelude.{◌<◌};
 
 use machine::State;
-use places::{Place, Record, Value};
+use places::value::is_same;
+use places::{Place, Record};
 
 /// The places that have no index.
 const WORDS: [Place; 10] = [
@@ -22,7 +23,7 @@ const WORDS: [Place; 10] = [
 const KINDS: [u32; 10] = [65536, 65536, 65536, 8192, 4096, 4096, 16, 16, 16, 16];
 
 /// How far a record names what differs.
-#[derive(Drop)]
+#[derive(Clone, Copy)]
 pub struct RecordFit {
     /// How many places it names.
     pub places: usize,
@@ -99,12 +100,4 @@ fn place_of(kind: usize, index: u32) -> Place {
 
 fn differs(before: &State, after: &State, place: Place) -> bool {
     !is_same(before.value(place), after.value(place))
-}
-
-fn is_same(a: Option<Value>, b: Option<Value>) -> bool {
-    match (a, b) {
-        (Some(a), Some(b)) => a.is(&b),
-        (None, None) => true,
-        _ => false,
-    }
 }

@@ -169,14 +169,24 @@ fn walk_cascade(
     rows: usize,
 ) -> Result<(), Fault> {
     add(rt, walker, load)?;
-    let end = walker.len();
-    let start = end.saturating_sub(1);
+    let start = walker.len().saturating_sub(1);
     walker.goto(start)?;
     let before = walker.state().copy(rt.alloc())?;
+    compare_cascade(rt, walker, &before, rows)
+}
+
+// Walks from the state before the last event to the end and back, again and again, and compares.
+fn compare_cascade(
+    rt: &(impl Print + Eprint + Clock),
+    walker: &mut Walker,
+    before: &State,
+    rows: usize,
+) -> Result<(), Fault> {
+    let (start, end) = (walker.at(), walker.len());
     walk_rounds(rt, walker, start, FEW_ROUNDS, rows)?;
-    println!(rt; "differ once undone {}", differing(&before, walker.state()))?;
+    println!(rt; "differ once undone {}", differing(before, walker.state()))?;
     walker.goto(end)?;
-    print_named(rt, walker, &before)?;
+    print_named(rt, walker, before)?;
     print_counts(rt, walker)?;
     Ok(())
 }
@@ -222,18 +232,28 @@ fn measure(
         _ => (u32::MAX, u32::MAX),
     };
     let mut walker = Walker::with(rt.alloc(), &load.setup, every, window)?;
+    walk(rt, &mut walker, plan, load)
+}
+
+// Walks as a plan asks for.
+fn walk(
+    rt: &(impl Print + Eprint + Clock + AllocGlobal),
+    walker: &mut Walker,
+    plan: Plan,
+    load: &Load,
+) -> Result<(), Fault> {
     match plan {
-        Plan::Jumps(_) | Plan::Full(_) => walk_jumps(rt, &mut walker, load),
-        Plan::Issues(_) => walk_last(rt, &mut walker, load, ISSUED as usize),
-        Plan::Polls(_) => walk_last(rt, &mut walker, load, 2 * ISSUED as usize),
+        Plan::Jumps(_) | Plan::Full(_) => walk_jumps(rt, walker, load),
+        Plan::Issues(_) => walk_last(rt, walker, load, ISSUED as usize),
+        Plan::Polls(_) => walk_last(rt, walker, load, 2 * ISSUED as usize),
         Plan::Links(_) | Plan::Drains(_) | Plan::Cancels(_) => {
-            walk_last(rt, &mut walker, load, 2 * ENDED as usize)
+            walk_last(rt, walker, load, 2 * ENDED as usize)
         }
-        Plan::Counts(_) | Plan::Meets(_) => walk_last(rt, &mut walker, load, ENDED as usize),
+        Plan::Counts(_) | Plan::Meets(_) => walk_last(rt, walker, load, ENDED as usize),
         Plan::Cascade(rows) | Plan::Met(rows) | Plan::Severed(rows) => {
-            walk_cascade(rt, &mut walker, load, rows as usize)
+            walk_cascade(rt, walker, load, rows as usize)
         }
-        _ => walk_through(rt, &mut walker, load),
+        _ => walk_through(rt, walker, load),
     }
 }
 
@@ -248,6 +268,19 @@ fn end(rt: &impl Eprint, measured: Result<(), Fault>) -> io::Result<ExitCode> {
     }
 }
 
+// Measures what the words behind the program's name ask for.
+fn run(rt: &(impl Print + Eprint + Clock + AllocGlobal), words: &[&str]) -> io::Result<ExitCode> {
+    if let Some(count) = traces_of(words) {
+        return end(rt, measure_traces(rt, count));
+    }
+    let Some(plan) = plan_of(words) else {
+        eprintln!(rt; "{WORDS}")?;
+        return Ok(ExitCode::from(2));
+    };
+    let load = load_of(rt.alloc(), plan)?;
+    end(rt, measure(rt, plan, &load))
+}
+
 fn main(rt: HostRuntime) -> io::Result<ExitCode> {
     let alloc = rt.alloc();
     let words: Vec<String> = env::args(&rt)?.collect(alloc)?;
@@ -256,13 +289,5 @@ fn main(rt: HostRuntime) -> io::Result<ExitCode> {
         .skip(1)
         .map(|word| word.as_str())
         .collect(alloc)?;
-    if let Some(count) = traces_of(&texts) {
-        return end(&rt, measure_traces(&rt, count));
-    }
-    let Some(plan) = plan_of(&texts) else {
-        eprintln!(rt; "{WORDS}")?;
-        return Ok(ExitCode::from(2));
-    };
-    let load = load_of(alloc, plan)?;
-    end(&rt, measure(&rt, plan, &load))
+    run(&rt, &texts)
 }

@@ -27,16 +27,30 @@ fn bytes_named(record: &Record) -> [usize; 3] {
     named
 }
 
+// The same of an event.
+fn bytes_named_by(state: &mut State, event: Event) -> Result<[usize; 3], Fail> {
+    let record = state.step(event)?;
+    Ok(bytes_named(&record))
+}
+
 // What each request of a run names as it ends, in turn: the run's other events name no bytes.
 fn named_by_requests(alloc: Global, plan: Plan) -> Result<Vec<[usize; 3]>, Fail>
     requires { HasLimits plan }
 {
     let load = load_of(alloc, plan)?;
     let mut state = State::new(alloc, &load.setup)?;
+    named_along(alloc, &mut state, &load.events)
+}
+
+// The same from a state on.
+fn named_along(
+    alloc: Global,
+    state: &mut State,
+    events: &[Event],
+) -> Result<Vec<[usize; 3]>, Fail> {
     let mut named = Vec::new(alloc);
-    for event in &load.events {
-        let record = state.step(*event)?;
-        let bytes = bytes_named(&record);
+    for event in events {
+        let bytes = bytes_named_by(state, *event)?;
         match event {
             Event::Finish(..) => named.push(bytes)?,
             _ if bytes == [0, 0, 0] => {}

@@ -15,14 +15,24 @@ fn results_of(alloc: Global, plan: Plan) -> Result<Vec<i32>, Fail>
 {
     let load = load_of(alloc, plan)?;
     let mut state = State::new(alloc, &load.setup)?;
+    results_along(alloc, &mut state, &load.events)
+}
+
+// The same from a state on.
+fn results_along(alloc: Global, state: &mut State, events: &[Event]) -> Result<Vec<i32>, Fail> {
     let mut results = Vec::new(alloc);
-    for event in &load.events {
-        state.step(*event)?;
+    for event in events {
+        step(state, *event)?;
         if let Event::Finish(row, _) = event {
-            results.push(result_of(&state, *row)?)?;
+            results.push(result_of(state, *row)?)?;
         }
     }
     Ok(results)
+}
+
+fn step(state: &mut State, event: Event) -> Result<(), Fail> {
+    state.step(event)?;
+    Ok(())
 }
 
 fn result_of(state: &State, row: u32) -> Result<i32, Fail> {

@@ -11,21 +11,31 @@ use places::{Place, Value};
 use std::alloc::Global;
 use std::test::Fail;
 
+fn step_along(state: &mut State, events: &[Event]) -> Result<(), Fail> {
+    for event in events {
+        state.step(*event)?;
+    }
+    Ok(())
+}
+
 // Does all events of a run but the last ones.
 fn before_last(alloc: Global, load: &Load, last: usize) -> Result<State, Fail> {
-    let mut state = State::new(alloc, &load.setup)?;
     let end = load.events.len().saturating_sub(last);
-    for at in 0..end {
-        state.step(load.events[at])?;
-    }
+    let mut state = State::new(alloc, &load.setup)?;
+    step_along(&mut state, &load.events[..end])?;
     Ok(state)
 }
 
 // How many places an event names, each of which differs behind it.
 fn named_by(alloc: Global, state: &mut State, event: Event) -> Result<usize, Fail> {
     let before = state.copy(alloc)?;
+    rightly_named(&before, state, event)
+}
+
+// The same from the state before it on.
+fn rightly_named(before: &State, state: &mut State, event: Event) -> Result<usize, Fail> {
     let record = state.step(event)?;
-    let fit = fit_of(&record, &before, state);
+    let fit = fit_of(&record, before, state);
     if fit.right == fit.places {
         Ok(fit.places)
     } else {
@@ -39,24 +49,43 @@ fn named_by_last(alloc: Global, plan: Plan) -> Result<[usize; 2], Fail>
 {
     let load = load_of(alloc, plan)?;
     let mut state = before_last(alloc, &load, 2)?;
-    let [.., first, second] = load.events.as_slice() else {
+    named_by_two(alloc, &mut state, &load.events)
+}
+
+// The same from the state before them on.
+fn named_by_two(alloc: Global, state: &mut State, events: &[Event]) -> Result<[usize; 2], Fail> {
+    let [.., first, second] = events else {
         return Err(Fail::from("fewer than two events"));
     };
     Ok([
-        named_by(alloc, &mut state, *first)?,
-        named_by(alloc, &mut state, *second)?,
+        named_by(alloc, state, *first)?,
+        named_by(alloc, state, *second)?,
     ])
 }
 
 // Does an event and undoes it. Says how many places its record names rightly, how many differ behind it, and
 // how many once it is undone.
-fn there_and_back(alloc: Global, state: &mut State, event: Event) -> Result<[usize; 3], Fail> {
+fn there_and_back(
+    alloc: Global,
+    state: &mut State,
+    event: Option<&Event>,
+) -> Result<[usize; 3], Fail> {
+    let event = event.ok_or("no events")?;
     let before = state.copy(alloc)?;
+    compare_there_and_back(&before, state, *event)
+}
+
+// The same from the state before it on.
+fn compare_there_and_back(
+    before: &State,
+    state: &mut State,
+    event: Event,
+) -> Result<[usize; 3], Fail> {
     let record = state.step(event)?;
-    let named = fit_of(&record, &before, state).right;
-    let differs = differing(&before, state);
+    let named = fit_of(&record, before, state).right;
+    let differs = differing(before, state);
     state.put_back(&record);
-    Ok([named, differs, differing(&before, state)])
+    Ok([named, differs, differing(before, state)])
 }
 
 // The same of the last event of a run.
@@ -65,9 +94,17 @@ fn cascade_of(alloc: Global, plan: Plan) -> Result<[usize; 3], Fail>
 {
     let load = load_of(alloc, plan)?;
     let mut state = before_last(alloc, &load, 1)?;
-    match load.events.last() {
-        Some(event) => there_and_back(alloc, &mut state, *event),
-        None => Err(Fail::from("no events")),
+    there_and_back(alloc, &mut state, load.events.last())
+}
+
+// What a row ended with, or 1 if it hasn't ended.
+fn result_of(state: &State, row: u32) -> i32 {
+    match state.value(Place::Request(row)) {
+        Some(Value::Requested(row)) => match row.phase {
+            Phase::Ended(result) => result,
+            _ => 1,
+        },
+        _ => 1,
     }
 }
 
@@ -77,15 +114,7 @@ fn results(alloc: Global, plan: Plan, rows: u32) -> Result<[i32; 2], Fail>
 {
     let load = load_of(alloc, plan)?;
     let state = before_last(alloc, &load, 0)?;
-    let mut results = [1, 1];
-    for (result, row) in results.iter_mut().zip([0, rows]) {
-        if let Some(Value::Requested(row)) = state.value(Place::Request(row)) {
-            if let Phase::Ended(res) = row.phase {
-                *result = res;
-            }
-        }
-    }
-    Ok(results)
+    Ok([result_of(&state, 0), result_of(&state, rows)])
 }
 
 // A row, its completion, the number of completions and `counted`: two and two more for each row beside it.
