@@ -87,8 +87,8 @@ module _ {S : Type 0} (gives : S → Told → S → Type 0) where
             (k ∙ ap (λ (r : Reply). r.quits) same) l;
       }
 
-  pub cut_by : (s s' : S) (fault : ServeFault) (v : Visit) (line text : List ℕ) (b : ℕ) (answer : Told) (h h' : Option (List ℕ)) → IsPending line → b ≡ 10 → text ≡ line → Gave gives text s answer s' → WritesFront h h' (reply v text answer).text → BreaksBy gives s s' fault v (line ++ b ∷ []) h h'
-  cut_by s s' fault v line text b answer h h' p e t g f =
+  pub cut_by : (fails : S → S → Type 0) (s s' : S) (fault : ServeFault) (v : Visit) (line text : List ℕ) (b : ℕ) (answer : Told) (h h' : Option (List ℕ)) → IsPending line → b ≡ 10 → text ≡ line → Gave gives text s answer s' → WritesFront h h' (reply v text answer).text → BreaksBy gives fails s s' fault v (line ++ b ∷ []) h h'
+  cut_by fails s s' fault v line text b answer h h' p e t g f =
       let P : List ℕ → Type 0 = λ x. WritesFront h h' x in
       record {
         answers = g.answers;
@@ -99,12 +99,12 @@ module _ {S : Type 0} (gives : S → Told → S → Type 0) where
       }
 
   -- the source gave nothing, so nothing was written
-  pub unasked_by : (s s' : S) (fault : ServeFault) (v : Visit) (line text : List ℕ) (b : ℕ) (h : Option (List ℕ)) → IsPending line → b ≡ 10 → text ≡ line → fault ≡ Memory → asks text ≡ true → BreaksBy gives s s' fault v (line ++ b ∷ []) h h
-  unasked_by s s' fault v line text b h p e t m a = record {
+  pub unasked_by : (fails : S → S → Type 0) (s s' : S) (fault : ServeFault) (v : Visit) (line text : List ℕ) (b : ℕ) (h : Option (List ℕ)) → IsPending line → b ≡ 10 → text ≡ line → fault ≡ Memory → asks text ≡ true → fails s s' → BreaksBy gives fails s s' fault v (line ++ b ∷ []) h h
+  unasked_by fails s s' fault v line text b h p e t m a k = record {
     answers = [];
     mid = s;
     asked = refl;
-    no_more = inr (m, line_lacks v line text b p e t a);
+    no_more = inr (m, line_lacks v line text b p e t a, k);
     breaks = record {
       front = [];
       appended = Appends-nil h;
@@ -132,12 +132,12 @@ module _ {S : Type 0} (gives : S → Told → S → Type 0) where
     fills = fed_quit w v u line bytes now line' f.answers g.answers i h h' h'' lt f.fills g.fills;
   }
 
-  pub cut_more : (s m s' : S) (fault : ServeFault) (w v : Visit) (line bytes now : List ℕ) (i : ℕ) (h h' h'' : Option (List ℕ)) → i < length bytes → FillsBy gives s m w (line ++ take i bytes) h h' false v now → BreaksBy gives m s' fault v (now ++ get_or bytes i 0 ∷ []) h' h'' → BreaksBy gives s s' fault w (line ++ bytes) h h''
-  cut_more s m s' fault w v line bytes now i h h' h'' lt f b = record {
+  pub cut_more : (fails : S → S → Type 0) (s m s' : S) (fault : ServeFault) (w v : Visit) (line bytes now : List ℕ) (i : ℕ) (h h' h'' : Option (List ℕ)) → i < length bytes → FillsBy gives s m w (line ++ take i bytes) h h' false v now → BreaksBy gives fails m s' fault v (now ++ get_or bytes i 0 ∷ []) h' h'' → BreaksBy gives fails s s' fault w (line ++ bytes) h h''
+  cut_more fails s m s' fault w v line bytes now i h h' h'' lt f b = record {
     answers = f.answers ++ b.answers;
     mid = b.mid;
     asked = asked_trans s m b.mid f.answers b.answers f.asked b.asked;
-    no_more = elim b.no_more [ inl e ↦ inl e | inr k ↦ inr (k.0, lacks_on w v line bytes now f.answers b.answers i h h' lt f.fills k.1) ];
+    no_more = elim b.no_more [ inl e ↦ inl e | inr k ↦ inr (k.0, lacks_on w v line bytes now f.answers b.answers i h h' lt f.fills k.1, k.2) ];
     breaks = cut_on w v line bytes now f.answers b.answers i h h' h'' lt f.fills b.breaks;
   }
 
@@ -158,8 +158,8 @@ module _ {S : Type 0} (gives : S → Told → S → Type 0) where
             (k ∙ ap (λ (r : Reply). r.quits) same);
       }
 
-  pub front_by : (s s' : S) (fault : ServeFault) (v : Visit) (line : List ℕ) (answer : Told) (h h' : Option (List ℕ)) → IsPending line → 0 < length line → Gave gives line s answer s' → WritesFront h h' (reply v line answer).text → FrontBy gives s s' fault v line h h'
-  front_by s s' fault v line answer h h' p some g f =
+  pub front_by : (fails : S → S → Type 0) (s s' : S) (fault : ServeFault) (v : Visit) (line : List ℕ) (answer : Told) (h h' : Option (List ℕ)) → IsPending line → 0 < length line → Gave gives line s answer s' → WritesFront h h' (reply v line answer).text → FrontBy gives fails s s' fault v line h h'
+  front_by fails s s' fault v line answer h h' p some g f =
       let P : List ℕ → Type 0 = λ x. WritesFront h h' x in
       record {
         answers = g.answers;
@@ -170,18 +170,18 @@ module _ {S : Type 0} (gives : S → Told → S → Type 0) where
         front = front_line v line g.answers h h' p some g.fits (subst P (ap (λ (r : Reply). r.text) (given v line s s' answer g)) f);
       }
 
-  pub front_none : (s s' : S) (fault : ServeFault) (v : Visit) (line : List ℕ) (h : Option (List ℕ)) → IsPending line → 0 < length line → fault ≡ Memory → asks line ≡ true → FrontBy gives s s' fault v line h h
-  front_none s s' fault v line h p some m a = record {
+  pub front_none : (fails : S → S → Type 0) (s s' : S) (fault : ServeFault) (v : Visit) (line : List ℕ) (h : Option (List ℕ)) → IsPending line → 0 < length line → fault ≡ Memory → asks line ≡ true → fails s s' → FrontBy gives fails s s' fault v line h h
+  front_none fails s s' fault v line h p some m a k = record {
     answers = [];
     mid = s;
     asked = refl;
-    no_more = inr (m, last_lacking v line p some a);
+    no_more = inr (m, last_lacking v line p some a, k);
     used = alone_asked (lines_of line) v;
     front = record { front = []; rest = output v (lines_of line) []; whole = refl; appended = Appends-nil h };
   }
 
-  pub front_at : (s s' : S) (fault : ServeFault) (v : Visit) (line text : List ℕ) (h h' : Option (List ℕ)) → text ≡ line → FrontBy gives s s' fault v text h h' → FrontBy gives s s' fault v line h h'
-  front_at s s' fault v line text h h' e f = let P : List ℕ → Type 0 = λ l. FrontBy gives s s' fault v l h h' in subst P e f
+  pub front_at : (fails : S → S → Type 0) (s s' : S) (fault : ServeFault) (v : Visit) (line text : List ℕ) (h h' : Option (List ℕ)) → text ≡ line → FrontBy gives fails s s' fault v text h h' → FrontBy gives fails s s' fault v line h h'
+  front_at fails s s' fault v line text h h' e f = let P : List ℕ → Type 0 = λ l. FrontBy gives fails s s' fault v l h h' in subst P e f
 
   -- ---- reads
 
@@ -215,8 +215,8 @@ module _ {S : Type 0} (gives : S → Told → S → Type 0) where
 
   -- ---- at a fault
 
-  pub broke_by : (s m : S) (fault : ServeFault) (w v : Visit) (r r' r'' h h' : Option (List ℕ)) (line : List ℕ) → ReadsBy gives s m w r r' h h' v line → Keeps r' r'' → BrokeBy gives s m fault w r r'' h h'
-  broke_by s m fault w v r r' r'' h h' line f k = record {
+  pub broke_by : (fails : S → S → Type 0) (s m : S) (fault : ServeFault) (w v : Visit) (r r' r'' h h' : Option (List ℕ)) (line : List ℕ) → ReadsBy gives s m w r r' h h' v line → Keeps r' r'' → BrokeBy gives fails s m fault w r r'' h h'
+  broke_by fails s m fault w v r r' r'' h h' line f k = record {
     answers = f.answers;
     last = m;
     given = f.asked;
@@ -224,22 +224,22 @@ module _ {S : Type 0} (gives : S → Told → S → Type 0) where
     no_more = inl refl;
   }
 
-  pub broke_end_by : (s m s' : S) (fault : ServeFault) (w v : Visit) (r r' r'' h h' h'' : Option (List ℕ)) (line text : List ℕ) → ReadsBy gives s m w r r' h h' v line → Consumes r' r'' [] → text ≡ line → FrontBy gives m s' fault v text h' h'' → BrokeBy gives s s' fault w r r'' h h''
-  broke_end_by s m s' fault w v r r' r'' h h' h'' line text f c t k =
-      let g = front_at m s' fault v line text h' h'' t k in
+  pub broke_end_by : (fails : S → S → Type 0) (s m s' : S) (fault : ServeFault) (w v : Visit) (r r' r'' h h' h'' : Option (List ℕ)) (line text : List ℕ) → ReadsBy gives s m w r r' h h' v line → Consumes r' r'' [] → text ≡ line → FrontBy gives fails m s' fault v text h' h'' → BrokeBy gives fails s s' fault w r r'' h h''
+  broke_end_by fails s m s' fault w v r r' r'' h h' h'' line text f c t k =
+      let g = front_at fails m s' fault v line text h' h'' t k in
       record {
         answers = f.answers ++ g.answers;
         last = g.mid;
         given = asked_trans s m g.mid f.answers g.answers f.asked g.asked;
         broke = broke_end w v r r' r'' h h' h'' f.answers g.answers line f.reads c g.front g.used;
-        no_more = elim g.no_more [ inl e ↦ inl e | inr n ↦ inr (n.0, ap (λ (x : Talk). x.left) (ended_later w v r r' h h' f.answers g.answers line f.reads) ∙ n.1) ];
+        no_more = elim g.no_more [ inl e ↦ inl e | inr n ↦ inr (n.0, ap (λ (x : Talk). x.left) (ended_later w v r r' h h' f.answers g.answers line f.reads) ∙ n.1, n.2) ];
       }
 
-  pub broke_feed_by : (s m s' : S) (fault : ServeFault) (w v : Visit) (r r' r'' h h' h'' : Option (List ℕ)) (line bytes : List ℕ) → ReadsBy gives s m w r r' h h' v line → Consumes r' r'' bytes → BreaksBy gives m s' fault v (line ++ bytes) h' h'' → BrokeBy gives s s' fault w r r'' h h''
-  broke_feed_by s m s' fault w v r r' r'' h h' h'' line bytes f c g = record {
+  pub broke_feed_by : (fails : S → S → Type 0) (s m s' : S) (fault : ServeFault) (w v : Visit) (r r' r'' h h' h'' : Option (List ℕ)) (line bytes : List ℕ) → ReadsBy gives s m w r r' h h' v line → Consumes r' r'' bytes → BreaksBy gives fails m s' fault v (line ++ bytes) h' h'' → BrokeBy gives fails s s' fault w r r'' h h''
+  broke_feed_by fails s m s' fault w v r r' r'' h h' h'' line bytes f c g = record {
     answers = f.answers ++ g.answers;
     last = g.mid;
     given = asked_trans s m g.mid f.answers g.answers f.asked g.asked;
     broke = broke_feed w v r r' r'' h h' h'' f.answers g.answers line bytes f.reads c g.breaks;
-    no_more = elim g.no_more [ inl e ↦ inl e | inr n ↦ inr (n.0, ap (λ (x : Talk). x.left) (fed_later w v r r' h h' f.answers g.answers line bytes f.reads) ∙ n.1 []) ];
+    no_more = elim g.no_more [ inl e ↦ inl e | inr n ↦ inr (n.0, ap (λ (x : Talk). x.left) (fed_later w v r r' h h' f.answers g.answers line bytes f.reads) ∙ n.1 [], n.2) ];
   }

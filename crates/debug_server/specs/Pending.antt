@@ -72,11 +72,11 @@ pub record FillsBy {S : Type 0} (gives : S → Told → S → Type 0) (before af
   pub asked : Asked gives before answers after
   pub fills : Fills v bytes answers held held' q v' line
 
-pub record BreaksBy {S : Type 0} (gives : S → Told → S → Type 0) (before after : S) (fault : ServeFault) (v : Visit) (bytes : List ℕ) (held held' : Option (List ℕ)) : Type 0 where
+pub record BreaksBy {S : Type 0} (gives : S → Told → S → Type 0) (fails : S → S → Type 0) (before after : S) (fault : ServeFault) (v : Visit) (bytes : List ℕ) (held held' : Option (List ℕ)) : Type 0 where
   pub answers : List Told
   pub mid : S
   pub asked : Asked gives before answers mid
-  pub no_more : (mid ≡ after) ⊎ ((fault ≡ Memory) × ((more : List ℕ) → (talk v (lines_of (bytes ++ more)) answers).left ≡ None))
+  pub no_more : (mid ≡ after) ⊎ ((fault ≡ Memory) × ((more : List ℕ) → (talk v (lines_of (bytes ++ more)) answers).left ≡ None) × fails mid after)
   pub breaks : Breaks v bytes answers held held'
 
 pub record EndsBy {S : Type 0} (gives : S → Told → S → Type 0) (before after : S) (v : Visit) (line : List ℕ) (held held' : Option (List ℕ)) (q : Bool) (v' : Visit) : Type 0 where
@@ -85,11 +85,11 @@ pub record EndsBy {S : Type 0} (gives : S → Told → S → Type 0) (before aft
   pub ends : Ends v line answers held held' q v'
 
 -- A beginning of the replies to the line that the input ends in was written.
-pub record FrontBy {S : Type 0} (gives : S → Told → S → Type 0) (before after : S) (fault : ServeFault) (v : Visit) (line : List ℕ) (held held' : Option (List ℕ)) : Type 0 where
+pub record FrontBy {S : Type 0} (gives : S → Told → S → Type 0) (fails : S → S → Type 0) (before after : S) (fault : ServeFault) (v : Visit) (line : List ℕ) (held held' : Option (List ℕ)) : Type 0 where
   pub answers : List Told
   pub mid : S
   pub asked : Asked gives before answers mid
-  pub no_more : AskedNoMore mid after fault (talk v (lines_of line) answers).left
+  pub no_more : AskedNoMore fails mid after fault (talk v (lines_of line) answers).left
   pub used : AllAsked (talk v (lines_of line) answers).left
   pub front : WritesFront held held' (output v (lines_of line) answers)
 

@@ -98,9 +98,9 @@ AllAsked None = Unit {0}
 AllAsked (Some []) = Unit {0}
 AllAsked (Some (a ∷ ts)) = ⊥
 
--- The source was asked no more than it answered; or it was, by a line that got no answer, for want of memory.
-abbrev pub AskedNoMore : {S : Type 0} → S → S → ServeFault → Option (List Told) → Type 0
-AskedNoMore last after fault left = (last ≡ after) ⊎ ((fault ≡ Memory) × (left ≡ None))
+-- The source was asked no more than it answered; or once more, by a line that got no answer, since it wanted memory.
+abbrev pub AskedNoMore : {S : Type 0} → (S → S → Type 0) → S → S → ServeFault → Option (List Told) → Type 0
+AskedNoMore fails last after fault left = (last ≡ after) ⊎ ((fault ≡ Memory) × (left ≡ None) × fails last after)
 
 -- Some bytes were read, and a beginning of the replies to them was written.
 pub record Broke (v : Visit) (unread unread' held held' : Option (List ℕ)) (answers : List Told) : Type 0 where
@@ -112,10 +112,10 @@ pub record Broke (v : Visit) (unread unread' held held' : Option (List ℕ)) (an
   pub written : Appends held held' front
   pub asked : AllAsked (talk v (lines_of taken) answers).left
 
--- The same with a source, which gave just these answers, in order, and was asked no more.
-pub record BrokeBy {S : Type 0} (gives : S → Told → S → Type 0) (before after : S) (fault : ServeFault) (v : Visit) (unread unread' held held' : Option (List ℕ)) : Type 0 where
+-- The same with a source, which gave just these answers, in order, and was asked no more, or once more for want of memory.
+pub record BrokeBy {S : Type 0} (gives : S → Told → S → Type 0) (fails : S → S → Type 0) (before after : S) (fault : ServeFault) (v : Visit) (unread unread' held held' : Option (List ℕ)) : Type 0 where
   pub answers : List Told
   pub last : S
   pub given : Asked gives before answers last
   pub broke : Broke v unread unread' held held' answers
-  pub no_more : AskedNoMore last after fault (talk v (lines_of broke.taken) answers).left
+  pub no_more : AskedNoMore fails last after fault (talk v (lines_of broke.taken) answers).left

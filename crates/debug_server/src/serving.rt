@@ -48,7 +48,7 @@ fn write_out<W: Write>(writer: &mut W, bytes: &[u8]) -> Result<(), ServeFault>
 // What the source has, for a line that asks it.
 fn ask<S: Source>(source: &mut S, line: &[u8]) -> Result<Option<Vec<Event>>, ServeFault>
     ensures ok { IfOk result (λ answer. Gave S.gives line.now source.old (option_map (λ v. v.items) answer) source.new) }
-    ensures err { IfErr result (λ fault. (fault ≡ ServeFault.Memory) × (asks line.now ≡ true)) }
+    ensures err { IfErr result (λ fault. (fault ≡ ServeFault.Memory) × (asks line.now ≡ true) × S.fails source.old source.new) }
     ensures open { result ≢ Err ServeFault.Closed }
 {
     if line != b"sync".as_slice() {
@@ -100,7 +100,7 @@ fn take_byte<W: Write, S: Source>(
     source: &mut S,
 ) -> Result<bool, ServeFault>
     ensures ok { IfOk result (λ q. FillsBy S.gives source.old source.new visitor.old (line.old ++ byte ∷ []) (W.contents writer.old) (W.contents writer.new) q visitor.new line.new) }
-    ensures err { IfErr result (λ fault. BreaksBy S.gives source.old source.new fault visitor.old (line.old ++ byte ∷ []) (W.contents writer.old) (W.contents writer.new)) }
+    ensures err { IfErr result (λ fault. BreaksBy S.gives S.fails source.old source.new fault visitor.old (line.old ++ byte ∷ []) (W.contents writer.old) (W.contents writer.new)) }
     ensures open { result ≢ Err ServeFault.Closed }
 {
     if byte != b'\n' {
@@ -124,7 +124,7 @@ fn feed<W: Write, S: Source>(
     source: &mut S,
 ) -> Result<bool, ServeFault>
     ensures ok { IfOk result (λ q. FillsBy S.gives source.old source.new visitor.old (line.old ++ bytes.now) (W.contents writer.old) (W.contents writer.new) q visitor.new line.new) }
-    ensures err { IfErr result (λ fault. BreaksBy S.gives source.old source.new fault visitor.old (line.old ++ bytes.now) (W.contents writer.old) (W.contents writer.new)) }
+    ensures err { IfErr result (λ fault. BreaksBy S.gives S.fails source.old source.new fault visitor.old (line.old ++ bytes.now) (W.contents writer.old) (W.contents writer.new)) }
     ensures open { result ≢ Err ServeFault.Closed }
 {
     for byte in bytes {
@@ -145,7 +145,7 @@ fn finish<W: Write, S: Source>(
 ) -> Result<bool, ServeFault>
     requires { IsPending line.now }
     ensures ok { IfOk result (λ q. EndsBy S.gives source.old source.new visitor.old line.now (W.contents writer.old) (W.contents writer.new) q visitor.new) }
-    ensures err { IfErr result (λ fault. FrontBy S.gives source.old source.new fault visitor.old line.now (W.contents writer.old) (W.contents writer.new)) }
+    ensures err { IfErr result (λ fault. FrontBy S.gives S.fails source.old source.new fault visitor.old line.now (W.contents writer.old) (W.contents writer.new)) }
     ensures open { result ≢ Err ServeFault.Closed }
 {
     if line.len() == 0 {
@@ -166,7 +166,7 @@ fn converse<R: Read, W: Write, S: Source>(
 ) -> Result<bool, ServeFault>
     ensures ok { IfOk result (λ q. (answers : List Told) × Asked S.gives source.old answers source.new
         × Served visitor.old (R.remaining reader.old) (R.remaining reader.new) (W.contents writer.old) (W.contents writer.new) answers visitor.new q) }
-    ensures err { IfErr result (λ fault. BrokeBy S.gives source.old source.new fault visitor.old
+    ensures err { IfErr result (λ fault. BrokeBy S.gives S.fails source.old source.new fault visitor.old
         (R.remaining reader.old) (R.remaining reader.new) (W.contents writer.old) (W.contents writer.new)) }
     ensures open { result ≢ Err ServeFault.Closed }
 {
@@ -206,9 +206,10 @@ pub fn serve<R: Read, W: Write, S: Source>(
         × Served session.old.visit (R.remaining reader.old) (R.remaining reader.new)
         (W.contents writer.old) (W.contents writer.new) answers session.new.visit session.new.is_closed) }
 
-    // At an error it is a beginning of that, and the source was asked for just what was answered.
+    // At an error it is a beginning of that, and the source was asked for just what was answered, and once
+    // more for a line that got no answer for want of memory.
     ensures err { OnErr result (session.new.is_closed ≡ true) }
-    ensures begins { session.old.is_closed ≡ false → IfErr result (λ fault. BrokeBy S.gives source.old source.new fault session.old.visit
+    ensures begins { session.old.is_closed ≡ false → IfErr result (λ fault. BrokeBy S.gives S.fails source.old source.new fault session.old.visit
         (R.remaining reader.old) (R.remaining reader.new) (W.contents writer.old) (W.contents writer.new)) }
 {
     if session.is_closed {

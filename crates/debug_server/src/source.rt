@@ -1,5 +1,5 @@
 //! Where the events of a live run come from.
-ghost use Rattle.std.specs.Prelude.{◌≡◌, IfOk, Option, List, None, option_map};
+ghost use Rattle.std.specs.Prelude.{◌≡◌, IfOk, OnErr, Option, List, None, option_map};
 ghost use Rattle.scenario.specs.declared.event.Event.{Event as Happening};
 
 use machine::Event;
@@ -10,9 +10,13 @@ pub trait Source {
     /// What a call may answer, and what the source is after it.
     ghost gives: { Self → Option (List Happening) → Self → Type 0 };
 
+    /// What the source is after a call that wanted memory.
+    ghost fails: { Self → Self → Type 0 };
+
     /// The trace so far, or none where there is no live run.
     fn trace(&mut self) -> Result<Option<Vec<Event>>, AllocError>
-        ensures { IfOk result (λ answer. gives self.old (option_map (λ v. v.items) answer) self.new) };
+        ensures told { IfOk result (λ answer. gives self.old (option_map (λ v. v.items) answer) self.new) }
+        ensures wanted { OnErr result (fails self.old self.new) };
 }
 
 /// No live run.
@@ -21,6 +25,8 @@ pub struct NoSource;
 
 impl Source for NoSource {
     ghost gives = { λ _ answer _. answer ≡ None };
+
+    ghost fails = { λ _ _. ⊥ };
 
     fn trace(&mut self) -> Result<Option<Vec<Event>>, AllocError> {
         Ok(None)

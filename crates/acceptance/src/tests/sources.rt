@@ -26,6 +26,8 @@ struct Answers {
 impl Source for Answers {
     ghost gives = { λ old answer new. (answer ≡ option_map (λ v. v.items) (slice_get old.traces.items 0)) × (new.traces.items ≡ drop 1 old.traces.items) };
 
+    ghost fails = { λ _ _. ⊥ };
+
     fn trace(&mut self) -> Result<Option<Vec<Event>>, AllocError> {
         if self.traces.is_empty() {
             return Ok(None);
@@ -40,6 +42,8 @@ struct Starved;
 
 impl Source for Starved {
     ghost gives = { λ _ answer _. answer ≡ None };
+
+    ghost fails = { λ old new. new ≡ old };
 
     fn trace(&mut self) -> Result<Option<Vec<Event>>, AllocError> {
         Err(AllocError)

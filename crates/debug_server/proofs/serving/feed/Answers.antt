@@ -10,7 +10,7 @@ pub returns-in_err-take_byte-clause-err : goal.returns-in_err-take_byte-clause-e
 returns-in_err-take_byte-clause-err g c =
     let p = err_from_is_err_and c.from_residual.result c.from_residual.ensures.1 in
     let lt : c.loop-byte.byte-index < length c.args.bytes.now = omega arith in
-    rw (p.1, p.2) (cut_more _ _ c.loop-byte.source c.take_byte.new.source _ c.args.visitor.now c.loop-byte.visitor c.args.line.now c.args.bytes.now c.loop-byte.line c.loop-byte.byte-index _ _ _ lt c.loop-byte.invariant c.in_err-take_byte.ensures.err)
+    rw (p.1, p.2) (cut_more _ _ _ c.loop-byte.source c.take_byte.new.source _ c.args.visitor.now c.loop-byte.visitor c.args.line.now c.args.bytes.now c.loop-byte.line c.loop-byte.byte-index _ _ _ lt c.loop-byte.invariant c.in_err-take_byte.ensures.err)
 
 pub returns-then-branch-clause-ok : goal.returns-then-branch-clause-ok
 returns-then-branch-clause-ok g c =

@@ -14,7 +14,7 @@ pub returns-in_err-told-clause-err : goal.returns-in_err-told-clause-err
 returns-in_err-told-clause-err g c =
     let p = err_from_is_err_and c.from_residual.result c.from_residual.ensures.1 in
     let some : 0 < length c.args.line.now = grind (arith, nat_tests) in
-    rw (p.1, p.2) (front_none _ _ c.ask.new.source _ c.args.visitor.now c.args.line.now _ c.requires some c.in_err-told.ensures.err.0 c.in_err-told.ensures.err.1)
+    rw (p.1, p.2) (front_none _ _ _ c.ask.new.source _ c.args.visitor.now c.args.line.now _ c.requires some c.in_err-told.ensures.err.0 c.in_err-told.ensures.err.1 c.in_err-told.ensures.err.2)
 
 pub returns-clause-ok : goal.returns-clause-ok
 returns-clause-ok g c =
@@ -26,4 +26,4 @@ pub returns-in_err-quits-clause-err : goal.returns-in_err-quits-clause-err
 returns-in_err-quits-clause-err g c =
     let p = err_from_is_err_and c.from_residual-in_err-quits.result c.from_residual-in_err-quits.ensures.1 in
     let some : 0 < length c.args.line.now = grind (arith, nat_tests) in
-    rw (p.1, p.2) (front_by _ _ c.ask.new.source _ c.args.visitor.now c.args.line.now _ _ _ c.requires some (lent_gave _ _ _ _ _ _ c.lent.ensures c.in_ok-told.ensures.ok) c.in_err-quits.ensures.err)
+    rw (p.1, p.2) (front_by _ _ _ c.ask.new.source _ c.args.visitor.now c.args.line.now _ _ _ c.requires some (lent_gave _ _ _ _ _ _ c.lent.ensures c.in_ok-told.ensures.ok) c.in_err-quits.ensures.err)
