@@ -1,5 +1,6 @@
-//! Each public call once, with ample memory.
-ghost use Rattle.std.specs.Prelude.{◌≡◌, length, IfOk};
+//! Each public call once, with ample memory. What is kept is lent to what can fail, so that it is let go at few places.
+ghost use Rattle.std.specs.Prelude.{◌≡◌, length, IfOk, OnOk};
+ghost use Rattle.checkpoints.specs.Checkpoints.{no_states};
 
 use crate::Kept;
 use machine::{Event, Setup, State};
@@ -35,17 +36,29 @@ fn clock_of(state: &State) -> Option<u64> {
     }
 }
 
-// The states of the moments 0, 4 and 8 of a run of ticks, kept in two parts.
-fn kept(alloc: Global) -> Result<Kept, Fail>
-    ensures number { IfOk result (λ k. length k.states ≡ 3) }
-    ensures every { IfOk result (λ k. k.every ≡ 4) }
+// The state of the moment 0.
+fn first_part(alloc: Global) -> Result<Vec<State>, Fail>
+    ensures { IfOk result (λ states. length states.items ≡ 1) }
 {
-    let mut kept = Kept::new(alloc, 4, 2);
-    let first = vec![in alloc; at_clock(alloc, 0)?]?;
-    kept.keep(first)?;
-    let others = vec![in alloc; at_clock(alloc, 4)?, at_clock(alloc, 8)?]?;
-    kept.keep(others)?;
-    Ok(kept)
+    Ok(vec![in alloc; at_clock(alloc, 0)?]?)
+}
+
+// The states of the moments 4 and 8.
+fn second_part(alloc: Global) -> Result<Vec<State>, Fail>
+    ensures { IfOk result (λ states. length states.items ≡ 2) }
+{
+    Ok(vec![in alloc; at_clock(alloc, 4)?, at_clock(alloc, 8)?]?)
+}
+
+// Keeps the states of the moments 0, 4 and 8 of a run of ticks, in two parts.
+fn keep_three(alloc: Global, kept: &mut Kept) -> Result<(), Fail>
+    requires { kept.old ≡ no_states 4 2 }
+    ensures number { OnOk result (length kept.new.states ≡ 3) }
+    ensures every { OnOk result (kept.new.every ≡ 4) }
+{
+    kept.keep(first_part(alloc)?)?;
+    kept.keep(second_part(alloc)?)?;
+    Ok(())
 }
 
 #[test]
@@ -66,12 +79,24 @@ fn nearest_is_a_multiple_not_above(rt: HostRuntime) {
     assert_eq!(rt; kept.nearest(u32::MAX), 4294967292);
 }
 
+// How many states are kept of a run of ticks, and the clocks of those of three moments.
+fn kept_clocks(alloc: Global, kept: &mut Kept) -> Result<(usize, [Option<u64>; 3]), Fail>
+    requires { kept.old ≡ no_states 4 2 }
+{
+    keep_three(alloc, kept)?;
+    let clocks = [
+        clock_of(kept.state(3)),
+        clock_of(kept.state(4)),
+        clock_of(kept.state(11)),
+    ];
+    Ok((kept.len(), clocks))
+}
+
 #[test]
 fn tells_the_state_of_the_nearest_multiple(rt: HostRuntime) -> Result<(), Fail> {
-    let kept = kept(rt.alloc())?;
-    assert_eq!(rt; kept.len(), 3);
-    assert_eq!(rt; clock_of(kept.state(3)), Some(0));
-    assert_eq!(rt; clock_of(kept.state(4)), Some(4));
-    assert_eq!(rt; clock_of(kept.state(11)), Some(8));
+    let mut kept = Kept::new(rt.alloc(), 4, 2);
+    let (len, clocks) = kept_clocks(rt.alloc(), &mut kept)?;
+    assert_eq!(rt; len, 3);
+    assert_eq!(rt; clocks, [Some(0), Some(4), Some(8)]);
     Ok(())
 }
