@@ -5,6 +5,8 @@ mod falling;
 mod guards;
 pub mod laws;
 mod matching;
+#[cfg(test)]
+mod matching_tests;
 mod merging;
 #[cfg(test)]
 mod tests;

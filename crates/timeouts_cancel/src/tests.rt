@@ -1,5 +1,5 @@
 //! Tests of what falls, on small tables.
-ghost use Rattle.std.specs.Prelude.{◌≡◌, ◌+◌, ◌<◌, ◌≤◌, ℕ, IsTrue, Some, length, slice_get, take};
+ghost use Rattle.std.specs.Prelude.{◌≡◌, ◌+◌, ◌<◌, ◌≤◌, [], ℕ, IsTrue, Some, length, slice_get, take};
 ghost use Rattle.entries.specs.declared.row.Row.{Row};
 ghost use Rattle.links_drains.specs.Links.{Chained, GoesOn};
 ghost use Rattle.links_drains.specs.Units.{is_open, passes_at};
@@ -7,10 +7,11 @@ ghost use Rattle.timeouts_cancel.specs.Falls.{GuardsStand};
 
 use crate::{due, fall};
 use entries::{Row, Sqe};
-use links_drains::{Table, is_unfinished, new_row};
+use links_drains::{Batch, Table, is_unfinished, new_row};
 use model_files::World;
 use places::{Part, Place, Recorder, Value};
 use std::alloc::{AllocError, Global};
+use std::process::Abort;
 
 fn entry(opcode: u8, flags: u8, off: u64) -> Sqe {
     Sqe {
@@ -30,13 +31,70 @@ fn entry(opcode: u8, flags: u8, off: u64) -> Sqe {
     }
 }
 
-// Issues a row, where there is one.
-fn issue(table: &mut Table, r: u32) -> Result<(), AllocError> {
+// Issues a row, where there is one; it may hold a descriptor.
+fn issue(table: &mut Table, r: u32, held: Option<u32>) -> Result<(), AllocError> {
+    if r as usize >= table.len() {
+        return Ok(());
+    }
     let mut notes = Recorder::new(table.allocator());
-    if (r as usize) < table.len() {
-        table.issue(r, None, None, 0, &mut notes)?;
+    table.issue(r, held, None, 0, &mut notes)
+}
+
+fn issue_each(table: &mut Table, rows: &[(u32, Option<u32>)]) -> Result<(), AllocError> {
+    for (r, held) in rows {
+        issue(table, *r, *held)?;
     }
     Ok(())
+}
+
+// A batch comes into a table that has no rows.
+fn take(table: &mut Table, entries: &[Sqe], world: &World) -> Result<Batch, AllocError>
+    requires rows { table.old ≡ [] }
+    requires few { length entries.now ≤ 9 }
+    requires memory { length world.now.memory ≡ 65536 }
+{
+    let mut notes = Recorder::new(table.allocator());
+    table.take_batch(entries, world, true, &mut notes)
+}
+
+fn table_over(
+    alloc: Global,
+    entries: &[Sqe],
+    issued: &[(u32, Option<u32>)],
+    world: &World,
+) -> Result<Table, AllocError>
+    requires few { length entries.now ≤ 9 }
+    requires memory { length world.now.memory ≡ 65536 }
+{
+    let mut table = Table::new(alloc);
+    fill(&mut table, entries, issued, world)?;
+    Ok(table)
+}
+
+fn fill(
+    table: &mut Table,
+    entries: &[Sqe],
+    issued: &[(u32, Option<u32>)],
+    world: &World,
+) -> Result<(), AllocError>
+    requires rows { table.old ≡ [] }
+    requires few { length entries.now ≤ 9 }
+    requires memory { length world.now.memory ≡ 65536 }
+{
+    take(table, entries, world)?;
+    issue_each(table, issued)
+}
+
+/// The table of a batch of no more than nine, some of whose rows are issued, with what they hold.
+pub fn table_of(
+    alloc: Global,
+    entries: &[Sqe],
+    issued: &[(u32, Option<u32>)],
+) -> Result<Table, AllocError>
+    requires { length entries.now ≤ 9 }
+{
+    let world = World::new(alloc, &[], &[], &[])?;
+    table_over(alloc, entries, issued, &world)
 }
 
 // A row guards the one before it from now on.
@@ -145,23 +203,21 @@ fn counting(alloc: Global) -> Result<Table, AllocError> {
         entry(11, 0, 5),
         entry(0, 0, 0),
     ];
-    let world = World::new(alloc, &[], &[], &[])?;
-    let mut table = Table::new(alloc);
-    let mut notes = Recorder::new(alloc);
-    table.take_batch(&entries, &world, true, &mut notes)?;
-    for r in [0, 3, 4, 5] {
-        issue(&mut table, r)?;
-    }
-    Ok(table)
+    let issued = [(0, None), (3, None), (4, None), (5, None)];
+    table_of(alloc, &entries, &issued)
+}
+
+fn check_severed(rt: &impl Abort, table: &Table) -> Result<(), AllocError> {
+    let all = [(0, -9), (1, -125), (2, -125), (3, 0), (5, 0)];
+    assert!(rt; falls(table, (0, -9), (5, 0), &all)?);
+    assert!(rt; falls(table, (0, 0), (5, 0), &[(0, 0), (5, 0)])?);
+    Ok(())
 }
 
 #[test]
 fn severed_rows_are_counted(rt: HostRuntime) -> Result<(), AllocError> {
     let table = counting(rt.alloc())?;
-    let all = [(0, -9), (1, -125), (2, -125), (3, 0), (5, 0)];
-    assert!(rt; falls(&table, (0, -9), (5, 0), &all)?);
-    assert!(rt; falls(&table, (0, 0), (5, 0), &[(0, 0), (5, 0)])?);
-    Ok(())
+    check_severed(&rt, &table)
 }
 
 // Two NOPs, each with a guard behind it.
@@ -172,24 +228,23 @@ fn guarded(alloc: Global) -> Result<Table, AllocError> {
         entry(0, 4, 0),
         entry(15, 0, 0),
     ];
-    let world = World::new(alloc, &[], &[], &[])?;
-    let mut table = Table::new(alloc);
-    let mut notes = Recorder::new(alloc);
-    table.take_batch(&entries, &world, true, &mut notes)?;
-    for r in [0, 1, 2, 3] {
-        issue(&mut table, r)?;
-    }
+    let issued = [(0, None), (1, None), (2, None), (3, None)];
+    let mut table = table_of(alloc, &entries, &issued)?;
     guard(&mut table, 1);
     guard(&mut table, 3);
     Ok(table)
 }
 
+fn check_guarded(rt: &impl Abort, table: &Table) -> Result<(), AllocError> {
+    assert!(rt; falls(table, (0, 0), (3, -62), &[(0, 0), (1, -125), (3, -62)])?);
+    assert!(rt; falls(table, (2, 0), (3, -62), &[(2, 0), (3, -62)])?);
+    Ok(())
+}
+
 #[test]
 fn guards_end_with_their_targets(rt: HostRuntime) -> Result<(), AllocError> {
     let table = guarded(rt.alloc())?;
-    assert!(rt; falls(&table, (0, 0), (3, -62), &[(0, 0), (1, -125), (3, -62)])?);
-    assert!(rt; falls(&table, (2, 0), (3, -62), &[(2, 0), (3, -62)])?);
-    Ok(())
+    check_guarded(&rt, &table)
 }
 
 #[test]
