@@ -3,58 +3,68 @@ use crate::{ComRing, RingFlag, RingRefusal, SubRing, Taken};
 use entries::{Cqe, Sqe};
 use places::value::is_same;
 use places::{At, Part, Place, Recorder, Value};
+use std::alloc::Global;
 use std::process::Abort;
 use std::test::Fail;
 
 const BASE: u32 = 4294967294;
 
+fn submission_size(alloc: Global, entries: u32) -> Result<u32, RingRefusal> {
+    let ring = SubRing::new(alloc, entries, 0)?;
+    Ok(ring.size())
+}
+
+fn completion_size(alloc: Global, entries: u32) -> Result<u32, RingRefusal> {
+    let ring = ComRing::new(alloc, entries, 0)?;
+    Ok(ring.size())
+}
+
 #[test]
 fn sizes_are_rounded_up(rt: HostRuntime) -> Result<(), Fail> {
     for (entries, size) in [(1, 1), (2, 2), (3, 4), (5, 8), (4095, 4096), (4096, 4096)] {
-        let submission = SubRing::new(rt.alloc(), entries, 0)?;
-        assert_eq!(rt; submission.size(), size, "at {entries}");
-        let completion = ComRing::new(rt.alloc(), entries, 0)?;
-        assert_eq!(rt; completion.size(), size, "at {entries}");
+        assert_eq!(rt; submission_size(rt.alloc(), entries)?, size, "at {entries}");
+        assert_eq!(rt; completion_size(rt.alloc(), entries)?, size, "at {entries}");
     }
     Ok(())
 }
 
 #[test]
 fn other_sizes_are_refused(rt: HostRuntime) {
-    for entries in [0, 4097] {
-        let refused = matches!(SubRing::new(rt.alloc(), entries, 0), Err(RingRefusal::Size));
-        assert!(rt; refused, "at {entries}");
-    }
-    for entries in [0, 8193] {
-        let refused = matches!(ComRing::new(rt.alloc(), entries, 0), Err(RingRefusal::Size));
-        assert!(rt; refused, "at {entries}");
+    for (entries, slots) in [(0, 0), (4097, 8193)] {
+        let submissions = submission_size(rt.alloc(), entries);
+        assert!(rt;
+            matches!(submissions, Err(RingRefusal::Size)),
+            "at {entries}"
+        );
+        let completions = completion_size(rt.alloc(), slots);
+        assert!(rt; matches!(completions, Err(RingRefusal::Size)), "at {slots}");
     }
 }
 
 fn push_all(
-    rt: &(impl Abort + AllocGlobal),
+    rt: &impl Abort,
     ring: &mut SubRing,
     indexes: &[u32],
+    notes: &mut Recorder,
 ) -> Result<(), Fail> {
-    let mut notes = Recorder::new(rt.alloc());
     for index in indexes {
         assert!(rt; ring.waiting() < ring.size());
         notes.room(2)?;
-        ring.push(*index, &mut notes);
+        ring.push(*index, notes);
     }
     Ok(())
 }
 
 fn check_takes(
-    rt: &(impl Abort + AllocGlobal),
+    rt: &impl Abort,
     ring: &mut SubRing,
     wanted: &[Taken],
+    notes: &mut Recorder,
 ) -> Result<(), Fail> {
-    let mut notes = Recorder::new(rt.alloc());
     for taken in wanted {
         assert!(rt; !ring.is_empty());
         notes.room(2)?;
-        assert_eq!(rt; ring.take(&mut notes), *taken);
+        assert_eq!(rt; ring.take(notes), *taken);
     }
     Ok(())
 }
@@ -69,37 +79,45 @@ fn check_full(rt: &(impl Abort + AllocGlobal), ring: &SubRing) -> Result<(), Fai
     Ok(())
 }
 
-#[test]
-fn indexes_wait_in_order(rt: HostRuntime) -> Result<(), Fail> {
-    let mut ring = SubRing::new(rt.alloc(), 4, BASE)?;
-    push_all(&rt, &mut ring, &[0, 1, 9, 3])?;
-    check_full(&rt, &ring)?;
+fn check_indexes(
+    rt: &(impl Abort + AllocGlobal),
+    ring: &mut SubRing,
+    notes: &mut Recorder,
+) -> Result<(), Fail> {
+    push_all(rt, ring, &[0, 1, 9, 3], notes)?;
+    check_full(rt, ring)?;
     let wanted = [
         Taken::Entry(0),
         Taken::Entry(1),
         Taken::Dropped,
         Taken::Entry(3),
     ];
-    check_takes(&rt, &mut ring, &wanted)?;
+    check_takes(rt, ring, &wanted, notes)?;
     assert_eq!(rt; (ring.head(), ring.dropped()), (2, 1));
     Ok(())
 }
 
-fn take_three(rt: &(impl Abort + AllocGlobal), ring: &mut SubRing) -> Result<(), Fail> {
+#[test]
+fn indexes_wait_in_order(rt: HostRuntime) -> Result<(), Fail> {
+    let mut ring = SubRing::new(rt.alloc(), 4, BASE)?;
     let mut notes = Recorder::new(rt.alloc());
+    check_indexes(&rt, &mut ring, &mut notes)
+}
+
+fn take_three(rt: &impl Abort, ring: &mut SubRing, notes: &mut Recorder) -> Result<(), Fail> {
+    push_all(rt, ring, &[7, 1, 9, 3], notes)?;
     assert!(rt; 3 <= ring.waiting());
     notes.room(2)?;
-    ring.take_first(3, 2, &mut notes);
+    ring.take_first(3, 2, notes);
+    assert_eq!(rt; (ring.head(), ring.waiting(), ring.dropped()), (1, 1, 2));
     Ok(())
 }
 
 #[test]
 fn indexes_are_taken_at_once(rt: HostRuntime) -> Result<(), Fail> {
     let mut ring = SubRing::new(rt.alloc(), 4, BASE)?;
-    push_all(&rt, &mut ring, &[7, 1, 9, 3])?;
-    take_three(&rt, &mut ring)?;
-    assert_eq!(rt; (ring.head(), ring.waiting(), ring.dropped()), (1, 1, 2));
-    Ok(())
+    let mut notes = Recorder::new(rt.alloc());
+    take_three(&rt, &mut ring, &mut notes)
 }
 
 fn check_entries(rt: &impl Abort, ring: &mut SubRing) {
@@ -121,8 +139,7 @@ fn entries_stand_in_slots(rt: HostRuntime) -> Result<(), Fail> {
     Ok(())
 }
 
-fn check_flags(rt: &(impl Abort + AllocGlobal), ring: &mut SubRing) -> Result<(), Fail> {
-    let mut notes = Recorder::new(rt.alloc());
+fn check_flags(rt: &impl Abort, ring: &mut SubRing, notes: &mut Recorder) -> Result<(), Fail> {
     for (flag, on, flags) in [
         (RingFlag::NeedWakeup, true, 1),
         (RingFlag::CqOverflow, true, 3),
@@ -130,7 +147,7 @@ fn check_flags(rt: &(impl Abort + AllocGlobal), ring: &mut SubRing) -> Result<()
         (RingFlag::CqOverflow, false, 0),
     ] {
         notes.room(1)?;
-        ring.set_flag(flag, on, &mut notes);
+        ring.set_flag(flag, on, notes);
         assert_eq!(rt; (ring.flags(), ring.has_flag(flag)), (flags, on));
     }
     Ok(())
@@ -139,33 +156,34 @@ fn check_flags(rt: &(impl Abort + AllocGlobal), ring: &mut SubRing) -> Result<()
 #[test]
 fn flags_are_two_bits(rt: HostRuntime) -> Result<(), Fail> {
     let mut ring = SubRing::new(rt.alloc(), 1, 0)?;
-    check_flags(&rt, &mut ring)
+    let mut notes = Recorder::new(rt.alloc());
+    check_flags(&rt, &mut ring, &mut notes)
 }
 
 fn post_all(
-    rt: &(impl Abort + AllocGlobal),
+    rt: &impl Abort,
     ring: &mut ComRing,
     numbers: &[u64],
+    notes: &mut Recorder,
 ) -> Result<(), Fail> {
-    let mut notes = Recorder::new(rt.alloc());
     for user_data in numbers {
         assert!(rt; ring.has_room());
         notes.room(1)?;
-        ring.post(completion(*user_data), &mut notes);
+        ring.post(completion(*user_data), notes);
     }
     Ok(())
 }
 
 fn check_reaped(
-    rt: &(impl Abort + AllocGlobal),
+    rt: &impl Abort,
     ring: &mut ComRing,
     numbers: &[u64],
+    notes: &mut Recorder,
 ) -> Result<(), Fail> {
-    let mut notes = Recorder::new(rt.alloc());
     for user_data in numbers {
         assert!(rt; !ring.is_empty());
         notes.room(1)?;
-        assert_eq!(rt; ring.reap(&mut notes), completion(*user_data));
+        assert_eq!(rt; ring.reap(notes), completion(*user_data));
     }
     Ok(())
 }
@@ -178,14 +196,23 @@ fn check_posted(rt: &(impl Abort + AllocGlobal), ring: &ComRing) -> Result<(), F
     Ok(())
 }
 
+fn check_completions(
+    rt: &(impl Abort + AllocGlobal),
+    ring: &mut ComRing,
+    notes: &mut Recorder,
+) -> Result<(), Fail> {
+    post_all(rt, ring, &[1, 2, 3, 4], notes)?;
+    check_posted(rt, ring)?;
+    check_reaped(rt, ring, &[1, 2, 3, 4], notes)?;
+    assert_eq!(rt; ring.head(), 2);
+    Ok(())
+}
+
 #[test]
 fn completions_wait_in_order(rt: HostRuntime) -> Result<(), Fail> {
     let mut ring = ComRing::new(rt.alloc(), 4, BASE)?;
-    post_all(&rt, &mut ring, &[1, 2, 3, 4])?;
-    check_posted(&rt, &ring)?;
-    check_reaped(&rt, &mut ring, &[1, 2, 3, 4])?;
-    assert_eq!(rt; ring.head(), 2);
-    Ok(())
+    let mut notes = Recorder::new(rt.alloc());
+    check_completions(&rt, &mut ring, &mut notes)
 }
 
 fn check_submission(rt: &impl Abort, ring: &mut SubRing) {
@@ -204,11 +231,16 @@ fn check_completion(rt: &impl Abort, ring: &mut ComRing) {
 }
 
 #[test]
-fn places_are_put_back(rt: HostRuntime) -> Result<(), Fail> {
-    let mut submission = SubRing::new(rt.alloc(), 2, BASE)?;
-    check_submission(&rt, &mut submission);
-    let mut completion = ComRing::new(rt.alloc(), 2, BASE)?;
-    check_completion(&rt, &mut completion);
+fn submission_places_are_put_back(rt: HostRuntime) -> Result<(), Fail> {
+    let mut ring = SubRing::new(rt.alloc(), 2, BASE)?;
+    check_submission(&rt, &mut ring);
+    Ok(())
+}
+
+#[test]
+fn completion_places_are_put_back(rt: HostRuntime) -> Result<(), Fail> {
+    let mut ring = ComRing::new(rt.alloc(), 2, BASE)?;
+    check_completion(&rt, &mut ring);
     Ok(())
 }
 
