@@ -26,7 +26,7 @@ const DRAIN: u8 = 2;
 /// IOSQE_IO_LINK.
 const LINK: u8 = 4;
 
-/// IORING_ASYNC_CANCEL_ALL, and POLLIN: what a cancel and a poll ask for.
+/// IORING_ASYNC_CANCEL_ALL of a cancel, and POLLIN of a poll.
 const ASKED: u32 = 1;
 
 /// The rows of a full table, but for one, whose push a Put takes the place of.
@@ -38,8 +38,8 @@ const FAR: u64 = 1048576;
 /// How many rows end, one after the other, as others stand beside them.
 const ENDED: u32 = 100;
 
-/// The user_data of the one row that a cancel looks for.
-const WANTED: u64 = 9;
+/// The user_data of all rows, but of the one that a cancel of many looks for.
+const COMMON: u64 = 7;
 
 type Filled = Result<(), AllocError>;
 
@@ -123,10 +123,9 @@ fn polls(draft: &mut Draft, rows: u32) -> Filled {
 }
 
 fn cancels(draft: &mut Draft, rows: u32) -> Filled {
-    let (mut cancel, mut wanted) = (entry(ASYNC_CANCEL, 0, 0), entry(NOP, 0, 0));
-    cancel.addr = WANTED;
-    wanted.user_data = WANTED;
-    let entries = [cancel, entry(TIMEOUT, 1, 0), wanted];
+    let mut wanted = entry(NOP, 0, 0);
+    wanted.user_data = 0;
+    let entries = [entry(ASYNC_CANCEL, 0, 0), entry(TIMEOUT, 1, 0), wanted];
     beside(draft, &entries, ENDED, rows.saturating_sub(1), &[2])
 }
 
@@ -213,6 +212,7 @@ fn entry(opcode: u8, len: u32, off: u64) -> Sqe {
     entry.fd = 3;
     entry.len = len;
     entry.off = off;
+    entry.user_data = COMMON;
     entry
 }
 
@@ -221,7 +221,9 @@ fn flagged(mut entry: Sqe, flags: u8) -> Sqe {
     entry
 }
 
+// It asks for what is common, or for bytes to read.
 fn asking(mut entry: Sqe) -> Sqe {
+    entry.addr = COMMON;
     entry.operation_flags = ASKED;
     entry
 }
