@@ -2,7 +2,7 @@
 ghost use Rattle.std.specs.Prelude.{◌≡◌, ◌+◌, ◌<◌, ◌≤◌, ◌^◌, ◌++◌, [], ℕ, length, None, Some, IsOk, OnOk, OnErr, option_map, true, is_some, ◌||◌};
 ghost use Rattle.places.specs.Places.{is_number, is_other, InLimits};
 ghost use Rattle.places.specs.Slots.{value_of};
-ghost use Rattle.places.specs.View.{View, Noted, Exact, LeadsBack, named};
+ghost use Rattle.places.specs.View.{Noted, Exact, named, undo};
 ghost use Rattle.places.specs.Notes.{Notes, room_for, Spends, HasAsMuch};
 ghost use Rattle.places.specs.Runs.{place_in, NotedBytes};
 ghost use Rattle.places.specs.declared.value.Value.TheVariants.{Number, Completed, Requested};
@@ -332,14 +332,14 @@ impl Recorder {
 
     /// Drops the notes whose place has its old value, and keeps the others. It takes no memory.
     pub fn close<A: At>(self, whole: &A) -> Record
-        ensures { (old : View) → LeadsBack old (A.seen whole.now) self.made → Exact old (A.seen whole.now) result }
+        ensures { Exact (undo (A.seen whole.now) self.made) (A.seen whole.now) result }
     {
         self.close_with_marks(whole).0
     }
 
     /// The same, with what the next recorder can use again.
     pub fn close_with_marks<A: At>(self, whole: &A) -> (Record, Marks)
-        ensures { (old : View) → LeadsBack old (A.seen whole.now) self.made → Exact old (A.seen whole.now) result.0 }
+        ensures { Exact (undo (A.seen whole.now) self.made) (A.seen whole.now) result.0 }
     {
         let Recorder {
             numbers,
