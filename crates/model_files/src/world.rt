@@ -274,7 +274,6 @@ impl World {
         notes: &mut Recorder,
     ) -> Result<(), AllocError>
         requires file { IsSomeAnd (file_of self.old object) FileFormed }
-        requires some { 0 < count }
         requires in_file { offset + count ≤ 65536 }
         requires in_memory { address + count ≤ length self.old.memory }
         requires fresh { (i : ℕ) → i < count → named notes.old.made (FileByte object (offset + i)) ≡ None }
