@@ -25,7 +25,6 @@ pub struct Context<'a> {
 /// Whether an entry can be submitted, and what it asks for. The error is the negated number that its
 /// completion has (io_uring_enter(2)).
 pub fn check(entry: &Sqe, context: Context) -> Result<Op, i32>
-    requires { length context.world.now.memory ≡ 65536 }
     ensures { result ≡ check_of context.entry.world.now context.entry.behind entry.now }
 {
     if entry.flags & !ALLOWED_FLAGS != 0 {
@@ -39,7 +38,6 @@ pub fn check(entry: &Sqe, context: Context) -> Result<Op, i32>
 
 /// The time of a TIMEOUT or a LINK_TIMEOUT that can be submitted, in nanoseconds.
 pub fn time_of(entry: &Sqe, context: Context) -> Option<u128>
-    requires { length context.world.now.memory ≡ 65536 }
     ensures { result ≡ time_of context.entry.world.now context.entry.behind entry.now }
 {
     if !is_timer(entry.opcode) {
@@ -53,7 +51,6 @@ pub fn time_of(entry: &Sqe, context: Context) -> Option<u128>
 
 // The tests of each opcode.
 fn test(entry: &Sqe, context: Context, op: Op) -> Result<Op, i32>
-    requires { length context.world.now.memory ≡ 65536 }
     ensures { result ≡ tested context.entry.world.now context.entry.behind entry.now op }
 {
     let passes = match op {
@@ -74,7 +71,6 @@ fn test(entry: &Sqe, context: Context, op: Op) -> Result<Op, i32>
 
 // The tests of a TIMEOUT or a LINK_TIMEOUT.
 fn test_time(entry: &Sqe, world: &World, op: Op) -> Result<Op, i32>
-    requires { length world.now.memory ≡ 65536 }
     ensures { result ≡ timed world.now entry.now op }
 {
     if entry.len != 1 || entry.operation_flags > 1 {
@@ -91,7 +87,6 @@ fn test_time(entry: &Sqe, world: &World, op: Op) -> Result<Op, i32>
 
 // The time at an address, if neither of its numbers is negative.
 fn time_at(world: &World, address: u32) -> Option<u128>
-    requires memory { length world.now.memory ≡ 65536 }
     requires within { address + 16 ≤ 65536 }
     ensures { result ≡ time_at world.now address }
 {
@@ -137,7 +132,6 @@ mod tests {
 
     // What the first entry of a chain is tested to.
     fn tested_first(world: &World, entry: &Sqe) -> Result<Op, i32>
-        requires { length world.now.memory ≡ 65536 }
     {
         check(
             entry,
@@ -198,7 +192,6 @@ mod tests {
 
     // A LINK_TIMEOUT behind an entry of an opcode.
     fn tested_guard(world: &World, behind: Option<u8>, off: u64) -> Result<Op, i32>
-        requires { length world.now.memory ≡ 65536 }
     {
         let guard = Sqe {
             len: 1,
@@ -221,7 +214,6 @@ mod tests {
 
     // The test of a TIMEOUT with its time at an address, and the time.
     fn timeout(world: &World, addr: u64) -> (Result<Op, i32>, Option<u128>)
-        requires { length world.now.memory ≡ 65536 }
     {
         let entry = Sqe {
             addr,

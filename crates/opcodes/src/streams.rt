@@ -88,7 +88,6 @@ pub(crate) fn event_read(len: u32, counter: u64, choice: Choice) -> Outcome
 
 /// A WRITE waits until the sum is at most 2^64 - 2.
 pub(crate) fn event_written(world: &World, entry: &Sqe, counter: u64, choice: Choice) -> Outcome
-    requires memory { length world.now.memory ≡ 65536 }
     requires within { entry.now.addr + entry.now.len ≤ 65536 }
     ensures { result ≡ event_written entry.now.len counter (number_at world.now entry.now.addr) choice }
 {
