@@ -1,9 +1,10 @@
 -- What each change of the machine keeps.
 use Rattle.std.proofs.Common.{◌≡◌, ℕ, ℤ, pos, negsuc, Bool, true, false, cond, refl, sym, ◌∙◌, ap, subst, [], ◌∷◌, length, drop, ◌+◌, ◌*◌, ◌%◌, ◌<◌, ◌≤◌, ◌^◌, length-append, length-set, arith}
 use Rattle.std.proofs.lemmas.List.{length-drop}
-use Rattle.std.specs.Prelude.{List, Option, Some, None, IsSome, option_map, slice_get, slice_set, not, ◌&&◌, if◌then◌else◌}
+use Rattle.std.specs.Prelude.{List, Option, Some, None, is_some, option_map, nat_lt, nat_le, slice_get, slice_set, not, ◌==◌, ◌&&◌, ◌||◌, if◌then◌else◌}
 use Rattle.std.specs.Option.{option_map_or}
 use Rattle.std.proofs.lemmas.Bool.{eqb-true}
+use Rattle.std.proofs.lemmas.Bool.Decides.{nat_tests}
 use Rattle.model_files.specs.declared.descriptor.DescriptorState.{DescriptorState}
 use Rattle.model_files.specs.Worlds.{WorldState, WorldFormed, descriptor_of, descriptor_at, OneSetup as OneWorldSetup}
 use Rattle.opcodes.specs.Opcodes.{uses_descriptor, fits_end}
@@ -19,6 +20,7 @@ use Rattle.ring_words.specs.declared.flag.RingFlag.TheVariants.{NeedWakeup, CqOv
 use Rattle.ring_words.proofs.Laws.{formed_pushed, formed_entry, formed_flag, formed_reaped}
 use Rattle.ring_words.proofs.Order.{waiting_less, waiting_more}
 use Rattle.ring_words.proofs.Sizes.{size_most}
+use Rattle.links_drains.specs.Counts.{is_met}
 use Rattle.links_drains.specs.Links.{has_flag, is_guard}
 use Rattle.links_drains.specs.Phases.{is_ended, is_queued, counts, counted_of}
 use Rattle.links_drains.proofs.Counting.{counted-ended, counted-unfinished, ended-ended, ended-unfinished}
@@ -27,19 +29,20 @@ use Rattle.model_files.specs.Worlds.{PutsWithin}
 use Rattle.overflow.specs.Backlogs.{BacklogState, is_clear, fits, Delivery, DeliveryFormed, all_posted, flushed as flushed_delivery}
 use Rattle.overflow.proofs.KeptInOrder.{posted_formed, flushed_formed}
 use Rattle.machine.specs.InTurn.{ended}
-use Rattle.machine.specs.Steps.{all_started, delivery, flushed, held_by, is_guard_of, is_usable, lacks_descriptor, number_in, started}
-use Rattle.machine.specs.Whole.{AllGuardsStand, Mostly, is_asleep, flag_word, HoldsDescriptor, RowFormed, WellFormed, Stands}
+use Rattle.machine.specs.Steps.{all_started, delivery, flushed, held_by, is_guard_of, is_usable, lacks_descriptor, number_in, started, started_with}
+use Rattle.machine.specs.Whole.{AllGuardsStand, Mostly, NoneMet, is_asleep, flag_word, HoldsDescriptor, RowFormed, WellFormed, Stands}
 use Rattle.machine.specs.declared.whole.Machine.{Machine}
 use Rattle.links_drains.proofs.Chains.{chained-updated}
-use Rattle.machine.proofs.FormedRows.{FormedRows, formed_rows-updated, formed_rows-moved}
+use Rattle.machine.proofs.FormedRows.{FormedRows, deadline_timed, formed_rows-updated, formed_rows-moved}
 use Rattle.machine.proofs.GuardLemmas.{apart, guard_told, started_guards, started_in_turn}
 use Rattle.machine.proofs.IssuingRows.{started_at_once}
+use Rattle.machine.proofs.MappedRows.{mapped_at}
 
 pub mostly : (m : Machine) → WellFormed m → Mostly m
 mostly m h = record { submissions = h.submissions; completions = h.completions; entries_wait = h.entries_wait; completions_wait = h.completions_wait; flags = h.flags; front = h.front; overflowed = h.overflowed; rows = h.rows; chained = h.chained; world = h.world; counted = h.counted; clock = h.clock; threads = h.threads }
 
-pub formed_of : (m : Machine) → Mostly m → PutsWithin (65536 * ended_of m.table) m.world → FormedRows m.world m.table → AllGuardsStand m.table → WellFormed m
-formed_of m h puts k guards = record { guards = guards; puts = puts; submissions = h.submissions; completions = h.completions; entries_wait = h.entries_wait; completions_wait = h.completions_wait; flags = h.flags; front = h.front; overflowed = h.overflowed; rows = h.rows; chained = h.chained; world = h.world; requests = k.each; counted = h.counted; clock = h.clock; threads = h.threads }
+pub formed_of : (m : Machine) → Mostly m → PutsWithin (65536 * ended_of m.table) m.world → FormedRows m.world m.table → AllGuardsStand m.table → NoneMet m.counted m.table → WellFormed m
+formed_of m h puts k guards unmet = record { guards = guards; unmet = unmet; puts = puts; submissions = h.submissions; completions = h.completions; entries_wait = h.entries_wait; completions_wait = h.completions_wait; flags = h.flags; front = h.front; overflowed = h.overflowed; rows = h.rows; chained = h.chained; world = h.world; requests = k.each; counted = h.counted; clock = h.clock; threads = h.threads }
 
 -- ---- completions
 
@@ -93,7 +96,7 @@ mostly_flushed m h =
     }
 
 pub formed_flushed : (m : Machine) → WellFormed m → WellFormed (flushed m)
-formed_flushed m h = formed_of (flushed m) (mostly_flushed m (mostly m h)) h.puts (record { each = h.requests }) h.guards
+formed_flushed m h = formed_of (flushed m) (mostly_flushed m (mostly m h)) h.puts (record { each = h.requests }) h.guards h.unmet
 
 -- ---- a row ends
 
@@ -161,13 +164,9 @@ started_row w c n x q l h = record {
   opcode = λ u. h.opcode (ap not q);
   holds = λ i u. let d = issued_holds w x l u in record { fd = d.fd; held = d.held; descriptor = d.descriptor; there = d.there; fits = d.fits };
   time = λ u. h.time (ap not q);
-  timed = λ u t. h.timed (ap not q) t;
-  due = λ i t. mapped x.time (h.timed (ap not q) t);
+  timed = λ u. h.timed (ap not q);
+  due = λ i. deadline_timed c x;
 }
-  where
-    mapped : (o : Option ℕ) → IsSome o → IsSome (option_map (λ t. if has_flag x.entry.operation_flags 1 then t else t + c) o)
-    mapped None k = absurd cc
-    mapped (Some t) k = refl
 
 mostly_started : (m : Machine) (r c n : ℕ) (x : Row) → Mostly m → slice_get m.table r ≡ Some x → is_ended x.phase ≡ false → Mostly (record m { table = updated (started c n) m.table r })
 mostly_started m r c n x h e q = record {
@@ -213,6 +212,27 @@ queued_not_ended Queued h = refl
 queued_not_ended Issued h = absurd cc
 queued_not_ended (Ended n) h = absurd cc
 
+-- a TIMEOUT counts from the moment at which it is issued
+started_alone_unmet : (c n : ℕ) (x : Row) → is_met n (started c n x) ≡ false
+started_alone_unmet c n x = by (x.entry.opcode == 11) (nat_lt 0 x.entry.off) refl
+  where
+    by : (a b : Bool) → nat_lt 0 x.entry.off ≡ b → ((a && b) && nat_le ((if a then n else x.base) + x.entry.off) n) ≡ false
+    by true true k = grind (arith, nat_tests, k)
+    by true false k = refl
+    by false b k = refl
+
+-- so that none is met as one is issued
+started_unmet : (c n : ℕ) (rows : List Row) (r : ℕ) → NoneMet n rows → NoneMet n (all_started c n rows r)
+started_unmet c n rows r h i y e = at (slice_get rows i) refl (sym (mapped_at (started_with c n r) rows i) ∙ e)
+  where
+    by : (x : Row) → slice_get rows i ≡ Some x → (b : Bool) → is_met n (if b then started c n x else x) ≡ false
+    by x g true = started_alone_unmet c n x
+    by x g false = h i x g
+
+    at : (o : Option Row) → slice_get rows i ≡ o → option_map (λ row. started_with c n r (i, row)) o ≡ Some y → is_met n y ≡ false
+    at None g k = absurd cc
+    at (Some x) g k = let same : started_with c n r (i, x) ≡ y = cc in ap (is_met n) (sym same) ∙ by x g ((i == r) || is_guard_of r x)
+
 issued_in_turn : (m : Machine) (r : ℕ) (x : Row) → WellFormed m → slice_get m.table r ≡ Some x → x.phase ≡ Queued → is_guard x ≡ false → lacks_descriptor m.world x ≡ false → WellFormed (record m { table = started_in_turn m.clock m.counted m.table r })
 issued_in_turn m r x h e q plain l = by (slice_get m.table (r + 1)) refl
   where
@@ -225,7 +245,8 @@ issued_in_turn m r x h e q plain l = by (slice_get m.table (r + 1)) refl
     whole : (rows : List Row) → started_in_turn m.clock m.counted m.table r ≡ rows → Started m rows → WellFormed (record m { table = started_in_turn m.clock m.counted m.table r })
     whole rows k s = subst (λ rs. WellFormed (record m { table = rs })) (sym k)
         (formed_of (record m { table = rows }) s.mostly (subst (λ n. PutsWithin (65536 * n) m.world) (sym s.ended) h.puts) s.formed
-        (subst AllGuardsStand k (started_guards m.clock m.counted m.table r x e q plain h.guards)))
+        (subst AllGuardsStand k (started_guards m.clock m.counted m.table r x e q plain h.guards))
+        (subst (NoneMet m.counted) (started_at_once m.clock m.counted m.table r h.guards ∙ k) (started_unmet m.clock m.counted m.table r h.unmet)))
 
     told : (b : Bool) → option_map_or (is_guard_of r) (slice_get m.table (r + 1)) false ≡ b → started_in_turn m.clock m.counted m.table r ≡ (if b then updated f (updated f m.table r) (r + 1) else updated f m.table r)
     told b k = ap (λ (d : Bool). if d then updated f (updated f m.table r) (r + 1) else updated f m.table r) k
@@ -267,7 +288,7 @@ pub rows_moved : (m : Machine) (w : WorldState) → WellFormed m → OneWorldSet
 rows_moved m w h s = formed_rows-moved m.world w m.table s (record { each = h.requests })
 
 pub formed_world : (m : Machine) (w : WorldState) → WellFormed m → WorldFormed w → PutsWithin (65536 * ended_of m.table) w → OneWorldSetup m.world w → WellFormed (record m { world = w })
-formed_world m w h f puts s = formed_of (record m { world = w }) (mostly_world m w (mostly m h) f) puts (rows_moved m w h s) h.guards
+formed_world m w h f puts s = formed_of (record m { world = w }) (mostly_world m w (mostly m h) f) puts (rows_moved m w h s) h.guards h.unmet
 
 -- ---- words of the rings
 
@@ -285,6 +306,7 @@ formed_put m slot entry h = record {
   puts = h.puts;
   requests = h.requests;
   guards = h.guards;
+  unmet = h.unmet;
   counted = h.counted;
   chained = h.chained;
   clock = h.clock;
@@ -310,6 +332,7 @@ formed_push m x h b l = record {
   puts = h.puts;
   requests = h.requests;
   guards = h.guards;
+  unmet = h.unmet;
   counted = h.counted;
   chained = h.chained;
   clock = h.clock;
@@ -333,6 +356,7 @@ formed_taken_out m h l = record {
   puts = h.puts;
   requests = h.requests;
   guards = h.guards;
+  unmet = h.unmet;
   counted = h.counted;
   chained = h.chained;
   clock = h.clock;

@@ -70,6 +70,7 @@ formed_thread m f t x h e s = record {
   puts = h.puts;
   requests = h.requests;
   guards = h.guards;
+  unmet = h.unmet;
   counted = h.counted;
   chained = h.chained;
   clock = h.clock;

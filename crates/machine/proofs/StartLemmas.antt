@@ -197,6 +197,7 @@ formed_start s h b w =
       puts = puts_start s.memory s.objects s.fds;
       requests = λ r x k. absurd (none_there x k);
       guards = λ r x k. absurd (none_there x k);
+      unmet = λ r x k. absurd (none_there x k);
       chained = chained-none;
       counted = refl;
       clock = omega arith;

@@ -1,5 +1,5 @@
 -- The whole machine: what stands in each place, and which machines are well formed.
-use Rattle.std.specs.Prelude.{◌≡◌, ℕ, ◌+◌, ◌*◌, ◌<◌, ◌≤◌, ◌^◌, Bool, true, false, not, if◌then◌else◌, Option, Some, None, is_some, IsSome, slice_get, map, List, length, FitsSigned}
+use Rattle.std.specs.Prelude.{◌≡◌, ℕ, ◌+◌, ◌-◌, ◌*◌, ◌<◌, ◌≤◌, ◌^◌, Bool, true, false, not, if◌then◌else◌, Option, Some, None, is_some, IsSome, slice_get, map, List, length, FitsSigned}
 use Rattle.std.specs.Int.{w64}
 use Rattle.entries.specs.declared.row.Row.{Row}
 use Rattle.places.specs.declared.place.Place.{Place}
@@ -10,6 +10,7 @@ use Rattle.places.specs.declared.value.Stage.TheVariants.{Waiting}
 use Rattle.places.specs.declared.value.Change.{Change}
 use Rattle.places.specs.View.{View, LeadsBack}
 use Rattle.ring_words.specs.Rings.{waiting, sub_seen, sub_can_put, SubFormed, com_seen, com_can_put, ComFormed}
+use Rattle.links_drains.specs.Counts.{is_met}
 use Rattle.links_drains.specs.Links.{is_guard, Chained}
 use Rattle.links_drains.specs.Rows.{fixed_of, Stay, table_seen, table_can_put}
 use Rattle.links_drains.specs.Phases.{is_issued, is_unfinished, counted_of, ended_of}
@@ -147,17 +148,17 @@ pub record HoldsDescriptor (w : WorldState) (x : Row) : Type 0 where
   pub there : descriptor_of w fd ≡ Some descriptor
   pub fits : fits_end x.entry.opcode descriptor.end ≡ true
 
--- A time is made of two signed numbers of eight bytes that aren't negative: seconds and nanoseconds.
+-- A time is made of two signed numbers of eight bytes that aren't negative, of which 2^63 - 1 is the greatest: seconds and nanoseconds.
 abbrev pub IsTime : Option ℕ → Type 0
-IsTime time = (t : ℕ) → time ≡ Some t → t < 2 ^ 63 * 1000000001
+IsTime time = (t : ℕ) → time ≡ Some t → t ≤ (2 ^ 63 - 1) * 1000000001
 
--- While a row is unfinished its opcode is a supported one, and it has a time if it is a TIMEOUT or a LINK_TIMEOUT; while it is issued it holds its descriptor, if it uses one, and such a one has a deadline.
+-- While a row is unfinished its opcode is a supported one, and it has a time just if it is a TIMEOUT or a LINK_TIMEOUT; while it is issued it holds its descriptor, if it uses one, and has a deadline just if it has a time.
 pub record RowFormed (w : WorldState) (x : Row) : Type 0 where
   pub opcode : is_unfinished x.phase ≡ true → IsSome (op_of x.entry.opcode)
   pub holds : is_issued x.phase ≡ true → uses_descriptor x.entry.opcode ≡ true → HoldsDescriptor w x
   pub time : is_unfinished x.phase ≡ true → IsTime x.time
-  pub timed : is_unfinished x.phase ≡ true → is_timer x.entry.opcode ≡ true → IsSome x.time
-  pub due : is_issued x.phase ≡ true → is_timer x.entry.opcode ≡ true → IsSome x.deadline
+  pub timed : is_unfinished x.phase ≡ true → is_some x.time ≡ is_timer x.entry.opcode
+  pub due : is_issued x.phase ≡ true → is_some x.deadline ≡ is_some x.time
 
 -- A guard stands just behind its target, which is no guard, of its unit and as far as it is.
 pub record GuardStands (rows : List Row) (r : ℕ) (x : Row) : Type 0 where
@@ -169,6 +170,10 @@ pub record GuardStands (rows : List Row) (r : ℕ) (x : Row) : Type 0 where
   pub other : is_guard row ≡ false
   pub unit : row.unit ≡ x.unit
   pub alike : row.phase ≡ x.phase
+
+-- A TIMEOUT ends as soon as its count of completions is met, so that no issued one has been.
+abbrev pub NoneMet : ℕ → List Row → Type 0
+NoneMet counted rows = (r : ℕ) (x : Row) → slice_get rows r ≡ Some x → is_met counted x ≡ false
 
 -- Each guard that hasn't ended does.
 abbrev pub AllGuardsStand : List Row → Type 0
@@ -190,6 +195,7 @@ pub record WellFormed (m : Machine) : Type 0 where
   pub requests : (r : ℕ) (x : Row) → slice_get m.table r ≡ Some x → RowFormed m.world x
   pub guards : AllGuardsStand m.table
   pub counted : m.counted ≡ counted_of m.table
+  pub unmet : NoneMet m.counted m.table
   pub clock : m.clock < 2 ^ 64
   pub threads : (t : ℕ) (x : ThreadState) → slice_get m.threads t ≡ Some x → Stands (length m.submissions.slots) x
 
