@@ -13,7 +13,7 @@ use Rattle.links_drains.specs.Holding.{is_held_by}
 use Rattle.opcodes.specs.declared.choice.Choice.{Choice}
 use Rattle.opcodes.specs.declared.ending.Outcome.{Outcome}
 use Rattle.opcodes.specs.declared.ending.Outcome.TheVariants.{Res, Waits, BadChoice}
-use Rattle.opcodes.specs.Opcodes.{is_cancel}
+use Rattle.opcodes.specs.Opcodes.{is_cancel, is_timer}
 use Rattle.opcodes.specs.Outcomes.{outcome_of}
 use Rattle.opcodes.specs.Effects.{world_after}
 use Rattle.opcodes.proofs.Staying.{stays_after}
@@ -30,10 +30,10 @@ use Rattle.sqpoll.specs.declared.poller.Poller.{Poller}
 use Rattle.sqpoll.specs.declared.poller.Poller.TheVariants.{Awake, Asleep}
 use Rattle.sqpoll.specs.Pollers.{is_awake}
 use Rattle.links_drains.specs.Batches.{direct_of}
-use Rattle.links_drains.specs.Phases.{is_ended, counts}
+use Rattle.links_drains.specs.Phases.{is_ended}
 use Rattle.machine.specs.Cancels.{verdict_of, ending_with}
 use Rattle.machine.specs.Submission.{offered, einval, ebusy, ebadf}
-use Rattle.machine.specs.Steps.{refusal, after, stepped, executed, entered, entered_alone, entered_beside, submitting, before_submission, is_busy, is_unknown, gets_events, wakes, woken, shown, awaited, ready_count, held_back, with_poller, flushed, submission_refusal, alone_refusal, enter_refusal, instruction_refusal, next_refusal, closed, is_open, thread_refusal, take_refusal, phase_refusal, choice_refusal, finish_refusal, taken, submitted, answered, gone_on, cancelled, finished, finished_as, lacks_descriptor, fallen, all_started, entries_for, expired, expiring, waiting_target}
+use Rattle.machine.specs.Steps.{refusal, after, resumed, stepped, executed, entered, entered_alone, entered_beside, submitting, before_submission, is_busy, is_unknown, gets_events, wakes, woken, shown, awaited, ready_count, held_back, with_poller, flushed, submission_refusal, alone_refusal, enter_refusal, instruction_refusal, next_refusal, closed, is_open, thread_refusal, take_refusal, phase_refusal, choice_refusal, finish_refusal, taken, submitted, answered, gone_on, cancelled, finished, finished_as, lacks_descriptor, fallen, all_started, entries_for, expired, expiring, waiting_target}
 use Rattle.machine.specs.Threads.{ThreadState}
 use Rattle.machine.specs.Whole.{is_asleep, flag_word, WellFormed}
 use Rattle.scenario.specs.declared.setup.Instruction.{Instruction}
@@ -121,13 +121,13 @@ formed_finish m r c f h = by (slice_get m.table r) refl h
     at x e Issued q k = choosing x e (ap is_ended q) (is_cancel x.entry.opcode)
     at x e (Ended n) q k = absurd cc
 
-    counting : (x : Row) → slice_get m.table r ≡ Some x → (b : Bool) → cond b (phase_refusal x.phase (choice_refusal (is_held_by m.table) m.world x c)) (Some WrongPhase) ≡ None → WellFormed (finished m r (Some x) c)
-    counting x e true k = at x e x.phase refl k
-    counting x e false k = absurd cc
+    timing : (x : Row) → slice_get m.table r ≡ Some x → (b : Bool) → cond b (Some WrongPhase) (phase_refusal x.phase (choice_refusal (is_held_by m.table) m.world x c)) ≡ None → WellFormed (finished m r (Some x) c)
+    timing x e true k = absurd cc
+    timing x e false k = at x e x.phase refl k
 
     by : (o : Option Row) → slice_get m.table r ≡ o → finish_refusal (is_held_by m.table) m.world o c ≡ None → WellFormed (finished m r o c)
     by None e k = absurd cc
-    by (Some x) e k = counting x e (counts x) k
+    by (Some x) e k = timing x e (is_timer x.entry.opcode) k
 
 -- ---- each instruction
 
@@ -347,7 +347,7 @@ formed_step m t f h = by (slice_get m.threads t) refl h
     next x e (Close fd) g r k = formed_closing m t x fd f e g
 
     at : (x : ThreadState) → slice_get m.threads t ≡ Some x → (s : Stage) → x.stage ≡ s → (o : Option Instruction) → slice_get x.program x.counter ≡ o → next_refusal m s o ≡ None
-        → WellFormed (elim s [ Ready ↦ executed m t o | Waiting n w ↦ answered m t (pos n) ])
+        → WellFormed (resumed m t s o)
     at x e s q None g k = absurd cc
     at x e Ready q (Some i) g k = next x e i g q k
     at x e (Waiting n w) q (Some i) g k = formed_answered m t x i (pos n) f e g (let a = ((f.threads t x e).waits n w q).submitted in omega (arith, a))

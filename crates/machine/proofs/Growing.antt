@@ -31,7 +31,7 @@ use Rattle.machine.specs.Submission.{einval, ebusy, ebadf}
 use Rattle.timeouts_cancel.specs.Falls.{fall_of}
 use Rattle.std.specs.Option.{option_map_or}
 use Rattle.machine.specs.InTurn.{completion_at, ended}
-use Rattle.machine.specs.Steps.{refusal, sleep_refusal, after, stepped, executed, entered, entered_alone, entered_beside, submitting, before_submission, is_busy, is_unknown, gets_events, wakes, woken, shown, awaited, ready_count, held_back, with_poller, closed, is_open, posted, flushed, completions_of, ended_by, all_ended, fallen, taken, submitted, answered, issued, cancelled, finished, finished_as, lacks_descriptor, all_started, entries_for, expired, expiring, is_guard_of, started, started_with, waiting_target}
+use Rattle.machine.specs.Steps.{refusal, sleep_refusal, after, resumed, stepped, executed, entered, entered_alone, entered_beside, submitting, before_submission, is_busy, is_unknown, gets_events, wakes, woken, shown, awaited, ready_count, held_back, with_poller, closed, is_open, posted, flushed, completions_of, ended_by, all_ended, fallen, taken, submitted, answered, issued, cancelled, finished, finished_as, lacks_descriptor, all_started, entries_for, expired, expiring, is_guard_of, started, started_with, waiting_target}
 use Rattle.machine.specs.Threads.{ThreadState, program_of}
 use Rattle.machine.specs.Whole.{Grows, WellFormed}
 use Rattle.scenario.specs.declared.setup.Instruction.{Instruction}
@@ -267,7 +267,7 @@ grows_stepped : (m : Machine) (t : ℕ) → WellFormed m → (o : Option ThreadS
 grows_stepped m t f None e = grows_self m
 grows_stepped m t f (Some x) e = by x.stage
   where
-    by : (s : Stage) → Grows m (elim s [ Ready ↦ executed m t (slice_get x.program x.counter) | Waiting n w ↦ answered m t (pos n) ])
+    by : (s : Stage) → Grows m (resumed m t s (slice_get x.program x.counter))
     by Ready = grows_executed m t x f e (slice_get x.program x.counter) refl
     by (Waiting n w) = grows_answered m t (pos n)
 
