@@ -156,10 +156,10 @@ expired_row m r h = by (slice_get m.table r) refl h
 
 -- the backlog has room for the completion of an unfinished row
 pub backlog_room : (m : Machine) (r : ℕ) (x : Row) → WellFormed m → slice_get m.table r ≡ Some x → is_ended x.phase ≡ false → length m.backlog.items < 65536
-backlog_room m r x f e u = let a = ended-lt-length m.table r x e u in let b = f.overflowed in let c = f.rows in omega (arith, a, b, c)
+backlog_room m r x f e u = let a = ended-lt-length m.table r x e u in let b = f.mostly.kept.overflowed in let c = f.mostly.table.few in omega (arith, a, b, c)
 
 pub backlog_most : (m : Machine) → WellFormed m → length m.backlog.items ≤ length m.table
-backlog_most m f = let a = ended-le-length m.table in let b = f.overflowed in omega (arith, a, b)
+backlog_most m f = let a = ended-le-length m.table in let b = f.mostly.kept.overflowed in omega (arith, a, b)
 
 -- ---- a row that is issued
 

@@ -137,7 +137,7 @@ formed_fallen_but m direct f puts h guards = subst WellFormed (sym (fall_in_turn
 
 pub formed_fallen : (m : Machine) (direct : List (ℕ × ℤ)) → WellFormed m → WellFormed (fallen m direct)
 formed_fallen m direct f =
-    formed_fallen_but m direct (mostly m f) (puts_more (65536 * ended_of m.table) (65536 * (ended_of m.table + length (fall_of m.table m.counted direct))) m.world (omega arith) f.puts) (λ j y e. inl (f.requests j y e))
+    formed_fallen_but m direct (mostly m f) (puts_more (65536 * ended_of m.table) (65536 * (ended_of m.table + length (fall_of m.table m.counted direct))) m.world (omega arith) f.puts) (λ j y e. inl (f.rows j y e))
     (λ r x e g u n. f.guards r x e g u)
 
 -- each of them is a row

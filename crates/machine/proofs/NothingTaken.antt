@@ -1,7 +1,7 @@
 -- A submission of nothing changes nothing.
 use Rattle.std.proofs.Common.{◌≡◌, ℕ, ℤ, zero, suc, pos, Bool, true, false, refl, sym, ◌∙◌, ap, List, [], ◌∷◌, ◌++◌, length, ◌+◌, ◌-◌, ◌%◌, ◌^◌, ◌<◌, arith}
 use Rattle.std.proofs.lemmas.List.{append-nil}
-use Rattle.std.specs.Prelude.{Option, Some, None, slice_get, ◌&&◌}
+use Rattle.std.specs.Prelude.{Option, Some, None, slice_get, ◌&&◌, if◌then◌else◌}
 use Rattle.std.specs.Option.{option_map_or}
 use Rattle.entries.specs.declared.entry.Sqe.{Sqe}
 use Rattle.entries.specs.declared.row.Row.{Row}
@@ -83,8 +83,8 @@ nothing_taken m f = sym (take_told m 0 0 0 m.submissions m.table (sym (no_words 
 
     ring : m.submissions ≡ record m.submissions { head = (m.submissions.head + 0) % 2 ^ 32; dropped = (m.submissions.dropped + (0 - 0)) % 2 ^ 32 }
     ring =
-        let a : m.submissions.head ≡ (m.submissions.head + 0) % 2 ^ 32 = let l = f.submissions.head in omega (arith, l) in
-        let b : m.submissions.dropped ≡ (m.submissions.dropped + (0 - 0)) % 2 ^ 32 = let l = f.submissions.dropped in omega (arith, l) in
+        let a : m.submissions.head ≡ (m.submissions.head + 0) % 2 ^ 32 = let l = f.mostly.rings.submissions.head in omega (arith, l) in
+        let b : m.submissions.dropped ≡ (m.submissions.dropped + (0 - 0)) % 2 ^ 32 = let l = f.mostly.rings.submissions.dropped in omega (arith, l) in
         ap (λ h. record m.submissions { head = h }) a ∙ ap (λ d. record m.submissions { head = (m.submissions.head + 0) % 2 ^ 32; dropped = d }) b
 
 pub nothing_submitted : (m : Machine) → WellFormed m → submitted m 0 ≡ m
