@@ -35,7 +35,7 @@ impl Model for Walker {
 }
 
 impl Walker {
-    ghost use Rattle.inverse_log.specs.Tracks.{Stops, Recorded};
+    ghost use Rattle.inverse_log.specs.Tracks.{Covers, Stops, Recorded};
     ghost use Rattle.inverse_log.specs.Walks.{here, ending, fresh, fresh_with, moved, jumped, steps_to, extended};
 
     /// Stands at the start of a run without events. A jump starts from a copy at most 1,024 moments
@@ -114,6 +114,16 @@ impl Walker {
         ensures recorded { Recorded (start self.now.setup) self.now.events result.now }
     {
         self.trail.records()
+    }
+
+    /// The copies that jumps start from: the states at the multiples of a number, up to the last that is a
+    /// moment of the run; and how far back a jump goes by single steps.
+    pub fn kept(&self) -> &Kept
+        ensures every { result.now.every ≡ self.now.every }
+        ensures window { result.now.window ≡ self.now.window }
+        ensures covers { Covers self.now.setup self.now.events self.now.every result.now.states }
+    {
+        &self.kept
     }
 
     /// How many single steps jumps have made, up to 2^64 - 1, where it stays.

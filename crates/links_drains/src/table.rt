@@ -9,7 +9,7 @@ ghost use Rattle.model_files.specs.Holders.{is_held};
 ghost use Rattle.links_drains.specs.Counts.{IsNextMet, NoneMetFrom};
 ghost use Rattle.links_drains.specs.Eligible.{is_eligible, GuardsFollow};
 ghost use Rattle.links_drains.specs.Holding.{is_held_by};
-ghost use Rattle.links_drains.specs.Links.{GoesOn};
+ghost use Rattle.links_drains.specs.Links.{Chained, GoesOn};
 ghost use Rattle.links_drains.specs.Rows.{fixed_of, Stay, table_owns, table_seen, table_can_put, new_row as new_row_of};
 ghost use Rattle.links_drains.specs.Units.{rest_of as rest_of_unit, next_issued, IsNextIssued, NoneIssuedFrom};
 
@@ -95,10 +95,11 @@ impl Table {
         *self.rows.allocator()
     }
 
-    /// How many rows there are.
+    /// How many rows there are. A run has 65,536 at most, and its units are runs of them.
     pub fn len(&self) -> usize
         ensures len { result ≡ length self.now }
-        ensures small { result < 2 ^ 63 }
+        ensures few { length self.now ≤ 65536 }
+        ensures chained { Chained self.now }
     {
         self.rows.len()
     }

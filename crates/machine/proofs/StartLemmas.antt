@@ -191,22 +191,24 @@ formed_start s h b w =
     let none = waiting_none s.base b in
     let size : length (start s).submissions.slots ≡ rounded s.entries = length-replicate (rounded s.entries) zero_entry in
     record {
-      submissions = formed_sub_start s.entries s.base n.0 n.1 b;
-      completions = formed_com_start (completion_entries s.entries s.cq) s.base c.0 c.1 b;
-      entries_wait = omega (arith, none);
-      completions_wait = omega (arith, none);
-      flags = sym (ap (λ b. flag_word b false) (awake_first s.sqpoll));
-      front = omega arith;
-      overflowed = omega arith;
-      rows = omega arith;
-      world = world_start_formed s.memory s.objects s.fds (memory_fits s a) (objects_fit s a) (descriptors_few s a);
-      puts = puts_start s.memory s.objects s.fds;
-      requests = λ r x k. absurd (none_there x k);
+      mostly = record {
+        rings = record {
+          submissions = formed_sub_start s.entries s.base n.0 n.1 b;
+          completions = formed_com_start (completion_entries s.entries s.cq) s.base c.0 c.1 b;
+          entries_wait = omega (arith, none);
+          completions_wait = omega (arith, none);
+          flags = sym (ap (λ b. flag_word b false) (awake_first s.sqpoll));
+        };
+        kept = record { front = omega arith; overflowed = omega arith };
+        table = record { few = omega arith; chained = chained-none; counted = refl };
+        world = world_start_formed s.memory s.objects s.fds (memory_fits s a) (objects_fit s a) (descriptors_few s a);
+        clock = omega arith;
+        threads = λ t x k. subst (λ (i : ℕ). Stands i x) (sym size) (threads_stand s a w t x k);
+      };
+      rows = λ r x k. absurd (none_there x k);
       guards = λ r x k. absurd (none_there x k);
-      chained = chained-none;
-      counted = refl;
-      clock = omega arith;
-      threads = λ t x k. subst (λ (i : ℕ). Stands i x) (sym size) (threads_stand s a w t x k);
+      unmet = λ r x k. absurd (none_there x k);
+      puts = puts_start s.memory s.objects s.fds;
     }
   where
     none_there : (x : Row) → None ≡ Some x → ⊥
