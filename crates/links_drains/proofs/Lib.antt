@@ -1,4 +1,5 @@
 pub mod Batching
+pub mod Besides
 pub mod Bits
 pub mod Chains
 pub mod Counting
@@ -12,6 +13,7 @@ pub mod IssuedRows
 pub mod Listing
 pub mod MetRows
 pub mod Numbers
+pub mod QueuedRows
 pub mod Reaching
 pub mod Rising
 pub mod Remaining

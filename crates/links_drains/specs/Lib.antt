@@ -11,3 +11,5 @@ pub mod Sets
 pub mod Tables
 pub mod Thresholds
 pub mod Units
+pub mod Beside
+pub mod Queued

@@ -7,6 +7,8 @@ ghost use Rattle.links_drains.specs.Sets.{has, IsNext, NoneFrom};
 ghost use Rattle.links_drains.specs.Thresholds.{IsNextReached, NoneReachedFrom};
 ghost use Rattle.links_drains.specs.Units.{passes_at, is_open, is_barrier as stands_before, HasRowOf, HasNoRowOf};
 
+mod queued;
+
 use crate::links::{asks_to_drain, is_guard, is_issued, is_queued, is_unfinished};
 use crate::sets::NumberSet;
 use crate::thresholds::{NEVER, Thresholds, threshold_of};

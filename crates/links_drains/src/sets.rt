@@ -3,6 +3,8 @@ ghost use Rattle.std.specs.Prelude.{◌≡◌, ℕ, ◌+◌, ◌*◌, ◌<◌, �
 ghost use Rattle.std.specs.Int.{bit_at};
 ghost use Rattle.links_drains.specs.Sets.{has, IsNextBit, IsNext, NoneFrom};
 
+mod beside;
+
 use std::alloc::{AllocError, Global};
 use std::marker::Model;
 

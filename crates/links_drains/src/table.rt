@@ -13,6 +13,8 @@ ghost use Rattle.links_drains.specs.Links.{Chained, GoesOn};
 ghost use Rattle.links_drains.specs.Rows.{fixed_of, Stay, table_owns, table_seen, table_can_put, new_row as new_row_of};
 ghost use Rattle.links_drains.specs.Units.{rest_of as rest_of_unit, next_issued, IsNextIssued, NoneIssuedFrom};
 
+mod queued;
+
 use crate::holding::{count, take_all_off, take_off};
 use crate::index::Index;
 use crate::rest::rest_in;

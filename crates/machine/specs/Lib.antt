@@ -6,3 +6,4 @@ pub mod Steps
 pub mod InTurn
 pub mod Refusals
 pub mod Runs
+pub mod Deadlines

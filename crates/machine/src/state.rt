@@ -1,5 +1,7 @@
 //! The state of a run.
 
+mod rows;
+
 use crate::whole::Machine;
 use places::{At, Marks, Place, Record, Recorder, Value};
 use scenario::{Event, Refusal, Setup, SetupRefusal, setup_refusal};

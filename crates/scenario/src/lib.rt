@@ -7,6 +7,7 @@ pub mod limits;
 pub mod names;
 mod numbered;
 mod owned;
+mod same;
 pub mod setup;
 #[cfg(test)]
 mod tests;

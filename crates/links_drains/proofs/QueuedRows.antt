@@ -1,0 +1,83 @@
+-- The least queued row from a number on, by the sets of the unfinished rows and the issued ones.
+use Rattle.std.proofs.Common.{◌≡◌, ℕ, Bool, true, false, refl, sym, ◌∙◌, ap, List, ◌<◌, ◌≤◌, ◌⊎◌, inl, inr, arith, not}
+use Rattle.std.specs.Prelude.{Option, Some, None, map, option_map, slice_get, ◌&&◌, nat_le}
+use Rattle.std.specs.Option.{option_map_or}
+use Rattle.std.specs.List.{filter, enumerate_from}
+use Rattle.std.proofs.lemmas.Bool.{and_from, and_left, cases_lt}
+use Rattle.std.proofs.lemmas.Bool.Decides.{nat_tests}
+use Rattle.std.proofs.lemmas.Option.{slice_get-map}
+use Rattle.entries.specs.declared.row.Row.{Row}
+use Rattle.entries.specs.declared.row.Phase.{Phase}
+use Rattle.entries.specs.declared.row.Phase.TheVariants.{Queued, Issued, Ended}
+use Rattle.links_drains.specs.Phases.{is_queued, is_issued, is_unfinished}
+use Rattle.links_drains.specs.Sets.{has}
+use Rattle.links_drains.specs.Beside.{is_beside, IsNextBeside, NoneBeside}
+use Rattle.links_drains.specs.Units.{passes_at, is_going, is_open}
+use Rattle.links_drains.specs.Queued.{is_queued_row, next_queued, IsNextQueued, NoneQueuedFrom}
+use Rattle.links_drains.proofs.Filters.{first_numbered, none_numbered}
+use Rattle.links_drains.proofs.Units.{passes_here}
+
+-- ---- by the sets
+
+-- a row is queued where it hasn't ended and isn't issued
+phase_queued : (p : Phase) → (is_unfinished p && not (is_issued p)) ≡ is_queued p
+phase_queued Queued = refl
+phase_queued Issued = refl
+phase_queued (Ended res) = refl
+
+there_queued : (o : Option Row) → (option_map_or is_open o false && not (option_map_or is_going o false)) ≡ option_map_or is_queued_row o false
+there_queued None = refl
+there_queued (Some row) = phase_queued row.phase
+
+beside_queued : (rows : List Row) (unended going : List ℕ) → ((q : ℕ) → has unended q ≡ passes_at is_open rows q) → ((q : ℕ) → has going q ≡ passes_at is_going rows q)
+    → (r : ℕ) → is_beside unended going r ≡ passes_at is_queued_row rows r
+beside_queued rows unended going f g r = ap (λ b. b && not (has going r)) (f r) ∙ ap (λ b. passes_at is_open rows r && not b) (g r) ∙ there_queued (slice_get rows r)
+
+pub queued_found : (rows : List Row) (unended going : List ℕ) (from r : ℕ) → ((q : ℕ) → has unended q ≡ passes_at is_open rows q) → ((q : ℕ) → has going q ≡ passes_at is_going rows q)
+    → IsNextBeside unended going from r → IsNextQueued rows from r
+queued_found rows unended going from r f g next = by (slice_get rows r) refl
+  where
+    ties : (q : ℕ) → is_beside unended going q ≡ passes_at is_queued_row rows q
+    ties q = beside_queued rows unended going f g q
+    by : (o : Option Row) → slice_get rows r ≡ o → IsNextQueued rows from r
+    by None e = absurd (let k = sym next.member ∙ ties r ∙ ap (λ (o : Option Row). option_map_or is_queued_row o false) e in cc)
+    by (Some row) e = record {
+      after = next.after;
+      row = row;
+      there = e;
+      queued = sym (passes_here is_queued_row rows r row e) ∙ sym (ties r) ∙ next.member;
+      least = λ i x low high g. sym (passes_here is_queued_row rows i x g) ∙ sym (ties i) ∙ next.least i low high;
+    }
+
+pub none_queued : (rows : List Row) (unended going : List ℕ) (from : ℕ) → ((q : ℕ) → has unended q ≡ passes_at is_open rows q) → ((q : ℕ) → has going q ≡ passes_at is_going rows q)
+    → NoneBeside unended going from → NoneQueuedFrom rows from
+none_queued rows unended going from f g none = λ i x low e. sym (passes_here is_queued_row rows i x e) ∙ sym (beside_queued rows unended going f g i) ∙ none i low
+
+-- ---- as a filter
+
+abbrev is_late : ℕ → ℕ × Row → Bool
+is_late from p = nat_le from p.0 && is_queued_row p.1
+
+fails : (a b : Bool) → b ≡ false → (a && b) ≡ false
+fails true b e = e
+fails false b e = refl
+
+before : (from i : ℕ) → i < from → nat_le from i ≡ false
+before from i l = grind (arith, nat_tests, l)
+
+pub queued_is : (rows : List Row) (from r : ℕ) → IsNextQueued rows from r → next_queued rows from ≡ Some r
+queued_is rows from r next =
+    let low : nat_le from r ≡ true = let a = next.after in grind (arith, nat_tests, a) in
+    slice_get-map (λ (p : ℕ × Row). p.0) (filter (is_late from) (enumerate_from 0 rows)) 0
+    ∙ ap (option_map (λ (p : ℕ × Row). p.0)) (first_numbered (is_late from) rows r next.row next.there (and_from _ _ low next.queued) (λ i x l g. by i x l g (cases_lt i from)))
+  where
+    by : (i : ℕ) (x : Row) → i < r → slice_get rows i ≡ Some x → (i < from) ⊎ (from ≤ i) → is_late from (i, x) ≡ false
+    by i x l g (inl less) = and_left _ _ (before from i less)
+    by i x l g (inr le) = fails _ _ (next.least i x le l g)
+
+pub none_is : (rows : List Row) (from : ℕ) → NoneQueuedFrom rows from → next_queued rows from ≡ None
+none_is rows from none = ap (λ (ps : List (ℕ × Row)). slice_get (map (λ (p : ℕ × Row). p.0) ps) 0) (none_numbered (is_late from) rows (λ i x g. by i x g (cases_lt i from)))
+  where
+    by : (i : ℕ) (x : Row) → slice_get rows i ≡ Some x → (i < from) ⊎ (from ≤ i) → is_late from (i, x) ≡ false
+    by i x g (inl less) = and_left _ _ (before from i less)
+    by i x g (inr le) = fails _ _ (none i x le g)

@@ -1,0 +1,38 @@
+//! What a state tells of its rows.
+ghost use Rattle.std.specs.Prelude.{◌≡◌, ◌<◌, IfSome, IfNone};
+ghost use Rattle.links_drains.specs.Queued.{next_queued, IsNextQueued, NoneQueuedFrom};
+ghost use Rattle.links_drains.specs.Units.{next_issued, IsNextIssued, NoneIssuedFrom};
+ghost use Rattle.machine.specs.Deadlines.{deadline_at};
+
+use super::State;
+use links_drains::is_issued;
+
+impl State {
+    /// The least queued row from a number on. It takes no memory, and looks at no row that ended.
+    pub fn next_queued(&self, from: u32) -> Option<u32>
+        ensures value { result ≡ next_queued self.now.table from }
+        ensures some { IfSome result (λ r. IsNextQueued self.now.table from r) }
+        ensures none { IfNone result (NoneQueuedFrom self.now.table from) }
+        ensures few { IfSome result (λ r. r < 65536) }
+    {
+        self.machine.table.next_queued(from)
+    }
+
+    /// The least issued row from a number on. It takes no memory, and constant time.
+    pub fn next_issued(&self, from: u32) -> Option<u32>
+        ensures value { result ≡ next_issued self.now.table from }
+        ensures some { IfSome result (λ r. IsNextIssued self.now.table from r) }
+        ensures none { IfNone result (NoneIssuedFrom self.now.table from) }
+        ensures few { IfSome result (λ r. r < 65536) }
+    {
+        self.machine.table.next_issued(from)
+    }
+
+    /// When an issued row is due, in nanoseconds of the clock, if it has a deadline. It takes no memory.
+    pub fn deadline(&self, r: u32) -> Option<u128>
+        ensures { result ≡ deadline_at self.now.table r }
+    {
+        let row = self.machine.table.get(r)?;
+        if is_issued(&row) { row.deadline } else { None }
+    }
+}
