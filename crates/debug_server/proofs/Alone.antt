@@ -1,11 +1,15 @@
 -- A talk without a source: each answer is none, however many there are.
-use Rattle.std.proofs.Common.{◌≡◌, ◌⊎◌, inl, inr, ℕ, suc, ◌≤◌, List, [], ◌∷◌, ◌++◌, length, Bool, true, false, cond, Option, Some, None, refl, sym, ap, ◌∙◌, subst, arith}
-use Rattle.std.specs.Io.KnownBytes.{Appends, Consumes, IsAtEnd}
+use Rattle.std.proofs.Common.{◌≡◌, ◌⊎◌, inl, inr, ℕ, suc, ◌≤◌, List, [], ◌∷◌, ◌++◌, length, Bool, true, false, cond, Option, Some, None, refl, sym, ap, ◌∙◌, subst, arith, append-nil}
+use Rattle.std.specs.Io.KnownBytes.{IsAtEnd}
 use Rattle.debug_server.specs.Visits.{Visit}
 use Rattle.debug_server.specs.Replies.{Told, Reply, reply}
-use Rattle.debug_server.specs.Lines.{lines_of}
-use Rattle.debug_server.specs.Talks.{asks, told, untold, lacks, Talk, talk, said, silent, output, Asked, Unanswered, unanswered, Served, Broke}
+use Rattle.debug_server.specs.Lines.{lines_of, ended_lines}
+use Rattle.debug_server.specs.Talks.{asks, told, untold, lacks, Talk, talk, said, silent, output, Asked, Unanswered, unanswered, Streams, streams, Served, Broke}
 use Rattle.debug_server.specs.Closing.{Standing}
+use Rattle.debug_server.specs.declared.faults.ServeFault.{ServeFault}
+use Rattle.debug_server.specs.declared.faults.RunFault.TheVariants.{Serve}
+use Rattle.debug_server.proofs.Bytes.{ended_stay}
+use Rattle.debug_server.proofs.Turns.{talk_quit}
 
 -- a source that is none answers so each time
 pub none_asked : {S : Type 0} (a c : S) (ts : List Told) → Asked (λ _ answer _. answer ≡ None) a ts c → Unanswered ts
@@ -52,42 +56,34 @@ alike : (ls : List (List ℕ)) → Same ls
 alike [] v ts us a b n h = record { text = refl; quits = refl }
 alike (l ∷ ls) v ts us a b n h = first_alike (asks l) v l ls ts us (λ w xs ys c d m k. alike ls w xs ys c d m k) a b n h
 
--- What was read and written without a source.
-pub record ServedAlone (v : Visit) (unread unread' held held' : Option (List ℕ)) (q : Bool) : Type 0 where
-  pub taken : List ℕ
-  pub read : Consumes unread unread' taken
-  pub written : Appends held held' (output v (lines_of taken) (unanswered (lines_of taken)))
-  pub quit : q ≡ (talk v (lines_of taken) (unanswered (lines_of taken))).quits
-  pub whole : (q ≡ true) ⊎ IsAtEnd unread'
+-- over lists, the replies to the whole of the input were written
+served_input : (v v' : Visit) (input rest before out : List ℕ) (ts : List Told) (q : Bool) (s : Served v (streams (Some input) (Some before)) (streams (Some rest) (Some out)) ts v' q) → talk v (lines_of input) ts ≡ talk v s.lines ts
+served_input v v' input rest before out ts q s = ap (λ l. talk v (lines_of l) ts) s.read ∙ by s.cut
+  where
+    by : ((s.lines ≡ ended_lines s.taken) × (q ≡ true)) ⊎ ((s.lines ≡ lines_of s.taken) × IsAtEnd (Some rest)) → talk v (lines_of (s.taken ++ rest)) ts ≡ talk v s.lines ts
+    by (inl c) =
+        let more = ended_stay s.taken rest in
+        ap (λ ls. talk v ls ts) (more.1 ∙ ap (λ ls. ls ++ more.0) (sym c.0))
+        ∙ talk_quit s.lines more.0 v ts (sym s.quit ∙ c.1)
+    by (inr c) = ap (λ l. talk v (lines_of (s.taken ++ l)) ts) c.1 ∙ ap (λ l. talk v (lines_of l) ts) (append-nil s.taken) ∙ ap (λ ls. talk v ls ts) (sym c.0)
 
-pub served_alone : (v v' : Visit) (r r' h h' : Option (List ℕ)) (ts : List Told) (q : Bool) → Unanswered ts → Served v r r' h h' ts v' q → ServedAlone v r r' h h' q
-served_alone v v' r r' h h' ts q a s =
-    let ls = lines_of s.taken in
-    let k : Alike (talk v ls (unanswered ls)) (talk v ls ts) = alike ls v ts (unanswered ls) a (unanswered_all ls) (let n = length_unanswered ls in omega (arith, n)) s.asked in
-    record {
-      taken = s.taken;
-      read = s.read;
-      written = subst (Appends h h') (sym k.text) s.written;
-      quit = s.quit ∙ sym k.quits;
-      whole = s.whole;
-    }
-
--- the same over lists
-pub replied : (v : Visit) (input rest before out : List ℕ) (q : Bool) → before ≡ [] → ServedAlone v (Some input) (Some rest) (Some before) (Some out) q → (taken : List ℕ) × (left : List ℕ) × (input ≡ taken ++ left) × (out ≡ output v (lines_of taken) (unanswered (lines_of taken))) × (((talk v (lines_of taken) (unanswered (lines_of taken))).quits ≡ true) ⊎ (left ≡ []))
-replied v input rest before out q e s = (
-  s.taken,
-  rest,
-  s.read,
-  s.written ∙ ap (λ l. l ++ output v (lines_of s.taken) (unanswered (lines_of s.taken))) e,
-  elim s.whole [ inl t ↦ inl (sym s.quit ∙ t) | inr n ↦ inr n ],
-)
+pub replied : (v v' : Visit) (input rest before out : List ℕ) (ts : List Told) (q : Bool) → before ≡ [] → Unanswered ts → Served v (streams (Some input) (Some before)) (streams (Some rest) (Some out)) ts v' q → out ≡ output v (lines_of input) (unanswered (lines_of input))
+replied v v' input rest before out ts q e a s =
+    let ls = lines_of input in
+    let whole = served_input v v' input rest before out ts q s in
+    let k : Alike (talk v ls (unanswered ls)) (talk v ls ts) = alike ls v ts (unanswered ls) a (unanswered_all ls) (let n = length_unanswered ls in omega (arith, n)) (ap (λ (x : Talk). x.left) whole ∙ s.asked) in
+    s.written ∙ ap (λ l. l ++ output v s.lines ts) e ∙ ap (λ (x : Talk). x.text) (sym whole) ∙ sym k.text
 
 -- of a session that is known
-pub served_at : (t : Standing) (v v' : Visit) (r r' h h' : Option (List ℕ)) (ts : List Told) (q : Bool) → t ≡ record { visit = v; is_closed = false } → Served t.visit r r' h h' ts v' q → Served v r r' h h' ts v' q
-served_at t v v' r r' h h' ts q e s = let P : Standing → Type 0 = λ x. Served x.visit r r' h h' ts v' q in subst P e s
+pub served_at : (t : Standing) (v v' : Visit) (before after : Streams) (ts : List Told) (q : Bool) → t ≡ record { visit = v; is_closed = false } → Served t.visit before after ts v' q → Served v before after ts v' q
+served_at t v v' before after ts q e s = let P : Standing → Type 0 = λ x. Served x.visit before after ts v' q in subst P e s
 
-pub broke_at : (t : Standing) (v : Visit) (r r' h h' : Option (List ℕ)) (ts : List Told) → t ≡ record { visit = v; is_closed = false } → Broke t.visit r r' h h' ts → Broke v r r' h h' ts
-broke_at t v r r' h h' ts e s = let P : Standing → Type 0 = λ x. Broke x.visit r r' h h' ts in subst P e s
+pub broke_at : (t : Standing) (v : Visit) (before after : Streams) (ts : List Told) (fault f : ServeFault) → t ≡ record { visit = v; is_closed = false } → Serve fault ≡ Serve f → Broke t.visit before after ts fault → Broke v before after ts f
+broke_at t v before after ts fault f e k s =
+    let same : fault ≡ f = cc in
+    let P : Standing → Type 0 = λ x. Broke x.visit before after ts fault in
+    let Q : ServeFault → Type 0 = λ x. Broke v before after ts x in
+    subst Q same (subst P e s)
 
 pub open_at : (t : Standing) (v : Visit) → t ≡ record { visit = v; is_closed = false } → t.is_closed ≡ false
 open_at t v e = ap (λ (x : Standing). x.is_closed) e

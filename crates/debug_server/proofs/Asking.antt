@@ -1,16 +1,17 @@
 -- What is fed, with what the source was asked by then.
-use Rattle.std.proofs.Common.{◌≡◌, inl, inr, ℕ, ◌+◌, ◌==◌, ◌<◌, List, [], ◌∷◌, ◌++◌, length, take, get_or, not, codes, Bool, true, false, Option, None, refl, sym, ap, ◌∙◌, subst, append_assoc}
+use Rattle.std.specs.Prelude.{◌≢◌, IfErr}
+use Rattle.std.proofs.Common.{◌≡◌, inl, inr, ℕ, ◌+◌, ◌==◌, ◌<◌, List, [], ◌∷◌, ◌++◌, length, take, get_or, not, codes, Bool, true, false, Option, None, Result, Ok, Err, refl, sym, ap, ◌∙◌, subst, append_assoc}
 use Rattle.std.proofs.KnownBytes.{Appends-nil}
 use Rattle.std.specs.Str.{bytes_eq}
 use Rattle.std.specs.Io.KnownBytes.{Appends, Consumes, Keeps, IsAtEnd}
 use Rattle.debug_server.specs.Visits.{Visit}
 use Rattle.debug_server.specs.Replies.{Told, Reply, reply}
-use Rattle.debug_server.specs.Lines.{lines_of}
-use Rattle.debug_server.specs.Talks.{asks, told, turn, Fits, Talk, talk, output, Asked, Served, BrokeBy}
+use Rattle.debug_server.specs.Lines.{lines_of, ended_lines}
+use Rattle.debug_server.specs.Talks.{asks, told, turn, Fits, Talk, talk, output, streams, Asked, Served, BrokeBy}
 use Rattle.debug_server.specs.declared.faults.ServeFault.{ServeFault}
-use Rattle.debug_server.specs.declared.faults.ServeFault.TheVariants.{Memory}
-use Rattle.debug_server.specs.Pending.{IsPending, grown, WritesFront, Gave, FillsBy, BreaksBy, EndsBy, FrontBy, ReadsBy}
-use Rattle.debug_server.proofs.Bytes.{lines_of-ended}
+use Rattle.debug_server.specs.declared.faults.ServeFault.TheVariants.{Memory, Closed}
+use Rattle.debug_server.specs.Pending.{IsPending, grown, IsOfReplying, WritesFront, Gave, FillsBy, BreaksBy, EndsBy, FrontBy, ReadsBy}
+use Rattle.debug_server.proofs.Bytes.{lines_by-ended}
 use Rattle.debug_server.proofs.Turns.{alone_asked, lacking}
 use Rattle.debug_server.proofs.Feeding.{byte_at, ended_at, cut_at, fed_on, fed_quit, cut_on, lacks_on, fills_start}
 use Rattle.debug_server.proofs.Reading.{reads_start, reads_on, served_quit, served_end, broke_read, broke_end, broke_feed, ended_later, fed_later, last_lacking, last_used, ends_empty, ends_line, front_line, ends_at}
@@ -33,12 +34,12 @@ asking_line line text r e t h = ap (bytes_eq line) (sym t) ∙ yes (bytes_eq lin
     yes false k = absurd (cc)
 
 -- a line that asks and gets no answer, and more behind it
-line_lacks : (v : Visit) (line text : List ℕ) (b : ℕ) → IsPending line → b ≡ 10 → text ≡ line → asks text ≡ true → (more : List ℕ) → (talk v (lines_of ((line ++ b ∷ []) ++ more)) []).left ≡ None
+line_lacks : (v : Visit) (line text : List ℕ) (b : ℕ) → IsPending line → b ≡ 10 → text ≡ line → asks text ≡ true → (more : List ℕ) → (talk v (ended_lines ((line ++ b ∷ []) ++ more)) []).left ≡ None
 line_lacks v line text b p e t h more =
-    ap (λ x. (talk v (lines_of ((line ++ x ∷ []) ++ more)) []).left) e
-    ∙ ap (λ l. (talk v (lines_of l) []).left) (append_assoc line (10 ∷ []) more)
-    ∙ ap (λ ls. (talk v ls []).left) (lines_of-ended line more p.plain)
-    ∙ lacking v line (lines_of more) (ap asks (sym t) ∙ h)
+    ap (λ x. (talk v (ended_lines ((line ++ x ∷ []) ++ more)) []).left) e
+    ∙ ap (λ l. (talk v (ended_lines l) []).left) (append_assoc line (10 ∷ []) more)
+    ∙ ap (λ ls. (talk v ls []).left) (lines_by-ended false line more p.plain)
+    ∙ lacking v line (ended_lines more) (ap asks (sym t) ∙ h)
 
 module _ {S : Type 0} (gives : S → Told → S → Type 0) where
   -- one list of answers after another
@@ -108,8 +109,8 @@ module _ {S : Type 0} (gives : S → Told → S → Type 0) where
     breaks = record {
       front = [];
       appended = Appends-nil h;
-      begins = λ more others. (output v (lines_of ((line ++ b ∷ []) ++ more)) others, refl);
-      asked = λ more. alone_asked (lines_of ((line ++ b ∷ []) ++ more)) v;
+      begins = λ more others. (output v (ended_lines ((line ++ b ∷ []) ++ more)) others, refl);
+      asked = λ more. alone_asked (ended_lines ((line ++ b ∷ []) ++ more)) v;
     };
   }
 
@@ -197,7 +198,7 @@ module _ {S : Type 0} (gives : S → Told → S → Type 0) where
 
   -- what a conversation ensures at Ok
   abbrev pub Ok_by : S → S → Visit → Option (List ℕ) → Option (List ℕ) → Option (List ℕ) → Option (List ℕ) → Visit → Bool → Type 0
-  Ok_by s s' w r r' h h' u q = (answers : List Told) × Asked gives s answers s' × Served w r r' h h' answers u q
+  Ok_by s s' w r r' h h' u q = (answers : List Told) × Asked gives s answers s' × Served w (streams r h) (streams r' h') answers u q
 
   pub quit_by : (s m s' : S) (w v u : Visit) (r r' r'' h h' h'' : Option (List ℕ)) (line bytes line' : List ℕ) → ReadsBy gives s m w r r' h h' v line → Consumes r' r'' bytes → FillsBy gives m s' v (line ++ bytes) h' h'' true u line' → Ok_by s s' w r r'' h h'' u true
   quit_by s m s' w v u r r' r'' h h' h'' line bytes line' f c g = (
@@ -215,31 +216,40 @@ module _ {S : Type 0} (gives : S → Told → S → Type 0) where
 
   -- ---- at a fault
 
-  pub broke_by : (fails : S → S → Type 0) (s m : S) (fault : ServeFault) (w v : Visit) (r r' r'' h h' : Option (List ℕ)) (line : List ℕ) → ReadsBy gives s m w r r' h h' v line → Keeps r' r'' → BrokeBy gives fails s m fault w r r'' h h'
-  broke_by fails s m fault w v r r' r'' h h' line f k = record {
+  pub broke_by : (fails : S → S → Type 0) (s m : S) (fault : ServeFault) (w v : Visit) (r r' r'' h h' : Option (List ℕ)) (line : List ℕ) → ReadsBy gives s m w r r' h h' v line → Keeps r' r'' → IsPending line → BrokeBy gives fails s m fault w (streams r h) (streams r'' h')
+  broke_by fails s m fault w v r r' r'' h h' line f k p = record {
     answers = f.answers;
     last = m;
     given = f.asked;
-    broke = broke_read w v r r' r'' h h' f.answers line f.reads k;
+    broke = broke_read w v r r' r'' h h' f.answers line fault f.reads k p;
     no_more = inl refl;
   }
 
-  pub broke_end_by : (fails : S → S → Type 0) (s m s' : S) (fault : ServeFault) (w v : Visit) (r r' r'' h h' h'' : Option (List ℕ)) (line text : List ℕ) → ReadsBy gives s m w r r' h h' v line → Consumes r' r'' [] → text ≡ line → FrontBy gives fails m s' fault v text h' h'' → BrokeBy gives fails s s' fault w r r'' h h''
-  broke_end_by fails s m s' fault w v r r' r'' h h' h'' line text f c t k =
+  pub broke_end_by : (fails : S → S → Type 0) (s m s' : S) (fault : ServeFault) (w v : Visit) (r r' r'' h h' h'' : Option (List ℕ)) (line text : List ℕ) → ReadsBy gives s m w r r' h h' v line → Consumes r' r'' [] → IsAtEnd r'' → text ≡ line → IsOfReplying fault → FrontBy gives fails m s' fault v text h' h'' → BrokeBy gives fails s s' fault w (streams r h) (streams r'' h'')
+  broke_end_by fails s m s' fault w v r r' r'' h h' h'' line text f c e t o k =
       let g = front_at fails m s' fault v line text h' h'' t k in
       record {
         answers = f.answers ++ g.answers;
         last = g.mid;
         given = asked_trans s m g.mid f.answers g.answers f.asked g.asked;
-        broke = broke_end w v r r' r'' h h' h'' f.answers g.answers line f.reads c g.front g.used;
+        broke = broke_end w v r r' r'' h h' h'' f.answers g.answers line fault f.reads c e o g.front g.used;
         no_more = elim g.no_more [ inl e ↦ inl e | inr n ↦ inr (n.0, ap (λ (x : Talk). x.left) (ended_later w v r r' h h' f.answers g.answers line f.reads) ∙ n.1, n.2) ];
       }
 
-  pub broke_feed_by : (fails : S → S → Type 0) (s m s' : S) (fault : ServeFault) (w v : Visit) (r r' r'' h h' h'' : Option (List ℕ)) (line bytes : List ℕ) → ReadsBy gives s m w r r' h h' v line → Consumes r' r'' bytes → BreaksBy gives fails m s' fault v (line ++ bytes) h' h'' → BrokeBy gives fails s s' fault w r r'' h h''
-  broke_feed_by fails s m s' fault w v r r' r'' h h' h'' line bytes f c g = record {
+  pub broke_feed_by : (fails : S → S → Type 0) (s m s' : S) (fault : ServeFault) (w v : Visit) (r r' r'' h h' h'' : Option (List ℕ)) (line bytes : List ℕ) → ReadsBy gives s m w r r' h h' v line → Consumes r' r'' bytes → IsOfReplying fault → BreaksBy gives fails m s' fault v (line ++ bytes) h' h'' → BrokeBy gives fails s s' fault w (streams r h) (streams r'' h'')
+  broke_feed_by fails s m s' fault w v r r' r'' h h' h'' line bytes f c o g = record {
     answers = f.answers ++ g.answers;
     last = g.mid;
     given = asked_trans s m g.mid f.answers g.answers f.asked g.asked;
-    broke = broke_feed w v r r' r'' h h' h'' f.answers g.answers line bytes f.reads c g.breaks;
+    broke = broke_feed w v r r' r'' h h' h'' f.answers g.answers line bytes fault f.reads c o g.breaks;
     no_more = elim g.no_more [ inl e ↦ inl e | inr n ↦ inr (n.0, ap (λ (x : Talk). x.left) (fed_later w v r r' h h' f.answers g.answers line bytes f.reads) ∙ n.1 [], n.2) ];
   }
+
+pub with_replying : {X : Type 0} (P : ServeFault → Type 0) (r : Result X ServeFault) → IfErr r P → IfErr r IsOfReplying → IfErr r (λ e. P e × IsOfReplying e)
+with_replying P (Ok x) h k = tt
+with_replying P (Err e) h k = (h, k)
+
+-- what fails so was not closed
+pub not_closed : {X : Type 0} → (r : Result X ServeFault) → IfErr r IsOfReplying → r ≢ Err Closed
+not_closed (Ok x) h = λ e. cc
+not_closed (Err f) h = λ e. let same : f ≡ Closed = cc in absurd (let P : ServeFault → Type 0 = λ x. IsOfReplying x in subst P same h)

@@ -5,58 +5,58 @@ use Rattle.std.proofs.KnownBytes.{Appends-nil, Appends-trans}
 use Rattle.std.specs.Io.KnownBytes.{Appends}
 use Rattle.debug_server.specs.Visits.{Visit}
 use Rattle.debug_server.specs.Replies.{Told}
-use Rattle.debug_server.specs.Lines.{lines_of}
+use Rattle.debug_server.specs.Lines.{lines_by, ended_lines}
 use Rattle.debug_server.specs.Talks.{asks, Fits, turn, Talk, talk, said, output, AllAsked}
 use Rattle.debug_server.specs.Pending.{IsPending, grown, rest_of, Fed, Fills, Breaks, WritesFront}
-use Rattle.debug_server.proofs.Bytes.{lines_of-ended}
+use Rattle.debug_server.proofs.Bytes.{lines_by-ended}
 use Rattle.debug_server.proofs.Turns.{talk_line, said_said, grown_alike, rest_asked}
 
 pub fed_start : (w : Visit) (line : List ℕ) → Fed w line [] [] false w line
-fed_start w line = record { law = λ more others. refl }
+fed_start w line = record { law = λ last more others. refl }
 
 -- a byte that ends no line
 pub fed_byte : (w w' : Visit) (bytes : List ℕ) (ts : List Told) (written line : List ℕ) (b : ℕ) → Fed w bytes ts written false w' line → IsPending line → (b == 10) ≡ false → Fed w (bytes ++ b ∷ []) ts written false w' (grown line b)
 fed_byte w w' bytes ts written line b f p e = record {
-  law = λ more others. ap (λ l. talk w (lines_of l) (ts ++ others)) (append_assoc bytes (b ∷ []) more) ∙ f.law (b ∷ more) others ∙ ap (said written) (grown_alike w' line b more others p e);
+  law = λ last more others. ap (λ l. talk w (lines_by last l) (ts ++ others)) (append_assoc bytes (b ∷ []) more) ∙ f.law last (b ∷ more) others ∙ ap (said written) (grown_alike last w' line b more others p e);
 }
 
 -- a newline
 pub fed_ended : (w w' : Visit) (bytes : List ℕ) (ts given : List Told) (written line : List ℕ) → Fed w bytes ts written false w' line → IsPending line → Fits (asks line) given → Fed w (bytes ++ 10 ∷ []) (ts ++ given) (written ++ (turn w' line given).text) (turn w' line given).quits (turn w' line given).next []
 fed_ended w w' bytes ts given written line f p fits = record {
-  law = λ more others.
-      ap (λ l. talk w (lines_of l) ((ts ++ given) ++ others)) (append_assoc bytes (10 ∷ []) more)
-      ∙ ap (λ l. talk w (lines_of (bytes ++ 10 ∷ more)) l) (append_assoc ts given others)
-      ∙ f.law (10 ∷ more) (given ++ others)
-      ∙ ap (λ ls. said written (talk w' ls (given ++ others))) (lines_of-ended line more p.plain)
-      ∙ ap (said written) (talk_line w' line (lines_of more) given others fits)
-      ∙ said_said written (turn w' line given).text (rest_of (turn w' line given).quits (turn w' line given).next more others);
+  law = λ last more others.
+      ap (λ l. talk w (lines_by last l) ((ts ++ given) ++ others)) (append_assoc bytes (10 ∷ []) more)
+      ∙ ap (λ l. talk w (lines_by last (bytes ++ 10 ∷ more)) l) (append_assoc ts given others)
+      ∙ f.law last (10 ∷ more) (given ++ others)
+      ∙ ap (λ ls. said written (talk w' ls (given ++ others))) (lines_by-ended last line more p.plain)
+      ∙ ap (said written) (talk_line w' line (lines_by last more) given others fits)
+      ∙ said_said written (turn w' line given).text (rest_of last (turn w' line given).quits (turn w' line given).next more others);
 }
 
 -- bytes behind a line that quits
 pub fed_past : (w w' : Visit) (bytes rest : List ℕ) (ts : List Told) (written line line' : List ℕ) → Fed w bytes ts written true w' line → Fed w (bytes ++ rest) ts written true w' line'
 fed_past w w' bytes rest ts written line line' f = record {
-  law = λ more others. ap (λ l. talk w (lines_of l) (ts ++ others)) (append_assoc bytes rest more) ∙ f.law (rest ++ more) others;
+  law = λ last more others. ap (λ l. talk w (lines_by last l) (ts ++ others)) (append_assoc bytes rest more) ∙ f.law last (rest ++ more) others;
 }
 
 -- one run after another
 pub fed_trans : (w v u : Visit) (bytes line bytes' line' : List ℕ) (ts ts' : List Told) (written written' : List ℕ) (q : Bool) → Fed w bytes ts written false v line → Fed v (line ++ bytes') ts' written' q u line' → Fed w (bytes ++ bytes') (ts ++ ts') (written ++ written') q u line'
 fed_trans w v u bytes line bytes' line' ts ts' written written' q f g = record {
-  law = λ more others.
-      ap (λ l. talk w (lines_of l) ((ts ++ ts') ++ others)) (append_assoc bytes bytes' more)
-      ∙ ap (λ l. talk w (lines_of (bytes ++ (bytes' ++ more))) l) (append_assoc ts ts' others)
-      ∙ f.law (bytes' ++ more) (ts' ++ others)
-      ∙ ap (λ l. said written (talk v (lines_of l) (ts' ++ others))) (sym (append_assoc line bytes' more))
-      ∙ ap (said written) (g.law more others)
-      ∙ said_said written written' (rest_of q u (line' ++ more) others);
+  law = λ last more others.
+      ap (λ l. talk w (lines_by last l) ((ts ++ ts') ++ others)) (append_assoc bytes bytes' more)
+      ∙ ap (λ l. talk w (lines_by last (bytes ++ (bytes' ++ more))) l) (append_assoc ts ts' others)
+      ∙ f.law last (bytes' ++ more) (ts' ++ others)
+      ∙ ap (λ l. said written (talk v (lines_by last l) (ts' ++ others))) (sym (append_assoc line bytes' more))
+      ∙ ap (said written) (g.law last more others)
+      ∙ said_said written written' (rest_of last q u (line' ++ more) others);
 }
 
 -- the bytes alone, with nothing behind them
-pub fed_whole : (w w' : Visit) (bytes : List ℕ) (ts : List Told) (written : List ℕ) (q : Bool) (line : List ℕ) → Fed w bytes ts written q w' line → talk w (lines_of bytes) ts ≡ said written (rest_of q w' line [])
-fed_whole w w' bytes ts written q line f =
-    ap (λ l. talk w (lines_of l) ts) (sym (append-nil bytes))
-    ∙ ap (talk w (lines_of (bytes ++ []))) (sym (append-nil ts))
-    ∙ f.law [] []
-    ∙ ap (λ l. said written (rest_of q w' l [])) (append-nil line)
+pub fed_whole : (last : Bool) (w w' : Visit) (bytes : List ℕ) (ts : List Told) (written : List ℕ) (q : Bool) (line : List ℕ) → Fed w bytes ts written q w' line → talk w (lines_by last bytes) ts ≡ said written (rest_of last q w' line [])
+fed_whole last w w' bytes ts written q line f =
+    ap (λ l. talk w (lines_by last l) ts) (sym (append-nil bytes))
+    ∙ ap (talk w (lines_by last (bytes ++ []))) (sym (append-nil ts))
+    ∙ f.law last [] []
+    ∙ ap (λ l. said written (rest_of last q w' l [])) (append-nil line)
 
 -- ---- the same, with what the writer holds
 
@@ -84,30 +84,30 @@ pub breaks_ended : (w : Visit) (line : List ℕ) (given : List Told) (h h' : Opt
 breaks_ended w line given h h' p fits f = record {
   front = f.front;
   appended = f.appended;
-  begins = λ more others. let t = (fed_ended w w line [] given [] line (fed_start w line) p fits).law more others in (
-    f.rest ++ (rest_of (turn w line given).quits (turn w line given).next more others).text,
-    ap (λ (x : Talk). x.text) t ∙ ap (λ l. l ++ (rest_of (turn w line given).quits (turn w line given).next more others).text) f.whole ∙ append_assoc f.front f.rest (rest_of (turn w line given).quits (turn w line given).next more others).text,
+  begins = λ more others. let t = (fed_ended w w line [] given [] line (fed_start w line) p fits).law false more others in (
+    f.rest ++ (rest_of false (turn w line given).quits (turn w line given).next more others).text,
+    ap (λ (x : Talk). x.text) t ∙ ap (λ l. l ++ (rest_of false (turn w line given).quits (turn w line given).next more others).text) f.whole ∙ append_assoc f.front f.rest (rest_of false (turn w line given).quits (turn w line given).next more others).text,
   );
   asked = λ more.
-      let t = ap (talk w (lines_of ((line ++ 10 ∷ []) ++ more))) (sym (append-nil given)) ∙ (fed_ended w w line [] given [] line (fed_start w line) p fits).law more [] in
+      let t = ap (talk w (ended_lines ((line ++ 10 ∷ []) ++ more))) (sym (append-nil given)) ∙ (fed_ended w w line [] given [] line (fed_start w line) p fits).law false more [] in
       let P : Talk → Type 0 = λ x. AllAsked x.left in
-      subst P (sym t) (rest_asked (turn w line given).quits (turn w line given).next more);
+      subst P (sym t) (rest_asked false (turn w line given).quits (turn w line given).next more);
 }
 
 pub breaks_more : (w : Visit) (bytes rest : List ℕ) (ts : List Told) (h h' : Option (List ℕ)) → Breaks w bytes ts h h' → Breaks w (bytes ++ rest) ts h h'
 breaks_more w bytes rest ts h h' b = record {
   front = b.front;
   appended = b.appended;
-  begins = λ more others. ((b.begins (rest ++ more) others).0, ap (λ l. output w (lines_of l) (ts ++ others)) (append_assoc bytes rest more) ∙ (b.begins (rest ++ more) others).1);
-  asked = λ more. let P : List ℕ → Type 0 = λ l. AllAsked (talk w (lines_of l) ts).left in subst P (sym (append_assoc bytes rest more)) (b.asked (rest ++ more));
+  begins = λ more others. ((b.begins (rest ++ more) others).0, ap (λ l. output w (ended_lines l) (ts ++ others)) (append_assoc bytes rest more) ∙ (b.begins (rest ++ more) others).1);
+  asked = λ more. let P : List ℕ → Type 0 = λ l. AllAsked (talk w (ended_lines l) ts).left in subst P (sym (append_assoc bytes rest more)) (b.asked (rest ++ more));
 }
 
 -- the talk goes on from where what was fed led
-pub talk_later : (w v : Visit) (bytes line bytes' : List ℕ) (ts ts' : List Told) (h h' : Option (List ℕ)) (f : Fills w bytes ts h h' false v line) (more : List ℕ) → talk w (lines_of ((bytes ++ bytes') ++ more)) (ts ++ ts') ≡ said f.written (talk v (lines_of ((line ++ bytes') ++ more)) ts')
+pub talk_later : (w v : Visit) (bytes line bytes' : List ℕ) (ts ts' : List Told) (h h' : Option (List ℕ)) (f : Fills w bytes ts h h' false v line) (more : List ℕ) → talk w (ended_lines ((bytes ++ bytes') ++ more)) (ts ++ ts') ≡ said f.written (talk v (ended_lines ((line ++ bytes') ++ more)) ts')
 talk_later w v bytes line bytes' ts ts' h h' f more =
-    ap (λ l. talk w (lines_of l) (ts ++ ts')) (append_assoc bytes bytes' more)
-    ∙ f.fed.law (bytes' ++ more) ts'
-    ∙ ap (λ l. said f.written (talk v (lines_of l) ts')) (sym (append_assoc line bytes' more))
+    ap (λ l. talk w (ended_lines l) (ts ++ ts')) (append_assoc bytes bytes' more)
+    ∙ f.fed.law false (bytes' ++ more) ts'
+    ∙ ap (λ l. said f.written (talk v (ended_lines l) ts')) (sym (append_assoc line bytes' more))
 
 pub breaks_later : (w v : Visit) (bytes line bytes' : List ℕ) (ts ts' : List Told) (h h' h'' : Option (List ℕ)) → Fills w bytes ts h h' false v line → Breaks v (line ++ bytes') ts' h' h'' → Breaks w (bytes ++ bytes') (ts ++ ts') h h''
 breaks_later w v bytes line bytes' ts ts' h h' h'' f b = record {
@@ -115,10 +115,10 @@ breaks_later w v bytes line bytes' ts ts' h h' h'' f b = record {
   appended = Appends-trans h h' h'' f.written b.front f.appended b.appended;
   begins = λ more others. (
     (b.begins more others).0,
-    ap (λ l. output w (lines_of l) ((ts ++ ts') ++ others)) (append_assoc bytes bytes' more)
-        ∙ ap (λ l. output w (lines_of (bytes ++ (bytes' ++ more))) l) (append_assoc ts ts' others)
-        ∙ ap (λ (x : Talk). x.text) (f.fed.law (bytes' ++ more) (ts' ++ others))
-        ∙ ap (λ l. f.written ++ output v (lines_of l) (ts' ++ others)) (sym (append_assoc line bytes' more))
+    ap (λ l. output w (ended_lines l) ((ts ++ ts') ++ others)) (append_assoc bytes bytes' more)
+        ∙ ap (λ l. output w (ended_lines (bytes ++ (bytes' ++ more))) l) (append_assoc ts ts' others)
+        ∙ ap (λ (x : Talk). x.text) (f.fed.law false (bytes' ++ more) (ts' ++ others))
+        ∙ ap (λ l. f.written ++ output v (ended_lines l) (ts' ++ others)) (sym (append_assoc line bytes' more))
         ∙ ap (λ l. f.written ++ l) (b.begins more others).1
         ∙ sym (append_assoc f.written b.front (b.begins more others).0),
   );
@@ -172,10 +172,10 @@ cut_on w v line bytes now ts ts' i h h' h'' lt f b =
     (subst P (seam line bytes i lt) (breaks_later w v (line ++ take i bytes) now (get_or bytes i 0 ∷ []) ts ts' h h' h'' f b)))
 
 -- where the rest lacks an answer
-pub lacks_on : (w v : Visit) (line bytes now : List ℕ) (ts ts' : List Told) (i : ℕ) (h h' : Option (List ℕ)) → i < length bytes → Fills w (line ++ take i bytes) ts h h' false v now → ((more : List ℕ) → (talk v (lines_of ((now ++ get_or bytes i 0 ∷ []) ++ more)) ts').left ≡ None) → (more : List ℕ) → (talk w (lines_of ((line ++ bytes) ++ more)) (ts ++ ts')).left ≡ None
+pub lacks_on : (w v : Visit) (line bytes now : List ℕ) (ts ts' : List Told) (i : ℕ) (h h' : Option (List ℕ)) → i < length bytes → Fills w (line ++ take i bytes) ts h h' false v now → ((more : List ℕ) → (talk v (ended_lines ((now ++ get_or bytes i 0 ∷ []) ++ more)) ts').left ≡ None) → (more : List ℕ) → (talk w (ended_lines ((line ++ bytes) ++ more)) (ts ++ ts')).left ≡ None
 lacks_on w v line bytes now ts ts' i h h' lt f k more =
     let all : line ++ bytes ≡ ((line ++ take i bytes) ++ get_or bytes i 0 ∷ []) ++ drop (i + 1) bytes = sym (ap (λ l. l ++ drop (i + 1) bytes) (seam line bytes i lt) ∙ behind line bytes i) in
-    ap (λ l. (talk w (lines_of (l ++ more)) (ts ++ ts')).left) all
-    ∙ ap (λ l. (talk w (lines_of l) (ts ++ ts')).left) (append_assoc ((line ++ take i bytes) ++ get_or bytes i 0 ∷ []) (drop (i + 1) bytes) more)
+    ap (λ l. (talk w (ended_lines (l ++ more)) (ts ++ ts')).left) all
+    ∙ ap (λ l. (talk w (ended_lines l) (ts ++ ts')).left) (append_assoc ((line ++ take i bytes) ++ get_or bytes i 0 ∷ []) (drop (i + 1) bytes) more)
     ∙ ap (λ (x : Talk). x.left) (talk_later w v (line ++ take i bytes) now (get_or bytes i 0 ∷ []) ts ts' h h' f (drop (i + 1) bytes ++ more))
     ∙ k (drop (i + 1) bytes ++ more)

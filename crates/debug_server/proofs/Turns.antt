@@ -6,10 +6,10 @@ use Rattle.std.specs.Str.{bytes_eq}
 use Rattle.debug_server.specs.Visits.{Visit}
 use Rattle.debug_server.specs.Commands.{command_of}
 use Rattle.debug_server.specs.Replies.{Told, Reply, reply}
-use Rattle.debug_server.specs.Lines.{onto_line, lines_of}
+use Rattle.debug_server.specs.Lines.{onto_line, lines_by}
 use Rattle.debug_server.specs.Talks.{asks, told, untold, lacks, Fits, turn, Talk, talk, said, silent, AllAsked}
 use Rattle.debug_server.specs.Pending.{IsPending, grown, rest_of}
-use Rattle.debug_server.proofs.Bytes.{onto_lines, onto_lines-cons, onto_lines-nil, lines_of-plain, grown_room, grown_full}
+use Rattle.debug_server.proofs.Bytes.{onto_lines, onto_lines-cons, onto_lines-nil, lines_by-plain, grown_room, grown_full}
 
 -- only a short line asks
 pub asks_short : (line : List ℕ) → 256 < length line → asks line ≡ false
@@ -64,9 +64,9 @@ alone_asked [] v = tt
 alone_asked (l ∷ ls) v = asked_line (asks l) v l ls (λ w. alone_asked ls w)
 
 -- what is left to say without an answer
-pub rest_asked : (q : Bool) (v : Visit) (line : List ℕ) → AllAsked (rest_of q v line []).left
-rest_asked true v line = tt
-rest_asked false v line = alone_asked (lines_of line) v
+pub rest_asked : (last q : Bool) (v : Visit) (line : List ℕ) → AllAsked (rest_of last q v line []).left
+rest_asked last true v line = tt
+rest_asked last false v line = alone_asked (lines_by last line) v
 
 -- a line that asks, and no answer
 pub lacking : (v : Visit) (l : List ℕ) (ls : List (List ℕ)) → asks l ≡ true → (talk v (l ∷ ls) []).left ≡ None
@@ -94,26 +94,38 @@ talk_first w a b ls ts p q =
     ∙ sym (talk_line w b ls [] ts (fits_short b q))
 
 -- one byte more or less of a line past the limit
-long_byte : (w : Visit) (line : List ℕ) (b : ℕ) (ls : List (List ℕ)) (ts : List Told) → length line ≡ 257 → talk w (onto_lines line (onto_line b ls)) ts ≡ talk w (onto_lines line ls) ts
-long_byte w line b [] ts h =
-    ap (λ x. talk w x ts) (onto_lines-cons line (b ∷ []) [])
+long_byte : (last : Bool) (w : Visit) (line : List ℕ) (b : ℕ) (ls : List (List ℕ)) (ts : List Told) → length line ≡ 257 → talk w (onto_lines last line (onto_line last b ls)) ts ≡ talk w (onto_lines last line ls) ts
+long_byte true w line b [] ts h =
+    ap (λ x. talk w x ts) (onto_lines-cons true line (b ∷ []) [])
     ∙ talk_first w (line ++ b ∷ []) line [] ts (omega (arith, length-append line (b ∷ []))) (omega arith)
     ∙ ap (λ x. talk w x ts) (sym (onto_lines-nil line (omega arith)))
-long_byte w line b (l ∷ ls) ts h =
-    ap (λ x. talk w x ts) (onto_lines-cons line (b ∷ l) ls)
+long_byte false w line b [] ts h = refl
+long_byte last w line b (l ∷ ls) ts h =
+    ap (λ x. talk w x ts) (onto_lines-cons last line (b ∷ l) ls)
     ∙ talk_first w (line ++ b ∷ l) (line ++ l) ls ts (omega (arith, length-append line (b ∷ l))) (omega (arith, length-append line l))
-    ∙ ap (λ x. talk w x ts) (sym (onto_lines-cons line l ls))
+    ∙ ap (λ x. talk w x ts) (sym (onto_lines-cons last line l ls))
 
 cases_room : (n : ℕ) → n ≤ 257 → (n ≤ 256) ⊎ (n ≡ 257)
 cases_room n h = grind arith
 
 -- a byte goes onto a line, kept or not
-pub grown_alike : (w : Visit) (line : List ℕ) (b : ℕ) (more : List ℕ) (ts : List Told) → IsPending line → (b == 10) ≡ false → talk w (lines_of (line ++ b ∷ more)) ts ≡ talk w (lines_of (grown line b ++ more)) ts
-grown_alike w line b more ts p e =
-    elim (cases_room (length line) p.short) as (λ _. talk w (lines_of (line ++ b ∷ more)) ts ≡ talk w (lines_of (grown line b ++ more)) ts) [
-      | inl room ↦ ap (λ x. talk w (lines_of x) ts) (sym (append_assoc line (b ∷ []) more) ∙ ap (λ l. l ++ more) (sym (grown_room line b room)))
+pub grown_alike : (last : Bool) (w : Visit) (line : List ℕ) (b : ℕ) (more : List ℕ) (ts : List Told) → IsPending line → (b == 10) ≡ false → talk w (lines_by last (line ++ b ∷ more)) ts ≡ talk w (lines_by last (grown line b ++ more)) ts
+grown_alike last w line b more ts p e =
+    elim (cases_room (length line) p.short) as (λ _. talk w (lines_by last (line ++ b ∷ more)) ts ≡ talk w (lines_by last (grown line b ++ more)) ts) [
+      | inl room ↦ ap (λ x. talk w (lines_by last x) ts) (sym (append_assoc line (b ∷ []) more) ∙ ap (λ l. l ++ more) (sym (grown_room line b room)))
       | inr full ↦
-          let there : lines_of (line ++ b ∷ more) ≡ onto_lines line (onto_line b (lines_of more)) = lines_of-plain line (b ∷ more) p.plain ∙ ap (onto_lines line) (rw e) in
-          let here : lines_of (grown line b ++ more) ≡ onto_lines line (lines_of more) = ap (λ l. lines_of (l ++ more)) (grown_full line b full) ∙ lines_of-plain line more p.plain in
-          ap (λ x. talk w x ts) there ∙ long_byte w line b (lines_of more) ts full ∙ ap (λ x. talk w x ts) (sym here)
+          let there : lines_by last (line ++ b ∷ more) ≡ onto_lines last line (onto_line last b (lines_by last more)) = lines_by-plain last line (b ∷ more) p.plain ∙ ap (onto_lines last line) (rw e) in
+          let here : lines_by last (grown line b ++ more) ≡ onto_lines last line (lines_by last more) = ap (λ l. lines_by last (l ++ more)) (grown_full line b full) ∙ lines_by-plain last line more p.plain in
+          ap (λ x. talk w x ts) there ∙ long_byte last w line b (lines_by last more) ts full ∙ ap (λ x. talk w x ts) (sym here)
     ]
+
+-- ---- lines behind one that quits
+
+quit_behind : (lack quit : Bool) (v next : Visit) (text : List ℕ) (ts : List Told) (ls more : List (List ℕ)) → ((w : Visit) (us : List Told) → (talk w ls us).quits ≡ true → talk w (ls ++ more) us ≡ talk w ls us) → (cond lack (silent v false None) (said text (cond quit (silent next true (Some ts)) (talk next ls ts)))).quits ≡ true → cond lack (silent v false None) (said text (cond quit (silent next true (Some ts)) (talk next (ls ++ more) ts))) ≡ cond lack (silent v false None) (said text (cond quit (silent next true (Some ts)) (talk next ls ts)))
+quit_behind true quit v next text ts ls more f h = absurd (cc)
+quit_behind false true v next text ts ls more f h = refl
+quit_behind false false v next text ts ls more f h = ap (said text) (f next ts h)
+
+pub talk_quit : (ls more : List (List ℕ)) (v : Visit) (ts : List Told) → (talk v ls ts).quits ≡ true → talk v (ls ++ more) ts ≡ talk v ls ts
+talk_quit [] more v ts h = absurd (cc)
+talk_quit (l ∷ ls) more v ts h = quit_behind (lacks (asks l) ts) (turn v l ts).quits v (turn v l ts).next (turn v l ts).text (untold (asks l) ts) ls more (λ w us k. talk_quit ls more w us k) h

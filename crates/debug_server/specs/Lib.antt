@@ -9,6 +9,7 @@ pub mod Talks
 pub mod Tracing
 pub mod Pending
 pub mod Schedules
+pub mod Walked
 pub mod Closing
 pub mod Jobs
 pub mod Failing

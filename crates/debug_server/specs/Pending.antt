@@ -4,10 +4,10 @@ use Rattle.std.specs.List.{list_all}
 use Rattle.std.specs.Io.KnownBytes.{Appends, Consumes}
 use Rattle.debug_server.specs.Visits.{Visit}
 use Rattle.debug_server.specs.Replies.{Told}
-use Rattle.debug_server.specs.Lines.{lines_of}
+use Rattle.debug_server.specs.Lines.{lines_by, lines_of, ended_lines}
 use Rattle.debug_server.specs.Talks.{asks, told, Fits, Talk, talk, said, silent, output, Asked, AllAsked, AskedNoMore}
 use Rattle.debug_server.specs.declared.faults.ServeFault.{ServeFault}
-use Rattle.debug_server.specs.declared.faults.ServeFault.TheVariants.{Memory}
+use Rattle.debug_server.specs.declared.faults.ServeFault.TheVariants.{Read, Write, Memory, Closed}
 
 -- no newline, and no byte past the limit
 pub record IsPending (line : List ℕ) : Type 0 where
@@ -18,13 +18,13 @@ pub record IsPending (line : List ℕ) : Type 0 where
 abbrev pub grown : List ℕ → ℕ → List ℕ
 grown line b = take 257 (line ++ b ∷ [])
 
--- what is still to be said, unless a line has quit
-abbrev pub rest_of : Bool → Visit → List ℕ → List Told → Talk
-rest_of q v bytes answers = if q then silent v true (Some answers) else talk v (lines_of bytes) answers
+-- what is still to be said, unless a line has quit; the last line counts or doesn't
+abbrev pub rest_of : Bool → Bool → Visit → List ℕ → List Told → Talk
+rest_of last q v bytes answers = if q then silent v true (Some answers) else talk v (lines_by last bytes) answers
 
 -- Whatever follows them, the bytes were answered by what was written and by what is left to say.
 pub record Fed (v : Visit) (bytes : List ℕ) (answers : List Told) (written : List ℕ) (q : Bool) (v' : Visit) (line : List ℕ) : Type 0 where
-  pub law : (more : List ℕ) (others : List Told) → talk v (lines_of (bytes ++ more)) (answers ++ others) ≡ said written (rest_of q v' (line ++ more) others)
+  pub law : (last : Bool) (more : List ℕ) (others : List Told) → talk v (lines_by last (bytes ++ more)) (answers ++ others) ≡ said written (rest_of last q v' (line ++ more) others)
 
 -- Some bytes were fed, and the replies stand in the writer.
 pub record Fills (v : Visit) (bytes : List ℕ) (answers : List Told) (held held' : Option (List ℕ)) (q : Bool) (v' : Visit) (line : List ℕ) : Type 0 where
@@ -36,8 +36,15 @@ pub record Fills (v : Visit) (bytes : List ℕ) (answers : List Told) (held held
 pub record Breaks (v : Visit) (bytes : List ℕ) (answers : List Told) (held held' : Option (List ℕ)) : Type 0 where
   pub front : List ℕ
   pub appended : Appends held held' front
-  pub begins : (more : List ℕ) (others : List Told) → (rest : List ℕ) × (output v (lines_of (bytes ++ more)) (answers ++ others) ≡ front ++ rest)
-  pub asked : (more : List ℕ) → AllAsked (talk v (lines_of (bytes ++ more)) answers).left
+  pub begins : (more : List ℕ) (others : List Told) → (rest : List ℕ) × (output v (ended_lines (bytes ++ more)) (answers ++ others) ≡ front ++ rest)
+  pub asked : (more : List ℕ) → AllAsked (talk v (ended_lines (bytes ++ more)) answers).left
+
+-- a fault of replying: of writing, or of memory
+abbrev pub IsOfReplying : ServeFault → Type 0
+IsOfReplying Write = Unit {0}
+IsOfReplying Memory = Unit {0}
+IsOfReplying Read = ⊥
+IsOfReplying Closed = ⊥
 
 -- A beginning of the text was written.
 pub record WritesFront (held held' : Option (List ℕ)) (text : List ℕ) : Type 0 where
@@ -76,7 +83,7 @@ pub record BreaksBy {S : Type 0} (gives : S → Told → S → Type 0) (fails : 
   pub answers : List Told
   pub mid : S
   pub asked : Asked gives before answers mid
-  pub no_more : (mid ≡ after) ⊎ ((fault ≡ Memory) × ((more : List ℕ) → (talk v (lines_of (bytes ++ more)) answers).left ≡ None) × fails mid after)
+  pub no_more : (mid ≡ after) ⊎ ((fault ≡ Memory) × ((more : List ℕ) → (talk v (ended_lines (bytes ++ more)) answers).left ≡ None) × fails mid after)
   pub breaks : Breaks v bytes answers held held'
 
 pub record EndsBy {S : Type 0} (gives : S → Told → S → Type 0) (before after : S) (v : Visit) (line : List ℕ) (held held' : Option (List ℕ)) (q : Bool) (v' : Visit) : Type 0 where

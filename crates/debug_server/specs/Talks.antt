@@ -4,9 +4,9 @@ use Rattle.std.specs.Str.{bytes_eq}
 use Rattle.std.specs.Io.KnownBytes.{Appends, Consumes, IsAtEnd}
 use Rattle.debug_server.specs.Visits.{Visit}
 use Rattle.debug_server.specs.Replies.{Told, Reply, reply}
-use Rattle.debug_server.specs.Lines.{lines_of}
+use Rattle.debug_server.specs.Lines.{lines_of, ended_lines}
 use Rattle.debug_server.specs.declared.faults.ServeFault.{ServeFault}
-use Rattle.debug_server.specs.declared.faults.ServeFault.TheVariants.{Memory}
+use Rattle.debug_server.specs.declared.faults.ServeFault.TheVariants.{Read, Memory}
 
 -- whether the source is asked for a line
 unfoldable pub asks : List ℕ → Bool
@@ -59,10 +59,9 @@ silent v q left = record { text = []; next = v; quits = q; left = left }
 abbrev pub talk : Visit → List (List ℕ) → List Told → Talk
 talk v [] ts = silent v false (Some ts)
 talk v (l ∷ ls) ts =
+    let r : Reply = turn v l ts in
     if lacks (asks l) ts then silent v false None
-    else said (reply v l (told (asks l) ts)).text
-    (if (reply v l (told (asks l) ts)).quits then silent (reply v l (told (asks l) ts)).next true (Some (untold (asks l) ts))
-    else talk (reply v l (told (asks l) ts)).next ls (untold (asks l) ts))
+    else said r.text (if r.quits then silent r.next true (Some (untold (asks l) ts)) else talk r.next ls (untold (asks l) ts))
 
 -- the replies in a row
 abbrev pub output : Visit → List (List ℕ) → List Told → List ℕ
@@ -82,15 +81,25 @@ Unanswered (a ∷ ts) = (a ≡ None) × Unanswered ts
 abbrev pub unanswered : List (List ℕ) → List Told
 unanswered ls = map (λ l. None) ls
 
--- Some bytes were read, to the end or past a line that quits, and just the replies to them were written.
-pub record Served (v : Visit) (unread unread' held held' : Option (List ℕ)) (answers : List Told) (v' : Visit) (q : Bool) : Type 0 where
+-- What is known of a session's reader and of its writer: the bytes that one has left, and those that the other holds.
+pub record Streams : Type 0 where
+  pub unread : Option (List ℕ)
+  pub held : Option (List ℕ)
+
+abbrev pub streams : Option (List ℕ) → Option (List ℕ) → Streams
+streams unread held = record { unread = unread; held = held }
+
+-- Some bytes were read, and just the replies to their lines were written. Either one of the lines that had ended quit;
+-- or the input ended, and what stands behind the last newline is a line too.
+pub record Served (v : Visit) (before after : Streams) (answers : List Told) (v' : Visit) (q : Bool) : Type 0 where
   pub taken : List ℕ
-  pub read : Consumes unread unread' taken
-  pub written : Appends held held' (output v (lines_of taken) answers)
-  pub next : v' ≡ (talk v (lines_of taken) answers).next
-  pub quit : q ≡ (talk v (lines_of taken) answers).quits
-  pub asked : (talk v (lines_of taken) answers).left ≡ Some []
-  pub whole : (q ≡ true) ⊎ IsAtEnd unread'
+  pub read : Consumes before.unread after.unread taken
+  pub lines : List (List ℕ)
+  pub cut : ((lines ≡ ended_lines taken) × (q ≡ true)) ⊎ ((lines ≡ lines_of taken) × IsAtEnd after.unread)
+  pub written : Appends before.held after.held (output v lines answers)
+  pub next : v' ≡ (talk v lines answers).next
+  pub quit : q ≡ (talk v lines answers).quits
+  pub asked : (talk v lines answers).left ≡ Some []
 
 -- No answer is left over: each was asked for by one of the lines.
 abbrev pub AllAsked : Option (List Told) → Type 0
@@ -102,20 +111,30 @@ AllAsked (Some (a ∷ ts)) = ⊥
 abbrev pub AskedNoMore : {S : Type 0} → (S → S → Type 0) → S → S → ServeFault → Option (List Told) → Type 0
 AskedNoMore fails last after fault left = (last ≡ after) ⊎ ((fault ≡ Memory) × (left ≡ None) × fails last after)
 
--- Some bytes were read, and a beginning of the replies to them was written.
-pub record Broke (v : Visit) (unread unread' held held' : Option (List ℕ)) (answers : List Told) : Type 0 where
+-- Just the replies to the lines that had ended were written, none of which quit.
+pub record Whole (v : Visit) (taken : List ℕ) (answers : List Told) (written : List ℕ) : Type 0 where
+  pub text : written ≡ output v (ended_lines taken) answers
+  pub open_yet : (talk v (ended_lines taken) answers).quits ≡ false
+  pub asked : (talk v (ended_lines taken) answers).left ≡ Some []
+
+-- Some bytes were read, and a beginning of the replies to their lines was written: of those that had ended, or, where
+-- the input ended, of all. Where no more could be read, each line that had ended was answered.
+pub record Broke (v : Visit) (before after : Streams) (answers : List Told) (fault : ServeFault) : Type 0 where
   pub taken : List ℕ
+  pub read : Consumes before.unread after.unread taken
+  pub lines : List (List ℕ)
+  pub cut : (lines ≡ ended_lines taken) ⊎ ((lines ≡ lines_of taken) × IsAtEnd after.unread)
   pub front : List ℕ
   pub rest : List ℕ
-  pub read : Consumes unread unread' taken
-  pub begins : output v (lines_of taken) answers ≡ front ++ rest
-  pub written : Appends held held' front
-  pub asked : AllAsked (talk v (lines_of taken) answers).left
+  pub begins : output v lines answers ≡ front ++ rest
+  pub written : Appends before.held after.held front
+  pub asked : AllAsked (talk v lines answers).left
+  pub whole : fault ≡ Read → Whole v taken answers front
 
 -- The same with a source, which gave just these answers, in order, and was asked no more, or once more for want of memory.
-pub record BrokeBy {S : Type 0} (gives : S → Told → S → Type 0) (fails : S → S → Type 0) (before after : S) (fault : ServeFault) (v : Visit) (unread unread' held held' : Option (List ℕ)) : Type 0 where
+pub record BrokeBy {S : Type 0} (gives : S → Told → S → Type 0) (fails : S → S → Type 0) (s s' : S) (fault : ServeFault) (v : Visit) (before after : Streams) : Type 0 where
   pub answers : List Told
   pub last : S
-  pub given : Asked gives before answers last
-  pub broke : Broke v unread unread' held held' answers
-  pub no_more : AskedNoMore fails last after fault (talk v (lines_of broke.taken) answers).left
+  pub given : Asked gives s answers last
+  pub broke : Broke v before after answers fault
+  pub no_more : AskedNoMore fails last s' fault (talk v broke.lines answers).left

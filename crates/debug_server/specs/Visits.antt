@@ -1,10 +1,17 @@
 -- Where a session stands in its run, and what it is stopped by there.
+use Rattle.std.specs.Prelude.{◌≤◌, length}
+use Rattle.machine.specs.Runs.{start, Accepts}
 use Rattle.inverse_log.specs.Walks.{Walk}
 use Rattle.watches.specs.Watching.{Watching, nothing}
 
 pub record Visit : Type 0 where
   pub walk : Walk
   pub watching : Watching
+
+-- Its events run from the setup's start, and the position is one of theirs.
+pub record Runs (w : Walk) : Type 0 where
+  pub accepted : Accepts (start w.setup) w.events
+  pub within : w.at ≤ length w.events
 
 -- without watches and breaks
 abbrev pub unstopped : Walk → Visit

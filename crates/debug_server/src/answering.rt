@@ -2,6 +2,7 @@
 ghost use Rattle.std.specs.Prelude.{◌≡◌, ◌≤◌, length, option_map, IfOk, OnOk, OnErr};
 ghost use Rattle.inverse_log.specs.Walks.{jumped};
 ghost use Rattle.debug_server.specs.Replies.{at_text, goes_to, reply_to, reply};
+ghost use Rattle.debug_server.specs.Visits.{Runs};
 
 use crate::commands::{Command, CommandFault, parse_line};
 use crate::stops::{break_at, jump_to, stop_back, stop_on, unwatch, watch};
@@ -77,7 +78,6 @@ fn answer_to(
 }
 
 // Replies to one line, with what the source told, and says whether no later line is answered.
-#[tactic(auto, unfolding(crate::specs::Replies::reply))]
 pub(crate) fn answer(
     alloc: Global,
     visitor: &mut Visitor,
@@ -88,7 +88,10 @@ pub(crate) fn answer(
     ensures next { OnOk result (visitor.new ≡ (reply visitor.old line.now (option_map (λ es. es.now) told.entry)).next) }
     ensures quits { IfOk result (λ r. r.1 ≡ (reply visitor.old line.now (option_map (λ es. es.now) told.entry)).quits) }
     ensures err { OnErr result (visitor.new ≡ visitor.old) }
+    ensures runs { Runs visitor.old.walk }
 {
+    // What is replied is of a run.
+    let _position = visitor.position();
     let command = parse_line(alloc, visitor.walker.setup(), line)?;
     answer_to(alloc, visitor, command, told)
 }

@@ -2,8 +2,9 @@
 ghost use Rattle.std.specs.Prelude.{◌≡◌, ◌≢◌, ◌↔◌, ◌++◌, ◌∷◌, [], List, true, false, option_map, IsTrue, IfOk, IfErr, OnOk, OnErr, IsErrOf};
 ghost use Rattle.std.specs.Io.KnownBytes.{Appends, Keeps};
 ghost use Rattle.debug_server.specs.Replies.{Told, reply};
-ghost use Rattle.debug_server.specs.Talks.{asks, Asked, Served, BrokeBy};
-ghost use Rattle.debug_server.specs.Pending.{IsPending, WritesFront, Gave, FillsBy, BreaksBy, EndsBy, FrontBy};
+ghost use Rattle.debug_server.specs.Talks.{asks, Asked, streams, Served, BrokeBy};
+ghost use Rattle.debug_server.specs.Visits.{Runs};
+ghost use Rattle.debug_server.specs.Pending.{IsPending, IsOfReplying, WritesFront, Gave, FillsBy, BreaksBy, EndsBy, FrontBy};
 
 use crate::answering::answer;
 use crate::faults::ServeFault;
@@ -19,7 +20,7 @@ use std::io::{Read, Write};
 fn write_bytes<W: Write>(writer: &mut W, bytes: &[u8]) -> Result<(), ServeFault>
     ensures ok { OnOk result (Appends (W.contents writer.old) (W.contents writer.new) bytes.now) }
     ensures err { OnErr result (WritesFront (W.contents writer.old) (W.contents writer.new) bytes.now) }
-    ensures open { result ≢ Err ServeFault.Closed }
+    ensures fault { IfErr result (λ fault. fault ≡ ServeFault.Write) }
 {
     let mut at = 0;
     while at < bytes.len() {
@@ -36,7 +37,7 @@ fn write_bytes<W: Write>(writer: &mut W, bytes: &[u8]) -> Result<(), ServeFault>
 fn write_out<W: Write>(writer: &mut W, bytes: &[u8]) -> Result<(), ServeFault>
     ensures ok { OnOk result (Appends (W.contents writer.old) (W.contents writer.new) bytes.now) }
     ensures err { OnErr result (WritesFront (W.contents writer.old) (W.contents writer.new) bytes.now) }
-    ensures open { result ≢ Err ServeFault.Closed }
+    ensures fault { IfErr result (λ fault. fault ≡ ServeFault.Write) }
 {
     write_bytes(writer, bytes)?;
     match writer.flush() {
@@ -49,7 +50,7 @@ fn write_out<W: Write>(writer: &mut W, bytes: &[u8]) -> Result<(), ServeFault>
 fn ask<S: Source>(source: &mut S, line: &[u8]) -> Result<Option<Vec<Event>>, ServeFault>
     ensures ok { IfOk result (λ answer. Gave S.gives line.now source.old (option_map (λ v. v.items) answer) source.new) }
     ensures err { IfErr result (λ fault. (fault ≡ ServeFault.Memory) × (asks line.now ≡ true) × S.fails source.old source.new) }
-    ensures open { result ≢ Err ServeFault.Closed }
+    ensures fault { IfErr result IsOfReplying }
 {
     if line != b"sync".as_slice() {
         return Ok(None);
@@ -81,7 +82,7 @@ fn answer_line<W: Write>(
     ensures next { OnOk result (visitor.new ≡ (reply visitor.old line.now (option_map (λ es. es.now) told.entry)).next) }
     ensures quits { IfOk result (λ q. q ≡ (reply visitor.old line.now (option_map (λ es. es.now) told.entry)).quits) }
     ensures err { OnErr result (WritesFront (W.contents writer.old) (W.contents writer.new) (reply visitor.old line.now (option_map (λ es. es.now) told.entry)).text) }
-    ensures open { result ≢ Err ServeFault.Closed }
+    ensures fault { IfErr result IsOfReplying }
 {
     let Ok((text, quits)) = answer(alloc, visitor, line, told) else {
         return Err(ServeFault::Memory);
@@ -101,7 +102,7 @@ fn take_byte<W: Write, S: Source>(
 ) -> Result<bool, ServeFault>
     ensures ok { IfOk result (λ q. FillsBy S.gives source.old source.new visitor.old (line.old ++ byte ∷ []) (W.contents writer.old) (W.contents writer.new) q visitor.new line.new) }
     ensures err { IfErr result (λ fault. BreaksBy S.gives S.fails source.old source.new fault visitor.old (line.old ++ byte ∷ []) (W.contents writer.old) (W.contents writer.new)) }
-    ensures open { result ≢ Err ServeFault.Closed }
+    ensures fault { IfErr result IsOfReplying }
 {
     if byte != b'\n' {
         line.push(byte);
@@ -125,7 +126,7 @@ fn feed<W: Write, S: Source>(
 ) -> Result<bool, ServeFault>
     ensures ok { IfOk result (λ q. FillsBy S.gives source.old source.new visitor.old (line.old ++ bytes.now) (W.contents writer.old) (W.contents writer.new) q visitor.new line.new) }
     ensures err { IfErr result (λ fault. BreaksBy S.gives S.fails source.old source.new fault visitor.old (line.old ++ bytes.now) (W.contents writer.old) (W.contents writer.new)) }
-    ensures open { result ≢ Err ServeFault.Closed }
+    ensures fault { IfErr result IsOfReplying }
 {
     for byte in bytes {
         if take_byte(alloc, visitor, line, *byte, writer, source)? {
@@ -146,7 +147,7 @@ fn finish<W: Write, S: Source>(
     requires { IsPending line.now }
     ensures ok { IfOk result (λ q. EndsBy S.gives source.old source.new visitor.old line.now (W.contents writer.old) (W.contents writer.new) q visitor.new) }
     ensures err { IfErr result (λ fault. FrontBy S.gives S.fails source.old source.new fault visitor.old line.now (W.contents writer.old) (W.contents writer.new)) }
-    ensures open { result ≢ Err ServeFault.Closed }
+    ensures fault { IfErr result IsOfReplying }
 {
     if line.len() == 0 {
         return Ok(false);
@@ -165,14 +166,17 @@ fn converse<R: Read, W: Write, S: Source>(
     source: &mut S,
 ) -> Result<bool, ServeFault>
     ensures ok { IfOk result (λ q. (answers : List Told) × Asked S.gives source.old answers source.new
-        × Served visitor.old (R.remaining reader.old) (R.remaining reader.new) (W.contents writer.old) (W.contents writer.new) answers visitor.new q) }
+        × Served visitor.old (streams (R.remaining reader.old) (W.contents writer.old))
+        (streams (R.remaining reader.new) (W.contents writer.new)) answers visitor.new q) }
     ensures err { IfErr result (λ fault. BrokeBy S.gives S.fails source.old source.new fault visitor.old
-        (R.remaining reader.old) (R.remaining reader.new) (W.contents writer.old) (W.contents writer.new)) }
+        (streams (R.remaining reader.old) (W.contents writer.old)) (streams (R.remaining reader.new) (W.contents writer.new))) }
     ensures open { result ≢ Err ServeFault.Closed }
 {
     let mut line = Line::new();
     let mut buffer = [0u8; 512];
     'reads: for _ in 0..u64::MAX {
+        // No newline stands in it: each line that ended was answered.
+        let _unended = line.as_slice();
         let Ok(count) = reader.read(&mut buffer) else {
             return Err(ServeFault::Read);
         };
@@ -183,6 +187,7 @@ fn converse<R: Read, W: Write, S: Source>(
             return Ok(true);
         }
     }
+    let _unended = line.as_slice();
     Err(ServeFault::Read)
 }
 
@@ -203,19 +208,26 @@ pub fn serve<R: Read, W: Write, S: Source>(
 
     // What is written is the output of what was read, to the end or past a line that quits.
     ensures ok { OnOk result ((answers : List Told) × Asked S.gives source.old answers source.new
-        × Served session.old.visit (R.remaining reader.old) (R.remaining reader.new)
-        (W.contents writer.old) (W.contents writer.new) answers session.new.visit session.new.is_closed) }
+        × Served session.old.visit (streams (R.remaining reader.old) (W.contents writer.old))
+        (streams (R.remaining reader.new) (W.contents writer.new)) answers session.new.visit session.new.is_closed) }
 
     // At an error it is a beginning of that, and the source was asked for just what was answered, and once
     // more for a line that got no answer for want of memory.
     ensures err { OnErr result (session.new.is_closed ≡ true) }
     ensures begins { session.old.is_closed ≡ false → IfErr result (λ fault. BrokeBy S.gives S.fails source.old source.new fault session.old.visit
-        (R.remaining reader.old) (R.remaining reader.new) (W.contents writer.old) (W.contents writer.new)) }
+        (streams (R.remaining reader.old) (W.contents writer.old)) (streams (R.remaining reader.new) (W.contents writer.new))) }
+
+    // The session's events run from the setup's start, and the position is one of theirs.
+    ensures ran { Runs session.old.visit.walk }
+    ensures runs { Runs session.new.visit.walk }
 {
+    let _before = session.visitor.position();
     if session.is_closed {
         return Err(ServeFault::Closed);
     }
-    match converse(session.alloc, &mut session.visitor, reader, writer, source) {
+    let served = converse(session.alloc, &mut session.visitor, reader, writer, source);
+    let _after = session.visitor.position();
+    match served {
         Ok(quits) => {
             session.is_closed = quits;
             Ok(())

@@ -5,6 +5,7 @@ ghost use Rattle.scenario.specs.declared.event.Refusal.{Refusal as Denial};
 ghost use Rattle.scenario.specs.Setups.{setup_refusal};
 ghost use Rattle.debug_server.specs.Replies.{reply};
 ghost use Rattle.debug_server.specs.Schedules.{visit_over, IsOfSchedule, fault_of};
+ghost use Rattle.debug_server.specs.Visits.{Runs};
 
 use crate::answering;
 use crate::faults::RunFault;
@@ -62,8 +63,12 @@ impl Session {
         ensures text { IfOk result (λ text. text.items ≡ (reply self.old.visit line.now (option_map (λ es. es.now) answer.entry)).text) }
         ensures next { OnOk result (self.new ≡ record { visit = (reply self.old.visit line.now (option_map (λ es. es.now) answer.entry)).next; is_closed = self.old.is_closed }) }
         ensures err { OnErr result (self.new ≡ self.old) }
+        // The events run from the setup's start, and the position is one of theirs.
+        ensures ran { Runs self.old.visit.walk }
+        ensures runs { Runs self.new.visit.walk }
     {
         let (text, _) = answering::answer(self.alloc, &mut self.visitor, line, answer)?;
+        let _position = self.visitor.position();
         Ok(text)
     }
 }
