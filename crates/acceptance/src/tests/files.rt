@@ -1,13 +1,12 @@
 //! A file that is written while one call fails.
 
-use crate::failing::{Calls, CountedFiles};
-use crate::files::write_file;
-use debug_server::Fault;
+use crate::tests::failing::{Calls, CountedFiles};
 use std::io::ErrorKind;
 use std::process::Abort;
 use std::rt::{Env, Files};
 use std::test::Fail;
 use std::{env, fs, io};
+use whole_files::{FileFault, write_file};
 
 /// How many calls a file of nine bytes is written by: one looks at its place, one makes it, three write it, one
 /// brings it to the device, and one renames it.
@@ -41,7 +40,7 @@ fn write_and_fail(
     rt: &(impl Files + AllocGlobal),
     path: &str,
     number: u32,
-) -> (bool, Result<(), Fault>) {
+) -> (bool, Result<(), FileFault>) {
     let calls = Calls::new(number);
     let files = CountedFiles {
         files: rt,
@@ -77,7 +76,7 @@ fn check_faults(
     for number in 1..=CALLS {
         let (failed, written) = write_and_fail(rt, out.as_str(), number);
         assert!(rt;
-            failed && matches!(written, Err(Fault::File)),
+            failed && matches!(written, Err(FileFault::File)),
             "call {number}"
         );
         check_folder(rt, folder, names, bytes)?;
@@ -87,20 +86,18 @@ fn check_faults(
     check_folder(rt, folder, "out/", b"new bytes")
 }
 
-#[test]
-fn the_old_file_stands_at_each_fault(rt: HostRuntime) -> Result<(), Fail> {
-    let folder = new_folder(&rt)?;
+fn check_old_file(rt: &(impl Abort + Files + AllocGlobal), folder: &str) -> io::Result<()> {
     let out = format!(in rt.alloc(); "{folder}/out")?;
-    fs::write(&rt, out.as_str(), b"old bytes of a file")?;
-    check_faults(&rt, folder.as_str(), "out/", b"old bytes of a file")?;
-    fs::remove_dir_all(&rt, folder.as_str())?;
-    Ok(())
+    fs::write(rt, out.as_str(), b"old bytes of a file")?;
+    check_faults(rt, folder, "out/", b"old bytes of a file")
 }
 
+// Nothing is left where nothing stood, and an old file stands.
 #[test]
-fn nothing_is_left_at_each_fault(rt: HostRuntime) -> Result<(), Fail> {
+fn files_stand_at_each_fault(rt: HostRuntime) -> Result<(), Fail> {
     let folder = new_folder(&rt)?;
     check_faults(&rt, folder.as_str(), "", b"")?;
+    check_old_file(&rt, folder.as_str())?;
     fs::remove_dir_all(&rt, folder.as_str())?;
     Ok(())
 }

@@ -1,9 +1,11 @@
 //! Files that are read and written whole.
-ghost use Rattle.std.specs.Prelude.{◌≡◌};
-ghost use Rattle.std.specs.IoError.{error_kind};
-ghost use Rattle.uringwalk.specs.Files.{told_as};
+#![tactic(auto)]
 
-use debug_server::{Fault, RunFault};
+mod fault;
+
+pub use fault::FileFault;
+
+use fault::fault_of;
 use std::alloc::Global;
 use std::fs::{File, OpenFile};
 use std::io::{ErrorKind, Read, Write};
@@ -14,21 +16,11 @@ use std::{fs, io};
 /// How many names beside a file are tried.
 const NAMES: u32 = 100;
 
-/// What a file that can't be read or written is told as.
-pub fn fault_of(error: &io::Error) -> Fault
-    ensures { result ≡ told_as (error_kind error.now) }
-{
-    match error.kind() {
-        ErrorKind::OutOfMemory => Fault::Run(RunFault::Memory),
-        _ => Fault::File,
-    }
-}
-
 // Where a path leads to, through links; nothing where that can't be told, or nothing stands there.
 fn real_path(
     rt: &(impl Files + AllocGlobal),
     path: &str,
-) -> Result<Option<PathBuf<Global>>, Fault> {
+) -> Result<Option<PathBuf<Global>>, FileFault> {
     match fs::canonicalize(rt, path) {
         Ok(place) => Ok(Some(place)),
         Err(error) if error.kind() == ErrorKind::OutOfMemory => Err(fault_of(&error)),
@@ -42,7 +34,7 @@ pub fn lead_to_one_file(
     rt: &(impl Files + AllocGlobal),
     one: &str,
     other: &str,
-) -> Result<bool, Fault> {
+) -> Result<bool, FileFault> {
     let one = real_path(rt, one)?;
     let other = real_path(rt, other)?;
     match (&one, &other) {
@@ -59,7 +51,7 @@ fn read_up_to(rt: &(impl Files + AllocGlobal), path: &str, most: u64) -> io::Res
 }
 
 /// The bytes of a file, up to a number of them: what lies behind is not read.
-pub fn read_file(rt: &(impl Files + AllocGlobal), path: &str, most: u64) -> Result<Vec<u8>, Fault> {
+pub fn read_file(rt: &(impl Files + AllocGlobal), path: &str, most: u64) -> Result<Vec<u8>, FileFault> {
     match read_up_to(rt, path, most) {
         Ok(bytes) => Ok(bytes),
         Err(error) => Err(fault_of(&error)),
@@ -123,7 +115,7 @@ fn replace(rt: &(impl Files + AllocGlobal), path: &str, bytes: &[u8]) -> io::Res
 
 /// Writes a file whole: it is made beside its place, and renamed. At a fault the old one stands, and
 /// nothing else is left. A device, a pipe or a folder that stands there is a fault.
-pub fn write_file(rt: &(impl Files + AllocGlobal), path: &str, bytes: &[u8]) -> Result<(), Fault> {
+pub fn write_file(rt: &(impl Files + AllocGlobal), path: &str, bytes: &[u8]) -> Result<(), FileFault> {
     match replace(rt, path, bytes) {
         Ok(()) => Ok(()),
         Err(error) => Err(fault_of(&error)),
