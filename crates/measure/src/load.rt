@@ -43,7 +43,7 @@ const COMMON: u64 = 7;
 
 type Filled = Result<(), AllocError>;
 
-/// A run as a plan asks for it.
+/// Adds what a plan asks for.
 pub fn fill(draft: &mut Draft, Plan { word, size }: Plan) -> Result<(), AllocError> {
     let nop = entry(NOP, 0, 0);
     let cancel_all = asking(entry(ASYNC_CANCEL, 0, 0));
