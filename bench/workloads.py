@@ -254,11 +254,11 @@ def stops(moments, count, number_of_rows):
     return lines, wanted
 
 
-# What a run is called, what makes it, and what the number of --events counts.
+# What a run is called, and what makes it. The number of --events is that of its events, of `rows` that of its rows.
 WORKLOADS = {
     "nops": ("NOP cycles", nops),
     "chains": ("chains of 64, cut in the middle", chains),
-    "rows": ("as many rows as events are asked for, and more events", rows),
+    "rows": ("rows, one in sixty of which ends", rows),
     "transfers": ("4,096-byte transfers, file and pipe", transfers),
     "mixed": ("mixed: files, pipes, links, guards, timeouts, cancels", mixed),
 }

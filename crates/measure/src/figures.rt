@@ -1,5 +1,6 @@
 //! What records name and keep.
 
+use inverse_log::Walker;
 use machine::State;
 use places::value::is_same;
 use places::{Record, Value};
@@ -20,17 +21,16 @@ pub struct Figures {
 }
 
 impl Figures {
-    /// What records name and keep, beside a state.
-    pub fn of(records: &[Record], state: &State) -> Figures {
+    /// What a run's records from a moment on name and keep, beside its state.
+    pub fn of(walker: &Walker, from: usize) -> Figures {
         let mut figures = Figures::default();
-        for record in records {
-            figures.add(record, state);
+        for record in walker.records().iter().skip(from) {
+            figures.add(record, walker.state());
         }
         figures
     }
 
-    /// Adds what a record names and keeps.
-    pub fn add(&mut self, record: &Record, state: &State) {
+    fn add(&mut self, record: &Record, state: &State) {
         self.kept = self.kept.saturating_add(record.kept_bytes());
         let mut changes = record.changes();
         for _change in 0..MOST_CHANGES {

@@ -38,12 +38,12 @@ const FAR: u64 = 1048576;
 /// How many rows end, one after the other, as others stand beside them.
 const ENDED: u32 = 100;
 
-/// The user_data of all rows, but of the one that a cancel of many looks for.
-const COMMON: u64 = 7;
+/// The user_data of the one row that a cancel looks for; that of the others is 0.
+const WANTED: u64 = 9;
 
 type Filled = Result<(), AllocError>;
 
-/// A run as a plan asks for it.
+/// Adds what a plan asks for.
 pub fn fill(draft: &mut Draft, Plan { word, size }: Plan) -> Result<(), AllocError> {
     let nop = entry(NOP, 0, 0);
     let cancel_all = asking(entry(ASYNC_CANCEL, 0, 0));
@@ -123,9 +123,10 @@ fn polls(draft: &mut Draft, rows: u32) -> Filled {
 }
 
 fn cancels(draft: &mut Draft, rows: u32) -> Filled {
-    let mut wanted = entry(NOP, 0, 0);
-    wanted.user_data = 0;
-    let entries = [entry(ASYNC_CANCEL, 0, 0), entry(TIMEOUT, 1, 0), wanted];
+    let (mut cancel, mut wanted) = (entry(ASYNC_CANCEL, 0, 0), entry(NOP, 0, 0));
+    cancel.addr = WANTED;
+    wanted.user_data = WANTED;
+    let entries = [cancel, entry(TIMEOUT, 1, 0), wanted];
     beside(draft, &entries, ENDED, rows.saturating_sub(1), &[2])
 }
 
@@ -212,7 +213,6 @@ fn entry(opcode: u8, len: u32, off: u64) -> Sqe {
     entry.fd = 3;
     entry.len = len;
     entry.off = off;
-    entry.user_data = COMMON;
     entry
 }
 
@@ -221,9 +221,7 @@ fn flagged(mut entry: Sqe, flags: u8) -> Sqe {
     entry
 }
 
-// It asks for what is common, or for bytes to read.
 fn asking(mut entry: Sqe) -> Sqe {
-    entry.addr = COMMON;
     entry.operation_flags = ASKED;
     entry
 }

@@ -23,8 +23,8 @@ use std::{env, io};
 /// How many jumps there are.
 const JUMPS: usize = 1000;
 
-/// Knuth's multiplier for numbers of 64 bits that look random.
-const MULTIPLIER: u64 = 6364136223846793005;
+/// Knuth's multiplier and increment for numbers of 64 bits that look random.
+const KNUTH: (u64, u64) = (6364136223846793005, 1442695040888963407);
 
 // So many events in so many microseconds, on standard error.
 fn report(rt: &impl Eprint, what: &str, events: usize, micros: u128) -> io::Result<()> {
@@ -44,7 +44,7 @@ fn jump(rt: &(impl Eprint + Clock), walker: &mut Walker) -> Result<(), Fault> {
     let moments = (walker.len() as u64).saturating_add(1);
     let (mut seed, mut micros) = (0u64, 0u128);
     for _jump in 0..JUMPS {
-        seed = seed.wrapping_mul(MULTIPLIER).wrapping_add(1);
+        seed = seed.wrapping_mul(KNUTH.0).wrapping_add(KNUTH.1);
         let moment = ((seed >> 32) % moments) as usize;
         micros = micros.saturating_add(timed(rt, walker, moment)?);
     }
@@ -88,53 +88,50 @@ fn walk(
     print_figures(rt, walker)
 }
 
-// What the records name, the last of them also once it is undone.
+// What the records name and keep; of the last one, how much of it differs behind its step, and how much once that
+// is undone; and how many requests ended.
 fn print_figures(rt: &(impl Print + Eprint), walker: &mut Walker) -> Result<(), Fault> {
     let end = walker.len();
+    let from = end.saturating_sub(1);
     walker.goto(end)?;
     walker.back();
-    let undone = of_last(walker);
+    let undone = Figures::of(walker, from).changed;
     walker.goto(end)?;
-    let last = of_last(walker);
-    let all = Figures::of(walker.records(), walker.state());
-    eprintln!(rt;
-        "records keep {} bytes, {} an event",
-        all.kept,
-        all.kept / end.max(1)
-    )?;
-    println!(rt; "events {end}, walked {}", walker.walked())?;
-    println!(rt; "named {} places, {} of them bytes", all.places, all.bytes)?;
-    println!(rt;
-        "the last step named {}, and changed {}",
-        last.places, last.changed
-    )?;
-    println!(rt; "differ once undone {}", undone.changed)?;
+    print_sums(rt, walker)?;
+    let last = Figures::of(walker, from);
+    let (named, changed) = (last.places, last.changed);
+    println!(rt; "the last step named {named}, and changed {changed}")?;
+    println!(rt; "differ once undone {undone}")?;
     if let Some(Value::Number(counted)) = walker.state().value(Place::Counted) {
         println!(rt; "counted {counted}")?;
     }
     Ok(())
 }
 
-fn of_last(walker: &Walker) -> Figures {
-    let mut figures = Figures::default();
-    if let [.., last] = walker.records() {
-        figures.add(last, walker.state());
-    }
-    figures
+fn print_sums(rt: &(impl Print + Eprint), walker: &Walker) -> io::Result<()> {
+    let (end, all) = (walker.len(), Figures::of(walker, 0));
+    let each = all.kept / end.max(1);
+    eprintln!(rt; "records keep {} bytes, {each} an event", all.kept)?;
+    println!(rt; "events {end}, walked {}", walker.walked())?;
+    println!(rt; "named {} places, {} of them bytes", all.places, all.bytes)
 }
 
 // Where the run jumps, a state is copied at each 1,024th moment; else only the start is, and no way back is too
 // long for single steps: so each way is walked event by event.
-fn measure(rt: &(impl Print + Eprint + Clock + AllocGlobal), plan: Plan) -> Result<(), Fault> {
-    let mut draft = Draft::new(rt.alloc());
-    fill(&mut draft, plan)?;
+fn start(rt: &(impl Print + Eprint + Clock), plan: Plan, draft: &mut Draft) -> Result<(), Fault> {
+    fill(draft, plan)?;
     draft.end()?;
     let (every, window) = match plan.rounds() {
         None => (1024, 256),
         Some(_) => (u32::MAX, u32::MAX),
     };
-    let mut walker = Walker::with(rt.alloc(), &draft.setup, every, window)?;
+    let mut walker = Walker::with(draft.alloc, &draft.setup, every, window)?;
     walk(rt, &mut walker, plan, &draft.events)
+}
+
+fn measure(rt: &(impl Print + Eprint + Clock + AllocGlobal), plan: Plan) -> Result<(), Fault> {
+    let mut draft = Draft::new(rt.alloc());
+    start(rt, plan, &mut draft)
 }
 
 fn main(rt: HostRuntime) -> io::Result<ExitCode> {
