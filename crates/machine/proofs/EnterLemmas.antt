@@ -27,7 +27,6 @@ use Rattle.places.specs.declared.value.Stage.TheVariants.{Ready}
 use Rattle.machine.specs.Threads.{ThreadState}
 use Rattle.machine.specs.Whole.{AllGuardsStand, WellFormed}
 use Rattle.machine.specs.declared.whole.Machine.{Machine}
-use Rattle.scenario.specs.declared.event.Refusal.{Refusal}
 use Rattle.scenario.specs.declared.event.Refusal.TheVariants.{WrongPhase, NotEligible, NotDue}
 use Rattle.machine.proofs.IssuingRows.{started_at_once}
 use Rattle.machine.proofs.TakingWords.{lt-ltb}

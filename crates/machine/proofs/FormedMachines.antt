@@ -1,7 +1,7 @@
 -- What each change of the machine keeps.
 use Rattle.std.proofs.Common.{◌≡◌, ℕ, ℤ, pos, negsuc, Bool, true, false, cond, refl, sym, ◌∙◌, ap, subst, [], ◌∷◌, length, drop, ◌+◌, ◌*◌, ◌%◌, ◌<◌, ◌≤◌, ◌^◌, length-append, length-set, arith}
 use Rattle.std.proofs.lemmas.List.{length-drop}
-use Rattle.std.specs.Prelude.{List, Option, Some, None, is_some, option_map, nat_lt, nat_le, slice_get, slice_set, not, ◌==◌, ◌&&◌, ◌||◌, if◌then◌else◌}
+use Rattle.std.specs.Prelude.{List, Option, Some, None, option_map, nat_lt, nat_le, slice_get, slice_set, not, ◌==◌, ◌&&◌, ◌||◌, if◌then◌else◌}
 use Rattle.std.specs.Option.{option_map_or}
 use Rattle.std.proofs.lemmas.Bool.{eqb-true, lt-leb}
 use Rattle.std.proofs.lemmas.Bool.Decides.{nat_tests}
@@ -21,7 +21,7 @@ use Rattle.ring_words.proofs.Laws.{formed_pushed, formed_entry, formed_flag, for
 use Rattle.ring_words.proofs.Order.{waiting_less, waiting_more}
 use Rattle.ring_words.proofs.Sizes.{size_most}
 use Rattle.links_drains.specs.Counts.{is_met}
-use Rattle.links_drains.specs.Links.{has_flag, is_guard}
+use Rattle.links_drains.specs.Links.{is_guard}
 use Rattle.links_drains.specs.Phases.{is_ended, is_queued, counts, counted_of}
 use Rattle.links_drains.proofs.Counting.{counted-ended, counted-unfinished, ended-ended, ended-unfinished}
 use Rattle.links_drains.specs.Phases.{ended_of}

@@ -1,19 +1,18 @@
 -- A submission of nothing changes nothing.
-use Rattle.std.proofs.Common.{◌≡◌, ℕ, ℤ, zero, suc, pos, Bool, true, false, refl, sym, ◌∙◌, ap, List, [], ◌∷◌, ◌++◌, length, ◌+◌, ◌-◌, ◌%◌, ◌^◌, ◌<◌, arith}
+use Rattle.std.proofs.Common.{◌≡◌, ℕ, ℤ, pos, Bool, true, false, refl, sym, ◌∙◌, ap, List, [], ◌∷◌, ◌++◌, length, ◌+◌, ◌-◌, ◌%◌, ◌^◌, arith}
 use Rattle.std.proofs.lemmas.List.{append-nil}
 use Rattle.std.specs.Prelude.{Option, Some, None, slice_get, ◌&&◌, if◌then◌else◌}
 use Rattle.std.specs.Option.{option_map_or}
 use Rattle.entries.specs.declared.entry.Sqe.{Sqe}
 use Rattle.entries.specs.declared.row.Row.{Row}
-use Rattle.links_drains.specs.Batches.{direct_of, rows_of, taken_of}
-use Rattle.links_drains.specs.Endings.{Ending, ecanceled, endings, given, or_else, result_in}
+use Rattle.links_drains.specs.Batches.{direct_of, rows_of}
+use Rattle.links_drains.specs.Endings.{ecanceled, endings, given, or_else, result_in}
 use Rattle.links_drains.specs.Links.{is_guard}
 use Rattle.links_drains.specs.Phases.{is_unfinished}
-use Rattle.links_drains.proofs.Listing.{result_of}
 use Rattle.model_files.specs.Worlds.{WorldState}
 use Rattle.ring_words.specs.Rings.{SubWords}
 use Rattle.sqpoll.specs.declared.poller.Poller.{Poller}
-use Rattle.timeouts_cancel.specs.Falls.{fall_of, first_listed, guards_listed, is_met, with_guards, with_met, with_severed}
+use Rattle.timeouts_cancel.specs.Falls.{fall_of, guards_listed, is_met, with_guards, with_met, with_severed}
 use Rattle.timeouts_cancel.proofs.Listed.{upto_all}
 use Rattle.machine.specs.InTurn.{ended_in_turn}
 use Rattle.machine.specs.Submission.{taken_entries}
