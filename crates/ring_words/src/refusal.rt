@@ -9,4 +9,5 @@ pub enum RingRefusal {
 }
 
 const _: () = prove!(RingRefusal::Size as u32 == 1);
+
 const _: () = prove!(RingRefusal::Memory as u32 == 2);

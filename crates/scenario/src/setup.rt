@@ -61,7 +61,9 @@ pub enum SetupRefusal {
 }
 
 const _: () = prove!(SetupRefusal::RingSize as u32 == 1);
+
 const _: () = prove!(SetupRefusal::Limit as u32 == 2);
+
 const _: () = prove!(SetupRefusal::Memory as u32 == 3);
 
 impl Setup {

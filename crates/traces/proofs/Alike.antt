@@ -50,11 +50,11 @@ one_at bytes k j f g e clean d sound = elim (cases_lt k j) [
   | inr more ↦ elim (cases_lt j k) [
     | inl less ↦ absurd (let n = sound j less in cc)
     | inr same ↦
-      let at : k ≡ j = omega arith in
-      let here : event_fault (drop (16 * k) bytes) ≡ Some g = ap (λ (i : ℕ). event_fault (drop (16 * i) bytes)) at ∙ d in
-      cc
-    ]
+        let at : k ≡ j = omega arith in
+        let here : event_fault (drop (16 * k) bytes) ≡ Some g = ap (λ (i : ℕ). event_fault (drop (16 * i) bytes)) at ∙ d in
+        cc
   ]
+]
 
 one_of_events : (count : ℕ) (bytes : List ℕ) (f g : TraceFault) → OfEvents count bytes f → OfEvents count bytes g → f ≡ g
 one_of_events count bytes f g (inl a) (inl b) = a.0 ∙ sym b.0
