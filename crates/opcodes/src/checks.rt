@@ -132,6 +132,7 @@ mod tests {
 
     // What the first entry of a chain is tested to.
     fn tested_first(world: &World, entry: &Sqe) -> Result<Op, i32>
+        requires { length world.now.memory ≡ 65536 }
     {
         check(
             entry,
@@ -192,6 +193,7 @@ mod tests {
 
     // A LINK_TIMEOUT behind an entry of an opcode.
     fn tested_guard(world: &World, behind: Option<u8>, off: u64) -> Result<Op, i32>
+        requires { length world.now.memory ≡ 65536 }
     {
         let guard = Sqe {
             len: 1,
@@ -214,6 +216,7 @@ mod tests {
 
     // The test of a TIMEOUT with its time at an address, and the time.
     fn timeout(world: &World, addr: u64) -> (Result<Op, i32>, Option<u128>)
+        requires { length world.now.memory ≡ 65536 }
     {
         let entry = Sqe {
             addr,

@@ -1,5 +1,5 @@
 //! What transfers of pipes and eventfds come to (pipe(7), eventfd(2)).
-ghost use Rattle.std.specs.Prelude.{◌≡◌, ◌+◌, ◌≤◌, length, min, pos};
+ghost use Rattle.std.specs.Prelude.{◌≡◌, ◌+◌, ◌≤◌, min, pos};
 ghost use Rattle.model_files.specs.Worlds.{number_at};
 ghost use Rattle.opcodes.specs.Outcomes.{pipe_read, pipe_written, waits_for_room, event_read, event_written};
 
