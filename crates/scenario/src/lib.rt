@@ -8,8 +8,6 @@ pub mod names;
 mod numbered;
 mod owned;
 pub mod setup;
-#[cfg(test)]
-mod tests;
 
 pub use event::{Event, Refusal};
 pub use holdings::{is_descriptor, is_name};
