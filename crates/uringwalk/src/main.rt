@@ -1,5 +1,6 @@
 //! The program: one job, over the libraries.
 #![tactic(auto)]
+
 ghost use Rattle.std.specs.Prelude.{◌≡◌};
 ghost use Rattle.uringwalk.specs.Files.{told_as};
 

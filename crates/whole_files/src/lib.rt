@@ -4,7 +4,6 @@
 mod fault;
 
 pub use fault::FileFault;
-
 use fault::fault_of;
 use std::alloc::Global;
 use std::fs::{File, OpenFile};
@@ -51,7 +50,11 @@ fn read_up_to(rt: &(impl Files + AllocGlobal), path: &str, most: u64) -> io::Res
 }
 
 /// The bytes of a file, up to a number of them: what lies behind is not read.
-pub fn read_file(rt: &(impl Files + AllocGlobal), path: &str, most: u64) -> Result<Vec<u8>, FileFault> {
+pub fn read_file(
+    rt: &(impl Files + AllocGlobal),
+    path: &str,
+    most: u64,
+) -> Result<Vec<u8>, FileFault> {
     match read_up_to(rt, path, most) {
         Ok(bytes) => Ok(bytes),
         Err(error) => Err(fault_of(&error)),
@@ -115,7 +118,11 @@ fn replace(rt: &(impl Files + AllocGlobal), path: &str, bytes: &[u8]) -> io::Res
 
 /// Writes a file whole: it is made beside its place, and renamed. At a fault the old one stands, and
 /// nothing else is left. A device, a pipe or a folder that stands there is a fault.
-pub fn write_file(rt: &(impl Files + AllocGlobal), path: &str, bytes: &[u8]) -> Result<(), FileFault> {
+pub fn write_file(
+    rt: &(impl Files + AllocGlobal),
+    path: &str,
+    bytes: &[u8],
+) -> Result<(), FileFault> {
     match replace(rt, path, bytes) {
         Ok(()) => Ok(()),
         Err(error) => Err(fault_of(&error)),

@@ -22,10 +22,22 @@ const LIST: Path = Path {
 /// Faults of runs, and the line of each.
 const LINES: [(RunFault, &str); 15] = [
     (RunFault::Script(ScriptFault::NotJson), "fault script 1"),
-    (RunFault::Script(ScriptFault::Shape(ITEM)), "fault script 2 threads 3 0"),
-    (RunFault::Script(ScriptFault::Range(ITEM)), "fault script 3 threads 3 0"),
-    (RunFault::Script(ScriptFault::Limit(LIST)), "fault script 4 schedule"),
-    (RunFault::Schedule(12, Refusal::BadChoice), "fault schedule 12 11"),
+    (
+        RunFault::Script(ScriptFault::Shape(ITEM)),
+        "fault script 2 threads 3 0",
+    ),
+    (
+        RunFault::Script(ScriptFault::Range(ITEM)),
+        "fault script 3 threads 3 0",
+    ),
+    (
+        RunFault::Script(ScriptFault::Limit(LIST)),
+        "fault script 4 schedule",
+    ),
+    (
+        RunFault::Schedule(12, Refusal::BadChoice),
+        "fault schedule 12 11",
+    ),
     (RunFault::Net, "fault net"),
     (RunFault::Serve(ServeFault::Read), "fault session 1"),
     (RunFault::Serve(ServeFault::Write), "fault session 2"),
