@@ -4,6 +4,7 @@ pub mod Visits
 pub mod Syncs
 pub mod Replies
 pub mod Refusing
+pub mod Quitting
 pub mod Lines
 pub mod Talks
 pub mod Tracing

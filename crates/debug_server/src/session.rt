@@ -3,8 +3,10 @@ ghost use Rattle.std.specs.Prelude.{◌≡◌, ◌≤◌, ℕ, length, false, op
 ghost use Rattle.machine.specs.Runs.{start, Accepts, IsRefused};
 ghost use Rattle.scenario.specs.declared.event.Refusal.{Refusal as Denial};
 ghost use Rattle.scenario.specs.Setups.{setup_refusal};
+ghost use Rattle.scenario.specs.declared.setup.Setup.{Setup};
+ghost use Rattle.inverse_log.specs.Walks.{ending, fresh, jumped, extended};
 ghost use Rattle.debug_server.specs.Replies.{reply};
-ghost use Rattle.debug_server.specs.Schedules.{visit_over, IsOfSchedule, fault_of};
+ghost use Rattle.debug_server.specs.Schedules.{visit_over, StopsBy, IsOfSchedule, fault_of};
 ghost use Rattle.debug_server.specs.Visits.{Runs};
 
 use crate::answering;
@@ -95,16 +97,30 @@ fn session_of(alloc: Global, setup: &Setup, events: &[Event]) -> Result<Session,
     let Ok(mut walker) = Walker::new(alloc, setup) else {
         return Err(RunFault::Memory);
     };
+    match run_through(&mut walker, events) {
+        Ok(()) => Ok(Session {
+            alloc,
+            visitor: Visitor {
+                walker,
+                watches: Watches::new(alloc),
+            },
+            is_closed: false,
+        }),
+        Err(fault) => Err(fault),
+    }
+}
+
+// Adds some events to a walk, and goes so many on.
+fn run_through(walker: &mut Walker, events: &[Event]) -> Result<(), RunFault>
+    ensures ok { OnOk result (walker.new ≡ jumped (extended walker.old events.now) (length events.now)) }
+    ensures accepts { OnOk result (Accepts (ending walker.old) events.now) }
+    ensures stops { IfErr result (λ e. (setup : Setup) → walker.old ≡ fresh setup → StopsBy setup events.now e) }
+{
     if let Err(refusal) = walker.extend(events) {
         return Err(fault_of(refusal));
     }
     if walker.goto(events.len()).is_err() {
         return Err(RunFault::Memory);
     }
-    let watches = Watches::new(alloc);
-    Ok(Session {
-        alloc,
-        visitor: Visitor { walker, watches },
-        is_closed: false,
-    })
+    Ok(())
 }

@@ -10,7 +10,8 @@ ghost use Rattle.traces.specs.Faults.{IsFault};
 ghost use Rattle.traces.specs.Setups.{plain, IsTrace2};
 ghost use Rattle.traces.specs.Spelling.{most_events, has_transfer, IsTrace};
 ghost use Rattle.traces.specs.declared.fault.TraceFault.{TraceFault as Misspelt};
-ghost use Rattle.debug_server.specs.Tracing.{IsSpelling, IsTraceOf, IsOfTracing, IsOfMigration};
+ghost use Rattle.debug_server.specs.Tracing.{IsSpelling, IsTraceOf, IsOfTracing, IsOfMigration, IsOfTraces};
+ghost use Rattle.debug_server.specs.Schedules.{IsOfSchedule};
 
 use crate::faults::RunFault;
 use crate::running::run_schedule;
@@ -36,8 +37,17 @@ pub fn trace_script(alloc: Global, text: &[u8], form: Form) -> Result<Traced, Ru
     ensures other { IfErr result IsOfTracing }
 {
     let script = script_of(alloc, text)?;
-    run_schedule(alloc, &script)?;
-    match spelled(alloc, &script, form) {
+    Ok(trace_of(alloc, &script, form)?)
+}
+
+// Runs a script's schedule, and writes the trace of it in a form.
+fn trace_of(alloc: Global, script: &Script, form: Form) -> Result<Traced, RunFault>
+    ensures ok { IfOk result (λ t. Accepts (start script.now.setup) script.now.schedule × IsTraceOf form script.now t) }
+    ensures schedule { IfErr result (λ e. (i : ℕ) → (n : Denial) → e ≡ RunFault.Schedule i n → IsRefused script.now.setup script.now.schedule i n) }
+    ensures other { IfErr result IsOfSchedule }
+{
+    run_schedule(alloc, script)?;
+    match spelled(alloc, script, form) {
         Ok(bytes) => Ok(Traced {
             events: script.schedule().len() as u32,
             bytes,
@@ -56,12 +66,22 @@ pub fn migrate_trace(alloc: Global, text: &[u8], trace: &[u8]) -> Result<Traced,
     ensures other { IfErr result IsOfMigration }
 {
     let script = script_of(alloc, text)?;
+    Ok(migrate_with(alloc, &script, trace)?)
+}
+
+// The trace of the second form of a script's setup and the events of a trace of the first form.
+fn migrate_with(alloc: Global, script: &Script, trace: &[u8]) -> Result<Traced, RunFault>
+    ensures ok { IfOk result (λ t. (events : List Happening) × IsTrace events trace.now
+        × IsTrace2 (plain script.now.setup) events t.bytes.items × (t.events ≡ length events)) }
+    ensures trace { IfErr result (λ e. (f : Misspelt) → e ≡ RunFault.Trace f → IsFault trace.now f) }
+    ensures other { IfErr result IsOfTraces }
+{
     let events = match read_trace(alloc, trace) {
         Ok(events) => events,
         Err(TraceFault::Memory) => return Err(RunFault::Memory),
         Err(fault) => return Err(RunFault::Trace(fault)),
     };
-    match whole_of(alloc, &script, &events) {
+    match whole_of(alloc, script, &events) {
         Ok(bytes) => Ok(Traced {
             events: events.len() as u32,
             bytes,
