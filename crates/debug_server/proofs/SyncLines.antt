@@ -16,7 +16,7 @@ use Rattle.debug_server.specs.declared.commands.command.CommandFault.TheVariants
 use Rattle.debug_server.specs.declared.commands.verb.Verb.{Verb}
 use Rattle.debug_server.specs.declared.commands.verb.Verb.TheVariants as verb
 use Rattle.debug_server.specs.Commands.{words_of, verb_of, numbered, placed, mark_of, value_in, stopping_at, breaking_by, command_by, command_of_words, command_of}
-use Rattle.debug_server.specs.Talks.{asks}
+use Rattle.debug_server.specs.Transcripts.{asks}
 
 -- ---- a line that asks
 

@@ -3,7 +3,7 @@ ghost use Rattle.std.specs.Prelude.{◌≡◌, ◌≤◌, length, option_map, If
 ghost use Rattle.inverse_log.specs.Walks.{jumped};
 ghost use Rattle.debug_server.specs.Replies.{at_text, goes_to, reply_to, reply};
 ghost use Rattle.debug_server.specs.Quitting.{is_quit};
-ghost use Rattle.debug_server.specs.Visits.{Runs};
+ghost use Rattle.debug_server.specs.SessionStates.{Runs};
 
 use crate::commands::{Command, CommandFault, parse_line};
 use crate::stops::{break_at, jump_to, stop_back, stop_on, unwatch, watch};
@@ -44,10 +44,10 @@ fn text_of(
     alloc: Global,
     visitor: &mut Visitor,
     command: Result<Command, CommandFault>,
-    told: Option<&[Event]>,
+    answer: Option<&[Event]>,
 ) -> Result<Vec<u8>, AllocError>
-    ensures text { IfOk result (λ text. text.items ≡ (reply_to visitor.old command (option_map (λ es. es.now) told.entry)).text) }
-    ensures next { OnOk result (visitor.new ≡ (reply_to visitor.old command (option_map (λ es. es.now) told.entry)).next) }
+    ensures text { IfOk result (λ text. text.items ≡ (reply_to visitor.old command (option_map (λ es. es.now) answer.entry)).text) }
+    ensures next { OnOk result (visitor.new ≡ (reply_to visitor.old command (option_map (λ es. es.now) answer.entry)).next) }
     ensures err { OnErr result (visitor.new ≡ visitor.old) }
 {
     let (at, len) = (visitor.walker.at(), visitor.walker.len());
@@ -63,7 +63,7 @@ fn text_of(
         Ok(Command::Unwatch) => unwatch(alloc, visitor),
         Ok(Command::Cont) => stop_on(alloc, visitor),
         Ok(Command::Rcont) => stop_back(alloc, visitor),
-        Ok(Command::Sync) => sync(alloc, visitor, told),
+        Ok(Command::Sync) => sync(alloc, visitor, answer),
         Ok(Command::Quit) => Vec::from_slice(alloc, b"bye\n"),
     }
 }
@@ -75,22 +75,22 @@ fn is_quit(command: Result<Command, CommandFault>) -> bool
     matches!(command, Ok(Command::Quit))
 }
 
-// Replies to one line, with what the source told, and says whether no later line is answered.
-pub(crate) fn answer(
+// Replies to one line, with what the source answered, and says whether no later line is answered.
+pub(crate) fn reply_to_line(
     alloc: Global,
     visitor: &mut Visitor,
     line: &[u8],
-    told: Option<&[Event]>,
+    answer: Option<&[Event]>,
 ) -> Result<(Vec<u8>, bool), AllocError>
-    ensures text { IfOk result (λ r. r.0.items ≡ (reply visitor.old line.now (option_map (λ es. es.now) told.entry)).text) }
-    ensures next { OnOk result (visitor.new ≡ (reply visitor.old line.now (option_map (λ es. es.now) told.entry)).next) }
-    ensures quits { IfOk result (λ r. r.1 ≡ (reply visitor.old line.now (option_map (λ es. es.now) told.entry)).quits) }
+    ensures text { IfOk result (λ r. r.0.items ≡ (reply visitor.old line.now (option_map (λ es. es.now) answer.entry)).text) }
+    ensures next { OnOk result (visitor.new ≡ (reply visitor.old line.now (option_map (λ es. es.now) answer.entry)).next) }
+    ensures quits { IfOk result (λ r. r.1 ≡ (reply visitor.old line.now (option_map (λ es. es.now) answer.entry)).quits) }
     ensures err { OnErr result (visitor.new ≡ visitor.old) }
     ensures runs { Runs visitor.old.walk }
 {
     // What is replied is of a run.
     let _position = visitor.position();
     let command = parse_line(alloc, visitor.walker.setup(), line)?;
-    let text = text_of(alloc, visitor, command, told)?;
+    let text = text_of(alloc, visitor, command, answer)?;
     Ok((text, is_quit(command)))
 }
