@@ -1,6 +1,6 @@
 -- A line asks the source exactly where it is the command sync.
-use Rattle.std.proofs.Common.{◌≡◌, ℕ, ◌+◌, ◌==◌, List, [], ◌∷◌, length, take, drop, codes, nat_lt, Bool, true, false, cond, Option, Some, None, Result, Ok, Err, refl, sym, ap, ◌∙◌, subst}
-use Rattle.std.specs.List.{slice_split, join_with_byte}
+use Rattle.std.proofs.Common.{◌≡◌, ℕ, ◌+◌, List, [], ◌∷◌, length, take, drop, codes, nat_lt, Bool, true, false, cond, Option, Some, None, Result, Ok, Err, refl, sym, ap, ◌∙◌}
+use Rattle.std.specs.List.{join_with_byte}
 use Rattle.std.specs.Str.{bytes_eq}
 use Rattle.std.specs.Cmp.Lexicographic.{bytes_decides}
 use Rattle.std.proofs.lemmas.List.Splits.{join_with_byte-slice_split}
@@ -16,7 +16,7 @@ use Rattle.debug_server.specs.declared.commands.command.CommandFault.TheVariants
 use Rattle.debug_server.specs.declared.commands.verb.Verb.{Verb}
 use Rattle.debug_server.specs.declared.commands.verb.Verb.TheVariants as verb
 use Rattle.debug_server.specs.Commands.{words_of, verb_of, numbered, placed, mark_of, value_in, stopping_at, breaking_by, command_by, command_of_words, command_of}
-use Rattle.debug_server.specs.Talks.{asks}
+use Rattle.debug_server.specs.Transcripts.{asks}
 
 -- ---- a line that asks
 

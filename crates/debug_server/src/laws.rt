@@ -8,7 +8,7 @@ ghost use Rattle.debug_server.specs.declared.commands.command.Command.TheVariant
 ghost use Rattle.debug_server.specs.Commands.{command_of};
 ghost use Rattle.debug_server.specs.Lines.{lines_of, ended_lines};
 ghost use Rattle.debug_server.specs.Syncs.{torn_from, refused_from, IsTorn, IsFirstRefused};
-ghost use Rattle.debug_server.specs.Talks.{asks};
+ghost use Rattle.debug_server.specs.Transcripts.{asks};
 
 /// What is told of a trace and another is its first event that doesn't stand there; nothing is told only
 /// where the other begins with it.

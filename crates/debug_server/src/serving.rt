@@ -1,12 +1,12 @@
-//! Serving lines from a reader to a writer.
+//! ServeFault lines from a reader to a writer.
 ghost use Rattle.std.specs.Prelude.{◌≡◌, ◌≢◌, ◌↔◌, ◌++◌, ◌∷◌, [], List, true, false, option_map, IsTrue, IfOk, IfErr, OnOk, OnErr, IsErrOf};
 ghost use Rattle.std.specs.Io.KnownBytes.{Appends, Keeps};
-ghost use Rattle.debug_server.specs.Replies.{Told, reply};
-ghost use Rattle.debug_server.specs.Talks.{asks, Asked, streams, Served, BrokeBy};
-ghost use Rattle.debug_server.specs.Visits.{Runs};
+ghost use Rattle.debug_server.specs.Replies.{Answer, reply};
+ghost use Rattle.debug_server.specs.Transcripts.{asks, Asked, streams, Served, BrokeBy};
+ghost use Rattle.debug_server.specs.SessionStates.{Runs};
 ghost use Rattle.debug_server.specs.Pending.{IsPending, IsOfReplying, WritesFront, Gave, FillsBy, BreaksBy, EndsBy, FrontBy};
 
-use crate::answering::answer;
+use crate::answering::reply_to_line;
 use crate::faults::ServeFault;
 use crate::lines::Line;
 use crate::session::Session;
@@ -70,21 +70,21 @@ fn lent(answer: &Option<Vec<Event>>) -> Option<&[Event]>
     }
 }
 
-// Replies to one line, with what the source told, and says whether it quits.
+// Replies to one line, with what the source answered, and says whether it quits.
 fn answer_line<W: Write>(
     alloc: Global,
     visitor: &mut Visitor,
     line: &[u8],
-    told: Option<&[Event]>,
+    answer: Option<&[Event]>,
     writer: &mut W,
 ) -> Result<bool, ServeFault>
-    ensures written { OnOk result (Appends (W.contents writer.old) (W.contents writer.new) (reply visitor.old line.now (option_map (λ es. es.now) told.entry)).text) }
-    ensures next { OnOk result (visitor.new ≡ (reply visitor.old line.now (option_map (λ es. es.now) told.entry)).next) }
-    ensures quits { IfOk result (λ q. q ≡ (reply visitor.old line.now (option_map (λ es. es.now) told.entry)).quits) }
-    ensures err { OnErr result (WritesFront (W.contents writer.old) (W.contents writer.new) (reply visitor.old line.now (option_map (λ es. es.now) told.entry)).text) }
+    ensures written { OnOk result (Appends (W.contents writer.old) (W.contents writer.new) (reply visitor.old line.now (option_map (λ es. es.now) answer.entry)).text) }
+    ensures next { OnOk result (visitor.new ≡ (reply visitor.old line.now (option_map (λ es. es.now) answer.entry)).next) }
+    ensures quits { IfOk result (λ q. q ≡ (reply visitor.old line.now (option_map (λ es. es.now) answer.entry)).quits) }
+    ensures err { OnErr result (WritesFront (W.contents writer.old) (W.contents writer.new) (reply visitor.old line.now (option_map (λ es. es.now) answer.entry)).text) }
     ensures fault { IfErr result IsOfReplying }
 {
-    let Ok((text, quits)) = answer(alloc, visitor, line, told) else {
+    let Ok((text, quits)) = reply_to_line(alloc, visitor, line, answer) else {
         return Err(ServeFault::Memory);
     };
     write_out(writer, &text)?;
@@ -109,8 +109,8 @@ fn take_byte<W: Write, S: Source>(
         return Ok(false);
     }
     let text = line.as_slice();
-    let told = ask(source, text)?;
-    let quits = answer_line(alloc, visitor, text, lent(&told), writer)?;
+    let answer = ask(source, text)?;
+    let quits = answer_line(alloc, visitor, text, lent(&answer), writer)?;
     line.clear();
     Ok(quits)
 }
@@ -152,8 +152,8 @@ fn finish<W: Write, S: Source>(
     if line.len() == 0 {
         return Ok(false);
     }
-    let told = ask(source, line)?;
-    let quits = answer_line(alloc, visitor, line, lent(&told), writer)?;
+    let answer = ask(source, line)?;
+    let quits = answer_line(alloc, visitor, line, lent(&answer), writer)?;
     Ok(quits)
 }
 
@@ -165,7 +165,7 @@ fn converse<R: Read, W: Write, S: Source>(
     writer: &mut W,
     source: &mut S,
 ) -> Result<bool, ServeFault>
-    ensures ok { IfOk result (λ q. (answers : List Told) × Asked S.gives source.old answers source.new
+    ensures ok { IfOk result (λ q. (answers : List Answer) × Asked S.gives source.old answers source.new
         × Served visitor.old (streams (R.remaining reader.old) (W.contents writer.old))
         (streams (R.remaining reader.new) (W.contents writer.new)) answers visitor.new q) }
     ensures err { IfErr result (λ fault. BrokeBy S.gives S.fails source.old source.new fault visitor.old
@@ -207,19 +207,19 @@ pub fn serve<R: Read, W: Write, S: Source>(
     ensures unasked { session.old.is_closed ≡ true → source.new ≡ source.old }
 
     // What is written is the output of what was read, to the end or past a line that quits.
-    ensures ok { OnOk result ((answers : List Told) × Asked S.gives source.old answers source.new
-        × Served session.old.visit (streams (R.remaining reader.old) (W.contents writer.old))
-        (streams (R.remaining reader.new) (W.contents writer.new)) answers session.new.visit session.new.is_closed) }
+    ensures ok { OnOk result ((answers : List Answer) × Asked S.gives source.old answers source.new
+        × Served session.old.state (streams (R.remaining reader.old) (W.contents writer.old))
+        (streams (R.remaining reader.new) (W.contents writer.new)) answers session.new.state session.new.is_closed) }
 
     // At an error it is a beginning of that, and the source was asked for just what was answered, and once
     // more for a line that got no answer for want of memory.
     ensures err { OnErr result (session.new.is_closed ≡ true) }
-    ensures begins { session.old.is_closed ≡ false → IfErr result (λ fault. BrokeBy S.gives S.fails source.old source.new fault session.old.visit
+    ensures begins { session.old.is_closed ≡ false → IfErr result (λ fault. BrokeBy S.gives S.fails source.old source.new fault session.old.state
         (streams (R.remaining reader.old) (W.contents writer.old)) (streams (R.remaining reader.new) (W.contents writer.new))) }
 
     // The session's events run from the setup's start, and the position is one of theirs.
-    ensures ran { Runs session.old.visit.walk }
-    ensures runs { Runs session.new.visit.walk }
+    ensures ran { Runs session.old.state.walk }
+    ensures runs { Runs session.new.state.walk }
 {
     let _before = session.visitor.position();
     if session.is_closed {

@@ -3,7 +3,7 @@ ghost use Rattle.std.specs.Prelude.{◌≡◌, ◌≤◌, length, IfOk, OnOk, On
 ghost use Rattle.inverse_log.specs.Walks.{jumped};
 ghost use Rattle.watches.specs.Stops.{earlier_of, later_of};
 ghost use Rattle.watches.specs.Watching.{nothing};
-ghost use Rattle.debug_server.specs.Visits.{minding};
+ghost use Rattle.debug_server.specs.SessionStates.{minding};
 ghost use Rattle.debug_server.specs.Replies.{watching_text, watches as watched_by, breaks as broken_by, stops_on, stops_back};
 
 use crate::commands::CommandFault;

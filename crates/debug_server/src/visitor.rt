@@ -14,15 +14,15 @@ pub(crate) struct Visitor {
 }
 
 impl Model for Visitor {
-    ghost use Rattle.debug_server.specs.Visits.{Visit};
+    ghost use Rattle.debug_server.specs.SessionStates.{SessionState};
 
-    ghost Value = { Visit };
+    ghost Value = { SessionState };
 
     ghost view = { λ v. record { walk = v.walker; watching = v.watches } };
 }
 
 impl Visitor {
-    ghost use Rattle.debug_server.specs.Visits.{Runs};
+    ghost use Rattle.debug_server.specs.SessionStates.{Runs};
 
     // The position, and how many events there are.
     pub(crate) fn position(&self) -> (usize, usize)

@@ -3,12 +3,12 @@ ghost use Rattle.std.specs.Prelude.{◌≡◌, ◌≢◌, ◌≤◌, ℕ, Ok, Er
 ghost use Rattle.std.specs.Io.KnownBytes.{Keeps};
 ghost use Rattle.machine.specs.Runs.{IsRefused};
 ghost use Rattle.scenario.specs.Setups.{setup_refusal};
-ghost use Rattle.scenario.specs.declared.event.Refusal.{Refusal as Denial};
+ghost use Rattle.scenario.specs.declared.event.Refusal.{Refusal};
 ghost use Rattle.script.specs.Scripts.{Plan, Reads};
-ghost use Rattle.script.specs.declared.fault.ScriptFault.{ScriptFault as Misread};
-ghost use Rattle.debug_server.specs.declared.faults.ServeFault.{ServeFault as Serving};
+ghost use Rattle.script.specs.declared.fault.ScriptFault.{ScriptFault};
+ghost use Rattle.debug_server.specs.declared.faults.ServeFault.{ServeFault};
 ghost use Rattle.debug_server.specs.declared.faults.ServeFault.TheVariants.{Closed};
-ghost use Rattle.debug_server.specs.Talks.{streams};
+ghost use Rattle.debug_server.specs.Transcripts.{streams};
 ghost use Rattle.debug_server.specs.Schedules.{IsOfRun, IsOfWalk};
 ghost use Rattle.debug_server.specs.Walked.{Walked, BrokenOff};
 
@@ -32,12 +32,12 @@ pub fn walk<R: Read, W: Write>(
     ensures ok { OnOk result ((p : Plan) × Reads text.now (Ok p) × Walked p.setup p.schedule
         (streams (R.remaining reader.old) (W.contents writer.old)) (streams (R.remaining reader.new) (W.contents writer.new))) }
     // A fault of the script is its first one, a fault of the schedule its first refused event. Nothing was written then.
-    ensures script { IfErr result (λ e. (f : Misread) → e ≡ RunFault.Script f → Reads text.now (Err f) × Keeps (W.contents writer.old) (W.contents writer.new)) }
-    ensures schedule { IfErr result (λ e. (i : ℕ) → (n : Denial) → e ≡ RunFault.Schedule i n
+    ensures script { IfErr result (λ e. (f : ScriptFault) → e ≡ RunFault.Script f → Reads text.now (Err f) × Keeps (W.contents writer.old) (W.contents writer.new)) }
+    ensures schedule { IfErr result (λ e. (i : ℕ) → (n : Refusal) → e ≡ RunFault.Schedule i n
         → (p : Plan) × Reads text.now (Ok p) × IsRefused p.setup p.schedule i n × Keeps (W.contents writer.old) (W.contents writer.new)) }
     ensures memory { IfErr result (λ e. e ≡ RunFault.Memory → Keeps (W.contents writer.old) (W.contents writer.new)) }
     // At a fault of serving a beginning of that output was written.
-    ensures begins { IfErr result (λ e. (f : Serving) → e ≡ RunFault.Serve f → (p : Plan) × Reads text.now (Ok p) × BrokenOff p.setup p.schedule
+    ensures begins { IfErr result (λ e. (f : ServeFault) → e ≡ RunFault.Serve f → (p : Plan) × Reads text.now (Ok p) × BrokenOff p.setup p.schedule
         (streams (R.remaining reader.old) (W.contents writer.old)) (streams (R.remaining reader.new) (W.contents writer.new)) f) }
     ensures open { result ≢ Err (RunFault.Serve Closed) }
     ensures other { IfErr result IsOfWalk }
@@ -60,11 +60,11 @@ fn walk_script<R: Read, W: Write>(
 ) -> Result<(), RunFault>
     ensures ok { OnOk result (Walked script.now.setup script.now.schedule
         (streams (R.remaining reader.old) (W.contents writer.old)) (streams (R.remaining reader.new) (W.contents writer.new))) }
-    ensures script { IfErr result (λ e. (f : Misread) → e ≢ RunFault.Script f) }
-    ensures schedule { IfErr result (λ e. (i : ℕ) → (n : Denial) → e ≡ RunFault.Schedule i n
+    ensures script { IfErr result (λ e. (f : ScriptFault) → e ≢ RunFault.Script f) }
+    ensures schedule { IfErr result (λ e. (i : ℕ) → (n : Refusal) → e ≡ RunFault.Schedule i n
         → IsRefused script.now.setup script.now.schedule i n × Keeps (W.contents writer.old) (W.contents writer.new)) }
     ensures memory { IfErr result (λ e. e ≡ RunFault.Memory → Keeps (W.contents writer.old) (W.contents writer.new)) }
-    ensures begins { IfErr result (λ e. (f : Serving) → e ≡ RunFault.Serve f → BrokenOff script.now.setup script.now.schedule
+    ensures begins { IfErr result (λ e. (f : ServeFault) → e ≡ RunFault.Serve f → BrokenOff script.now.setup script.now.schedule
         (streams (R.remaining reader.old) (W.contents writer.old)) (streams (R.remaining reader.new) (W.contents writer.new)) f) }
     ensures open { result ≢ Err (RunFault.Serve Closed) }
     ensures other { IfErr result IsOfWalk }
@@ -84,10 +84,10 @@ pub(crate) fn walk_events<R: Read, W: Write>(
     requires most { length events.now ≤ 1048576 }
     ensures ok { OnOk result (Walked setup.now events.now
         (streams (R.remaining reader.old) (W.contents writer.old)) (streams (R.remaining reader.new) (W.contents writer.new))) }
-    ensures schedule { IfErr result (λ e. (i : ℕ) → (n : Denial) → e ≡ RunFault.Schedule i n
+    ensures schedule { IfErr result (λ e. (i : ℕ) → (n : Refusal) → e ≡ RunFault.Schedule i n
         → IsRefused setup.now events.now i n × Keeps (W.contents writer.old) (W.contents writer.new)) }
     ensures memory { IfErr result (λ e. e ≡ RunFault.Memory → Keeps (W.contents writer.old) (W.contents writer.new)) }
-    ensures begins { IfErr result (λ e. (f : Serving) → e ≡ RunFault.Serve f → BrokenOff setup.now events.now
+    ensures begins { IfErr result (λ e. (f : ServeFault) → e ≡ RunFault.Serve f → BrokenOff setup.now events.now
         (streams (R.remaining reader.old) (W.contents writer.old)) (streams (R.remaining reader.new) (W.contents writer.new)) f) }
     ensures open { result ≢ Err (RunFault.Serve Closed) }
     ensures other { IfErr result IsOfRun }
