@@ -14,7 +14,7 @@ use Rattle.machine.specs.Steps.{refusal, after}
 use Rattle.machine.specs.Runs.{run, Accepts}
 use Rattle.inverse_log.specs.declared.refusal.ExtendRefusal.{ExtendRefusal}
 use Rattle.inverse_log.specs.declared.refusal.ExtendRefusal.TheVariants.{TraceFull, Refused}
-use Rattle.inverse_log.specs.Tracks.{Stops}
+use Rattle.inverse_log.specs.Tracks.{RefusedAt}
 use Rattle.inverse_log.specs.Walks.{Walk, ending, extended}
 use Rattle.debug_server.specs.Syncs.{same_choice, same_event, torn_from, refused_from}
 use Rattle.watches.specs.Watching.{Watching}
@@ -124,11 +124,11 @@ refused_first i (suc k) m (x ∷ es) e n a g r =
     ∙ ap (λ j. Some j) (let z : i + 1 + k ≡ i + suc k = omega arith in z)
 
 -- the one that a rule refuses
-pub refused_one : (i k : ℕ) (m : Machine) (es : List Event) (n : Refusal) → n ≢ Memory → Stops m es k n → refused_from i m es ≡ Some (i + k)
+pub refused_one : (i k : ℕ) (m : Machine) (es : List Event) (n : Refusal) → n ≢ Memory → RefusedAt m es k n → refused_from i m es ≡ Some (i + k)
 refused_one i k m es n d s = refused_first i k m es s.event n s.runs s.there (elim s.refused [ inl e ↦ e | inr e ↦ absurd (d e.0) ])
 
 -- what is told of it
-pub refused_told : (known : ℕ) (m : Machine) (es : List Event) (e : ExtendRefusal) (text : List ℕ) → ((i : ℕ) (n : Refusal) → e ≡ Refused i n → Stops m es i n) → Tells known e text → (k : ℕ) × (refused_from known m es ≡ Some (known + k)) × (text ≡ event_text (known + k))
+pub refused_told : (known : ℕ) (m : Machine) (es : List Event) (e : ExtendRefusal) (text : List ℕ) → ((i : ℕ) (n : Refusal) → e ≡ Refused i n → RefusedAt m es i n) → Tells known e text → (k : ℕ) × (refused_from known m es ≡ Some (known + k)) × (text ≡ event_text (known + k))
 refused_told known m es TraceFull text s t = absurd t
 refused_told known m es (Refused i Memory) text s t = absurd t
 refused_told known m es (Refused i n) text s t = (i, refused_one known i m es n (λ e. cc) (s i n refl), t)
@@ -153,17 +153,17 @@ taken_next v w u m known es rest a b c d e =
     λ i. record { walk = f i; watching = e i }
 
 -- an event was refused, and that is told
-pub left : (v : SessionState) (w : Walk) (known : ℕ) (es rest : List Event) (e : ExtendRefusal) (text : List ℕ) → w ≡ v.walk → known ≡ length w.events → rest ≡ drop known es → ((i : ℕ) (n : Refusal) → e ≡ Refused i n → Stops (ending w) rest i n) → Tells known e text → (i : ℕ) × (fate v es ≡ Some i) × (text ≡ event_text i)
+pub left : (v : SessionState) (w : Walk) (known : ℕ) (es rest : List Event) (e : ExtendRefusal) (text : List ℕ) → w ≡ v.walk → known ≡ length w.events → rest ≡ drop known es → ((i : ℕ) (n : Refusal) → e ≡ Refused i n → RefusedAt (ending w) rest i n) → Tells known e text → (i : ℕ) × (fate v es ≡ Some i) × (text ≡ event_text i)
 left v w known es rest e text a b c h t =
     let k : known ≡ length v.walk.events = b ∙ ap (λ (x : Walk). length x.events) a in
     let r : rest ≡ drop (length v.walk.events) es = c ∙ ap (λ n. drop n es) k in
     let f = refused_told known (ending v.walk) (drop (length v.walk.events) es) e text (λ i n q. stops i n (h i n q) r) t in
     (known + f.0, ap (λ n. refused_from n (ending v.walk) (drop (length v.walk.events) es)) (sym k) ∙ f.1, f.2)
   where
-    stops : (i : ℕ) (n : Refusal) → Stops (ending w) rest i n → rest ≡ drop (length v.walk.events) es → Stops (ending v.walk) (drop (length v.walk.events) es) i n
+    stops : (i : ℕ) (n : Refusal) → RefusedAt (ending w) rest i n → rest ≡ drop (length v.walk.events) es → RefusedAt (ending v.walk) (drop (length v.walk.events) es) i n
     stops i n s r =
-        let P : Walk → Type 0 = λ x. Stops (ending x) rest i n in
-        let Q : List Event → Type 0 = λ l. Stops (ending v.walk) l i n in
+        let P : Walk → Type 0 = λ x. RefusedAt (ending x) rest i n in
+        let Q : List Event → Type 0 = λ l. RefusedAt (ending v.walk) l i n in
         subst Q r (subst P a s)
 
 pub left_text : (v : SessionState) (es : List Event) (text : List ℕ) → (i : ℕ) × (fate v es ≡ Some i) × (text ≡ event_text i) → text ≡ (takes_over v es (fate v es)).text

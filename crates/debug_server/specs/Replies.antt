@@ -8,7 +8,7 @@ use Rattle.machine.specs.Whole.{view}
 use Rattle.inverse_log.specs.Walks.{here, ending, moved, jumped, extended}
 use Rattle.watches.specs.declared.stopping.Stop.{Stop}
 use Rattle.watches.specs.declared.stopping.Stop.TheVariants as stop
-use Rattle.watches.specs.Stops.{earlier_of, later_of, position_of}
+use Rattle.watches.specs.Stops.{reverse_stop, forward_stop, position_of}
 use Rattle.watches.specs.Watching.{nothing, watched, broken}
 use Rattle.debug_server.specs.declared.commands.command.Command.{Command}
 use Rattle.debug_server.specs.declared.commands.command.Command.TheVariants.{Where, Show, Goto, Back, On, Watch, Break, Unwatch, Cont, Rcont, Sync, Quit}
@@ -132,8 +132,8 @@ reply_to v (Ok (On n)) answer = goes v (min (v.walk.at + n) (length v.walk.event
 reply_to v (Ok (Watch p)) answer = watches v p
 reply_to v (Ok (Break p x)) answer = breaks v p x
 reply_to v (Ok Unwatch) answer = record { text = watching_text 0; next = minding v nothing; quits = false }
-reply_to v (Ok Cont) answer = stops_on v (later_of v.walk v.watching)
-reply_to v (Ok Rcont) answer = stops_back v (earlier_of v.walk v.watching.places)
+reply_to v (Ok Cont) answer = stops_on v (forward_stop v.walk v.watching)
+reply_to v (Ok Rcont) answer = stops_back v (reverse_stop v.walk v.watching.places)
 reply_to v (Ok Sync) answer = syncs v answer
 reply_to v (Ok Quit) answer = record { text = codes "bye\n"; next = v; quits = true }
 

@@ -35,7 +35,7 @@ impl Model for Walker {
 }
 
 impl Walker {
-    ghost use Rattle.inverse_log.specs.Tracks.{Covers, Stops, Recorded};
+    ghost use Rattle.inverse_log.specs.Tracks.{Covers, RefusedAt, Recorded};
     ghost use Rattle.inverse_log.specs.Walks.{here, ending, fresh, fresh_with, moved, jumped, steps_to, extended};
 
     /// Stands at the start of a run without events. A jump starts from a copy at most 1,024 moments
@@ -139,7 +139,7 @@ impl Walker {
         ensures ok { OnOk result (self.new ≡ extended self.old events.now) }
         ensures accepts { OnOk result (Accepts (ending self.old) events.now) }
         ensures full { (result ≡ Err ExtendRefusal.TraceFull) ↔ (1048576 < length self.old.events + length events.now) }
-        ensures refused { (i : ℕ) (n : Refusal) → result ≡ Err (ExtendRefusal.Refused i n) → Stops (ending self.old) events.now i n }
+        ensures refused { (i : ℕ) (n : Refusal) → result ≡ Err (ExtendRefusal.Refused i n) → RefusedAt (ending self.old) events.now i n }
         ensures none { events.now ≡ [] → IsOk result }
         ensures err { OnErr result (self.new ≡ self.old) }
     {
