@@ -152,7 +152,6 @@ fn beside(draft: &mut Draft, entries: &[Sqe], firsts: u32, others: u32, last: &[
 
 // A cancel, and chains as long as a batch: it ends the first row of each, and so severs the others.
 fn severed(draft: &mut Draft, rows: u32) -> Filled {
-    let cancel = asking(entry(ASYNC_CANCEL, 0, 0));
     let first = flagged(entry(TIMEOUT, 1, 0), LINK);
     let later = flagged(entry(NOP, 0, 0), LINK);
     let mut slots = vec![in draft.alloc; 0u32; 1]?;
