@@ -4,6 +4,7 @@
 #[cfg(test)]
 mod failing;
 mod files;
+mod logging;
 #[cfg(test)]
 mod tests;
 
@@ -11,6 +12,8 @@ use debug_server::{
     Fault, Form, Job, RunFault, ServeFault, Traced, job, migrate_trace, replay, trace_script, walk,
 };
 use files::{lead_to_one_file, read_file, write_file};
+use logging::log_file;
+use run_log::EventRange;
 use std::process::ExitCode;
 use std::rt::Files;
 use std::{env, fmt, io};
@@ -92,6 +95,7 @@ fn run(rt: &(impl Files + Input + Print + AllocGlobal), job: Job<'_>) -> Result<
     match job {
         Job::Walk(script) => answer_over(rt, Over::Script, script),
         Job::Replay(trace) => answer_over(rt, Over::Trace, trace),
+        Job::Log { run, from, to } => log_file(rt, run, EventRange { from, to }),
         Job::Trace { script, out, form } => trace_file(rt, script, out, form),
         Job::Migrate { script, trace, out } => migrate_file(rt, script, trace, out),
     }
@@ -103,7 +107,7 @@ fn loses_script(rt: &(impl Files + AllocGlobal), job: Job<'_>) -> Result<bool, F
         Job::Trace { script, out, .. } | Job::Migrate { script, out, .. } => lead_to_one_file(
             rt, script, out,
         ),
-        Job::Walk(_) | Job::Replay(_) => Ok(false),
+        Job::Walk(_) | Job::Replay(_) | Job::Log { .. } => Ok(false),
     }
 }
 

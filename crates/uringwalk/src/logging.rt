@@ -1,0 +1,32 @@
+//! The log of a run that a file holds.
+
+use crate::WHOLE_TRACE_AND_ONE;
+use crate::files::read_file;
+use debug_server::{Fault, RunFault, ServeFault};
+use run_log::{EventRange, LogFault, log_run};
+use std::io;
+use std::rt::Files;
+
+/// What a log that ended early is told as.
+pub fn told_fault(fault: LogFault) -> Fault {
+    Fault::Run(match fault {
+        LogFault::Script(fault) => RunFault::Script(fault),
+        LogFault::Trace(fault) => RunFault::Trace(fault),
+        LogFault::Schedule(index, refusal) => RunFault::Schedule(index, refusal),
+        LogFault::Write => RunFault::Serve(ServeFault::Write),
+        LogFault::Memory => RunFault::Memory,
+    })
+}
+
+/// Writes what the events in the range changed, of the script or the trace in a file, to standard output.
+pub fn log_file(
+    rt: &(impl Files + Print + AllocGlobal),
+    path: &str,
+    range: EventRange,
+) -> Result<(), Fault> {
+    let bytes = read_file(rt, path, WHOLE_TRACE_AND_ONE)?;
+    match log_run(rt.alloc(), &bytes, range, &mut io::writer(rt)) {
+        Ok(()) => Ok(()),
+        Err(fault) => Err(told_fault(fault)),
+    }
+}
