@@ -1,8 +1,16 @@
 //! What a step changed, in the order of places.
+ghost use Rattle.std.specs.Prelude.{◌≡◌, map, IfOk, OnOk};
+ghost use Rattle.places.specs.Places.{kind_of, index_of, second_of};
+ghost use Rattle.places.specs.View.{NamesOnce};
+ghost use Rattle.machine.specs.Whole.{view};
+ghost use Rattle.run_log.specs.Listings.{rank, told, IsListing};
 
 use machine::State;
 use places::{Change, Place, Record, Value};
 use std::alloc::{AllocError, Global};
+
+/// How many indexes of 32 bits there are.
+const INDEXES: u128 = 4294967296;
 
 /// A place that a step changed: what stood there before it, and what stands there behind it.
 #[derive(Clone, Copy, Debug)]
@@ -13,7 +21,9 @@ pub struct Changed {
 }
 
 // Where a place's kind stands among the kinds.
-fn kind_of(place: Place) -> u8 {
+fn kind_of(place: Place) -> u8
+    ensures { result ≡ kind_of place }
+{
     match place {
         Place::SubmissionHead => 0,
         Place::SubmissionTail => 1,
@@ -49,7 +59,9 @@ fn kind_of(place: Place) -> u8 {
 }
 
 // A place's object, descriptor, thread or index.
-fn index_of(place: Place) -> u32 {
+fn index_of(place: Place) -> u32
+    ensures { result ≡ index_of place }
+{
     match place {
         Place::Array(index)
         | Place::Slot(index)
@@ -76,7 +88,9 @@ fn index_of(place: Place) -> u32 {
 }
 
 // Its index within an object.
-fn second_of(place: Place) -> u32 {
+fn second_of(place: Place) -> u32
+    ensures { result ≡ second_of place }
+{
     match place {
         Place::FileByte(_, index) | Place::DurableByte(_, index) | Place::PipeByte(_, index) => {
             index
@@ -87,13 +101,16 @@ fn second_of(place: Place) -> u32 {
 
 // Where a place stands among all places: by its kind, then its object or index, then its index within
 // the object.
-fn rank(place: Place) -> u128 {
-    (u128::from(kind_of(place)) << 64)
-        + (u128::from(index_of(place)) << 32)
+fn rank(place: Place) -> u128
+    ensures { result ≡ rank place }
+{
+    (u128::from(kind_of(place)) * INDEXES + u128::from(index_of(place))) * INDEXES
         + u128::from(second_of(place))
 }
 
-fn told(change: Change, state: &State) -> Changed {
+fn told(change: Change, state: &State) -> Changed
+    ensures { result ≡ told (view state.now) change }
+{
     Changed {
         place: change.place,
         old: change.old,
@@ -102,9 +119,12 @@ fn told(change: Change, state: &State) -> Changed {
 }
 
 // The changes of a record, with what stands in their places now.
-fn gathered(alloc: Global, record: &Record, state: &State) -> Result<Vec<Changed>, AllocError> {
+fn gathered(alloc: Global, past: &Record, state: &State) -> Result<Vec<Changed>, AllocError>
+    ensures listed { IfOk result (λ list. list.items ≡ map (told (view state.now)) past.now) }
+    ensures once { OnOk result (NamesOnce past.now) }
+{
     let mut list = Vec::new(alloc);
-    let mut rest = record.changes();
+    let mut rest = past.changes();
     while let Some(change) = rest.next() {
         list.push(told(change, state))?;
     }
@@ -114,10 +134,13 @@ fn gathered(alloc: Global, record: &Record, state: &State) -> Result<Vec<Changed
 /// The changes of the record of the step that led to a state, in the order of places.
 pub(crate) fn changes_of(
     alloc: Global,
-    record: &Record,
+    past: &Record,
     state: &State,
-) -> Result<Vec<Changed>, AllocError> {
-    let mut list = gathered(alloc, record, state)?;
+) -> Result<Vec<Changed>, AllocError>
+    ensures listing { IfOk result (λ list. IsListing (view state.now) past.now list.items) }
+    ensures once { OnOk result (NamesOnce past.now) }
+{
+    let mut list = gathered(alloc, past, state)?;
     list.sort_unstable_by_key(|changed| rank(changed.place));
     Ok(list)
 }

@@ -9,6 +9,11 @@ use std::fmt;
 pub struct EventText(pub Event);
 
 impl fmt::Display for EventText {
+    ghost use Rattle.std.specs.Prelude.{Some};
+    ghost use Rattle.run_log.specs.EventTexts.{event_text};
+
+    ghost output = { λ text. Some (event_text text.0) };
+
     fn fmt<W: fmt::Write>(&self, f: &mut fmt::Formatter<W>) -> fmt::Result {
         let EventText(event) = self;
         match event {
@@ -28,6 +33,11 @@ impl fmt::Display for EventText {
 struct ChoiceText(Choice);
 
 impl fmt::Display for ChoiceText {
+    ghost use Rattle.std.specs.Prelude.{Some};
+    ghost use Rattle.run_log.specs.EventTexts.{choice_text};
+
+    ghost output = { λ text. Some (choice_text text.0) };
+
     fn fmt<W: fmt::Write>(&self, f: &mut fmt::Formatter<W>) -> fmt::Result {
         let ChoiceText(choice) = self;
         match choice {

@@ -5,6 +5,7 @@ mod changed;
 mod event_text;
 mod fault;
 mod joining;
+pub mod laws;
 mod line;
 mod logging;
 mod place_text;

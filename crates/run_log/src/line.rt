@@ -1,15 +1,21 @@
 //! The lines of an event.
+ghost use Rattle.std.specs.Prelude.{◌≡◌, ◌<◌, ◌++◌, length, codes, IfOk, OnOk};
+ghost use Rattle.std.specs.List.{flat_map};
+ghost use Rattle.run_log.specs.Lines.{value_shown, olds_text, news_text, end_text, values_text, line_text, rows, event_lines};
+ghost use Rattle.run_log.specs.PlaceTexts.{number_text};
 
 use crate::changed::Changed;
 use crate::event_text::EventText;
-use crate::joining::first_run;
+use crate::joining::first_row;
 use crate::place_text::{number_of, put_number, put_place};
 use machine::{Event, Setup};
 use places::Value;
 use std::alloc::{AllocError, Global};
 
 // Writes what stands in a place, if anything does.
-fn put_value(alloc: Global, out: &mut Vec<u8>, value: Option<Value>) -> Result<(), AllocError> {
+fn put_value(alloc: Global, out: &mut Vec<u8>, value: Option<Value>) -> Result<(), AllocError>
+    ensures { OnOk result (out.new.items ≡ out.old.items ++ value_shown value) }
+{
     match value {
         Some(value) => out.extend_from_slice(value.text(alloc)?.as_slice()),
         None => out.extend_from_slice(b"absent"),
@@ -17,49 +23,70 @@ fn put_value(alloc: Global, out: &mut Vec<u8>, value: Option<Value>) -> Result<(
 }
 
 // Writes what stood in the places of a line.
-fn put_olds(alloc: Global, out: &mut Vec<u8>, run: &[Changed]) -> Result<(), AllocError> {
-    for changed in run {
+fn put_olds(alloc: Global, out: &mut Vec<u8>, row: &[Changed]) -> Result<(), AllocError>
+    ensures { OnOk result (out.new.items ≡ out.old.items ++ olds_text row.now) }
+{
+    for changed in row {
         put_value(alloc, out, changed.old)?;
     }
     Ok(())
 }
 
 // Writes what stands in them now.
-fn put_news(alloc: Global, out: &mut Vec<u8>, run: &[Changed]) -> Result<(), AllocError> {
-    for changed in run {
+fn put_news(alloc: Global, out: &mut Vec<u8>, row: &[Changed]) -> Result<(), AllocError>
+    ensures { OnOk result (out.new.items ≡ out.old.items ++ news_text row.now) }
+{
+    for changed in row {
         put_value(alloc, out, changed.new)?;
     }
     Ok(())
 }
 
-// Writes the names of the places of a line: the first, and of a row of bytes the number of the last.
-fn put_names(
-    alloc: Global,
-    out: &mut Vec<u8>,
-    setup: &Setup,
-    run: &[Changed],
-) -> Result<(), AllocError> {
-    put_place(alloc, out, setup, run[0].place)?;
-    match number_of(run[run.len() - 1].place) {
-        Some(number) if run.len() > 1 => put_number(alloc, out, "..", number),
-        _ => Ok(()),
+// The number of the last of some bytes.
+fn end_of(bytes: &[Changed]) -> Option<u32>
+    ensures { number_text (codes "..") result ≡ end_text bytes.now }
+{
+    match bytes.last() {
+        Some(last) => number_of(last.place),
+        None => None,
     }
 }
 
-// Writes the line of a place, or of a row of bytes.
+// Writes where a row of bytes ends, if it goes on behind its first.
+fn put_end(alloc: Global, out: &mut Vec<u8>, bytes: &[Changed]) -> Result<(), AllocError>
+    ensures { OnOk result (out.new.items ≡ out.old.items ++ end_text bytes.now) }
+{
+    match end_of(bytes) {
+        Some(number) => put_number(alloc, out, "..", number),
+        None => Ok(()),
+    }
+}
+
+// Writes what stood in the places of a line, and what stands there now.
+fn put_values(alloc: Global, out: &mut Vec<u8>, row: &[Changed]) -> Result<(), AllocError>
+    ensures { OnOk result (out.new.items ≡ out.old.items ++ values_text row.now) }
+{
+    out.extend_from_slice(b" ")?;
+    put_olds(alloc, out, row)?;
+    out.extend_from_slice(b" -> ")?;
+    put_news(alloc, out, row)?;
+    out.extend_from_slice(b"\n")
+}
+
+// Writes the line of a place, or of a row of bytes, which goes on behind the first.
 fn put_line(
     alloc: Global,
     out: &mut Vec<u8>,
     setup: &Setup,
-    run: &[Changed],
-) -> Result<(), AllocError> {
+    row: &[Changed],
+) -> Result<(), AllocError>
+    requires { 0 < length row.now }
+    ensures { OnOk result (out.new.items ≡ out.old.items ++ line_text setup.now row.now) }
+{
     out.extend_from_slice(b"  ")?;
-    put_names(alloc, out, setup, run)?;
-    out.extend_from_slice(b" ")?;
-    put_olds(alloc, out, run)?;
-    out.extend_from_slice(b" -> ")?;
-    put_news(alloc, out, run)?;
-    out.extend_from_slice(b"\n")
+    put_place(alloc, out, setup, row[0].place)?;
+    put_end(alloc, out, &row[1..])?;
+    put_values(alloc, out, row)
 }
 
 // Writes the lines of what a step changed.
@@ -68,12 +95,14 @@ fn put_lines(
     out: &mut Vec<u8>,
     setup: &Setup,
     changes: &[Changed],
-) -> Result<(), AllocError> {
+) -> Result<(), AllocError>
+    ensures { OnOk result (out.new.items ≡ out.old.items ++ flat_map (line_text setup.now) (rows changes.now)) }
+{
     let mut rest = changes;
     while !rest.is_empty() {
-        let count = first_run(rest);
-        put_line(alloc, out, setup, &rest[..count])?;
-        rest = &rest[count..];
+        let (row, behind) = rest.split_at(first_row(rest));
+        put_line(alloc, out, setup, row)?;
+        rest = behind;
     }
     Ok(())
 }
@@ -85,7 +114,9 @@ pub(crate) fn event_lines(
     index: usize,
     event: Event,
     changes: &[Changed],
-) -> Result<Vec<u8>, AllocError> {
+) -> Result<Vec<u8>, AllocError>
+    ensures { IfOk result (λ text. text.items ≡ event_lines setup.now index event changes.now) }
+{
     let head = format!(in alloc; "{index} {}\n", EventText(event))?;
     let mut out = head.into_bytes();
     put_lines(alloc, &mut out, setup, changes)?;

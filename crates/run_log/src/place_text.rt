@@ -1,11 +1,15 @@
 //! The names of places, as text.
+ghost use Rattle.std.specs.Prelude.{◌≡◌, ◌++◌, Some, OnOk, codes};
+ghost use Rattle.run_log.specs.PlaceTexts.{word_of, owner_of, number_of, owner_text, number_text, place_text};
 
 use machine::Setup;
 use places::Place;
 use std::alloc::{AllocError, Global};
 
 /// The word that a place's name begins with.
-fn word_of(place: Place) -> &'static str {
+fn word_of(place: Place) -> &'static str
+    ensures { result.now ≡ word_of place }
+{
     match place {
         Place::SubmissionHead => "sq.head",
         Place::SubmissionTail => "sq.tail",
@@ -41,7 +45,9 @@ fn word_of(place: Place) -> &'static str {
 }
 
 // The object whose name stands in a place's name.
-fn owner_of(place: Place) -> Option<u32> {
+fn owner_of(place: Place) -> Option<u32>
+    ensures { result ≡ owner_of place }
+{
     match place {
         Place::FileByte(object, _)
         | Place::DurableByte(object, _)
@@ -56,7 +62,9 @@ fn owner_of(place: Place) -> Option<u32> {
 }
 
 /// The number that a place's name ends with, if one does.
-pub(crate) fn number_of(place: Place) -> Option<u32> {
+pub(crate) fn number_of(place: Place) -> Option<u32>
+    ensures { result ≡ number_of place }
+{
     match place {
         Place::Array(number)
         | Place::Slot(number)
@@ -78,7 +86,9 @@ pub(crate) fn number_of(place: Place) -> Option<u32> {
 }
 
 // Writes an object's name behind a space.
-fn put_owner(out: &mut Vec<u8>, setup: &Setup, object: u32) -> Result<(), AllocError> {
+fn put_owner(out: &mut Vec<u8>, setup: &Setup, object: u32) -> Result<(), AllocError>
+    ensures { OnOk result (out.new.items ≡ out.old.items ++ owner_text setup.now (Some object)) }
+{
     out.extend_from_slice(b" ")?;
     match setup.objects.as_slice().get(object as usize) {
         Some(object) => out.extend_from_slice(object.name.as_slice()),
@@ -92,7 +102,9 @@ pub(crate) fn put_number(
     out: &mut Vec<u8>,
     before: &str,
     number: u32,
-) -> Result<(), AllocError> {
+) -> Result<(), AllocError>
+    ensures { OnOk result (out.new.items ≡ out.old.items ++ number_text before.entry.now (Some number)) }
+{
     let text = format!(in alloc; "{before}{number}")?;
     out.extend_from_slice(text.as_bytes())
 }
@@ -103,7 +115,9 @@ pub(crate) fn put_place(
     out: &mut Vec<u8>,
     setup: &Setup,
     place: Place,
-) -> Result<(), AllocError> {
+) -> Result<(), AllocError>
+    ensures { OnOk result (out.new.items ≡ out.old.items ++ place_text setup.now place) }
+{
     out.extend_from_slice(word_of(place).as_bytes())?;
     if let Some(object) = owner_of(place) {
         put_owner(out, setup, object)?;

@@ -1,4 +1,6 @@
 //! Logging a script or a trace.
+ghost use Rattle.std.specs.Prelude.{OnOk, IfErr, length};
+ghost use Rattle.run_log.specs.Logs.{is_trace, Written, Stopped, LoggedScript, LoggedTrace, LoggedRun, FailsScript, FailsTrace, FailsRun};
 
 use crate::fault::LogFault;
 use crate::logging::log_events;
@@ -17,7 +19,10 @@ fn log_plan<W: Write>(
     script: &Script,
     range: EventRange,
     writer: &mut W,
-) -> Result<(), LogFault> {
+) -> Result<(), LogFault>
+    ensures ok { OnOk result (Written script.now.setup script.now.schedule range (length script.now.schedule) (W.contents writer.old) (W.contents writer.new)) }
+    ensures err { IfErr result (λ f. Stopped script.now.setup script.now.schedule range f (W.contents writer.old) (W.contents writer.new)) }
+{
     log_events(alloc, script.setup(), script.schedule(), range, writer)
 }
 
@@ -27,7 +32,10 @@ pub fn log_script<W: Write>(
     text: &[u8],
     range: EventRange,
     writer: &mut W,
-) -> Result<(), LogFault> {
+) -> Result<(), LogFault>
+    ensures ok { OnOk result (LoggedScript text.now range (W.contents writer.old) (W.contents writer.new)) }
+    ensures err { IfErr result (λ f. FailsScript text.now range f (W.contents writer.old) (W.contents writer.new)) }
+{
     let script = match read_script(alloc, text) {
         Ok(script) => script,
         Err(ScriptFault::Memory) => return Err(LogFault::Memory),
@@ -44,7 +52,10 @@ pub fn log_trace<W: Write>(
     trace: &[u8],
     range: EventRange,
     writer: &mut W,
-) -> Result<(), LogFault> {
+) -> Result<(), LogFault>
+    ensures ok { OnOk result (LoggedTrace trace.now range (W.contents writer.old) (W.contents writer.new)) }
+    ensures err { IfErr result (λ f. FailsTrace trace.now range f (W.contents writer.old) (W.contents writer.new)) }
+{
     let (setup, events) = match read_trace2(alloc, trace) {
         Ok(found) => found,
         Err(TraceFault::Memory) => return Err(LogFault::Memory),
@@ -60,7 +71,10 @@ pub fn log_run<W: Write>(
     bytes: &[u8],
     range: EventRange,
     writer: &mut W,
-) -> Result<(), LogFault> {
+) -> Result<(), LogFault>
+    ensures ok { OnOk result (LoggedRun (is_trace bytes.now) bytes.now range (W.contents writer.old) (W.contents writer.new)) }
+    ensures err { IfErr result (λ f. FailsRun (is_trace bytes.now) bytes.now range f (W.contents writer.old) (W.contents writer.new)) }
+{
     match bytes {
         [TRACE_MARK, ..] => log_trace(alloc, bytes, range, writer),
         _ => log_script(alloc, bytes, range, writer),

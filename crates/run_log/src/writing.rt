@@ -1,10 +1,17 @@
 //! Writing text whole.
+ghost use Rattle.std.specs.Prelude.{◌≡◌, OnOk, OnErr, Err};
+ghost use Rattle.std.specs.Io.KnownBytes.{Appends};
+ghost use Rattle.run_log.specs.Logs.{WritesFront};
 
 use crate::fault::LogFault;
 use std::io::Write;
 
 // Writes all of the bytes. An `Err` may leave a beginning of them.
-fn write_bytes<W: Write>(writer: &mut W, bytes: &[u8]) -> Result<(), LogFault> {
+fn write_bytes<W: Write>(writer: &mut W, bytes: &[u8]) -> Result<(), LogFault>
+    ensures ok { OnOk result (Appends (W.contents writer.old) (W.contents writer.new) bytes.now) }
+    ensures err { OnErr result (WritesFront (W.contents writer.old) (W.contents writer.new) bytes.now) }
+    ensures only { OnErr result (result ≡ Err LogFault.Write) }
+{
     let mut at = 0;
     while at < bytes.len() {
         match writer.write(&bytes[at..]) {
@@ -17,7 +24,11 @@ fn write_bytes<W: Write>(writer: &mut W, bytes: &[u8]) -> Result<(), LogFault> {
 }
 
 /// Writes all of the bytes, and flushes them. An `Err` may leave a beginning of them.
-pub(crate) fn write_out<W: Write>(writer: &mut W, bytes: &[u8]) -> Result<(), LogFault> {
+pub(crate) fn write_out<W: Write>(writer: &mut W, bytes: &[u8]) -> Result<(), LogFault>
+    ensures ok { OnOk result (Appends (W.contents writer.old) (W.contents writer.new) bytes.now) }
+    ensures err { OnErr result (WritesFront (W.contents writer.old) (W.contents writer.new) bytes.now) }
+    ensures only { OnErr result (result ≡ Err LogFault.Write) }
+{
     write_bytes(writer, bytes)?;
     match writer.flush() {
         Ok(()) => Ok(()),

@@ -1,4 +1,6 @@
 //! The log of a run that a file holds.
+ghost use Rattle.std.specs.Prelude.{◌≡◌};
+ghost use Rattle.uringwalk.specs.Logging.{told_as};
 
 use crate::WHOLE_TRACE_AND_ONE;
 use crate::files::read_file;
@@ -8,7 +10,9 @@ use std::io;
 use std::rt::Files;
 
 /// What a log that ended early is told as.
-pub fn told_fault(fault: LogFault) -> Fault {
+pub fn fault_of_log(fault: LogFault) -> Fault
+    ensures { result ≡ told_as fault }
+{
     Fault::Run(match fault {
         LogFault::Script(fault) => RunFault::Script(fault),
         LogFault::Trace(fault) => RunFault::Trace(fault),
@@ -27,6 +31,6 @@ pub fn log_file(
     let bytes = read_file(rt, path, WHOLE_TRACE_AND_ONE)?;
     match log_run(rt.alloc(), &bytes, range, &mut io::writer(rt)) {
         Ok(()) => Ok(()),
-        Err(fault) => Err(told_fault(fault)),
+        Err(fault) => Err(fault_of_log(fault)),
     }
 }
