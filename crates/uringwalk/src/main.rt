@@ -4,9 +4,13 @@
 ghost use Rattle.std.specs.Prelude.{◌≡◌};
 ghost use Rattle.uringwalk.specs.Files.{told_as};
 
+mod logging;
+
 use debug_server::{
     Fault, Form, Job, RunFault, ServeFault, Traced, job, migrate_trace, replay, trace_script, walk,
 };
+use logging::log_file;
+use run_log::EventRange;
 use std::process::ExitCode;
 use std::rt::Files;
 use std::{env, fmt, io};
@@ -53,7 +57,7 @@ fn answer_over(
         Over::Script => SCRIPT_AND_ONE,
         Over::Trace => WHOLE_TRACE_AND_ONE,
     };
-    let bytes = read_file(rt, path, most).map_err(told)?;
+    let bytes = read_file(rt, path, most).map_err(told).map_err(told)?;
     let mut input = rt.reader();
     let mut output = io::writer(rt);
     match over {
@@ -79,7 +83,7 @@ fn trace_file(
     out: &str,
     form: Form,
 ) -> Result<(), Fault> {
-    let text = read_file(rt, script, SCRIPT_AND_ONE).map_err(told)?;
+    let text = read_file(rt, script, SCRIPT_AND_ONE).map_err(told).map_err(told)?;
     keep(rt, out, &trace_script(rt.alloc(), &text, form)?)
 }
 
@@ -90,8 +94,8 @@ fn migrate_file(
     trace: &str,
     out: &str,
 ) -> Result<(), Fault> {
-    let text = read_file(rt, script, SCRIPT_AND_ONE).map_err(told)?;
-    let bytes = read_file(rt, trace, TRACE_AND_ONE).map_err(told)?;
+    let text = read_file(rt, script, SCRIPT_AND_ONE).map_err(told).map_err(told)?;
+    let bytes = read_file(rt, trace, TRACE_AND_ONE).map_err(told).map_err(told)?;
     keep(rt, out, &migrate_trace(rt.alloc(), &text, &bytes)?)
 }
 
@@ -99,6 +103,7 @@ fn run(rt: &(impl Files + Input + Print + AllocGlobal), job: Job<'_>) -> Result<
     match job {
         Job::Walk(script) => answer_over(rt, Over::Script, script),
         Job::Replay(trace) => answer_over(rt, Over::Trace, trace),
+        Job::Log { run, from, to } => log_file(rt, run, EventRange { from, to }),
         Job::Trace { script, out, form } => trace_file(rt, script, out, form),
         Job::Migrate { script, trace, out } => migrate_file(rt, script, trace, out),
     }
@@ -110,7 +115,7 @@ fn loses_script(rt: &(impl Files + AllocGlobal), job: Job<'_>) -> Result<bool, F
         Job::Trace { script, out, .. } | Job::Migrate { script, out, .. } => {
             lead_to_one_file(rt, script, out).map_err(told)
         }
-        Job::Walk(_) | Job::Replay(_) => Ok(false),
+        Job::Walk(_) | Job::Replay(_) | Job::Log { .. } => Ok(false),
     }
 }
 
