@@ -57,7 +57,7 @@ fn answer_over(
         Over::Script => SCRIPT_AND_ONE,
         Over::Trace => WHOLE_TRACE_AND_ONE,
     };
-    let bytes = read_file(rt, path, most).map_err(told).map_err(told)?;
+    let bytes = read_file(rt, path, most).map_err(told)?;
     let mut input = rt.reader();
     let mut output = io::writer(rt);
     match over {
@@ -83,7 +83,9 @@ fn trace_file(
     out: &str,
     form: Form,
 ) -> Result<(), Fault> {
-    let text = read_file(rt, script, SCRIPT_AND_ONE).map_err(told).map_err(told)?;
+    let text = read_file(rt, script, SCRIPT_AND_ONE)
+        .map_err(told)
+        .map_err(told)?;
     keep(rt, out, &trace_script(rt.alloc(), &text, form)?)
 }
 
@@ -94,8 +96,12 @@ fn migrate_file(
     trace: &str,
     out: &str,
 ) -> Result<(), Fault> {
-    let text = read_file(rt, script, SCRIPT_AND_ONE).map_err(told).map_err(told)?;
-    let bytes = read_file(rt, trace, TRACE_AND_ONE).map_err(told).map_err(told)?;
+    let text = read_file(rt, script, SCRIPT_AND_ONE)
+        .map_err(told)
+        .map_err(told)?;
+    let bytes = read_file(rt, trace, TRACE_AND_ONE)
+        .map_err(told)
+        .map_err(told)?;
     keep(rt, out, &migrate_trace(rt.alloc(), &text, &bytes)?)
 }
 
