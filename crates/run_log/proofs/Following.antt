@@ -1,5 +1,5 @@
 -- Logs that go on by an event, or end at one.
-use Rattle.std.proofs.Common.{◌≡◌, ◌⊎◌, inl, inr, ℕ, ◌+◌, ◌<◌, ◌≤◌, zero, suc, List, [], ◌∷◌, ◌++◌, length, take, get_or, slice_get, Bool, true, false, Option, Some, None, refl, sym, ap, ◌∙◌, subst, arith, append_assoc}
+use Rattle.std.proofs.Common.{◌≡◌, ◌⊎◌, inl, inr, ℕ, ◌+◌, ◌<◌, suc, List, [], ◌∷◌, ◌++◌, length, take, get_or, slice_get, Bool, true, false, Option, Some, None, refl, sym, ap, ◌∙◌, subst, arith, append_assoc}
 use Rattle.std.specs.Prelude.{⊤, Result, Ok, Err, OnOk, IfErr}
 use Rattle.std.proofs.KnownBytes.{Appends-nil, Appends-trans, Appends-kept}
 use Rattle.std.proofs.lemmas.List.{take_more}
@@ -19,7 +19,7 @@ use Rattle.run_log.specs.declared.fault.LogFault.{LogFault}
 use Rattle.run_log.specs.declared.fault.LogFault.TheVariants.{Script, Trace, Schedule, Write, Memory}
 use Rattle.run_log.specs.declared.range.EventRange.{EventRange}
 use Rattle.run_log.specs.Ranges.{has}
-use Rattle.run_log.specs.Logs.{Shows, Reports, Tells, Reported, WritesFront, Halts, fault_by, Logs, Written, Begun, Stopped}
+use Rattle.run_log.specs.Logs.{Shows, Reports, Tells, Reported, WritesFront, Halts, fault_by, Logs, Written, Stopped}
 
 -- ---- runs, one event longer
 

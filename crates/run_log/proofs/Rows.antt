@@ -1,5 +1,5 @@
 -- Changes parted into rows, from the front.
-use Rattle.std.proofs.Common.{◌≡◌, ℕ, ◌+◌, ◌<◌, ◌≤◌, arith, zero, suc, List, [], ◌∷◌, length, take, drop, get_or, cond, Bool, true, false, refl, sym, ap, ◌∙◌, subst, ◌-◌, ◌++◌, append_assoc}
+use Rattle.std.proofs.Common.{◌≡◌, ℕ, ◌+◌, ◌<◌, ◌≤◌, arith, zero, suc, List, [], ◌∷◌, length, take, drop, get_or, cond, Bool, true, false, refl, sym, ap, ◌∙◌, ◌++◌, append_assoc}
 use Rattle.std.proofs.Math.Seq.{drop-cons}
 use Rattle.std.proofs.lemmas.List.{drop_all}
 use Rattle.std.specs.List.{flat_map}
