@@ -39,6 +39,7 @@ queued_found rows unended going from r f g next = by (slice_get rows r) refl
   where
     ties : (q : ℕ) → is_beside unended going q ≡ passes_at is_queued_row rows q
     ties q = beside_queued rows unended going f g q
+
     by : (o : Option Row) → slice_get rows r ≡ o → IsNextQueued rows from r
     by None e = absurd (let k = sym next.member ∙ ties r ∙ ap (λ (o : Option Row). option_map_or is_queued_row o false) e in cc)
     by (Some row) e = record {
