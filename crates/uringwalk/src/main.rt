@@ -83,9 +83,7 @@ fn trace_file(
     out: &str,
     form: Form,
 ) -> Result<(), Fault> {
-    let text = read_file(rt, script, SCRIPT_AND_ONE)
-        .map_err(told)
-        .map_err(told)?;
+    let text = read_file(rt, script, SCRIPT_AND_ONE).map_err(told)?;
     keep(rt, out, &trace_script(rt.alloc(), &text, form)?)
 }
 
@@ -96,12 +94,8 @@ fn migrate_file(
     trace: &str,
     out: &str,
 ) -> Result<(), Fault> {
-    let text = read_file(rt, script, SCRIPT_AND_ONE)
-        .map_err(told)
-        .map_err(told)?;
-    let bytes = read_file(rt, trace, TRACE_AND_ONE)
-        .map_err(told)
-        .map_err(told)?;
+    let text = read_file(rt, script, SCRIPT_AND_ONE).map_err(told)?;
+    let bytes = read_file(rt, trace, TRACE_AND_ONE).map_err(told)?;
     keep(rt, out, &migrate_trace(rt.alloc(), &text, &bytes)?)
 }
 
