@@ -1,6 +1,6 @@
 //! Traces that are written and read again, cut and changed.
-ghost use Rattle.std.specs.Prelude.{IsTrue};
-ghost use Rattle.traces.specs.Limits.{keeps_ranges};
+ghost use Rattle.std.specs.Prelude.{◌≡◌, None};
+ghost use Rattle.machine.specs.Runs.{setup_refusal};
 
 use machine::{Event, Setup};
 use opcodes::Choice;
@@ -89,7 +89,7 @@ fn check_setup(rt: &impl Abort, setup: &Setup) {
 
 // A setup and its events are written, and read again.
 fn check_again(rt: &(impl Abort + AllocGlobal), setup: &Setup) -> Result<(), Fail>
-    requires { IsTrue (keeps_ranges setup.now) }
+    requires { setup_refusal setup.now ≡ None }
 {
     let trace = write_trace2(rt.alloc(), setup, &WHOLE_EVENTS)?;
     assert_eq!(rt; trace.as_slice(), WHOLE.as_slice());
@@ -107,7 +107,7 @@ fn check_whole(rt: &(impl Abort + AllocGlobal)) -> Result<(), Fail> {
 
 // A trace of the first form is migrated behind a setup, one of the second is refused.
 fn check_migrations(rt: &(impl Abort + AllocGlobal), setup: &Setup) -> Result<(), Fail>
-    requires { IsTrue (keeps_ranges setup.now) }
+    requires { setup_refusal setup.now ≡ None }
 {
     let migrated = migrate(rt.alloc(), setup, &ONE_NOP)?;
     assert_eq!(rt; migrated.as_slice(), ONE_NOP_2.as_slice());
