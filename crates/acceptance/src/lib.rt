@@ -1,5 +1,5 @@
-//! Tests that cross crates: each public call once with ample memory, the texts of faults and of all kinds of values,
-//! and sessions over readers and writers that give little or fail.
+//! Tests above the sessions: devices that move one byte a call or fail, sources that answer, the texts of faults, and
+//! files one of whose calls fails.
 #![tactic(auto)]
 
 #[cfg(test)]

@@ -1,14 +1,12 @@
 //! The run of one NOP through all layers.
 
-mod calls;
 mod devices;
+mod failing;
 mod failures;
+mod files;
 mod sessions;
-mod shown;
 mod sources;
 mod texts;
-mod tracing;
-mod words;
 
 /// One NOP with user_data 7: put, pushed, entered, issued, finished and reaped.
 const ONE_NOP: &str =

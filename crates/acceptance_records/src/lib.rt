@@ -1,5 +1,5 @@
-//! Tests that cross crates, below the sessions: which places the records of runs name and how much they keep,
-//! and where watches and breaks stop.
+//! Tests below the sessions: what records keep, how few steps jumps and searches make, and traces that are cut,
+//! changed, and written again.
 #![tactic(auto)]
 
 #[cfg(test)]

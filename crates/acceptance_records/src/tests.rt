@@ -1,15 +1,63 @@
-//! Steps of small runs, and what their records name.
+//! Runs of small scripts, and traces.
 
-mod cancels;
-mod chains;
-mod entering;
-mod files;
-mod notes;
-mod pipes;
-mod records;
-mod stops;
-mod timers;
+mod jumps;
+mod keeping;
+mod runs;
+mod searches;
+mod setups;
+mod traces_again;
+mod units;
+
+use inverse_log::Walker;
+use machine::{Event, State};
+use opcodes::Choice;
+use script::{Script, read_script};
+use std::alloc::Global;
+use std::test::Fail;
 
 /// One NOP with user_data 7, which a thread puts, pushes, enters and reaps.
 const ONE_NOP: &str =
     r#"{"entries":1,"threads":[[["put",0,{"op":0,"ud":7}],["push",0],["enter",1,0,0],["reap"]]],"schedule":[]}"#;
+
+/// The only request of a thread, from its Put to its end, and one more step of the thread.
+const REQUEST_AND_STEP: [Event; 6] = [
+    Event::Step(0),
+    Event::Step(0),
+    Event::Step(0),
+    Event::Issue(0),
+    Event::Finish(0, Choice::Full),
+    Event::Step(0),
+];
+
+/// Two requests of a thread, which are entered together and end one after the other.
+const TWO_REQUESTS: [Event; 9] = [
+    Event::Step(0),
+    Event::Step(0),
+    Event::Step(0),
+    Event::Step(0),
+    Event::Step(0),
+    Event::Issue(0),
+    Event::Finish(0, Choice::Full),
+    Event::Issue(1),
+    Event::Finish(1, Choice::Full),
+];
+
+fn state_over(alloc: Global, script: &Script) -> Result<State, Fail> {
+    Ok(State::new(alloc, script.setup())?)
+}
+
+// The state at the start of a script.
+fn state_of(alloc: Global, text: &str) -> Result<State, Fail> {
+    let script = read_script(alloc, text.as_bytes())?;
+    state_over(alloc, &script)
+}
+
+fn walker_over(alloc: Global, script: &Script) -> Result<Walker, Fail> {
+    Ok(Walker::new(alloc, script.setup())?)
+}
+
+// A walker at the start of a script.
+fn walker_of(alloc: Global, text: &str) -> Result<Walker, Fail> {
+    let script = read_script(alloc, text.as_bytes())?;
+    walker_over(alloc, &script)
+}

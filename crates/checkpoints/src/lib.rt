@@ -4,6 +4,3 @@
 pub mod kept;
 
 pub use kept::Kept;
-
-#[cfg(test)]
-mod tests;

@@ -1,16 +1,17 @@
 -- What is fed, with what the source was asked by then.
-use Rattle.std.proofs.Common.{◌≡◌, inl, inr, ℕ, ◌+◌, ◌==◌, ◌<◌, List, [], ◌∷◌, ◌++◌, length, take, get_or, not, codes, Bool, true, false, Option, None, refl, sym, ap, ◌∙◌, subst, append_assoc}
+use Rattle.std.specs.Prelude.{◌≢◌, IfErr}
+use Rattle.std.proofs.Common.{◌≡◌, inl, inr, ℕ, ◌+◌, ◌==◌, ◌<◌, List, [], ◌∷◌, ◌++◌, length, take, get_or, not, codes, Bool, true, false, Option, None, Result, Ok, Err, refl, sym, ap, ◌∙◌, subst, append_assoc}
 use Rattle.std.proofs.KnownBytes.{Appends-nil}
 use Rattle.std.specs.Str.{bytes_eq}
 use Rattle.std.specs.Io.KnownBytes.{Appends, Consumes, Keeps, IsAtEnd}
-use Rattle.debug_server.specs.Visits.{Visit}
-use Rattle.debug_server.specs.Replies.{Told, Reply, reply}
-use Rattle.debug_server.specs.Lines.{lines_of}
-use Rattle.debug_server.specs.Talks.{asks, told, turn, Fits, Talk, talk, output, Asked, Served, BrokeBy}
+use Rattle.debug_server.specs.SessionStates.{SessionState}
+use Rattle.debug_server.specs.Replies.{Answer, Reply, reply}
+use Rattle.debug_server.specs.Lines.{lines_of, ended_lines}
+use Rattle.debug_server.specs.Transcripts.{asks, answer_for, turn, Fits, Transcript, transcript, output, streams, Asked, Served, BrokeBy}
 use Rattle.debug_server.specs.declared.faults.ServeFault.{ServeFault}
-use Rattle.debug_server.specs.declared.faults.ServeFault.TheVariants.{Memory}
-use Rattle.debug_server.specs.Pending.{IsPending, grown, WritesFront, Gave, FillsBy, BreaksBy, EndsBy, FrontBy, ReadsBy}
-use Rattle.debug_server.proofs.Bytes.{lines_of-ended}
+use Rattle.debug_server.specs.declared.faults.ServeFault.TheVariants.{Memory, Closed}
+use Rattle.debug_server.specs.Pending.{IsPending, grown, IsOfReplying, WritesFront, Gave, FillsBy, BreaksBy, EndsBy, FrontBy, ReadsBy}
+use Rattle.debug_server.proofs.Bytes.{lines_by-ended}
 use Rattle.debug_server.proofs.Turns.{alone_asked, lacking}
 use Rattle.debug_server.proofs.Feeding.{byte_at, ended_at, cut_at, fed_on, fed_quit, cut_on, lacks_on, fills_start}
 use Rattle.debug_server.proofs.Reading.{reads_start, reads_on, served_quit, served_end, broke_read, broke_end, broke_feed, ended_later, fed_later, last_lacking, last_used, ends_empty, ends_line, front_line, ends_at}
@@ -33,23 +34,23 @@ asking_line line text r e t h = ap (bytes_eq line) (sym t) ∙ yes (bytes_eq lin
     yes false k = absurd (cc)
 
 -- a line that asks and gets no answer, and more behind it
-line_lacks : (v : Visit) (line text : List ℕ) (b : ℕ) → IsPending line → b ≡ 10 → text ≡ line → asks text ≡ true → (more : List ℕ) → (talk v (lines_of ((line ++ b ∷ []) ++ more)) []).left ≡ None
+line_lacks : (v : SessionState) (line text : List ℕ) (b : ℕ) → IsPending line → b ≡ 10 → text ≡ line → asks text ≡ true → (more : List ℕ) → (transcript v (ended_lines ((line ++ b ∷ []) ++ more)) []).left ≡ None
 line_lacks v line text b p e t h more =
-    ap (λ x. (talk v (lines_of ((line ++ x ∷ []) ++ more)) []).left) e
-    ∙ ap (λ l. (talk v (lines_of l) []).left) (append_assoc line (10 ∷ []) more)
-    ∙ ap (λ ls. (talk v ls []).left) (lines_of-ended line more p.plain)
-    ∙ lacking v line (lines_of more) (ap asks (sym t) ∙ h)
+    ap (λ x. (transcript v (ended_lines ((line ++ x ∷ []) ++ more)) []).left) e
+    ∙ ap (λ l. (transcript v (ended_lines l) []).left) (append_assoc line (10 ∷ []) more)
+    ∙ ap (λ ls. (transcript v ls []).left) (lines_by-ended false line more p.plain)
+    ∙ lacking v line (ended_lines more) (ap asks (sym t) ∙ h)
 
-module _ {S : Type 0} (gives : S → Told → S → Type 0) where
+module _ {S : Type 0} (gives : S → Answer → S → Type 0) where
   -- one list of answers after another
-  pub asked_trans : (a b c : S) (ts us : List Told) → Asked gives a ts b → Asked gives b us c → Asked gives a (ts ++ us) c
+  pub asked_trans : (a b c : S) (ts us : List Answer) → Asked gives a ts b → Asked gives b us c → Asked gives a (ts ++ us) c
   asked_trans a b c [] us h k = subst (λ (x : S). Asked gives x us c) h k
   asked_trans a b c (t ∷ ts) us h k = (h.0, h.1, asked_trans h.0 b c ts us h.2 k)
 
   -- ---- one line
 
   -- the reply, by what the source gave
-  given : (v : Visit) (line : List ℕ) (s s' : S) (answer : Told) (g : Gave gives line s answer s') → reply v line answer ≡ turn v line g.answers
+  given : (v : SessionState) (line : List ℕ) (s s' : S) (answer : Answer) (g : Gave gives line s answer s') → reply v line answer ≡ turn v line g.answers
   given v line s s' answer g = ap (reply v line) g.same
 
   pub asked_none : (line : List ℕ) (s : S) → asks line ≡ false → Gave gives line s None s
@@ -57,25 +58,25 @@ module _ {S : Type 0} (gives : S → Told → S → Type 0) where
     answers = [];
     asked = refl;
     fits = let P : Bool → Type 0 = λ q. Fits q [] in subst P (sym h) tt;
-    same = ap (λ q. told q []) (sym h);
+    same = ap (λ q. answer_for q []) (sym h);
   }
 
-  pub asked_once : (line : List ℕ) (s s' : S) (answer : Told) → asks line ≡ true → gives s answer s' → Gave gives line s answer s'
+  pub asked_once : (line : List ℕ) (s s' : S) (answer : Answer) → asks line ≡ true → gives s answer s' → Gave gives line s answer s'
   asked_once line s s' answer h g = record {
     answers = answer ∷ [];
     asked = (s', g, refl);
     fits = let P : Bool → Type 0 = λ q. Fits q (answer ∷ []) in subst P (sym h) tt;
-    same = ap (λ q. told q (answer ∷ [])) (sym h);
+    same = ap (λ q. answer_for q (answer ∷ [])) (sym h);
   }
 
   -- the same answer, lent
-  pub lent_gave : (line : List ℕ) (s s' : S) (t answer : Told) → t ≡ answer → Gave gives line s answer s' → Gave gives line s t s'
+  pub lent_gave : (line : List ℕ) (s s' : S) (t answer : Answer) → t ≡ answer → Gave gives line s answer s' → Gave gives line s t s'
   lent_gave line s s' t answer e g = record { answers = g.answers; asked = g.asked; fits = g.fits; same = e ∙ g.same }
 
-  pub byte_by : (s : S) (v : Visit) (line line' : List ℕ) (b : ℕ) (h : Option (List ℕ)) → IsPending line → (b == 10) ≡ false → line' ≡ grown line b → FillsBy gives s s v (line ++ b ∷ []) h h false v line'
+  pub byte_by : (s : S) (v : SessionState) (line line' : List ℕ) (b : ℕ) (h : Option (List ℕ)) → IsPending line → (b == 10) ≡ false → line' ≡ grown line b → FillsBy gives s s v (line ++ b ∷ []) h h false v line'
   byte_by s v line line' b h p e g = record { answers = []; asked = refl; fills = byte_at v line line' b h p e g }
 
-  pub ended_by : (s s' : S) (v v' : Visit) (line text line' : List ℕ) (b : ℕ) (q : Bool) (answer : Told) (h h' : Option (List ℕ)) → IsPending line → b ≡ 10 → text ≡ line → Gave gives text s answer s' → Appends h h' (reply v text answer).text → v' ≡ (reply v text answer).next → q ≡ (reply v text answer).quits → line' ≡ [] → FillsBy gives s s' v (line ++ b ∷ []) h h' q v' line'
+  pub ended_by : (s s' : S) (v v' : SessionState) (line text line' : List ℕ) (b : ℕ) (q : Bool) (answer : Answer) (h h' : Option (List ℕ)) → IsPending line → b ≡ 10 → text ≡ line → Gave gives text s answer s' → Appends h h' (reply v text answer).text → v' ≡ (reply v text answer).next → q ≡ (reply v text answer).quits → line' ≡ [] → FillsBy gives s s' v (line ++ b ∷ []) h h' q v' line'
   ended_by s s' v v' line text line' b q answer h h' p e t g a n k l =
       let same = given v text s s' answer g in
       record {
@@ -87,7 +88,7 @@ module _ {S : Type 0} (gives : S → Told → S → Type 0) where
             (k ∙ ap (λ (r : Reply). r.quits) same) l;
       }
 
-  pub cut_by : (fails : S → S → Type 0) (s s' : S) (fault : ServeFault) (v : Visit) (line text : List ℕ) (b : ℕ) (answer : Told) (h h' : Option (List ℕ)) → IsPending line → b ≡ 10 → text ≡ line → Gave gives text s answer s' → WritesFront h h' (reply v text answer).text → BreaksBy gives fails s s' fault v (line ++ b ∷ []) h h'
+  pub cut_by : (fails : S → S → Type 0) (s s' : S) (fault : ServeFault) (v : SessionState) (line text : List ℕ) (b : ℕ) (answer : Answer) (h h' : Option (List ℕ)) → IsPending line → b ≡ 10 → text ≡ line → Gave gives text s answer s' → WritesFront h h' (reply v text answer).text → BreaksBy gives fails s s' fault v (line ++ b ∷ []) h h'
   cut_by fails s s' fault v line text b answer h h' p e t g f =
       let P : List ℕ → Type 0 = λ x. WritesFront h h' x in
       record {
@@ -99,7 +100,7 @@ module _ {S : Type 0} (gives : S → Told → S → Type 0) where
       }
 
   -- the source gave nothing, so nothing was written
-  pub unasked_by : (fails : S → S → Type 0) (s s' : S) (fault : ServeFault) (v : Visit) (line text : List ℕ) (b : ℕ) (h : Option (List ℕ)) → IsPending line → b ≡ 10 → text ≡ line → fault ≡ Memory → asks text ≡ true → fails s s' → BreaksBy gives fails s s' fault v (line ++ b ∷ []) h h
+  pub unasked_by : (fails : S → S → Type 0) (s s' : S) (fault : ServeFault) (v : SessionState) (line text : List ℕ) (b : ℕ) (h : Option (List ℕ)) → IsPending line → b ≡ 10 → text ≡ line → fault ≡ Memory → asks text ≡ true → fails s s' → BreaksBy gives fails s s' fault v (line ++ b ∷ []) h h
   unasked_by fails s s' fault v line text b h p e t m a k = record {
     answers = [];
     mid = s;
@@ -108,31 +109,31 @@ module _ {S : Type 0} (gives : S → Told → S → Type 0) where
     breaks = record {
       front = [];
       appended = Appends-nil h;
-      begins = λ more others. (output v (lines_of ((line ++ b ∷ []) ++ more)) others, refl);
-      asked = λ more. alone_asked (lines_of ((line ++ b ∷ []) ++ more)) v;
+      begins = λ more others. (output v (ended_lines ((line ++ b ∷ []) ++ more)) others, refl);
+      asked = λ more. alone_asked (ended_lines ((line ++ b ∷ []) ++ more)) v;
     };
   }
 
   -- ---- some bytes
 
-  pub fed_none : (s : S) (v : Visit) (line : List ℕ) (h : Option (List ℕ)) → FillsBy gives s s v line h h false v line
+  pub fed_none : (s : S) (v : SessionState) (line : List ℕ) (h : Option (List ℕ)) → FillsBy gives s s v line h h false v line
   fed_none s v line h = record { answers = []; asked = refl; fills = fills_start v line h }
 
-  pub fed_more : (s m s' : S) (w v u : Visit) (line bytes now line' : List ℕ) (i : ℕ) (h h' h'' : Option (List ℕ)) (q : Bool) → i < length bytes → FillsBy gives s m w (line ++ take i bytes) h h' false v now → FillsBy gives m s' v (now ++ get_or bytes i 0 ∷ []) h' h'' q u line' → FillsBy gives s s' w (line ++ take (i + 1) bytes) h h'' q u line'
+  pub fed_more : (s m s' : S) (w v u : SessionState) (line bytes now line' : List ℕ) (i : ℕ) (h h' h'' : Option (List ℕ)) (q : Bool) → i < length bytes → FillsBy gives s m w (line ++ take i bytes) h h' false v now → FillsBy gives m s' v (now ++ get_or bytes i 0 ∷ []) h' h'' q u line' → FillsBy gives s s' w (line ++ take (i + 1) bytes) h h'' q u line'
   fed_more s m s' w v u line bytes now line' i h h' h'' q lt f g = record {
     answers = f.answers ++ g.answers;
     asked = asked_trans s m s' f.answers g.answers f.asked g.asked;
     fills = fed_on w v u line bytes now line' f.answers g.answers i h h' h'' q lt f.fills g.fills;
   }
 
-  pub fed_past : (s m s' : S) (w v u : Visit) (line bytes now line' : List ℕ) (i : ℕ) (h h' h'' : Option (List ℕ)) → i < length bytes → FillsBy gives s m w (line ++ take i bytes) h h' false v now → FillsBy gives m s' v (now ++ get_or bytes i 0 ∷ []) h' h'' true u line' → FillsBy gives s s' w (line ++ bytes) h h'' true u line'
+  pub fed_past : (s m s' : S) (w v u : SessionState) (line bytes now line' : List ℕ) (i : ℕ) (h h' h'' : Option (List ℕ)) → i < length bytes → FillsBy gives s m w (line ++ take i bytes) h h' false v now → FillsBy gives m s' v (now ++ get_or bytes i 0 ∷ []) h' h'' true u line' → FillsBy gives s s' w (line ++ bytes) h h'' true u line'
   fed_past s m s' w v u line bytes now line' i h h' h'' lt f g = record {
     answers = f.answers ++ g.answers;
     asked = asked_trans s m s' f.answers g.answers f.asked g.asked;
     fills = fed_quit w v u line bytes now line' f.answers g.answers i h h' h'' lt f.fills g.fills;
   }
 
-  pub cut_more : (fails : S → S → Type 0) (s m s' : S) (fault : ServeFault) (w v : Visit) (line bytes now : List ℕ) (i : ℕ) (h h' h'' : Option (List ℕ)) → i < length bytes → FillsBy gives s m w (line ++ take i bytes) h h' false v now → BreaksBy gives fails m s' fault v (now ++ get_or bytes i 0 ∷ []) h' h'' → BreaksBy gives fails s s' fault w (line ++ bytes) h h''
+  pub cut_more : (fails : S → S → Type 0) (s m s' : S) (fault : ServeFault) (w v : SessionState) (line bytes now : List ℕ) (i : ℕ) (h h' h'' : Option (List ℕ)) → i < length bytes → FillsBy gives s m w (line ++ take i bytes) h h' false v now → BreaksBy gives fails m s' fault v (now ++ get_or bytes i 0 ∷ []) h' h'' → BreaksBy gives fails s s' fault w (line ++ bytes) h h''
   cut_more fails s m s' fault w v line bytes now i h h' h'' lt f b = record {
     answers = f.answers ++ b.answers;
     mid = b.mid;
@@ -143,10 +144,10 @@ module _ {S : Type 0} (gives : S → Told → S → Type 0) where
 
   -- ---- the last line
 
-  pub ends_none : (s : S) (v : Visit) (line : List ℕ) (h : Option (List ℕ)) → line ≡ [] → EndsBy gives s s v line h h false v
+  pub ends_none : (s : S) (v : SessionState) (line : List ℕ) (h : Option (List ℕ)) → line ≡ [] → EndsBy gives s s v line h h false v
   ends_none s v line h e = record { answers = []; asked = refl; ends = ends_empty v line h e }
 
-  pub ends_by : (s s' : S) (v v' : Visit) (line : List ℕ) (q : Bool) (answer : Told) (h h' : Option (List ℕ)) → IsPending line → 0 < length line → Gave gives line s answer s' → Appends h h' (reply v line answer).text → v' ≡ (reply v line answer).next → q ≡ (reply v line answer).quits → EndsBy gives s s' v line h h' q v'
+  pub ends_by : (s s' : S) (v v' : SessionState) (line : List ℕ) (q : Bool) (answer : Answer) (h h' : Option (List ℕ)) → IsPending line → 0 < length line → Gave gives line s answer s' → Appends h h' (reply v line answer).text → v' ≡ (reply v line answer).next → q ≡ (reply v line answer).quits → EndsBy gives s s' v line h h' q v'
   ends_by s s' v v' line q answer h h' p some g a n k =
       let same = given v line s s' answer g in
       record {
@@ -158,7 +159,7 @@ module _ {S : Type 0} (gives : S → Told → S → Type 0) where
             (k ∙ ap (λ (r : Reply). r.quits) same);
       }
 
-  pub front_by : (fails : S → S → Type 0) (s s' : S) (fault : ServeFault) (v : Visit) (line : List ℕ) (answer : Told) (h h' : Option (List ℕ)) → IsPending line → 0 < length line → Gave gives line s answer s' → WritesFront h h' (reply v line answer).text → FrontBy gives fails s s' fault v line h h'
+  pub front_by : (fails : S → S → Type 0) (s s' : S) (fault : ServeFault) (v : SessionState) (line : List ℕ) (answer : Answer) (h h' : Option (List ℕ)) → IsPending line → 0 < length line → Gave gives line s answer s' → WritesFront h h' (reply v line answer).text → FrontBy gives fails s s' fault v line h h'
   front_by fails s s' fault v line answer h h' p some g f =
       let P : List ℕ → Type 0 = λ x. WritesFront h h' x in
       record {
@@ -170,7 +171,7 @@ module _ {S : Type 0} (gives : S → Told → S → Type 0) where
         front = front_line v line g.answers h h' p some g.fits (subst P (ap (λ (r : Reply). r.text) (given v line s s' answer g)) f);
       }
 
-  pub front_none : (fails : S → S → Type 0) (s s' : S) (fault : ServeFault) (v : Visit) (line : List ℕ) (h : Option (List ℕ)) → IsPending line → 0 < length line → fault ≡ Memory → asks line ≡ true → fails s s' → FrontBy gives fails s s' fault v line h h
+  pub front_none : (fails : S → S → Type 0) (s s' : S) (fault : ServeFault) (v : SessionState) (line : List ℕ) (h : Option (List ℕ)) → IsPending line → 0 < length line → fault ≡ Memory → asks line ≡ true → fails s s' → FrontBy gives fails s s' fault v line h h
   front_none fails s s' fault v line h p some m a k = record {
     answers = [];
     mid = s;
@@ -180,15 +181,15 @@ module _ {S : Type 0} (gives : S → Told → S → Type 0) where
     front = record { front = []; rest = output v (lines_of line) []; whole = refl; appended = Appends-nil h };
   }
 
-  pub front_at : (fails : S → S → Type 0) (s s' : S) (fault : ServeFault) (v : Visit) (line text : List ℕ) (h h' : Option (List ℕ)) → text ≡ line → FrontBy gives fails s s' fault v text h h' → FrontBy gives fails s s' fault v line h h'
+  pub front_at : (fails : S → S → Type 0) (s s' : S) (fault : ServeFault) (v : SessionState) (line text : List ℕ) (h h' : Option (List ℕ)) → text ≡ line → FrontBy gives fails s s' fault v text h h' → FrontBy gives fails s s' fault v line h h'
   front_at fails s s' fault v line text h h' e f = let P : List ℕ → Type 0 = λ l. FrontBy gives fails s s' fault v l h h' in subst P e f
 
   -- ---- reads
 
-  pub read_none : (s : S) (v : Visit) (r h : Option (List ℕ)) → ReadsBy gives s s v r r h h v []
+  pub read_none : (s : S) (v : SessionState) (r h : Option (List ℕ)) → ReadsBy gives s s v r r h h v []
   read_none s v r h = record { answers = []; asked = refl; reads = reads_start v r h }
 
-  pub read_more : (s m s' : S) (w v u : Visit) (r r' r'' h h' h'' : Option (List ℕ)) (line bytes line' : List ℕ) → ReadsBy gives s m w r r' h h' v line → Consumes r' r'' bytes → FillsBy gives m s' v (line ++ bytes) h' h'' false u line' → ReadsBy gives s s' w r r'' h h'' u line'
+  pub read_more : (s m s' : S) (w v u : SessionState) (r r' r'' h h' h'' : Option (List ℕ)) (line bytes line' : List ℕ) → ReadsBy gives s m w r r' h h' v line → Consumes r' r'' bytes → FillsBy gives m s' v (line ++ bytes) h' h'' false u line' → ReadsBy gives s s' w r r'' h h'' u line'
   read_more s m s' w v u r r' r'' h h' h'' line bytes line' f c g = record {
     answers = f.answers ++ g.answers;
     asked = asked_trans s m s' f.answers g.answers f.asked g.asked;
@@ -196,17 +197,17 @@ module _ {S : Type 0} (gives : S → Told → S → Type 0) where
   }
 
   -- what a conversation ensures at Ok
-  abbrev pub Ok_by : S → S → Visit → Option (List ℕ) → Option (List ℕ) → Option (List ℕ) → Option (List ℕ) → Visit → Bool → Type 0
-  Ok_by s s' w r r' h h' u q = (answers : List Told) × Asked gives s answers s' × Served w r r' h h' answers u q
+  abbrev pub Ok_by : S → S → SessionState → Option (List ℕ) → Option (List ℕ) → Option (List ℕ) → Option (List ℕ) → SessionState → Bool → Type 0
+  Ok_by s s' w r r' h h' u q = (answers : List Answer) × Asked gives s answers s' × Served w (streams r h) (streams r' h') answers u q
 
-  pub quit_by : (s m s' : S) (w v u : Visit) (r r' r'' h h' h'' : Option (List ℕ)) (line bytes line' : List ℕ) → ReadsBy gives s m w r r' h h' v line → Consumes r' r'' bytes → FillsBy gives m s' v (line ++ bytes) h' h'' true u line' → Ok_by s s' w r r'' h h'' u true
+  pub quit_by : (s m s' : S) (w v u : SessionState) (r r' r'' h h' h'' : Option (List ℕ)) (line bytes line' : List ℕ) → ReadsBy gives s m w r r' h h' v line → Consumes r' r'' bytes → FillsBy gives m s' v (line ++ bytes) h' h'' true u line' → Ok_by s s' w r r'' h h'' u true
   quit_by s m s' w v u r r' r'' h h' h'' line bytes line' f c g = (
     f.answers ++ g.answers,
     asked_trans s m s' f.answers g.answers f.asked g.asked,
     served_quit w v u r r' r'' h h' h'' f.answers g.answers line bytes line' f.reads c g.fills,
   )
 
-  pub end_by : (s m s' : S) (w v u : Visit) (r r' r'' h h' h'' : Option (List ℕ)) (line text : List ℕ) (q : Bool) → ReadsBy gives s m w r r' h h' v line → Consumes r' r'' [] → IsAtEnd r'' → text ≡ line → EndsBy gives m s' v text h' h'' q u → Ok_by s s' w r r'' h h'' u q
+  pub end_by : (s m s' : S) (w v u : SessionState) (r r' r'' h h' h'' : Option (List ℕ)) (line text : List ℕ) (q : Bool) → ReadsBy gives s m w r r' h h' v line → Consumes r' r'' [] → IsAtEnd r'' → text ≡ line → EndsBy gives m s' v text h' h'' q u → Ok_by s s' w r r'' h h'' u q
   end_by s m s' w v u r r' r'' h h' h'' line text q f c e t g = (
     f.answers ++ g.answers,
     asked_trans s m s' f.answers g.answers f.asked g.asked,
@@ -215,31 +216,40 @@ module _ {S : Type 0} (gives : S → Told → S → Type 0) where
 
   -- ---- at a fault
 
-  pub broke_by : (fails : S → S → Type 0) (s m : S) (fault : ServeFault) (w v : Visit) (r r' r'' h h' : Option (List ℕ)) (line : List ℕ) → ReadsBy gives s m w r r' h h' v line → Keeps r' r'' → BrokeBy gives fails s m fault w r r'' h h'
-  broke_by fails s m fault w v r r' r'' h h' line f k = record {
+  pub broke_by : (fails : S → S → Type 0) (s m : S) (fault : ServeFault) (w v : SessionState) (r r' r'' h h' : Option (List ℕ)) (line : List ℕ) → ReadsBy gives s m w r r' h h' v line → Keeps r' r'' → IsPending line → BrokeBy gives fails s m fault w (streams r h) (streams r'' h')
+  broke_by fails s m fault w v r r' r'' h h' line f k p = record {
     answers = f.answers;
     last = m;
     given = f.asked;
-    broke = broke_read w v r r' r'' h h' f.answers line f.reads k;
+    broke = broke_read w v r r' r'' h h' f.answers line fault f.reads k p;
     no_more = inl refl;
   }
 
-  pub broke_end_by : (fails : S → S → Type 0) (s m s' : S) (fault : ServeFault) (w v : Visit) (r r' r'' h h' h'' : Option (List ℕ)) (line text : List ℕ) → ReadsBy gives s m w r r' h h' v line → Consumes r' r'' [] → text ≡ line → FrontBy gives fails m s' fault v text h' h'' → BrokeBy gives fails s s' fault w r r'' h h''
-  broke_end_by fails s m s' fault w v r r' r'' h h' h'' line text f c t k =
+  pub broke_end_by : (fails : S → S → Type 0) (s m s' : S) (fault : ServeFault) (w v : SessionState) (r r' r'' h h' h'' : Option (List ℕ)) (line text : List ℕ) → ReadsBy gives s m w r r' h h' v line → Consumes r' r'' [] → IsAtEnd r'' → text ≡ line → IsOfReplying fault → FrontBy gives fails m s' fault v text h' h'' → BrokeBy gives fails s s' fault w (streams r h) (streams r'' h'')
+  broke_end_by fails s m s' fault w v r r' r'' h h' h'' line text f c e t o k =
       let g = front_at fails m s' fault v line text h' h'' t k in
       record {
         answers = f.answers ++ g.answers;
         last = g.mid;
         given = asked_trans s m g.mid f.answers g.answers f.asked g.asked;
-        broke = broke_end w v r r' r'' h h' h'' f.answers g.answers line f.reads c g.front g.used;
-        no_more = elim g.no_more [ inl e ↦ inl e | inr n ↦ inr (n.0, ap (λ (x : Talk). x.left) (ended_later w v r r' h h' f.answers g.answers line f.reads) ∙ n.1, n.2) ];
+        broke = broke_end w v r r' r'' h h' h'' f.answers g.answers line fault f.reads c e o g.front g.used;
+        no_more = elim g.no_more [ inl e ↦ inl e | inr n ↦ inr (n.0, ap (λ (x : Transcript). x.left) (ended_later w v r r' h h' f.answers g.answers line f.reads) ∙ n.1, n.2) ];
       }
 
-  pub broke_feed_by : (fails : S → S → Type 0) (s m s' : S) (fault : ServeFault) (w v : Visit) (r r' r'' h h' h'' : Option (List ℕ)) (line bytes : List ℕ) → ReadsBy gives s m w r r' h h' v line → Consumes r' r'' bytes → BreaksBy gives fails m s' fault v (line ++ bytes) h' h'' → BrokeBy gives fails s s' fault w r r'' h h''
-  broke_feed_by fails s m s' fault w v r r' r'' h h' h'' line bytes f c g = record {
+  pub broke_feed_by : (fails : S → S → Type 0) (s m s' : S) (fault : ServeFault) (w v : SessionState) (r r' r'' h h' h'' : Option (List ℕ)) (line bytes : List ℕ) → ReadsBy gives s m w r r' h h' v line → Consumes r' r'' bytes → IsOfReplying fault → BreaksBy gives fails m s' fault v (line ++ bytes) h' h'' → BrokeBy gives fails s s' fault w (streams r h) (streams r'' h'')
+  broke_feed_by fails s m s' fault w v r r' r'' h h' h'' line bytes f c o g = record {
     answers = f.answers ++ g.answers;
     last = g.mid;
     given = asked_trans s m g.mid f.answers g.answers f.asked g.asked;
-    broke = broke_feed w v r r' r'' h h' h'' f.answers g.answers line bytes f.reads c g.breaks;
-    no_more = elim g.no_more [ inl e ↦ inl e | inr n ↦ inr (n.0, ap (λ (x : Talk). x.left) (fed_later w v r r' h h' f.answers g.answers line bytes f.reads) ∙ n.1 [], n.2) ];
+    broke = broke_feed w v r r' r'' h h' h'' f.answers g.answers line bytes fault f.reads c o g.breaks;
+    no_more = elim g.no_more [ inl e ↦ inl e | inr n ↦ inr (n.0, ap (λ (x : Transcript). x.left) (fed_later w v r r' h h' f.answers g.answers line bytes f.reads) ∙ n.1 [], n.2) ];
   }
+
+pub with_replying : {X : Type 0} (P : ServeFault → Type 0) (r : Result X ServeFault) → IfErr r P → IfErr r IsOfReplying → IfErr r (λ e. P e × IsOfReplying e)
+with_replying P (Ok x) h k = tt
+with_replying P (Err e) h k = (h, k)
+
+-- what fails so was not closed
+pub not_closed : {X : Type 0} → (r : Result X ServeFault) → IfErr r IsOfReplying → r ≢ Err Closed
+not_closed (Ok x) h = λ e. cc
+not_closed (Err f) h = λ e. let same : f ≡ Closed = cc in absurd (let P : ServeFault → Type 0 = λ x. IsOfReplying x in subst P same h)

@@ -1,9 +1,9 @@
 -- Lines that have not ended, and what their bytes come to.
-use Rattle.std.proofs.Common.{◌≡◌, ℕ, zero, suc, ◌+◌, ◌==◌, ◌<◌, ◌≤◌, List, [], ◌∷◌, ◌++◌, length, take, not, Bool, true, false, ◌&&◌, refl, sym, ap, ◌∙◌, arith, append-nil, length-append, length-take}
+use Rattle.std.proofs.Common.{◌≡◌, ℕ, zero, suc, ◌+◌, ◌==◌, ◌<◌, ◌≤◌, List, [], ◌∷◌, ◌++◌, length, take, not, Bool, true, false, cond, ◌&&◌, refl, sym, ap, ◌∙◌, arith, append-nil, length-append, length-take}
 use Rattle.std.proofs.Math.ListN.{set}
 use Rattle.std.proofs.Math.Seq.{take-suc-set, take-append_seam}
 use Rattle.std.specs.List.{list_all}
-use Rattle.debug_server.specs.Lines.{onto_line, lines_of}
+use Rattle.debug_server.specs.Lines.{onto_line, lines_by, lines_of, ended_lines}
 use Rattle.debug_server.specs.Pending.{grown}
 
 pub take_all : {X : Type 0} → (xs : List X) (n : ℕ) → length xs ≤ n → take n xs ≡ xs
@@ -36,29 +36,54 @@ head_plain true more h = absurd (cc)
 head_plain false more h = (refl, h)
 
 -- the bytes of a line at the front of the first line
-abbrev pub onto_lines : List ℕ → List (List ℕ) → List (List ℕ)
-onto_lines [] ls = ls
-onto_lines (b ∷ line) ls = onto_line b (onto_lines line ls)
+abbrev pub onto_lines : Bool → List ℕ → List (List ℕ) → List (List ℕ)
+onto_lines last [] ls = ls
+onto_lines last (b ∷ line) ls = onto_line last b (onto_lines last line ls)
 
-pub lines_of-plain : (line bytes : List ℕ) → is_plain line ≡ true → lines_of (line ++ bytes) ≡ onto_lines line (lines_of bytes)
-lines_of-plain [] bytes h = refl
-lines_of-plain (b ∷ line) bytes h =
+pub lines_by-plain : (last : Bool) (line bytes : List ℕ) → is_plain line ≡ true → lines_by last (line ++ bytes) ≡ onto_lines last line (lines_by last bytes)
+lines_by-plain last [] bytes h = refl
+lines_by-plain last (b ∷ line) bytes h =
     let p = head_plain (b == 10) (is_plain line) h in
-    rw p.0 (ap (onto_line b) (lines_of-plain line bytes p.1))
+    rw p.0 (ap (onto_line last b) (lines_by-plain last line bytes p.1))
 
-pub onto_lines-cons : (line l : List ℕ) (ls : List (List ℕ)) → onto_lines line (l ∷ ls) ≡ (line ++ l) ∷ ls
-onto_lines-cons [] l ls = refl
-onto_lines-cons (b ∷ line) l ls = ap (onto_line b) (onto_lines-cons line l ls)
+pub onto_lines-cons : (last : Bool) (line l : List ℕ) (ls : List (List ℕ)) → onto_lines last line (l ∷ ls) ≡ (line ++ l) ∷ ls
+onto_lines-cons last [] l ls = refl
+onto_lines-cons last (b ∷ line) l ls = ap (onto_line last b) (onto_lines-cons last line l ls)
 
-pub onto_lines-nil : (line : List ℕ) → 0 < length line → onto_lines line [] ≡ line ∷ []
+pub onto_lines-nil : (line : List ℕ) → 0 < length line → onto_lines true line [] ≡ line ∷ []
 onto_lines-nil [] h = absurd (omega arith)
 onto_lines-nil (b ∷ []) h = refl
-onto_lines-nil (b ∷ c ∷ line) h = ap (onto_line b) (onto_lines-nil (c ∷ line) (omega arith))
+onto_lines-nil (b ∷ c ∷ line) h = ap (onto_line true b) (onto_lines-nil (c ∷ line) (omega arith))
+
+onto_lines-none : (line : List ℕ) → onto_lines false line [] ≡ []
+onto_lines-none [] = refl
+onto_lines-none (b ∷ line) = ap (onto_line false b) (onto_lines-none line)
 
 -- an ended line is the first
-pub lines_of-ended : (line bytes : List ℕ) → is_plain line ≡ true → lines_of (line ++ 10 ∷ bytes) ≡ line ∷ lines_of bytes
-lines_of-ended line bytes h = lines_of-plain line (10 ∷ bytes) h ∙ onto_lines-cons line [] (lines_of bytes) ∙ ap (λ l. l ∷ lines_of bytes) (append-nil line)
+pub lines_by-ended : (last : Bool) (line bytes : List ℕ) → is_plain line ≡ true → lines_by last (line ++ 10 ∷ bytes) ≡ line ∷ lines_by last bytes
+lines_by-ended last line bytes h =
+    lines_by-plain last line (10 ∷ bytes) h
+    ∙ onto_lines-cons last line [] (lines_by last bytes)
+    ∙ ap (λ l. l ∷ lines_by last bytes) (append-nil line)
 
 -- the last line, without a newline
 pub lines_of-last : (line : List ℕ) → is_plain line ≡ true → 0 < length line → lines_of line ≡ line ∷ []
-lines_of-last line h some = ap lines_of (sym (append-nil line)) ∙ lines_of-plain line [] h ∙ onto_lines-nil line some
+lines_of-last line h some = ap lines_of (sym (append-nil line)) ∙ lines_by-plain true line [] h ∙ onto_lines-nil line some
+
+-- it has not ended
+pub ended_lines-plain : (line : List ℕ) → is_plain line ≡ true → ended_lines line ≡ []
+ended_lines-plain line h = ap ended_lines (sym (append-nil line)) ∙ lines_by-plain false line [] h ∙ onto_lines-none line
+
+-- ---- whatever follows
+
+stays_behind : (q : Bool) (b : ℕ) (all ended ls : List (List ℕ)) → all ≡ ended ++ ls → (more : List (List ℕ)) × (cond q ([] ∷ all) (onto_line true b all) ≡ cond q ([] ∷ ended) (onto_line false b ended) ++ more)
+stays_behind true b all ended ls h = (ls, ap (λ x. [] ∷ x) h)
+stays_behind false b all [] ls h = (onto_line true b all, refl)
+stays_behind false b all (l ∷ ended) ls h = (ls, ap (onto_line true b) h)
+
+-- lines that have ended stay the first
+pub ended_stay : (bytes more : List ℕ) → (ls : List (List ℕ)) × (lines_of (bytes ++ more) ≡ ended_lines bytes ++ ls)
+ended_stay [] more = (lines_of more, refl)
+ended_stay (b ∷ bytes) more =
+    let rest = ended_stay bytes more in
+    stays_behind (b == 10) b (lines_of (bytes ++ more)) (ended_lines bytes) rest.0 rest.1

@@ -7,6 +7,8 @@ pub mod Asking
 pub mod Alone
 pub mod Torn
 pub mod SyncLaws
+pub mod SyncLines
+pub mod Replying
 pub mod Stopping
 pub mod Breaking
 pub mod Numerals

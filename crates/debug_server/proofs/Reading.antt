@@ -2,138 +2,164 @@
 use Rattle.std.proofs.Common.{◌≡◌, ◌⊎◌, inl, inr, ℕ, take, ◌<◌, List, [], ◌∷◌, ◌++◌, length, Bool, true, false, cond, Option, Some, None, refl, sym, ap, ◌∙◌, subst, append_assoc, append-nil}
 use Rattle.std.proofs.KnownBytes.{Appends-nil, Appends-trans, Consumes-nil, Consumes-trans, Consumes-kept}
 use Rattle.std.specs.Io.KnownBytes.{Appends, Consumes, Keeps, IsAtEnd}
-use Rattle.debug_server.specs.Visits.{Visit}
-use Rattle.debug_server.specs.Replies.{Told, Reply}
-use Rattle.debug_server.specs.Lines.{lines_of}
-use Rattle.debug_server.specs.Talks.{asks, Fits, turn, Talk, talk, said, silent, output, Served, AllAsked, Broke}
-use Rattle.debug_server.specs.Pending.{IsPending, rest_of, Fills, Breaks, WritesFront, Ends, Reads}
-use Rattle.debug_server.proofs.Bytes.{lines_of-last}
-use Rattle.debug_server.proofs.Turns.{talk_line, rest_asked, lacking}
-use Rattle.debug_server.proofs.Feeding.{fills_start, fills_trans, breaks_later, talk_later, fed_whole}
+use Rattle.debug_server.specs.SessionStates.{SessionState}
+use Rattle.debug_server.specs.Replies.{Answer, Reply}
+use Rattle.debug_server.specs.Lines.{lines_of, ended_lines}
+use Rattle.debug_server.specs.Transcripts.{asks, Fits, turn, Transcript, transcript, prepended, ended, output, streams, Served, AllAsked, Broke}
+use Rattle.debug_server.specs.declared.faults.ServeFault.{ServeFault}
+use Rattle.debug_server.specs.declared.faults.ServeFault.TheVariants.{Read}
+use Rattle.debug_server.specs.Pending.{IsPending, Fills, Breaks, IsOfReplying, WritesFront, Ends, Reads}
+use Rattle.debug_server.proofs.Bytes.{lines_of-last, ended_lines-plain}
+use Rattle.debug_server.proofs.Turns.{transcript_line, lacking}
+use Rattle.debug_server.proofs.Feeding.{fills_start, fills_trans, breaks_later, transcript_later, fed_whole}
 
-after_quit : (q : Bool) (r : Reply) → said r.text (cond q (silent r.next true (Some [])) (silent r.next false (Some []))) ≡ record { text = r.text; next = r.next; quits = q; left = Some [] }
-after_quit true r = ap (λ (x : List ℕ). let u : Talk = record { text = x; next = r.next; quits = true; left = Some [] } in u) (append-nil r.text)
-after_quit false r = ap (λ (x : List ℕ). let u : Talk = record { text = x; next = r.next; quits = false; left = Some [] } in u) (append-nil r.text)
+after_quit : (q : Bool) (r : Reply) → prepended r.text (cond q (ended r.next true (Some [])) (ended r.next false (Some []))) ≡ record { text = r.text; next = r.next; quits = q; left = Some [] }
+after_quit true r = ap (λ (x : List ℕ). let u : Transcript = record { text = x; next = r.next; quits = true; left = Some [] } in u) (append-nil r.text)
+after_quit false r = ap (λ (x : List ℕ). let u : Transcript = record { text = x; next = r.next; quits = false; left = Some [] } in u) (append-nil r.text)
 
 -- a last line alone
-pub last_line : (w : Visit) (line : List ℕ) (given : List Told) → IsPending line → 0 < length line → Fits (asks line) given → talk w (lines_of line) given ≡ record { text = (turn w line given).text; next = (turn w line given).next; quits = (turn w line given).quits; left = Some [] }
+pub last_line : (w : SessionState) (line : List ℕ) (given : List Answer) → IsPending line → 0 < length line → Fits (asks line) given → transcript w (lines_of line) given ≡ record { text = (turn w line given).text; next = (turn w line given).next; quits = (turn w line given).quits; left = Some [] }
 last_line w line given p some fits =
-    ap (λ ls. talk w ls given) (lines_of-last line p.plain some)
-    ∙ ap (talk w (line ∷ [])) (sym (append-nil given))
-    ∙ talk_line w line [] given [] fits
+    ap (λ ls. transcript w ls given) (lines_of-last line p.plain some)
+    ∙ ap (transcript w (line ∷ [])) (sym (append-nil given))
+    ∙ transcript_line w line [] given [] fits
     ∙ after_quit (turn w line given).quits (turn w line given)
 
-pub ends_line : (w w' : Visit) (line : List ℕ) (given : List Told) (h h' : Option (List ℕ)) (q : Bool) → IsPending line → 0 < length line → Fits (asks line) given → Appends h h' (turn w line given).text → w' ≡ (turn w line given).next → q ≡ (turn w line given).quits → Ends w line given h h' q w'
+pub ends_line : (w w' : SessionState) (line : List ℕ) (given : List Answer) (h h' : Option (List ℕ)) (q : Bool) → IsPending line → 0 < length line → Fits (asks line) given → Appends h h' (turn w line given).text → w' ≡ (turn w line given).next → q ≡ (turn w line given).quits → Ends w line given h h' q w'
 ends_line w w' line given h h' q p some fits a n s = record {
   text = (turn w line given).text;
   written = a;
   whole = last_line w line given p some fits
-      ∙ ap (λ (v : Visit). let u : Talk = record { text = (turn w line given).text; next = v; quits = (turn w line given).quits; left = Some [] } in u) (sym n)
-      ∙ ap (λ (z : Bool). let u : Talk = record { text = (turn w line given).text; next = w'; quits = z; left = Some [] } in u) (sym s);
+      ∙ ap (λ (v : SessionState). let u : Transcript = record { text = (turn w line given).text; next = v; quits = (turn w line given).quits; left = Some [] } in u) (sym n)
+      ∙ ap (λ (z : Bool). let u : Transcript = record { text = (turn w line given).text; next = w'; quits = z; left = Some [] } in u) (sym s);
 }
 
 -- an empty line
-pub ends_empty : (w : Visit) (line : List ℕ) (h : Option (List ℕ)) → line ≡ [] → Ends w line [] h h false w
-ends_empty w line h e = record { text = []; written = Appends-nil h; whole = ap (λ l. talk w (lines_of l) []) e }
+pub ends_empty : (w : SessionState) (line : List ℕ) (h : Option (List ℕ)) → line ≡ [] → Ends w line [] h h false w
+ends_empty w line h e = record { text = []; written = Appends-nil h; whole = ap (λ l. transcript w (lines_of l) []) e }
 
-pub front_line : (w : Visit) (line : List ℕ) (given : List Told) (h h' : Option (List ℕ)) → IsPending line → 0 < length line → Fits (asks line) given → WritesFront h h' (turn w line given).text → WritesFront h h' (output w (lines_of line) given)
+pub front_line : (w : SessionState) (line : List ℕ) (given : List Answer) (h h' : Option (List ℕ)) → IsPending line → 0 < length line → Fits (asks line) given → WritesFront h h' (turn w line given).text → WritesFront h h' (output w (lines_of line) given)
 front_line w line given h h' p some fits f =
     let P : List ℕ → Type 0 = λ t. WritesFront h h' t in
-    subst P (sym (ap (λ (x : Talk). x.text) (last_line w line given p some fits))) f
+    subst P (sym (ap (λ (x : Transcript). x.text) (last_line w line given p some fits))) f
 
 -- ---- reads
 
-pub reads_start : (w : Visit) (r h : Option (List ℕ)) → Reads w r r h h [] w []
+pub reads_start : (w : SessionState) (r h : Option (List ℕ)) → Reads w r r h h [] w []
 reads_start w r h = record { taken = []; read = Consumes-nil r; fills = fills_start w [] h }
 
-pub reads_on : (w v u : Visit) (r r' r'' h h' h'' : Option (List ℕ)) (ts ts' : List Told) (line bytes line' : List ℕ) → Reads w r r' h h' ts v line → Consumes r' r'' bytes → Fills v (line ++ bytes) ts' h' h'' false u line' → Reads w r r'' h h'' (ts ++ ts') u line'
+pub reads_on : (w v u : SessionState) (r r' r'' h h' h'' : Option (List ℕ)) (ts ts' : List Answer) (line bytes line' : List ℕ) → Reads w r r' h h' ts v line → Consumes r' r'' bytes → Fills v (line ++ bytes) ts' h' h'' false u line' → Reads w r r'' h h'' (ts ++ ts') u line'
 reads_on w v u r r' r'' h h' h'' ts ts' line bytes line' f c g = record {
   taken = f.taken ++ bytes;
   read = Consumes-trans r r' r'' f.taken bytes f.read c;
   fills = fills_trans w v u f.taken line bytes line' ts ts' h h' h'' false f.fills g;
 }
 
--- what was read comes to a talk that is known
-served_by : (w u : Visit) (r r' h h' : Option (List ℕ)) (ts : List Told) (taken text : List ℕ) (q : Bool) → Consumes r r' taken → Appends h h' text → talk w (lines_of taken) ts ≡ record { text = text; next = u; quits = q; left = Some [] } → (q ≡ true) ⊎ IsAtEnd r' → Served w r r' h h' ts u q
-served_by w u r r' h h' ts taken text q c a e over = record {
+-- what was read comes to a transcript that is known
+served_by : (w u : SessionState) (r r' h h' : Option (List ℕ)) (ts : List Answer) (taken text : List ℕ) (lines : List (List ℕ)) (q : Bool) → Consumes r r' taken → Appends h h' text → transcript w lines ts ≡ record { text = text; next = u; quits = q; left = Some [] } → ((lines ≡ ended_lines taken) × (q ≡ true)) ⊎ ((lines ≡ lines_of taken) × IsAtEnd r') → Served w (streams r h) (streams r' h') ts u q
+served_by w u r r' h h' ts taken text lines q c a e cut = record {
   taken = taken;
   read = c;
-  written = subst (Appends h h') (sym (ap (λ (x : Talk). x.text) e)) a;
-  next = sym (ap (λ (x : Talk). x.next) e);
-  quit = sym (ap (λ (x : Talk). x.quits) e);
-  asked = ap (λ (x : Talk). x.left) e;
-  whole = over;
+  lines = lines;
+  cut = cut;
+  written = subst (Appends h h') (sym (ap (λ (x : Transcript). x.text) e)) a;
+  next = sym (ap (λ (x : Transcript). x.next) e);
+  quit = sym (ap (λ (x : Transcript). x.quits) e);
+  asked = ap (λ (x : Transcript). x.left) e;
 }
 
 -- a line quit
-pub served_quit : (w v u : Visit) (r r' r'' h h' h'' : Option (List ℕ)) (ts ts' : List Told) (line bytes line' : List ℕ) → Reads w r r' h h' ts v line → Consumes r' r'' bytes → Fills v (line ++ bytes) ts' h' h'' true u line' → Served w r r'' h h'' (ts ++ ts') u true
+pub served_quit : (w v u : SessionState) (r r' r'' h h' h'' : Option (List ℕ)) (ts ts' : List Answer) (line bytes line' : List ℕ) → Reads w r r' h h' ts v line → Consumes r' r'' bytes → Fills v (line ++ bytes) ts' h' h'' true u line' → Served w (streams r h) (streams r'' h'') (ts ++ ts') u true
 served_quit w v u r r' r'' h h' h'' ts ts' line bytes line' f c g =
     let all = fills_trans w v u f.taken line bytes line' ts ts' h h' h'' true f.fills g in
-    served_by w u r r'' h h'' (ts ++ ts') (f.taken ++ bytes) all.written true
+    served_by w u r r'' h h'' (ts ++ ts') (f.taken ++ bytes) all.written (ended_lines (f.taken ++ bytes)) true
     (Consumes-trans r r' r'' f.taken bytes f.read c) all.appended
-    (fed_whole w u (f.taken ++ bytes) (ts ++ ts') all.written true line' all.fed ∙ ap (λ (x : List ℕ). let t : Talk = record { text = x; next = u; quits = true; left = Some [] } in t) (append-nil all.written))
-    (inl refl)
+    (fed_whole false w u (f.taken ++ bytes) (ts ++ ts') all.written true line' all.fed ∙ ap (λ (x : List ℕ). let t : Transcript = record { text = x; next = u; quits = true; left = Some [] } in t) (append-nil all.written))
+    (inl (refl, refl))
 
 -- the input ended
-pub served_end : (w v u : Visit) (r r' r'' h h' h'' : Option (List ℕ)) (ts ts' : List Told) (line : List ℕ) (q : Bool) → Reads w r r' h h' ts v line → Consumes r' r'' [] → IsAtEnd r'' → Ends v line ts' h' h'' q u → Served w r r'' h h'' (ts ++ ts') u q
+pub served_end : (w v u : SessionState) (r r' r'' h h' h'' : Option (List ℕ)) (ts ts' : List Answer) (line : List ℕ) (q : Bool) → Reads w r r' h h' ts v line → Consumes r' r'' [] → IsAtEnd r'' → Ends v line ts' h' h'' q u → Served w (streams r h) (streams r'' h'') (ts ++ ts') u q
 served_end w v u r r' r'' h h' h'' ts ts' line q f c e g =
-    served_by w u r r'' h h'' (ts ++ ts') (f.taken ++ []) (f.fills.written ++ g.text) q
+    served_by w u r r'' h h'' (ts ++ ts') (f.taken ++ []) (f.fills.written ++ g.text) (lines_of (f.taken ++ [])) q
     (Consumes-trans r r' r'' f.taken [] f.read c)
     (Appends-trans h h' h'' f.fills.written g.text f.fills.appended g.written)
-    (f.fills.fed.law [] ts' ∙ ap (λ l. said f.fills.written (talk v (lines_of l) ts')) (append-nil line) ∙ ap (said f.fills.written) g.whole)
-    (inr e)
+    (f.fills.fed.law true [] ts' ∙ ap (λ l. prepended f.fills.written (transcript v (lines_of l) ts')) (append-nil line) ∙ ap (prepended f.fills.written) g.whole)
+    (inr (refl, e))
+
+-- each line that has ended was answered
+reads_whole : (w v : SessionState) (r r' h h' : Option (List ℕ)) (ts : List Answer) (line : List ℕ) (f : Reads w r r' h h' ts v line) → IsPending line → transcript w (ended_lines f.taken) ts ≡ record { text = f.fills.written; next = v; quits = false; left = Some [] }
+reads_whole w v r r' h h' ts line f p =
+    fed_whole false w v f.taken ts f.fills.written false line f.fills.fed
+    ∙ ap (λ ls. prepended f.fills.written (transcript v ls [])) (ended_lines-plain line p.plain)
+    ∙ ap (λ (x : List ℕ). let t : Transcript = record { text = x; next = v; quits = false; left = Some [] } in t) (append-nil f.fills.written)
 
 -- no more could be read
-pub broke_read : (w v : Visit) (r r' r'' h h' : Option (List ℕ)) (ts : List Told) (line : List ℕ) → Reads w r r' h h' ts v line → Keeps r' r'' → Broke w r r'' h h' ts
-broke_read w v r r' r'' h h' ts line f k = record {
-  taken = f.taken;
-  front = f.fills.written;
-  rest = (rest_of false v line []).text;
-  read = Consumes-kept r r' r'' f.taken f.read k;
-  begins = ap (λ (x : Talk). x.text) (fed_whole w v f.taken ts f.fills.written false line f.fills.fed);
-  written = f.fills.appended;
-  asked = let P : Talk → Type 0 = λ x. AllAsked x.left in subst P (sym (fed_whole w v f.taken ts f.fills.written false line f.fills.fed)) (rest_asked false v line);
-}
+pub broke_read : (w v : SessionState) (r r' r'' h h' : Option (List ℕ)) (ts : List Answer) (line : List ℕ) (fault : ServeFault) → Reads w r r' h h' ts v line → Keeps r' r'' → IsPending line → Broke w (streams r h) (streams r'' h') ts fault
+broke_read w v r r' r'' h h' ts line fault f k p =
+    let all = reads_whole w v r r' h h' ts line f p in
+    let text : output w (ended_lines f.taken) ts ≡ f.fills.written = ap (λ (x : Transcript). x.text) all in
+    record {
+      taken = f.taken;
+      read = Consumes-kept r r' r'' f.taken f.read k;
+      lines = ended_lines f.taken;
+      cut = inl refl;
+      front = f.fills.written;
+      rest = [];
+      begins = text ∙ sym (append-nil f.fills.written);
+      written = f.fills.appended;
+      asked = let P : Transcript → Type 0 = λ x. AllAsked x.left in subst P (sym all) tt;
+      whole = λ _. record { text = sym text; open_yet = ap (λ (x : Transcript). x.quits) all; asked = ap (λ (x : Transcript). x.left) all };
+    }
 
--- what is left of the talk over all that was read
-pub ended_later : (w v : Visit) (r r' h h' : Option (List ℕ)) (ts ts' : List Told) (line : List ℕ) (f : Reads w r r' h h' ts v line) → talk w (lines_of (f.taken ++ [])) (ts ++ ts') ≡ said f.fills.written (talk v (lines_of line) ts')
-ended_later w v r r' h h' ts ts' line f = f.fills.fed.law [] ts' ∙ ap (λ l. said f.fills.written (talk v (lines_of l) ts')) (append-nil line)
+-- what is left of the transcript over all that was read
+pub ended_later : (w v : SessionState) (r r' h h' : Option (List ℕ)) (ts ts' : List Answer) (line : List ℕ) (f : Reads w r r' h h' ts v line) → transcript w (lines_of (f.taken ++ [])) (ts ++ ts') ≡ prepended f.fills.written (transcript v (lines_of line) ts')
+ended_later w v r r' h h' ts ts' line f = f.fills.fed.law true [] ts' ∙ ap (λ l. prepended f.fills.written (transcript v (lines_of l) ts')) (append-nil line)
 
-pub fed_later : (w v : Visit) (r r' h h' : Option (List ℕ)) (ts ts' : List Told) (line bytes : List ℕ) (f : Reads w r r' h h' ts v line) → talk w (lines_of (f.taken ++ bytes)) (ts ++ ts') ≡ said f.fills.written (talk v (lines_of ((line ++ bytes) ++ [])) ts')
-fed_later w v r r' h h' ts ts' line bytes f = ap (λ l. talk w (lines_of l) (ts ++ ts')) (sym (append-nil (f.taken ++ bytes))) ∙ talk_later w v f.taken line bytes ts ts' h h' f.fills []
+pub fed_later : (w v : SessionState) (r r' h h' : Option (List ℕ)) (ts ts' : List Answer) (line bytes : List ℕ) (f : Reads w r r' h h' ts v line) → transcript w (ended_lines (f.taken ++ bytes)) (ts ++ ts') ≡ prepended f.fills.written (transcript v (ended_lines ((line ++ bytes) ++ [])) ts')
+fed_later w v r r' h h' ts ts' line bytes f = ap (λ l. transcript w (ended_lines l) (ts ++ ts')) (sym (append-nil (f.taken ++ bytes))) ∙ transcript_later w v f.taken line bytes ts ts' h h' f.fills []
 
 -- the last line asks, and gets no answer
-pub last_lacking : (v : Visit) (line : List ℕ) → IsPending line → 0 < length line → asks line ≡ true → (talk v (lines_of line) []).left ≡ None
-last_lacking v line p some h = ap (λ ls. (talk v ls []).left) (lines_of-last line p.plain some) ∙ lacking v line [] h
+pub last_lacking : (v : SessionState) (line : List ℕ) → IsPending line → 0 < length line → asks line ≡ true → (transcript v (lines_of line) []).left ≡ None
+last_lacking v line p some h = ap (λ ls. (transcript v ls []).left) (lines_of-last line p.plain some) ∙ lacking v line [] h
 
 -- no answer is left over behind the last line
-pub last_used : (v : Visit) (line : List ℕ) (given : List Told) → IsPending line → 0 < length line → Fits (asks line) given → AllAsked (talk v (lines_of line) given).left
-last_used v line given p some fits = let P : Talk → Type 0 = λ x. AllAsked x.left in subst P (sym (last_line v line given p some fits)) tt
+pub last_used : (v : SessionState) (line : List ℕ) (given : List Answer) → IsPending line → 0 < length line → Fits (asks line) given → AllAsked (transcript v (lines_of line) given).left
+last_used v line given p some fits = let P : Transcript → Type 0 = λ x. AllAsked x.left in subst P (sym (last_line v line given p some fits)) tt
+
+-- a fault of replying is none of reading
+pub not_reading : {X : Type 0} → (fault : ServeFault) → IsOfReplying fault → fault ≡ Read → X
+not_reading fault h e = absurd (let P : ServeFault → Type 0 = λ x. IsOfReplying x in subst P e h)
 
 -- the last line was answered in part
-abbrev pub broke_end : (w v : Visit) (r r' r'' h h' h'' : Option (List ℕ)) (ts ts' : List Told) (line : List ℕ) (f : Reads w r r' h h' ts v line) → Consumes r' r'' [] → WritesFront h' h'' (output v (lines_of line) ts') → AllAsked (talk v (lines_of line) ts').left → Broke w r r'' h h'' (ts ++ ts')
-broke_end w v r r' r'' h h' h'' ts ts' line f c g u = record {
+abbrev pub broke_end : (w v : SessionState) (r r' r'' h h' h'' : Option (List ℕ)) (ts ts' : List Answer) (line : List ℕ) (fault : ServeFault) (f : Reads w r r' h h' ts v line) → Consumes r' r'' [] → IsAtEnd r'' → IsOfReplying fault → WritesFront h' h'' (output v (lines_of line) ts') → AllAsked (transcript v (lines_of line) ts').left → Broke w (streams r h) (streams r'' h'') (ts ++ ts') fault
+broke_end w v r r' r'' h h' h'' ts ts' line fault f c e k g u = record {
   taken = f.taken ++ [];
+  read = Consumes-trans r r' r'' f.taken [] f.read c;
+  lines = lines_of (f.taken ++ []);
+  cut = inr (refl, e);
   front = f.fills.written ++ g.front;
   rest = g.rest;
-  read = Consumes-trans r r' r'' f.taken [] f.read c;
-  begins = ap (λ (x : Talk). x.text) (f.fills.fed.law [] ts') ∙ ap (λ l. f.fills.written ++ output v (lines_of l) ts') (append-nil line) ∙ ap (λ l. f.fills.written ++ l) g.whole ∙ sym (append_assoc f.fills.written g.front g.rest);
+  begins = ap (λ (x : Transcript). x.text) (ended_later w v r r' h h' ts ts' line f) ∙ ap (λ l. f.fills.written ++ l) g.whole ∙ sym (append_assoc f.fills.written g.front g.rest);
   written = Appends-trans h h' h'' f.fills.written g.front f.fills.appended g.appended;
-  asked = let P : Talk → Type 0 = λ x. AllAsked x.left in subst P (sym (ended_later w v r r' h h' ts ts' line f)) u;
+  asked = let P : Transcript → Type 0 = λ x. AllAsked x.left in subst P (sym (ended_later w v r r' h h' ts ts' line f)) u;
+  whole = not_reading fault k;
 }
 
 -- some line was answered in part
-abbrev pub broke_feed : (w v : Visit) (r r' r'' h h' h'' : Option (List ℕ)) (ts ts' : List Told) (line bytes : List ℕ) → Reads w r r' h h' ts v line → Consumes r' r'' bytes → Breaks v (line ++ bytes) ts' h' h'' → Broke w r r'' h h'' (ts ++ ts')
-broke_feed w v r r' r'' h h' h'' ts ts' line bytes f c g =
+abbrev pub broke_feed : (w v : SessionState) (r r' r'' h h' h'' : Option (List ℕ)) (ts ts' : List Answer) (line bytes : List ℕ) (fault : ServeFault) → Reads w r r' h h' ts v line → Consumes r' r'' bytes → IsOfReplying fault → Breaks v (line ++ bytes) ts' h' h'' → Broke w (streams r h) (streams r'' h'') (ts ++ ts') fault
+broke_feed w v r r' r'' h h' h'' ts ts' line bytes fault f c k g =
     let all = breaks_later w v f.taken line bytes ts ts' h h' h'' f.fills g in
     record {
       taken = f.taken ++ bytes;
+      read = Consumes-trans r r' r'' f.taken bytes f.read c;
+      lines = ended_lines (f.taken ++ bytes);
+      cut = inl refl;
       front = all.front;
       rest = (all.begins [] []).0;
-      read = Consumes-trans r r' r'' f.taken bytes f.read c;
-      begins = ap (λ l. output w (lines_of l) (ts ++ ts')) (sym (append-nil (f.taken ++ bytes))) ∙ ap (output w (lines_of ((f.taken ++ bytes) ++ []))) (sym (append-nil (ts ++ ts'))) ∙ (all.begins [] []).1;
+      begins = ap (λ l. output w (ended_lines l) (ts ++ ts')) (sym (append-nil (f.taken ++ bytes))) ∙ ap (output w (ended_lines ((f.taken ++ bytes) ++ []))) (sym (append-nil (ts ++ ts'))) ∙ (all.begins [] []).1;
       written = all.appended;
-      asked = let P : Talk → Type 0 = λ x. AllAsked x.left in subst P (sym (fed_later w v r r' h h' ts ts' line bytes f)) (g.asked []);
+      asked = let P : Transcript → Type 0 = λ x. AllAsked x.left in subst P (sym (fed_later w v r r' h h' ts ts' line bytes f)) (g.asked []);
+      whole = not_reading fault k;
     }
 
 -- a read of no bytes into a buffer with room
@@ -144,5 +170,5 @@ pub record AtEnd (r r' : Option (List ℕ)) : Type 0 where
 pub at_end : (r r' : Option (List ℕ)) (buffer : List ℕ) (n : ℕ) → n ≡ 0 → 0 < length buffer → Consumes r r' (take n buffer) × (n ≡ 0 → 0 < length buffer → IsAtEnd r') → AtEnd r r'
 at_end r r' buffer n e room h = record { none = subst (Consumes r r') (ap (λ m. take m buffer) e) h.0; over = h.1 e room }
 
-pub ends_at : (v u : Visit) (line text : List ℕ) (ts : List Told) (h h' : Option (List ℕ)) (q : Bool) → text ≡ line → Ends v text ts h h' q u → Ends v line ts h h' q u
+pub ends_at : (v u : SessionState) (line text : List ℕ) (ts : List Answer) (h h' : Option (List ℕ)) (q : Bool) → text ≡ line → Ends v text ts h h' q u → Ends v line ts h h' q u
 ends_at v u line text ts h h' q e f = let P : List ℕ → Type 0 = λ l. Ends v l ts h h' q u in subst P e f

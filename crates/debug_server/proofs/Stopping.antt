@@ -7,16 +7,16 @@ use Rattle.scenario.specs.declared.event.Refusal.TheVariants.{Memory}
 use Rattle.machine.specs.Runs.{start, IsRefused}
 use Rattle.inverse_log.specs.declared.refusal.ExtendRefusal.{ExtendRefusal}
 use Rattle.inverse_log.specs.declared.refusal.ExtendRefusal.TheVariants.{TraceFull, Refused}
-use Rattle.inverse_log.specs.Tracks.{Stops}
+use Rattle.inverse_log.specs.Tracks.{RefusedAt}
 use Rattle.debug_server.specs.declared.faults.RunFault.{RunFault}
 use Rattle.debug_server.specs.declared.faults.RunFault.TheVariants.{Script, Schedule, Serve, Memory as OutOfMemory, Net, Trace}
 use Rattle.debug_server.specs.Schedules.{StopsBy, IsOfSchedule, fault_by, fault_of}
 
-pub stops_by_number : (setup : Setup) (es : List Event) (i : ℕ) (n : Refusal) → Stops (start setup) es i n → StopsBy setup es (fault_by i n)
+pub stops_by_number : (setup : Setup) (es : List Event) (i : ℕ) (n : Refusal) → RefusedAt (start setup) es i n → StopsBy setup es (fault_by i n)
 stops_by_number setup es i Memory s = tt
 stops_by_number setup es i n s = record { event = s.event; there = s.there; runs = s.runs; refused = elim s.refused [ inl e ↦ e | inr m ↦ absurd (let e = m.0 in cc) ] }
 
-pub stops_by : (setup : Setup) (es : List Event) (e : ExtendRefusal) → ((i : ℕ) (n : Refusal) → e ≡ Refused i n → Stops (start setup) es i n) → StopsBy setup es (fault_of e)
+pub stops_by : (setup : Setup) (es : List Event) (e : ExtendRefusal) → ((i : ℕ) (n : Refusal) → e ≡ Refused i n → RefusedAt (start setup) es i n) → StopsBy setup es (fault_of e)
 stops_by setup es TraceFull h = tt
 stops_by setup es (Refused i n) h = stops_by_number setup es i n (h i n refl)
 
@@ -32,5 +32,5 @@ of_schedule setup es Net s = s
 of_schedule setup es (Trace f) s = s
 
 -- what refuses a trace's events stops the schedule
-pub stops_for : (setup : Setup) (es : List Event) (e : ExtendRefusal) (f : RunFault) → f ≡ fault_of e → ((i : ℕ) (n : Refusal) → e ≡ Refused i n → Stops (start setup) es i n) → StopsBy setup es f
+pub stops_for : (setup : Setup) (es : List Event) (e : ExtendRefusal) (f : RunFault) → f ≡ fault_of e → ((i : ℕ) (n : Refusal) → e ≡ Refused i n → RefusedAt (start setup) es i n) → StopsBy setup es f
 stops_for setup es e f q h = let P : RunFault → Type 0 = λ x. StopsBy setup es x in subst P (sym q) (stops_by setup es e h)

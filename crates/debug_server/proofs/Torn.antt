@@ -14,11 +14,11 @@ use Rattle.machine.specs.Steps.{refusal, after}
 use Rattle.machine.specs.Runs.{run, Accepts}
 use Rattle.inverse_log.specs.declared.refusal.ExtendRefusal.{ExtendRefusal}
 use Rattle.inverse_log.specs.declared.refusal.ExtendRefusal.TheVariants.{TraceFull, Refused}
-use Rattle.inverse_log.specs.Tracks.{Stops}
+use Rattle.inverse_log.specs.Tracks.{RefusedAt}
 use Rattle.inverse_log.specs.Walks.{Walk, ending, extended}
 use Rattle.debug_server.specs.Syncs.{same_choice, same_event, torn_from, refused_from}
 use Rattle.watches.specs.Watching.{Watching}
-use Rattle.debug_server.specs.Visits.{Visit, walked_to}
+use Rattle.debug_server.specs.SessionStates.{SessionState, walked_to}
 use Rattle.debug_server.specs.Replies.{event_text, takes_over}
 use Rattle.debug_server.specs.Refusing.{Tells}
 
@@ -124,11 +124,11 @@ refused_first i (suc k) m (x ∷ es) e n a g r =
     ∙ ap (λ j. Some j) (let z : i + 1 + k ≡ i + suc k = omega arith in z)
 
 -- the one that a rule refuses
-pub refused_one : (i k : ℕ) (m : Machine) (es : List Event) (n : Refusal) → n ≢ Memory → Stops m es k n → refused_from i m es ≡ Some (i + k)
+pub refused_one : (i k : ℕ) (m : Machine) (es : List Event) (n : Refusal) → n ≢ Memory → RefusedAt m es k n → refused_from i m es ≡ Some (i + k)
 refused_one i k m es n d s = refused_first i k m es s.event n s.runs s.there (elim s.refused [ inl e ↦ e | inr e ↦ absurd (d e.0) ])
 
 -- what is told of it
-pub refused_told : (known : ℕ) (m : Machine) (es : List Event) (e : ExtendRefusal) (text : List ℕ) → ((i : ℕ) (n : Refusal) → e ≡ Refused i n → Stops m es i n) → Tells known e text → (k : ℕ) × (refused_from known m es ≡ Some (known + k)) × (text ≡ event_text (known + k))
+pub refused_told : (known : ℕ) (m : Machine) (es : List Event) (e : ExtendRefusal) (text : List ℕ) → ((i : ℕ) (n : Refusal) → e ≡ Refused i n → RefusedAt m es i n) → Tells known e text → (k : ℕ) × (refused_from known m es ≡ Some (known + k)) × (text ≡ event_text (known + k))
 refused_told known m es TraceFull text s t = absurd t
 refused_told known m es (Refused i Memory) text s t = absurd t
 refused_told known m es (Refused i n) text s t = (i, refused_one known i m es n (λ e. cc) (s i n refl), t)
@@ -136,41 +136,41 @@ refused_told known m es (Refused i n) text s t = (i, refused_one known i m es n 
 -- ---- as the code has them
 
 -- the first of the source's events that the run lacks and that is refused
-abbrev pub fate : Visit → List Event → Option ℕ
+abbrev pub fate : SessionState → List Event → Option ℕ
 fate v es = refused_from (length v.walk.events) (ending v.walk) (drop (length v.walk.events) es)
 
-pub taken : (v : Visit) (w : Walk) (known : ℕ) (es rest : List Event) → w ≡ v.walk → known ≡ length w.events → rest ≡ drop known es → Accepts (ending w) rest → fate v es ≡ None
+pub taken : (v : SessionState) (w : Walk) (known : ℕ) (es rest : List Event) → w ≡ v.walk → known ≡ length w.events → rest ≡ drop known es → Accepts (ending w) rest → fate v es ≡ None
 taken v w known es rest a b c h =
     let r : rest ≡ drop (length v.walk.events) es = c ∙ ap (λ n. drop n es) (b ∙ ap (λ (x : Walk). length x.events) a) in
     let P : Walk → Type 0 = λ x. Accepts (ending x) rest in
     refused_none (length v.walk.events) (ending v.walk) (drop (length v.walk.events) es) (subst (Accepts (ending v.walk)) r (subst P a h))
 
 -- the run with the events that it lacked
-pub taken_next : (v : Visit) (w u : Walk) (m : Watching) (known : ℕ) (es rest : List Event) → w ≡ v.walk → known ≡ length w.events → rest ≡ drop known es → u ≡ extended w rest → m ≡ v.watching → (let x : Visit = record { walk = u; watching = m } in x) ≡ walked_to v (extended v.walk (drop (length v.walk.events) es))
+pub taken_next : (v : SessionState) (w u : Walk) (m : Watching) (known : ℕ) (es rest : List Event) → w ≡ v.walk → known ≡ length w.events → rest ≡ drop known es → u ≡ extended w rest → m ≡ v.watching → (let x : SessionState = record { walk = u; watching = m } in x) ≡ walked_to v (extended v.walk (drop (length v.walk.events) es))
 taken_next v w u m known es rest a b c d e =
     let r : rest ≡ drop (length v.walk.events) es = c ∙ ap (λ n. drop n es) (b ∙ ap (λ (x : Walk). length x.events) a) in
     let f : u ≡ extended v.walk (drop (length v.walk.events) es) = d ∙ ap (λ x. extended x rest) a ∙ ap (extended v.walk) r in
     λ i. record { walk = f i; watching = e i }
 
 -- an event was refused, and that is told
-pub left : (v : Visit) (w : Walk) (known : ℕ) (es rest : List Event) (e : ExtendRefusal) (text : List ℕ) → w ≡ v.walk → known ≡ length w.events → rest ≡ drop known es → ((i : ℕ) (n : Refusal) → e ≡ Refused i n → Stops (ending w) rest i n) → Tells known e text → (i : ℕ) × (fate v es ≡ Some i) × (text ≡ event_text i)
+pub left : (v : SessionState) (w : Walk) (known : ℕ) (es rest : List Event) (e : ExtendRefusal) (text : List ℕ) → w ≡ v.walk → known ≡ length w.events → rest ≡ drop known es → ((i : ℕ) (n : Refusal) → e ≡ Refused i n → RefusedAt (ending w) rest i n) → Tells known e text → (i : ℕ) × (fate v es ≡ Some i) × (text ≡ event_text i)
 left v w known es rest e text a b c h t =
     let k : known ≡ length v.walk.events = b ∙ ap (λ (x : Walk). length x.events) a in
     let r : rest ≡ drop (length v.walk.events) es = c ∙ ap (λ n. drop n es) k in
     let f = refused_told known (ending v.walk) (drop (length v.walk.events) es) e text (λ i n q. stops i n (h i n q) r) t in
     (known + f.0, ap (λ n. refused_from n (ending v.walk) (drop (length v.walk.events) es)) (sym k) ∙ f.1, f.2)
   where
-    stops : (i : ℕ) (n : Refusal) → Stops (ending w) rest i n → rest ≡ drop (length v.walk.events) es → Stops (ending v.walk) (drop (length v.walk.events) es) i n
+    stops : (i : ℕ) (n : Refusal) → RefusedAt (ending w) rest i n → rest ≡ drop (length v.walk.events) es → RefusedAt (ending v.walk) (drop (length v.walk.events) es) i n
     stops i n s r =
-        let P : Walk → Type 0 = λ x. Stops (ending x) rest i n in
-        let Q : List Event → Type 0 = λ l. Stops (ending v.walk) l i n in
+        let P : Walk → Type 0 = λ x. RefusedAt (ending x) rest i n in
+        let Q : List Event → Type 0 = λ l. RefusedAt (ending v.walk) l i n in
         subst Q r (subst P a s)
 
-pub left_text : (v : Visit) (es : List Event) (text : List ℕ) → (i : ℕ) × (fate v es ≡ Some i) × (text ≡ event_text i) → text ≡ (takes_over v es (fate v es)).text
+pub left_text : (v : SessionState) (es : List Event) (text : List ℕ) → (i : ℕ) × (fate v es ≡ Some i) × (text ≡ event_text i) → text ≡ (takes_over v es (fate v es)).text
 left_text v es text f = f.2 ∙ sym (ap (λ o. (takes_over v es o).text) f.1)
 
-pub left_next : (v : Visit) (w u : Walk) (m : Watching) (es : List Event) (text : List ℕ) → w ≡ v.walk → u ≡ w → m ≡ v.watching → (i : ℕ) × (fate v es ≡ Some i) × (text ≡ event_text i) → (let x : Visit = record { walk = u; watching = m } in x) ≡ (takes_over v es (fate v es)).next
+pub left_next : (v : SessionState) (w u : Walk) (m : Watching) (es : List Event) (text : List ℕ) → w ≡ v.walk → u ≡ w → m ≡ v.watching → (i : ℕ) × (fate v es ≡ Some i) × (text ≡ event_text i) → (let x : SessionState = record { walk = u; watching = m } in x) ≡ (takes_over v es (fate v es)).next
 left_next v w u m es text a d e f =
     let g : u ≡ v.walk = d ∙ a in
-    let same : (let x : Visit = record { walk = u; watching = m } in x) ≡ v = λ i. record { walk = g i; watching = e i } in
+    let same : (let x : SessionState = record { walk = u; watching = m } in x) ≡ v = λ i. record { walk = g i; watching = e i } in
     same ∙ sym (ap (λ o. (takes_over v es o).next) f.1)

@@ -2,12 +2,12 @@
 use Rattle.std.specs.Prelude.{◌≡◌, ◌⊎◌, ◌≤◌, ℕ, ◌==◌, not, List, [], ◌∷◌, ◌++◌, length, take, Bool, true, false, if◌then◌else◌, Option, Some, None}
 use Rattle.std.specs.List.{list_all}
 use Rattle.std.specs.Io.KnownBytes.{Appends, Consumes}
-use Rattle.debug_server.specs.Visits.{Visit}
-use Rattle.debug_server.specs.Replies.{Told}
-use Rattle.debug_server.specs.Lines.{lines_of}
-use Rattle.debug_server.specs.Talks.{asks, told, Fits, Talk, talk, said, silent, output, Asked, AllAsked, AskedNoMore}
+use Rattle.debug_server.specs.SessionStates.{SessionState}
+use Rattle.debug_server.specs.Replies.{Answer}
+use Rattle.debug_server.specs.Lines.{lines_by, lines_of, ended_lines}
+use Rattle.debug_server.specs.Transcripts.{asks, answer_for, Fits, Transcript, transcript, prepended, ended, output, Asked, AllAsked, AskedNoMore}
 use Rattle.debug_server.specs.declared.faults.ServeFault.{ServeFault}
-use Rattle.debug_server.specs.declared.faults.ServeFault.TheVariants.{Memory}
+use Rattle.debug_server.specs.declared.faults.ServeFault.TheVariants.{Read, Write, Memory, Closed}
 
 -- no newline, and no byte past the limit
 pub record IsPending (line : List ℕ) : Type 0 where
@@ -18,26 +18,33 @@ pub record IsPending (line : List ℕ) : Type 0 where
 abbrev pub grown : List ℕ → ℕ → List ℕ
 grown line b = take 257 (line ++ b ∷ [])
 
--- what is still to be said, unless a line has quit
-abbrev pub rest_of : Bool → Visit → List ℕ → List Told → Talk
-rest_of q v bytes answers = if q then silent v true (Some answers) else talk v (lines_of bytes) answers
+-- what is still to be said, unless a line has quit; the last line counts or doesn't
+abbrev pub rest_of : Bool → Bool → SessionState → List ℕ → List Answer → Transcript
+rest_of last q v bytes answers = if q then ended v true (Some answers) else transcript v (lines_by last bytes) answers
 
 -- Whatever follows them, the bytes were answered by what was written and by what is left to say.
-pub record Fed (v : Visit) (bytes : List ℕ) (answers : List Told) (written : List ℕ) (q : Bool) (v' : Visit) (line : List ℕ) : Type 0 where
-  pub law : (more : List ℕ) (others : List Told) → talk v (lines_of (bytes ++ more)) (answers ++ others) ≡ said written (rest_of q v' (line ++ more) others)
+pub record Fed (v : SessionState) (bytes : List ℕ) (answers : List Answer) (written : List ℕ) (q : Bool) (v' : SessionState) (line : List ℕ) : Type 0 where
+  pub law : (last : Bool) (more : List ℕ) (others : List Answer) → transcript v (lines_by last (bytes ++ more)) (answers ++ others) ≡ prepended written (rest_of last q v' (line ++ more) others)
 
 -- Some bytes were fed, and the replies stand in the writer.
-pub record Fills (v : Visit) (bytes : List ℕ) (answers : List Told) (held held' : Option (List ℕ)) (q : Bool) (v' : Visit) (line : List ℕ) : Type 0 where
+pub record Fills (v : SessionState) (bytes : List ℕ) (answers : List Answer) (held held' : Option (List ℕ)) (q : Bool) (v' : SessionState) (line : List ℕ) : Type 0 where
   pub written : List ℕ
   pub appended : Appends held held' written
   pub fed : Fed v bytes answers written q v' line
 
 -- A beginning of the replies stands in the writer, whatever follows the bytes.
-pub record Breaks (v : Visit) (bytes : List ℕ) (answers : List Told) (held held' : Option (List ℕ)) : Type 0 where
+pub record Breaks (v : SessionState) (bytes : List ℕ) (answers : List Answer) (held held' : Option (List ℕ)) : Type 0 where
   pub front : List ℕ
   pub appended : Appends held held' front
-  pub begins : (more : List ℕ) (others : List Told) → (rest : List ℕ) × (output v (lines_of (bytes ++ more)) (answers ++ others) ≡ front ++ rest)
-  pub asked : (more : List ℕ) → AllAsked (talk v (lines_of (bytes ++ more)) answers).left
+  pub begins : (more : List ℕ) (others : List Answer) → (rest : List ℕ) × (output v (ended_lines (bytes ++ more)) (answers ++ others) ≡ front ++ rest)
+  pub asked : (more : List ℕ) → AllAsked (transcript v (ended_lines (bytes ++ more)) answers).left
+
+-- a fault of replying: of writing, or of memory
+abbrev pub IsOfReplying : ServeFault → Type 0
+IsOfReplying Write = Unit {0}
+IsOfReplying Memory = Unit {0}
+IsOfReplying Read = ⊥
+IsOfReplying Closed = ⊥
 
 -- A beginning of the text was written.
 pub record WritesFront (held held' : Option (List ℕ)) (text : List ℕ) : Type 0 where
@@ -47,13 +54,13 @@ pub record WritesFront (held held' : Option (List ℕ)) (text : List ℕ) : Type
   pub appended : Appends held held' front
 
 -- The input ends in this line, which was answered unless it is empty.
-pub record Ends (v : Visit) (line : List ℕ) (answers : List Told) (held held' : Option (List ℕ)) (q : Bool) (v' : Visit) : Type 0 where
+pub record Ends (v : SessionState) (line : List ℕ) (answers : List Answer) (held held' : Option (List ℕ)) (q : Bool) (v' : SessionState) : Type 0 where
   pub text : List ℕ
   pub written : Appends held held' text
-  pub whole : talk v (lines_of line) answers ≡ record { text = text; next = v'; quits = q; left = Some [] }
+  pub whole : transcript v (lines_of line) answers ≡ record { text = text; next = v'; quits = q; left = Some [] }
 
 -- Some bytes were read, and answered by what was written and what is left to say.
-pub record Reads (v : Visit) (unread unread' held held' : Option (List ℕ)) (answers : List Told) (v' : Visit) (line : List ℕ) : Type 0 where
+pub record Reads (v : SessionState) (unread unread' held held' : Option (List ℕ)) (answers : List Answer) (v' : SessionState) (line : List ℕ) : Type 0 where
   pub taken : List ℕ
   pub read : Consumes unread unread' taken
   pub fills : Fills v taken answers held held' false v' line
@@ -61,39 +68,39 @@ pub record Reads (v : Visit) (unread unread' held held' : Option (List ℕ)) (an
 -- ---- the same with a source, and what it answered
 
 -- The source was asked just what a line asks.
-pub record Gave {S : Type 0} (gives : S → Told → S → Type 0) (line : List ℕ) (before : S) (answer : Told) (after : S) : Type 0 where
-  pub answers : List Told
+pub record Gave {S : Type 0} (gives : S → Answer → S → Type 0) (line : List ℕ) (before : S) (answer : Answer) (after : S) : Type 0 where
+  pub answers : List Answer
   pub asked : Asked gives before answers after
   pub fits : Fits (asks line) answers
-  pub same : answer ≡ told (asks line) answers
+  pub same : answer ≡ answer_for (asks line) answers
 
-pub record FillsBy {S : Type 0} (gives : S → Told → S → Type 0) (before after : S) (v : Visit) (bytes : List ℕ) (held held' : Option (List ℕ)) (q : Bool) (v' : Visit) (line : List ℕ) : Type 0 where
-  pub answers : List Told
+pub record FillsBy {S : Type 0} (gives : S → Answer → S → Type 0) (before after : S) (v : SessionState) (bytes : List ℕ) (held held' : Option (List ℕ)) (q : Bool) (v' : SessionState) (line : List ℕ) : Type 0 where
+  pub answers : List Answer
   pub asked : Asked gives before answers after
   pub fills : Fills v bytes answers held held' q v' line
 
-pub record BreaksBy {S : Type 0} (gives : S → Told → S → Type 0) (fails : S → S → Type 0) (before after : S) (fault : ServeFault) (v : Visit) (bytes : List ℕ) (held held' : Option (List ℕ)) : Type 0 where
-  pub answers : List Told
+pub record BreaksBy {S : Type 0} (gives : S → Answer → S → Type 0) (fails : S → S → Type 0) (before after : S) (fault : ServeFault) (v : SessionState) (bytes : List ℕ) (held held' : Option (List ℕ)) : Type 0 where
+  pub answers : List Answer
   pub mid : S
   pub asked : Asked gives before answers mid
-  pub no_more : (mid ≡ after) ⊎ ((fault ≡ Memory) × ((more : List ℕ) → (talk v (lines_of (bytes ++ more)) answers).left ≡ None) × fails mid after)
+  pub no_more : (mid ≡ after) ⊎ ((fault ≡ Memory) × ((more : List ℕ) → (transcript v (ended_lines (bytes ++ more)) answers).left ≡ None) × fails mid after)
   pub breaks : Breaks v bytes answers held held'
 
-pub record EndsBy {S : Type 0} (gives : S → Told → S → Type 0) (before after : S) (v : Visit) (line : List ℕ) (held held' : Option (List ℕ)) (q : Bool) (v' : Visit) : Type 0 where
-  pub answers : List Told
+pub record EndsBy {S : Type 0} (gives : S → Answer → S → Type 0) (before after : S) (v : SessionState) (line : List ℕ) (held held' : Option (List ℕ)) (q : Bool) (v' : SessionState) : Type 0 where
+  pub answers : List Answer
   pub asked : Asked gives before answers after
   pub ends : Ends v line answers held held' q v'
 
 -- A beginning of the replies to the line that the input ends in was written.
-pub record FrontBy {S : Type 0} (gives : S → Told → S → Type 0) (fails : S → S → Type 0) (before after : S) (fault : ServeFault) (v : Visit) (line : List ℕ) (held held' : Option (List ℕ)) : Type 0 where
-  pub answers : List Told
+pub record FrontBy {S : Type 0} (gives : S → Answer → S → Type 0) (fails : S → S → Type 0) (before after : S) (fault : ServeFault) (v : SessionState) (line : List ℕ) (held held' : Option (List ℕ)) : Type 0 where
+  pub answers : List Answer
   pub mid : S
   pub asked : Asked gives before answers mid
-  pub no_more : AskedNoMore fails mid after fault (talk v (lines_of line) answers).left
-  pub used : AllAsked (talk v (lines_of line) answers).left
+  pub no_more : AskedNoMore fails mid after fault (transcript v (lines_of line) answers).left
+  pub used : AllAsked (transcript v (lines_of line) answers).left
   pub front : WritesFront held held' (output v (lines_of line) answers)
 
-pub record ReadsBy {S : Type 0} (gives : S → Told → S → Type 0) (before after : S) (v : Visit) (unread unread' held held' : Option (List ℕ)) (v' : Visit) (line : List ℕ) : Type 0 where
-  pub answers : List Told
+pub record ReadsBy {S : Type 0} (gives : S → Answer → S → Type 0) (before after : S) (v : SessionState) (unread unread' held held' : Option (List ℕ)) (v' : SessionState) (line : List ℕ) : Type 0 where
+  pub answers : List Answer
   pub asked : Asked gives before answers after
   pub reads : Reads v unread unread' held held' answers v' line

@@ -8,7 +8,7 @@ use Rattle.machine.specs.Whole.{view}
 use Rattle.inverse_log.specs.Walks.{here, ending, moved, jumped, extended}
 use Rattle.watches.specs.declared.stopping.Stop.{Stop}
 use Rattle.watches.specs.declared.stopping.Stop.TheVariants as stop
-use Rattle.watches.specs.Stops.{earlier_of, later_of, position_of}
+use Rattle.watches.specs.Stops.{reverse_stop, forward_stop, position_of}
 use Rattle.watches.specs.Watching.{nothing, watched, broken}
 use Rattle.debug_server.specs.declared.commands.command.Command.{Command}
 use Rattle.debug_server.specs.declared.commands.command.Command.TheVariants.{Where, Show, Goto, Back, On, Watch, Break, Unwatch, Cont, Rcont, Sync, Quit}
@@ -16,16 +16,16 @@ use Rattle.debug_server.specs.declared.commands.command.CommandFault.{CommandFau
 use Rattle.debug_server.specs.declared.commands.command.CommandFault.TheVariants as fault
 use Rattle.debug_server.specs.Commands.{command_of}
 use Rattle.debug_server.specs.Syncs.{torn_from, refused_from}
-use Rattle.debug_server.specs.Visits.{Visit, walked_to, minding}
+use Rattle.debug_server.specs.SessionStates.{SessionState, walked_to, minding}
 
 -- what a source can answer: a trace, or none
-abbrev pub Told : Type 0
-Told = Option (List Event)
+abbrev pub Answer : Type 0
+Answer = Option (List Event)
 
 -- a reply, where the session stands after it, and whether no later line is answered
 pub record Reply : Type 0 where
   pub text : List ℕ
-  pub next : Visit
+  pub next : SessionState
   pub quits : Bool
 
 -- ---- texts
@@ -75,68 +75,68 @@ event_text i = codes "refused 4 event " ++ (decimal i ++ codes "\n")
 
 -- ---- replies
 
-abbrev pub stays : Visit → List ℕ → Reply
+abbrev pub stays : SessionState → List ℕ → Reply
 stays v text = record { text = text; next = v; quits = false }
 
-abbrev pub goes : Visit → ℕ → Reply
+abbrev pub goes : SessionState → ℕ → Reply
 goes v m = record { text = at_text m (length v.walk.events); next = walked_to v (jumped v.walk m); quits = false }
 
 -- the same, unless the run has no such moment
-abbrev pub goes_to : Visit → ℕ → Reply
+abbrev pub goes_to : SessionState → ℕ → Reply
 goes_to v m = if nat_le m (length v.walk.events) then goes v m else stays v (codes "refused 1 moment\n")
 
 -- as many as there can be
 abbrev pub is_full : {X : Type 0} → List X → Bool
 is_full xs = nat_le 64 (length xs)
 
-abbrev pub watches : Visit → Place → Reply
+abbrev pub watches : SessionState → Place → Reply
 watches v p =
     if is_full v.watching.places then stays v (fault_text fault.Many)
     else record { text = watching_text (length (watched v.watching p).places); next = minding v (watched v.watching p); quits = false }
 
-abbrev pub breaks : Visit → Place → Value → Reply
+abbrev pub breaks : SessionState → Place → Value → Reply
 breaks v p x =
     if is_full v.watching.breaks then stays v (fault_text fault.Many)
     else record { text = breaks_text (length v.watching.breaks + 1); next = minding v (broken v.watching p x); quits = false }
 
 -- by single steps, which aren't counted
-abbrev pub stops_on : Visit → Stop → Reply
+abbrev pub stops_on : SessionState → Stop → Reply
 stops_on v s = record { text = stop_text (length v.walk.events) s; next = walked_to v (moved v.walk (position_of v.walk s)); quits = false }
 
 -- by a jump
-abbrev pub stops_back : Visit → Stop → Reply
+abbrev pub stops_back : SessionState → Stop → Reply
 stops_back v s = record { text = stop_text (length v.walk.events) s; next = walked_to v (jumped v.walk (position_of v.walk s)); quits = false }
 
 -- the events that the source has more, unless one is refused
-abbrev pub takes_over : Visit → List Event → Option ℕ → Reply
+abbrev pub takes_over : SessionState → List Event → Option ℕ → Reply
 takes_over v es (Some i) = stays v (event_text i)
 takes_over v es None = record { text = synced_text (length es); next = walked_to v (extended v.walk (drop (length v.walk.events) es)); quits = false }
 
 -- the same, unless the run is no beginning of the source's trace
-abbrev pub agrees : Visit → List Event → Option ℕ → Reply
+abbrev pub agrees : SessionState → List Event → Option ℕ → Reply
 agrees v es (Some i) = stays v (torn_text i)
 agrees v es None = takes_over v es (refused_from (length v.walk.events) (ending v.walk) (drop (length v.walk.events) es))
 
--- what the source told is taken over, unless it told nothing, or more events than a trace has
-abbrev pub syncs : Visit → Told → Reply
+-- the source's events are taken over, unless it has none, or more than a trace may have
+abbrev pub syncs : SessionState → Answer → Reply
 syncs v None = stays v (codes "refused 2 source\n")
 syncs v (Some es) = if nat_lt 1048576 (length es) then stays v (codes "refused 5 full\n") else agrees v es (torn_from 0 v.walk.events es)
 
-abbrev pub reply_to : Visit → Result Command CommandFault → Told → Reply
-reply_to v (Err f) told = stays v (fault_text f)
-reply_to v (Ok Where) told = stays v (at_text v.walk.at (length v.walk.events))
-reply_to v (Ok (Show p)) told = stays v (shown_text (view (here v.walk) p))
-reply_to v (Ok (Goto n)) told = goes_to v n
-reply_to v (Ok (Back n)) told = goes v (v.walk.at - n)
-reply_to v (Ok (On n)) told = goes v (min (v.walk.at + n) (length v.walk.events))
-reply_to v (Ok (Watch p)) told = watches v p
-reply_to v (Ok (Break p x)) told = breaks v p x
-reply_to v (Ok Unwatch) told = record { text = watching_text 0; next = minding v nothing; quits = false }
-reply_to v (Ok Cont) told = stops_on v (later_of v.walk v.watching)
-reply_to v (Ok Rcont) told = stops_back v (earlier_of v.walk v.watching.places)
-reply_to v (Ok Sync) told = syncs v told
-reply_to v (Ok Quit) told = record { text = codes "bye\n"; next = v; quits = true }
+abbrev pub reply_to : SessionState → Result Command CommandFault → Answer → Reply
+reply_to v (Err f) answer = stays v (fault_text f)
+reply_to v (Ok Where) answer = stays v (at_text v.walk.at (length v.walk.events))
+reply_to v (Ok (Show p)) answer = stays v (shown_text (view (here v.walk) p))
+reply_to v (Ok (Goto n)) answer = goes_to v n
+reply_to v (Ok (Back n)) answer = goes v (v.walk.at - n)
+reply_to v (Ok (On n)) answer = goes v (min (v.walk.at + n) (length v.walk.events))
+reply_to v (Ok (Watch p)) answer = watches v p
+reply_to v (Ok (Break p x)) answer = breaks v p x
+reply_to v (Ok Unwatch) answer = record { text = watching_text 0; next = minding v nothing; quits = false }
+reply_to v (Ok Cont) answer = stops_on v (forward_stop v.walk v.watching)
+reply_to v (Ok Rcont) answer = stops_back v (reverse_stop v.walk v.watching.places)
+reply_to v (Ok Sync) answer = syncs v answer
+reply_to v (Ok Quit) answer = record { text = codes "bye\n"; next = v; quits = true }
 
 -- the reply to a line, with what the source answered
-unfoldable pub reply : Visit → List ℕ → Told → Reply
-reply v line told = reply_to v (command_of v.walk.setup line) told
+unfoldable pub reply : SessionState → List ℕ → Answer → Reply
+reply v line answer = reply_to v (command_of v.walk.setup line) answer

@@ -35,3 +35,12 @@ IsOfMigration Memory = Unit {0}
 IsOfMigration (Schedule i n) = ⊥
 IsOfMigration (Serve f) = ⊥
 IsOfMigration Net = ⊥
+
+-- a fault of a trace, or of memory
+abbrev pub IsOfTraces : RunFault → Type 0
+IsOfTraces (Trace f) = Unit {0}
+IsOfTraces Memory = Unit {0}
+IsOfTraces (Script f) = ⊥
+IsOfTraces (Schedule i n) = ⊥
+IsOfTraces (Serve f) = ⊥
+IsOfTraces Net = ⊥

@@ -2,6 +2,8 @@
 ghost use Rattle.std.specs.Prelude.{◌≡◌, ◌≤◌, length, option_map, IfOk, OnOk, OnErr};
 ghost use Rattle.inverse_log.specs.Walks.{jumped};
 ghost use Rattle.debug_server.specs.Replies.{at_text, goes_to, reply_to, reply};
+ghost use Rattle.debug_server.specs.Quitting.{is_quit};
+ghost use Rattle.debug_server.specs.SessionStates.{Runs};
 
 use crate::commands::{Command, CommandFault, parse_line};
 use crate::stops::{break_at, jump_to, stop_back, stop_on, unwatch, watch};
@@ -37,58 +39,58 @@ fn go_to(alloc: Global, visitor: &mut Visitor, moment: usize) -> Result<Vec<u8>,
     }
 }
 
-// Does what a command says. Answers the reply, and whether no later line is answered.
-fn answer_to(
+// Does what a command says, and answers the reply.
+fn text_of(
     alloc: Global,
     visitor: &mut Visitor,
     command: Result<Command, CommandFault>,
-    told: Option<&[Event]>,
-) -> Result<(Vec<u8>, bool), AllocError>
-    ensures text { IfOk result (λ r. r.0.items ≡ (reply_to visitor.old command (option_map (λ es. es.now) told.entry)).text) }
-    ensures next { OnOk result (visitor.new ≡ (reply_to visitor.old command (option_map (λ es. es.now) told.entry)).next) }
-    ensures quits { IfOk result (λ r. r.1 ≡ (reply_to visitor.old command (option_map (λ es. es.now) told.entry)).quits) }
+    answer: Option<&[Event]>,
+) -> Result<Vec<u8>, AllocError>
+    ensures text { IfOk result (λ text. text.items ≡ (reply_to visitor.old command (option_map (λ es. es.now) answer.entry)).text) }
+    ensures next { OnOk result (visitor.new ≡ (reply_to visitor.old command (option_map (λ es. es.now) answer.entry)).next) }
     ensures err { OnErr result (visitor.new ≡ visitor.old) }
 {
     let (at, len) = (visitor.walker.at(), visitor.walker.len());
     match command {
-        Err(fault) => Ok((fault_line(alloc, fault)?, false)),
-        Ok(Command::Where) => Ok((at_line(alloc, at, len)?, false)),
-        Ok(Command::Show(place)) => {
-            let value = visitor.walker.state().value(place);
-            Ok((value_line(alloc, value)?, false))
-        }
-        Ok(Command::Goto(n)) => Ok((go_to(alloc, visitor, n as usize)?, false)),
-        Ok(Command::Back(n)) => {
-            let moment = at.saturating_sub(n as usize);
-            Ok((jump(alloc, &mut visitor.walker, moment)?, false))
-        }
-        Ok(Command::On(n)) => {
-            let moment = (at + n as usize).min(len);
-            Ok((jump(alloc, &mut visitor.walker, moment)?, false))
-        }
-        Ok(Command::Watch(place)) => Ok((watch(alloc, visitor, place)?, false)),
-        Ok(Command::Break(place, value)) => Ok((break_at(alloc, visitor, place, value)?, false)),
-        Ok(Command::Unwatch) => Ok((unwatch(alloc, visitor)?, false)),
-        Ok(Command::Cont) => Ok((stop_on(alloc, visitor)?, false)),
-        Ok(Command::Rcont) => Ok((stop_back(alloc, visitor)?, false)),
-        Ok(Command::Sync) => Ok((sync(alloc, visitor, told)?, false)),
-        Ok(Command::Quit) => Ok((Vec::from_slice(alloc, b"bye\n")?, true)),
+        Err(fault) => fault_line(alloc, fault),
+        Ok(Command::Where) => at_line(alloc, at, len),
+        Ok(Command::Show(place)) => value_line(alloc, visitor.walker.state().value(place)),
+        Ok(Command::Goto(n)) => go_to(alloc, visitor, n as usize),
+        Ok(Command::Back(n)) => jump(alloc, &mut visitor.walker, at.saturating_sub(n as usize)),
+        Ok(Command::On(n)) => jump(alloc, &mut visitor.walker, (at + n as usize).min(len)),
+        Ok(Command::Watch(place)) => watch(alloc, visitor, place),
+        Ok(Command::Break(place, value)) => break_at(alloc, visitor, place, value),
+        Ok(Command::Unwatch) => unwatch(alloc, visitor),
+        Ok(Command::Cont) => stop_on(alloc, visitor),
+        Ok(Command::Rcont) => stop_back(alloc, visitor),
+        Ok(Command::Sync) => sync(alloc, visitor, answer),
+        Ok(Command::Quit) => Vec::from_slice(alloc, b"bye\n"),
     }
 }
 
-// Replies to one line, with what the source told, and says whether no later line is answered.
-#[tactic(auto, unfolding(crate::specs::Replies::reply))]
-pub(crate) fn answer(
+// Whether no later line is answered.
+fn is_quit(command: Result<Command, CommandFault>) -> bool
+    ensures { result ≡ is_quit command }
+{
+    matches!(command, Ok(Command::Quit))
+}
+
+// Replies to one line, with what the source answered, and says whether no later line is answered.
+pub(crate) fn reply_to_line(
     alloc: Global,
     visitor: &mut Visitor,
     line: &[u8],
-    told: Option<&[Event]>,
+    answer: Option<&[Event]>,
 ) -> Result<(Vec<u8>, bool), AllocError>
-    ensures text { IfOk result (λ r. r.0.items ≡ (reply visitor.old line.now (option_map (λ es. es.now) told.entry)).text) }
-    ensures next { OnOk result (visitor.new ≡ (reply visitor.old line.now (option_map (λ es. es.now) told.entry)).next) }
-    ensures quits { IfOk result (λ r. r.1 ≡ (reply visitor.old line.now (option_map (λ es. es.now) told.entry)).quits) }
+    ensures text { IfOk result (λ r. r.0.items ≡ (reply visitor.old line.now (option_map (λ es. es.now) answer.entry)).text) }
+    ensures next { OnOk result (visitor.new ≡ (reply visitor.old line.now (option_map (λ es. es.now) answer.entry)).next) }
+    ensures quits { IfOk result (λ r. r.1 ≡ (reply visitor.old line.now (option_map (λ es. es.now) answer.entry)).quits) }
     ensures err { OnErr result (visitor.new ≡ visitor.old) }
+    ensures runs { Runs visitor.old.walk }
 {
+    // What is replied is of a run.
+    let _position = visitor.position();
     let command = parse_line(alloc, visitor.walker.setup(), line)?;
-    answer_to(alloc, visitor, command, told)
+    let text = text_of(alloc, visitor, command, answer)?;
+    Ok((text, is_quit(command)))
 }

@@ -1,12 +1,12 @@
 //! A walk over memory.
-ghost use Rattle.std.specs.Prelude.{◌≡◌, ◌≢◌, ◌⊎◌, ◌++◌, List, ℕ, [], true, Ok, Err, IfOk, IfErr};
+ghost use Rattle.std.specs.Prelude.{◌≡◌, ◌≢◌, ℕ, Ok, Err, IfOk, IfErr};
 ghost use Rattle.machine.specs.Runs.{start, Accepts, IsRefused};
-ghost use Rattle.scenario.specs.declared.event.Refusal.{Refusal as Denial};
-ghost use Rattle.script.specs.declared.fault.ScriptFault.{ScriptFault as Misread};
+ghost use Rattle.scenario.specs.declared.event.Refusal.{Refusal};
+ghost use Rattle.script.specs.declared.fault.ScriptFault.{ScriptFault};
 ghost use Rattle.script.specs.Scripts.{Plan, Reads};
 ghost use Rattle.debug_server.specs.Lines.{lines_of};
-ghost use Rattle.debug_server.specs.Talks.{unanswered, talk, output};
-ghost use Rattle.debug_server.specs.Schedules.{visit_over, IsOfWalk};
+ghost use Rattle.debug_server.specs.Transcripts.{unanswered, output};
+ghost use Rattle.debug_server.specs.Schedules.{state_over, IsOfWalk};
 ghost use Rattle.debug_server.specs.declared.faults.ServeFault.TheVariants.{Closed};
 
 use crate::faults::RunFault;
@@ -15,13 +15,12 @@ use std::alloc::Global;
 
 /// What the session of a script replies to its input.
 pub fn replies(alloc: Global, script: &[u8], input: &[u8]) -> Result<Vec<u8>, RunFault>
-    // The schedule runs. It read a beginning of the input, the whole of it or past a line that quits, and wrote just the replies to that, without a source.
-    ensures ok { IfOk result (λ out. (p : Plan) × Reads script.now (Ok p) × Accepts (start p.setup) p.schedule × (taken : List ℕ) × (rest : List ℕ) × (input.now ≡ taken ++ rest)
-        × (out.items ≡ output (visit_over p.setup p.schedule) (lines_of taken) (unanswered (lines_of taken)))
-        × (((talk (visit_over p.setup p.schedule) (lines_of taken) (unanswered (lines_of taken))).quits ≡ true) ⊎ (rest ≡ []))) }
+    // The schedule runs, and these are just the replies to the input's lines, up to one that quits, without a source.
+    ensures ok { IfOk result (λ out. (p : Plan) × Reads script.now (Ok p) × Accepts (start p.setup) p.schedule
+        × (out.items ≡ output (state_over p.setup p.schedule) (lines_of input.now) (unanswered (lines_of input.now)))) }
     // A fault of the script is its first one, a fault of the schedule its first refused event.
-    ensures script { IfErr result (λ e. (f : Misread) → e ≡ RunFault.Script f → Reads script.now (Err f)) }
-    ensures schedule { IfErr result (λ e. (i : ℕ) → (n : Denial) → e ≡ RunFault.Schedule i n
+    ensures script { IfErr result (λ e. (f : ScriptFault) → e ≡ RunFault.Script f → Reads script.now (Err f)) }
+    ensures schedule { IfErr result (λ e. (i : ℕ) → (n : Refusal) → e ≡ RunFault.Schedule i n
         → (p : Plan) × Reads script.now (Ok p) × IsRefused p.setup p.schedule i n) }
     ensures other { IfErr result IsOfWalk }
     ensures open { result ≢ Err (RunFault.Serve Closed) }

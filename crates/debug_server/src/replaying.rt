@@ -1,19 +1,18 @@
 //! Walking a trace of the second form.
-ghost use Rattle.std.specs.Prelude.{◌≡◌, ◌≢◌, ℕ, Bool, List, Err, OnOk, IfErr};
+ghost use Rattle.std.specs.Prelude.{◌≡◌, ◌≢◌, ℕ, List, Err, OnOk, IfErr};
 ghost use Rattle.std.specs.Io.KnownBytes.{Keeps};
-ghost use Rattle.machine.specs.Runs.{start, Accepts, IsRefused};
-ghost use Rattle.scenario.specs.declared.event.Event.{Event as Happening};
-ghost use Rattle.scenario.specs.declared.event.Refusal.{Refusal as Denial};
-ghost use Rattle.scenario.specs.declared.setup.Setup.{Setup as Start};
+ghost use Rattle.machine.specs.Runs.{IsRefused};
+ghost use Rattle.scenario.specs.declared.event.Event.{Event};
+ghost use Rattle.scenario.specs.declared.event.Refusal.{Refusal};
+ghost use Rattle.scenario.specs.declared.setup.Setup.{Setup};
 ghost use Rattle.traces.specs.Reading.{IsFault2};
 ghost use Rattle.traces.specs.Setups.{IsTrace2};
-ghost use Rattle.traces.specs.declared.fault.TraceFault.{TraceFault as Misspelt};
-ghost use Rattle.debug_server.specs.declared.faults.ServeFault.{ServeFault as Serving};
+ghost use Rattle.traces.specs.declared.fault.TraceFault.{TraceFault};
+ghost use Rattle.debug_server.specs.declared.faults.ServeFault.{ServeFault};
 ghost use Rattle.debug_server.specs.declared.faults.ServeFault.TheVariants.{Closed};
-ghost use Rattle.debug_server.specs.Visits.{Visit};
-ghost use Rattle.debug_server.specs.Replies.{Told};
-ghost use Rattle.debug_server.specs.Talks.{Unanswered, Served, Broke};
-ghost use Rattle.debug_server.specs.Schedules.{visit_over, IsOfReplay};
+ghost use Rattle.debug_server.specs.Transcripts.{streams};
+ghost use Rattle.debug_server.specs.Schedules.{IsOfReplay};
+ghost use Rattle.debug_server.specs.Walked.{Walked, BrokenOff};
 
 use crate::faults::RunFault;
 use crate::walking::walk_events;
@@ -30,16 +29,16 @@ pub fn replay<R: Read, W: Write>(
     writer: &mut W,
 ) -> Result<(), RunFault>
     // The events run, and what is written is the output of the session of the trace's setup and events, without a source.
-    ensures ok { OnOk result ((setup : Start) × (events : List Happening) × IsTrace2 setup events trace.now × Accepts (start setup) events × (answers : List Told) × Unanswered answers × (v : Visit) × (q : Bool)
-        × Served (visit_over setup events) (R.remaining reader.old) (R.remaining reader.new) (W.contents writer.old) (W.contents writer.new) answers v q) }
+    ensures ok { OnOk result ((setup : Setup) × (events : List Event) × IsTrace2 setup events trace.now × Walked setup events
+        (streams (R.remaining reader.old) (W.contents writer.old)) (streams (R.remaining reader.new) (W.contents writer.new))) }
     // A fault of the trace is its first one, a fault of its events the first refused one. Nothing was written then.
-    ensures trace { IfErr result (λ e. (f : Misspelt) → e ≡ RunFault.Trace f → IsFault2 trace.now f × Keeps (W.contents writer.old) (W.contents writer.new)) }
-    ensures schedule { IfErr result (λ e. (i : ℕ) → (n : Denial) → e ≡ RunFault.Schedule i n
-        → (setup : Start) × (events : List Happening) × IsTrace2 setup events trace.now × IsRefused setup events i n × Keeps (W.contents writer.old) (W.contents writer.new)) }
+    ensures trace { IfErr result (λ e. (f : TraceFault) → e ≡ RunFault.Trace f → IsFault2 trace.now f × Keeps (W.contents writer.old) (W.contents writer.new)) }
+    ensures schedule { IfErr result (λ e. (i : ℕ) → (n : Refusal) → e ≡ RunFault.Schedule i n
+        → (setup : Setup) × (events : List Event) × IsTrace2 setup events trace.now × IsRefused setup events i n × Keeps (W.contents writer.old) (W.contents writer.new)) }
     ensures memory { IfErr result (λ e. e ≡ RunFault.Memory → Keeps (W.contents writer.old) (W.contents writer.new)) }
     // At a fault of serving a beginning of that output was written.
-    ensures begins { IfErr result (λ e. (f : Serving) → e ≡ RunFault.Serve f → (setup : Start) × (events : List Happening) × IsTrace2 setup events trace.now × Accepts (start setup) events × (answers : List Told) × Unanswered answers
-        × Broke (visit_over setup events) (R.remaining reader.old) (R.remaining reader.new) (W.contents writer.old) (W.contents writer.new) answers) }
+    ensures begins { IfErr result (λ e. (f : ServeFault) → e ≡ RunFault.Serve f → (setup : Setup) × (events : List Event) × IsTrace2 setup events trace.now × BrokenOff setup events
+        (streams (R.remaining reader.old) (W.contents writer.old)) (streams (R.remaining reader.new) (W.contents writer.new)) f) }
     ensures open { result ≢ Err (RunFault.Serve Closed) }
     ensures other { IfErr result IsOfReplay }
 {

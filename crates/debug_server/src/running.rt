@@ -1,8 +1,8 @@
 //! Events that are run, and of which nothing is kept.
 ghost use Rattle.std.specs.Prelude.{◌≡◌, ◌≤◌, ℕ, [], None, length, IsOk, OnOk, IfErr};
 ghost use Rattle.machine.specs.Runs.{start, Accepts, IsRefused};
-ghost use Rattle.scenario.specs.declared.event.Refusal.{Refusal as Denial};
-ghost use Rattle.scenario.specs.declared.setup.Setup.{Setup as Start};
+ghost use Rattle.scenario.specs.declared.event.Refusal.{Refusal};
+ghost use Rattle.scenario.specs.declared.setup.Setup.{Setup};
 ghost use Rattle.scenario.specs.Setups.{setup_refusal};
 ghost use Rattle.debug_server.specs.Schedules.{StopsBy, IsOfSchedule, fault_by};
 
@@ -24,7 +24,7 @@ pub(crate) fn fault_by(index: u32, refusal: Refusal) -> RunFault
 /// Runs the schedule of a script.
 pub(crate) fn run_schedule(alloc: Global, script: &Script) -> Result<(), RunFault>
     ensures accepts { OnOk result (Accepts (start script.now.setup) script.now.schedule) }
-    ensures schedule { IfErr result (λ e. (i : ℕ) → (n : Denial) → e ≡ RunFault.Schedule i n → IsRefused script.now.setup script.now.schedule i n) }
+    ensures schedule { IfErr result (λ e. (i : ℕ) → (n : Refusal) → e ≡ RunFault.Schedule i n → IsRefused script.now.setup script.now.schedule i n) }
     ensures other { IfErr result IsOfSchedule }
 {
     run_from(alloc, script.setup(), script.schedule())
@@ -48,7 +48,7 @@ fn step_all(state: &mut State, events: &[Event]) -> Result<(), RunFault>
     requires most { length events.now ≤ 1048576 }
     ensures accepts { OnOk result (Accepts state.old events.now) }
     ensures none { events.now ≡ [] → IsOk result }
-    ensures stops { IfErr result (λ e. (setup : Start) → state.old ≡ start setup → StopsBy setup events.now e) }
+    ensures stops { IfErr result (λ e. (setup : Setup) → state.old ≡ start setup → StopsBy setup events.now e) }
 {
     for i in 0..events.len() {
         if let Err(refusal) = state.step(events[i]) {

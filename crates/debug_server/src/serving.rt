@@ -1,11 +1,12 @@
-//! Serving lines from a reader to a writer.
+//! ServeFault lines from a reader to a writer.
 ghost use Rattle.std.specs.Prelude.{◌≡◌, ◌≢◌, ◌↔◌, ◌++◌, ◌∷◌, [], List, true, false, option_map, IsTrue, IfOk, IfErr, OnOk, OnErr, IsErrOf};
 ghost use Rattle.std.specs.Io.KnownBytes.{Appends, Keeps};
-ghost use Rattle.debug_server.specs.Replies.{Told, reply};
-ghost use Rattle.debug_server.specs.Talks.{asks, Asked, Served, BrokeBy};
-ghost use Rattle.debug_server.specs.Pending.{IsPending, WritesFront, Gave, FillsBy, BreaksBy, EndsBy, FrontBy};
+ghost use Rattle.debug_server.specs.Replies.{Answer, reply};
+ghost use Rattle.debug_server.specs.Transcripts.{asks, Asked, streams, Served, BrokeBy};
+ghost use Rattle.debug_server.specs.SessionStates.{Runs};
+ghost use Rattle.debug_server.specs.Pending.{IsPending, IsOfReplying, WritesFront, Gave, FillsBy, BreaksBy, EndsBy, FrontBy};
 
-use crate::answering::answer;
+use crate::answering::reply_to_line;
 use crate::faults::ServeFault;
 use crate::lines::Line;
 use crate::session::Session;
@@ -19,7 +20,7 @@ use std::io::{Read, Write};
 fn write_bytes<W: Write>(writer: &mut W, bytes: &[u8]) -> Result<(), ServeFault>
     ensures ok { OnOk result (Appends (W.contents writer.old) (W.contents writer.new) bytes.now) }
     ensures err { OnErr result (WritesFront (W.contents writer.old) (W.contents writer.new) bytes.now) }
-    ensures open { result ≢ Err ServeFault.Closed }
+    ensures fault { IfErr result (λ fault. fault ≡ ServeFault.Write) }
 {
     let mut at = 0;
     while at < bytes.len() {
@@ -36,7 +37,7 @@ fn write_bytes<W: Write>(writer: &mut W, bytes: &[u8]) -> Result<(), ServeFault>
 fn write_out<W: Write>(writer: &mut W, bytes: &[u8]) -> Result<(), ServeFault>
     ensures ok { OnOk result (Appends (W.contents writer.old) (W.contents writer.new) bytes.now) }
     ensures err { OnErr result (WritesFront (W.contents writer.old) (W.contents writer.new) bytes.now) }
-    ensures open { result ≢ Err ServeFault.Closed }
+    ensures fault { IfErr result (λ fault. fault ≡ ServeFault.Write) }
 {
     write_bytes(writer, bytes)?;
     match writer.flush() {
@@ -49,7 +50,7 @@ fn write_out<W: Write>(writer: &mut W, bytes: &[u8]) -> Result<(), ServeFault>
 fn ask<S: Source>(source: &mut S, line: &[u8]) -> Result<Option<Vec<Event>>, ServeFault>
     ensures ok { IfOk result (λ answer. Gave S.gives line.now source.old (option_map (λ v. v.items) answer) source.new) }
     ensures err { IfErr result (λ fault. (fault ≡ ServeFault.Memory) × (asks line.now ≡ true) × S.fails source.old source.new) }
-    ensures open { result ≢ Err ServeFault.Closed }
+    ensures fault { IfErr result IsOfReplying }
 {
     if line != b"sync".as_slice() {
         return Ok(None);
@@ -69,21 +70,21 @@ fn lent(answer: &Option<Vec<Event>>) -> Option<&[Event]>
     }
 }
 
-// Replies to one line, with what the source told, and says whether it quits.
+// Replies to one line, with what the source answered, and says whether it quits.
 fn answer_line<W: Write>(
     alloc: Global,
     visitor: &mut Visitor,
     line: &[u8],
-    told: Option<&[Event]>,
+    answer: Option<&[Event]>,
     writer: &mut W,
 ) -> Result<bool, ServeFault>
-    ensures written { OnOk result (Appends (W.contents writer.old) (W.contents writer.new) (reply visitor.old line.now (option_map (λ es. es.now) told.entry)).text) }
-    ensures next { OnOk result (visitor.new ≡ (reply visitor.old line.now (option_map (λ es. es.now) told.entry)).next) }
-    ensures quits { IfOk result (λ q. q ≡ (reply visitor.old line.now (option_map (λ es. es.now) told.entry)).quits) }
-    ensures err { OnErr result (WritesFront (W.contents writer.old) (W.contents writer.new) (reply visitor.old line.now (option_map (λ es. es.now) told.entry)).text) }
-    ensures open { result ≢ Err ServeFault.Closed }
+    ensures written { OnOk result (Appends (W.contents writer.old) (W.contents writer.new) (reply visitor.old line.now (option_map (λ es. es.now) answer.entry)).text) }
+    ensures next { OnOk result (visitor.new ≡ (reply visitor.old line.now (option_map (λ es. es.now) answer.entry)).next) }
+    ensures quits { IfOk result (λ q. q ≡ (reply visitor.old line.now (option_map (λ es. es.now) answer.entry)).quits) }
+    ensures err { OnErr result (WritesFront (W.contents writer.old) (W.contents writer.new) (reply visitor.old line.now (option_map (λ es. es.now) answer.entry)).text) }
+    ensures fault { IfErr result IsOfReplying }
 {
-    let Ok((text, quits)) = answer(alloc, visitor, line, told) else {
+    let Ok((text, quits)) = reply_to_line(alloc, visitor, line, answer) else {
         return Err(ServeFault::Memory);
     };
     write_out(writer, &text)?;
@@ -101,15 +102,15 @@ fn take_byte<W: Write, S: Source>(
 ) -> Result<bool, ServeFault>
     ensures ok { IfOk result (λ q. FillsBy S.gives source.old source.new visitor.old (line.old ++ byte ∷ []) (W.contents writer.old) (W.contents writer.new) q visitor.new line.new) }
     ensures err { IfErr result (λ fault. BreaksBy S.gives S.fails source.old source.new fault visitor.old (line.old ++ byte ∷ []) (W.contents writer.old) (W.contents writer.new)) }
-    ensures open { result ≢ Err ServeFault.Closed }
+    ensures fault { IfErr result IsOfReplying }
 {
     if byte != b'\n' {
         line.push(byte);
         return Ok(false);
     }
     let text = line.as_slice();
-    let told = ask(source, text)?;
-    let quits = answer_line(alloc, visitor, text, lent(&told), writer)?;
+    let answer = ask(source, text)?;
+    let quits = answer_line(alloc, visitor, text, lent(&answer), writer)?;
     line.clear();
     Ok(quits)
 }
@@ -125,7 +126,7 @@ fn feed<W: Write, S: Source>(
 ) -> Result<bool, ServeFault>
     ensures ok { IfOk result (λ q. FillsBy S.gives source.old source.new visitor.old (line.old ++ bytes.now) (W.contents writer.old) (W.contents writer.new) q visitor.new line.new) }
     ensures err { IfErr result (λ fault. BreaksBy S.gives S.fails source.old source.new fault visitor.old (line.old ++ bytes.now) (W.contents writer.old) (W.contents writer.new)) }
-    ensures open { result ≢ Err ServeFault.Closed }
+    ensures fault { IfErr result IsOfReplying }
 {
     for byte in bytes {
         if take_byte(alloc, visitor, line, *byte, writer, source)? {
@@ -146,13 +147,13 @@ fn finish<W: Write, S: Source>(
     requires { IsPending line.now }
     ensures ok { IfOk result (λ q. EndsBy S.gives source.old source.new visitor.old line.now (W.contents writer.old) (W.contents writer.new) q visitor.new) }
     ensures err { IfErr result (λ fault. FrontBy S.gives S.fails source.old source.new fault visitor.old line.now (W.contents writer.old) (W.contents writer.new)) }
-    ensures open { result ≢ Err ServeFault.Closed }
+    ensures fault { IfErr result IsOfReplying }
 {
     if line.len() == 0 {
         return Ok(false);
     }
-    let told = ask(source, line)?;
-    let quits = answer_line(alloc, visitor, line, lent(&told), writer)?;
+    let answer = ask(source, line)?;
+    let quits = answer_line(alloc, visitor, line, lent(&answer), writer)?;
     Ok(quits)
 }
 
@@ -164,15 +165,18 @@ fn converse<R: Read, W: Write, S: Source>(
     writer: &mut W,
     source: &mut S,
 ) -> Result<bool, ServeFault>
-    ensures ok { IfOk result (λ q. (answers : List Told) × Asked S.gives source.old answers source.new
-        × Served visitor.old (R.remaining reader.old) (R.remaining reader.new) (W.contents writer.old) (W.contents writer.new) answers visitor.new q) }
+    ensures ok { IfOk result (λ q. (answers : List Answer) × Asked S.gives source.old answers source.new
+        × Served visitor.old (streams (R.remaining reader.old) (W.contents writer.old))
+        (streams (R.remaining reader.new) (W.contents writer.new)) answers visitor.new q) }
     ensures err { IfErr result (λ fault. BrokeBy S.gives S.fails source.old source.new fault visitor.old
-        (R.remaining reader.old) (R.remaining reader.new) (W.contents writer.old) (W.contents writer.new)) }
+        (streams (R.remaining reader.old) (W.contents writer.old)) (streams (R.remaining reader.new) (W.contents writer.new))) }
     ensures open { result ≢ Err ServeFault.Closed }
 {
     let mut line = Line::new();
     let mut buffer = [0u8; 512];
     'reads: for _ in 0..u64::MAX {
+        // No newline stands in it: each line that ended was answered.
+        let _unended = line.as_slice();
         let Ok(count) = reader.read(&mut buffer) else {
             return Err(ServeFault::Read);
         };
@@ -183,6 +187,7 @@ fn converse<R: Read, W: Write, S: Source>(
             return Ok(true);
         }
     }
+    let _unended = line.as_slice();
     Err(ServeFault::Read)
 }
 
@@ -202,20 +207,27 @@ pub fn serve<R: Read, W: Write, S: Source>(
     ensures unasked { session.old.is_closed ≡ true → source.new ≡ source.old }
 
     // What is written is the output of what was read, to the end or past a line that quits.
-    ensures ok { OnOk result ((answers : List Told) × Asked S.gives source.old answers source.new
-        × Served session.old.visit (R.remaining reader.old) (R.remaining reader.new)
-        (W.contents writer.old) (W.contents writer.new) answers session.new.visit session.new.is_closed) }
+    ensures ok { OnOk result ((answers : List Answer) × Asked S.gives source.old answers source.new
+        × Served session.old.state (streams (R.remaining reader.old) (W.contents writer.old))
+        (streams (R.remaining reader.new) (W.contents writer.new)) answers session.new.state session.new.is_closed) }
 
     // At an error it is a beginning of that, and the source was asked for just what was answered, and once
     // more for a line that got no answer for want of memory.
     ensures err { OnErr result (session.new.is_closed ≡ true) }
-    ensures begins { session.old.is_closed ≡ false → IfErr result (λ fault. BrokeBy S.gives S.fails source.old source.new fault session.old.visit
-        (R.remaining reader.old) (R.remaining reader.new) (W.contents writer.old) (W.contents writer.new)) }
+    ensures begins { session.old.is_closed ≡ false → IfErr result (λ fault. BrokeBy S.gives S.fails source.old source.new fault session.old.state
+        (streams (R.remaining reader.old) (W.contents writer.old)) (streams (R.remaining reader.new) (W.contents writer.new))) }
+
+    // The session's events run from the setup's start, and the position is one of theirs.
+    ensures ran { Runs session.old.state.walk }
+    ensures runs { Runs session.new.state.walk }
 {
+    let _before = session.visitor.position();
     if session.is_closed {
         return Err(ServeFault::Closed);
     }
-    match converse(session.alloc, &mut session.visitor, reader, writer, source) {
+    let served = converse(session.alloc, &mut session.visitor, reader, writer, source);
+    let _after = session.visitor.position();
+    match served {
         Ok(quits) => {
             session.is_closed = quits;
             Ok(())

@@ -1,10 +1,13 @@
 //! Sessions.
 ghost use Rattle.std.specs.Prelude.{◌≡◌, ◌≤◌, ℕ, length, false, option_map, IfOk, IfErr, OnOk, OnErr};
 ghost use Rattle.machine.specs.Runs.{start, Accepts, IsRefused};
-ghost use Rattle.scenario.specs.declared.event.Refusal.{Refusal as Denial};
+ghost use Rattle.scenario.specs.declared.event.Refusal.{Refusal};
 ghost use Rattle.scenario.specs.Setups.{setup_refusal};
+ghost use Rattle.scenario.specs.declared.setup.Setup.{Setup};
+ghost use Rattle.inverse_log.specs.Walks.{ending, fresh, jumped, extended};
 ghost use Rattle.debug_server.specs.Replies.{reply};
-ghost use Rattle.debug_server.specs.Schedules.{visit_over, IsOfSchedule, fault_of};
+ghost use Rattle.debug_server.specs.Schedules.{state_over, StopsBy, IsOfSchedule, fault_of};
+ghost use Rattle.debug_server.specs.SessionStates.{Runs};
 
 use crate::answering;
 use crate::faults::RunFault;
@@ -26,19 +29,19 @@ pub struct Session {
 }
 
 impl Model for Session {
-    ghost use Rattle.debug_server.specs.Closing.{Standing};
+    ghost use Rattle.debug_server.specs.SessionStates.{SessionValue};
 
-    ghost Value = { Standing };
+    ghost Value = { SessionValue };
 
-    ghost view = { λ s. record { visit = s.visitor; is_closed = s.is_closed } };
+    ghost view = { λ s. record { state = s.visitor; is_closed = s.is_closed } };
 }
 
 impl Session {
     /// Runs the schedule of a script, and stands at its end. A new session is open.
     pub fn new(alloc: Global, script: &Script) -> Result<Session, RunFault>
-        ensures ok { IfOk result (λ s. s ≡ record { visit = visit_over script.now.setup script.now.schedule; is_closed = false }) }
+        ensures ok { IfOk result (λ s. s ≡ record { state = state_over script.now.setup script.now.schedule; is_closed = false }) }
         ensures accepts { OnOk result (Accepts (start script.now.setup) script.now.schedule) }
-        ensures schedule { IfErr result (λ e. (i : ℕ) → (n : Denial) → e ≡ RunFault.Schedule i n → IsRefused script.now.setup script.now.schedule i n) }
+        ensures schedule { IfErr result (λ e. (i : ℕ) → (n : Refusal) → e ≡ RunFault.Schedule i n → IsRefused script.now.setup script.now.schedule i n) }
         ensures other { IfErr result IsOfSchedule }
     {
         session_of(alloc, script.setup(), script.schedule())
@@ -48,9 +51,9 @@ impl Session {
     pub fn of(alloc: Global, setup: &Setup, events: &[Event]) -> Result<Session, RunFault>
         requires starts { setup_refusal setup.now ≡ None }
         requires most { length events.now ≤ 1048576 }
-        ensures ok { IfOk result (λ s. s ≡ record { visit = visit_over setup.now events.now; is_closed = false }) }
+        ensures ok { IfOk result (λ s. s ≡ record { state = state_over setup.now events.now; is_closed = false }) }
         ensures accepts { OnOk result (Accepts (start setup.now) events.now) }
-        ensures schedule { IfErr result (λ e. (i : ℕ) → (n : Denial) → e ≡ RunFault.Schedule i n → IsRefused setup.now events.now i n) }
+        ensures schedule { IfErr result (λ e. (i : ℕ) → (n : Refusal) → e ≡ RunFault.Schedule i n → IsRefused setup.now events.now i n) }
         ensures other { IfErr result IsOfSchedule }
     {
         session_of(alloc, setup, events)
@@ -59,11 +62,15 @@ impl Session {
     /// Replies to one line. An `Err` changes nothing. The answer, what a source gave, counts for the
     /// commands that ask it. Whether the session is closed is neither asked nor changed.
     pub fn line(&mut self, line: &[u8], answer: Option<&[Event]>) -> Result<Vec<u8>, AllocError>
-        ensures text { IfOk result (λ text. text.items ≡ (reply self.old.visit line.now (option_map (λ es. es.now) answer.entry)).text) }
-        ensures next { OnOk result (self.new ≡ record { visit = (reply self.old.visit line.now (option_map (λ es. es.now) answer.entry)).next; is_closed = self.old.is_closed }) }
+        ensures text { IfOk result (λ text. text.items ≡ (reply self.old.state line.now (option_map (λ es. es.now) answer.entry)).text) }
+        ensures next { OnOk result (self.new ≡ record { state = (reply self.old.state line.now (option_map (λ es. es.now) answer.entry)).next; is_closed = self.old.is_closed }) }
         ensures err { OnErr result (self.new ≡ self.old) }
+        // The events run from the setup's start, and the position is one of theirs.
+        ensures ran { Runs self.old.state.walk }
+        ensures runs { Runs self.new.state.walk }
     {
-        let (text, _) = answering::answer(self.alloc, &mut self.visitor, line, answer)?;
+        let (text, _) = answering::reply_to_line(self.alloc, &mut self.visitor, line, answer)?;
+        let _position = self.visitor.position();
         Ok(text)
     }
 }
@@ -82,24 +89,38 @@ fn fault_of(refusal: ExtendRefusal) -> RunFault
 fn session_of(alloc: Global, setup: &Setup, events: &[Event]) -> Result<Session, RunFault>
     requires starts { setup_refusal setup.now ≡ None }
     requires most { length events.now ≤ 1048576 }
-    ensures ok { IfOk result (λ s. s ≡ record { visit = visit_over setup.now events.now; is_closed = false }) }
+    ensures ok { IfOk result (λ s. s ≡ record { state = state_over setup.now events.now; is_closed = false }) }
     ensures accepts { OnOk result (Accepts (start setup.now) events.now) }
-    ensures schedule { IfErr result (λ e. (i : ℕ) → (n : Denial) → e ≡ RunFault.Schedule i n → IsRefused setup.now events.now i n) }
+    ensures schedule { IfErr result (λ e. (i : ℕ) → (n : Refusal) → e ≡ RunFault.Schedule i n → IsRefused setup.now events.now i n) }
     ensures other { IfErr result IsOfSchedule }
 {
     let Ok(mut walker) = Walker::new(alloc, setup) else {
         return Err(RunFault::Memory);
     };
+    match run_through(&mut walker, events) {
+        Ok(()) => Ok(Session {
+            alloc,
+            visitor: Visitor {
+                walker,
+                watches: Watches::new(alloc),
+            },
+            is_closed: false,
+        }),
+        Err(fault) => Err(fault),
+    }
+}
+
+// Adds some events to a walk, and goes so many on.
+fn run_through(walker: &mut Walker, events: &[Event]) -> Result<(), RunFault>
+    ensures ok { OnOk result (walker.new ≡ jumped (extended walker.old events.now) (length events.now)) }
+    ensures accepts { OnOk result (Accepts (ending walker.old) events.now) }
+    ensures stops { IfErr result (λ e. (setup : Setup) → walker.old ≡ fresh setup → StopsBy setup events.now e) }
+{
     if let Err(refusal) = walker.extend(events) {
         return Err(fault_of(refusal));
     }
     if walker.goto(events.len()).is_err() {
         return Err(RunFault::Memory);
     }
-    let watches = Watches::new(alloc);
-    Ok(Session {
-        alloc,
-        visitor: Visitor { walker, watches },
-        is_closed: false,
-    })
+    Ok(())
 }

@@ -1,6 +1,6 @@
 //! Where the events of a live run come from.
 ghost use Rattle.std.specs.Prelude.{◌≡◌, IfOk, OnErr, Option, List, None, option_map};
-ghost use Rattle.scenario.specs.declared.event.Event.{Event as Happening};
+ghost use Rattle.scenario.specs.declared.event.Event.{Event};
 
 use machine::Event;
 use std::alloc::AllocError;
@@ -8,7 +8,7 @@ use std::alloc::AllocError;
 /// A live trace, which may grow.
 pub trait Source {
     /// What a call may answer, and what the source is after it.
-    ghost gives: { Self → Option (List Happening) → Self → Type 0 };
+    ghost gives: { Self → Option (List Event) → Self → Type 0 };
 
     /// What the source is after a call that wanted memory.
     ghost fails: { Self → Self → Type 0 };

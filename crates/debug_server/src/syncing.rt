@@ -17,13 +17,13 @@ use std::alloc::{AllocError, Global};
 pub(crate) fn sync(
     alloc: Global,
     visitor: &mut Visitor,
-    told: Option<&[Event]>,
+    answer: Option<&[Event]>,
 ) -> Result<Vec<u8>, AllocError>
-    ensures text { IfOk result (λ text. text.items ≡ (syncs visitor.old (option_map (λ es. es.now) told.entry)).text) }
-    ensures next { OnOk result (visitor.new ≡ (syncs visitor.old (option_map (λ es. es.now) told.entry)).next) }
+    ensures text { IfOk result (λ text. text.items ≡ (syncs visitor.old (option_map (λ es. es.now) answer.entry)).text) }
+    ensures next { OnOk result (visitor.new ≡ (syncs visitor.old (option_map (λ es. es.now) answer.entry)).next) }
     ensures err { OnErr result (visitor.new ≡ visitor.old) }
 {
-    let Some(source) = told else {
+    let Some(source) = answer else {
         return Vec::from_slice(alloc, b"refused 2 source\n");
     };
     if source.len() > TRACE_LIMIT {

@@ -16,6 +16,13 @@ pub enum Job<'a> {
     Walk(&'a str),
     /// A session over the trace in this file.
     Replay(&'a str),
+    /// What the events of the script or trace in this file changed: those from a number on, and below
+    /// another if there is one.
+    Log {
+        run: &'a str,
+        from: u32,
+        to: Option<u32>,
+    },
     /// The trace of a script's schedule.
     Trace {
         script: &'a str,

@@ -2,15 +2,16 @@
 ghost use Rattle.std.specs.Prelude.{◌≡◌, ◌⊎◌, ◌≤◌, ℕ, List, Ok, Err, length, IfOk, IfErr, IsTrue};
 ghost use Rattle.std.specs.List.{list_all};
 ghost use Rattle.machine.specs.Runs.{start, Accepts, IsRefused};
-ghost use Rattle.scenario.specs.declared.event.Event.{Event as Happening};
-ghost use Rattle.scenario.specs.declared.event.Refusal.{Refusal as Denial};
+ghost use Rattle.scenario.specs.declared.event.Event.{Event};
+ghost use Rattle.scenario.specs.declared.event.Refusal.{Refusal};
 ghost use Rattle.script.specs.Scripts.{Plan, Reads};
-ghost use Rattle.script.specs.declared.fault.ScriptFault.{ScriptFault as Misread};
+ghost use Rattle.script.specs.declared.fault.ScriptFault.{ScriptFault};
 ghost use Rattle.traces.specs.Faults.{IsFault};
 ghost use Rattle.traces.specs.Setups.{plain, IsTrace2};
 ghost use Rattle.traces.specs.Spelling.{most_events, has_transfer, IsTrace};
-ghost use Rattle.traces.specs.declared.fault.TraceFault.{TraceFault as Misspelt};
-ghost use Rattle.debug_server.specs.Tracing.{IsSpelling, IsTraceOf, IsOfTracing, IsOfMigration};
+ghost use Rattle.traces.specs.declared.fault.TraceFault.{TraceFault};
+ghost use Rattle.debug_server.specs.Tracing.{IsSpelling, IsTraceOf, IsOfTracing, IsOfMigration, IsOfTraces};
+ghost use Rattle.debug_server.specs.Schedules.{IsOfSchedule};
 
 use crate::faults::RunFault;
 use crate::running::run_schedule;
@@ -31,13 +32,22 @@ pub struct Traced {
 /// Reads a script, runs its schedule, and writes the trace of it in a form.
 pub fn trace_script(alloc: Global, text: &[u8], form: Form) -> Result<Traced, RunFault>
     ensures ok { IfOk result (λ t. (p : Plan) × Reads text.now (Ok p) × Accepts (start p.setup) p.schedule × IsTraceOf form p t) }
-    ensures script { IfErr result (λ e. (f : Misread) → e ≡ RunFault.Script f → Reads text.now (Err f)) }
-    ensures schedule { IfErr result (λ e. (i : ℕ) → (n : Denial) → e ≡ RunFault.Schedule i n → (p : Plan) × Reads text.now (Ok p) × IsRefused p.setup p.schedule i n) }
+    ensures script { IfErr result (λ e. (f : ScriptFault) → e ≡ RunFault.Script f → Reads text.now (Err f)) }
+    ensures schedule { IfErr result (λ e. (i : ℕ) → (n : Refusal) → e ≡ RunFault.Schedule i n → (p : Plan) × Reads text.now (Ok p) × IsRefused p.setup p.schedule i n) }
     ensures other { IfErr result IsOfTracing }
 {
     let script = script_of(alloc, text)?;
-    run_schedule(alloc, &script)?;
-    match spelled(alloc, &script, form) {
+    Ok(trace_of(alloc, &script, form)?)
+}
+
+// Runs a script's schedule, and writes the trace of it in a form.
+fn trace_of(alloc: Global, script: &Script, form: Form) -> Result<Traced, RunFault>
+    ensures ok { IfOk result (λ t. Accepts (start script.now.setup) script.now.schedule × IsTraceOf form script.now t) }
+    ensures schedule { IfErr result (λ e. (i : ℕ) → (n : Refusal) → e ≡ RunFault.Schedule i n → IsRefused script.now.setup script.now.schedule i n) }
+    ensures other { IfErr result IsOfSchedule }
+{
+    run_schedule(alloc, script)?;
+    match spelled(alloc, script, form) {
         Ok(bytes) => Ok(Traced {
             events: script.schedule().len() as u32,
             bytes,
@@ -49,19 +59,29 @@ pub fn trace_script(alloc: Global, text: &[u8], form: Form) -> Result<Traced, Ru
 /// Reads a script and a trace of the first form, and writes the trace of the second form of the script's
 /// setup and the trace's events. It runs none of them.
 pub fn migrate_trace(alloc: Global, text: &[u8], trace: &[u8]) -> Result<Traced, RunFault>
-    ensures ok { IfOk result (λ t. (p : Plan) × Reads text.now (Ok p) × (events : List Happening) × IsTrace events trace.now
+    ensures ok { IfOk result (λ t. (p : Plan) × Reads text.now (Ok p) × (events : List Event) × IsTrace events trace.now
         × IsTrace2 (plain p.setup) events t.bytes.items × (t.events ≡ length events)) }
-    ensures script { IfErr result (λ e. (f : Misread) → e ≡ RunFault.Script f → Reads text.now (Err f)) }
-    ensures trace { IfErr result (λ e. (f : Misspelt) → e ≡ RunFault.Trace f → ((p : Plan) × Reads text.now (Ok p)) × IsFault trace.now f) }
+    ensures script { IfErr result (λ e. (f : ScriptFault) → e ≡ RunFault.Script f → Reads text.now (Err f)) }
+    ensures trace { IfErr result (λ e. (f : TraceFault) → e ≡ RunFault.Trace f → ((p : Plan) × Reads text.now (Ok p)) × IsFault trace.now f) }
     ensures other { IfErr result IsOfMigration }
 {
     let script = script_of(alloc, text)?;
+    Ok(migrate_with(alloc, &script, trace)?)
+}
+
+// The trace of the second form of a script's setup and the events of a trace of the first form.
+fn migrate_with(alloc: Global, script: &Script, trace: &[u8]) -> Result<Traced, RunFault>
+    ensures ok { IfOk result (λ t. (events : List Event) × IsTrace events trace.now
+        × IsTrace2 (plain script.now.setup) events t.bytes.items × (t.events ≡ length events)) }
+    ensures trace { IfErr result (λ e. (f : TraceFault) → e ≡ RunFault.Trace f → IsFault trace.now f) }
+    ensures other { IfErr result IsOfTraces }
+{
     let events = match read_trace(alloc, trace) {
         Ok(events) => events,
         Err(TraceFault::Memory) => return Err(RunFault::Memory),
         Err(fault) => return Err(RunFault::Trace(fault)),
     };
-    match whole_of(alloc, &script, &events) {
+    match whole_of(alloc, script, &events) {
         Ok(bytes) => Ok(Traced {
             events: events.len() as u32,
             bytes,
@@ -72,7 +92,7 @@ pub fn migrate_trace(alloc: Global, text: &[u8], trace: &[u8]) -> Result<Traced,
 
 fn script_of(alloc: Global, text: &[u8]) -> Result<Script, RunFault>
     ensures ok { IfOk result (λ s. Reads text.now (Ok s)) }
-    ensures script { IfErr result (λ e. (e ≡ RunFault.Memory) ⊎ ((f : Misread) × (e ≡ RunFault.Script f) × Reads text.now (Err f))) }
+    ensures script { IfErr result (λ e. (e ≡ RunFault.Memory) ⊎ ((f : ScriptFault) × (e ≡ RunFault.Script f) × Reads text.now (Err f))) }
 {
     match read_script(alloc, text) {
         Ok(script) => Ok(script),

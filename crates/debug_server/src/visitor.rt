@@ -1,5 +1,7 @@
 //! What a session walks with.
 
+ghost use Rattle.std.specs.Prelude.{◌≡◌, length};
+
 use inverse_log::Walker;
 use std::marker::Model;
 use watches::Watches;
@@ -12,9 +14,22 @@ pub(crate) struct Visitor {
 }
 
 impl Model for Visitor {
-    ghost use Rattle.debug_server.specs.Visits.{Visit};
+    ghost use Rattle.debug_server.specs.SessionStates.{SessionState};
 
-    ghost Value = { Visit };
+    ghost Value = { SessionState };
 
     ghost view = { λ v. record { walk = v.walker; watching = v.watches } };
+}
+
+impl Visitor {
+    ghost use Rattle.debug_server.specs.SessionStates.{Runs};
+
+    // The position, and how many events there are.
+    pub(crate) fn position(&self) -> (usize, usize)
+        ensures at { result.0 ≡ self.now.walk.at }
+        ensures len { result.1 ≡ length self.now.walk.events }
+        ensures runs { Runs self.now.walk }
+    {
+        (self.walker.at(), self.walker.len())
+    }
 }

@@ -1,17 +1,16 @@
 //! Walking a script, or some events.
-ghost use Rattle.std.specs.Prelude.{◌≡◌, ◌≢◌, ◌≤◌, ℕ, Bool, List, Ok, Err, None, OnOk, IfErr, length};
+ghost use Rattle.std.specs.Prelude.{◌≡◌, ◌≢◌, ◌≤◌, ℕ, Ok, Err, None, OnOk, IfErr, length};
 ghost use Rattle.std.specs.Io.KnownBytes.{Keeps};
-ghost use Rattle.machine.specs.Runs.{start, Accepts, IsRefused};
+ghost use Rattle.machine.specs.Runs.{IsRefused};
 ghost use Rattle.scenario.specs.Setups.{setup_refusal};
-ghost use Rattle.scenario.specs.declared.event.Refusal.{Refusal as Denial};
+ghost use Rattle.scenario.specs.declared.event.Refusal.{Refusal};
 ghost use Rattle.script.specs.Scripts.{Plan, Reads};
-ghost use Rattle.script.specs.declared.fault.ScriptFault.{ScriptFault as Misread};
-ghost use Rattle.debug_server.specs.declared.faults.ServeFault.{ServeFault as Serving};
+ghost use Rattle.script.specs.declared.fault.ScriptFault.{ScriptFault};
+ghost use Rattle.debug_server.specs.declared.faults.ServeFault.{ServeFault};
 ghost use Rattle.debug_server.specs.declared.faults.ServeFault.TheVariants.{Closed};
-ghost use Rattle.debug_server.specs.Visits.{Visit};
-ghost use Rattle.debug_server.specs.Replies.{Told};
-ghost use Rattle.debug_server.specs.Talks.{Unanswered, Served, Broke};
-ghost use Rattle.debug_server.specs.Schedules.{visit_over, IsOfRun, IsOfWalk};
+ghost use Rattle.debug_server.specs.Transcripts.{streams};
+ghost use Rattle.debug_server.specs.Schedules.{IsOfRun, IsOfWalk};
+ghost use Rattle.debug_server.specs.Walked.{Walked, BrokenOff};
 
 use crate::faults::RunFault;
 use crate::serving::serve;
@@ -30,16 +29,16 @@ pub fn walk<R: Read, W: Write>(
     writer: &mut W,
 ) -> Result<(), RunFault>
     // The schedule runs, and what is written is the output of the session of the script, without a source.
-    ensures ok { OnOk result ((p : Plan) × Reads text.now (Ok p) × Accepts (start p.setup) p.schedule × (answers : List Told) × Unanswered answers × (v : Visit) × (q : Bool)
-        × Served (visit_over p.setup p.schedule) (R.remaining reader.old) (R.remaining reader.new) (W.contents writer.old) (W.contents writer.new) answers v q) }
+    ensures ok { OnOk result ((p : Plan) × Reads text.now (Ok p) × Walked p.setup p.schedule
+        (streams (R.remaining reader.old) (W.contents writer.old)) (streams (R.remaining reader.new) (W.contents writer.new))) }
     // A fault of the script is its first one, a fault of the schedule its first refused event. Nothing was written then.
-    ensures script { IfErr result (λ e. (f : Misread) → e ≡ RunFault.Script f → Reads text.now (Err f) × Keeps (W.contents writer.old) (W.contents writer.new)) }
-    ensures schedule { IfErr result (λ e. (i : ℕ) → (n : Denial) → e ≡ RunFault.Schedule i n
+    ensures script { IfErr result (λ e. (f : ScriptFault) → e ≡ RunFault.Script f → Reads text.now (Err f) × Keeps (W.contents writer.old) (W.contents writer.new)) }
+    ensures schedule { IfErr result (λ e. (i : ℕ) → (n : Refusal) → e ≡ RunFault.Schedule i n
         → (p : Plan) × Reads text.now (Ok p) × IsRefused p.setup p.schedule i n × Keeps (W.contents writer.old) (W.contents writer.new)) }
     ensures memory { IfErr result (λ e. e ≡ RunFault.Memory → Keeps (W.contents writer.old) (W.contents writer.new)) }
     // At a fault of serving a beginning of that output was written.
-    ensures begins { IfErr result (λ e. (f : Serving) → e ≡ RunFault.Serve f → (p : Plan) × Reads text.now (Ok p) × Accepts (start p.setup) p.schedule × (answers : List Told) × Unanswered answers
-        × Broke (visit_over p.setup p.schedule) (R.remaining reader.old) (R.remaining reader.new) (W.contents writer.old) (W.contents writer.new) answers) }
+    ensures begins { IfErr result (λ e. (f : ServeFault) → e ≡ RunFault.Serve f → (p : Plan) × Reads text.now (Ok p) × BrokenOff p.setup p.schedule
+        (streams (R.remaining reader.old) (W.contents writer.old)) (streams (R.remaining reader.new) (W.contents writer.new)) f) }
     ensures open { result ≢ Err (RunFault.Serve Closed) }
     ensures other { IfErr result IsOfWalk }
 {
@@ -59,14 +58,14 @@ fn walk_script<R: Read, W: Write>(
     reader: &mut R,
     writer: &mut W,
 ) -> Result<(), RunFault>
-    ensures ok { OnOk result (Accepts (start script.now.setup) script.now.schedule × (answers : List Told) × Unanswered answers × (v : Visit) × (q : Bool)
-        × Served (visit_over script.now.setup script.now.schedule) (R.remaining reader.old) (R.remaining reader.new) (W.contents writer.old) (W.contents writer.new) answers v q) }
-    ensures script { IfErr result (λ e. (f : Misread) → e ≢ RunFault.Script f) }
-    ensures schedule { IfErr result (λ e. (i : ℕ) → (n : Denial) → e ≡ RunFault.Schedule i n
+    ensures ok { OnOk result (Walked script.now.setup script.now.schedule
+        (streams (R.remaining reader.old) (W.contents writer.old)) (streams (R.remaining reader.new) (W.contents writer.new))) }
+    ensures script { IfErr result (λ e. (f : ScriptFault) → e ≢ RunFault.Script f) }
+    ensures schedule { IfErr result (λ e. (i : ℕ) → (n : Refusal) → e ≡ RunFault.Schedule i n
         → IsRefused script.now.setup script.now.schedule i n × Keeps (W.contents writer.old) (W.contents writer.new)) }
     ensures memory { IfErr result (λ e. e ≡ RunFault.Memory → Keeps (W.contents writer.old) (W.contents writer.new)) }
-    ensures begins { IfErr result (λ e. (f : Serving) → e ≡ RunFault.Serve f → Accepts (start script.now.setup) script.now.schedule × (answers : List Told) × Unanswered answers
-        × Broke (visit_over script.now.setup script.now.schedule) (R.remaining reader.old) (R.remaining reader.new) (W.contents writer.old) (W.contents writer.new) answers) }
+    ensures begins { IfErr result (λ e. (f : ServeFault) → e ≡ RunFault.Serve f → BrokenOff script.now.setup script.now.schedule
+        (streams (R.remaining reader.old) (W.contents writer.old)) (streams (R.remaining reader.new) (W.contents writer.new)) f) }
     ensures open { result ≢ Err (RunFault.Serve Closed) }
     ensures other { IfErr result IsOfWalk }
 {
@@ -83,13 +82,13 @@ pub(crate) fn walk_events<R: Read, W: Write>(
 ) -> Result<(), RunFault>
     requires starts { setup_refusal setup.now ≡ None }
     requires most { length events.now ≤ 1048576 }
-    ensures ok { OnOk result (Accepts (start setup.now) events.now × (answers : List Told) × Unanswered answers × (v : Visit) × (q : Bool)
-        × Served (visit_over setup.now events.now) (R.remaining reader.old) (R.remaining reader.new) (W.contents writer.old) (W.contents writer.new) answers v q) }
-    ensures schedule { IfErr result (λ e. (i : ℕ) → (n : Denial) → e ≡ RunFault.Schedule i n
+    ensures ok { OnOk result (Walked setup.now events.now
+        (streams (R.remaining reader.old) (W.contents writer.old)) (streams (R.remaining reader.new) (W.contents writer.new))) }
+    ensures schedule { IfErr result (λ e. (i : ℕ) → (n : Refusal) → e ≡ RunFault.Schedule i n
         → IsRefused setup.now events.now i n × Keeps (W.contents writer.old) (W.contents writer.new)) }
     ensures memory { IfErr result (λ e. e ≡ RunFault.Memory → Keeps (W.contents writer.old) (W.contents writer.new)) }
-    ensures begins { IfErr result (λ e. (f : Serving) → e ≡ RunFault.Serve f → Accepts (start setup.now) events.now × (answers : List Told) × Unanswered answers
-        × Broke (visit_over setup.now events.now) (R.remaining reader.old) (R.remaining reader.new) (W.contents writer.old) (W.contents writer.new) answers) }
+    ensures begins { IfErr result (λ e. (f : ServeFault) → e ≡ RunFault.Serve f → BrokenOff setup.now events.now
+        (streams (R.remaining reader.old) (W.contents writer.old)) (streams (R.remaining reader.new) (W.contents writer.new)) f) }
     ensures open { result ≢ Err (RunFault.Serve Closed) }
     ensures other { IfErr result IsOfRun }
 {

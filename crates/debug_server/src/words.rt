@@ -4,7 +4,7 @@ ghost use Rattle.debug_server.specs.Jobs.{LosesScript};
 
 use crate::task::{Form, Job};
 use clap::error::ErrorKind;
-use clap::{Arg, ArgAction, ArgMatches, Command, Error};
+use clap::{Arg, ArgAction, ArgMatches, Command, Error, value_parser};
 use std::alloc::{AllocError, Global};
 
 const EXAMPLE: &str = "Example: echo where | uringwalk walk examples/one_nop.json";
@@ -17,6 +17,9 @@ const TRACED: &str =
 
 const MIGRATED: &str =
     "IN is a trace that trace has written with --form 1. OUT is made, or takes the place of a file of its name, IN among them; it can't be SCRIPT's own file. Example:\n  uringwalk trace --form 1 examples/one_nop.json one_nop.trace\n  uringwalk migrate examples/one_nop.json one_nop.trace one_nop.trace";
+
+const LOGGED: &str =
+    "One line an event, as its number and its words in a schedule, and below it a line for each place that it changed, as PLACE OLD -> NEW. Example:\n  uringwalk log examples/one_nop.json --from 3 --to 4";
 
 const ONTO_SCRIPT: &str = "OUT is SCRIPT's own file: the trace would take the script's place";
 
@@ -70,6 +73,38 @@ fn replay_words<'a>(alloc: Global) -> Result<Command<'a>, AllocError> {
         .arg(file(alloc, "TRACE", "A trace of form 2"))
 }
 
+// A word with a number behind it.
+fn number<'a>(alloc: Global, name: &'a str, word: &'a str, help: &'a str) -> Arg<'a> {
+    Arg::new(alloc, name)
+        .long(word)
+        .help(help)
+        .value_parser(value_parser!(u32))
+        .action(ArgAction::Set)
+}
+
+fn log_words<'a>(alloc: Global) -> Result<Command<'a>, AllocError> {
+    Command::new(alloc, "log")
+        .about("Run a script's schedule or a trace's events, and tell what each changed")
+        .after_help(LOGGED)
+        .arg(file(
+            alloc,
+            "RUN",
+            "A trace of form 2 where its first byte is a U, or else a script",
+        ))?
+        .arg(number(
+            alloc,
+            "M",
+            "from",
+            "The first event to tell of; where left out, that is event 0",
+        ))?
+        .arg(number(
+            alloc,
+            "N",
+            "to",
+            "The event to end before; where left out, all the rest are told",
+        ))
+}
+
 fn text_of<'a>(matches: &ArgMatches<'a>, name: &str) -> &'a str {
     matches.get_str(name).unwrap_or("")
 }
@@ -94,6 +129,11 @@ fn job_of<'a>(name: &str, matches: &ArgMatches<'a>) -> Job<'a> {
             trace: text_of(matches, "IN"),
             out: text_of(matches, "OUT"),
         },
+        "log" => Job::Log {
+            run: text_of(matches, "RUN"),
+            from: matches.get_one::<u32>("M").unwrap_or(0),
+            to: matches.get_one::<u32>("N"),
+        },
         "replay" => Job::Replay(text_of(matches, "TRACE")),
         _ => Job::Walk(script),
     }
@@ -106,7 +146,7 @@ fn loses_script(job: Job<'_>) -> bool
     match job {
         Job::Trace { script, out, .. } => out == script,
         Job::Migrate { script, out, .. } => out == script,
-        Job::Walk(_) | Job::Replay(_) => false,
+        Job::Walk(_) | Job::Replay(_) | Job::Log { .. } => false,
     }
 }
 
@@ -122,7 +162,8 @@ pub fn job<'a>(alloc: Global, words: &'a [&'a str]) -> Result<Job<'a>, Error>
         .subcommand(walk_words(alloc)?)?
         .subcommand(trace_words(alloc)?)?
         .subcommand(migrate_words(alloc)?)?
-        .subcommand(replay_words(alloc)?)?;
+        .subcommand(replay_words(alloc)?)?
+        .subcommand(log_words(alloc)?)?;
     let matches = command.try_get_matches_from_mut(words)?;
     let job = match matches.subcommand() {
         Some((name, matches)) => job_of(name, matches),

@@ -10,6 +10,3 @@ pub mod row;
 pub use completion::Cqe;
 pub use entry::Sqe;
 pub use row::{Phase, Row};
-
-#[cfg(test)]
-mod tests;

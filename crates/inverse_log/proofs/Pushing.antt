@@ -9,7 +9,7 @@ use Rattle.scenario.specs.declared.event.Refusal.{Refusal}
 use Rattle.scenario.specs.declared.event.Refusal.TheVariants.{Memory}
 use Rattle.machine.specs.Steps.{refusal, after}
 use Rattle.machine.specs.Runs.{run, start, Accepts}
-use Rattle.inverse_log.specs.Tracks.{Track, stands, ends, grown, Stops}
+use Rattle.inverse_log.specs.Tracks.{Track, stands, ends, grown, RefusedAt}
 use Rattle.inverse_log.proofs.Runs.{run-append, run_all, accepts-push}
 
 -- the first i events were pushed
@@ -50,7 +50,7 @@ pushed_more w v v' es i e d last h p a k g =
       accepts = subst (Accepts (ends w)) (sym (one_more es i e d h g)) run_on;
     }
 
-pub pushed_stops : (w v : Track) (es : List Event) (i : ℕ) (e d : Event) (n : Refusal) → w.at ≡ length w.events → i < length es → Pushed w es i v → (refusal (stands v) e ≡ Some n) ⊎ ((n ≡ Memory) × (refusal (stands v) e ≡ None)) → e ≡ get_or es i d → Stops (ends w) es i n
+pub pushed_stops : (w v : Track) (es : List Event) (i : ℕ) (e d : Event) (n : Refusal) → w.at ≡ length w.events → i < length es → Pushed w es i v → (refusal (stands v) e ≡ Some n) ⊎ ((n ≡ Memory) × (refusal (stands v) e ≡ None)) → e ≡ get_or es i d → RefusedAt (ends w) es i n
 pushed_stops w v es i e d n last h p r g =
     let below : i ≤ length es = omega arith in
     let P : Machine → Type 0 = λ m. (refusal m e ≡ Some n) ⊎ ((n ≡ Memory) × ((i ≡ 0) ⊎ (refusal m e ≡ None))) in
@@ -62,12 +62,12 @@ pushed_stops w v es i e d n last h p r g =
     }
 
 -- a growth before the first event
-pub no_memory : (m : Machine) (es : List Event) → 0 < length es → Stops m es 0 Memory
+pub no_memory : (m : Machine) (es : List Event) → 0 < length es → RefusedAt m es 0 Memory
 no_memory m [] h = absurd (omega arith)
 no_memory m (e ∷ es) h = record { event = e; there = slice_get-get_or (e ∷ es) 0 e h; runs = tt; refused = inr (refl, inl refl) }
 
 -- memory that is wanted at an event which no rule refuses
-pub no_copy : (m : Machine) (es : List Event) (i : ℕ) → i < length es → Accepts m es → Stops m es i Memory
+pub no_copy : (m : Machine) (es : List Event) (i : ℕ) → i < length es → Accepts m es → RefusedAt m es i Memory
 no_copy m [] i h a = absurd (omega arith)
 no_copy m (e ∷ es) zero h a = record { event = e; there = slice_get-get_or (e ∷ es) 0 e h; runs = tt; refused = inr (refl, inl refl) }
 no_copy m (e ∷ es) (suc i) h a =

@@ -11,7 +11,7 @@ use Rattle.machine.specs.Steps.{refusal, after}
 use Rattle.machine.specs.Runs.{run, Accepts, Link, Linked, IsRefused, start}
 use Rattle.places.specs.View.{Exact}
 use Rattle.machine.specs.Whole.{view}
-use Rattle.inverse_log.specs.Tracks.{Stops, Recorded}
+use Rattle.inverse_log.specs.Tracks.{RefusedAt, Recorded}
 
 -- ---- runs
 
@@ -129,7 +129,7 @@ told_refusal None = inr (refl, refl)
 told_refusal (Some n) = inl refl
 
 -- an event that stops a run from its start is refused there, or wants memory
-pub is_refused : (setup : Setup) (es : List Event) (i : ℕ) (n : Refusal) → Stops (start setup) es i n → (IsRefused setup es i n) ⊎ (n ≡ Memory)
+pub is_refused : (setup : Setup) (es : List Event) (i : ℕ) (n : Refusal) → RefusedAt (start setup) es i n → (IsRefused setup es i n) ⊎ (n ≡ Memory)
 is_refused setup es i n h = by h.refused
   where
     by : (refusal (run (start setup) (take i es)) h.event ≡ Some n) ⊎ ((n ≡ Memory) × ((i ≡ 0) ⊎ (refusal (run (start setup) (take i es)) h.event ≡ None))) → (IsRefused setup es i n) ⊎ (n ≡ Memory)

@@ -49,7 +49,7 @@ abbrev pub grown : Track → List Event → ℕ → Track
 grown t es m = record { setup = t.setup; events = t.events ++ es; at = m; walked = t.walked }
 
 -- From a machine, the events run up to one that is refused for n. Want of memory is told where no rule refuses it, or before the first.
-pub record Stops (m : Machine) (es : List Event) (i : ℕ) (n : Refusal) : Type 0 where
+pub record RefusedAt (m : Machine) (es : List Event) (i : ℕ) (n : Refusal) : Type 0 where
   pub event : Event
   pub there : slice_get es i ≡ Some event
   pub runs : Accepts m (take i es)

@@ -7,6 +7,3 @@ pub mod walker;
 
 pub use refusal::{ExtendRefusal, WalkRefusal};
 pub use walker::Walker;
-
-#[cfg(test)]
-mod tests;

@@ -21,6 +21,8 @@ pub enum WalkRefusal {
     Memory = 2,
 }
 
+const _: () = prove!(WalkRefusal::NoSuchMoment as u32 == 1 && WalkRefusal::Memory as u32 == 2);
+
 impl ExtendRefusal {
     /// Its number.
     pub fn number(&self) -> u32

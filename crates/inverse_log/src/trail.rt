@@ -44,7 +44,7 @@ impl Model for Trail {
 }
 
 impl Trail {
-    ghost use Rattle.inverse_log.specs.Tracks.{stands, ends, stepped, reached, grown, Stops, Recorded, Covers};
+    ghost use Rattle.inverse_log.specs.Tracks.{stands, ends, stepped, reached, grown, RefusedAt, Recorded, Covers};
 
     /// Stands at the start of a run without events.
     pub fn new(alloc: Global, setup: &Setup) -> Result<Trail, SetupRefusal>
@@ -178,7 +178,7 @@ impl Trail {
         ensures ok { OnOk result (self.new ≡ grown self.old events.now self.old.at) }
         ensures accepts { OnOk result (Accepts (ends self.old) events.now) }
         ensures covers { IfOk result (λ copies. (xs : List Machine) → Covers self.old.setup self.old.events every xs → Covers self.new.setup self.new.events every (xs ++ copies.items)) }
-        ensures refused { IfErr result (λ e. (i : ℕ) × (n : Refusal) × (e ≡ ExtendRefusal.Refused i n) × Stops (ends self.old) events.now i n) }
+        ensures refused { IfErr result (λ e. (i : ℕ) × (n : Refusal) × (e ≡ ExtendRefusal.Refused i n) × RefusedAt (ends self.old) events.now i n) }
         ensures err { OnErr result (self.new ≡ self.old) }
     {
         let (from, len) = (self.at(), self.len());
@@ -269,7 +269,7 @@ impl Trail {
         ensures ok { OnOk result (self.new ≡ grown self.old events.now (self.old.at + length events.now)) }
         ensures accepts { OnOk result (Accepts (ends self.old) events.now) }
         ensures covers { IfOk result (λ copies. (xs : List Machine) → Covers self.old.setup self.old.events every xs → Covers self.new.setup self.new.events every (xs ++ copies.items)) }
-        ensures refused { IfErr result (λ e. (i : ℕ) × (n : Refusal) × (e ≡ ExtendRefusal.Refused i n) × Stops (ends self.old) events.now i n) }
+        ensures refused { IfErr result (λ e. (i : ℕ) × (n : Refusal) × (e ≡ ExtendRefusal.Refused i n) × RefusedAt (ends self.old) events.now i n) }
         ensures err { OnErr result ((i : ℕ) × (self.new ≡ grown self.old (take i events.now) (self.old.at + i))) }
     {
         let mut copies = Vec::new(self.alloc);

@@ -35,7 +35,7 @@ impl Model for Walker {
 }
 
 impl Walker {
-    ghost use Rattle.inverse_log.specs.Tracks.{Stops, Recorded};
+    ghost use Rattle.inverse_log.specs.Tracks.{Covers, RefusedAt, Recorded};
     ghost use Rattle.inverse_log.specs.Walks.{here, ending, fresh, fresh_with, moved, jumped, steps_to, extended};
 
     /// Stands at the start of a run without events. A jump starts from a copy at most 1,024 moments
@@ -116,6 +116,16 @@ impl Walker {
         self.trail.records()
     }
 
+    /// The copies that jumps start from: the states at the multiples of a number, up to the last that is a
+    /// moment of the run; and how far back a jump goes by single steps.
+    pub fn kept(&self) -> &Kept
+        ensures every { result.now.every ≡ self.now.every }
+        ensures window { result.now.window ≡ self.now.window }
+        ensures covers { Covers self.now.setup self.now.events self.now.every result.now.states }
+    {
+        &self.kept
+    }
+
     /// How many single steps jumps have made, up to 2^64 - 1, where it stays.
     pub fn walked(&self) -> u64
         ensures { result ≡ self.now.walked }
@@ -129,7 +139,7 @@ impl Walker {
         ensures ok { OnOk result (self.new ≡ extended self.old events.now) }
         ensures accepts { OnOk result (Accepts (ending self.old) events.now) }
         ensures full { (result ≡ Err ExtendRefusal.TraceFull) ↔ (1048576 < length self.old.events + length events.now) }
-        ensures refused { (i : ℕ) (n : Refusal) → result ≡ Err (ExtendRefusal.Refused i n) → Stops (ending self.old) events.now i n }
+        ensures refused { (i : ℕ) (n : Refusal) → result ≡ Err (ExtendRefusal.Refused i n) → RefusedAt (ending self.old) events.now i n }
         ensures none { events.now ≡ [] → IsOk result }
         ensures err { OnErr result (self.new ≡ self.old) }
     {

@@ -34,11 +34,11 @@ pub record Posts (m : Machine) : Type 0 where
   pub flags : m.submissions.flags ≡ flag_word (is_asleep m.poller) (not (is_clear m.backlog))
 
 pub posts : (m : Machine) → Mostly m → Posts m
-posts m f = record { delivery = delivers m f; flags = f.flags }
+posts m f = record { delivery = delivers m f; flags = f.rings.flags }
 
 -- as they are once the words of a submission are taken
 pub taken_posts : (m : Machine) (k : ℕ) → WellFormed m → Posts (taken m k)
-taken_posts m k f = record { delivery = record { completions = f.completions; waits = f.completions_wait; front = f.front }; flags = f.flags }
+taken_posts m k f = record { delivery = record { completions = f.mostly.rings.completions; waits = f.mostly.rings.completions_wait; front = f.mostly.kept.front }; flags = f.mostly.rings.flags }
 
 ended_posts : (m : Machine) (r : ℕ) (res : ℤ) → Posts m → Posts (ended m r res)
 ended_posts m r res h = record {

@@ -108,13 +108,13 @@ pub record Rising (rows : List Row) (from : ℕ) (ps : List (ℕ × ℤ)) : Type
 
 -- the room that they need
 pub can_end_room : (m : Machine) (ps : List (ℕ × ℤ)) → Mostly m → CanEnd m.table ps → length m.backlog.items + length ps ≤ 65536
-can_end_room m ps f h = let k = can_end_most m.table ps h in omega (arith, k, f.overflowed, f.rows)
+can_end_room m ps f h = let k = can_end_most m.table ps h in omega (arith, k, f.kept.overflowed, f.table.few)
 
 pub can_end_counts : (m : Machine) (ps : List (ℕ × ℤ)) → Mostly m → CanEnd m.table ps → m.counted + length ps < 2 ^ 32
 can_end_counts m ps f h =
     let k = can_end_most m.table ps h in
     let a = counted-le-length m.table in
-    omega (arith, k, a, f.counted, f.rows)
+    omega (arith, k, a, f.table.counted, f.table.few)
 
 updated_other : (f : Row → Row) (rows : List Row) (r j : ℕ) → r < j → slice_get (updated f rows r) j ≡ slice_get rows j
 updated_other f [] r j h = refl

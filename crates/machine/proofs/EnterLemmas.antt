@@ -11,15 +11,15 @@ use Rattle.links_drains.specs.Holding.{is_held_by}
 use Rattle.opcodes.specs.declared.choice.Choice.{Choice}
 use Rattle.opcodes.specs.declared.ending.Outcome.{Outcome}
 use Rattle.opcodes.specs.declared.ending.Outcome.TheVariants.{Res, Waits, BadChoice}
-use Rattle.opcodes.specs.Opcodes.{is_cancel}
+use Rattle.opcodes.specs.Opcodes.{is_cancel, is_timer}
 use Rattle.opcodes.specs.Outcomes.{outcome_of}
 use Rattle.links_drains.specs.Eligible.{is_eligible}
-use Rattle.links_drains.specs.Phases.{is_ended, counts}
+use Rattle.links_drains.specs.Phases.{is_ended}
 use Rattle.links_drains.proofs.Counting.{ended-le-length, ended-lt-length}
 use Rattle.ring_words.specs.Rings.{sub_list}
 use Rattle.overflow.specs.Backlogs.{is_clear}
 use Rattle.machine.specs.Submission.{einval, ebusy, ebadf}
-use Rattle.machine.specs.Steps.{flushed, gets_events, before_submission, is_unknown, is_busy, submission_refusal, alone_refusal, issue_refusal, outcome_refusal, issued, held_by, lacks_descriptor, phase_refusal, choice_refusal, full_refusal, finish_refusal, answered, submitted, awaited, submitting, entered, entered_alone, entered_beside, fallen, all_started, base_of, deadline_of, entries_for, expire_refusal, is_guard_of, started}
+use Rattle.machine.specs.Steps.{flushed, gets_events, before_submission, is_unknown, is_busy, submission_refusal, alone_refusal, issue_refusal, outcome_refusal, issued, held_by, lacks_descriptor, phase_refusal, choice_refusal, full_refusal, finish_refusal, answered, submitted, awaited, submitting, entered, entered_alone, entered_beside, fallen, all_started, base_of, deadline_of, entries_for, expire_refusal, is_guard_of, start_refusal, started}
 use Rattle.sqpoll.specs.declared.poller.Poller.{Poller}
 use Rattle.places.specs.Lists.{updated}
 use Rattle.places.proofs.ListLemmas.{updated_set}
@@ -27,7 +27,6 @@ use Rattle.places.specs.declared.value.Stage.TheVariants.{Ready}
 use Rattle.machine.specs.Threads.{ThreadState}
 use Rattle.machine.specs.Whole.{AllGuardsStand, WellFormed}
 use Rattle.machine.specs.declared.whole.Machine.{Machine}
-use Rattle.scenario.specs.declared.event.Refusal.{Refusal}
 use Rattle.scenario.specs.declared.event.Refusal.TheVariants.{WrongPhase, NotEligible, NotDue}
 use Rattle.machine.proofs.IssuingRows.{started_at_once}
 use Rattle.machine.proofs.TakingWords.{lt-ltb}
@@ -88,17 +87,17 @@ finished_row m r c h = by (slice_get m.table r) refl h
     at x e Issued q k = (x, e, ap is_ended q)
     at x e (Ended n) q k = absurd cc
 
-    counting : (x : Row) → slice_get m.table r ≡ Some x → (b : Bool) → cond b (phase_refusal x.phase (choice_refusal (is_held_by m.table) m.world x c)) (Some WrongPhase) ≡ None → (y : Row) × (slice_get m.table r ≡ Some y) × (is_ended y.phase ≡ false)
-    counting x e true k = at x e x.phase refl k
-    counting x e false k = absurd cc
+    timing : (x : Row) → slice_get m.table r ≡ Some x → (b : Bool) → cond b (Some WrongPhase) (phase_refusal x.phase (choice_refusal (is_held_by m.table) m.world x c)) ≡ None → (y : Row) × (slice_get m.table r ≡ Some y) × (is_ended y.phase ≡ false)
+    timing x e true k = absurd cc
+    timing x e false k = at x e x.phase refl k
 
     by : (o : Option Row) → slice_get m.table r ≡ o → finish_refusal (is_held_by m.table) m.world o c ≡ None → (y : Row) × (slice_get m.table r ≡ Some y) × (is_ended y.phase ≡ false)
     by None e k = absurd cc
-    by (Some x) e k = counting x e (counts x) k
+    by (Some x) e k = timing x e (is_timer x.entry.opcode) k
 
 -- the outcome of a row that can be finished is a result, unless it is a cancel or a removal
 pub finished_result : (m : Machine) (r : ℕ) (c : Choice) (x : Row) → slice_get m.table r ≡ Some x → is_cancel x.entry.opcode ≡ false → finish_refusal (is_held_by m.table) m.world (slice_get m.table r) c ≡ None → (res : ℤ) × (outcome_of (is_held_by m.table) m.world x c ≡ Res res)
-finished_result m r c x e other h = counting (counts x) (ap (λ o. finish_refusal (is_held_by m.table) m.world o c) (sym e) ∙ h)
+finished_result m r c x e other h = timing (is_timer x.entry.opcode) (ap (λ o. finish_refusal (is_held_by m.table) m.world o c) (sym e) ∙ h)
   where
     came : (o : Outcome) → outcome_of (is_held_by m.table) m.world x c ≡ o → outcome_refusal o ≡ None → (res : ℤ) × (outcome_of (is_held_by m.table) m.world x c ≡ Res res)
     came (Res res) g k = (res, g)
@@ -110,9 +109,9 @@ finished_result m r c x e other h = counting (counts x) (ap (λ o. finish_refusa
     at Issued k = came (outcome_of (is_held_by m.table) m.world x c) refl (sym (ap (λ b. cond b (full_refusal c) (outcome_refusal (outcome_of (is_held_by m.table) m.world x c))) other) ∙ k)
     at (Ended n) k = absurd cc
 
-    counting : (b : Bool) → cond b (phase_refusal x.phase (choice_refusal (is_held_by m.table) m.world x c)) (Some WrongPhase) ≡ None → (res : ℤ) × (outcome_of (is_held_by m.table) m.world x c ≡ Res res)
-    counting true k = at x.phase k
-    counting false k = absurd cc
+    timing : (b : Bool) → cond b (Some WrongPhase) (phase_refusal x.phase (choice_refusal (is_held_by m.table) m.world x c)) ≡ None → (res : ℤ) × (outcome_of (is_held_by m.table) m.world x c ≡ Res res)
+    timing true k = absurd cc
+    timing false k = at x.phase k
 
 -- A row that can be issued is there, queued, and may be.
 pub record CanStart (m : Machine) (r : ℕ) : Type 0 where
@@ -128,7 +127,7 @@ can_start m r h = by (slice_get m.table r) refl h
     may true e k = e
     may false e k = absurd cc
 
-    at : (x : Row) → slice_get m.table r ≡ Some x → (p : Phase) → x.phase ≡ p → elim p as (λ q. Option Refusal) [ Queued ↦ cond (is_eligible m.table r) None (Some NotEligible) | Issued ↦ Some WrongPhase | Ended res ↦ Some WrongPhase ] ≡ None → CanStart m r
+    at : (x : Row) → slice_get m.table r ≡ Some x → (p : Phase) → x.phase ≡ p → start_refusal m.table r p ≡ None → CanStart m r
     at x e Queued q k = record { row = x; there = e; queued = q; eligible = may (is_eligible m.table r) refl k }
     at x e Issued q k = absurd cc
     at x e (Ended n) q k = absurd cc
@@ -146,20 +145,20 @@ expired_row m r h = by (slice_get m.table r) refl h
     at x e Issued q k = (x, e, q)
     at x e (Ended n) q k = absurd cc
 
-    timing : (x : Row) → slice_get m.table r ≡ Some x → (b : Bool) → cond b (Some WrongPhase) (phase_refusal x.phase (if is_due m.clock x then None else Some NotDue)) ≡ None → (y : Row) × (slice_get m.table r ≡ Some y) × (y.phase ≡ Issued)
-    timing x e true k = absurd cc
-    timing x e false k = at x e x.phase refl k
+    timing : (x : Row) → slice_get m.table r ≡ Some x → (b : Bool) → cond b (phase_refusal x.phase (if is_due m.clock x then None else Some NotDue)) (Some WrongPhase) ≡ None → (y : Row) × (slice_get m.table r ≡ Some y) × (y.phase ≡ Issued)
+    timing x e true k = at x e x.phase refl k
+    timing x e false k = absurd cc
 
     by : (o : Option Row) → slice_get m.table r ≡ o → expire_refusal m.clock o ≡ None → (y : Row) × (slice_get m.table r ≡ Some y) × (y.phase ≡ Issued)
     by None e k = absurd cc
-    by (Some x) e k = timing x e (counts x) k
+    by (Some x) e k = timing x e (is_timer x.entry.opcode) k
 
 -- the backlog has room for the completion of an unfinished row
 pub backlog_room : (m : Machine) (r : ℕ) (x : Row) → WellFormed m → slice_get m.table r ≡ Some x → is_ended x.phase ≡ false → length m.backlog.items < 65536
-backlog_room m r x f e u = let a = ended-lt-length m.table r x e u in let b = f.overflowed in let c = f.rows in omega (arith, a, b, c)
+backlog_room m r x f e u = let a = ended-lt-length m.table r x e u in let b = f.mostly.kept.overflowed in let c = f.mostly.table.few in omega (arith, a, b, c)
 
 pub backlog_most : (m : Machine) → WellFormed m → length m.backlog.items ≤ length m.table
-backlog_most m f = let a = ended-le-length m.table in let b = f.overflowed in omega (arith, a, b)
+backlog_most m f = let a = ended-le-length m.table in let b = f.mostly.kept.overflowed in omega (arith, a, b)
 
 -- ---- a row that is issued
 

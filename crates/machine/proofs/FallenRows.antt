@@ -2,24 +2,29 @@
 use Rattle.std.proofs.Common.{◌≡◌, ℕ, ℤ, zero, suc, Bool, true, false, cond, refl, sym, ◌∙◌, ap, subst, List, [], ◌∷◌, length, ◌+◌, ◌*◌, ◌<◌, ◌≤◌, ◌⊎◌, inl, inr, arith}
 use Rattle.std.proofs.lemmas.Bool.{eq-eqb}
 use Rattle.std.proofs.lemmas.Option.{slice_get_within}
-use Rattle.std.specs.Prelude.{Some, None, slice_get, not}
+use Rattle.std.specs.Prelude.{Option, Some, None, option_map, slice_get, not, nat_lt, nat_le, ◌==◌, ◌&&◌}
+use Rattle.std.specs.Option.{option_map_or}
 use Rattle.entries.specs.declared.row.Row.{Row}
+use Rattle.entries.specs.declared.row.Phase.{Phase}
+use Rattle.entries.specs.declared.row.Phase.TheVariants.{Queued, Issued, Ended}
 use Rattle.model_files.specs.Worlds.{PutsWithin}
 use Rattle.opcodes.proofs.Counting.{puts_more}
 use Rattle.links_drains.specs.Endings.{result_in, Direct}
+use Rattle.links_drains.specs.Counts.{is_met}
 use Rattle.links_drains.specs.Links.{is_guard}
-use Rattle.links_drains.specs.Phases.{is_ended, is_unfinished, ended_of}
+use Rattle.links_drains.specs.Phases.{is_ended, is_issued, is_unfinished, ended_of}
 use Rattle.links_drains.proofs.Counting.{ended-ended}
-use Rattle.timeouts_cancel.specs.Falls.{fall_of}
-use Rattle.timeouts_cancel.proofs.Whole.{unlisted, fall_unfinished, fall_rising, target_stays}
+use Rattle.timeouts_cancel.specs.Falls.{counted_in, fall_of}
+use Rattle.timeouts_cancel.proofs.Whole.{counted_fall, unlisted, fall_unfinished, fall_rising, target_stays}
 use Rattle.machine.specs.InTurn.{ended, ended_in_turn}
-use Rattle.machine.specs.Steps.{fallen}
-use Rattle.machine.specs.Whole.{AllGuardsStand, GuardStands, Mostly, RowFormed, WellFormed}
+use Rattle.machine.specs.Steps.{ended_by, fallen}
+use Rattle.machine.specs.Whole.{AllGuardsStand, GuardStands, Mostly, NoneMet, RowFormed, WellFormed}
 use Rattle.machine.specs.declared.whole.Machine.{Machine}
 use Rattle.machine.proofs.AtOnce.{Posts, posts, at_once}
 use Rattle.machine.proofs.Endings.{CanEnd, can_end, ended_in_turn_rows, ended_in_turn_stays, mostly_ended_in_turn, world_ended_in_turn}
 use Rattle.machine.proofs.FormedMachines.{mostly, formed_of}
 use Rattle.machine.proofs.FormedRows.{ended_row}
+use Rattle.machine.proofs.MappedRows.{mapped_at}
 
 not_ended : (b : Bool) → not b ≡ true → b ≡ false
 not_ended true h = absurd cc
@@ -60,6 +65,38 @@ falls_some rows c r res x e u = by (fall_of rows c ((r, res) ∷ [])) refl
     by [] k = absurd (let d = (unlisted rows c ((r, res) ∷ []) r x e (ap not u) (ap (λ ps. result_in ps r) k)).undirected in let z = sym d ∙ listed in cc)
     by (p ∷ ps) k = omega arith
 
+-- a row that has ended waits for no count
+ended_unmet : (n : ℕ) (x : Row) → is_ended x.phase ≡ true → is_met n x ≡ false
+ended_unmet n x h = by x.phase refl h
+  where
+    by : (p : Phase) → x.phase ≡ p → is_ended p ≡ true → is_met n x ≡ false
+    by Queued e k = absurd cc
+    by Issued e k = absurd cc
+    by (Ended res) e k = ap (λ q. (is_issued q && ((x.entry.opcode == 11) && nat_lt 0 x.entry.off)) && nat_le (x.base + x.entry.off) n) e
+
+-- the TIMEOUTs whose count is met are among those that fall
+fallen_unmet : (m : Machine) (direct : List (ℕ × ℤ)) → NoneMet (fallen m direct).counted (fallen m direct).table
+unfolding fallen
+fallen_unmet m direct r x h = by (slice_get m.table r) refl (sym (mapped_at (ended_by falls) m.table r) ∙ h)
+  where
+    falls : List (ℕ × ℤ)
+    falls = fall_of m.table m.counted direct
+
+    total : ℕ
+    total = m.counted + counted_in m.table falls
+
+    stays : (y : Row) → slice_get m.table r ≡ Some y → result_in falls r ≡ None → (b : Bool) → is_ended y.phase ≡ b → is_met total y ≡ false
+    stays y e n true u = ended_unmet total y u
+    stays y e n false u = ap (λ k. is_met (m.counted + k) y) (counted_fall m.table m.counted direct) ∙ (unlisted m.table m.counted direct r y e (ap not u) n).met
+
+    told : (y : Row) → slice_get m.table r ≡ Some y → (o : Option ℤ) → result_in falls r ≡ o → is_met total (option_map_or (λ res. record y { phase = Ended res }) o y) ≡ false
+    told y e None n = stays y e n (is_ended y.phase) refl
+    told y e (Some res) n = refl
+
+    by : (o : Option Row) → slice_get m.table r ≡ o → option_map (λ y. ended_by falls (r, y)) o ≡ Some x → is_met total x ≡ false
+    by None e k = absurd cc
+    by (Some y) e k = let same : ended_by falls (r, y) ≡ x = cc in ap (is_met total) (sym same) ∙ told y e (result_in falls r) refl
+
 -- guards that stand behind their targets, but for some that a step ends of itself, do once rows have fallen
 guards_in_turn : (m : Machine) (direct : List (ℕ × ℤ)) → ((r : ℕ) (x : Row) → slice_get m.table r ≡ Some x → is_guard x ≡ true → is_unfinished x.phase ≡ true → result_in direct r ≡ None → GuardStands m.table r x) → AllGuardsStand (ended_in_turn m (fall_of m.table m.counted direct)).table
 guards_in_turn m direct h r x e g u = by (ended_in_turn_rows m falls r x e)
@@ -83,6 +120,7 @@ formed_in_turn_but m direct f puts h guards =
     (subst (λ n. PutsWithin (65536 * n) m.world) (sym (ended_all m (fall_of m.table m.counted direct) (can_fall m.table m.counted direct))) puts))
     (record { each = λ j y e. subst (λ w. RowFormed w y) (sym (world_ended_in_turn m (fall_of m.table m.counted direct))) (by j y (ended_in_turn_rows m (fall_of m.table m.counted direct) j y e)) })
     (guards_in_turn m direct guards)
+    (subst (λ (n : Machine). NoneMet n.counted n.table) (fall_in_turn m direct (posts m f)) (fallen_unmet m direct))
   where
     stays : (j : ℕ) (y : Row) → slice_get m.table j ≡ Some y → result_in (fall_of m.table m.counted direct) j ≡ None → (b : Bool) → is_ended y.phase ≡ b → RowFormed m.world y ⊎ ((res : ℤ) × (result_in direct j ≡ Some res)) → RowFormed m.world y
     stays j y e n true u k = ended_row m.world y u
@@ -99,7 +137,7 @@ formed_fallen_but m direct f puts h guards = subst WellFormed (sym (fall_in_turn
 
 pub formed_fallen : (m : Machine) (direct : List (ℕ × ℤ)) → WellFormed m → WellFormed (fallen m direct)
 formed_fallen m direct f =
-    formed_fallen_but m direct (mostly m f) (puts_more (65536 * ended_of m.table) (65536 * (ended_of m.table + length (fall_of m.table m.counted direct))) m.world (omega arith) f.puts) (λ j y e. inl (f.requests j y e))
+    formed_fallen_but m direct (mostly m f) (puts_more (65536 * ended_of m.table) (65536 * (ended_of m.table + length (fall_of m.table m.counted direct))) m.world (omega arith) f.puts) (λ j y e. inl (f.rows j y e))
     (λ r x e g u n. f.guards r x e g u)
 
 -- each of them is a row

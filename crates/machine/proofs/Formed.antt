@@ -13,7 +13,7 @@ use Rattle.links_drains.specs.Holding.{is_held_by}
 use Rattle.opcodes.specs.declared.choice.Choice.{Choice}
 use Rattle.opcodes.specs.declared.ending.Outcome.{Outcome}
 use Rattle.opcodes.specs.declared.ending.Outcome.TheVariants.{Res, Waits, BadChoice}
-use Rattle.opcodes.specs.Opcodes.{is_cancel}
+use Rattle.opcodes.specs.Opcodes.{is_cancel, is_timer}
 use Rattle.opcodes.specs.Outcomes.{outcome_of}
 use Rattle.opcodes.specs.Effects.{world_after}
 use Rattle.opcodes.proofs.Staying.{stays_after}
@@ -30,10 +30,10 @@ use Rattle.sqpoll.specs.declared.poller.Poller.{Poller}
 use Rattle.sqpoll.specs.declared.poller.Poller.TheVariants.{Awake, Asleep}
 use Rattle.sqpoll.specs.Pollers.{is_awake}
 use Rattle.links_drains.specs.Batches.{direct_of}
-use Rattle.links_drains.specs.Phases.{is_ended, counts}
+use Rattle.links_drains.specs.Phases.{is_ended}
 use Rattle.machine.specs.Cancels.{verdict_of, ending_with}
 use Rattle.machine.specs.Submission.{offered, einval, ebusy, ebadf}
-use Rattle.machine.specs.Steps.{refusal, after, stepped, executed, entered, entered_alone, entered_beside, submitting, before_submission, is_busy, is_unknown, gets_events, wakes, woken, shown, awaited, ready_count, held_back, with_poller, flushed, submission_refusal, alone_refusal, enter_refusal, instruction_refusal, next_refusal, closed, is_open, thread_refusal, take_refusal, phase_refusal, choice_refusal, finish_refusal, taken, submitted, answered, gone_on, cancelled, finished, finished_as, lacks_descriptor, fallen, all_started, entries_for, expired, expiring, waiting_target}
+use Rattle.machine.specs.Steps.{refusal, after, resumed, stepped, executed, entered, entered_alone, entered_beside, submitting, before_submission, is_busy, is_unknown, gets_events, wakes, woken, shown, awaited, ready_count, held_back, with_poller, flushed, submission_refusal, alone_refusal, enter_refusal, instruction_refusal, next_refusal, closed, is_open, thread_refusal, take_refusal, phase_refusal, choice_refusal, finish_refusal, taken, submitted, answered, gone_on, cancelled, finished, finished_as, lacks_descriptor, fallen, all_started, entries_for, expired, expiring, waiting_target}
 use Rattle.machine.specs.Threads.{ThreadState}
 use Rattle.machine.specs.Whole.{is_asleep, flag_word, WellFormed}
 use Rattle.scenario.specs.declared.setup.Instruction.{Instruction}
@@ -60,22 +60,18 @@ ltb_tells a b = elim (leb_tells (suc a) b) [ inl k ↦ inl (k.0, k.1) | inr k �
 
 formed_tick : (m : Machine) (d : ℕ) → WellFormed m → refusal m (Tick d) ≡ None → WellFormed (after m (Tick d))
 formed_tick m d f h = record {
-  submissions = f.submissions;
-  completions = f.completions;
-  entries_wait = f.entries_wait;
-  completions_wait = f.completions_wait;
-  flags = f.flags;
-  front = f.front;
-  overflowed = f.overflowed;
+  mostly = record {
+    rings = f.mostly.rings;
+    kept = f.mostly.kept;
+    table = f.mostly.table;
+    world = f.mostly.world;
+    clock = by (ltb_tells (m.clock + d) (2 ^ 64));
+    threads = f.mostly.threads;
+  };
   rows = f.rows;
-  chained = f.chained;
-  world = f.world;
-  puts = f.puts;
-  requests = f.requests;
   guards = f.guards;
-  counted = f.counted;
-  clock = by (ltb_tells (m.clock + d) (2 ^ 64));
-  threads = f.threads;
+  unmet = f.unmet;
+  puts = f.puts;
 }
   where
     by : ((ltb (m.clock + d) (2 ^ 64) ≡ true) × (m.clock + d < 2 ^ 64)) ⊎ ((ltb (m.clock + d) (2 ^ 64) ≡ false) × (2 ^ 64 ≤ m.clock + d)) → m.clock + d < 2 ^ 64
@@ -102,7 +98,7 @@ formed_finish m r c f h = by (slice_get m.table r) refl h
     ending : (x : Row) → slice_get m.table r ≡ Some x → is_ended x.phase ≡ false → (o : Outcome) → outcome_of (is_held_by m.table) m.world x c ≡ o → WellFormed (finished_as m r x o)
     ending x e q (Res res) g =
         let w : WorldState = world_after x res m.world in
-        let s = stays_after (is_held_by m.table) m.world x res c f.world (puts_fit m f) g in
+        let s = stays_after (is_held_by m.table) m.world x res c f.mostly.world (puts_fit m f) g in
         let some : 1 ≤ length (fall_of m.table m.counted ((r, res) ∷ [])) = falls_some m.table m.counted r res x e q in
         formed_fallen_but (record m { world = w }) ((r, res) ∷ []) (mostly_world m w (mostly m f) s.formed)
         (puts_more (65536 * ended_of m.table + 65536) (65536 * (ended_of m.table + length (fall_of m.table m.counted ((r, res) ∷ [])))) w (omega (arith, some)) (puts_after (is_held_by m.table) m.world x res c (65536 * ended_of m.table) g f.puts))
@@ -120,13 +116,13 @@ formed_finish m r c f h = by (slice_get m.table r) refl h
     at x e Issued q k = choosing x e (ap is_ended q) (is_cancel x.entry.opcode)
     at x e (Ended n) q k = absurd cc
 
-    counting : (x : Row) → slice_get m.table r ≡ Some x → (b : Bool) → cond b (phase_refusal x.phase (choice_refusal (is_held_by m.table) m.world x c)) (Some WrongPhase) ≡ None → WellFormed (finished m r (Some x) c)
-    counting x e true k = at x e x.phase refl k
-    counting x e false k = absurd cc
+    timing : (x : Row) → slice_get m.table r ≡ Some x → (b : Bool) → cond b (Some WrongPhase) (phase_refusal x.phase (choice_refusal (is_held_by m.table) m.world x c)) ≡ None → WellFormed (finished m r (Some x) c)
+    timing x e true k = absurd cc
+    timing x e false k = at x e x.phase refl k
 
     by : (o : Option Row) → slice_get m.table r ≡ o → finish_refusal (is_held_by m.table) m.world o c ≡ None → WellFormed (finished m r o c)
     by None e k = absurd cc
-    by (Some x) e k = counting x e (counts x) k
+    by (Some x) e k = timing x e (is_timer x.entry.opcode) k
 
 -- ---- each instruction
 
@@ -153,10 +149,10 @@ fits_ebadf : FitsSigned w64 ebadf
 fits_ebadf = omega arith
 
 formed_answered : (m : Machine) (t : ℕ) (x : ThreadState) (i : Instruction) (n : ℤ) → WellFormed m → slice_get m.threads t ≡ Some x → slice_get x.program x.counter ≡ Some i → FitsSigned w64 n → WellFormed (answered m t n)
-formed_answered m t x i n f e g l = formed_thread m (λ y. record y { counter = y.counter + 1; last = n; stage = Ready }) t x f e (stands_on (length m.submissions.slots) x i Ready n x.got (f.threads t x e) g refl l)
+formed_answered m t x i n f e g l = formed_thread m (λ y. record y { counter = y.counter + 1; last = n; stage = Ready }) t x f e (stands_on (length m.submissions.slots) x i Ready n x.got (f.mostly.threads t x e) g refl l)
 
 formed_gone_on : (m : Machine) (t : ℕ) (x : ThreadState) (i : Instruction) → WellFormed m → slice_get m.threads t ≡ Some x → slice_get x.program x.counter ≡ Some i → x.stage ≡ Ready → WellFormed (gone_on m t)
-formed_gone_on m t x i f e g r = formed_thread m (λ y. record y { counter = y.counter + 1 }) t x f e (stands_on (length m.submissions.slots) x i x.stage x.last x.got (f.threads t x e) g r (f.threads t x e).last)
+formed_gone_on m t x i f e g r = formed_thread m (λ y. record y { counter = y.counter + 1 }) t x f e (stands_on (length m.submissions.slots) x i x.stage x.last x.got (f.mostly.threads t x e) g r (f.mostly.threads t x e).last)
 
 -- a thread that entered the kernel waits, or has its answer
 formed_awaited : (m : Machine) (t : ℕ) (x : ThreadState) (n k w flags to_submit min_complete asked : ℕ) → WellFormed m → slice_get m.threads t ≡ Some x → slice_get x.program x.counter ≡ Some (Enter to_submit min_complete asked) → n < 2 ^ 32 → w < 2 ^ 32 → WellFormed (awaited m t n k w flags)
@@ -166,7 +162,7 @@ formed_awaited m t x n k w flags to_submit min_complete asked f e g l l' = by (g
     wanted = min w (length m.completions.slots)
 
     by : (b : Bool) → WellFormed (if b then held_back m t n wanted else answered m t (pos n))
-    by true = formed_thread m (λ y. record y { stage = Waiting n wanted }) t x f e (stands_held (length m.submissions.slots) x n wanted to_submit min_complete asked (f.threads t x e) g l (omega (arith, l')))
+    by true = formed_thread m (λ y. record y { stage = Waiting n wanted }) t x f e (stands_held (length m.submissions.slots) x n wanted to_submit min_complete asked (f.mostly.threads t x e) g l (omega (arith, l')))
     by false = formed_answered m t x (Enter to_submit min_complete asked) (pos n) f e g (omega (arith, l))
 
 pub formed_before : (m : Machine) (k flags : ℕ) → WellFormed m → WellFormed (before_submission m k flags)
@@ -185,24 +181,26 @@ before_threads m k flags = by (gets_events flags || nat_lt 0 k)
 
 pub formed_poller : (m : Machine) (p : Poller) → WellFormed m → WellFormed (with_poller m p)
 formed_poller m p h =
-    let f : (with_poller m p).submissions.flags ≡ flag_word (not (is_awake p)) (not (is_clear m.backlog)) = ap (λ n. with_flag n NeedWakeup (not (is_awake p))) h.flags ∙ wakeup_flag (is_asleep m.poller) (not (is_clear m.backlog)) (not (is_awake p)) in
+    let f : (with_poller m p).submissions.flags ≡ flag_word (not (is_awake p)) (not (is_clear m.backlog)) = ap (λ n. with_flag n NeedWakeup (not (is_awake p))) h.mostly.rings.flags ∙ wakeup_flag (is_asleep m.poller) (not (is_clear m.backlog)) (not (is_awake p)) in
     record {
-      submissions = formed_flag m.submissions NeedWakeup _ h.submissions;
-      completions = h.completions;
-      entries_wait = h.entries_wait;
-      completions_wait = h.completions_wait;
-      flags = f;
-      front = h.front;
-      overflowed = h.overflowed;
+      mostly = record {
+        rings = record {
+          submissions = formed_flag m.submissions NeedWakeup _ h.mostly.rings.submissions;
+          completions = h.mostly.rings.completions;
+          entries_wait = h.mostly.rings.entries_wait;
+          completions_wait = h.mostly.rings.completions_wait;
+          flags = f;
+        };
+        kept = h.mostly.kept;
+        table = h.mostly.table;
+        world = h.mostly.world;
+        clock = h.mostly.clock;
+        threads = h.mostly.threads;
+      };
       rows = h.rows;
-      world = h.world;
-      puts = h.puts;
-      requests = h.requests;
       guards = h.guards;
-      counted = h.counted;
-      chained = h.chained;
-      clock = h.clock;
-      threads = h.threads;
+      unmet = h.unmet;
+      puts = h.puts;
     }
 
 pub formed_woken : (m : Machine) (flags : ℕ) → WellFormed m → WellFormed (woken m flags)
@@ -258,7 +256,7 @@ formed_enter : (m : Machine) (t : ℕ) (x : ThreadState) (k w flags : ℕ) → W
 formed_enter m t x k w flags f e g h = by m.poller h
   where
     widths : (k < 2 ^ 32) × (w < 2 ^ 32) × (flags < 2 ^ 32)
-    widths = (f.threads t x e).program.done x.counter (Enter k w flags) g
+    widths = (f.mostly.threads t x e).program.done x.counter (Enter k w flags) g
 
     by : (o : Option Poller) → enter_refusal m o k flags ≡ None → WellFormed (entered m o t k w flags)
     by None o = alone (is_unknown flags) o
@@ -284,7 +282,7 @@ formed_pushing m t x index f e g r h = by _ refl h
         by_order : ((ltb w (length m.submissions.array) ≡ true) × (w < length m.submissions.array)) ⊎ ((ltb w (length m.submissions.array) ≡ false) × (length m.submissions.array ≤ w)) → w < length m.submissions.array
         by_order (inl a) = a.1
         by_order (inr a) =
-            let most = f.entries_wait in
+            let most = f.mostly.rings.entries_wait in
             let least = a.1 in
             let same : w ≡ length m.submissions.array = omega (arith, most, least) in
             absurd (let k = sym (eq-eqb w (length m.submissions.array) same) ∙ o in cc)
@@ -293,7 +291,7 @@ formed_pushing m t x index f e g r h = by _ refl h
     by true o k = absurd cc
     by false o k =
         formed_gone_on (record m { submissions = record m.submissions { tail = (m.submissions.tail + 1) % 2 ^ 32; array = slice_set m.submissions.array (m.submissions.tail % length m.submissions.array) index } }) t x (Push index)
-        (formed_push m index f ((f.threads t x e).program.done x.counter (Push index) g) (less o)) e g r
+        (formed_push m index f ((f.mostly.threads t x e).program.done x.counter (Push index) g) (less o)) e g r
 
 formed_reaping : (m : Machine) (t : ℕ) (x : ThreadState) → WellFormed m → slice_get m.threads t ≡ Some x → slice_get x.program x.counter ≡ Some Reap → x.stage ≡ Ready → instruction_refusal m Reap ≡ None → WellFormed (executed m t (Some Reap))
 formed_reaping m t x f e g r h = by _ refl h
@@ -312,13 +310,13 @@ formed_reaping m t x f e g r h = by _ refl h
     by true o k = absurd cc
     by false o k =
         formed_thread (record m { completions = record m.completions { head = (m.completions.head + 1) % 2 ^ 32 } }) (λ y. record y { counter = y.counter + 1; got = got }) t x
-        (formed_taken_out m f (some w o)) e (stands_on (length m.submissions.slots) x Reap x.stage x.last got (f.threads t x e) g r (f.threads t x e).last)
+        (formed_taken_out m f (some w o)) e (stands_on (length m.submissions.slots) x Reap x.stage x.last got (f.mostly.threads t x e) g r (f.mostly.threads t x e).last)
 
 formed_storing : (m : Machine) (t : ℕ) (x : ThreadState) (address : ℕ) (bytes : List ℕ) → WellFormed m → slice_get m.threads t ≡ Some x → slice_get x.program x.counter ≡ Some (Store address bytes) → x.stage ≡ Ready → WellFormed (executed m t (Some (Store address bytes)))
 formed_storing m t x address bytes f e g r =
-    let within = (f.threads t x e).program.done x.counter (Store address bytes) g in
+    let within = (f.mostly.threads t x e).program.done x.counter (Store address bytes) g in
     formed_gone_on (record m { world = world_stored address bytes m.world }) t x (Store address bytes)
-    (formed_world m (world_stored address bytes m.world) f (world_stored_formed address bytes m.world f.world within) f.puts (worlds.setup_stored address bytes m.world f.world within)) e g r
+    (formed_world m (world_stored address bytes m.world) f (world_stored_formed address bytes m.world f.mostly.world within) f.puts (worlds.setup_stored address bytes m.world f.mostly.world within)) e g r
 
 closed_pipes : (fd : ℕ) (n : ℕ) (w : WorldState) → PutsWithin n w → PutsWithin n (world_closed fd w)
 closed_pipes fd n w h = h
@@ -330,7 +328,7 @@ formed_closing m t x (pos fd) f e g = by (is_open (descriptor_of m.world fd))
     by : (b : Bool) → WellFormed (if b then answered (record m { world = world_closed fd m.world }) t (pos 0) else answered m t ebadf)
     by true =
         formed_answered (record m { world = world_closed fd m.world }) t x (Close (pos fd)) (pos 0)
-        (formed_world m (world_closed fd m.world) f (world_closed_formed fd m.world f.world) (closed_pipes fd (65536 * ended_of m.table) m.world f.puts) (worlds.setup_closed fd m.world)) e g (omega arith)
+        (formed_world m (world_closed fd m.world) f (world_closed_formed fd m.world f.mostly.world) (closed_pipes fd (65536 * ended_of m.table) m.world f.puts) (worlds.setup_closed fd m.world)) e g (omega arith)
     by false = formed_answered m t x (Close (pos fd)) ebadf f e g fits_ebadf
 
 formed_step : (m : Machine) (t : ℕ) → WellFormed m → refusal m (Step t) ≡ None → WellFormed (after m (Step t))
@@ -345,10 +343,10 @@ formed_step m t f h = by (slice_get m.threads t) refl h
     next x e (Close fd) g r k = formed_closing m t x fd f e g
 
     at : (x : ThreadState) → slice_get m.threads t ≡ Some x → (s : Stage) → x.stage ≡ s → (o : Option Instruction) → slice_get x.program x.counter ≡ o → next_refusal m s o ≡ None
-        → WellFormed (elim s [ Ready ↦ executed m t o | Waiting n w ↦ answered m t (pos n) ])
+        → WellFormed (resumed m t s o)
     at x e s q None g k = absurd cc
     at x e Ready q (Some i) g k = next x e i g q k
-    at x e (Waiting n w) q (Some i) g k = formed_answered m t x i (pos n) f e g (let a = ((f.threads t x e).waits n w q).submitted in omega (arith, a))
+    at x e (Waiting n w) q (Some i) g k = formed_answered m t x i (pos n) f e g (let a = ((f.mostly.threads t x e).waits n w q).submitted in omega (arith, a))
 
     by : (o : Option ThreadState) → slice_get m.threads t ≡ o → thread_refusal m o ≡ None → WellFormed (stepped m t o)
     by None e k = absurd cc

@@ -1,9 +1,10 @@
 -- What each change of the machine keeps.
 use Rattle.std.proofs.Common.{◌≡◌, ℕ, ℤ, pos, negsuc, Bool, true, false, cond, refl, sym, ◌∙◌, ap, subst, [], ◌∷◌, length, drop, ◌+◌, ◌*◌, ◌%◌, ◌<◌, ◌≤◌, ◌^◌, length-append, length-set, arith}
 use Rattle.std.proofs.lemmas.List.{length-drop}
-use Rattle.std.specs.Prelude.{List, Option, Some, None, IsSome, option_map, slice_get, slice_set, not, ◌&&◌, if◌then◌else◌}
+use Rattle.std.specs.Prelude.{List, Option, Some, None, option_map, nat_lt, nat_le, slice_get, slice_set, not, ◌==◌, ◌&&◌, ◌||◌, if◌then◌else◌}
 use Rattle.std.specs.Option.{option_map_or}
-use Rattle.std.proofs.lemmas.Bool.{eqb-true}
+use Rattle.std.proofs.lemmas.Bool.{eqb-true, lt-leb}
+use Rattle.std.proofs.lemmas.Bool.Decides.{nat_tests}
 use Rattle.model_files.specs.declared.descriptor.DescriptorState.{DescriptorState}
 use Rattle.model_files.specs.Worlds.{WorldState, WorldFormed, descriptor_of, descriptor_at, OneSetup as OneWorldSetup}
 use Rattle.opcodes.specs.Opcodes.{uses_descriptor, fits_end}
@@ -19,7 +20,8 @@ use Rattle.ring_words.specs.declared.flag.RingFlag.TheVariants.{NeedWakeup, CqOv
 use Rattle.ring_words.proofs.Laws.{formed_pushed, formed_entry, formed_flag, formed_reaped}
 use Rattle.ring_words.proofs.Order.{waiting_less, waiting_more}
 use Rattle.ring_words.proofs.Sizes.{size_most}
-use Rattle.links_drains.specs.Links.{has_flag, is_guard}
+use Rattle.links_drains.specs.Counts.{is_met}
+use Rattle.links_drains.specs.Links.{is_guard}
 use Rattle.links_drains.specs.Phases.{is_ended, is_queued, counts, counted_of}
 use Rattle.links_drains.proofs.Counting.{counted-ended, counted-unfinished, ended-ended, ended-unfinished}
 use Rattle.links_drains.specs.Phases.{ended_of}
@@ -27,19 +29,20 @@ use Rattle.model_files.specs.Worlds.{PutsWithin}
 use Rattle.overflow.specs.Backlogs.{BacklogState, is_clear, fits, Delivery, DeliveryFormed, all_posted, flushed as flushed_delivery}
 use Rattle.overflow.proofs.KeptInOrder.{posted_formed, flushed_formed}
 use Rattle.machine.specs.InTurn.{ended}
-use Rattle.machine.specs.Steps.{all_started, delivery, flushed, held_by, is_guard_of, is_usable, lacks_descriptor, number_in, started}
-use Rattle.machine.specs.Whole.{AllGuardsStand, Mostly, is_asleep, flag_word, HoldsDescriptor, RowFormed, WellFormed, Stands}
+use Rattle.machine.specs.Steps.{all_started, delivery, flushed, held_by, is_guard_of, is_usable, lacks_descriptor, number_in, started, started_with}
+use Rattle.machine.specs.Whole.{AllGuardsStand, Mostly, NoneMet, is_asleep, flag_word, HoldsDescriptor, RowFormed, WellFormed, Stands}
 use Rattle.machine.specs.declared.whole.Machine.{Machine}
 use Rattle.links_drains.proofs.Chains.{chained-updated}
-use Rattle.machine.proofs.FormedRows.{FormedRows, formed_rows-updated, formed_rows-moved}
+use Rattle.machine.proofs.FormedRows.{FormedRows, deadline_timed, formed_rows-updated, formed_rows-moved}
 use Rattle.machine.proofs.GuardLemmas.{apart, guard_told, started_guards, started_in_turn}
 use Rattle.machine.proofs.IssuingRows.{started_at_once}
+use Rattle.machine.proofs.MappedRows.{mapped_at}
 
 pub mostly : (m : Machine) → WellFormed m → Mostly m
-mostly m h = record { submissions = h.submissions; completions = h.completions; entries_wait = h.entries_wait; completions_wait = h.completions_wait; flags = h.flags; front = h.front; overflowed = h.overflowed; rows = h.rows; chained = h.chained; world = h.world; counted = h.counted; clock = h.clock; threads = h.threads }
+mostly m h = h.mostly
 
-pub formed_of : (m : Machine) → Mostly m → PutsWithin (65536 * ended_of m.table) m.world → FormedRows m.world m.table → AllGuardsStand m.table → WellFormed m
-formed_of m h puts k guards = record { guards = guards; puts = puts; submissions = h.submissions; completions = h.completions; entries_wait = h.entries_wait; completions_wait = h.completions_wait; flags = h.flags; front = h.front; overflowed = h.overflowed; rows = h.rows; chained = h.chained; world = h.world; requests = k.each; counted = h.counted; clock = h.clock; threads = h.threads }
+pub formed_of : (m : Machine) → Mostly m → PutsWithin (65536 * ended_of m.table) m.world → FormedRows m.world m.table → AllGuardsStand m.table → NoneMet m.counted m.table → WellFormed m
+formed_of m h puts k guards unmet = record { mostly = h; rows = k.each; guards = guards; unmet = unmet; puts = puts }
 
 -- ---- completions
 
@@ -66,34 +69,33 @@ wakeup_flag false false false = refl
 
 -- where completions go
 pub delivers : (m : Machine) → Mostly m → DeliveryFormed (delivery m)
-delivers m h = record { completions = h.completions; waits = h.completions_wait; front = h.front }
+delivers m h = record { completions = h.rings.completions; waits = h.rings.completions_wait; front = h.kept.front }
 
 -- completions are posted or flushed: the flags word tells whether some are kept
 pub told_kept : (m : Machine) (b : BacklogState) → Mostly m → with_flag m.submissions.flags CqOverflow (not (is_clear b)) ≡ flag_word (is_asleep m.poller) (not (is_clear b))
-told_kept m b h = ap (λ f. with_flag f CqOverflow (not (is_clear b))) h.flags ∙ overflow_flag (is_asleep m.poller) (not (is_clear m.backlog)) (not (is_clear b))
+told_kept m b h = ap (λ f. with_flag f CqOverflow (not (is_clear b))) h.rings.flags ∙ overflow_flag (is_asleep m.poller) (not (is_clear m.backlog)) (not (is_clear b))
 
 pub mostly_flushed : (m : Machine) → Mostly m → Mostly (flushed m)
 mostly_flushed m h =
     let d : DeliveryFormed (flushed_delivery (delivery m)) = flushed_formed (delivery m) (delivers m h) in
     let f = told_kept m (flushed m).backlog h in
     record {
-      submissions = formed_flag m.submissions CqOverflow _ h.submissions;
-      completions = d.completions;
-      entries_wait = h.entries_wait;
-      completions_wait = d.waits;
-      flags = f;
-      front = d.front;
-      overflowed = h.overflowed;
-      rows = h.rows;
+      rings = record {
+        submissions = formed_flag m.submissions CqOverflow _ h.rings.submissions;
+        completions = d.completions;
+        entries_wait = h.rings.entries_wait;
+        completions_wait = d.waits;
+        flags = f;
+      };
+      kept = record { front = d.front; overflowed = h.kept.overflowed };
+      table = h.table;
       world = h.world;
-      counted = h.counted;
-      chained = h.chained;
       clock = h.clock;
       threads = h.threads;
     }
 
 pub formed_flushed : (m : Machine) → WellFormed m → WellFormed (flushed m)
-formed_flushed m h = formed_of (flushed m) (mostly_flushed m (mostly m h)) h.puts (record { each = h.requests }) h.guards
+formed_flushed m h = formed_of (flushed m) (mostly_flushed m (mostly m h)) h.puts (record { each = h.rows }) h.guards h.unmet
 
 -- ---- a row ends
 
@@ -115,17 +117,23 @@ mostly_ended m r x res h e u =
     let d : DeliveryFormed (all_posted (delivery m) (c ∷ [])) = posted_formed (delivery m) (c ∷ []) (delivers m h) in
     let f = told_kept m (all_posted (delivery m) (c ∷ [])).backlog h in
     rw e (record {
-      submissions = formed_flag m.submissions CqOverflow _ h.submissions;
-      completions = d.completions;
-      entries_wait = h.entries_wait;
-      completions_wait = d.waits;
-      flags = f;
-      front = d.front;
-      overflowed = let a = items_one (delivery m) c in let b = ended-ended m.table r x res e u in let k = h.overflowed in omega (arith, a, b, k);
-      rows = let a = length-updated (λ (row : Row). record row { phase = Ended res }) m.table r in let b = h.rows in omega (arith, a, b);
+      rings = record {
+        submissions = formed_flag m.submissions CqOverflow _ h.rings.submissions;
+        completions = d.completions;
+        entries_wait = h.rings.entries_wait;
+        completions_wait = d.waits;
+        flags = f;
+      };
+      kept = record {
+        front = d.front;
+        overflowed = let a = items_one (delivery m) c in let b = ended-ended m.table r x res e u in let k = h.kept.overflowed in omega (arith, a, b, k);
+      };
+      table = record {
+        few = let a = length-updated (λ (row : Row). record row { phase = Ended res }) m.table r in let b = h.table.few in omega (arith, a, b);
+        chained = chained-updated (λ (row : Row). record row { phase = Ended res }) m.table r (λ y. refl) h.table.chained;
+        counted = ap (λ n. n + cond (counts x) 1 0) h.table.counted ∙ sym (count_one (counted_of m.table) (counts x)) ∙ sym (counted-ended m.table r x res e u);
+      };
       world = h.world;
-      counted = ap (λ n. n + cond (counts x) 1 0) h.counted ∙ sym (count_one (counted_of m.table) (counts x)) ∙ sym (counted-ended m.table r x res e u);
-      chained = chained-updated (λ (row : Row). record row { phase = Ended res }) m.table r (λ y. refl) h.chained;
       clock = h.clock;
       threads = h.threads;
     })
@@ -161,27 +169,23 @@ started_row w c n x q l h = record {
   opcode = λ u. h.opcode (ap not q);
   holds = λ i u. let d = issued_holds w x l u in record { fd = d.fd; held = d.held; descriptor = d.descriptor; there = d.there; fits = d.fits };
   time = λ u. h.time (ap not q);
-  timed = λ u t. h.timed (ap not q) t;
-  due = λ i t. mapped x.time (h.timed (ap not q) t);
+  timed = λ u. h.timed (ap not q);
+  due = λ i. deadline_timed c x;
 }
-  where
-    mapped : (o : Option ℕ) → IsSome o → IsSome (option_map (λ t. if has_flag x.entry.operation_flags 1 then t else t + c) o)
-    mapped None k = absurd cc
-    mapped (Some t) k = refl
 
 mostly_started : (m : Machine) (r c n : ℕ) (x : Row) → Mostly m → slice_get m.table r ≡ Some x → is_ended x.phase ≡ false → Mostly (record m { table = updated (started c n) m.table r })
 mostly_started m r c n x h e q = record {
-  submissions = h.submissions;
-  completions = h.completions;
-  entries_wait = h.entries_wait;
-  completions_wait = h.completions_wait;
-  flags = h.flags;
-  front = h.front;
-  overflowed = let a = ended-unfinished (started c n) m.table r x e q refl in let b = h.overflowed in omega (arith, a, b);
-  rows = let a = length-updated (started c n) m.table r in let b = h.rows in omega (arith, a, b);
-  chained = chained-updated (started c n) m.table r (λ y. refl) h.chained;
+  rings = h.rings;
+  kept = record {
+    front = h.kept.front;
+    overflowed = let a = ended-unfinished (started c n) m.table r x e q refl in let b = h.kept.overflowed in omega (arith, a, b);
+  };
+  table = record {
+    few = let a = length-updated (started c n) m.table r in let b = h.table.few in omega (arith, a, b);
+    chained = chained-updated (started c n) m.table r (λ y. refl) h.table.chained;
+    counted = h.table.counted ∙ sym (counted-unfinished (started c n) m.table r x e q refl);
+  };
   world = h.world;
-  counted = h.counted ∙ sym (counted-unfinished (started c n) m.table r x e q refl);
   clock = h.clock;
   threads = h.threads;
 }
@@ -213,6 +217,27 @@ queued_not_ended Queued h = refl
 queued_not_ended Issued h = absurd cc
 queued_not_ended (Ended n) h = absurd cc
 
+-- a TIMEOUT counts from the moment at which it is issued
+started_alone_unmet : (c n : ℕ) (x : Row) → is_met n (started c n x) ≡ false
+started_alone_unmet c n x = by (x.entry.opcode == 11) (nat_lt 0 x.entry.off) refl
+  where
+    by : (a b : Bool) → nat_lt 0 x.entry.off ≡ b → ((a && b) && nat_le ((if a then n else x.base) + x.entry.off) n) ≡ false
+    by true true k = let l : 0 < x.entry.off = grind (arith, nat_tests, k) in lt-leb (n + x.entry.off) n (omega (arith, l))
+    by true false k = refl
+    by false b k = refl
+
+-- so that none is met as one is issued
+started_unmet : (c n : ℕ) (rows : List Row) (r : ℕ) → NoneMet n rows → NoneMet n (all_started c n rows r)
+started_unmet c n rows r h i y e = at (slice_get rows i) refl (sym (mapped_at (started_with c n r) rows i) ∙ e)
+  where
+    by : (x : Row) → slice_get rows i ≡ Some x → (b : Bool) → is_met n (if b then started c n x else x) ≡ false
+    by x g true = started_alone_unmet c n x
+    by x g false = h i x g
+
+    at : (o : Option Row) → slice_get rows i ≡ o → option_map (λ row. started_with c n r (i, row)) o ≡ Some y → is_met n y ≡ false
+    at None g k = absurd cc
+    at (Some x) g k = let same : started_with c n r (i, x) ≡ y = cc in ap (is_met n) (sym same) ∙ by x g ((i == r) || is_guard_of r x)
+
 issued_in_turn : (m : Machine) (r : ℕ) (x : Row) → WellFormed m → slice_get m.table r ≡ Some x → x.phase ≡ Queued → is_guard x ≡ false → lacks_descriptor m.world x ≡ false → WellFormed (record m { table = started_in_turn m.clock m.counted m.table r })
 issued_in_turn m r x h e q plain l = by (slice_get m.table (r + 1)) refl
   where
@@ -220,12 +245,13 @@ issued_in_turn m r x h e q plain l = by (slice_get m.table (r + 1)) refl
     f = started m.clock m.counted
 
     first : Started m (updated f m.table r)
-    first = started_one m m.table r m.clock m.counted x (record { mostly = mostly m h; ended = refl; formed = record { each = h.requests } }) e (ap is_ended q) l
+    first = started_one m m.table r m.clock m.counted x (record { mostly = mostly m h; ended = refl; formed = record { each = h.rows } }) e (ap is_ended q) l
 
     whole : (rows : List Row) → started_in_turn m.clock m.counted m.table r ≡ rows → Started m rows → WellFormed (record m { table = started_in_turn m.clock m.counted m.table r })
     whole rows k s = subst (λ rs. WellFormed (record m { table = rs })) (sym k)
         (formed_of (record m { table = rows }) s.mostly (subst (λ n. PutsWithin (65536 * n) m.world) (sym s.ended) h.puts) s.formed
-        (subst AllGuardsStand k (started_guards m.clock m.counted m.table r x e q plain h.guards)))
+        (subst AllGuardsStand k (started_guards m.clock m.counted m.table r x e q plain h.guards))
+        (subst (NoneMet m.counted) (started_at_once m.clock m.counted m.table r h.guards ∙ k) (started_unmet m.clock m.counted m.table r h.unmet)))
 
     told : (b : Bool) → option_map_or (is_guard_of r) (slice_get m.table (r + 1)) false ≡ b → started_in_turn m.clock m.counted m.table r ≡ (if b then updated f (updated f m.table r) (r + 1) else updated f m.table r)
     told b k = ap (λ (d : Bool). if d then updated f (updated f m.table r) (r + 1) else updated f m.table r) k
@@ -247,94 +273,88 @@ formed_issued m r x h e q plain l = subst (λ rows. WellFormed (record m { table
 -- ---- the memory and the objects change
 
 pub mostly_world : (m : Machine) (w : WorldState) → Mostly m → WorldFormed w → Mostly (record m { world = w })
-mostly_world m w h f = record {
-  submissions = h.submissions;
-  completions = h.completions;
-  entries_wait = h.entries_wait;
-  completions_wait = h.completions_wait;
-  flags = h.flags;
-  front = h.front;
-  overflowed = h.overflowed;
-  rows = h.rows;
-  world = f;
-  counted = h.counted;
-  chained = h.chained;
-  clock = h.clock;
-  threads = h.threads;
-}
+mostly_world m w h f = record { rings = h.rings; kept = h.kept; table = h.table; world = f; clock = h.clock; threads = h.threads }
 
 pub rows_moved : (m : Machine) (w : WorldState) → WellFormed m → OneWorldSetup m.world w → FormedRows w m.table
-rows_moved m w h s = formed_rows-moved m.world w m.table s (record { each = h.requests })
+rows_moved m w h s = formed_rows-moved m.world w m.table s (record { each = h.rows })
 
 pub formed_world : (m : Machine) (w : WorldState) → WellFormed m → WorldFormed w → PutsWithin (65536 * ended_of m.table) w → OneWorldSetup m.world w → WellFormed (record m { world = w })
-formed_world m w h f puts s = formed_of (record m { world = w }) (mostly_world m w (mostly m h) f) puts (rows_moved m w h s) h.guards
+formed_world m w h f puts s = formed_of (record m { world = w }) (mostly_world m w (mostly m h) f) puts (rows_moved m w h s) h.guards h.unmet
 
 -- ---- words of the rings
 
 pub formed_put : (m : Machine) (slot : ℕ) (entry : Sqe) → WellFormed m → WellFormed (record m { submissions = record m.submissions { slots = slice_set m.submissions.slots slot entry } })
 formed_put m slot entry h = record {
-  submissions = formed_entry m.submissions slot entry h.submissions;
-  completions = h.completions;
-  entries_wait = h.entries_wait;
-  completions_wait = h.completions_wait;
-  flags = h.flags;
-  front = h.front;
-  overflowed = h.overflowed;
+  mostly = record {
+    rings = record {
+      submissions = formed_entry m.submissions slot entry h.mostly.rings.submissions;
+      completions = h.mostly.rings.completions;
+      entries_wait = h.mostly.rings.entries_wait;
+      completions_wait = h.mostly.rings.completions_wait;
+      flags = h.mostly.rings.flags;
+    };
+    kept = h.mostly.kept;
+    table = h.mostly.table;
+    world = h.mostly.world;
+    clock = h.mostly.clock;
+    threads = λ t x e. subst (λ n. Stands n x) (sym (length-set m.submissions.slots slot entry)) (h.mostly.threads t x e);
+  };
   rows = h.rows;
-  world = h.world;
-  puts = h.puts;
-  requests = h.requests;
   guards = h.guards;
-  counted = h.counted;
-  chained = h.chained;
-  clock = h.clock;
-  threads = λ t x e. subst (λ n. Stands n x) (sym (length-set m.submissions.slots slot entry)) (h.threads t x e);
+  unmet = h.unmet;
+  puts = h.puts;
 }
 
 pub formed_push : (m : Machine) (x : ℕ) → WellFormed m → x < 2 ^ 32 → waiting m.submissions.head m.submissions.tail < length m.submissions.array
     → WellFormed (record m { submissions = record m.submissions { tail = (m.submissions.tail + 1) % 2 ^ 32; array = slice_set m.submissions.array (m.submissions.tail % length m.submissions.array) x } })
 formed_push m x h b l = record {
-  submissions = formed_pushed m.submissions x h.submissions b;
-  completions = h.completions;
-  entries_wait =
-      let most = size_most 4096 (length m.submissions.array) (omega arith) h.submissions.size in
-      let a = waiting_more m.submissions.head m.submissions.tail (length m.submissions.array) h.submissions.head h.submissions.tail (omega (arith, most)) l in
-      let n = length-set m.submissions.array (m.submissions.tail % length m.submissions.array) x in
-      rw (n, a) (omega (arith, l));
-  completions_wait = h.completions_wait;
-  flags = h.flags;
-  front = h.front;
-  overflowed = h.overflowed;
+  mostly = record {
+    rings = record {
+      submissions = formed_pushed m.submissions x h.mostly.rings.submissions b;
+      completions = h.mostly.rings.completions;
+      entries_wait =
+          let f = h.mostly.rings.submissions in
+          let most = size_most 4096 (length m.submissions.array) (omega arith) f.size in
+          let a = waiting_more m.submissions.head m.submissions.tail (length m.submissions.array) f.head f.tail (omega (arith, most)) l in
+          let n = length-set m.submissions.array (m.submissions.tail % length m.submissions.array) x in
+          rw (n, a) (omega (arith, l));
+      completions_wait = h.mostly.rings.completions_wait;
+      flags = h.mostly.rings.flags;
+    };
+    kept = h.mostly.kept;
+    table = h.mostly.table;
+    world = h.mostly.world;
+    clock = h.mostly.clock;
+    threads = h.mostly.threads;
+  };
   rows = h.rows;
-  world = h.world;
-  puts = h.puts;
-  requests = h.requests;
   guards = h.guards;
-  counted = h.counted;
-  chained = h.chained;
-  clock = h.clock;
-  threads = h.threads;
+  unmet = h.unmet;
+  puts = h.puts;
 }
 
 pub formed_taken_out : (m : Machine) → WellFormed m → 0 < waiting m.completions.head m.completions.tail → WellFormed (record m { completions = record m.completions { head = (m.completions.head + 1) % 2 ^ 32 } })
 formed_taken_out m h l = record {
-  submissions = h.submissions;
-  completions = formed_reaped m.completions h.completions;
-  entries_wait = h.entries_wait;
-  completions_wait =
-      let a = waiting_less m.completions.head m.completions.tail h.completions.head h.completions.tail l in
-      let b = h.completions_wait in
-      omega (arith, a, b);
-  flags = h.flags;
-  front = h.front;
-  overflowed = h.overflowed;
+  mostly = record {
+    rings = record {
+      submissions = h.mostly.rings.submissions;
+      completions = formed_reaped m.completions h.mostly.rings.completions;
+      entries_wait = h.mostly.rings.entries_wait;
+      completions_wait =
+          let f = h.mostly.rings.completions in
+          let a = waiting_less m.completions.head m.completions.tail f.head f.tail l in
+          let b = h.mostly.rings.completions_wait in
+          omega (arith, a, b);
+      flags = h.mostly.rings.flags;
+    };
+    kept = h.mostly.kept;
+    table = h.mostly.table;
+    world = h.mostly.world;
+    clock = h.mostly.clock;
+    threads = h.mostly.threads;
+  };
   rows = h.rows;
-  world = h.world;
-  puts = h.puts;
-  requests = h.requests;
   guards = h.guards;
-  counted = h.counted;
-  chained = h.chained;
-  clock = h.clock;
-  threads = h.threads;
+  unmet = h.unmet;
+  puts = h.puts;
 }

@@ -1,6 +1,6 @@
 -- The rows that a submission adds, and what holds of each row.
-use Rattle.std.proofs.Common.{◌≡◌, ℕ, ℤ, zero, suc, Bool, true, false, not, cond, refl, sym, ◌∙◌, ap, subst, List, [], ◌∷◌, ◌++◌, length, ◌+◌, ◌*◌, ◌^◌, ◌<◌, ◌≤◌, ◌⊎◌, inl, inr, arith}
-use Rattle.std.specs.Prelude.{Option, Some, None, IsSome, is_some, slice_get, is_ok, bit_and, nat_lt, Result, Ok, Err, ◌==◌, ◌&&◌, ◌||◌, if◌then◌else◌}
+use Rattle.std.proofs.Common.{◌≡◌, ℕ, ℤ, zero, suc, Bool, true, false, not, cond, refl, sym, ◌∙◌, ap, subst, List, [], ◌∷◌, ◌++◌, length, ◌+◌, ◌-◌, ◌*◌, ◌^◌, ◌<◌, ◌≤◌, ◌⊎◌, inl, inr, arith}
+use Rattle.std.specs.Prelude.{Option, Some, None, IsSome, is_some, option_map, slice_get, is_ok, bit_and, nat_lt, Result, Ok, Err, ◌==◌, ◌&&◌, ◌||◌, if◌then◌else◌}
 use Rattle.std.specs.Option.{option_and_then}
 use Rattle.std.specs.Result.{result_err}
 use Rattle.std.specs.List.{filter}
@@ -17,10 +17,12 @@ use Rattle.opcodes.specs.declared.op.Op.TheVariants.{Timeout, LinkTimeout}
 use Rattle.opcodes.specs.Check.{bad_address, can_guard, check_of, row_of, op_of, invalid, refused_flags, time_at, time_of, timed}
 use Rattle.opcodes.specs.Opcodes.{fits_end, is_timer}
 use Rattle.places.specs.Lists.{updated}
+use Rattle.links_drains.specs.Links.{has_flag}
 use Rattle.links_drains.specs.Phases.{is_ended, is_issued, is_unfinished, counts, counted_of}
 use Rattle.links_drains.specs.Batches.{behind_in, error_at, error_of, rows_of}
 use Rattle.links_drains.proofs.Counting.{matching-more}
 use Rattle.links_drains.proofs.Chains.{became}
+use Rattle.machine.specs.Steps.{deadline_of}
 use Rattle.machine.specs.Submission.{entries_at}
 use Rattle.machine.specs.Whole.{HoldsDescriptor, IsTime, RowFormed}
 use Rattle.machine.proofs.ListsChanged.{updated_get}
@@ -84,11 +86,24 @@ ended_row w x h = by x.phase refl h
 
 -- ---- times
 
+-- a deadline is made of a time
+pub deadline_timed : (clock : ℕ) (x : Row) → is_some (deadline_of clock x) ≡ is_some x.time
+deadline_timed clock x = by x.time
+  where
+    by : (o : Option ℕ) → is_some (option_map (λ t. if has_flag x.entry.operation_flags 1 then t else t + clock) o) ≡ is_some o
+    by None = refl
+    by (Some t) = refl
+
+pub unfinished_issued : (p : Phase) → is_issued p ≡ true → is_unfinished p ≡ true
+unfinished_issued Queued h = absurd cc
+unfinished_issued Issued h = refl
+unfinished_issued (Ended n) h = absurd cc
+
 -- a time that is read is one
 time_bound : (w : WorldState) (addr : ℕ) → IsTime (time_at w addr)
 time_bound w addr t h = by (nat_lt (number_at w addr) (2 ^ 63)) (nat_lt (number_at w (addr + 8)) (2 ^ 63)) refl refl h
   where
-    by : (a b : Bool) → nat_lt (number_at w addr) (2 ^ 63) ≡ a → nat_lt (number_at w (addr + 8)) (2 ^ 63) ≡ b → (if a && b then Some (number_at w addr * 1000000000 + number_at w (addr + 8)) else None) ≡ Some t → t < 2 ^ 63 * 1000000001
+    by : (a b : Bool) → nat_lt (number_at w addr) (2 ^ 63) ≡ a → nat_lt (number_at w (addr + 8)) (2 ^ 63) ≡ b → (if a && b then Some (number_at w addr * 1000000000 + number_at w (addr + 8)) else None) ≡ Some t → t ≤ (2 ^ 63 - 1) * 1000000001
     by true true d e k =
         let s : number_at w addr < 2 ^ 63 = grind (arith, nat_tests, d) in
         let n : number_at w (addr + 8) < 2 ^ 63 = grind (arith, nat_tests, e) in
@@ -150,6 +165,14 @@ passes_timed w behind e h t = by_timer (check_of w behind e) refl h
     by_timer (Ok op) m k = ap (λ b. is_some (if b && is_ok (check_of w behind e) then time_at w e.addr else None)) t ∙ ap (λ r. is_some (if is_ok r then time_at w e.addr else None)) m ∙ there
     by_timer (Err n) m k = absurd cc
 
+-- an entry that passes its tests has a time just if it is a timer
+passes_time : (w : WorldState) (behind : Option ℕ) (e : Sqe) → result_err (check_of w behind e) ≡ None → is_some (time_of w behind e) ≡ is_timer e.opcode
+passes_time w behind e h = by (is_timer e.opcode) refl
+  where
+    by : (b : Bool) → is_timer e.opcode ≡ b → is_some (time_of w behind e) ≡ is_timer e.opcode
+    by true t = passes_timed w behind e h t ∙ sym t
+    by false t = ap (λ b. is_some (if b && is_ok (check_of w behind e) then time_at w e.addr else None)) t ∙ sym t
+
 -- a row of a batch that passed its tests
 pub batch_row : (w : WorldState) (first : ℕ) (es : List Sqe) (i : ℕ) (x : Row) → slice_get (rows_of w first es) i ≡ Some x → error_at w es i ≡ None → RowFormed w x
 batch_row w first es i x e p =
@@ -159,7 +182,7 @@ batch_row w first es i x e p =
       opcode = λ u. passes_supported w (behind_in es i) b.entry passes;
       holds = λ j. absurd cc;
       time = λ u. time_of_bound w (behind_in es i) b.entry;
-      timed = λ u t. passes_timed w (behind_in es i) b.entry passes t;
+      timed = λ u. passes_time w (behind_in es i) b.entry passes;
       due = λ j. absurd cc;
     })
 

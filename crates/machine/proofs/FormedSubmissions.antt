@@ -65,17 +65,23 @@ below_wrap n = omega arith
 
 pub mostly_taken : (m : Machine) (k : ℕ) → Mostly m → length m.table + length (offered m.submissions k) ≤ 65536 → Mostly (taken m k)
 mostly_taken m k h l = record {
-  submissions = formed_taken m.submissions _ _ h.submissions (below_wrap _) (below_wrap _);
-  completions = h.completions;
-  entries_wait = waits_behind m.submissions.head m.submissions.tail (length (words_for m k)) (length m.submissions.array) h.submissions.head h.submissions.tail (within (length-taken_words m.submit_all m.world m.submissions k) (length-offered m.submissions k h.submissions)) h.entries_wait;
-  completions_wait = h.completions_wait;
-  flags = h.flags;
-  front = h.front;
-  overflowed = let a = ended-append m.table (rows_of m.world (length m.table) (entries_for m k)) in let b = h.overflowed in omega (arith, a, b);
-  rows = count (length-append m.table (rows_of m.world (length m.table) (entries_for m k))) (length-rows_of m.world (length m.table) (entries_for m k)) (length-taken_entries m.submit_all m.world m.submissions k);
-  chained = chained-batch m.world m.table (entries_for m k) h.chained;
+  rings = record {
+    submissions = formed_taken m.submissions _ _ h.rings.submissions (below_wrap _) (below_wrap _);
+    completions = h.rings.completions;
+    entries_wait = waits_behind m.submissions.head m.submissions.tail (length (words_for m k)) (length m.submissions.array) h.rings.submissions.head h.rings.submissions.tail (within (length-taken_words m.submit_all m.world m.submissions k) (length-offered m.submissions k h.rings.submissions)) h.rings.entries_wait;
+    completions_wait = h.rings.completions_wait;
+    flags = h.rings.flags;
+  };
+  kept = record {
+    front = h.kept.front;
+    overflowed = let a = ended-append m.table (rows_of m.world (length m.table) (entries_for m k)) in let b = h.kept.overflowed in omega (arith, a, b);
+  };
+  table = record {
+    few = count (length-append m.table (rows_of m.world (length m.table) (entries_for m k))) (length-rows_of m.world (length m.table) (entries_for m k)) (length-taken_entries m.submit_all m.world m.submissions k);
+    chained = chained-batch m.world m.table (entries_for m k) h.table.chained;
+    counted = h.table.counted ∙ more (counted-append m.table (rows_of m.world (length m.table) (entries_for m k))) (counted-rows_of m.world (length m.table) (entries_for m k));
+  };
   world = h.world;
-  counted = h.counted ∙ more (counted-append m.table (rows_of m.world (length m.table) (entries_for m k))) (counted-rows_of m.world (length m.table) (entries_for m k));
   clock = h.clock;
   threads = h.threads;
 }
@@ -121,7 +127,7 @@ formed_submitted m k f l = formed_fallen_but (taken m k) direct (mostly_taken m 
     at i y e (Some res) g = inr (res, g)
 
     by : (j : ℕ) (y : Row) → (slice_get m.table j ≡ Some y) ⊎ ((i : ℕ) × (j ≡ length m.table + i) × (slice_get batch i ≡ Some y)) → RowFormed m.world y ⊎ ((res : ℤ) × (result_in direct j ≡ Some res))
-    by j y (inl e) = inl (f.requests j y e)
+    by j y (inl e) = inl (f.rows j y e)
     by j y (inr e) = subst (λ n. RowFormed m.world y ⊎ ((res : ℤ) × (result_in direct n ≡ Some res))) (sym e.1) (at e.0 y e.2 (result_in direct (length m.table + e.0)) refl)
 
     guarded : (r : ℕ) (x : Row) → is_guard x ≡ true → is_unfinished x.phase ≡ true → result_in direct r ≡ None → (slice_get m.table r ≡ Some x) ⊎ ((i : ℕ) × (r ≡ length m.table + i) × (slice_get batch i ≡ Some x)) → GuardStands (m.table ++ batch) r x

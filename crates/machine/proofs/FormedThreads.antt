@@ -58,20 +58,16 @@ stands_updated size ts f t x h e s j y g = by (updated_get f ts t j y g)
 
 pub formed_thread : (m : Machine) (f : ThreadState → ThreadState) (t : ℕ) (x : ThreadState) → WellFormed m → slice_get m.threads t ≡ Some x → Stands (length m.submissions.slots) (f x) → WellFormed (record m { threads = updated f m.threads t })
 formed_thread m f t x h e s = record {
-  submissions = h.submissions;
-  completions = h.completions;
-  entries_wait = h.entries_wait;
-  completions_wait = h.completions_wait;
-  flags = h.flags;
-  front = h.front;
-  overflowed = h.overflowed;
+  mostly = record {
+    rings = h.mostly.rings;
+    kept = h.mostly.kept;
+    table = h.mostly.table;
+    world = h.mostly.world;
+    clock = h.mostly.clock;
+    threads = stands_updated (length m.submissions.slots) m.threads f t x h.mostly.threads e s;
+  };
   rows = h.rows;
-  world = h.world;
-  puts = h.puts;
-  requests = h.requests;
   guards = h.guards;
-  counted = h.counted;
-  chained = h.chained;
-  clock = h.clock;
-  threads = stands_updated (length m.submissions.slots) m.threads f t x h.threads e s;
+  unmet = h.unmet;
+  puts = h.puts;
 }

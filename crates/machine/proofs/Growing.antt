@@ -31,7 +31,7 @@ use Rattle.machine.specs.Submission.{einval, ebusy, ebadf}
 use Rattle.timeouts_cancel.specs.Falls.{fall_of}
 use Rattle.std.specs.Option.{option_map_or}
 use Rattle.machine.specs.InTurn.{completion_at, ended}
-use Rattle.machine.specs.Steps.{refusal, sleep_refusal, after, stepped, executed, entered, entered_alone, entered_beside, submitting, before_submission, is_busy, is_unknown, gets_events, wakes, woken, shown, awaited, ready_count, held_back, with_poller, closed, is_open, posted, flushed, completions_of, ended_by, all_ended, fallen, taken, submitted, answered, issued, cancelled, finished, finished_as, lacks_descriptor, all_started, entries_for, expired, expiring, is_guard_of, started, started_with, waiting_target}
+use Rattle.machine.specs.Steps.{refusal, sleep_refusal, after, resumed, stepped, executed, entered, entered_alone, entered_beside, submitting, before_submission, is_busy, is_unknown, gets_events, wakes, woken, shown, awaited, ready_count, held_back, with_poller, closed, is_open, posted, flushed, completions_of, ended_by, all_ended, fallen, taken, submitted, answered, issued, cancelled, finished, finished_as, lacks_descriptor, all_started, entries_for, expired, expiring, is_guard_of, started, started_with, waiting_target}
 use Rattle.machine.specs.Threads.{ThreadState, program_of}
 use Rattle.machine.specs.Whole.{Grows, WellFormed}
 use Rattle.scenario.specs.declared.setup.Instruction.{Instruction}
@@ -225,7 +225,7 @@ grows_parts m w ts h k = record {
 grows_stored : (m : Machine) (t address : ℕ) (bytes : List ℕ) → WellFormed m → address + length bytes ≤ 65536 → Grows m (executed m t (Some (Store address bytes)))
 grows_stored m t address bytes f l =
     let stored = record m { world = world_stored address bytes m.world } in
-    grows_then m stored _ (grows_world m (world_stored address bytes m.world) (worlds.setup_stored address bytes m.world f.world l)) (grows_thread stored (λ x. record x { counter = x.counter + 1 }) t (λ x. refl))
+    grows_then m stored _ (grows_world m (world_stored address bytes m.world) (worlds.setup_stored address bytes m.world f.mostly.world l)) (grows_thread stored (λ x. record x { counter = x.counter + 1 }) t (λ x. refl))
 
 pub grows_closed : (m : Machine) (t : ℕ) (fd : ℤ) → Grows m (closed m t fd)
 grows_closed m t (negsuc n) = grows_thread m (λ x. record x { counter = x.counter + 1; last = ebadf; stage = Ready }) t (λ x. refl)
@@ -253,7 +253,7 @@ grows_executed m t x f e (Some (Push index)) g = record {
   stay = λ r l. refl;
   backlog = le_refl _;
 }
-grows_executed m t x f e (Some (Store address bytes)) g = grows_stored m t address bytes f ((f.threads t x e).program.done x.counter (Store address bytes) g)
+grows_executed m t x f e (Some (Store address bytes)) g = grows_stored m t address bytes f ((f.mostly.threads t x e).program.done x.counter (Store address bytes) g)
 grows_executed m t x f e (Some (Enter to_submit min_complete flags)) g = grows_entered m t to_submit min_complete flags
 grows_executed m t x f e (Some Reap) g = record {
   setup = record { array = refl; slots = refl; completions = refl; world = worlds.setup_self _; programs = map_updated program_of _ m.threads t (λ x. refl); poller = refl; submit_all = refl };
@@ -267,7 +267,7 @@ grows_stepped : (m : Machine) (t : ℕ) → WellFormed m → (o : Option ThreadS
 grows_stepped m t f None e = grows_self m
 grows_stepped m t f (Some x) e = by x.stage
   where
-    by : (s : Stage) → Grows m (elim s [ Ready ↦ executed m t (slice_get x.program x.counter) | Waiting n w ↦ answered m t (pos n) ])
+    by : (s : Stage) → Grows m (resumed m t s (slice_get x.program x.counter))
     by Ready = grows_executed m t x f e (slice_get x.program x.counter) refl
     by (Waiting n w) = grows_answered m t (pos n)
 
@@ -311,7 +311,7 @@ grows_finished m r c f (Some x) = choosing (is_cancel x.entry.opcode)
     by : (o : Outcome) → outcome_of (is_held_by m.table) m.world x c ≡ o → Grows m (finished_as m r x o)
     by (Res res) e =
         let after_it = record m { world = world_after x res m.world } in
-        grows_then m after_it _ (grows_world m (world_after x res m.world) (stays_after (is_held_by m.table) m.world x res c f.world (puts_fit m f) e).setup) (grows_fallen after_it ((r, res) ∷ []))
+        grows_then m after_it _ (grows_world m (world_after x res m.world) (stays_after (is_held_by m.table) m.world x res c f.mostly.world (puts_fit m f) e).setup) (grows_fallen after_it ((r, res) ∷ []))
     by Waits e = grows_self m
     by BadChoice e = grows_self m
 

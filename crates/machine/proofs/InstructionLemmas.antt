@@ -21,10 +21,10 @@ pub thread_there : (m : Machine) (t : ℕ) (i : Instruction) → next_of (slice_
 thread_there m t i h = let x = thread_of m t i h in slice_get_within m.threads t x.0 x.1
 
 pub goes_on : (m : Machine) (t : ℕ) → WellFormed m → (x : ThreadState) → slice_get m.threads t ≡ Some x → x.counter + 1 < 2 ^ 32
-goes_on m t f x h = let s = f.threads t x h in omega (arith, s.within, s.program.short)
+goes_on m t f x h = let s = f.mostly.threads t x h in omega (arith, s.within, s.program.short)
 
 pub is_done : (m : Machine) (t : ℕ) (i : Instruction) → WellFormed m → next_of (slice_get m.threads t) ≡ Some i → IsDone (length m.submissions.slots) i
-is_done m t i f h = let x = thread_of m t i h in (f.threads t x.0 x.1).program.done x.0.counter i x.2
+is_done m t i f h = let x = thread_of m t i h in (f.mostly.threads t x.0 x.1).program.done x.0.counter i x.2
 
 -- what comes next, told by what was read
 pub comes_next : (m : Machine) (t : ℕ) (x : ThreadState) (i : Instruction) → Some x ≡ slice_get m.threads t → Some i ≡ slice_get x.program x.counter → next_of (slice_get m.threads t) ≡ Some i

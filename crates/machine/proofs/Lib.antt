@@ -24,6 +24,7 @@ pub mod AtOnce
 pub mod FallenRows
 pub mod FormedSubmissions
 pub mod Formed
+pub mod NothingTaken
 pub mod Linking
 pub mod StartLemmas
 pub mod PipeCounts

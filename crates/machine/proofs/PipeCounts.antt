@@ -9,4 +9,4 @@ use Rattle.machine.specs.declared.whole.Machine.{Machine}
 
 -- there is room in the counts of pipes for what one request puts in
 pub puts_fit : (m : Machine) → WellFormed m → PutsWithin (2 ^ 63) m.world
-puts_fit m f = puts_more (65536 * ended_of m.table) (2 ^ 63) m.world (let a = ended-le-length m.table in let b = f.rows in omega (arith, a, b)) f.puts
+puts_fit m f = puts_more (65536 * ended_of m.table) (2 ^ 63) m.world (let a = ended-le-length m.table in let b = f.mostly.table.few in omega (arith, a, b)) f.puts

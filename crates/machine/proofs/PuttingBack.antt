@@ -76,39 +76,39 @@ one_poller (Some p) (Some q) e = ap Some (same_poller p q at)
 -- ---- the parts
 
 kept_front : (s : Machine) → WellFormed s → BacklogFormed s.backlog
-kept_front s f = record { front = let k = ended-le-length s.table in omega (arith, f.front, f.overflowed, f.rows, k) }
+kept_front s f = record { front = let k = ended-le-length s.table in omega (arith, f.mostly.kept.front, f.mostly.kept.overflowed, f.mostly.table.few, k) }
 
 -- what a machine shows can be put into each machine of its setup
 pub seen_can_put : (s m : Machine) → WellFormed s → OneSetup s m → map fixed_of s.table ≡ map fixed_of m.table → length s.backlog.items ≡ length m.backlog.items → (p : Place) (v : Value) → view s p ≡ Some v → can_put m p (Some v)
-seen_can_put s m f h r b SubmissionHead v e = sub_seen_can_put s.submissions m.submissions f.submissions h.array h.slots SubmissionHead v e
-seen_can_put s m f h r b SubmissionTail v e = sub_seen_can_put s.submissions m.submissions f.submissions h.array h.slots SubmissionTail v e
-seen_can_put s m f h r b SubmissionFlags v e = sub_seen_can_put s.submissions m.submissions f.submissions h.array h.slots SubmissionFlags v e
-seen_can_put s m f h r b SubmissionDropped v e = sub_seen_can_put s.submissions m.submissions f.submissions h.array h.slots SubmissionDropped v e
-seen_can_put s m f h r b (Array i) v e = sub_seen_can_put s.submissions m.submissions f.submissions h.array h.slots (Array i) v e
-seen_can_put s m f h r b (Slot i) v e = sub_seen_can_put s.submissions m.submissions f.submissions h.array h.slots (Slot i) v e
-seen_can_put s m f h r b CompletionHead v e = com_seen_can_put s.completions m.completions f.completions h.completions CompletionHead v e
-seen_can_put s m f h r b CompletionTail v e = com_seen_can_put s.completions m.completions f.completions h.completions CompletionTail v e
-seen_can_put s m f h r b (Completion i) v e = com_seen_can_put s.completions m.completions f.completions h.completions (Completion i) v e
-seen_can_put s m f h r b (MemoryByte a) v e = world_seen_can_put s.world m.world f.world h.world (MemoryByte a) v e
-seen_can_put s m f h r b (FileByte o i) v e = world_seen_can_put s.world m.world f.world h.world (FileByte o i) v e
-seen_can_put s m f h r b (DurableByte o i) v e = world_seen_can_put s.world m.world f.world h.world (DurableByte o i) v e
-seen_can_put s m f h r b (FileLength o) v e = world_seen_can_put s.world m.world f.world h.world (FileLength o) v e
-seen_can_put s m f h r b (DurableLength o) v e = world_seen_can_put s.world m.world f.world h.world (DurableLength o) v e
-seen_can_put s m f h r b (Position fd) v e = world_seen_can_put s.world m.world f.world h.world (Position fd) v e
-seen_can_put s m f h r b (OpenMark fd) v e = world_seen_can_put s.world m.world f.world h.world (OpenMark fd) v e
-seen_can_put s m f h r b (PipeByte o i) v e = world_seen_can_put s.world m.world f.world h.world (PipeByte o i) v e
-seen_can_put s m f h r b (PutCount o) v e = world_seen_can_put s.world m.world f.world h.world (PutCount o) v e
-seen_can_put s m f h r b (TakenCount o) v e = world_seen_can_put s.world m.world f.world h.world (TakenCount o) v e
-seen_can_put s m f h r b (EventCount o) v e = world_seen_can_put s.world m.world f.world h.world (EventCount o) v e
+seen_can_put s m f h r b SubmissionHead v e = sub_seen_can_put s.submissions m.submissions f.mostly.rings.submissions h.array h.slots SubmissionHead v e
+seen_can_put s m f h r b SubmissionTail v e = sub_seen_can_put s.submissions m.submissions f.mostly.rings.submissions h.array h.slots SubmissionTail v e
+seen_can_put s m f h r b SubmissionFlags v e = sub_seen_can_put s.submissions m.submissions f.mostly.rings.submissions h.array h.slots SubmissionFlags v e
+seen_can_put s m f h r b SubmissionDropped v e = sub_seen_can_put s.submissions m.submissions f.mostly.rings.submissions h.array h.slots SubmissionDropped v e
+seen_can_put s m f h r b (Array i) v e = sub_seen_can_put s.submissions m.submissions f.mostly.rings.submissions h.array h.slots (Array i) v e
+seen_can_put s m f h r b (Slot i) v e = sub_seen_can_put s.submissions m.submissions f.mostly.rings.submissions h.array h.slots (Slot i) v e
+seen_can_put s m f h r b CompletionHead v e = com_seen_can_put s.completions m.completions f.mostly.rings.completions h.completions CompletionHead v e
+seen_can_put s m f h r b CompletionTail v e = com_seen_can_put s.completions m.completions f.mostly.rings.completions h.completions CompletionTail v e
+seen_can_put s m f h r b (Completion i) v e = com_seen_can_put s.completions m.completions f.mostly.rings.completions h.completions (Completion i) v e
+seen_can_put s m f h r b (MemoryByte a) v e = world_seen_can_put s.world m.world f.mostly.world h.world (MemoryByte a) v e
+seen_can_put s m f h r b (FileByte o i) v e = world_seen_can_put s.world m.world f.mostly.world h.world (FileByte o i) v e
+seen_can_put s m f h r b (DurableByte o i) v e = world_seen_can_put s.world m.world f.mostly.world h.world (DurableByte o i) v e
+seen_can_put s m f h r b (FileLength o) v e = world_seen_can_put s.world m.world f.mostly.world h.world (FileLength o) v e
+seen_can_put s m f h r b (DurableLength o) v e = world_seen_can_put s.world m.world f.mostly.world h.world (DurableLength o) v e
+seen_can_put s m f h r b (Position fd) v e = world_seen_can_put s.world m.world f.mostly.world h.world (Position fd) v e
+seen_can_put s m f h r b (OpenMark fd) v e = world_seen_can_put s.world m.world f.mostly.world h.world (OpenMark fd) v e
+seen_can_put s m f h r b (PipeByte o i) v e = world_seen_can_put s.world m.world f.mostly.world h.world (PipeByte o i) v e
+seen_can_put s m f h r b (PutCount o) v e = world_seen_can_put s.world m.world f.mostly.world h.world (PutCount o) v e
+seen_can_put s m f h r b (TakenCount o) v e = world_seen_can_put s.world m.world f.mostly.world h.world (TakenCount o) v e
+seen_can_put s m f h r b (EventCount o) v e = world_seen_can_put s.world m.world f.mostly.world h.world (EventCount o) v e
 seen_can_put s m f h r b (Request i) v e = let k = some_here Requested s.table m.table i v (as_many s.table m.table r) e in subst (λ (w : Value). can_put m (Request i) (Some w)) (sym k.1.2) (stood_there s.table m.table i k.1.0 r k.1.1)
 seen_can_put s m f h r b (Backlog i) v e = backlog_seen_can_put s.backlog m.backlog (kept_front s f) b (Backlog i) v e
 seen_can_put s m f h r b BacklogFront v e = backlog_seen_can_put s.backlog m.backlog (kept_front s f) b BacklogFront v e
 seen_can_put s m f h r b PollerStage v e = let k = poller_put s.poller m.poller v h.poller e in subst (λ (w : Value). can_put m PollerStage (Some w)) (sym k.1.1) k.0
 seen_can_put s m f h r b Clock v e = subst (can_put m Clock) e tt
-seen_can_put s m f h r b Counted v e = subst (can_put m Counted) e (let k = counted-le-length s.table in omega (arith, f.counted, f.rows, k))
-seen_can_put s m f h r b (ProgramCounter t) v e = let k = some_here (λ (x : ThreadState). Number x.counter) s.threads m.threads t v (same_count s m h) e in let st = f.threads t k.1.0 k.1.1 in subst (λ (w : Value). can_put m (ProgramCounter t) (Some w)) (sym k.1.2) (k.0, omega (arith, st.within, st.program.short))
+seen_can_put s m f h r b Counted v e = subst (can_put m Counted) e (let k = counted-le-length s.table in omega (arith, f.mostly.table.counted, f.mostly.table.few, k))
+seen_can_put s m f h r b (ProgramCounter t) v e = let k = some_here (λ (x : ThreadState). Number x.counter) s.threads m.threads t v (same_count s m h) e in let st = f.mostly.threads t k.1.0 k.1.1 in subst (λ (w : Value). can_put m (ProgramCounter t) (Some w)) (sym k.1.2) (k.0, omega (arith, st.within, st.program.short))
 seen_can_put s m f h r b (ThreadStage t) v e = let k = some_here (λ (x : ThreadState). Staged x.stage) s.threads m.threads t v (same_count s m h) e in subst (λ (w : Value). can_put m (ThreadStage t) (Some w)) (sym k.1.2) k.0
-seen_can_put s m f h r b (Last t) v e = let k = some_here (λ (x : ThreadState). Signed x.last) s.threads m.threads t v (same_count s m h) e in subst (λ (w : Value). can_put m (Last t) (Some w)) (sym k.1.2) (k.0, (f.threads t k.1.0 k.1.1).last)
+seen_can_put s m f h r b (Last t) v e = let k = some_here (λ (x : ThreadState). Signed x.last) s.threads m.threads t v (same_count s m h) e in subst (λ (w : Value). can_put m (Last t) (Some w)) (sym k.1.2) (k.0, (f.mostly.threads t k.1.0 k.1.1).last)
 seen_can_put s m f h r b (Got t) v e = let k = some_here (λ (x : ThreadState). Reaped x.got) s.threads m.threads t v (same_count s m h) e in subst (λ (w : Value). can_put m (Got t) (Some w)) (sym k.1.2) k.0
 
 -- where nothing stands, nothing stands in each machine of the setup with as many rows

@@ -25,7 +25,7 @@ use Rattle.links_drains.specs.Holding.{is_held_by}
 use Rattle.links_drains.specs.Phases.{is_issued, is_queued}
 use Rattle.timeouts_cancel.specs.Timers.{is_due}
 use Rattle.machine.specs.Threads.{ThreadState}
-use Rattle.machine.specs.Steps.{before_submission, choice_refusal, enter_refusal, expire_refusal, finish_refusal, flushed, full_refusal, gets_events, instruction_refusal, is_busy, is_unknown, issue_refusal, next_refusal, outcome_refusal, phase_refusal, ready_count, refusal, sleep_refusal, submission_refusal, take_refusal, thread_refusal}
+use Rattle.machine.specs.Steps.{before_submission, choice_refusal, enter_refusal, expire_refusal, finish_refusal, flushed, full_refusal, gets_events, instruction_refusal, is_busy, is_unknown, issue_refusal, next_refusal, outcome_refusal, phase_refusal, ready_count, refusal, sleep_refusal, submission_refusal, take_refusal, thread_refusal, start_refusal}
 use Rattle.machine.specs.Whole.{is_asleep}
 use Rattle.machine.specs.Refusals.{cannot_end, exceeds_rows, executes, has_cause, is_at_end, is_bad_choice, is_in_full, is_push, is_reap, is_unready, is_waits, number_of, submits_too_many, waits_still}
 use Rattle.machine.specs.declared.whole.Machine.{Machine}
@@ -125,15 +125,18 @@ sleep_first m = by m.poller
 issue_first : (m : Machine) (r : ℕ) → First m (Issue r)
 issue_first m r = by (slice_get m.table r)
   where
-    at : (p : Phase) (b : Bool) → elim p as (λ q. Option Refusal) [ Queued ↦ cond b None (Some NotEligible) | Issued ↦ Some WrongPhase | Ended res ↦ Some WrongPhase ] ≡ cond (not (is_queued p)) (Some WrongPhase) (cond (is_queued p && not b) (Some NotEligible) None)
-    at Queued true = refl
-    at Queued false = refl
-    at Issued b = refl
-    at (Ended res) b = refl
+    may : (b : Bool) → cond b None (Some NotEligible) ≡ cond (not b) (Some NotEligible) None
+    may true = refl
+    may false = refl
+
+    at : (p : Phase) → start_refusal m.table r p ≡ cond (not (is_queued p)) (Some WrongPhase) (cond (is_queued p && not (is_eligible m.table r)) (Some NotEligible) None)
+    at Queued = may (is_eligible m.table r)
+    at Issued = refl
+    at (Ended res) = refl
 
     by : (o : Option Row) → issue_refusal m.table r o ≡ cond (is_none o) (Some NoSuchRequest) (cond (option_map_or (λ row. not (is_queued row.phase)) o false) (Some WrongPhase) (cond (option_map_or (λ row. is_queued row.phase && not (is_eligible m.table r)) o false) (Some NotEligible) None))
     by None = refl
-    by (Some row) = at row.phase (is_eligible m.table r)
+    by (Some row) = at row.phase
 
 -- an issued row that is no timer
 choice_first : (m : Machine) (c : Choice) (row : Row) → choice_refusal (is_held_by m.table) m.world row c ≡ cond (is_unready m c row) (Some NotReady) (cond (cannot_end m c row) (Some BadChoice) None)
@@ -150,7 +153,7 @@ choice_first m c row = by (is_cancel row.entry.opcode) c (outcome_of (is_held_by
 finish_first : (m : Machine) (r : ℕ) (c : Choice) → First m (Finish r c)
 finish_first m r c = by (slice_get m.table r)
   where
-    at : (p : Phase) (timer : Bool) (x y : Option Refusal) → x ≡ y → cond (not timer) (phase_refusal p x) (Some WrongPhase) ≡ cond (not (is_issued p) || timer) (Some WrongPhase) y
+    at : (p : Phase) (timer : Bool) (x y : Option Refusal) → x ≡ y → cond timer (Some WrongPhase) (phase_refusal p x) ≡ cond (not (is_issued p) || timer) (Some WrongPhase) y
     at Queued true x y e = refl
     at Queued false x y e = refl
     at Issued true x y e = refl
@@ -165,7 +168,7 @@ finish_first m r c = by (slice_get m.table r)
 expire_first : (m : Machine) (r : ℕ) → First m (Expire r)
 expire_first m r = by (slice_get m.table r)
   where
-    at : (p : Phase) (timer due : Bool) → cond (not timer) (Some WrongPhase) (phase_refusal p (cond due None (Some NotDue))) ≡ cond (not (is_issued p) || not timer) (Some WrongPhase) (cond (not due) (Some NotDue) None)
+    at : (p : Phase) (timer due : Bool) → cond timer (phase_refusal p (cond due None (Some NotDue))) (Some WrongPhase) ≡ cond (not (is_issued p) || not timer) (Some WrongPhase) (cond (not due) (Some NotDue) None)
     at Queued true due = refl
     at Queued false due = refl
     at Issued true true = refl

@@ -18,7 +18,7 @@ use Rattle.ring_words.proofs.Laws.{formed_sub_start, formed_com_start}
 use Rattle.scenario.specs.Programs.{HasWidths, HaveWidths, IsDone, IsProgram}
 use Rattle.links_drains.proofs.Chains.{chained-none}
 use Rattle.machine.specs.Threads.{ThreadState, thread_start}
-use Rattle.scenario.specs.Setups.{setup_refusal, has_ring_sizes, is_between, is_completion_size, has_programs, is_program, is_instruction, has_memory, has_objects, has_descriptors, is_object, is_name, is_contents, names_once, keeps_limits}
+use Rattle.scenario.specs.Setups.{setup_refusal, has_ring_sizes, is_between, is_completion_size, has_programs, is_program, is_instruction, has_memory, has_objects, has_descriptors, is_descriptor, is_object, is_name, is_contents, names_once, keeps_limits}
 use Rattle.places.specs.declared.object.Contents.{Contents}
 use Rattle.places.specs.declared.object.Contents.TheVariants.{File, Pipe, EventFd}
 use Rattle.places.specs.declared.object.Object.{Object}
@@ -89,6 +89,7 @@ pub record Accepted (s : Setup) : Type 0 where
   pub sizes : has_ring_sizes s ≡ true
   pub memory : has_memory s ≡ true
   pub objects : has_objects s ≡ true
+  pub descriptors : has_descriptors s ≡ true
   pub programs : has_programs s ≡ true
 
 limits : (s : Setup) → has_ring_sizes s ≡ true → keeps_limits s ≡ true → Accepted s
@@ -96,7 +97,7 @@ limits s a b =
     let m = both_true (has_memory s) (has_objects s && (has_descriptors s && has_programs s)) b in
     let o = both_true (has_objects s) (has_descriptors s && has_programs s) m.1 in
     let d = both_true (has_descriptors s) (has_programs s) o.1 in
-    record { sizes = a; memory = m.0; objects = o.0; programs = d.1 }
+    record { sizes = a; memory = m.0; objects = o.0; descriptors = d.0; programs = d.1 }
 
 pub accepted : (s : Setup) → setup_refusal s ≡ None → Accepted s
 accepted s h = by (has_ring_sizes s) (keeps_limits s) refl refl h
@@ -120,6 +121,11 @@ objects_fit s a i o h =
     let few = both_true (leb (length s.objects) 32 && list_all is_object s.objects) (names_once s.objects) a.objects in
     let each = both_true (leb (length s.objects) 32) (list_all is_object s.objects) few.0 in
     contents_fit o.contents (both_true (is_name o.name) (is_contents o.contents) (list_all_get is_object s.objects i o each.1 h)).1
+
+pub descriptors_few : (s : Setup) → Accepted s → length s.fds ≤ 64
+descriptors_few s a =
+    let few = both_true (leb (length s.fds) 64) (list_all (is_descriptor s.objects) s.fds) a.descriptors in
+    grind (arith, nat_tests, few.0)
 
 -- nothing went into the pipes of a setup
 puts_start : (memory : List ℕ) (os : List Object) (ds : List Descriptor) → PutsWithin 0 (world_start memory os ds)
@@ -185,22 +191,24 @@ formed_start s h b w =
     let none = waiting_none s.base b in
     let size : length (start s).submissions.slots ≡ rounded s.entries = length-replicate (rounded s.entries) zero_entry in
     record {
-      submissions = formed_sub_start s.entries s.base n.0 n.1 b;
-      completions = formed_com_start (completion_entries s.entries s.cq) s.base c.0 c.1 b;
-      entries_wait = omega (arith, none);
-      completions_wait = omega (arith, none);
-      flags = sym (ap (λ b. flag_word b false) (awake_first s.sqpoll));
-      front = omega arith;
-      overflowed = omega arith;
-      rows = omega arith;
-      world = world_start_formed s.memory s.objects s.fds (memory_fits s a) (objects_fit s a);
-      puts = puts_start s.memory s.objects s.fds;
-      requests = λ r x k. absurd (none_there x k);
+      mostly = record {
+        rings = record {
+          submissions = formed_sub_start s.entries s.base n.0 n.1 b;
+          completions = formed_com_start (completion_entries s.entries s.cq) s.base c.0 c.1 b;
+          entries_wait = omega (arith, none);
+          completions_wait = omega (arith, none);
+          flags = sym (ap (λ b. flag_word b false) (awake_first s.sqpoll));
+        };
+        kept = record { front = omega arith; overflowed = omega arith };
+        table = record { few = omega arith; chained = chained-none; counted = refl };
+        world = world_start_formed s.memory s.objects s.fds (memory_fits s a) (objects_fit s a) (descriptors_few s a);
+        clock = omega arith;
+        threads = λ t x k. subst (λ (i : ℕ). Stands i x) (sym size) (threads_stand s a w t x k);
+      };
+      rows = λ r x k. absurd (none_there x k);
       guards = λ r x k. absurd (none_there x k);
-      chained = chained-none;
-      counted = refl;
-      clock = omega arith;
-      threads = λ t x k. subst (λ (i : ℕ). Stands i x) (sym size) (threads_stand s a w t x k);
+      unmet = λ r x k. absurd (none_there x k);
+      puts = puts_start s.memory s.objects s.fds;
     }
   where
     none_there : (x : Row) → None ≡ Some x → ⊥

@@ -12,7 +12,7 @@ use Rattle.opcodes.specs.declared.choice.Choice.{Choice}
 use Rattle.opcodes.specs.declared.choice.Choice.TheVariants.{Full, Short, Eio}
 use Rattle.opcodes.specs.declared.ending.Outcome.{Outcome}
 use Rattle.opcodes.specs.declared.ending.Outcome.TheVariants.{Res, Waits, BadChoice}
-use Rattle.opcodes.specs.Opcodes.{is_cancel, uses_descriptor, fits_end}
+use Rattle.opcodes.specs.Opcodes.{is_cancel, is_timer, uses_descriptor, fits_end}
 use Rattle.links_drains.specs.Holding.{is_held_by}
 use Rattle.opcodes.specs.Outcomes.{is_running, outcome_of}
 use Rattle.opcodes.specs.Effects.{world_after}
@@ -31,7 +31,7 @@ use Rattle.links_drains.specs.Batches.{rows_of, direct_of}
 use Rattle.links_drains.specs.Eligible.{is_eligible}
 use Rattle.links_drains.specs.Endings.{Ending, ecanceled, result_in}
 use Rattle.links_drains.specs.Links.{has_flag, is_guard}
-use Rattle.links_drains.specs.Phases.{counts, is_issued, is_queued}
+use Rattle.links_drains.specs.Phases.{is_issued, is_queued}
 use Rattle.timeouts_cancel.specs.Falls.{counted_in, fall_of}
 use Rattle.timeouts_cancel.specs.Timers.{is_due}
 use Rattle.machine.specs.Cancels.{verdict_of, ending_with}
@@ -133,9 +133,14 @@ sleep_refusal m (Some Asleep) = Some IsAsleep
 sleep_refusal m (Some Awake) = if waiting m.submissions.head m.submissions.tail == 0 then None else Some NotIdle
 
 -- a queued row is issued once no other row holds it back
+abbrev pub start_refusal : List Row → ℕ → Phase → Option Refusal
+start_refusal rows r Queued = if is_eligible rows r then None else Some NotEligible
+start_refusal rows r Issued = Some WrongPhase
+start_refusal rows r (Ended res) = Some WrongPhase
+
 abbrev pub issue_refusal : List Row → ℕ → Option Row → Option Refusal
 issue_refusal rows r None = Some NoSuchRequest
-issue_refusal rows r (Some row) = elim row.phase [ Queued ↦ (if is_eligible rows r then None else Some NotEligible) | Issued ↦ Some WrongPhase | Ended res ↦ Some WrongPhase ]
+issue_refusal rows r (Some row) = start_refusal rows r row.phase
 
 -- why a request can't come to what a kernel chooses
 abbrev pub outcome_refusal : Outcome → Option Refusal
@@ -161,12 +166,12 @@ phase_refusal (Ended res) o = Some WrongPhase
 -- timeouts and guards don't finish, they expire
 abbrev pub finish_refusal : (ℕ → Bool) → WorldState → Option Row → Choice → Option Refusal
 finish_refusal held w None c = Some NoSuchRequest
-finish_refusal held w (Some row) c = if counts row then phase_refusal row.phase (choice_refusal held w row c) else Some WrongPhase
+finish_refusal held w (Some row) c = if is_timer row.entry.opcode then Some WrongPhase else phase_refusal row.phase (choice_refusal held w row c)
 
 -- and not before their deadline
 abbrev pub expire_refusal : ℕ → Option Row → Option Refusal
 expire_refusal now None = Some NoSuchRequest
-expire_refusal now (Some row) = if counts row then Some WrongPhase else phase_refusal row.phase (if is_due now row then None else Some NotDue)
+expire_refusal now (Some row) = if is_timer row.entry.opcode then phase_refusal row.phase (if is_due now row then None else Some NotDue) else Some WrongPhase
 
 -- why an event is refused, if it is: the least number whose condition holds
 abbrev pub refusal : Machine → Event → Option Refusal
@@ -239,11 +244,15 @@ held_back m t n w = record m { threads = updated (λ x. record x { stage = Waiti
 abbrev pub with_poller : Machine → Poller → Machine
 with_poller m p = record m { poller = Some p; submissions = record m.submissions { flags = with_flag m.submissions.flags NeedWakeup (not (is_awake p)) } }
 
--- What a thread does that entered the kernel, submitted n of k entries and asks for w completions: no more than the ring has room for.
--- It waits while there are fewer.
+-- how many completions a thread waits for that asks for a number: no more than the ring has room for
+abbrev pub wanted : Machine → ℕ → ℕ
+wanted m min_complete = min min_complete (length m.completions.slots)
+
+-- What a thread does that entered the kernel, and submitted a number of its entries: if it submitted all, and asks for completions, it waits while there are fewer than it wants.
 abbrev pub awaited : Machine → ℕ → ℕ → ℕ → ℕ → ℕ → Machine
-awaited m t n k w flags =
-    if gets_events flags && ((n == k) && nat_lt (ready_count m) (min w (length m.completions.slots))) then held_back m t n (min w (length m.completions.slots)) else answered m t (pos n)
+awaited m t submitted to_submit min_complete flags =
+    if gets_events flags && ((submitted == to_submit) && nat_lt (ready_count m) (wanted m min_complete)) then held_back m t submitted (wanted m min_complete)
+    else answered m t (pos submitted)
 
 -- the machine once the poller is woken, if it is asked to
 abbrev pub woken : Machine → ℕ → Machine
@@ -255,19 +264,22 @@ shown m flags = if gets_events flags then flushed m else m
 
 -- an Enter where the poller submits: it wakes the poller and moves kept completions into the ring, if it is asked to
 abbrev pub entered_beside : Machine → ℕ → ℕ → ℕ → ℕ → Machine
-entered_beside m t k w flags = awaited (shown (woken m flags) flags) t k k w flags
+entered_beside m t to_submit min_complete flags = awaited (shown (woken m flags) flags) t to_submit to_submit min_complete flags
 
--- what a thread does that is to submit k entries
+-- what a thread does that is to submit entries: while completions are kept it submits none (EBUSY)
 abbrev pub submitting : Machine → ℕ → ℕ → ℕ → ℕ → Machine
-submitting m t k w flags = if is_busy m k then answered m t ebusy else awaited (submitted m k) t (length (entries_for m k)) k w flags
+submitting m t to_submit min_complete flags =
+    if is_busy m to_submit then answered m t ebusy
+    else awaited (submitted m to_submit) t (length (entries_for m to_submit)) to_submit min_complete flags
 
 -- an Enter without a poller
 abbrev pub entered_alone : Machine → ℕ → ℕ → ℕ → ℕ → Machine
-entered_alone m t k w flags = submitting (before_submission m k flags) t k w flags
+entered_alone m t to_submit min_complete flags = submitting (before_submission m to_submit flags) t to_submit min_complete flags
 
+-- an Enter: unknown flags are answered with EINVAL
 abbrev pub entered : Machine → Option Poller → ℕ → ℕ → ℕ → ℕ → Machine
-entered m None t k w flags = if is_unknown flags then answered m t einval else entered_alone m t k w flags
-entered m (Some p) t k w flags = if is_unknown flags then answered m t einval else entered_beside m t k w flags
+entered m None t to_submit min_complete flags = if is_unknown flags then answered m t einval else entered_alone m t to_submit min_complete flags
+entered m (Some p) t to_submit min_complete flags = if is_unknown flags then answered m t einval else entered_beside m t to_submit min_complete flags
 
 abbrev pub is_open : Option DescriptorState → Bool
 is_open None = false
@@ -295,10 +307,14 @@ abbrev pub next_of : Option ThreadState → Option Instruction
 next_of None = None
 next_of (Some x) = slice_get x.program x.counter
 
--- what the next step of a thread changes: one that waited has its answer
+-- what a thread does next: one that is ready its next instruction, and one that waited has its answer
+abbrev pub resumed : Machine → ℕ → Stage → Option Instruction → Machine
+resumed m t Ready next = executed m t next
+resumed m t (Waiting submitted wanted) next = answered m t (pos submitted)
+
 abbrev pub stepped : Machine → ℕ → Option ThreadState → Machine
 stepped m t None = m
-stepped m t (Some x) = elim x.stage [ Ready ↦ executed m t (slice_get x.program x.counter) | Waiting n w ↦ answered m t (pos n) ]
+stepped m t (Some x) = resumed m t x.stage (slice_get x.program x.counter)
 
 -- the descriptor's number that an entry has
 abbrev pub number_in : ℤ → Option ℕ

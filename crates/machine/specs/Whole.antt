@@ -1,5 +1,5 @@
 -- The whole machine: what stands in each place, and which machines are well formed.
-use Rattle.std.specs.Prelude.{◌≡◌, ℕ, ◌+◌, ◌*◌, ◌<◌, ◌≤◌, ◌^◌, Bool, true, false, not, if◌then◌else◌, Option, Some, None, is_some, IsSome, slice_get, map, List, length, FitsSigned}
+use Rattle.std.specs.Prelude.{◌≡◌, ℕ, ◌+◌, ◌-◌, ◌*◌, ◌<◌, ◌≤◌, ◌^◌, Bool, true, false, not, if◌then◌else◌, Option, Some, None, is_some, IsSome, slice_get, map, List, length, FitsSigned}
 use Rattle.std.specs.Int.{w64}
 use Rattle.entries.specs.declared.row.Row.{Row}
 use Rattle.places.specs.declared.place.Place.{Place}
@@ -9,7 +9,8 @@ use Rattle.places.specs.declared.value.Value.TheVariants.{Number, Awake as IsAwa
 use Rattle.places.specs.declared.value.Stage.TheVariants.{Waiting}
 use Rattle.places.specs.declared.value.Change.{Change}
 use Rattle.places.specs.View.{View, LeadsBack}
-use Rattle.ring_words.specs.Rings.{waiting, sub_seen, sub_can_put, SubFormed, com_seen, com_can_put, ComFormed}
+use Rattle.ring_words.specs.Rings.{SubWords, ComWords, waiting, sub_seen, sub_can_put, SubFormed, com_seen, com_can_put, ComFormed}
+use Rattle.links_drains.specs.Counts.{is_met}
 use Rattle.links_drains.specs.Links.{is_guard, Chained}
 use Rattle.links_drains.specs.Rows.{fixed_of, Stay, table_seen, table_can_put}
 use Rattle.links_drains.specs.Phases.{is_issued, is_unfinished, counted_of, ended_of}
@@ -17,7 +18,7 @@ use Rattle.model_files.specs.declared.descriptor.DescriptorState.{DescriptorStat
 use Rattle.model_files.specs.Worlds.{WorldState, WorldFormed, world_seen, world_can_put, descriptor_of, OneSetup as OneWorldSetup, PutsWithin}
 use Rattle.opcodes.specs.Check.{op_of}
 use Rattle.opcodes.specs.Opcodes.{is_timer, uses_descriptor, fits_end}
-use Rattle.overflow.specs.Backlogs.{is_clear, backlog_seen, backlog_can_put}
+use Rattle.overflow.specs.Backlogs.{BacklogState, is_clear, backlog_seen, backlog_can_put}
 use Rattle.sqpoll.specs.declared.poller.Poller.{Poller}
 use Rattle.sqpoll.specs.Pollers.{is_awake, poller_seen}
 use Rattle.scenario.specs.Programs.{IsProgram}
@@ -139,6 +140,10 @@ pub record Stands (size : ℕ) (x : ThreadState) : Type 0 where
   pub last : FitsSigned w64 x.last
   pub waits : (n w : ℕ) → x.stage ≡ Waiting n w → Waits x n w
 
+-- Each thread does.
+abbrev pub AllStand : ℕ → List ThreadState → Type 0
+AllStand size threads = (t : ℕ) (x : ThreadState) → slice_get threads t ≡ Some x → Stands size x
+
 -- The row holds a descriptor of the setup, of an end that fits it.
 pub record HoldsDescriptor (w : WorldState) (x : Row) : Type 0 where
   pub fd : ℕ
@@ -147,17 +152,17 @@ pub record HoldsDescriptor (w : WorldState) (x : Row) : Type 0 where
   pub there : descriptor_of w fd ≡ Some descriptor
   pub fits : fits_end x.entry.opcode descriptor.end ≡ true
 
--- A time is made of two signed numbers of eight bytes that aren't negative: seconds and nanoseconds.
+-- A time is made of two signed numbers of eight bytes that aren't negative, of which 2^63 - 1 is the greatest: seconds and nanoseconds.
 abbrev pub IsTime : Option ℕ → Type 0
-IsTime time = (t : ℕ) → time ≡ Some t → t < 2 ^ 63 * 1000000001
+IsTime time = (t : ℕ) → time ≡ Some t → t ≤ (2 ^ 63 - 1) * 1000000001
 
--- While a row is unfinished its opcode is a supported one, and it has a time if it is a TIMEOUT or a LINK_TIMEOUT; while it is issued it holds its descriptor, if it uses one, and such a one has a deadline.
+-- While a row is unfinished its opcode is a supported one, and it has a time just if it is a TIMEOUT or a LINK_TIMEOUT; while it is issued it holds its descriptor, if it uses one, and has a deadline just if it has a time.
 pub record RowFormed (w : WorldState) (x : Row) : Type 0 where
   pub opcode : is_unfinished x.phase ≡ true → IsSome (op_of x.entry.opcode)
   pub holds : is_issued x.phase ≡ true → uses_descriptor x.entry.opcode ≡ true → HoldsDescriptor w x
   pub time : is_unfinished x.phase ≡ true → IsTime x.time
-  pub timed : is_unfinished x.phase ≡ true → is_timer x.entry.opcode ≡ true → IsSome x.time
-  pub due : is_issued x.phase ≡ true → is_timer x.entry.opcode ≡ true → IsSome x.deadline
+  pub timed : is_unfinished x.phase ≡ true → is_some x.time ≡ is_timer x.entry.opcode
+  pub due : is_issued x.phase ≡ true → is_some x.deadline ≡ is_some x.time
 
 -- A guard stands just behind its target, which is no guard, of its unit and as far as it is.
 pub record GuardStands (rows : List Row) (r : ℕ) (x : Row) : Type 0 where
@@ -170,44 +175,49 @@ pub record GuardStands (rows : List Row) (r : ℕ) (x : Row) : Type 0 where
   pub unit : row.unit ≡ x.unit
   pub alike : row.phase ≡ x.phase
 
+-- A TIMEOUT ends as soon as its count of completions is met, so that no issued one has been.
+abbrev pub NoneMet : ℕ → List Row → Type 0
+NoneMet counted rows = (r : ℕ) (x : Row) → slice_get rows r ≡ Some x → is_met counted x ≡ false
+
 -- Each guard that hasn't ended does.
 abbrev pub AllGuardsStand : List Row → Type 0
 AllGuardsStand rows = (r : ℕ) (x : Row) → slice_get rows r ≡ Some x → is_guard x ≡ true → is_unfinished x.phase ≡ true → GuardStands rows r x
 
--- What holds of every machine between steps, with the range of each number.
-pub record WellFormed (m : Machine) : Type 0 where
-  pub submissions : SubFormed m.submissions
-  pub completions : ComFormed m.completions
-  pub entries_wait : waiting m.submissions.head m.submissions.tail ≤ length m.submissions.array
-  pub completions_wait : waiting m.completions.head m.completions.tail ≤ length m.completions.slots
-  pub flags : m.submissions.flags ≡ flag_word (is_asleep m.poller) (not (is_clear m.backlog))
-  pub front : m.backlog.front ≤ length m.backlog.items
-  pub overflowed : length m.backlog.items ≤ ended_of m.table
-  pub rows : length m.table ≤ 65536
-  pub chained : Chained m.table
-  pub world : WorldFormed m.world
-  pub puts : PutsWithin (65536 * ended_of m.table) m.world
-  pub requests : (r : ℕ) (x : Row) → slice_get m.table r ≡ Some x → RowFormed m.world x
-  pub guards : AllGuardsStand m.table
-  pub counted : m.counted ≡ counted_of m.table
-  pub clock : m.clock < 2 ^ 64
-  pub threads : (t : ℕ) (x : ThreadState) → slice_get m.threads t ≡ Some x → Stands (length m.submissions.slots) x
+-- What holds of the two rings: no more waits in them than they have room for, and the flags word tells whether the poller is asleep and whether completions are kept.
+pub record RingsFormed (entry_ring : SubWords) (completion_ring : ComWords) (asleep keeps : Bool) : Type 0 where
+  pub submissions : SubFormed entry_ring
+  pub completions : ComFormed completion_ring
+  pub entries_wait : waiting entry_ring.head entry_ring.tail ≤ length entry_ring.array
+  pub completions_wait : waiting completion_ring.head completion_ring.tail ≤ length completion_ring.slots
+  pub flags : entry_ring.flags ≡ flag_word asleep keeps
 
--- What holds of a well formed machine, but for what holds of its rows and what went into its pipes.
+-- What holds of the backlog: each of its items is of a row that has ended.
+pub record KeptFormed (backlog : BacklogState) (ended : ℕ) : Type 0 where
+  pub front : backlog.front ≤ length backlog.items
+  pub overflowed : length backlog.items ≤ ended
+
+-- What holds of the rows together: they are few, units are runs of them, and those that have ended are counted.
+pub record TableFormed (rows : List Row) (total : ℕ) : Type 0 where
+  pub few : length rows ≤ 65536
+  pub chained : Chained rows
+  pub counted : total ≡ counted_of rows
+
+-- What holds of every machine, also while the rows that a step ends do so one after the other.
 pub record Mostly (m : Machine) : Type 0 where
-  pub submissions : SubFormed m.submissions
-  pub completions : ComFormed m.completions
-  pub entries_wait : waiting m.submissions.head m.submissions.tail ≤ length m.submissions.array
-  pub completions_wait : waiting m.completions.head m.completions.tail ≤ length m.completions.slots
-  pub flags : m.submissions.flags ≡ flag_word (is_asleep m.poller) (not (is_clear m.backlog))
-  pub front : m.backlog.front ≤ length m.backlog.items
-  pub overflowed : length m.backlog.items ≤ ended_of m.table
-  pub rows : length m.table ≤ 65536
-  pub chained : Chained m.table
+  pub rings : RingsFormed m.submissions m.completions (is_asleep m.poller) (not (is_clear m.backlog))
+  pub kept : KeptFormed m.backlog (ended_of m.table)
+  pub table : TableFormed m.table m.counted
   pub world : WorldFormed m.world
-  pub counted : m.counted ≡ counted_of m.table
   pub clock : m.clock < 2 ^ 64
-  pub threads : (t : ℕ) (x : ThreadState) → slice_get m.threads t ≡ Some x → Stands (length m.submissions.slots) x
+  pub threads : AllStand (length m.submissions.slots) m.threads
+
+-- What holds of every machine between steps: that, and what holds of each row and of what went into the pipes.
+pub record WellFormed (m : Machine) : Type 0 where
+  pub mostly : Mostly m
+  pub rows : (r : ℕ) (x : Row) → slice_get m.table r ≡ Some x → RowFormed m.world x
+  pub guards : AllGuardsStand m.table
+  pub unmet : NoneMet m.counted m.table
+  pub puts : PutsWithin (65536 * ended_of m.table) m.world
 
 -- each place is one of the machine's
 abbrev pub everywhere : Place → Bool

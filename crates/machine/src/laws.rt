@@ -1,14 +1,19 @@
 //! Laws of the definitions.
-ghost use Rattle.std.specs.Prelude.{◌≡◌, ◌<◌, ℕ, true, false, Some, None, List};
+ghost use Rattle.std.specs.Prelude.{◌≡◌, ◌<◌, ℕ, pos, true, false, is_some, Some, None, List, [], slice_get};
+ghost use Rattle.entries.specs.declared.row.Row.{Row};
 ghost use Rattle.links_drains.specs.Endings.{Ending};
+ghost use Rattle.links_drains.specs.Phases.{is_issued, is_unfinished};
+ghost use Rattle.opcodes.specs.Opcodes.{is_timer};
 ghost use Rattle.places.specs.declared.place.Place.{Place};
 ghost use Rattle.machine.specs.Whole.{view, OneSetup, WellFormed};
 ghost use Rattle.timeouts_cancel.specs.Falls.{fall_of, IsWhole};
 ghost use Rattle.machine.specs.InTurn.{ended_in_turn};
 ghost use Rattle.machine.specs.Refusals.{has_cause, number_of};
-ghost use Rattle.machine.specs.Steps.{refusal, after, before_submission, fallen, taken};
+ghost use Rattle.machine.specs.Steps.{refusal, after, answered, before_submission, deadline_of, executed, fallen, taken};
 ghost use Rattle.machine.specs.declared.whole.Machine.{Machine};
 ghost use Rattle.scenario.specs.declared.event.Event.{Event};
+ghost use Rattle.scenario.specs.declared.event.Event.TheVariants.{Take};
+ghost use Rattle.scenario.specs.declared.setup.Instruction.TheVariants.{Enter};
 ghost use Rattle.scenario.specs.declared.event.Refusal.{Refusal};
 
 use scenario::Refusal;
@@ -46,6 +51,21 @@ pub fn submissions_fall_in_turn()
 /// A submission finds a well formed machine, as kept completions have moved into the ring.
 pub fn submissions_find_formed()
     ensures { (m : Machine) (k flags : ℕ) → WellFormed m → WellFormed (before_submission m k flags) }
+{}
+
+/// As an unfinished row is issued a deadline is noted just if it is a TIMEOUT or a LINK_TIMEOUT, and once
+/// it is issued it has one just if it is.
+pub fn timers_alone_have_deadlines()
+    ensures noted { (m : Machine) (r : ℕ) (row : Row) → WellFormed m → slice_get m.table r ≡ Some row → is_unfinished row.phase ≡ true → is_some (deadline_of m.clock row) ≡ is_timer row.entry.opcode }
+    ensures kept { (m : Machine) (r : ℕ) (row : Row) → WellFormed m → slice_get m.table r ≡ Some row → is_issued row.phase ≡ true → is_some row.deadline ≡ is_timer row.entry.opcode }
+{}
+
+/// A submission of nothing ends nothing: a Take of no entries changes no place, and an Enter that submits
+/// none and has no flags is answered 0, whether or not there is a poller.
+pub fn nothing_falls_of_itself()
+    ensures falls { (m : Machine) → WellFormed m → fallen m [] ≡ m }
+    ensures take { (m : Machine) → WellFormed m → after m (Take 0) ≡ m }
+    ensures enter { (m : Machine) (t min_complete : ℕ) → WellFormed m → executed m t (Some (Enter 0 min_complete 0)) ≡ answered m t (pos 0) }
 {}
 
 /// The number of a refusal is that of its variant.

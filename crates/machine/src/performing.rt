@@ -15,7 +15,7 @@ use std::alloc::AllocError;
 impl Machine {
     /// Does what an accepted event asks for. Where it stops for want of memory, undoing the notes
     /// still gives what was.
-    pub fn perform(&mut self, event: Event, notes: &mut Recorder) -> Result<(), AllocError>
+    pub(crate) fn perform(&mut self, event: Event, notes: &mut Recorder) -> Result<(), AllocError>
         requires accepted { refusal self.old event ≡ None }
         requires formed { WellFormed self.old }
         requires fresh { (p : Place) → named notes.old.made p ≡ None }

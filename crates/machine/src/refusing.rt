@@ -45,6 +45,7 @@ impl Machine {
     }
 
     fn refuses_next(&self, stage: Stage, instruction: &Instruction) -> Option<Refusal>
+        requires formed { WellFormed self.now }
         ensures { result ≡ next_refusal self.now stage (Some instruction.now) }
     {
         match stage {
@@ -86,6 +87,7 @@ impl Machine {
     }
 
     fn refuses_instruction(&self, instruction: &Instruction) -> Option<Refusal>
+        requires formed { WellFormed self.now }
         ensures { result ≡ instruction_refusal self.now instruction.now }
     {
         match instruction {

@@ -3,67 +3,19 @@
 use inverse_log::{ExtendRefusal, WalkRefusal};
 use machine::SetupRefusal;
 use std::alloc::AllocError;
-use std::{fmt, io};
-use traces::TraceFault;
+use std::io;
+use thiserror::Error;
 
-#[derive(Debug, Drop)]
+#[derive(Debug, Drop, Error)]
 pub enum Fault {
-    Setup(SetupRefusal),
-    Extend(ExtendRefusal),
-    Walk(WalkRefusal),
-    Trace(TraceFault),
-    /// A trace that was read and written isn't what it was.
-    Differs,
-    Memory,
-    Io(io::Error),
-}
-
-impl From<SetupRefusal> for Fault {
-    fn from(refusal: SetupRefusal) -> Fault {
-        Fault::Setup(refusal)
-    }
-}
-
-impl From<ExtendRefusal> for Fault {
-    fn from(refusal: ExtendRefusal) -> Fault {
-        Fault::Extend(refusal)
-    }
-}
-
-impl From<WalkRefusal> for Fault {
-    fn from(refusal: WalkRefusal) -> Fault {
-        Fault::Walk(refusal)
-    }
-}
-
-impl From<TraceFault> for Fault {
-    fn from(fault: TraceFault) -> Fault {
-        Fault::Trace(fault)
-    }
-}
-
-impl From<AllocError> for Fault {
-    fn from(_: AllocError) -> Fault {
-        Fault::Memory
-    }
-}
-
-impl From<io::Error> for Fault {
-    fn from(error: io::Error) -> Fault {
-        Fault::Io(error)
-    }
-}
-
-impl fmt::Display for Fault {
-    fn fmt<W: fmt::Write>(&self, f: &mut fmt::Formatter<W>) -> fmt::Result {
-        match self {
-            Fault::Setup(refusal) => write!(f, "setup {refusal:?}"),
-            Fault::Extend(refusal) => write!(f, "extend {refusal:?}"),
-            Fault::Walk(refusal) => write!(f, "walk {refusal:?}"),
-            Fault::Trace(fault) => write!(f, "trace {fault:?}"),
-            Fault::Differs => write!(f, "trace that differs once written"),
-            Fault::Memory => write!(f, "memory"),
-            Fault::Io(error) => write!(f, "{error}"),
-        }
-    }
+    #[error("setup {0:?}")]
+    Setup(#[from] SetupRefusal),
+    #[error("extend {0:?}")]
+    Extend(#[from] ExtendRefusal),
+    #[error("walk {0:?}")]
+    Walk(#[from] WalkRefusal),
+    #[error("memory")]
+    Memory(#[from] AllocError),
+    #[error("{0}")]
+    Io(#[from] io::Error),
 }

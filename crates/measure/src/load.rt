@@ -1,145 +1,227 @@
-//! The events of a run, and the setup that they run from.
-ghost use Rattle.std.specs.Prelude.{◌≤◌};
-ghost use Rattle.measure.specs.Plans.{HasLimits};
+//! What each run is of.
 
-use crate::files::{full_files, sync_load, transfer_load};
-use crate::numbers::NOP;
-use crate::parts::{Load, Requests, add_ends, entry, eventfd, poll, request_load, setup_of, whole};
-use crate::plan::{MOST_OVERFLOWING, Plan};
-use crate::turns::{drain_load, link_load, mixed_load};
-use crate::waiting::{cancel_load, cascade_load, count_load, meet_load, met_load, sever_load};
+use crate::draft::{BATCH, Draft};
+use crate::plan::{Plan, Word};
 use entries::Sqe;
 use machine::{Event, Instruction};
-use places::Items;
+use opcodes::Choice;
+use places::{Contents, Descriptor, End, Items, Object};
 use std::alloc::{AllocError, Global};
 
-/// How many requests one program of 4,096 instructions holds, behind one put.
-const PROGRAM_REQUESTS: u32 = 1365;
+const NOP: u8 = 0;
 
-/// How many pushes one program of 4,096 instructions holds, behind its Put.
-const PROGRAM_PUSHES: u32 = 4095;
+const POLL_ADD: u8 = 6;
 
-/// How many requests are issued again and again.
-pub const ISSUED: u32 = 500;
+const TIMEOUT: u8 = 11;
 
-/// What a plan asks for.
-pub fn load_of(alloc: Global, plan: Plan) -> Result<Load, AllocError>
-    requires { HasLimits plan }
-{
-    match plan {
-        Plan::Nops(events) | Plan::Jumps(events) => nop_load(alloc, events),
-        Plan::Overflow(count) => overflow_load(alloc, count),
-        Plan::Issues(count) => issue_load(alloc, count),
-        Plan::Polls(count) => poll_load(alloc, count),
-        Plan::Full(events) => full_load(alloc, events),
-        Plan::Ticks(ticks) => Ok(Load {
-            setup: setup_of(alloc, Items::new(alloc)),
-            events: vec![in alloc; Event::Tick(1); ticks as usize]?,
-        }),
-        Plan::Transfers(events) => transfer_load(alloc, events),
-        Plan::Syncs(events) => sync_load(alloc, events),
-        Plan::Cancels(rows) => cancel_load(alloc, rows),
-        Plan::Counts(rows) => count_load(alloc, rows),
-        Plan::Meets(rows) => meet_load(alloc, rows),
-        Plan::Cascade(rows) => cascade_load(alloc, rows),
-        Plan::Met(rows) => met_load(alloc, rows),
-        Plan::Severed(rows) => sever_load(alloc, rows),
-        Plan::Links(rows) => link_load(alloc, rows),
-        Plan::Drains(rows) => drain_load(alloc, rows),
-        Plan::Mixed(events) => mixed_load(alloc, events),
+const ASYNC_CANCEL: u8 = 14;
+
+const READ: u8 = 22;
+
+const WRITE: u8 = 23;
+
+/// IOSQE_IO_DRAIN.
+const DRAIN: u8 = 2;
+
+/// IOSQE_IO_LINK.
+const LINK: u8 = 4;
+
+/// IORING_ASYNC_CANCEL_ALL of a cancel, and POLLIN of a poll.
+const ASKED: u32 = 1;
+
+/// The rows of a full table, but for one, whose push a Put takes the place of.
+const FULL: u32 = 65535;
+
+/// A count of completions that no run comes to.
+const FAR: u64 = 1048576;
+
+/// How many rows end, one after the other, as others stand beside them.
+const ENDED: u32 = 100;
+
+/// The user_data of the one row that a cancel looks for; that of the others is 0.
+const WANTED: u64 = 9;
+
+type Filled = Result<(), AllocError>;
+
+/// Adds what a plan asks for.
+pub fn fill(draft: &mut Draft, Plan { word, size }: Plan) -> Result<(), AllocError> {
+    let nop = entry(NOP, 0, 0);
+    let cancel_all = asking(entry(ASYNC_CANCEL, 0, 0));
+    match word {
+        Word::Full => full(draft, size),
+        Word::Nops => requests(draft, size, &[nop], [0; 4]),
+        Word::Transfers => transfers(draft, size),
+        Word::Issues => turns(draft, nop, size),
+        Word::Polls => polls(draft, size),
+        Word::Links => turns(draft, flagged(nop, LINK), size),
+        Word::Drains => turns(draft, flagged(nop, DRAIN), size),
+        Word::Cancels => cancels(draft, size),
+        Word::Counts => beside(draft, &[nop, entry(TIMEOUT, 1, FAR)], ENDED, size, &[]),
+        Word::Meets => meets(draft, size),
+        Word::Cascade => beside(draft, &[cancel_all, entry(TIMEOUT, 1, 0)], 1, size, &[]),
+        Word::Met => beside(draft, &[nop, entry(TIMEOUT, 1, 1)], 1, size, &[]),
+        Word::Severed => severed(draft, size),
     }
 }
 
-fn nop_load(alloc: Global, count: u32) -> Result<Load, AllocError> {
-    let requests = Requests {
-        entries: &[entry(NOP)],
-        slots: [0; 8],
-        in_program: PROGRAM_REQUESTS,
-    };
-    request_load(alloc, count, &requests)
-}
-
-// All NOPs are submitted; then each is issued and finished, into a ring of two.
-fn overflow_load(alloc: Global, count: u32) -> Result<Load, AllocError>
-    requires { count ≤ 65520 }
-{
-    let mut load = submitted_load(alloc, count, entry(NOP))?;
-    add_ends(&mut load.events, 0, count)?;
-    Ok(load)
-}
-
-// All NOPs are submitted; then half of them are issued and finished, and of the others the first are issued.
-fn issue_load(alloc: Global, count: u32) -> Result<Load, AllocError>
-    requires { count ≤ 65520 }
-{
-    let mut load = submitted_load(alloc, count, entry(NOP))?;
-    let half = count / 2;
-    add_ends(&mut load.events, 0, half)?;
-    for row in half..count.min(half + ISSUED) {
-        load.events.push(Event::Issue(row))?;
+// All NOPs are submitted, each taken as it is pushed; behind them the clock ticks. The files are as many, and as
+// long, as a setup can have.
+fn full(draft: &mut Draft, events: u32) -> Filled {
+    let mut files = Vec::new(draft.alloc);
+    for number in 0..32u8 {
+        let bytes = vec![in draft.alloc; 1u8; 65536]?;
+        let name = [b'a' + number / 16, b'a' + number % 16];
+        files.push(object(draft.alloc, &name, Contents::File(Items::of(bytes)))?)?;
     }
-    Ok(load)
-}
-
-// All POLL_ADDs are submitted; then half of them are issued and finished, and so are the first of the others.
-fn poll_load(alloc: Global, count: u32) -> Result<Load, AllocError>
-    requires { count ≤ 65520 }
-{
-    let mut load = submitted_load(alloc, count, poll(3))?;
-    load.setup.objects = Items::of(vec![in alloc; eventfd(alloc)?]?);
-    load.setup.fds = Items::of(vec![in alloc; whole(0); 64]?);
-    let half = count / 2;
-    add_ends(&mut load.events, 0, half)?;
-    add_ends(&mut load.events, half, count.min(half + ISSUED))?;
-    Ok(load)
-}
-
-// As many NOPs as the programs push are submitted; behind them the clock ticks.
-fn full_load(alloc: Global, count: u32) -> Result<Load, AllocError> {
-    let mut load = submitted_load(alloc, MOST_OVERFLOWING, entry(NOP))?;
-    load.setup.objects = full_files(alloc)?;
-    for _tick in load.events.len()..count as usize {
-        load.events.push(Event::Tick(1))?;
+    draft.setup.objects = Items::of(files);
+    draft.put(&[entry(NOP, 0, 0)])?;
+    for _row in 0..FULL {
+        draft.submit(&[0])?;
     }
-    load.events.truncate(count as usize);
-    Ok(load)
+    draft.events.resize(events as usize, Event::Tick(1))
 }
 
-// The poller takes each entry as it is pushed.
-fn submitted_load(alloc: Global, count: u32, entry: Sqe) -> Result<Load, AllocError>
-    requires { count ≤ 65520 }
-{
-    let mut threads = Vec::new(alloc);
-    let mut events = Vec::new(alloc);
-    for thread in 0..16u32 {
-        let first = thread * PROGRAM_PUSHES;
-        let here = count.saturating_sub(first).min(PROGRAM_PUSHES);
-        threads.push(push_program(alloc, here, entry)?)?;
-        add_takes(&mut events, thread, here)?;
-    }
-    let mut setup = setup_of(alloc, Items::of(threads));
-    setup.sqpoll = true;
-    Ok(Load { setup, events })
+// READs of a file's first page and of its second page in turn, and behind each a WRITE of what was read over its
+// third page. The pages differ in each byte.
+fn transfers(draft: &mut Draft, events: u32) -> Filled {
+    let entries = [
+        entry(READ, 4096, 0),
+        entry(READ, 4096, 4096),
+        entry(WRITE, 4096, 8192),
+    ];
+    let mut pages = vec![in draft.alloc; 1u8; 4096]?;
+    pages.extend_from_slice(&[2; 4096])?;
+    pages.extend_from_slice(&[0; 4096])?;
+    open(draft, Contents::File(Items::of(pages)), 1)?;
+    requests(draft, events, &entries, [0, 2, 1, 2])
 }
 
-// Puts an entry into the ring's slot, and pushes it again and again.
-fn push_program(alloc: Global, pushes: u32, entry: Sqe) -> Result<Items<Instruction>, AllocError> {
-    let mut program = Vec::new(alloc);
-    program.push(Instruction::Put(0, entry))?;
-    for _push in 0..pushes {
-        program.push(Instruction::Push(0))?;
+// So many events of requests of these slots in turn, made one by one.
+fn requests(draft: &mut Draft, events: u32, entries: &[Sqe], slots: [u32; 4]) -> Filled {
+    draft.put(entries)?;
+    for row in 0..events.div_ceil(5) {
+        draft.submit(&[slots[row as usize % 4]])?;
+        draft.end_row(row)?;
+        draft.step(Instruction::Reap)?;
     }
-    Ok(Items::of(program))
+    draft.events.truncate(events as usize);
+    Ok(())
 }
 
-// A thread's events: its Put, and so many pushes, each of which the poller takes.
-fn add_takes(events: &mut Vec<Event>, thread: u32, pushes: u32) -> Result<(), AllocError> {
-    if pushes > 0 {
-        events.push(Event::Step(thread))?;
-    }
-    for _push in 0..pushes {
-        events.push(Event::Step(thread))?;
-        events.push(Event::Take(1))?;
+// Half of so many rows of an entry end, one after the other.
+fn turns(draft: &mut Draft, entry: Sqe, rows: u32) -> Filled {
+    submit(draft, &[entry], &vec![in draft.alloc; 0u32; rows as usize]?)?;
+    for row in 0..rows / 2 {
+        draft.end_row(row)?;
     }
     Ok(())
+}
+
+fn polls(draft: &mut Draft, rows: u32) -> Filled {
+    open(draft, Contents::EventFd(1), 64)?;
+    turns(draft, asking(entry(POLL_ADD, 0, 0)), rows)
+}
+
+fn cancels(draft: &mut Draft, rows: u32) -> Filled {
+    let (mut cancel, mut wanted) = (entry(ASYNC_CANCEL, 0, 0), entry(NOP, 0, 0));
+    cancel.addr = WANTED;
+    wanted.user_data = WANTED;
+    let entries = [cancel, entry(TIMEOUT, 1, 0), wanted];
+    beside(draft, &entries, ENDED, rows.saturating_sub(1), &[2])
+}
+
+// The last of the TIMEOUTs, as many as there are NOPs, wait for one completion, for two, and so on.
+fn meets(draft: &mut Draft, rows: u32) -> Filled {
+    let mut entries = Vec::from_slice(draft.alloc, &[entry(NOP, 0, 0), entry(TIMEOUT, 1, FAR)])?;
+    let mut met = Vec::new(draft.alloc);
+    for turn in 0..ENDED {
+        entries.push(entry(TIMEOUT, 1, u64::from(turn) + 1))?;
+        met.push(turn + 2)?;
+    }
+    beside(draft, &entries, ENDED, rows.saturating_sub(ENDED), &met)
+}
+
+// So many rows of slot 0, others of slot 1, and the last ones are issued; then the first finish.
+fn beside(draft: &mut Draft, entries: &[Sqe], firsts: u32, others: u32, last: &[u32]) -> Filled {
+    let mut slots = vec![in draft.alloc; 0u32; firsts as usize]?;
+    slots.resize(firsts as usize + others as usize, 1)?;
+    slots.extend_from_slice(last)?;
+    submit(draft, entries, &slots)?;
+    finish(draft, &slots, u32::MAX)
+}
+
+// A cancel, and chains as long as a batch: it ends the first row of each, and so severs the others.
+fn severed(draft: &mut Draft, rows: u32) -> Filled {
+    let first = flagged(entry(TIMEOUT, 1, 0), LINK);
+    let later = flagged(entry(NOP, 0, 0), LINK);
+    let mut slots = vec![in draft.alloc; 0u32; 1]?;
+    for row in 1..=rows {
+        slots.push(if row == 1 || row % BATCH == 0 { 1 } else { 2 })?;
+    }
+    submit(
+        draft,
+        &[asking(entry(ASYNC_CANCEL, 0, 0)), first, later],
+        &slots,
+    )?;
+    finish(draft, &slots, 2)
+}
+
+// Entries are put into the slots from 0 on, and rows of these slots are submitted, a batch at once.
+fn submit(draft: &mut Draft, entries: &[Sqe], slots: &[u32]) -> Filled {
+    draft.put(entries)?;
+    for batch in slots.chunks(BATCH as usize) {
+        draft.submit(batch)?;
+    }
+    Ok(())
+}
+
+// The rows of slots below a bound are issued, and those of slot 0 finish.
+fn finish(draft: &mut Draft, slots: &[u32], bound: u32) -> Filled {
+    for (row, slot) in (0..FULL).zip(slots) {
+        if *slot < bound {
+            draft.events.push(Event::Issue(row))?;
+        }
+    }
+    for (row, slot) in (0..FULL).zip(slots) {
+        if *slot == 0 {
+            draft.events.push(Event::Finish(row, Choice::Full))?;
+        }
+    }
+    Ok(())
+}
+
+// One object, with so many descriptors.
+fn open(draft: &mut Draft, contents: Contents, descriptors: usize) -> Filled {
+    let whole = Descriptor {
+        object: 0,
+        end: End::Whole,
+    };
+    draft.setup.fds = Items::of(vec![in draft.alloc; whole; descriptors]?);
+    draft.setup.objects = Items::of(vec![in draft.alloc; object(draft.alloc, b"o", contents)?]?);
+    Ok(())
+}
+
+fn object(alloc: Global, name: &[u8], contents: Contents) -> Result<Object, AllocError> {
+    let name = Items::of(Vec::from_slice(alloc, name)?);
+    Ok(Object { name, contents })
+}
+
+// An entry at descriptor 3 and address 0.
+fn entry(opcode: u8, len: u32, off: u64) -> Sqe {
+    let mut entry = Sqe::read(&[0; 64]);
+    entry.opcode = opcode;
+    entry.fd = 3;
+    entry.len = len;
+    entry.off = off;
+    entry
+}
+
+fn flagged(mut entry: Sqe, flags: u8) -> Sqe {
+    entry.flags = flags;
+    entry
+}
+
+fn asking(mut entry: Sqe) -> Sqe {
+    entry.operation_flags = ASKED;
+    entry
 }

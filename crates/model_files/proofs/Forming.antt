@@ -2,8 +2,9 @@
 use Rattle.std.proofs.Common.{◌≡◌, ℕ, zero, suc, false, refl, sym, ◌∙◌, ap, subst, List, [], ◌∷◌, length, take, drop, ◌+◌, ◌-◌, ◌≤◌, length-append, length-take, arith}
 use Rattle.std.specs.Prelude.{Option, Some, None, IsSomeAnd, slice_get, map, replicate, ◌<◌, ◌^◌}
 use Rattle.std.specs.Option.{option_and_then}
-use Rattle.std.proofs.lemmas.List.{take_at, length-replicate}
+use Rattle.std.proofs.lemmas.List.{take_at, length-map, length-replicate}
 use Rattle.places.specs.Lists.{updated}
+use Rattle.places.proofs.ListLemmas.{length-updated}
 use Rattle.places.specs.declared.object.Contents.{Contents}
 use Rattle.places.specs.declared.object.Contents.TheVariants.{File as FileOf, Pipe as PipeOf, EventFd as EventFdOf}
 use Rattle.places.specs.declared.object.Descriptor.{Descriptor}
@@ -15,7 +16,7 @@ use Rattle.model_files.specs.Files.{FileState, FileFormed, content, content_writ
 use Rattle.model_files.specs.Pipes.{PipeState, PipeFormed, GivesOut, TakesIn, filled, room_in, put_in, taken_out}
 use Rattle.model_files.specs.Worlds.{WorldState, WorldFormed, BodyFormed, ContentsFit, body_start, descriptor_start, position_start, bytes_of, file_in, file_of, pipe_in, pipe_of, counter_in, counter_of, counter_bytes, oldest, on_file, on_pipe, on_counter, world_taken, world_put, world_added, world_cleared, world_start, world_read, world_written, world_synced, world_at, world_closed, world_stored}
 use Rattle.model_files.proofs.Wrapping.{length-bytes_from, length-slots_with}
-use Rattle.model_files.proofs.Overwriting.{length-content, length-content_written, length-overwritten}
+use Rattle.model_files.proofs.Overwriting.{length-content, length-overwritten, most_written}
 
 length-padded : (c : List ℕ) → length c ≤ 65536 → length (padded c) ≡ 65536
 length-padded c h =
@@ -34,7 +35,7 @@ start_formed bytes h = record {
 
 pub written_formed : (f : FileState) (at : ℕ) (others : List ℕ) → FileFormed f → at + length others ≤ 65536 → FileFormed (written others at f)
 written_formed f at others h k =
-    let l = length-content_written (content f) at others in
+    let l = most_written (content f) at others in
     let n = length-content f h.sized in
     let b = h.sized.len in
     let most : length (content_written (content f) at others) ≤ 65536 = omega (arith, l, n, b) in
@@ -109,13 +110,14 @@ world_read_formed o offset k addr w h within =
     let d = length-take k (drop offset bytes) in
     let m = h.memory in
     let l = length-overwritten w.memory addr (part bytes offset k) (omega arith) in
-    record { memory = l ∙ omega (arith, d, m); objects = h.objects; positions = h.positions }
+    record { memory = l ∙ omega (arith, d, m); objects = h.objects; few = h.few; positions = h.positions }
 
 pub world_written_formed : (o offset k addr : ℕ) (w : WorldState) → WorldFormed w → offset + k ≤ 65536 → WorldFormed (world_written o offset k addr w)
 world_written_formed o offset k addr w h within =
     record {
       memory = h.memory;
       objects = bodies_changed (on_file (written (part w.memory addr k) offset)) w.objects o keep h.objects;
+      few = h.few;
       positions = h.positions;
     }
   where
@@ -125,7 +127,7 @@ world_written_formed o offset k addr w h within =
     keep (EventFd n) e x = x
 
 pub world_synced_formed : (o : ℕ) (w : WorldState) → WorldFormed w → WorldFormed (world_synced o w)
-world_synced_formed o w h = record { memory = h.memory; objects = bodies_changed (on_file synced) w.objects o keep h.objects; positions = h.positions }
+world_synced_formed o w h = record { memory = h.memory; objects = bodies_changed (on_file synced) w.objects o keep h.objects; few = h.few; positions = h.positions }
   where
     keep : (b : Body) → slice_get w.objects o ≡ Some b → BodyFormed b → BodyFormed (on_file synced b)
     keep (File f) e x = synced_formed f x
@@ -145,6 +147,7 @@ pub world_at_formed : (fd n : ℕ) (w : WorldState) → WorldFormed w → n ≤ 
 world_at_formed fd n w h l = record {
   memory = h.memory;
   objects = h.objects;
+  few = subst (λ k. k ≤ 64) (sym (length-updated (λ d. record d { position = Some n }) w.descriptors (fd - 3))) h.few;
   positions = positions_changed (λ d. record d { position = Some n }) (λ d m all e. let same : n ≡ m = cc in subst (λ k. k ≤ 65536) same l) w.descriptors h.positions (fd - 3);
 }
 
@@ -152,6 +155,7 @@ pub world_closed_formed : (fd : ℕ) (w : WorldState) → WorldFormed w → Worl
 world_closed_formed fd w h = record {
   memory = h.memory;
   objects = h.objects;
+  few = subst (λ k. k ≤ 64) (sym (length-updated (λ d. record d { is_open = false }) w.descriptors (fd - 3))) h.few;
   positions = positions_changed (λ d. record d { is_open = false }) (λ d m all e. all m e) w.descriptors h.positions (fd - 3);
 }
 
@@ -159,14 +163,14 @@ pub world_stored_formed : (addr : ℕ) (bytes : List ℕ) (w : WorldState) → W
 world_stored_formed addr bytes w h within =
     let m = h.memory in
     let l = length-overwritten w.memory addr bytes (omega arith) in
-    record { memory = l ∙ omega (arith, m); objects = h.objects; positions = h.positions }
+    record { memory = l ∙ omega (arith, m); objects = h.objects; few = h.few; positions = h.positions }
 
 -- ---- pipes and eventfds
 
 pub world_taken_formed : (o k addr : ℕ) (w : WorldState) → WorldFormed w → addr + k ≤ 65536 → IsSomeAnd (pipe_of w o) (GivesOut k) → WorldFormed (world_taken o k addr w)
 world_taken_formed o k addr w h within there =
     let stored = world_stored_formed addr (oldest k (pipe_of w o)) w h (bytes (pipe_of w o) there) in
-    record { memory = stored.memory; objects = bodies_changed (on_pipe (taken_out k)) w.objects o keep h.objects; positions = h.positions }
+    record { memory = stored.memory; objects = bodies_changed (on_pipe (taken_out k)) w.objects o keep h.objects; few = h.few; positions = h.positions }
   where
     bytes : (x : Option PipeState) → IsSomeAnd x (GivesOut k) → addr + length (oldest k x) ≤ 65536
     bytes None t = absurd t
@@ -178,7 +182,7 @@ world_taken_formed o k addr w h within there =
     keep (EventFd n) e x = x
 
 pub world_put_formed : (o k addr : ℕ) (w : WorldState) → WorldFormed w → IsSomeAnd (pipe_of w o) (TakesIn k) → WorldFormed (world_put o k addr w)
-world_put_formed o k addr w h there = record { memory = h.memory; objects = bodies_changed (on_pipe (put_in (part w.memory addr k))) w.objects o keep h.objects; positions = h.positions }
+world_put_formed o k addr w h there = record { memory = h.memory; objects = bodies_changed (on_pipe (put_in (part w.memory addr k))) w.objects o keep h.objects; few = h.few; positions = h.positions }
   where
     keep : (b : Body) → slice_get w.objects o ≡ Some b → BodyFormed b → BodyFormed (on_pipe (put_in (part w.memory addr k)) b)
     keep (File f) e x = x
@@ -190,7 +194,7 @@ world_put_formed o k addr w h there = record { memory = h.memory; objects = bodi
     keep (EventFd n) e x = x
 
 pub world_added_formed : (o n : ℕ) (w : WorldState) → WorldFormed w → IsSomeAnd (counter_of w o) (λ m. m + n < 2 ^ 64 - 1) → WorldFormed (world_added o n w)
-world_added_formed o n w h there = record { memory = h.memory; objects = bodies_changed (on_counter (λ m. m + n)) w.objects o keep h.objects; positions = h.positions }
+world_added_formed o n w h there = record { memory = h.memory; objects = bodies_changed (on_counter (λ m. m + n)) w.objects o keep h.objects; few = h.few; positions = h.positions }
   where
     keep : (b : Body) → slice_get w.objects o ≡ Some b → BodyFormed b → BodyFormed (on_counter (λ m. m + n) b)
     keep (File f) e x = x
@@ -200,7 +204,7 @@ world_added_formed o n w h there = record { memory = h.memory; objects = bodies_
 pub world_cleared_formed : (o addr : ℕ) (w : WorldState) → WorldFormed w → addr + 8 ≤ 65536 → WorldFormed (world_cleared o addr w)
 world_cleared_formed o addr w h within =
     let stored = world_stored_formed addr (counter_bytes (counter_of w o)) w h (bytes (counter_of w o)) in
-    record { memory = stored.memory; objects = bodies_changed (on_counter (λ n. 0)) w.objects o keep h.objects; positions = h.positions }
+    record { memory = stored.memory; objects = bodies_changed (on_counter (λ n. 0)) w.objects o keep h.objects; few = h.few; positions = h.positions }
   where
     bytes : (x : Option ℕ) → addr + length (counter_bytes x) ≤ 65536
     bytes None = omega (arith, within)
@@ -241,5 +245,5 @@ started_at os [] i d n e p = absurd cc
 started_at os (x ∷ ds) zero d n e p = let k : descriptor_start os x ≡ d = cc in at_start os (slice_get os x.object) n (ap (λ (y : DescriptorState). y.position) k ∙ p)
 started_at os (x ∷ ds) (suc i) d n e p = started_at os ds i d n e p
 
-pub world_start_formed : (memory : List ℕ) (os : List Object) (ds : List Descriptor) → length memory ≤ 65536 → ((i : ℕ) (o : Object) → slice_get os i ≡ Some o → ContentsFit o.contents) → WorldFormed (world_start memory os ds)
-world_start_formed memory os ds h fit = record { memory = length-padded memory h; objects = started os fit; positions = started_at os ds }
+pub world_start_formed : (memory : List ℕ) (os : List Object) (ds : List Descriptor) → length memory ≤ 65536 → ((i : ℕ) (o : Object) → slice_get os i ≡ Some o → ContentsFit o.contents) → length ds ≤ 64 → WorldFormed (world_start memory os ds)
+world_start_formed memory os ds h fit few = record { memory = length-padded memory h; objects = started os fit; few = subst (λ n. n ≤ 64) (sym (length-map ds (descriptor_start os))) few; positions = started_at os ds }

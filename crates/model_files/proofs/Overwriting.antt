@@ -1,5 +1,5 @@
 -- Bytes written over others, with zeros behind them.
-use Rattle.std.proofs.Common.{◌≡◌, ℕ, zero, suc, refl, sym, ◌∙◌, ap, List, [], ◌∷◌, ◌++◌, length, take, drop, max, ◌+◌, ◌-◌, ◌≤◌, append_assoc, length-append, length-drop, arith}
+use Rattle.std.proofs.Common.{◌≡◌, ℕ, zero, suc, refl, sym, ◌∙◌, ap, List, [], ◌∷◌, ◌++◌, length, take, drop, take-append-drop, max, ◌+◌, ◌-◌, ◌<◌, ◌≤◌, append_assoc, length-append, length-drop, arith}
 use Rattle.std.proofs.lemmas.List.{take-append-le, drop-replicate, replicate-append-replicate, length-replicate, length-take-le}
 use Rattle.model_files.specs.Files.{FileState, FileFormed, FileSized, zeros, padded, content, overwritten, content_written, written}
 
@@ -46,27 +46,44 @@ gap_length c at =
     length-append c (zeros (at - length c)) ∙ omega (arith, z)
 
 -- how many bytes a file has once others are written
-pub length-content_written : (c : List ℕ) (at : ℕ) (others : List ℕ) → length (content_written c at others) ≡ max (length c) (at + length others)
-length-content_written c at others =
+pub length-content_written : (c : List ℕ) (at : ℕ) (others : List ℕ) → 0 < length others → length (content_written c at others) ≡ max (length c) (at + length others)
+length-content_written c at [] some = omega arith
+length-content_written c at (b ∷ bs) some =
     let g = gap_length c at in
-    length-overwritten (c ++ zeros (at - length c)) at others (omega (arith, g)) ∙ omega (arith, g)
+    length-overwritten (c ++ zeros (at - length c)) at (b ∷ bs) (omega (arith, g)) ∙ omega (arith, g)
+
+pub most_written : (c : List ℕ) (at : ℕ) (others : List ℕ) → length (content_written c at others) ≤ max (length c) (at + length others)
+most_written c at [] = omega arith
+most_written c at (b ∷ bs) = let l = length-content_written c at (b ∷ bs) (omega arith) in omega (arith, l)
+
+-- no bytes are written over others
+pub overwritten_none : (xs : List ℕ) (at : ℕ) → overwritten xs at [] ≡ xs
+overwritten_none xs at = ap (λ n. take at xs ++ drop n xs) (omega arith) ∙ take-append-drop at xs
 
 -- a gap is filled by the zeros that stand there already
 pub written_over : (c : List ℕ) (at : ℕ) (others : List ℕ) (most : ℕ) → length c ≤ most → at + length others ≤ most → content_written c at others ++ zeros (most - length (content_written c at others)) ≡ overwritten (c ++ zeros (most - length c)) at others
-written_over c at others most w k =
+written_over c at [] most w k = sym (overwritten_none (c ++ zeros (most - length c)) at)
+written_over c at (b ∷ bs) most w k =
     let g = gap_length c at in
-    over_zeros (c ++ zeros (at - length c)) at others most (omega (arith, g)) (omega (arith, g)) k
-    ∙ ap (λ xs. overwritten xs at others) (sym (more_zeros c (at - length c) most (omega arith)))
+    over_zeros (c ++ zeros (at - length c)) at (b ∷ bs) most (omega (arith, g)) (omega (arith, g)) k
+    ∙ ap (λ xs. overwritten xs at (b ∷ bs)) (sym (more_zeros c (at - length c) most (omega arith)))
 
 pub length-content : (f : FileState) → FileSized f → length (content f) ≡ f.len
 length-content f s = length-take-le f.len f.bytes (let a = s.bytes in let b = s.len in omega arith)
 
 -- a file once bytes are written: its bytes with those over them, and the greater length
-pub written_is : (f : FileState) (at : ℕ) (others : List ℕ) (n : ℕ) → FileFormed f → at + length others ≤ 65536 → n ≡ max f.len (at + length others) → record f { bytes = overwritten f.bytes at others; len = n } ≡ written others at f
-written_is f at others n h k e =
+pub written_is : (f : FileState) (at : ℕ) (others : List ℕ) (n : ℕ) → FileFormed f → 0 < length others → at + length others ≤ 65536 → n ≡ max f.len (at + length others) → record f { bytes = overwritten f.bytes at others; len = n } ≡ written others at f
+written_is f at others n h some k e =
     let l = length-content f h.sized in
-    let c = length-content_written (content f) at others in
+    let c = length-content_written (content f) at others some in
     let bytes : overwritten f.bytes at others ≡ padded (content_written (content f) at others) =
     ap (λ xs. overwritten xs at others) h.bytes ∙ sym (written_over (content f) at others 65536 (let b = h.sized.len in omega arith) k) in
     let len : n ≡ length (content_written (content f) at others) = omega arith in
+    λ i. record f { bytes = bytes i; len = len i }
+
+-- a file to which no bytes are written
+pub written_none : (f : FileState) (at : ℕ) → FileFormed f → written [] at f ≡ f
+written_none f at h =
+    let bytes : padded (content f) ≡ f.bytes = sym h.bytes in
+    let len : length (content f) ≡ f.len = length-content f h.sized in
     λ i. record f { bytes = bytes i; len = len i }

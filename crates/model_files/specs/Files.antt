@@ -1,5 +1,5 @@
 -- Regular files: what a program reads and writes, and what of it is on the device (read(2), write(2), fsync(2)).
-use Rattle.std.specs.Prelude.{◌≡◌, ℕ, ◌+◌, ◌-◌, ◌≤◌, Some, None, option_map, slice_get, List, ◌++◌, length, take, drop, replicate}
+use Rattle.std.specs.Prelude.{◌≡◌, ℕ, ◌+◌, ◌-◌, ◌≤◌, Some, None, option_map, slice_get, List, [], ◌∷◌, ◌++◌, length, take, drop, replicate}
 use Rattle.places.specs.View.{View}
 use Rattle.places.specs.declared.place.Place.TheVariants.{FileByte, DurableByte, FileLength, DurableLength}
 use Rattle.places.specs.declared.value.Value.TheVariants.{Number, Byte}
@@ -42,9 +42,11 @@ part bytes at k = take k (drop at bytes)
 abbrev pub overwritten : List ℕ → ℕ → List ℕ → List ℕ
 overwritten bytes at others = take at bytes ++ (others ++ drop (at + length others) bytes)
 
--- the content of a file once bytes are written to it from an offset on: a gap before them has zeros (write(2), lseek(2))
+-- The content of a file once bytes are written to it from an offset on. No bytes change nothing; a gap before others has zeros
+-- (write(2), lseek(2)).
 abbrev pub content_written : List ℕ → ℕ → List ℕ → List ℕ
-content_written old at others = overwritten (old ++ zeros (at - length old)) at others
+content_written old at [] = old
+content_written old at (b ∷ bs) = overwritten (old ++ zeros (at - length old)) at (b ∷ bs)
 
 -- the file that has a content, and on the device what it had there
 abbrev pub with_content : FileState → List ℕ → FileState

@@ -259,10 +259,12 @@ BodyFormed (File f) = FileFormed f
 BodyFormed (Pipe p) = PipeFormed p
 BodyFormed (EventFd n) = n < 2 ^ 64 - 1
 
--- The memory has its size, each object is well formed, and no position is past the most that a file can have.
+-- The memory has its size, each object is well formed, the descriptors are at most 64, and no position is past the most that a file
+-- can have.
 pub record WorldFormed (w : WorldState) : Type 0 where
   pub memory : length w.memory ≡ 65536
   pub objects : (o : ℕ) (b : Body) → slice_get w.objects o ≡ Some b → BodyFormed b
+  pub few : length w.descriptors ≤ 64
   pub positions : (i : ℕ) (d : DescriptorState) (n : ℕ) → slice_get w.descriptors i ≡ Some d → d.position ≡ Some n → n ≤ 65536
 
 -- No more bytes than some went into a pipe over the whole run.

@@ -91,7 +91,6 @@ impl Body {
         notes: &mut Recorder,
     ) -> Result<(), AllocError>
         requires formed { IsSomeAnd (file_in self.old) FileFormed }
-        requires some { 0 < length others.now }
         requires within { offset + length others.now ≤ 65536 }
         requires fresh { (i : ℕ) → i < length others.now → named notes.old.made (FileByte object (offset + i)) ≡ None }
         ensures ok { OnOk result (self.new ≡ on_file (written others.now offset) self.old) }

@@ -64,36 +64,3 @@ fn index_of(fd: u32) -> Option<usize>
         None
     }
 }
-
-#[cfg(test)]
-mod tests {
-    use super::*;
-
-    #[test]
-    fn counts_each_of_them(rt: HostRuntime) {
-        let mut held = Held::new();
-        assert_eq!(rt; held.holds(3), false);
-        held.add(3);
-        held.add(66);
-        held.add(66);
-        assert_eq!(rt; held.holds(3), true);
-        assert_eq!(rt; held.holds(4), false);
-        held.remove(66);
-        assert_eq!(rt; held.holds(66), true);
-        held.remove(66);
-        assert_eq!(rt; held.holds(66), false);
-        assert_eq!(rt; held.holds(3), true);
-    }
-
-    #[test]
-    fn other_numbers_count_nothing(rt: HostRuntime) {
-        let mut held = Held::new();
-        for fd in [0, 2, 67, u32::MAX] {
-            held.add(fd);
-            assert_eq!(rt; held.holds(fd), false);
-            held.remove(fd);
-        }
-        assert_eq!(rt; held.holds(3), false);
-        assert_eq!(rt; held.holds(66), false);
-    }
-}

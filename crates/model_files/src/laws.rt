@@ -7,7 +7,7 @@ ghost use Rattle.model_files.specs.Worlds.{WorldState, WorldFormed, ContentsFit,
 
 /// What a setup starts with is well formed.
 pub fn start_formed()
-    ensures { (memory : List ℕ) (objects : List Object) (descriptors : List Descriptor) → length memory ≤ 65536 → ((i : ℕ) (o : Object) → slice_get objects i ≡ Some o → ContentsFit o.contents) → WorldFormed (world_start memory objects descriptors) }
+    ensures { (memory : List ℕ) (objects : List Object) (descriptors : List Descriptor) → length memory ≤ 65536 → ((i : ℕ) (o : Object) → slice_get objects i ≡ Some o → ContentsFit o.contents) → length descriptors ≤ 64 → WorldFormed (world_start memory objects descriptors) }
 {}
 
 /// Reading leaves the world well formed.

@@ -13,12 +13,8 @@ pub mod held;
 pub mod laws;
 mod pages;
 pub mod pipe;
-#[cfg(test)]
-mod pipe_tests;
 mod start;
 pub mod stock;
-#[cfg(test)]
-mod tests;
 mod transfer;
 pub mod world;
 

@@ -24,7 +24,6 @@ impl RegularFile {
         notes: &mut Recorder,
     ) -> Result<(), AllocError>
         requires formed { FileFormed self.old }
-        requires some { 0 < length others.now }
         requires within { offset + length others.now ≤ 65536 }
         requires fresh { (i : ℕ) → i < length others.now → named notes.old.made (FileByte object (offset + i)) ≡ None }
         ensures ok { OnOk result (self.new ≡ written others.now offset self.old) }
@@ -35,6 +34,9 @@ impl RegularFile {
         ensures completions { notes.old.completions ≤ notes.new.completions }
         ensures others { notes.old.others ≤ notes.new.others }
     {
+        if others.is_empty() {
+            return Ok(());
+        }
         self.note_write(object, offset, others, notes)?;
         self.write(offset as usize, others);
         Ok(())
@@ -48,6 +50,7 @@ impl RegularFile {
         notes: &mut Recorder,
     ) -> Result<(), AllocError>
         requires formed { FileFormed self.now }
+        requires some { 0 < length others.now }
         requires within { offset + length others.now ≤ 65536 }
         requires fresh { (i : ℕ) → i < length others.now → named notes.old.made (FileByte object (offset + i)) ≡ None }
         ensures keeps { Keeps (object_owns object) (file_seen self.now) (file_seen self.now) notes.old.made notes.new.made }

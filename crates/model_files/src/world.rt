@@ -36,6 +36,10 @@ impl Model for World {
     ghost Value = { WorldState };
 
     ghost view = { λ a. record { memory = a.memory.items; objects = a.objects.items; descriptors = a.descriptors.items } };
+
+    ghost use Rattle.std.specs.Prelude.{◌≡◌, length};
+
+    ghost invariant = { λ a. length a.memory.items ≡ 65536 };
 }
 
 impl At for World {
@@ -188,7 +192,7 @@ impl World {
 
     /// The number of the eight bytes from an address on, the lowest first.
     pub fn number_at(&self, address: u32) -> u64
-        requires { address + 8 ≤ length self.now.memory }
+        requires { address + 8 ≤ 65536 }
         ensures { result ≡ number_at self.now address }
     {
         match self.memory[address as usize..].first_chunk::<8>() {
@@ -199,7 +203,8 @@ impl World {
 
     /// The memory.
     pub fn memory(&self) -> &[u8]
-        ensures { result.now ≡ self.now.memory }
+        ensures value { result.now ≡ self.now.memory }
+        ensures size { length result.now ≡ 65536 }
     {
         &self.memory
     }
@@ -211,8 +216,7 @@ impl World {
         bytes: &[u8],
         notes: &mut Recorder,
     ) -> Result<(), AllocError>
-        requires in_memory { address + length bytes.now ≤ length self.old.memory }
-        requires fits { address + length bytes.now ≤ 65536 }
+        requires in_memory { address + length bytes.now ≤ 65536 }
         requires fresh { (i : ℕ) → i < length bytes.now → named notes.old.made (MemoryByte (address + i)) ≡ None }
         ensures ok { OnOk result (self.new ≡ world_stored address bytes.now self.old) }
         ensures err { OnErr result (self.new ≡ self.old) }
@@ -241,8 +245,7 @@ impl World {
     ) -> Result<(), AllocError>
         requires file { IsSome (file_of self.old object) }
         requires in_file { offset + count ≤ 65536 }
-        requires in_memory { address + count ≤ length self.old.memory }
-        requires fits { address + count ≤ 65536 }
+        requires in_memory { address + count ≤ 65536 }
         requires fresh { (i : ℕ) → i < count → named notes.old.made (MemoryByte (address + i)) ≡ None }
         ensures ok { OnOk result (self.new ≡ world_read object offset count address self.old) }
         ensures err { OnErr result (self.new ≡ self.old) }
@@ -274,9 +277,8 @@ impl World {
         notes: &mut Recorder,
     ) -> Result<(), AllocError>
         requires file { IsSomeAnd (file_of self.old object) FileFormed }
-        requires some { 0 < count }
         requires in_file { offset + count ≤ 65536 }
-        requires in_memory { address + count ≤ length self.old.memory }
+        requires in_memory { address + count ≤ 65536 }
         requires fresh { (i : ℕ) → i < count → named notes.old.made (FileByte object (offset + i)) ≡ None }
         ensures ok { OnOk result (self.new ≡ world_written object offset count address self.old) }
         ensures err { OnErr result (self.new ≡ self.old) }
@@ -316,8 +318,7 @@ impl World {
         notes: &mut Recorder,
     ) -> Result<(), AllocError>
         requires there { IsSomeAnd (pipe_of self.old object) (GivesOut count) }
-        requires in_memory { address + count ≤ length self.old.memory }
-        requires fits { address + count ≤ 65536 }
+        requires in_memory { address + count ≤ 65536 }
         requires fresh { (i : ℕ) → i < count → named notes.old.made (MemoryByte (address + i)) ≡ None }
         ensures ok { OnOk result (self.new ≡ world_taken object count address self.old) }
         ensures err { OnErr result (self.new ≡ self.old) }
@@ -336,7 +337,7 @@ impl World {
     // The oldest bytes of a pipe stand in memory.
     fn bring_oldest(&mut self, object: u32, count: u32, address: u32)
         requires there { IsSomeAnd (pipe_of self.old object) (GivesOut count) }
-        requires in_memory { address + count ≤ length self.old.memory }
+        requires in_memory { address + count ≤ 65536 }
         ensures { self.new ≡ world_stored address (oldest count (pipe_of self.old object)) self.old }
     {
         let Body::Pipe(pipe) = &self.objects[object as usize] else {
@@ -356,8 +357,7 @@ impl World {
         notes: &mut Recorder,
     ) -> Result<(), AllocError>
         requires there { IsSomeAnd (pipe_of self.now object) (GivesOut count) }
-        requires in_memory { address + count ≤ length self.now.memory }
-        requires fits { address + count ≤ 65536 }
+        requires in_memory { address + count ≤ 65536 }
         requires fresh { (i : ℕ) → i < count → named notes.old.made (MemoryByte (address + i)) ≡ None }
         ensures keeps { Keeps world_owns (world_seen self.now) (world_seen self.now) notes.old.made notes.new.made }
         ensures noted { OnOk result (NamesChanges world_owns (world_seen self.now) (world_seen (world_taken object count address self.now)) notes.new.made) }
@@ -383,8 +383,7 @@ impl World {
         others: &[u8],
         notes: &mut Recorder,
     ) -> Result<(), AllocError>
-        requires in_memory { address + length others.now ≤ length self.now.memory }
-        requires fits { address + length others.now ≤ 65536 }
+        requires in_memory { address + length others.now ≤ 65536 }
         requires fresh { (i : ℕ) → i < length others.now → named notes.old.made (MemoryByte (address + i)) ≡ None }
         ensures noted { OnOk result (NamesDiffering notes.new.made Memory address (part self.now.memory address (length others.now)) others.now) }
         ensures among { NotedAmong notes.old.made notes.new.made Memory address (part self.now.memory address (length others.now)) }
@@ -405,7 +404,7 @@ impl World {
         notes: &mut Recorder,
     ) -> Result<(), AllocError>
         requires room { IsSomeAnd (pipe_of self.old object) (TakesIn count) }
-        requires in_memory { address + count ≤ length self.old.memory }
+        requires in_memory { address + count ≤ 65536 }
         requires fresh { (i : ℕ) → i < 65536 → named notes.old.made (PipeByte object i) ≡ None }
         ensures ok { OnOk result (self.new ≡ world_put object count address self.old) }
         ensures err { OnErr result (self.new ≡ self.old) }
@@ -448,8 +447,7 @@ impl World {
         notes: &mut Recorder,
     ) -> Result<(), AllocError>
         requires counter { IsSome (counter_of self.old object) }
-        requires in_memory { address + 8 ≤ length self.old.memory }
-        requires fits { address + 8 ≤ 65536 }
+        requires in_memory { address + 8 ≤ 65536 }
         requires fresh { (i : ℕ) → i < 8 → named notes.old.made (MemoryByte (address + i)) ≡ None }
         ensures ok { OnOk result (self.new ≡ world_cleared object address self.old) }
         ensures err { OnErr result (self.new ≡ self.old) }

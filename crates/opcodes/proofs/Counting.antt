@@ -12,14 +12,14 @@ use Rattle.model_files.specs.declared.stock.Stock.{Stock}
 use Rattle.model_files.specs.declared.stock.Stock.TheVariants.{File, Pipe, EventFd}
 use Rattle.model_files.specs.Files.{part, synced, written}
 use Rattle.model_files.specs.Pipes.{PipeState, put_in, taken_out}
-use Rattle.model_files.specs.Worlds.{WorldState, WorldFormed, PutsWithin, descriptor_of, number_at, on_counter, on_file, on_pipe, pipe_in, pipe_of, stock_of, world_added, world_at, world_cleared, world_synced}
+use Rattle.model_files.specs.Worlds.{WorldState, WorldFormed, PutsWithin, descriptor_of, number_at, on_counter, on_file, on_pipe, pipe_in, pipe_of, stock_of, world_added, world_at, world_cleared, world_put, world_synced, world_taken}
 use Rattle.opcodes.specs.declared.choice.Choice.{Choice}
 use Rattle.opcodes.specs.declared.op.Op.{Op}
 use Rattle.opcodes.specs.declared.op.Op.TheVariants.{Fsync, Read, Write}
 use Rattle.opcodes.specs.declared.ending.Outcome.TheVariants.{Res}
 use Rattle.opcodes.specs.Check.{op_of}
 use Rattle.opcodes.specs.Outcomes.{outcome_of, held_descriptor, is_at_position, offset_of, position_of}
-use Rattle.opcodes.specs.Effects.{moved_on, bytes_read, bytes_written, bytes_taken, bytes_put, done_by, done_through, done_holding, world_after}
+use Rattle.opcodes.specs.Effects.{moved_on, bytes_read, bytes_written, done_by, done_through, done_holding, world_after}
 use Rattle.opcodes.proofs.Transferring.{row_written}
 
 -- what a change of an object makes of what went into pipes
@@ -73,24 +73,20 @@ puts_moved entry fd k n (Some p) w h = by (is_at_position entry)
     by false = h
 
 puts_read : (entry : Sqe) (fd : ℕ) (d : DescriptorState) (k n : ℕ) (w : WorldState) → PutsWithin n w → PutsWithin n (bytes_read entry fd d k w)
-puts_read entry fd d zero n w h = h
-puts_read entry fd d (suc k) n w h = puts_moved entry fd (suc k) n d.position _ h
+puts_read entry fd d k n w h = puts_moved entry fd k n d.position _ h
 
 puts_written : (entry : Sqe) (fd : ℕ) (d : DescriptorState) (k n : ℕ) (w : WorldState) → PutsWithin n w → PutsWithin n (bytes_written entry fd d k w)
-puts_written entry fd d zero n w h = h
-puts_written entry fd d (suc k) n w h =
-    puts_moved entry fd (suc k) n d.position _
-    (puts_file (on_file (written (part w.memory entry.addr (suc k)) (offset_of entry (position_of (Some d))))) (λ b. files_same b (offset_of entry (position_of (Some d))) (part w.memory entry.addr (suc k))) n w.objects d.object h)
+puts_written entry fd d k n w h =
+    puts_moved entry fd k n d.position _
+    (puts_file (on_file (written (part w.memory entry.addr k) (offset_of entry (position_of (Some d))))) (λ b. files_same b (offset_of entry (position_of (Some d))) (part w.memory entry.addr k)) n w.objects d.object h)
 
-puts_taken : (entry : Sqe) (o k n : ℕ) (w : WorldState) → PutsWithin n w → PutsWithin n (bytes_taken entry o k w)
-puts_taken entry o zero n w h = h
-puts_taken entry o (suc k) n w h = puts_changed (on_pipe (taken_out (suc k))) n n (omega arith) (taken_keeps n (suc k)) w.objects o h
+puts_taken : (entry : Sqe) (o k n : ℕ) (w : WorldState) → PutsWithin n w → PutsWithin n (world_taken o k entry.addr w)
+puts_taken entry o k n w h = puts_changed (on_pipe (taken_out k)) n n (omega arith) (taken_keeps n k) w.objects o h
 
-puts_put : (entry : Sqe) (o k n : ℕ) (w : WorldState) → k ≤ 65536 → PutsWithin n w → PutsWithin (n + 65536) (bytes_put entry o k w)
-puts_put entry o zero n w l h = puts_more n (n + 65536) w (omega arith) h
-puts_put entry o (suc k) n w l h =
-    let size = length-take (suc k) (drop entry.addr w.memory) in
-    puts_changed (on_pipe (put_in (part w.memory entry.addr (suc k)))) n (n + 65536) (omega arith) (put_grows n 65536 (part w.memory entry.addr (suc k)) (omega (arith, size, l))) w.objects o h
+puts_put : (entry : Sqe) (o k n : ℕ) (w : WorldState) → k ≤ 65536 → PutsWithin n w → PutsWithin (n + 65536) (world_put o k entry.addr w)
+puts_put entry o k n w l h =
+    let size = length-take k (drop entry.addr w.memory) in
+    puts_changed (on_pipe (put_in (part w.memory entry.addr k))) n (n + 65536) (omega arith) (put_grows n 65536 (part w.memory entry.addr k) (omega (arith, size, l))) w.objects o h
 
 -- a request puts no more bytes into a pipe than memory has
 pub puts_after : (held : ℕ → Bool) (w : WorldState) (row : Row) (res : ℤ) (c : Choice) (n : ℕ) → outcome_of held w row c ≡ Res res → PutsWithin n w → PutsWithin (n + 65536) (world_after row res w)
@@ -103,7 +99,7 @@ puts_after held w row (pos k) c n h puts = holding row.held refl
     through : (fd : ℕ) (d : DescriptorState) → held_descriptor w row ≡ Some d → (o : Option Op) (s : Option Stock) → op_of row.entry.opcode ≡ o → stock_of w d.object ≡ s → PutsWithin (n + 65536) (done_by row.entry o s fd d k w)
     through fd d here (Some Fsync) (Some (File m)) e i = more (world_synced d.object w) (puts_file (on_file synced) syncs_same n w.objects d.object puts)
     through fd d here (Some Read) (Some (File m)) e i = more (bytes_read row.entry fd d k w) (puts_read row.entry fd d k n w puts)
-    through fd d here (Some Read) (Some (Pipe m l)) e i = more (bytes_taken row.entry d.object k w) (puts_taken row.entry d.object k n w puts)
+    through fd d here (Some Read) (Some (Pipe m l)) e i = more (world_taken d.object k row.entry.addr w) (puts_taken row.entry d.object k n w puts)
     through fd d here (Some Read) (Some (EventFd m)) e i = more (world_cleared d.object row.entry.addr w) (puts_file (on_counter (λ z. 0)) (counters_same (λ z. 0)) n w.objects d.object puts)
     through fd d here (Some Write) (Some (File m)) e i = more (bytes_written row.entry fd d k w) (puts_written row.entry fd d k n w puts)
     through fd d here (Some Write) (Some (Pipe m l)) e i =

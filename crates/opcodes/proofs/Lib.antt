@@ -1,3 +1,4 @@
 pub mod Transferring
+pub mod Nothing
 pub mod Staying
 pub mod Counting

@@ -1,5 +1,5 @@
 -- What the end of a request leaves as it was.
-use Rattle.std.proofs.Common.{◌≡◌, ℕ, ℤ, pos, negsuc, zero, suc, Bool, true, false, cond, refl, sym, ◌∙◌, ap, ◌+◌, ◌<◌, ◌≤◌, arith}
+use Rattle.std.proofs.Common.{◌≡◌, ℕ, ℤ, pos, negsuc, zero, suc, Bool, true, false, cond, refl, sym, subst, ◌∙◌, ap, ◌+◌, ◌<◌, ◌≤◌, arith}
 use Rattle.std.specs.Prelude.{Option, Some, None, IsSomeAnd, if◌then◌else◌, ◌^◌}
 use Rattle.std.specs.Option.{option_and_then}
 use Rattle.entries.specs.declared.entry.Sqe.{Sqe}
@@ -8,7 +8,7 @@ use Rattle.model_files.specs.declared.descriptor.DescriptorState.{DescriptorStat
 use Rattle.model_files.specs.declared.stock.Stock.{Stock}
 use Rattle.model_files.specs.declared.stock.Stock.TheVariants.{File, Pipe, EventFd}
 use Rattle.model_files.specs.Pipes.{GivesOut, TakesIn}
-use Rattle.model_files.specs.Worlds.{WorldState, WorldFormed, OneSetup, PutsWithin, descriptor_of, number_at, pipe_of, stock_of, world_at, world_read, world_written}
+use Rattle.model_files.specs.Worlds.{WorldState, WorldFormed, OneSetup, PutsWithin, descriptor_of, number_at, pipe_of, stock_of, world_at, world_put, world_read, world_taken, world_written}
 use Rattle.model_files.proofs.Forming.{world_at_formed, world_read_formed, world_written_formed, world_synced_formed, world_taken_formed, world_put_formed, world_added_formed, world_cleared_formed}
 use Rattle.model_files.proofs.Fixing.{setup_self, setup_then, setup_read, setup_written, setup_synced, setup_taken, setup_put, setup_added, setup_cleared}
 use Rattle.opcodes.specs.declared.choice.Choice.{Choice}
@@ -17,7 +17,8 @@ use Rattle.opcodes.specs.declared.op.Op.TheVariants.{Fsync, Read, Write}
 use Rattle.opcodes.specs.declared.ending.Outcome.TheVariants.{Res}
 use Rattle.opcodes.specs.Check.{op_of}
 use Rattle.opcodes.specs.Outcomes.{outcome_of, held_descriptor, is_at_position, offset_of, position_of}
-use Rattle.opcodes.specs.Effects.{moved_on, bytes_read, bytes_written, bytes_taken, bytes_put, done_by, done_through, done_holding, world_after}
+use Rattle.opcodes.proofs.Nothing.{bytes_read_nothing, bytes_written_nothing}
+use Rattle.opcodes.specs.Effects.{moved_on, bytes_read, bytes_written, done_by, done_through, done_holding, world_after}
 use Rattle.opcodes.proofs.Transferring.{Moves, row_read, row_written, setup_moved, gives_out, takes_in, counts_to}
 
 -- The world that follows is well formed, and one of the setup.
@@ -46,7 +47,7 @@ stays_then : (a b c : WorldState) → Stays a b → Stays b c → Stays a c
 stays_then a b c h k = record { formed = k.formed; setup = setup_then a b c h.setup k.setup }
 
 stays_read : (entry : Sqe) (fd : ℕ) (d : DescriptorState) (k : ℕ) (w : WorldState) → WorldFormed w → descriptor_of w fd ≡ Some d → Moves entry (position_of (Some d)) k → Stays w (bytes_read entry fd d k w)
-stays_read entry fd d zero w f there m = stays_self w f
+stays_read entry fd d zero w f there m = subst (Stays w) (sym (bytes_read_nothing entry fd d w there)) (stays_self w f)
 stays_read entry fd d (suc k) w f there m =
     let offset = offset_of entry (position_of (Some d)) in
     let formed = world_read_formed d.object offset (suc k) entry.addr w f m.memory in
@@ -55,7 +56,7 @@ stays_read entry fd d (suc k) w f there m =
     (stays_moved entry fd d (suc k) (world_read d.object offset (suc k) entry.addr w) formed there (m.file (omega arith)))
 
 stays_written : (entry : Sqe) (fd : ℕ) (d : DescriptorState) (k : ℕ) (w : WorldState) → WorldFormed w → descriptor_of w fd ≡ Some d → Moves entry (position_of (Some d)) k → Stays w (bytes_written entry fd d k w)
-stays_written entry fd d zero w f there m = stays_self w f
+stays_written entry fd d zero w f there m = subst (Stays w) (sym (bytes_written_nothing entry fd d w f there)) (stays_self w f)
 stays_written entry fd d (suc k) w f there m =
     let offset = offset_of entry (position_of (Some d)) in
     let within = m.file (omega arith) in
@@ -64,13 +65,11 @@ stays_written entry fd d (suc k) w f there m =
     (record { formed = formed; setup = setup_written d.object offset (suc k) entry.addr w f within })
     (stays_moved entry fd d (suc k) (world_written d.object offset (suc k) entry.addr w) formed there within)
 
-stays_taken : (entry : Sqe) (o k : ℕ) (w : WorldState) → WorldFormed w → entry.addr + k ≤ 65536 → IsSomeAnd (pipe_of w o) (GivesOut k) → Stays w (bytes_taken entry o k w)
-stays_taken entry o zero w f l g = stays_self w f
-stays_taken entry o (suc k) w f l g = record { formed = world_taken_formed o (suc k) entry.addr w f l g; setup = setup_taken o (suc k) entry.addr w f l g }
+stays_taken : (entry : Sqe) (o k : ℕ) (w : WorldState) → WorldFormed w → entry.addr + k ≤ 65536 → IsSomeAnd (pipe_of w o) (GivesOut k) → Stays w (world_taken o k entry.addr w)
+stays_taken entry o k w f l g = record { formed = world_taken_formed o k entry.addr w f l g; setup = setup_taken o k entry.addr w f l g }
 
-stays_put : (entry : Sqe) (o k : ℕ) (w : WorldState) → WorldFormed w → IsSomeAnd (pipe_of w o) (TakesIn k) → Stays w (bytes_put entry o k w)
-stays_put entry o zero w f g = stays_self w f
-stays_put entry o (suc k) w f g = record { formed = world_put_formed o (suc k) entry.addr w f g; setup = setup_put o (suc k) entry.addr w }
+stays_put : (entry : Sqe) (o k : ℕ) (w : WorldState) → WorldFormed w → IsSomeAnd (pipe_of w o) (TakesIn k) → Stays w (world_put o k entry.addr w)
+stays_put entry o k w f g = record { formed = world_put_formed o k entry.addr w f g; setup = setup_put o k entry.addr w }
 
 -- whatever a request came to
 pub stays_after : (held : ℕ → Bool) (w : WorldState) (row : Row) (res : ℤ) (c : Choice) → WorldFormed w → PutsWithin (2 ^ 63) w → outcome_of held w row c ≡ Res res → Stays w (world_after row res w)

@@ -222,13 +222,12 @@ row_written held w row d s c res k o h i e g =
     (sym (ap (λ x. cond (passes_memory row.entry) (fixed (negsuc 13) c) (write_outcome row.entry (position_of (Some d)) (reader_behind held w (Some d)) (number_at w row.entry.addr) x c)) i) ∙ told held w row d Write c res k o h e g)
 
 -- bytes that were written, and the position behind them
-pub written_then : (entry : Sqe) (fd : ℕ) (d : DescriptorState) (k : ℕ) (w v x : WorldState) → (k ≡ 0 → ⊥) → v ≡ world_written d.object (offset_of entry (position_of (Some d))) k entry.addr w → x ≡ moved_on entry fd d.position k v → x ≡ bytes_written entry fd d k w
-written_then entry fd d zero w v x z h e = absurd (z refl)
-written_then entry fd d (suc k) w v x z h e = e ∙ ap (moved_on entry fd d.position (suc k)) h
+pub written_then : (entry : Sqe) (fd : ℕ) (d : DescriptorState) (k : ℕ) (w v x : WorldState) → v ≡ world_written d.object (offset_of entry (position_of (Some d))) k entry.addr w → x ≡ moved_on entry fd d.position k v → x ≡ bytes_written entry fd d k w
+written_then entry fd d k w v x h e = e ∙ ap (moved_on entry fd d.position k) h
 
-pub ok_written : {T E : Type 0} (entry : Sqe) (fd : ℕ) (d : DescriptorState) (k : ℕ) (w v x : WorldState) (r : Result T E) → (k ≡ 0 → ⊥) → v ≡ world_written d.object (offset_of entry (position_of (Some d))) k entry.addr w → OnOk r (x ≡ moved_on entry fd d.position k v) → OnOk r (x ≡ bytes_written entry fd d k w)
-ok_written entry fd d k w v x (Ok y) z h e = written_then entry fd d k w v x z h e
-ok_written entry fd d k w v x (Err y) z h e = e
+pub ok_written : {T E : Type 0} (entry : Sqe) (fd : ℕ) (d : DescriptorState) (k : ℕ) (w v x : WorldState) (r : Result T E) → v ≡ world_written d.object (offset_of entry (position_of (Some d))) k entry.addr w → OnOk r (x ≡ moved_on entry fd d.position k v) → OnOk r (x ≡ bytes_written entry fd d k w)
+ok_written entry fd d k w v x (Ok y) h e = written_then entry fd d k w v x h e
+ok_written entry fd d k w v x (Err y) h e = e
 
 pub some_bytes : (k : ℕ) → (k ≡ 0 → ⊥) → 0 < k
 some_bytes zero h = absurd (h refl)

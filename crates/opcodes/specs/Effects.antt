@@ -1,5 +1,5 @@
 -- What the end of a request does to memory, objects and descriptors (read(2), write(2), fsync(2), pipe(7), eventfd(2)).
-use Rattle.std.specs.Prelude.{ℕ, ℤ, pos, negsuc, zero, suc, ◌+◌, Option, Some, None, if◌then◌else◌}
+use Rattle.std.specs.Prelude.{ℕ, ℤ, pos, negsuc, ◌+◌, Option, Some, None, if◌then◌else◌}
 use Rattle.entries.specs.declared.entry.Sqe.{Sqe}
 use Rattle.entries.specs.declared.row.Row.{Row}
 use Rattle.model_files.specs.declared.descriptor.DescriptorState.{DescriptorState}
@@ -16,32 +16,21 @@ abbrev pub moved_on : Sqe → ℕ → Option ℕ → ℕ → WorldState → Worl
 moved_on entry fd None k w = w
 moved_on entry fd (Some position) k w = if is_at_position entry then world_at fd (position + k) w else w
 
--- k bytes come from a file, or go to it; none change nothing
+-- k bytes come from a file, or go to it
 abbrev pub bytes_read : Sqe → ℕ → DescriptorState → ℕ → WorldState → WorldState
-bytes_read entry fd d zero w = w
-bytes_read entry fd d (suc k) w = moved_on entry fd d.position (suc k) (world_read d.object (offset_of entry (position_of (Some d))) (suc k) entry.addr w)
+bytes_read entry fd d k w = moved_on entry fd d.position k (world_read d.object (offset_of entry (position_of (Some d))) k entry.addr w)
 
 abbrev pub bytes_written : Sqe → ℕ → DescriptorState → ℕ → WorldState → WorldState
-bytes_written entry fd d zero w = w
-bytes_written entry fd d (suc k) w = moved_on entry fd d.position (suc k) (world_written d.object (offset_of entry (position_of (Some d))) (suc k) entry.addr w)
-
--- k bytes come out of a pipe, or go into it; none change nothing
-abbrev pub bytes_taken : Sqe → ℕ → ℕ → WorldState → WorldState
-bytes_taken entry o zero w = w
-bytes_taken entry o (suc k) w = world_taken o (suc k) entry.addr w
-
-abbrev pub bytes_put : Sqe → ℕ → ℕ → WorldState → WorldState
-bytes_put entry o zero w = w
-bytes_put entry o (suc k) w = world_put o (suc k) entry.addr w
+bytes_written entry fd d k w = moved_on entry fd d.position k (world_written d.object (offset_of entry (position_of (Some d))) k entry.addr w)
 
 -- what a good result did through a descriptor, by how much its object held
 abbrev pub done_by : Sqe → Option Op → Option Stock → ℕ → DescriptorState → ℕ → WorldState → WorldState
 done_by entry (Some Fsync) (Some (File len)) fd d k w = world_synced d.object w
 done_by entry (Some Read) (Some (File len)) fd d k w = bytes_read entry fd d k w
-done_by entry (Some Read) (Some (Pipe filled capacity)) fd d k w = bytes_taken entry d.object k w
+done_by entry (Some Read) (Some (Pipe filled capacity)) fd d k w = world_taken d.object k entry.addr w
 done_by entry (Some Read) (Some (EventFd counter)) fd d k w = world_cleared d.object entry.addr w
 done_by entry (Some Write) (Some (File len)) fd d k w = bytes_written entry fd d k w
-done_by entry (Some Write) (Some (Pipe filled capacity)) fd d k w = bytes_put entry d.object k w
+done_by entry (Some Write) (Some (Pipe filled capacity)) fd d k w = world_put d.object k entry.addr w
 done_by entry (Some Write) (Some (EventFd counter)) fd d k w = world_added d.object (number_at w entry.addr) w
 done_by entry op stock fd d k w = w
 

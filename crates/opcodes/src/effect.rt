@@ -5,11 +5,11 @@ ghost use Rattle.model_files.specs.declared.descriptor.DescriptorState.{Descript
 ghost use Rattle.places.specs.View.{Keeps, named};
 ghost use Rattle.places.specs.declared.place.Place.{Place};
 ghost use Rattle.model_files.specs.Pipes.{GivesOut, TakesIn};
-ghost use Rattle.model_files.specs.Worlds.{world_owns, world_seen, world_added, world_cleared, file_of, pipe_of, counter_of, number_at, descriptor_of, OneSetup as OneWorldSetup, PutsWithin, WorldFormed};
+ghost use Rattle.model_files.specs.Worlds.{world_owns, world_seen, world_added, world_cleared, world_put, world_taken, file_of, pipe_of, counter_of, number_at, descriptor_of, OneSetup as OneWorldSetup, PutsWithin, WorldFormed};
 ghost use Rattle.opcodes.specs.declared.choice.Choice.{Choice};
 ghost use Rattle.opcodes.specs.declared.ending.Outcome.TheVariants.{Res};
 ghost use Rattle.opcodes.specs.Outcomes.{outcome_of, offset_of, position_of};
-ghost use Rattle.opcodes.specs.Effects.{world_after, bytes_read, bytes_written, bytes_taken, bytes_put, moved_on};
+ghost use Rattle.opcodes.specs.Effects.{world_after, bytes_read, bytes_written, moved_on};
 
 use crate::op::Op;
 use crate::results::{held_descriptor, is_at_position, offset_of, position_of};
@@ -156,7 +156,7 @@ fn take_bytes(
     requires there { IsSomeAnd (pipe_of world.old object) (GivesOut count) }
     requires in_memory { entry.now.addr + count ≤ 65536 }
     requires fresh { (p : Place) → named notes.old.made p ≡ None }
-    ensures ok { OnOk result (world.new ≡ bytes_taken entry.now object count world.old) }
+    ensures ok { OnOk result (world.new ≡ world_taken object count entry.now.addr world.old) }
     ensures setup { OneWorldSetup world.old world.new }
     ensures keeps { Keeps world_owns (world_seen world.old) (world_seen world.new) notes.old.made notes.new.made }
 {
@@ -178,7 +178,7 @@ fn put_bytes(
     requires room { IsSomeAnd (pipe_of world.old object) (TakesIn count) }
     requires in_memory { entry.now.addr + count ≤ 65536 }
     requires fresh { (p : Place) → named notes.old.made p ≡ None }
-    ensures ok { OnOk result (world.new ≡ bytes_put entry.now object count world.old) }
+    ensures ok { OnOk result (world.new ≡ world_put object count entry.now.addr world.old) }
     ensures setup { OneWorldSetup world.old world.new }
     ensures keeps { Keeps world_owns (world_seen world.old) (world_seen world.new) notes.old.made notes.new.made }
 {

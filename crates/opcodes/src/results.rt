@@ -1,5 +1,5 @@
 //! What a request comes to as it ends (read(2), write(2), fsync(2), poll(2)).
-ghost use Rattle.std.specs.Prelude.{◌≡◌, ◌+◌, ◌<◌, ◌≤◌, ◌^◌, IfSome, false, length, pos};
+ghost use Rattle.std.specs.Prelude.{◌≡◌, ◌+◌, ◌<◌, ◌≤◌, ◌^◌, IfSome, false, pos};
 ghost use Rattle.model_files.specs.Ends.{mask_behind};
 ghost use Rattle.model_files.specs.Holders.{is_held};
 ghost use Rattle.model_files.specs.Worlds.{StockFits, number_at};
@@ -16,7 +16,6 @@ use model_files::{DescriptorState, Held, Stock, World};
 /// What an issued request comes to, by which descriptors requests under way hold. It takes no memory, and
 /// isn't asked about a cancel or a removal, which depends on the other requests.
 pub fn outcome(world: &World, held: &Held, row: &Row, choice: Choice) -> Outcome
-    requires memory { length world.now.memory ≡ 65536 }
     ensures { result ≡ outcome_of (is_held held.now) world.now row.now choice }
 {
     let (entry, descriptor) = (&row.entry, held_descriptor(world, row));
@@ -217,7 +216,6 @@ fn write_outcome(
     descriptor: Option<DescriptorState>,
     choice: Choice,
 ) -> Outcome
-    requires memory { length world.now.memory ≡ 65536 }
     requires within { entry.now.addr + entry.now.len ≤ 65536 }
     ensures { result ≡ write_outcome entry.now (position_of descriptor) (reader_behind (is_held held.now) world.now descriptor) (number_at world.now entry.now.addr) (stock_behind world.now descriptor) choice }
 {

@@ -1,5 +1,5 @@
 //! What transfers of pipes and eventfds come to (pipe(7), eventfd(2)).
-ghost use Rattle.std.specs.Prelude.{◌≡◌, ◌+◌, ◌≤◌, length, min, pos};
+ghost use Rattle.std.specs.Prelude.{◌≡◌, ◌+◌, ◌≤◌, min, pos};
 ghost use Rattle.model_files.specs.Worlds.{number_at};
 ghost use Rattle.opcodes.specs.Outcomes.{pipe_read, pipe_written, waits_for_room, event_read, event_written};
 
@@ -88,7 +88,6 @@ pub(crate) fn event_read(len: u32, counter: u64, choice: Choice) -> Outcome
 
 /// A WRITE waits until the sum is at most 2^64 - 2.
 pub(crate) fn event_written(world: &World, entry: &Sqe, counter: u64, choice: Choice) -> Outcome
-    requires memory { length world.now.memory ≡ 65536 }
     requires within { entry.now.addr + entry.now.len ≤ 65536 }
     ensures { result ≡ event_written entry.now.len counter (number_at world.now entry.now.addr) choice }
 {

@@ -8,6 +8,3 @@ pub mod laws;
 
 pub use backlog::Backlog;
 pub use delivering::{flush, post_all};
-
-#[cfg(test)]
-mod tests;

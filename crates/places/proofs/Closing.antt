@@ -7,7 +7,7 @@ use Rattle.places.specs.declared.place.Place.{Place}
 use Rattle.places.specs.declared.value.Value.{Value}
 use Rattle.places.specs.declared.value.Change.{Change}
 use Rattle.places.specs.Places.{same_place}
-use Rattle.places.specs.View.{View, named, LeadsBack, Exact, NamesOnce}
+use Rattle.places.specs.View.{View, named, undo, LeadsBack, Exact, NamesOnce}
 use Rattle.places.proofs.SamePlace.{same_place_is}
 
 -- what is left of a note, by what stands there now
@@ -72,3 +72,10 @@ exact_rest old v cs ds b r = record { differs = λ p x e. told p x (named cs p) 
     untold p None r b e = sym b
     untold p (Some y) (inl k) b e = absurd cc
     untold p (Some y) (inr k) b e = sym b ∙ k.1
+
+-- What notes that lead back leave is just where the old view differs.
+pub exact_led : (old v : View) (cs ds : List Change) → LeadsBack old v cs → Exact (undo v cs) v ds → Exact old v ds
+exact_led old v cs ds b h = record {
+  differs = λ p x e. let d = h.differs p x e in (d.0 ∙ b p, λ k. d.1 (b p ∙ k));
+  same = λ p e. sym (b p) ∙ h.same p e;
+}

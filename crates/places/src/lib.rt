@@ -9,8 +9,6 @@ pub mod part;
 pub mod place;
 pub mod record;
 pub mod recorder;
-#[cfg(test)]
-mod tests;
 pub mod text;
 pub mod value;
 

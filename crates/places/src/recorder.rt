@@ -2,7 +2,7 @@
 ghost use Rattle.std.specs.Prelude.{◌≡◌, ◌+◌, ◌<◌, ◌≤◌, ◌^◌, ◌++◌, [], ℕ, length, None, Some, IsOk, OnOk, OnErr, option_map, true, is_some, ◌||◌};
 ghost use Rattle.places.specs.Places.{is_number, is_other, InLimits};
 ghost use Rattle.places.specs.Slots.{value_of};
-ghost use Rattle.places.specs.View.{View, Noted, Exact, LeadsBack, named};
+ghost use Rattle.places.specs.View.{Noted, Exact, named, undo};
 ghost use Rattle.places.specs.Notes.{Notes, room_for, Spends, HasAsMuch};
 ghost use Rattle.places.specs.Runs.{place_in, NotedBytes};
 ghost use Rattle.places.specs.declared.value.Value.TheVariants.{Number, Completed, Requested};
@@ -180,7 +180,8 @@ impl Recorder {
         ensures ok { OnOk result (Noted self.old.made self.new.made place old) }
         ensures err { OnErr result (self.new.made ≡ self.old.made) }
         ensures there { 0 < room_for self.old place → InLimits place → IsOk result }
-        ensures spends { Spends self.old self.new place }
+        ensures spends { OnOk result (Spends self.old self.new place) }
+        ensures kept { OnErr result (HasAsMuch self.old self.new) }
     {
         if let Some(Value::Number(number)) = old {
             if place.is_number() {
@@ -204,7 +205,8 @@ impl Recorder {
         ensures ok { OnOk result (Noted self.old.made self.new.made place old) }
         ensures err { OnErr result (self.new.made ≡ self.old.made) }
         ensures there { 0 < room_for self.old place → InLimits place → IsOk result }
-        ensures spends { Spends self.old self.new place }
+        ensures spends { OnOk result (Spends self.old self.new place) }
+        ensures kept { OnErr result (HasAsMuch self.old self.new) }
     {
         if !place.is_other() {
             return self.note_other(place, old);
@@ -224,13 +226,14 @@ impl Recorder {
         ensures ok { OnOk result (Noted self.old.made self.new.made place (option_map value_of old)) }
         ensures err { OnErr result (self.new.made ≡ self.old.made) }
         ensures there { 0 < self.old.others → InLimits place → IsOk result }
-        ensures spends { Spends self.old self.new place }
+        ensures spends { OnOk result (Spends self.old self.new place) }
+        ensures kept { OnErr result (HasAsMuch self.old self.new) }
     {
         if self.rest.names(place) {
             return Ok(());
         }
-        self.room.spend_other();
         self.rows.note(RowNote::of_other(place, old))?;
+        self.room.spend_other();
         Ok(())
     }
 
@@ -240,13 +243,14 @@ impl Recorder {
         ensures ok { OnOk result (Noted self.old.made self.new.made place (Some (Number old))) }
         ensures err { OnErr result (self.new.made ≡ self.old.made) }
         ensures there { 0 < self.old.numbers → InLimits place → IsOk result }
-        ensures spends { Spends self.old self.new place }
+        ensures spends { OnOk result (Spends self.old self.new place) }
+        ensures kept { OnErr result (HasAsMuch self.old self.new) }
     {
         if self.rest.names(place) {
             return Ok(());
         }
-        self.room.spend_number();
         self.numbers.note(NumberNote::of(place, old))?;
+        self.room.spend_number();
         Ok(())
     }
 
@@ -255,13 +259,14 @@ impl Recorder {
         ensures ok { OnOk result (Noted self.old.made self.new.made (Completion slot) (Some (Completed old))) }
         ensures err { OnErr result (self.new.made ≡ self.old.made) }
         ensures there { 0 < self.old.completions → slot < 8192 → IsOk result }
-        ensures spends { Spends self.old self.new (Completion slot) }
+        ensures spends { OnOk result (Spends self.old self.new (Completion slot)) }
+        ensures kept { OnErr result (HasAsMuch self.old self.new) }
     {
         if self.rest.names(Place::Completion(slot)) {
             return Ok(());
         }
-        self.room.spend_completion();
         self.completions.note(CompletionNote { slot, old })?;
+        self.room.spend_completion();
         Ok(())
     }
 
@@ -270,13 +275,14 @@ impl Recorder {
         ensures ok { OnOk result (Noted self.old.made self.new.made (Request row) (option_map Requested old)) }
         ensures err { OnErr result (self.new.made ≡ self.old.made) }
         ensures there { 0 < self.old.others → row < 65536 → IsOk result }
-        ensures spends { Spends self.old self.new (Request row) }
+        ensures spends { OnOk result (Spends self.old self.new (Request row)) }
+        ensures kept { OnErr result (HasAsMuch self.old self.new) }
     {
         if self.rest.names(Place::Request(row)) {
             return Ok(());
         }
-        self.room.spend_other();
         self.rows.note(RowNote::of(row, old))?;
+        self.room.spend_other();
         Ok(())
     }
 
@@ -296,17 +302,20 @@ impl Recorder {
         ensures ok { OnOk result (Noted self.old.made self.new.made place old) }
         ensures err { OnErr result (self.new.made ≡ self.old.made) }
         ensures there { 0 < room_for self.old place → IsOk result }
-        ensures spends { Spends self.old self.new place }
+        ensures spends { OnOk result (Spends self.old self.new place) }
+        ensures kept { OnErr result (HasAsMuch self.old self.new) }
     {
         if self.is_noted(place) {
             return Ok(());
         }
-        self.room.spend(place);
-        let Some(held) = self.room.held.checked_add(1) else {
+        let mut room = self.room;
+        room.spend(place);
+        let Some(held) = room.held.checked_add(1) else {
             return Err(AllocError);
         };
         self.rest.room(self.alloc, held)?;
         self.rest.push(place, old);
+        self.room = room;
         Ok(())
     }
 
@@ -323,14 +332,14 @@ impl Recorder {
 
     /// Drops the notes whose place has its old value, and keeps the others. It takes no memory.
     pub fn close<A: At>(self, whole: &A) -> Record
-        ensures { (old : View) → LeadsBack old (A.seen whole.now) self.made → Exact old (A.seen whole.now) result }
+        ensures { Exact (undo (A.seen whole.now) self.made) (A.seen whole.now) result }
     {
         self.close_with_marks(whole).0
     }
 
     /// The same, with what the next recorder can use again.
     pub fn close_with_marks<A: At>(self, whole: &A) -> (Record, Marks)
-        ensures { (old : View) → LeadsBack old (A.seen whole.now) self.made → Exact old (A.seen whole.now) result.0 }
+        ensures { Exact (undo (A.seen whole.now) self.made) (A.seen whole.now) result.0 }
     {
         let Recorder {
             numbers,

@@ -1,5 +1,5 @@
 //! The completion ring.
-ghost use Rattle.std.specs.Prelude.{◌≡◌, ◌==◌, ◌↔◌, ◌+◌, ◌%◌, ◌^◌, ◌<◌, ◌≤◌, ◌⊎◌, ◌∷◌, ◌++◌, [], nat_lt, length, slice_get, slice_set, IfOk, None};
+ghost use Rattle.std.specs.Prelude.{◌≡◌, ◌==◌, ◌↔◌, ◌+◌, ◌%◌, ◌^◌, ◌<◌, ◌≤◌, ◌⊎◌, ◌∷◌, ◌++◌, [], nat_lt, length, slice_get, slice_set, IfOk, IsFalse, None};
 ghost use Rattle.std.specs.Int.{IsNextPowerOfTwo};
 ghost use Rattle.places.specs.declared.place.Place.{Place};
 ghost use Rattle.places.specs.View.{Keeps, named};
@@ -141,11 +141,11 @@ impl ComRing {
         self.waiting() == 0
     }
 
-    /// Whether each slot waits to be reaped.
+    /// Whether no slot is free.
     pub fn is_full(&self) -> bool
-        ensures { result ≡ (waiting self.now.head self.now.tail == length self.now.slots) }
+        ensures { IsFalse result ↔ (waiting self.now.head self.now.tail < length self.now.slots) }
     {
-        self.waiting() == self.size()
+        self.waiting() >= self.size()
     }
 
     /// Whether a completion can be posted.

@@ -15,6 +15,3 @@ pub use flag::RingFlag;
 pub use refusal::RingRefusal;
 pub use sub_ring::SubRing;
 pub use taken::Taken;
-
-#[cfg(test)]
-mod tests;

@@ -7,3 +7,7 @@ pub enum RingRefusal {
     Size = 1,
     Memory = 2,
 }
+
+const _: () = prove!(RingRefusal::Size as u32 == 1);
+
+const _: () = prove!(RingRefusal::Memory as u32 == 2);

@@ -1,5 +1,5 @@
 //! The submission ring.
-ghost use Rattle.std.specs.Prelude.{◌≡◌, ◌==◌, ◌↔◌, ◌+◌, ◌%◌, ◌^◌, ◌<◌, ◌≤◌, ◌⊎◌, ◌∷◌, ◌++◌, [], nat_lt, length, drop, slice_get, slice_set, IfOk, OnOk, OnErr, None};
+ghost use Rattle.std.specs.Prelude.{◌≡◌, ◌==◌, ◌↔◌, ◌+◌, ◌%◌, ◌^◌, ◌<◌, ◌≤◌, ◌⊎◌, ◌∷◌, ◌++◌, [], nat_lt, length, drop, slice_get, slice_set, IfOk, OnOk, OnErr, IsFalse, None};
 ghost use Rattle.std.proofs.Math.ListN.{replicate};
 ghost use Rattle.std.specs.Int.{IsNextPowerOfTwo};
 ghost use Rattle.places.specs.declared.place.Place.{Place};
@@ -204,11 +204,11 @@ impl SubRing {
         self.waiting() == 0
     }
 
-    /// Whether each array word waits.
+    /// Whether no array word is free.
     pub fn is_full(&self) -> bool
-        ensures { result ≡ (waiting self.now.head self.now.tail == length self.now.array) }
+        ensures { IsFalse result ↔ (waiting self.now.head self.now.tail < length self.now.array) }
     {
-        self.waiting() == self.size()
+        self.waiting() >= self.size()
     }
 
     /// The i-th array word that waits, from 0.

@@ -9,8 +9,6 @@ mod numbered;
 mod owned;
 mod same;
 pub mod setup;
-#[cfg(test)]
-mod tests;
 
 pub use event::{Event, Refusal};
 pub use holdings::{is_descriptor, is_name};

@@ -60,6 +60,12 @@ pub enum SetupRefusal {
     Memory = 3,
 }
 
+const _: () = prove!(SetupRefusal::RingSize as u32 == 1);
+
+const _: () = prove!(SetupRefusal::Limit as u32 == 2);
+
+const _: () = prove!(SetupRefusal::Memory as u32 == 3);
+
 impl Setup {
     /// The same setup again.
     pub fn copy(&self, alloc: Global) -> Result<Setup, AllocError>

@@ -14,8 +14,6 @@ mod number;
 mod object;
 mod parts;
 mod reading;
-#[cfg(test)]
-mod tests;
 mod threads;
 
 pub use fault::{Key, Path, ScriptFault};

@@ -5,6 +5,3 @@ mod noting;
 pub mod poller;
 
 pub use poller::Poller;
-
-#[cfg(test)]
-mod tests;

@@ -30,9 +30,13 @@ is_bad row res =
 
 -- ---- the four filters
 
--- a list of endings, and those that a test adds to it: a row that is listed keeps its result
+-- a list of endings, and the rows that are given a result: one that is listed keeps its own
 abbrev pub joined : List Row → (ℕ → Row → Option ℤ) → List Ending → List Ending
 joined rows f es = endings (λ r row. or_else (result_in es r) (f r row)) rows
+
+-- a list of endings, and with a result the rows that pass a test: one that is listed keeps its own
+abbrev pub adding : List Row → (ℕ → Row → Bool) → ℤ → List Ending → List Ending
+adding rows test res es = joined rows (λ r row. given (test r row) res) es
 
 -- whether a listed row, before a row and of its unit, is soft-linked and ends badly
 abbrev pub severs_by : ℕ → Row → Option Row → Ending → Bool
@@ -56,15 +60,15 @@ first_listed rows direct = endings (λ r row. result_in direct r) rows
 
 -- and the later rows of a unit of which a soft-linked row ended badly
 abbrev pub with_severed : List Row → List Ending → List Ending
-with_severed rows es = joined rows (λ r row. given (is_severed rows es r row) ecanceled) es
+with_severed rows es = adding rows (is_severed rows es) ecanceled es
 
 -- and the TIMEOUTs whose count of completions is met
 abbrev pub with_met : List Row → ℕ → List Ending → List Ending
-with_met rows counted es = joined rows (λ r row. given (is_met (counted + counted_in rows es) row) (pos 0)) es
+with_met rows counted es = adding rows (λ r row. is_met (counted + counted_in rows es) row) (pos 0) es
 
 -- and the guards whose target ends
 abbrev pub with_guards : List Row → List Ending → List Ending
-with_guards rows es = joined rows (λ r row. given (guards_listed es row) ecanceled) es
+with_guards rows es = adding rows (λ r row. guards_listed es row) ecanceled es
 
 -- the rows that end, in the order of their numbers
 abbrev pub fall_of : List Row → ℕ → List Ending → List Ending

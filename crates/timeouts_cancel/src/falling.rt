@@ -1,6 +1,6 @@
 //! Rows end with those that a step ends of itself (io_uring_enter(2)).
 ghost use Rattle.std.specs.Prelude.{◌≡◌, ◌≢◌, ◌&&◌, ◌+◌, ◌^◌, ◌<◌, ◌≤◌, ℕ, IfOk, IfSome, None, Some, length, slice_get};
-ghost use Rattle.links_drains.specs.Links.{is_soft_linked as has_soft_link, Chained};
+ghost use Rattle.links_drains.specs.Links.{is_soft_linked as has_soft_link};
 ghost use Rattle.links_drains.specs.Endings.{Ending, Direct};
 ghost use Rattle.timeouts_cancel.specs.Falls.{fall_of, first_listed, with_severed, is_bad, GuardsStand};
 ghost use Rattle.timeouts_cancel.specs.Walks.{Walked, Sweeping};
@@ -22,12 +22,11 @@ pub fn fall(
     direct: &[(u32, i32)],
 ) -> Result<Vec<(u32, i32)>, AllocError>
     requires direct { Direct table.now direct.now }
-    requires chained { Chained table.now }
     requires guards { GuardsStand table.now }
-    requires few { length table.now ≤ 65536 }
     requires counted { counted ≤ 65536 }
     ensures { IfOk result (λ endings. endings.items ≡ fall_of table.now counted direct.now) }
 {
+    prove!(table.len() <= 65536);
     let severed = with_severed(table, direct)?;
     let total = counted + count(table, &severed);
     let met = met(table, total)?;
@@ -40,7 +39,6 @@ pub fn fall(
 // other row.
 fn with_severed(table: &Table, direct: &[(u32, i32)]) -> Result<Vec<(u32, i32)>, AllocError>
     requires direct { Direct table.now direct.now }
-    requires chained { Chained table.now }
     requires few { length table.now ≤ 65536 }
     ensures { IfOk result (λ endings. endings.items ≡ with_severed table.now (first_listed table.now direct.now)) }
 {
@@ -60,7 +58,6 @@ fn end_one(
     endings: &mut Vec<(u32, i32)>,
 ) -> Result<usize, AllocError>
     requires direct { Direct table.now direct.now }
-    requires chained { Chained table.now }
     requires few { length table.now ≤ 65536 }
     requires there { at < length direct.now }
     requires walked { (k : ℕ) × Walked table.now direct.now k at endings.old.items }
@@ -88,8 +85,6 @@ fn sever(
     endings: &mut Vec<(u32, i32)>,
 ) -> Result<usize, AllocError>
     requires direct { Direct table.now direct.now }
-    requires chained { Chained table.now }
-    requires few { length table.now ≤ 65536 }
     requires within { from ≤ length table.now }
     requires sweeping { Sweeping table.now direct.now from at endings.old.items unit }
     ensures walked { IfOk result (λ next. (k : ℕ) × Walked table.now direct.now k next endings.new.items) }

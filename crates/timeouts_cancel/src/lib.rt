@@ -5,11 +5,7 @@ mod falling;
 mod guards;
 pub mod laws;
 mod matching;
-#[cfg(test)]
-mod matching_tests;
 mod merging;
-#[cfg(test)]
-mod tests;
 mod timers;
 
 pub use falling::fall;

@@ -14,3 +14,4 @@ pub mod SetupLaws
 pub mod Trimming
 pub mod Written
 pub mod SecondForm
+pub mod Alike

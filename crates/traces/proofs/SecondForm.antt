@@ -1,5 +1,5 @@
 -- Traces of the second form: what is read is spelled so, what is spelled so is read, and the first fault.
-use Rattle.std.proofs.Common.{◌≡◌, ℕ, ◌<◌, ◌≤◌, true, min, List, [], ◌∷◌, ◌++◌, length, take, drop, get_or, Result, Ok, Err, refl, sym, ap, subst, ◌∙◌, inl, inr, ◌⊎◌, arith}
+use Rattle.std.proofs.Common.{◌≡◌, ℕ, ◌<◌, ◌≤◌, true, min, List, [], ◌∷◌, ◌++◌, length, take, drop, get_or, None, Result, Ok, Err, refl, sym, ap, subst, ◌∙◌, inl, inr, ◌⊎◌, arith}
 use Rattle.std.proofs.lemmas.List.{take-append-drop, drop_all, append_assoc, length-append, take_at, take_all}
 use Rattle.std.specs.Prelude.{IfOk, IfErr, MatchResult}
 use Rattle.std.specs.Global.{Vec}
@@ -15,12 +15,14 @@ use Rattle.traces.specs.declared.fault.TraceFault.TheVariants.{Magic, Truncated,
 use Rattle.traces.specs.Spots.{Spot}
 use Rattle.traces.specs.Spelling.{counted_bytes, trace_bytes, magic, Fits, has_transfer, AreEvents, IsTrace}
 use Rattle.traces.specs.Faults.{BeginsAs, IsCountedFault, IsFault}
-use Rattle.traces.specs.Limits.{keeps_ranges, Widths}
+use Rattle.scenario.specs.Setups.{setup_refusal}
+use Rattle.traces.specs.Limits.{Widths}
 use Rattle.traces.specs.Setups.{setup_bytes, magic2, trace2_bytes, plain, IsTrace2}
 use Rattle.traces.specs.Reading.{number_in, setup_at, behind_magic, IsBodyFault, IsFault2}
 use Rattle.traces.proofs.Taking.{IsBytes, IsBytes-drop, ok_is, spot}
 use Rattle.traces.proofs.Traces.{same_trace, no_counted_fault, begins}
 use Rattle.traces.proofs.SetupLaws.{Spelled, setup_takes, setup_again}
+use Rattle.traces.proofs.Startable.{startable, starting}
 use Rattle.traces.proofs.Trimming.{plain_spelled}
 
 -- the fault of the events behind a setup
@@ -59,7 +61,7 @@ body_spelled bytes setup events fits le h body =
     let t = setup_takes (behind_magic bytes) setup body.0 (IsBytes-drop 8 bytes fits) body.1 in
     record {
       plain = t.1.plain;
-      ranges = t.1.ranges;
+      starts = starting setup t.1.ranges;
       widths = t.1.widths;
       are_events = body.3;
       spelled = begun bytes le h ∙ ap (λ (xs : List ℕ). magic2 ++ xs) (t.0.parts ∙ ap (λ (xs : List ℕ). setup_bytes setup ++ xs) body.2);
@@ -78,7 +80,7 @@ is_fault bytes (Err fault) h f = elim f [ inl e ↦ inl e | inr g ↦ inr (inr (
 -- what is spelled so is read
 again2 : (setup : Setup) (events : List Event) (bytes : List ℕ) → IsTrace2 setup events bytes → (o : ℕ) × (setup_at (behind_magic bytes) ≡ Ok (setup, spot o (counted_bytes events)))
 again2 setup events bytes h =
-    let spelled : Spelled setup = record { plain = h.plain; ranges = h.ranges; widths = h.widths } in
+    let spelled : Spelled setup = record { plain = h.plain; ranges = startable setup h.starts; widths = h.widths } in
     let a = setup_again 8 setup (counted_bytes events) spelled in
     (a.0, ap (λ (xs : List ℕ). setup_at (behind_magic xs)) h.spelled ∙ a.1)
 
@@ -98,7 +100,7 @@ same_trace2 a b d e bytes f g =
 begins2 : (setup : Setup) (events : List Event) (bytes : List ℕ) → IsTrace2 setup events bytes → BeginsAs magic2 bytes
 begins2 setup events bytes h = subst (BeginsAs magic2) (sym h.spelled) (begins magic2 (setup_bytes setup ++ counted_bytes events) refl)
 
-no_fault2 : (setup : Setup) (events : List Event) (bytes : List ℕ) (fault : TraceFault) → IsTrace2 setup events bytes → IsFault2 bytes fault → ⊥
+pub no_fault2 : (setup : Setup) (events : List Event) (bytes : List ℕ) (fault : TraceFault) → IsTrace2 setup events bytes → IsFault2 bytes fault → ⊥
 no_fault2 setup events bytes fault h f =
     elim f [
       | inl other ↦ other.0 (begins2 setup events bytes h)
@@ -116,11 +118,11 @@ only_answer2 bytes (Err f) found fault setup events h =
     ]
 
 -- what is written
-pub is_written : (setup : Setup) (events : List Event) (out : List ℕ) → keeps_ranges setup ≡ true → Widths setup → AreEvents events
+pub is_written : (setup : Setup) (events : List Event) (out : List ℕ) → setup_refusal setup ≡ None → Widths setup → AreEvents events
     → out ≡ trace2_bytes (plain setup) events → IsTrace2 (plain setup) events out
-is_written setup events out ranges widths are spelled =
-    let p = plain_spelled setup ranges widths in
-    record { plain = p.plain; ranges = p.ranges; widths = p.widths; are_events = are; spelled = spelled }
+is_written setup events out starts widths are spelled =
+    let p = plain_spelled setup (startable setup starts) widths in
+    record { plain = p.plain; starts = starting (plain setup) p.ranges; widths = p.widths; are_events = are; spelled = spelled }
 
 pub three_written : (a b c : List ℕ) (one two three : List ℕ) → one ≡ a → two ≡ one ++ b → three ≡ two ++ c → three ≡ a ++ (b ++ c)
 three_written a b c one two three e f g = g ∙ ap (λ (t : List ℕ). t ++ c) (f ∙ ap (λ (t : List ℕ). t ++ b) e) ∙ append_assoc a b c

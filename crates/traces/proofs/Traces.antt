@@ -120,7 +120,7 @@ begins text rest n =
     let whole : min 8 (length (text ++ rest)) ≡ 8 = omega (arith, length-append text rest) in
     rw whole (take_at text rest 8 n ∙ sym (take_all 8 text (omega arith)))
 
-no_trace_fault : (es : List Event) (fault : TraceFault) → AreEvents es → IsFault (trace_bytes es) fault → ⊥
+pub no_trace_fault : (es : List Event) (fault : TraceFault) → AreEvents es → IsFault (trace_bytes es) fault → ⊥
 no_trace_fault es Magic h g = g (begins magic (counted_bytes es) refl)
 no_trace_fault es Truncated h g = no_counted_fault es Truncated h g.1
 no_trace_fault es Count h g = no_counted_fault es Count h g.1

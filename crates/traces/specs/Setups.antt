@@ -14,7 +14,8 @@ use Rattle.scenario.specs.declared.setup.Instruction.TheVariants.{Put, Push, Sto
 use Rattle.scenario.specs.declared.setup.Setup.{Setup}
 use Rattle.scenario.specs.declared.event.Event.{Event}
 use Rattle.traces.specs.Spelling.{counted_bytes, AreEvents}
-use Rattle.traces.specs.Limits.{end_number, is_size, keeps_ranges, Widths}
+use Rattle.scenario.specs.Setups.{setup_refusal}
+use Rattle.traces.specs.Limits.{end_number, is_size, Widths}
 
 -- how many, in 32 bits, and the items in a row
 abbrev pub list_bytes : {A : Type 0} → (A → List ℕ) → List A → List ℕ
@@ -101,10 +102,10 @@ pub record IsPlain (s : Setup) : Type 0 where
   pub completions : (n : ℕ) × (s.cq ≡ Some n) × IsTrue (is_size 8192 n)
   pub memory : IsTrue (is_trimmed s.memory)
 
--- The bytes are the trace of the setup and the events.
+-- The bytes are the trace of a setup that a run can start from, and of the events.
 pub record IsTrace2 (setup : Setup) (events : List Event) (bytes : List ℕ) : Type 0 where
   pub plain : IsPlain setup
-  pub ranges : IsTrue (keeps_ranges setup)
+  pub starts : setup_refusal setup ≡ None
   pub widths : Widths setup
   pub are_events : AreEvents events
   pub spelled : bytes ≡ trace2_bytes setup events

@@ -6,7 +6,6 @@ ghost use Rattle.scenario.specs.declared.setup.Setup.{Setup};
 ghost use Rattle.scenario.specs.Setups.{setup_refusal};
 ghost use Rattle.traces.specs.declared.fault.TraceFault.{TraceFault};
 ghost use Rattle.traces.specs.Faults.{IsFault};
-ghost use Rattle.traces.specs.Limits.{keeps_ranges};
 ghost use Rattle.traces.specs.Reading.{IsFault2};
 ghost use Rattle.traces.specs.Setups.{plain, IsTrace2};
 ghost use Rattle.traces.specs.Spelling.{most_events, has_transfer, IsTrace};
@@ -28,6 +27,18 @@ pub fn one_setup_and_events_of_a_trace()
     ensures { (a b : Setup) (d e : List Event) (bytes : List ℕ) → IsTrace2 a d bytes → IsTrace2 b e bytes → (a ≡ b) × (d ≡ e) }
 {}
 
+/// Bytes that are no trace have one first fault, in either form.
+pub fn one_fault_of_bytes()
+    ensures first { (bytes : List ℕ) (one other : TraceFault) → IsFault bytes one → IsFault bytes other → one ≡ other }
+    ensures second { (bytes : List ℕ) (one other : TraceFault) → IsFault2 bytes one → IsFault2 bytes other → one ≡ other }
+{}
+
+/// A trace has none, in either form.
+pub fn no_fault_of_a_trace()
+    ensures first { (events : List Event) (bytes : List ℕ) (fault : TraceFault) → IsTrace events bytes → ¬ (IsFault bytes fault) }
+    ensures second { (setup : Setup) (events : List Event) (bytes : List ℕ) (fault : TraceFault) → IsTrace2 setup events bytes → ¬ (IsFault2 bytes fault) }
+{}
+
 /// What is wrong with a trace of the first form, read as one of the second, is how it begins, and nothing else.
 pub fn first_form_is_not_second()
     ensures wrong { (events : List Event) (bytes : List ℕ) → IsTrace events bytes → IsFault2 bytes TraceFault.Magic }
@@ -38,16 +49,6 @@ pub fn first_form_is_not_second()
 pub fn second_form_is_not_first()
     ensures wrong { (setup : Setup) (events : List Event) (bytes : List ℕ) → IsTrace2 setup events bytes → IsFault bytes TraceFault.Magic }
     ensures only { (setup : Setup) (events : List Event) (bytes : List ℕ) (fault : TraceFault) → IsTrace2 setup events bytes → IsFault bytes fault → fault ≡ TraceFault.Magic }
-{}
-
-/// A setup that a run can start from has a trace.
-pub fn startable_setups_have_traces()
-    ensures { (s : Setup) → setup_refusal s ≡ None → IsTrue (keeps_ranges s) }
-{}
-
-/// A run can start from a setup that a trace has.
-pub fn setups_of_traces_start()
-    ensures { (s : Setup) → IsTrue (keeps_ranges s) → setup_refusal s ≡ None }
 {}
 
 /// Events that are written are read again, unless memory runs out.
@@ -68,7 +69,7 @@ pub fn setup_and_events_again(
     setup: &Setup,
     events: &[Event],
 ) -> Result<(Setup, Vec<Event>), TraceFault>
-    requires ranges { IsTrue (keeps_ranges setup.now) }
+    requires starts { setup_refusal setup.now ≡ None }
     requires few { length events.now ≤ most_events }
     requires transfers { IsTrue (list_all has_transfer events.now) }
     ensures setup { IfOk result (λ again. again.0 ≡ plain setup.now) }

@@ -46,10 +46,3 @@ pub use fault::TraceFault;
 pub use reading::read_trace;
 pub use second::{migrate, read_trace2, write_trace2};
 pub use writing::write_trace;
-
-#[cfg(test)]
-mod full_tests;
-#[cfg(test)]
-mod second_tests;
-#[cfg(test)]
-mod tests;

@@ -1,5 +1,5 @@
 //! Traces read as events.
-ghost use Rattle.std.specs.Prelude.{◌≡◌, ◌*◌, ◌≤◌, ◌++◌, ◌⊎◌, List, length, take, drop, min, IfOk, IfErr, MatchResult};
+ghost use Rattle.std.specs.Prelude.{◌≡◌, ◌*◌, ◌<◌, ◌≤◌, ◌++◌, ◌⊎◌, List, length, take, drop, min, IfOk, IfErr, MatchResult};
 ghost use Rattle.std.specs.List.{flat_map, AllByRecursion};
 ghost use Rattle.scenario.specs.declared.event.Event.{Event};
 ghost use Rattle.traces.specs.Spelling.{event_bytes, counted_bytes, magic, most_events, Fits, AreEvents, IsTrace};
@@ -41,6 +41,8 @@ pub(crate) fn read_counted(alloc: Global, bytes: &[u8]) -> Result<Vec<Event>, Tr
     ensures events { IfOk result (λ events. AreEvents events.items) }
     ensures spelled { IfOk result (λ events. bytes.now ≡ counted_bytes events.items) }
     ensures fault { IfErr result (λ fault. (fault ≡ TraceFault.Memory) ⊎ IsCountedFault bytes.now fault) }
+    ensures cut { length bytes.now < 4 → result ≡ Err TraceFault.Truncated }
+    ensures count { IsCountedFault bytes.now TraceFault.Count → result ≡ Err TraceFault.Count }
 {
     if bytes.len() < 4 {
         return Err(TraceFault::Truncated);
@@ -57,6 +59,8 @@ fn read_first(alloc: Global, bytes: &[u8]) -> Result<Vec<Event>, TraceFault>
     ensures found { IfOk result (λ events. IsTrace events.items bytes.now) }
     ensures fault { IfErr result (λ fault. (fault ≡ TraceFault.Memory) ⊎ IsFault bytes.now fault) }
     ensures other { (BeginsAs magic bytes.now → ⊥) → result ≡ Err TraceFault.Magic }
+    ensures cut { BeginsAs magic bytes.now → length bytes.now < 12 → result ≡ Err TraceFault.Truncated }
+    ensures count { IsFault bytes.now TraceFault.Count → result ≡ Err TraceFault.Count }
 {
     let there = MAGIC.len().min(bytes.len());
     if bytes[..there] != MAGIC[..there] {
@@ -77,8 +81,10 @@ pub fn read_trace(alloc: Global, bytes: &[u8]) -> Result<Vec<Event>, TraceFault>
     // Which fault it is.
     ensures fault { IfErr result (λ fault. (fault ≡ TraceFault.Memory) ⊎ IsFault bytes.now fault) }
 
-    // Bytes that begin otherwise are refused without memory.
+    // Bytes that begin otherwise, that end before the count, or that count too many are refused without memory.
     ensures other { (BeginsAs magic bytes.now → ⊥) → result ≡ Err TraceFault.Magic }
+    ensures cut { BeginsAs magic bytes.now → length bytes.now < 12 → result ≡ Err TraceFault.Truncated }
+    ensures count { IsFault bytes.now TraceFault.Count → result ≡ Err TraceFault.Count }
 {
     read_first(alloc, bytes)
 }

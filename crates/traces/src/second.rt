@@ -1,12 +1,12 @@
 //! Traces of the second form: a setup and its events.
-ghost use Rattle.std.specs.Prelude.{◌≡◌, ◌≤◌, ◌++◌, ◌⊎◌, List, Ok, length, take, drop, min, IsTrue, IfOk, IfErr, MatchResult};
+ghost use Rattle.std.specs.Prelude.{◌≡◌, ◌≤◌, ◌++◌, ◌<◌, ◌⊎◌, None, List, Ok, length, take, drop, min, IsTrue, IfOk, IfErr, MatchResult};
 ghost use Rattle.std.specs.List.{list_all};
 ghost use Rattle.scenario.specs.declared.event.Event.{Event};
 ghost use Rattle.scenario.specs.declared.setup.Setup.{Setup};
 ghost use Rattle.traces.specs.Spots.{Spot};
 ghost use Rattle.traces.specs.Spelling.{counted_bytes, magic, most_events, has_transfer, AreEvents, IsTrace};
 ghost use Rattle.traces.specs.Faults.{BeginsAs, IsFault};
-ghost use Rattle.traces.specs.Limits.{keeps_ranges};
+ghost use Rattle.scenario.specs.Setups.{setup_refusal};
 ghost use Rattle.traces.specs.Setups.{plain, magic2, trace2_bytes, IsTrace2};
 ghost use Rattle.traces.specs.Reading.{setup_at, behind_magic, IsBodyFault, IsFault2};
 
@@ -38,6 +38,7 @@ fn read_second(alloc: Global, bytes: &[u8]) -> Result<(Setup, Vec<Event>), Trace
     ensures found { IfOk result (λ found. IsTrace2 found.0 found.1.items bytes.now) }
     ensures fault { IfErr result (λ fault. (fault ≡ TraceFault.Memory) ⊎ IsFault2 bytes.now fault) }
     ensures other { (BeginsAs magic2 bytes.now → ⊥) → result ≡ Err TraceFault.Magic }
+    ensures cut { BeginsAs magic2 bytes.now → length bytes.now < 8 → result ≡ Err TraceFault.Truncated }
 {
     let there = MAGIC.len().min(bytes.len());
     if bytes[..there] != MAGIC[..there] {
@@ -61,16 +62,17 @@ pub fn read_trace2(alloc: Global, bytes: &[u8]) -> Result<(Setup, Vec<Event>), T
     // Which fault it is.
     ensures fault { IfErr result (λ fault. (fault ≡ TraceFault.Memory) ⊎ IsFault2 bytes.now fault) }
 
-    // Bytes that begin otherwise are refused without memory.
+    // Bytes that begin otherwise, or that end before the setup, are refused without memory.
     ensures other { (BeginsAs magic2 bytes.now → ⊥) → result ≡ Err TraceFault.Magic }
+    ensures cut { BeginsAs magic2 bytes.now → length bytes.now < 8 → result ≡ Err TraceFault.Truncated }
 {
     read_second(alloc, bytes)
 }
 
-/// The one trace of the second form of a setup, with rounded sizes and its memory up to the last byte that
-/// isn't 0, and of at most 1,048,576 events, none a transfer of no bytes.
+/// The one trace of the second form of a setup that a run can start from, with rounded sizes and its
+/// memory up to the last byte that isn't 0, and of at most 1,048,576 events, none a transfer of no bytes.
 pub fn write_trace2(alloc: Global, setup: &Setup, events: &[Event]) -> Result<Vec<u8>, AllocError>
-    requires ranges { IsTrue (keeps_ranges setup.now) }
+    requires starts { setup_refusal setup.now ≡ None }
     requires few { length events.now ≤ most_events }
     requires transfers { IsTrue (list_all has_transfer events.now) }
     ensures { IfOk result (λ bytes. IsTrace2 (plain setup.now) events.now bytes.items) }
@@ -84,7 +86,7 @@ pub fn write_trace2(alloc: Global, setup: &Setup, events: &[Event]) -> Result<Ve
 
 /// The trace of the second form of a setup and the events of a trace of the first form.
 pub fn migrate(alloc: Global, setup: &Setup, bytes: &[u8]) -> Result<Vec<u8>, TraceFault>
-    requires { IsTrue (keeps_ranges setup.now) }
+    requires { setup_refusal setup.now ≡ None }
     // What is migrated has the setup and just those events.
     ensures migrated { IfOk result (λ made. (events : List Event) × IsTrace events bytes.now × IsTrace2 (plain setup.now) events made.items) }
 
@@ -95,8 +97,10 @@ pub fn migrate(alloc: Global, setup: &Setup, bytes: &[u8]) -> Result<Vec<u8>, Tr
     // Which fault it is.
     ensures fault { IfErr result (λ fault. (fault ≡ TraceFault.Memory) ⊎ IsFault bytes.now fault) }
 
-    // Bytes that begin otherwise are refused without memory.
+    // Bytes that begin otherwise, that end before the count, or that count too many are refused without memory.
     ensures other { (BeginsAs magic bytes.now → ⊥) → result ≡ Err TraceFault.Magic }
+    ensures cut { BeginsAs magic bytes.now → length bytes.now < 12 → result ≡ Err TraceFault.Truncated }
+    ensures count { IsFault bytes.now TraceFault.Count → result ≡ Err TraceFault.Count }
 {
     let events = read_trace(alloc, bytes)?;
     Ok(write_trace2(alloc, setup, &events)?)

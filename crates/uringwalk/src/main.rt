@@ -1,19 +1,20 @@
 //! The program: one job, over the libraries.
 #![tactic(auto)]
 
-#[cfg(test)]
-mod failing;
-mod files;
-#[cfg(test)]
-mod tests;
+ghost use Rattle.std.specs.Prelude.{◌≡◌};
+ghost use Rattle.uringwalk.specs.Files.{told_as};
+
+mod logging;
 
 use debug_server::{
     Fault, Form, Job, RunFault, ServeFault, Traced, job, migrate_trace, replay, trace_script, walk,
 };
-use files::{lead_to_one_file, read_file, write_file};
+use logging::log_file;
+use run_log::EventRange;
 use std::process::ExitCode;
 use std::rt::Files;
 use std::{env, fmt, io};
+use whole_files::{FileFault, lead_to_one_file, read_file, write_file};
 
 /// One byte more than a script may have: what lies behind it is not read.
 const SCRIPT_AND_ONE: u64 = 8388609;
@@ -36,6 +37,16 @@ enum Over {
     Trace,
 }
 
+// What a file's fault is told as.
+fn told(fault: FileFault) -> Fault
+    ensures { result ≡ told_as fault }
+{
+    match fault {
+        FileFault::Memory => Fault::Run(RunFault::Memory),
+        FileFault::File => Fault::File,
+    }
+}
+
 // A session over a file, from standard input to standard output.
 fn answer_over(
     rt: &(impl Files + Input + Print + AllocGlobal),
@@ -46,7 +57,7 @@ fn answer_over(
         Over::Script => SCRIPT_AND_ONE,
         Over::Trace => WHOLE_TRACE_AND_ONE,
     };
-    let bytes = read_file(rt, path, most)?;
+    let bytes = read_file(rt, path, most).map_err(told)?;
     let mut input = rt.reader();
     let mut output = io::writer(rt);
     match over {
@@ -58,7 +69,7 @@ fn answer_over(
 
 // Writes a trace to its file, and prints how many events it has.
 fn keep(rt: &(impl Files + Print + AllocGlobal), out: &str, trace: &Traced) -> Result<(), Fault> {
-    write_file(rt, out, &trace.bytes)?;
+    write_file(rt, out, &trace.bytes).map_err(told)?;
     match println!(rt; "events {}", trace.events) {
         Ok(()) => Ok(()),
         Err(_) => Err(Fault::Run(RunFault::Serve(ServeFault::Write))),
@@ -72,7 +83,9 @@ fn trace_file(
     out: &str,
     form: Form,
 ) -> Result<(), Fault> {
-    let text = read_file(rt, script, SCRIPT_AND_ONE)?;
+    let text = read_file(rt, script, SCRIPT_AND_ONE)
+        .map_err(told)
+        .map_err(told)?;
     keep(rt, out, &trace_script(rt.alloc(), &text, form)?)
 }
 
@@ -83,8 +96,12 @@ fn migrate_file(
     trace: &str,
     out: &str,
 ) -> Result<(), Fault> {
-    let text = read_file(rt, script, SCRIPT_AND_ONE)?;
-    let bytes = read_file(rt, trace, TRACE_AND_ONE)?;
+    let text = read_file(rt, script, SCRIPT_AND_ONE)
+        .map_err(told)
+        .map_err(told)?;
+    let bytes = read_file(rt, trace, TRACE_AND_ONE)
+        .map_err(told)
+        .map_err(told)?;
     keep(rt, out, &migrate_trace(rt.alloc(), &text, &bytes)?)
 }
 
@@ -92,6 +109,7 @@ fn run(rt: &(impl Files + Input + Print + AllocGlobal), job: Job<'_>) -> Result<
     match job {
         Job::Walk(script) => answer_over(rt, Over::Script, script),
         Job::Replay(trace) => answer_over(rt, Over::Trace, trace),
+        Job::Log { run, from, to } => log_file(rt, run, EventRange { from, to }),
         Job::Trace { script, out, form } => trace_file(rt, script, out, form),
         Job::Migrate { script, trace, out } => migrate_file(rt, script, trace, out),
     }
@@ -100,10 +118,10 @@ fn run(rt: &(impl Files + Input + Print + AllocGlobal), job: Job<'_>) -> Result<
 // Whether a trace would take the place of its script, which another path names.
 fn loses_script(rt: &(impl Files + AllocGlobal), job: Job<'_>) -> Result<bool, Fault> {
     match job {
-        Job::Trace { script, out, .. } | Job::Migrate { script, out, .. } => lead_to_one_file(
-            rt, script, out,
-        ),
-        Job::Walk(_) | Job::Replay(_) => Ok(false),
+        Job::Trace { script, out, .. } | Job::Migrate { script, out, .. } => {
+            lead_to_one_file(rt, script, out).map_err(told)
+        }
+        Job::Walk(_) | Job::Replay(_) | Job::Log { .. } => Ok(false),
     }
 }
 

@@ -11,7 +11,7 @@ use Rattle.watches.specs.declared.stopping.Stop.{Stop}
 use Rattle.watches.specs.declared.stopping.Stop.TheVariants.{Change, Met, Start, End}
 use Rattle.watches.specs.Sameness.{same}
 use Rattle.watches.specs.Watching.{Watching}
-use Rattle.watches.specs.Stops.{seen, changes, meets, stop_before, stop_behind, first_stop, moments_before, earlier_of, later_of, Stays, NoneMet, Unchanged, Unmet, Quiet, IsEarlier, IsLater}
+use Rattle.watches.specs.Stops.{seen, changes, meets, stop_before, stop_behind, first_stop, moments_before, reverse_stop, forward_stop, Stays, NoneMet, Unchanged, Unmet, Quiet, IsEarlier, IsLater}
 use Rattle.watches.proofs.Same.{same_decides}
 
 -- ---- tests of two views
@@ -107,8 +107,8 @@ stops_before : (w : Walk) (ps : List Place) (m : ℕ) → (Unchanged w ps m → 
 stops_before w ps m h = rw (changed (seen w m) (seen w (m + 1)) ps h) refl
 
 -- there is one earlier stop
-pub the_earlier : (w : Walk) (ps : List Place) (s : Stop) → IsEarlier w ps s → s ≡ earlier_of w ps
-unfolding earlier_of
+pub the_earlier : (w : Walk) (ps : List Place) (s : Stop) → IsEarlier w ps s → s ≡ reverse_stop w ps
+unfolding reverse_stop
 the_earlier w ps (Change m) h = sym (latest (stop_before w ps) Start (Change m) w.at m h.0 (stops_before w ps m h.1) (λ k x y. goes_past w ps k (h.2 k x y)))
 the_earlier w ps Start h = sym (none_before (stop_before w ps) Start w.at (λ k x. goes_past w ps k (h k x)))
 the_earlier w ps (Met m) h = absurd h
@@ -138,8 +138,8 @@ meets_behind w v m some s h =
     rw (still, there) refl
 
 -- there is one later stop
-pub the_later : (w : Walk) (v : Watching) (s : Stop) → IsLater w v s → s ≡ later_of w v
-unfolding later_of
+pub the_later : (w : Walk) (v : Watching) (s : Stop) → IsLater w v s → s ≡ forward_stop w v
+unfolding forward_stop
 the_later w v (Change m) h = sym (soonest (stop_behind w v) End (Change m) (w.at + 1) (length w.events - w.at) m (omega arith) (omega (arith, h.0, h.1)) (changes_behind w v m (omega (arith, h.0)) h.2) (λ k x y. goes_on w v w.at (m - 1) k h.3 (omega arith) (omega arith)))
 the_later w v (Met m) h = sym (soonest (stop_behind w v) End (Met m) (w.at + 1) (length w.events - w.at) m (omega arith) (omega (arith, h.0, h.1)) (meets_behind w v m (omega (arith, h.0)) h.2 h.3) (λ k x y. goes_on w v w.at (m - 1) k h.4 (omega arith) (omega arith)))
 the_later w v End h = sym (none_among (stop_behind w v) End (w.at + 1) (length w.events - w.at) (λ k x y. goes_on w v w.at (length w.events) k h (omega arith) (omega arith)))

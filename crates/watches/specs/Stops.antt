@@ -53,12 +53,12 @@ moments_before zero = []
 moments_before (suc m) = m ∷ moments_before m
 
 -- where a walk back stops
-unfoldable pub earlier_of : Walk → List Place → Stop
-earlier_of w ps = first_stop (stop_before w ps) Start (moments_before w.at)
+unfoldable pub reverse_stop : Walk → List Place → Stop
+reverse_stop w ps = first_stop (stop_before w ps) Start (moments_before w.at)
 
 -- where a walk on stops
-unfoldable pub later_of : Walk → Watching → Stop
-later_of w v = first_stop (stop_behind w v) End (range_with_len (w.at + 1) (length w.events - w.at))
+unfoldable pub forward_stop : Walk → Watching → Stop
+forward_stop w v = first_stop (stop_behind w v) End (range_with_len (w.at + 1) (length w.events - w.at))
 
 -- ---- what is said by it
 

@@ -6,6 +6,3 @@ mod watched;
 
 pub use stopping::{Stop, back_to, cont, earlier, rcont};
 pub use watched::{Break, LIMIT, Watches};
-
-#[cfg(test)]
-mod tests;

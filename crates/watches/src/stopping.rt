@@ -4,7 +4,7 @@ ghost use Rattle.std.specs.List.{list_any};
 ghost use Rattle.places.specs.View.{View, Exact, named};
 ghost use Rattle.machine.specs.Whole.{view};
 ghost use Rattle.inverse_log.specs.Walks.{jumped, moved};
-ghost use Rattle.watches.specs.Stops.{Stays, NoneMet, names, seen, earlier_of, later_of, IsEarlier, IsLater, IsStop, position_of};
+ghost use Rattle.watches.specs.Stops.{Stays, NoneMet, names, seen, reverse_stop, forward_stop, IsEarlier, IsLater, IsStop, position_of};
 
 use crate::watched::{Break, Watches};
 use inverse_log::Walker;
@@ -26,7 +26,7 @@ pub enum Stop {
 /// The latest earlier moment whose event changes a watched place, or the start. It is found in the
 /// records, without moving.
 pub fn earlier(walker: &Walker, watches: &Watches) -> Stop
-    ensures stop { result ≡ earlier_of walker.now watches.now.places }
+    ensures stop { result ≡ reverse_stop walker.now watches.now.places }
     ensures meaning { IsEarlier walker.now watches.now.places result }
 {
     earlier_among(walker, watches.places())
@@ -35,10 +35,10 @@ pub fn earlier(walker: &Walker, watches: &Watches) -> Stop
 /// Goes back to the latest earlier moment whose event changes a watched place, or to the start. It is
 /// found in the records, without moving, and reached by a jump.
 pub fn rcont(walker: &mut Walker, watches: &Watches) -> Result<Stop, AllocError>
-    ensures stop { IfOk result (λ stop. stop ≡ earlier_of walker.old watches.now.places) }
+    ensures stop { IfOk result (λ stop. stop ≡ reverse_stop walker.old watches.now.places) }
     ensures meaning { IfOk result (IsEarlier walker.old watches.now.places) }
     ensures lands { IfOk result (λ stop. walker.new ≡ jumped walker.old (position_of walker.old stop)) }
-    ensures near { walker.old.at ≤ position_of walker.old (earlier_of walker.old watches.now.places) + walker.old.window → IsOk result }
+    ensures near { walker.old.at ≤ position_of walker.old (reverse_stop walker.old watches.now.places) + walker.old.window → IsOk result }
     ensures err { OnErr result (walker.new ≡ walker.old) }
 {
     let stop = earlier(walker, watches);
@@ -55,7 +55,7 @@ pub fn rcont(walker: &mut Walker, watches: &Watches) -> Result<Stop, AllocError>
 /// Goes on to the first later moment at which a watched place has changed, or else a break's value is met
 /// that was not a moment before, or to the end. Where memory is refused it goes back to where it was.
 pub fn cont(walker: &mut Walker, watches: &Watches) -> Result<Stop, AllocError>
-    ensures stop { IfOk result (λ stop. stop ≡ later_of walker.old watches.now) }
+    ensures stop { IfOk result (λ stop. stop ≡ forward_stop walker.old watches.now) }
     ensures meaning { IfOk result (IsLater walker.old watches.now) }
     ensures lands { IfOk result (λ stop. walker.new ≡ moved walker.old (position_of walker.old stop)) }
     ensures none { walker.old.at ≡ length walker.old.events → IsOk result }

@@ -150,59 +150,30 @@ fn each_read_fails(rt: HostRuntime) -> Result<(), Fail> {
     for call in 1..READS + 1 {
         check_read(&rt, call, ErrorKind::UnexpectedEof)?;
     }
-    Ok(())
-}
-
-#[test]
-fn an_interrupted_read_is_a_fault(rt: HostRuntime) -> Result<(), Fail> {
     for call in [1, 7, 40, READS] {
         check_read(&rt, call, ErrorKind::Interrupted)?;
     }
     Ok(())
 }
 
+// The eleventh call is the first flush, and the last one too is a flush: it can't take nothing.
 #[test]
 fn each_write_fails(rt: HostRuntime) -> Result<(), Fail> {
     for call in 1..WRITES + 1 {
         check_write(&rt, call, Failure::Error(ErrorKind::BrokenPipe))?;
     }
-    Ok(())
-}
-
-// The eleventh call is the first flush.
-#[test]
-fn an_interrupted_write_is_a_fault(rt: HostRuntime) -> Result<(), Fail> {
-    for call in [1, 10, 11, 12, WRITES] {
+    for call in [1, 10, 12, WRITES - 1] {
+        check_write(&rt, call, Failure::Error(ErrorKind::Interrupted))?;
+        check_write(&rt, call, Failure::Nothing)?;
+    }
+    for call in [11, WRITES] {
         check_write(&rt, call, Failure::Error(ErrorKind::Interrupted))?;
     }
     Ok(())
 }
 
-#[test]
-fn a_write_of_nothing_is_a_fault(rt: HostRuntime) -> Result<(), Fail> {
-    for call in [1, 10, 12, 99] {
-        check_write(&rt, call, Failure::Nothing)?;
-    }
-    Ok(())
-}
-
-#[test]
-fn each_read_of_a_walk_fails(rt: HostRuntime) {
-    for call in 1..READS + 1 {
-        check_walk_read(&rt, call, ErrorKind::Interrupted);
-    }
-}
-
-#[test]
-fn each_write_of_a_walk_fails(rt: HostRuntime) {
-    for call in 1..WRITES + 1 {
-        check_walk_write(&rt, call, Failure::Error(ErrorKind::Interrupted));
-    }
-}
-
 // No call is left that could fail.
-#[test]
-fn no_later_call_is_made(rt: HostRuntime) {
+fn check_whole_walk(rt: &(impl Abort + AllocGlobal)) {
     let reading = Plan {
         call: READS + 1,
         failure: Failure::Error(ErrorKind::Interrupted),
@@ -214,4 +185,15 @@ fn no_later_call_is_made(rt: HostRuntime) {
     let (answer, written) = walked(rt.alloc(), reading, writing);
     assert!(rt; answer.is_ok());
     assert!(rt; written.as_slice() == OUTPUT.as_bytes());
+}
+
+#[test]
+fn each_call_of_a_walk_fails(rt: HostRuntime) {
+    for call in 1..READS + 1 {
+        check_walk_read(&rt, call, ErrorKind::Interrupted);
+    }
+    for call in 1..WRITES + 1 {
+        check_walk_write(&rt, call, Failure::Error(ErrorKind::Interrupted));
+    }
+    check_whole_walk(&rt);
 }

@@ -10,6 +10,12 @@ use std::test::Fail;
 
 const EMPTY: &str = r#"{"entries":1,"threads":[],"schedule":[]}"#;
 
+/// Scripts, commands, and what they are replied; the last line of the second is without a newline.
+const RUNS: [(&str, &str, &str); 2] = [
+    (ONE_NOP, INPUT, OUTPUT),
+    (EMPTY, "where\nshow clock\nquit", "at 0 of 0\n0\nbye\n"),
+];
+
 // What a walk writes, where each call moves one byte.
 fn slow_walk(alloc: Global, script: &str, input: &str) -> Result<Vec<u8>, Fail> {
     let mut reader = SlowReader::new(input.as_bytes(), SOUND);
@@ -19,44 +25,29 @@ fn slow_walk(alloc: Global, script: &str, input: &str) -> Result<Vec<u8>, Fail> 
 }
 
 #[test]
-fn one_byte_at_a_time(rt: HostRuntime) -> Result<(), Fail> {
-    let written = slow_walk(rt.alloc(), ONE_NOP, INPUT)?;
-    assert!(rt; written.as_slice() == OUTPUT.as_bytes());
+fn one_byte_a_call(rt: HostRuntime) -> Result<(), Fail> {
+    for (script, input, output) in RUNS {
+        let walked = slow_walk(rt.alloc(), script, input)?;
+        assert!(rt; walked.as_slice() == output.as_bytes(), "{output}");
+        let replied = replies(rt.alloc(), script.as_bytes(), input.as_bytes())?;
+        assert!(rt; replied.as_slice() == output.as_bytes(), "{output}");
+    }
     Ok(())
 }
 
-#[test]
-fn a_last_line_without_a_newline(rt: HostRuntime) -> Result<(), Fail> {
-    let written = slow_walk(rt.alloc(), EMPTY, "where\nshow clock\nquit")?;
-    assert!(rt; written.as_slice() == b"at 0 of 0\n0\nbye\n".as_slice());
-    Ok(())
-}
-
-#[test]
-fn nothing_behind_quit_is_answered(rt: HostRuntime) -> Result<(), Fail> {
-    let written = slow_walk(rt.alloc(), EMPTY, "quit\nwhere\n")?;
-    assert!(rt; written.as_slice() == b"bye\n".as_slice());
-    Ok(())
-}
-
-#[test]
-fn replies_over_memory(rt: HostRuntime) -> Result<(), Fail> {
-    let written = replies(rt.alloc(), ONE_NOP.as_bytes(), INPUT.as_bytes())?;
-    assert!(rt; written.as_slice() == OUTPUT.as_bytes());
-    Ok(())
+fn session_over(alloc: Global, script: &Script) -> Result<Session, Fail> {
+    Ok(Session::new(alloc, script)?)
 }
 
 // The session of a script, at its end.
 pub fn session_of(alloc: Global, text: &str) -> Result<Session, Fail> {
-    let script: Script = read_script(alloc, text.as_bytes())?;
-    let session = Session::new(alloc, &script)?;
-    Ok(session)
+    let script = read_script(alloc, text.as_bytes())?;
+    session_over(alloc, &script)
 }
 
 // What a session replies to a line.
-pub fn reply(session: &mut Session, line: &str) -> Result<Vec<u8>, Fail> {
-    let text = session.line(line.as_bytes(), None)?;
-    Ok(text)
+fn reply(session: &mut Session, line: &str) -> Result<Vec<u8>, Fail> {
+    Ok(session.line(line.as_bytes(), None)?)
 }
 
 fn check_replies(rt: &impl Abort, session: &mut Session) -> Result<(), Fail> {
@@ -66,7 +57,7 @@ fn check_replies(rt: &impl Abort, session: &mut Session) -> Result<(), Fail> {
 }
 
 #[test]
-fn lines_are_answered_one_by_one(rt: HostRuntime) -> Result<(), Fail> {
+fn lines_one_by_one(rt: HostRuntime) -> Result<(), Fail> {
     let mut session = session_of(rt.alloc(), ONE_NOP)?;
     check_replies(&rt, &mut session)
 }
@@ -89,20 +80,20 @@ fn served_twice(alloc: Global, input: &str) -> Result<(Answer, Answer), Fail> {
     Ok((first, served(alloc, &mut session, "where\n")))
 }
 
-// Five bytes are read; four are written, and flushed.
+// To quit, five bytes are read; four are written, and flushed. An end of input closes nothing: a line is six reads and
+// the end a seventh, its reply ten writes and a flush.
 #[test]
-fn quit_closes_a_session(rt: HostRuntime) -> Result<(), Fail> {
-    let (first, second) = served_twice(rt.alloc(), "quit\nwhere\n")?;
-    assert!(rt; first == (Ok(()), 5, 5));
-    assert!(rt; second == (Err(ServeFault::Closed), 0, 0));
-    Ok(())
-}
-
-// An end of input does not: one line is six reads and the end a seventh, its reply ten writes and a flush.
-#[test]
-fn the_end_of_input_leaves_a_session_open(rt: HostRuntime) -> Result<(), Fail> {
-    let (first, second) = served_twice(rt.alloc(), "where\n")?;
-    assert!(rt; first == (Ok(()), 7, 11));
-    assert!(rt; second == (Ok(()), 7, 11));
+fn calls_of_a_session_are_counted(rt: HostRuntime) -> Result<(), Fail> {
+    for (input, first, second) in [
+        (
+            "quit\nwhere\n",
+            (Ok(()), 5, 5),
+            (Err(ServeFault::Closed), 0, 0),
+        ),
+        ("where\n", (Ok(()), 7, 11), (Ok(()), 7, 11)),
+    ] {
+        let answers = served_twice(rt.alloc(), input)?;
+        assert!(rt; answers == (first, second), "{input}");
+    }
     Ok(())
 }

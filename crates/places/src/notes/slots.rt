@@ -70,6 +70,7 @@ impl<N: Slotted + Copy> Slots<N> {
         ensures err { OnErr result (self.new.notes ≡ self.old.notes) }
         ensures there { 0 < self.old.spare → N.slot note < self.old.reached → IsOk result }
         ensures spare { self.old.spare ≤ self.new.spare + 1 }
+        ensures kept { OnErr result (self.old.spare ≤ self.new.spare) }
         ensures reached { self.old.reached ≤ self.new.reached }
     {
         let slot = note.slot();

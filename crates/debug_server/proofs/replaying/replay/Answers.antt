@@ -1,9 +1,8 @@
 use Rattle.std.proofs.lemmas.Result.{err_from_is_err_and}
-use Rattle.traces.proofs.Startable.{starting}
 use Rattle.debug_server.proofs.replaying.replay.Goals as goal
 
 pub walk_events-requires-clause-starts : goal.walk_events-requires-clause-starts
-walk_events-requires-clause-starts g c = starting _ c.in-Ok.ensures.found.ranges
+walk_events-requires-clause-starts g c = c.in-Ok.ensures.found.starts
 
 pub returns-in_err-walk_events-clause-schedule : goal.returns-in_err-walk_events-clause-schedule
 returns-in_err-walk_events-clause-schedule g c =

@@ -11,9 +11,21 @@ returns-in_err-session-clause-schedule g c =
 pub returns-in-Ok-clause-ok : goal.returns-in-Ok-clause-ok
 returns-in-Ok-clause-ok g c =
     let s = c.in-Ok.ensures.ok in
-    (c.in_ok-session.ensures.accepts, s.0, none_asked _ _ s.0 s.1, _, _, served_at c.in_ok-session.session _ _ _ _ _ _ s.0 _ c.in_ok-session.ensures.ok s.2)
+    record {
+      runs = c.in_ok-session.ensures.accepts;
+      answers = s.0;
+      unanswered = none_asked _ _ s.0 s.1;
+      next = _;
+      quits = _;
+      served = served_at c.in_ok-session.session _ _ _ _ s.0 _ c.in_ok-session.ensures.ok s.2;
+    }
 
 pub returns-clause-begins : goal.returns-clause-begins
 returns-clause-begins g c f e =
     let s = c.in-Err.ensures.begins (open_at c.in_ok-session.session _ c.in_ok-session.ensures.ok) in
-    (c.in_ok-session.ensures.accepts, s.answers, none_asked _ _ s.answers s.given, broke_at c.in_ok-session.session _ _ _ _ _ s.answers c.in_ok-session.ensures.ok s.broke)
+    record {
+      runs = c.in_ok-session.ensures.accepts;
+      answers = s.answers;
+      unanswered = none_asked _ _ s.answers s.given;
+      broke = broke_at c.in_ok-session.session _ _ _ s.answers _ f c.in_ok-session.ensures.ok e s.broke;
+    }

@@ -21,7 +21,7 @@ overflow_add-total c =
 pub met-requires : goal.met-requires
 met-requires c =
     let l = counted_few c.args.table.now c.args.direct.now c.deref.result.now (c.deref.ensures.value ∙ c.in_ok-severed.ensures) in
-    let f = c.requires.few in
+    let f = c.len.ensures.few in
     let n = c.requires.counted in
     omega (arith, l, c.count.ensures, f, n)
 

@@ -21,14 +21,14 @@ sweeps_on rows direct k i j es fs unit at e n l s =
 pub returns-then-row-unit-clause-walked : goal.returns-then-row-unit-clause-walked
 returns-then-row-unit-clause-walked c = (
   c.loop-k.k,
-  sweep_end c.args.table.now c.args.direct.now _ _ _ _ c.requires.chained c.requires.direct c.loop-k.invariant.sweeping
+  sweep_end c.args.table.now c.args.direct.now _ _ _ _ c.len-k-end.ensures.chained c.requires.direct c.loop-k.invariant.sweeping
       (λ row h u. c.if-row-unit.true (ap (λ (x : Row). x.unit) (same_row c.in-Some.row row (c.in-Some.ensures ∙ h)) ∙ u)),
 )
 
 pub returns-clause-walked : goal.returns-clause-walked
 returns-clause-walked c = (
   c.loop-k.k,
-  sweep_end c.args.table.now c.args.direct.now _ _ _ _ c.requires.chained c.requires.direct c.loop-k.invariant.sweeping
+  sweep_end c.args.table.now c.args.direct.now _ _ _ _ c.len-k-end.ensures.chained c.requires.direct c.loop-k.invariant.sweeping
       (λ row h u. let n = slice_get_within c.args.table.now c.loop-k.k row h in absurd (omega (arith, n, c.loop-k-test.false, c.len-k-end.ensures.len))),
 )
 

@@ -1,5 +1,6 @@
 use Rattle.std.proofs.Common.{◌≡◌, sym, subst, ◌∙◌}
 use Rattle.std.specs.Prelude.{None}
+use Rattle.places.proofs.Closing.{exact_led}
 use Rattle.machine.specs.Whole.{WellFormed}
 use Rattle.machine.specs.Steps.{refusal}
 use Rattle.machine.proofs.Formed.{formed_after}
@@ -15,30 +16,30 @@ invariant_of-self c =
 pub restore-requires : goal.restore-requires
 restore-requires c =
     let led = back_from_keeps _ _ _ _ c.over-notes.ensures c.perform-done.ensures.keeps in
-    let back = back_from_exact _ _ _ (c.close_with_marks-past.ensures _ led) in
+    let back = back_from_exact _ _ _ (exact_led _ _ _ _ led c.close_with_marks-past.ensures) in
     (c.self.inside.machine, record { formed = c.self.invariant; grows = c.perform-done.ensures.grows; back = back })
 
 pub invariant_of-self-in-Err : goal.invariant_of-self-in-Err
 invariant_of-self-in-Err c =
     let led = back_from_keeps _ _ _ _ c.over-notes.ensures c.perform-done.ensures.keeps in
-    let back = back_from_exact _ _ _ (c.close_with_marks-past.ensures _ led) in
+    let back = back_from_exact _ _ _ (exact_led _ _ _ _ led c.close_with_marks-past.ensures) in
     let restored = c.restore.ensures.back in
     subst WellFormed (sym (restored c.self.inside.machine (record { formed = c.self.invariant; grows = c.perform-done.ensures.grows; back = back }))) c.self.invariant
 
 pub returns-in-Ok-clause-exact : goal.returns-in-Ok-clause-exact
 returns-in-Ok-clause-exact c =
     let led = back_from_keeps _ _ _ _ c.over-notes.ensures c.perform-done.ensures.keeps in
-    rw (← c.self.view_is) (c.close_with_marks-past.ensures _ led)
+    rw (← c.self.view_is) (exact_led _ _ _ _ led c.close_with_marks-past.ensures)
 
 pub returns-in-Ok-clause-leads_back : goal.returns-in-Ok-clause-leads_back
 returns-in-Ok-clause-leads_back c =
     let led = back_from_keeps _ _ _ _ c.over-notes.ensures c.perform-done.ensures.keeps in
-    rw (← c.self.view_is) (back_from_exact _ _ _ (c.close_with_marks-past.ensures _ led))
+    rw (← c.self.view_is) (back_from_exact _ _ _ (exact_led _ _ _ _ led c.close_with_marks-past.ensures))
 
 pub returns-in-Err-clause-err : goal.returns-in-Err-clause-err
 returns-in-Err-clause-err c =
     let led = back_from_keeps _ _ _ _ c.over-notes.ensures c.perform-done.ensures.keeps in
-    let back = back_from_exact _ _ _ (c.close_with_marks-past.ensures _ led) in
+    let back = back_from_exact _ _ _ (exact_led _ _ _ _ led c.close_with_marks-past.ensures) in
     let restored = c.restore.ensures.back in
     rw (← c.self.view_is) (restored c.self.inside.machine (record { formed = c.self.invariant; grows = c.perform-done.ensures.grows; back = back }))
 

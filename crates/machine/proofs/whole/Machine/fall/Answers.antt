@@ -28,8 +28,8 @@ end_all-requires-clause-counts c =
 pub fall-requires-clause-counted : goal.fall-requires-clause-counted
 fall-requires-clause-counted c =
     let a = counted-le-length c.args.self.now.table in
-    let n = c.requires.mostly.counted in
-    let l = c.requires.mostly.rows in
+    let n = c.requires.mostly.table.counted in
+    let l = c.requires.mostly.table.few in
     omega (arith, a, n, l)
 
 pub returns-clause-ok : goal.returns-clause-ok

@@ -47,7 +47,7 @@ fall-requires-clause-mostly c =
     let fits : FitsSigned w32 c.in-Res.res = search rules in
     let same = to_z-of_z w32 c.in-Res.res fits in
     let told : outcome_of (is_held_by c.args.self.now.table) c.args.self.now.world c.in-Some.row c.args.choice ≡ Res c.in-Res.res = sym c.outcome.ensures ∙ c.in-Res.is in
-    let s = stays_after (is_held_by c.args.self.now.table) c.args.self.now.world c.in-Some.row c.in-Res.res c.args.choice c.requires.formed.world (puts_fit c.args.self.now c.requires.formed) told in
+    let s = stays_after (is_held_by c.args.self.now.table) c.args.self.now.world c.in-Some.row c.in-Res.res c.args.choice c.requires.formed.mostly.world (puts_fit c.args.self.now c.requires.formed) told in
     let after : c.carry_out.new.world ≡ world_after c.in-Some.row c.in-Res.res c.args.self.now.world = c.in_ok-carry_out.ensures.ok ∙ ap (λ z. world_after c.in-Some.row z c.args.self.now.world) same in
     subst (λ (w : WorldState). Mostly (record c.args.self.now { world = w })) (sym after)
     (mostly_world c.args.self.now (world_after c.in-Some.row c.in-Res.res c.args.self.now.world) (mostly c.args.self.now c.requires.formed) s.formed)

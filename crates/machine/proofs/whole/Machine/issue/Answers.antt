@@ -28,20 +28,20 @@ start-requires-clause-time c =
     let x = can_start m c.args.r c.requires.accepted in
     let there : slice_get m.table c.args.r ≡ Some c.in-Some.row = sym c.get.ensures ∙ c.in-Some.is in
     let same = same_row x.row c.in-Some.row (sym x.there ∙ there) in
-    (c.requires.formed.requests c.args.r c.in-Some.row there).time (ap (λ (y : Row). is_unfinished y.phase) (sym same) ∙ ap is_unfinished x.queued)
+    (c.requires.formed.rows c.args.r c.in-Some.row there).time (ap (λ (y : Row). is_unfinished y.phase) (sym same) ∙ ap is_unfinished x.queued)
 
 pub guard_of-requires : goal.guard_of-requires
 guard_of-requires c =
     let x = can_start c.args.self.now c.args.r c.requires.accepted in
     let w = slice_get_within c.args.self.now.table c.args.r x.row x.there in
-    let l = c.requires.formed.rows in
+    let l = c.requires.formed.mostly.table.few in
     record { few = omega (arith, w, l) }
 
 pub overflow_add-r : goal.overflow_add-r
 overflow_add-r c =
     let x = can_start c.args.self.now c.args.r c.requires.accepted in
     let w = slice_get_within c.args.self.now.table c.args.r x.row x.there in
-    let l = c.requires.formed.rows in
+    let l = c.requires.formed.mostly.table.few in
     omega (arith, w, l)
 
 -- what stands behind the row is as it was
@@ -54,7 +54,7 @@ start-requires-in-Some-guard_of-clause-time c =
     let g = c.in-Some-guard_of.ensures.some in
     let there = sym (behind m c.start.new.self c.args.r c.in_ok-start.ensures.ok) ∙ g.0 in
     let t = guard_told c.args.r c.in-Some-guard_of.guard g.1 in
-    (c.requires.formed.requests (c.args.r + 1) c.in-Some-guard_of.guard there).time (unfinished_queued c.in-Some-guard_of.guard.phase t.queued)
+    (c.requires.formed.rows (c.args.r + 1) c.in-Some-guard_of.guard there).time (unfinished_queued c.in-Some-guard_of.guard.phase t.queued)
 
 pub returns-in-Some-guard_of-clause-ok : goal.returns-in-Some-guard_of-clause-ok
 returns-in-Some-guard_of-clause-ok c =

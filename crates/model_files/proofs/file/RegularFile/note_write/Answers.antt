@@ -13,7 +13,7 @@ returns-then-end-len-clause-keeps c =
 pub returns-then-end-len-clause-noted : goal.returns-then-end-len-clause-noted
 returns-then-end-len-clause-noted c =
     let less : c.args.offset + length c.args.others.now ≤ c.args.self.now.len = let l = c.len.ensures.value in let t = c.if-end-len.true in omega arith in
-    names_within c.args.self.now _ _ _ _ _ c.requires.formed c.requires.within (omega arith) (rw c.bytes.ensures.value at c.in_ok-note_differing.ensures.noted) less
+    names_within c.args.self.now _ _ _ _ _ c.requires.formed c.requires.some c.requires.within (omega arith) (rw c.bytes.ensures.value at c.in_ok-note_differing.ensures.noted) less
 
 pub returns-in_err-note_number-clause-keeps : goal.returns-in_err-note_number-clause-keeps
 returns-in_err-note_number-clause-keeps c =
@@ -25,4 +25,4 @@ returns-clause-keeps c =
 
 pub returns-clause-noted : goal.returns-clause-noted
 returns-clause-noted c =
-    names_past c.args.self.now _ _ _ _ _ _ _ c.requires.formed c.requires.within (omega arith) (rw c.bytes.ensures.value at c.in_ok-note_differing.ensures.noted) c.in_ok-note_number.ensures.ok
+    names_past c.args.self.now _ _ _ _ _ _ _ c.requires.formed c.requires.some c.requires.within (omega arith) (rw c.bytes.ensures.value at c.in_ok-note_differing.ensures.noted) c.in_ok-note_number.ensures.ok

@@ -45,7 +45,7 @@ returns-clause-keeps c =
     let w : WorldState = record { memory = c.self.inside.memory.items; objects = c.self.inside.objects.items; descriptors = c.self.inside.descriptors.items } in
     let there : IsSome (counter_of w c.args.object) = rw (← c.self.view_is) at c.requires.counter in
     let found : slice_get w.objects c.args.object ≡ Some c.index_mut.result.now = found_body counter_in w c.args.object c.index_mut.result.now there c.index_mut.ensures.value in
-    let room : c.args.address + 8 ≤ length w.memory = rw (← c.self.view_is) at c.requires.in_memory in
+    let room : c.args.address + 8 ≤ length w.memory = omega (arith, c.requires.in_memory, c.self.invariant) in
     let size : length c.to_le_bytes-bytes.result ≡ 8 = ap length c.to_le_bytes-bytes.ensures in
     rw (← c.self.view_is)
     (keeps_cleared w c.args.object c.args.address c.index_mut.result.now c.clear.new.self c.to_le_bytes-bytes.result c.overwrite.new.bytes.items _ _ _ found (omega (arith, size, room)) (rw (← c.self.view_is) at c.in_ok-note_memory.ensures.among) (rw (← c.self.view_is) at c.in_ok-note_memory.ensures.noted) c.in_ok-clear.ensures.named c.in_ok-clear.ensures.keeps c.overwrite.ensures.next)

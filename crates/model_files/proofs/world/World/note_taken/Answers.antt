@@ -17,7 +17,7 @@ returns-in_err-note_memory-clause-keeps c = keeps_memory_bytes c.args.self.now c
 pub note_memory-requires-2-clause-fresh : goal.note_memory-requires-2-clause-fresh
 note_memory-requires-2-clause-fresh c =
     let size = c.oldest.ensures.len in
-    let room = c.requires.in_memory in
+    let room : c.args.address + c.args.count ≤ length c.args.self.now.memory = rw (← c.self.view_is) (omega (arith, c.requires.in_memory, c.self.invariant)) in
     second_part_fresh c.args.self.now c.args.address (length c.oldest.result.0.now) (length c.oldest.result.1.now) _ _ (omega (arith, size, room)) c.in_ok-note_memory.ensures.among (λ i l. c.requires.fresh i (omega (arith, size, l)))
 
 pub returns-in_err-note_memory-2-clause-keeps : goal.returns-in_err-note_memory-2-clause-keeps
@@ -31,7 +31,7 @@ returns-clause-keeps c =
     let w : WorldState = record { memory = c.self.inside.memory.items; objects = c.self.inside.objects.items; descriptors = c.self.inside.descriptors.items } in
     let there : IsSomeAnd (pipe_of w c.args.object) (GivesOut c.args.count) = rw (← c.self.view_is) at c.requires.there in
     let found : slice_get w.objects c.args.object ≡ Some (Pipe c.in-Pipe.pipe) = found_body pipe_in w c.args.object c.index.result.now (some_and (GivesOut c.args.count) (pipe_of w c.args.object) there) c.index.ensures ∙ ap Some c.in-Pipe.is in
-    let room : c.args.address + c.args.count ≤ length w.memory = rw (← c.self.view_is) at c.requires.in_memory in
+    let room : c.args.address + c.args.count ≤ length w.memory = omega (arith, c.requires.in_memory, c.self.invariant) in
     let size = c.oldest.ensures.len in
     let here : slice_get c.args.self.now.objects c.args.object ≡ Some (Pipe c.in-Pipe.pipe) = rw (← c.self.view_is) found in
     let v = world_seen c.args.self.now in
@@ -44,8 +44,8 @@ returns-clause-noted c =
     let w : WorldState = record { memory = c.self.inside.memory.items; objects = c.self.inside.objects.items; descriptors = c.self.inside.descriptors.items } in
     let there : IsSomeAnd (pipe_of w c.args.object) (GivesOut c.args.count) = rw (← c.self.view_is) at c.requires.there in
     let found : slice_get w.objects c.args.object ≡ Some (Pipe c.in-Pipe.pipe) = found_body pipe_in w c.args.object c.index.result.now (some_and (GivesOut c.args.count) (pipe_of w c.args.object) there) c.index.ensures ∙ ap Some c.in-Pipe.is in
-    let room : c.args.address + c.args.count ≤ length w.memory = rw (← c.self.view_is) at c.requires.in_memory in
+    let room : c.args.address + c.args.count ≤ length w.memory = omega (arith, c.requires.in_memory, c.self.invariant) in
     let size = c.oldest.ensures.len in
     let here : slice_get c.args.self.now.objects c.args.object ≡ Some (Pipe c.in-Pipe.pipe) = rw (← c.self.view_is) found in
-    let all = c.requires.in_memory in
+    let all : c.args.address + c.args.count ≤ length c.args.self.now.memory = rw (← c.self.view_is) (omega (arith, c.requires.in_memory, c.self.invariant)) in
     names_taken c.args.self.now c.args.object c.args.count c.args.address c.in-Pipe.pipe c.oldest.result.0.now c.oldest.result.1.now _ _ _ here c.oldest.ensures.bytes (omega (arith, size, all)) c.in_ok-note_memory.ensures.noted c.in_ok-note_memory-2.ensures.among c.in_ok-note_memory-2.ensures.noted (rw c.taken.ensures at c.in_ok-note_number.ensures.ok)

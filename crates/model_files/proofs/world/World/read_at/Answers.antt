@@ -23,7 +23,7 @@ returns-in_err-note_differing-clause-keeps c =
 pub returns-clause-keeps : goal.returns-clause-keeps
 returns-clause-keeps c =
     let w : WorldState = record { memory = c.self.inside.memory.items; objects = c.self.inside.objects.items; descriptors = c.self.inside.descriptors.items } in
-    let room : c.args.address + c.args.count ≤ length w.memory = rw (← c.self.view_is) at c.requires.in_memory in
+    let room : c.args.address + c.args.count ≤ length w.memory = omega (arith, c.requires.in_memory, c.self.invariant) in
     let size = c.bytes.ensures.len in
     let count : length (part c.bytes.result.now c.args.offset ((c.args.offset + c.args.count) - c.args.offset)) ≡ (c.args.address + c.args.count) - c.args.address =
     length-part c.bytes.result.now c.args.offset ((c.args.offset + c.args.count) - c.args.offset) (let w = c.requires.in_file in omega arith) ∙ omega arith in

@@ -1,0 +1,55 @@
+//! A run whose steps are all undone.
+ghost use Rattle.std.specs.Prelude.{◌≡◌, length, OnOk};
+
+use crate::tests::{ONE_NOP, REQUEST_AND_STEP, walker_of};
+use inverse_log::Walker;
+use machine::State;
+use places::{Place, Value};
+use std::alloc::Global;
+use std::process::Abort;
+use std::test::Fail;
+
+fn number(state: &State, place: Place) -> Option<u64> {
+    match state.value(place) {
+        Some(Value::Number(number)) => Some(number),
+        _ => None,
+    }
+}
+
+fn go_to_the_end(walker: &mut Walker) -> Result<(), Fail>
+    ensures { OnOk result (walker.new.at ≡ length walker.new.events) }
+{
+    walker.extend(&REQUEST_AND_STEP)?;
+    let len = walker.len();
+    walker.goto(len)?;
+    Ok(())
+}
+
+// The state at the end of a run, all of its steps undone.
+fn unwound(alloc: Global, walker: &Walker) -> Result<State, Fail>
+    requires { walker.now.at ≡ length walker.now.events }
+{
+    let mut state = walker.state().copy(alloc)?;
+    state.unwind(walker.records());
+    Ok(state)
+}
+
+fn check_start(rt: &impl Abort, state: &State) {
+    assert_eq!(rt; number(state, Place::CompletionHead), Some(0));
+    assert_eq!(rt; number(state, Place::ProgramCounter(0)), Some(0));
+    assert!(rt; state.value(Place::Request(0)).is_none());
+}
+
+fn check_unwinding(rt: &(impl Abort + AllocGlobal), walker: &mut Walker) -> Result<(), Fail> {
+    go_to_the_end(walker)?;
+    assert_eq!(rt; number(walker.state(), Place::CompletionHead), Some(1));
+    let state = unwound(rt.alloc(), walker)?;
+    check_start(rt, &state);
+    Ok(())
+}
+
+#[test]
+fn runs_are_unwound(rt: HostRuntime) -> Result<(), Fail> {
+    let mut walker = walker_of(rt.alloc(), ONE_NOP)?;
+    check_unwinding(&rt, &mut walker)
+}

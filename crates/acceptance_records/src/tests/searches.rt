@@ -1,0 +1,51 @@
+//! How many steps searches back make.
+
+use crate::tests::{TWO_REQUESTS, walker_of};
+use inverse_log::Walker;
+use machine::Event;
+use places::Place;
+use std::alloc::{AllocError, Global};
+use std::process::Abort;
+use std::test::Fail;
+use watches::{Stop, Watches, rcont};
+
+/// A write to an eventfd, and a read of it.
+const COUNTER_ADDED_AND_READ: &str =
+    r#"{"entries":8,"memory":[[0,"0500000000000000"]],"objects":[{"name":"e","eventfd":0}],"fds":["e"],"threads":[[["put",0,{"op":23,"fd":3,"addr":0,"len":8,"ud":1}],["push",0],["put",1,{"op":22,"fd":3,"addr":8,"len":8,"ud":2}],["push",1],["enter",2,0,0]]],"schedule":[]}"#;
+
+// A watch of the counter.
+fn counter_watched(alloc: Global) -> Result<Watches, AllocError> {
+    let mut watches = Watches::new(alloc);
+    watches.watch(Place::EventCount(0))?;
+    Ok(watches)
+}
+
+// Walks over the two requests and forty ticks, to the moment 49.
+fn walk_behind_ticks(walker: &mut Walker) -> Result<(), Fail> {
+    walker.extend(&TWO_REQUESTS)?;
+    walker.extend(&[Event::Tick(1); 40])?;
+    walker.goto(49)?;
+    Ok(())
+}
+
+// The counter changes at the moments 7 and 9. A search makes the steps of its jump alone.
+fn check_searches(rt: &impl Abort, walker: &mut Walker, watches: &Watches) -> Result<(), Fail> {
+    walk_behind_ticks(walker)?;
+    for (stop, steps) in [
+        (Stop::Change(8), 41),
+        (Stop::Change(6), 2),
+        (Stop::Start, 6),
+    ] {
+        let before = walker.walked();
+        assert_eq!(rt; rcont(walker, watches)?, stop);
+        assert_eq!(rt; walker.walked().wrapping_sub(before), steps);
+    }
+    Ok(())
+}
+
+#[test]
+fn searches_back_make_few_steps(rt: HostRuntime) -> Result<(), Fail> {
+    let watches = counter_watched(rt.alloc())?;
+    let mut walker = walker_of(rt.alloc(), COUNTER_ADDED_AND_READ)?;
+    check_searches(&rt, &mut walker, &watches)
+}

@@ -1,0 +1,72 @@
+//! The rows of a unit.
+ghost use Rattle.std.specs.Prelude.{◌≡◌, [], ◌<◌, length};
+
+use entries::{Phase, Sqe};
+use links_drains::Table;
+use model_files::World;
+use places::Recorder;
+use std::alloc::AllocError;
+use std::process::Abort;
+
+// A NOP, alone or linked to what follows.
+fn nop(flags: u8) -> Sqe {
+    Sqe {
+        opcode: 0,
+        flags,
+        ioprio: 0,
+        fd: 0,
+        off: 0,
+        addr: 0,
+        len: 0,
+        operation_flags: 0,
+        user_data: 7,
+        buf_index: 0,
+        personality: 0,
+        splice_fd_in: 0,
+        rest: [0; 16],
+    }
+}
+
+// Three linked NOPs and one more come into a table that has no rows.
+fn fill(table: &mut Table, world: &World) -> Result<(), AllocError>
+    requires rows { table.old ≡ [] }
+    requires memory { length world.now.memory ≡ 65536 }
+{
+    let mut notes = Recorder::new(table.allocator());
+    let entries = [nop(4), nop(4), nop(0), nop(0)];
+    table.take_batch(&entries, world, false, &mut notes)?;
+    Ok(())
+}
+
+fn end(table: &mut Table, r: u32) -> Result<(), AllocError>
+    requires { r < length table.old }
+{
+    let mut notes = Recorder::new(table.allocator());
+    table.set_phase(r, Phase::Ended(-9), &mut notes)
+}
+
+// Whether the rest of a row's unit is a list.
+fn has_rest(table: &Table, r: u32, rest: &[u32]) -> Result<bool, AllocError> {
+    Ok(table.rest_of(r)?.as_slice() == rest)
+}
+
+fn check_rest(rt: &impl Abort, table: &mut Table, world: &World) -> Result<(), AllocError>
+    requires rows { table.old ≡ [] }
+    requires memory { length world.now.memory ≡ 65536 }
+{
+    fill(table, world)?;
+    assert_eq!(rt; table.len(), 4);
+    assert!(rt; has_rest(table, 0, &[1, 2])?);
+    end(table, 1)?;
+    assert!(rt; has_rest(table, 0, &[2])?);
+    assert!(rt; has_rest(table, 2, &[])?);
+    assert!(rt; has_rest(table, 4, &[])?);
+    Ok(())
+}
+
+#[test]
+fn the_rest_of_a_unit(rt: HostRuntime) -> Result<(), AllocError> {
+    let world = World::new(rt.alloc(), &[], &[], &[])?;
+    let mut table = Table::new(rt.alloc());
+    check_rest(&rt, &mut table, &world)
+}

@@ -1,0 +1,10 @@
+-- Which command ends a session.
+use Rattle.std.specs.Prelude.{Bool, true, false, Result, Ok, Err}
+use Rattle.debug_server.specs.declared.commands.command.Command.{Command}
+use Rattle.debug_server.specs.declared.commands.command.Command.TheVariants.{Quit}
+use Rattle.debug_server.specs.declared.commands.command.CommandFault.{CommandFault}
+
+-- whether no line behind a command is answered
+abbrev pub is_quit : Result Command CommandFault → Bool
+is_quit (Ok Quit) = true
+is_quit _ = false

@@ -1,0 +1,26 @@
+-- What walking some events comes to, without a source.
+use Rattle.std.specs.Prelude.{List, Bool}
+use Rattle.scenario.specs.declared.setup.Setup.{Setup}
+use Rattle.scenario.specs.declared.event.Event.{Event}
+use Rattle.machine.specs.Runs.{start, Accepts}
+use Rattle.debug_server.specs.SessionStates.{SessionState}
+use Rattle.debug_server.specs.Replies.{Answer}
+use Rattle.debug_server.specs.Transcripts.{Unanswered, Streams, Served, Broke}
+use Rattle.debug_server.specs.Schedules.{state_over}
+use Rattle.debug_server.specs.declared.faults.ServeFault.{ServeFault}
+
+-- The events run from the setup, and the session that stands at their end replied to what was read.
+pub record Walked (setup : Setup) (events : List Event) (before after : Streams) : Type 0 where
+  pub runs : Accepts (start setup) events
+  pub answers : List Answer
+  pub unanswered : Unanswered answers
+  pub next : SessionState
+  pub quits : Bool
+  pub served : Served (state_over setup events) before after answers next quits
+
+-- The events run, and that session's replies were broken off.
+pub record BrokenOff (setup : Setup) (events : List Event) (before after : Streams) (fault : ServeFault) : Type 0 where
+  pub runs : Accepts (start setup) events
+  pub answers : List Answer
+  pub unanswered : Unanswered answers
+  pub broke : Broke (state_over setup events) before after answers fault

@@ -1,0 +1,106 @@
+-- A submission of nothing changes nothing.
+use Rattle.std.proofs.Common.{◌≡◌, ℕ, ℤ, pos, Bool, true, false, refl, sym, ◌∙◌, ap, List, [], ◌∷◌, ◌++◌, length, ◌+◌, ◌-◌, ◌%◌, ◌^◌, arith}
+use Rattle.std.proofs.lemmas.List.{append-nil}
+use Rattle.std.specs.Prelude.{Option, Some, None, slice_get, ◌&&◌, if◌then◌else◌}
+use Rattle.std.specs.Option.{option_map_or}
+use Rattle.entries.specs.declared.entry.Sqe.{Sqe}
+use Rattle.entries.specs.declared.row.Row.{Row}
+use Rattle.links_drains.specs.Batches.{direct_of, rows_of}
+use Rattle.links_drains.specs.Endings.{ecanceled, endings, given, or_else, result_in}
+use Rattle.links_drains.specs.Links.{is_guard}
+use Rattle.links_drains.specs.Phases.{is_unfinished}
+use Rattle.model_files.specs.Worlds.{WorldState}
+use Rattle.ring_words.specs.Rings.{SubWords}
+use Rattle.sqpoll.specs.declared.poller.Poller.{Poller}
+use Rattle.timeouts_cancel.specs.Falls.{fall_of, guards_listed, is_met, with_guards, with_met, with_severed}
+use Rattle.timeouts_cancel.proofs.Listed.{upto_all}
+use Rattle.machine.specs.InTurn.{ended_in_turn}
+use Rattle.machine.specs.Submission.{taken_entries}
+use Rattle.machine.specs.Steps.{after, answered, awaited, entered, entries_for, executed, fallen, submitted, taken, words_for}
+use Rattle.machine.specs.Whole.{NoneMet, WellFormed}
+use Rattle.machine.specs.declared.whole.Machine.{Machine}
+use Rattle.scenario.specs.declared.setup.Instruction.TheVariants.{Enter}
+use Rattle.scenario.specs.declared.event.Event.TheVariants.{Take}
+use Rattle.machine.proofs.AtOnce.{posts}
+use Rattle.machine.proofs.FallenRows.{fall_in_turn}
+use Rattle.machine.proofs.FormedMachines.{mostly}
+use Rattle.machine.proofs.FormedSubmissions.{length-taken_words}
+use Rattle.machine.proofs.SubmissionLemmas.{take_told}
+
+-- ---- nothing falls
+
+-- a test that gives nothing lists nothing
+none_listed : (f : ℕ → Row → Option ℤ) (rows : List Row) → ((r : ℕ) (row : Row) → slice_get rows r ≡ Some row → f r row ≡ None) → endings f rows ≡ []
+none_listed f rows h = sym (upto_all f rows 0 (λ r row l e. by r row e (is_unfinished row.phase)))
+  where
+    by : (r : ℕ) (row : Row) → slice_get rows r ≡ Some row → (b : Bool) → (if b then f r row else None) ≡ None
+    by r row e true = h r row e
+    by r row e false = refl
+
+pub nothing_listed : (rows : List Row) (counted : ℕ) → NoneMet counted rows → fall_of rows counted [] ≡ []
+nothing_listed rows counted h =
+    ap (λ es. with_guards rows (with_met rows counted (with_severed rows es))) (none_listed (λ r row. result_in [] r) rows (λ r row e. refl))
+    ∙ ap (λ es. with_guards rows (with_met rows counted es)) (none_listed (λ r row. or_else (result_in [] r) (given false ecanceled)) rows (λ r row e. refl))
+    ∙ ap (with_guards rows) (none_listed (λ r row. or_else (result_in [] r) (given (is_met (counted + 0) row) (pos 0))) rows unmet)
+    ∙ none_listed (λ r row. or_else (result_in [] r) (given (guards_listed [] row) ecanceled)) rows unguarded
+  where
+    unmet : (r : ℕ) (row : Row) → slice_get rows r ≡ Some row → given (is_met (counted + 0) row) (pos 0) ≡ None
+    unmet r row e = let n : counted + 0 ≡ counted = omega arith in ap (λ k. given (is_met k row) (pos 0)) n ∙ ap (λ b. given b (pos 0)) (h r row e)
+
+    unguarded : (r : ℕ) (row : Row) → slice_get rows r ≡ Some row → given (guards_listed [] row) ecanceled ≡ None
+    unguarded r row e = by (is_guard row) row.target
+      where
+        by : (b : Bool) (o : Option ℕ) → given (b && option_map_or (λ t. false) o false) ecanceled ≡ None
+        by true None = refl
+        by true (Some t) = refl
+        by false o = refl
+
+pub nothing_falls : (m : Machine) → WellFormed m → fallen m [] ≡ m
+nothing_falls m f = fall_in_turn m [] (posts m (mostly m f)) ∙ ap (ended_in_turn m) (nothing_listed m.table m.counted f.unmet)
+
+-- ---- nothing is taken
+
+no_entries : (b : Bool) (v : WorldState) (w : SubWords) → taken_entries b v w 0 ≡ []
+no_entries true v w = refl
+no_entries false v w = refl
+
+empty : {X : Type 0} (xs : List X) → length xs ≡ 0 → xs ≡ []
+empty [] h = refl
+empty (x ∷ xs) h = absurd (omega (arith, h))
+
+no_words : (m : Machine) → words_for m 0 ≡ []
+no_words m = let l = length-taken_words m.submit_all m.world m.submissions 0 in empty (words_for m 0) (omega (arith, l))
+
+nothing_taken : (m : Machine) → WellFormed m → taken m 0 ≡ m
+nothing_taken m f = sym (take_told m 0 0 0 m.submissions m.table (sym (no_words m)) (omega arith) rows (ap length (sym none)) ring)
+  where
+    none : entries_for m 0 ≡ []
+    none = no_entries m.submit_all m.world m.submissions
+
+    rows : m.table ≡ m.table ++ rows_of m.world (length m.table) (entries_for m 0)
+    rows = sym (ap (λ es. m.table ++ rows_of m.world (length m.table) es) none ∙ append-nil m.table)
+
+    ring : m.submissions ≡ record m.submissions { head = (m.submissions.head + 0) % 2 ^ 32; dropped = (m.submissions.dropped + (0 - 0)) % 2 ^ 32 }
+    ring =
+        let a : m.submissions.head ≡ (m.submissions.head + 0) % 2 ^ 32 = let l = f.mostly.rings.submissions.head in omega (arith, l) in
+        let b : m.submissions.dropped ≡ (m.submissions.dropped + (0 - 0)) % 2 ^ 32 = let l = f.mostly.rings.submissions.dropped in omega (arith, l) in
+        ap (λ h. record m.submissions { head = h }) a ∙ ap (λ d. record m.submissions { head = (m.submissions.head + 0) % 2 ^ 32; dropped = d }) b
+
+pub nothing_submitted : (m : Machine) → WellFormed m → submitted m 0 ≡ m
+nothing_submitted m f =
+    ap (λ es. fallen (taken m 0) (direct_of m.world (length m.table) es)) (no_entries m.submit_all m.world m.submissions)
+    ∙ ap (λ (n : Machine). fallen n []) (nothing_taken m f) ∙ nothing_falls m f
+
+pub take_of_nothing : (m : Machine) → WellFormed m → after m (Take 0) ≡ m
+take_of_nothing m f = nothing_submitted m f
+
+-- ---- an Enter of nothing
+
+pub enter_of_nothing : (m : Machine) (t min_complete : ℕ) → WellFormed m → executed m t (Some (Enter 0 min_complete 0)) ≡ answered m t (pos 0)
+enter_of_nothing m t min_complete f = by m.poller
+  where
+    by : (p : Option Poller) → entered m p t 0 min_complete 0 ≡ answered m t (pos 0)
+    by None =
+        ap (λ (es : List Sqe). awaited (submitted m 0) t (length es) 0 min_complete 0) (no_entries m.submit_all m.world m.submissions)
+        ∙ ap (λ (n : Machine). awaited n t 0 0 min_complete 0) (nothing_submitted m f)
+    by (Some p) = refl

@@ -1,0 +1,155 @@
+-- Logs that go on by an event, or end at one.
+use Rattle.std.proofs.Common.{◌≡◌, ◌⊎◌, inl, inr, ℕ, ◌+◌, ◌<◌, ◌≤◌, zero, suc, List, [], ◌∷◌, ◌++◌, length, take, get_or, slice_get, Bool, true, false, Option, Some, None, refl, sym, ap, ◌∙◌, subst, arith, append_assoc}
+use Rattle.std.specs.Prelude.{⊤, Result, Ok, Err, OnOk, IfErr}
+use Rattle.std.proofs.KnownBytes.{Appends-nil, Appends-trans, Appends-kept}
+use Rattle.std.proofs.lemmas.List.{take_more}
+use Rattle.std.proofs.lemmas.Option.{slice_get-get_or}
+use Rattle.std.specs.Io.KnownBytes.{Appends, Keeps}
+use Rattle.places.specs.declared.value.Change.{Change}
+use Rattle.places.specs.View.{Exact}
+use Rattle.scenario.specs.declared.event.Event.{Event}
+use Rattle.scenario.specs.declared.event.Refusal.{Refusal}
+use Rattle.scenario.specs.declared.event.Refusal.TheVariants.{Memory as OutOfMemory}
+use Rattle.scenario.specs.declared.setup.Setup.{Setup}
+use Rattle.machine.specs.declared.whole.Machine.{Machine}
+use Rattle.machine.specs.Whole.{view}
+use Rattle.machine.specs.Steps.{after, refusal, Next}
+use Rattle.machine.specs.Runs.{run, start, moment, Accepts, IsRefused}
+use Rattle.run_log.specs.declared.fault.LogFault.{LogFault}
+use Rattle.run_log.specs.declared.fault.LogFault.TheVariants.{Script, Trace, Schedule, Write, Memory}
+use Rattle.run_log.specs.declared.range.EventRange.{EventRange}
+use Rattle.run_log.specs.Ranges.{has}
+use Rattle.run_log.specs.Logs.{Shows, Reports, Tells, Reported, WritesFront, Halts, fault_by, Logs, Written, Begun, Stopped}
+
+-- ---- runs, one event longer
+
+run-push : (s : Machine) (es : List Event) (e : Event) → run s (es ++ e ∷ []) ≡ after (run s es) e
+run-push s [] e = refl
+run-push s (x ∷ es) e = run-push (after s x) es e
+
+accepts-push : (s : Machine) (es : List Event) (e : Event) → Accepts s es → refusal (run s es) e ≡ None → Accepts s (es ++ e ∷ [])
+accepts-push s [] e a h = (h, tt)
+accepts-push s (x ∷ es) e a h = (a.0, accepts-push (after s x) es e a.1 h)
+
+accepts_more : (s : Machine) (es : List Event) (i : ℕ) (e d : Event) → i < length es → e ≡ get_or es i d → Accepts s (take i es) → refusal (run s (take i es)) e ≡ None → Accepts s (take (i + 1) es)
+accepts_more s es i e d h g a n =
+    let one : take (i + 1) es ≡ take i es ++ e ∷ [] = take_more es i d h ∙ ap (λ x. take i es ++ x ∷ []) (sym g) in
+    subst (Accepts s) (sym one) (accepts-push s (take i es) e a n)
+
+moment_more : (s : Setup) (es : List Event) (i : ℕ) (e d : Event) → i < length es → e ≡ get_or es i d → moment s es (i + 1) ≡ after (moment s es i) e
+moment_more s es i e d h g =
+    let one : take (i + 1) es ≡ take i es ++ e ∷ [] = take_more es i d h ∙ ap (λ x. take i es ++ x ∷ []) (sym g) in
+    ap (run (start s)) one ∙ run-push (start s) (take i es) e
+
+-- ---- one event
+
+pub reports_of : (s : Setup) (i : ℕ) (m n : Machine) (e : Event) (past : List Change) (text : List ℕ) → Next m e n → Exact (view m) (view n) past → Shows s i e (view n) past text → Reports s i m e text
+reports_of s i m n e past text next exact shows = record {
+  past = past;
+  exact = subst (λ x. Exact (view m) (view x) past) next.changed exact;
+  shows = subst (λ x. Shows s i e (view x) past text) next.changed shows;
+}
+
+pub reported_lines : (told : Bool) (s : Setup) (i : ℕ) (m n : Machine) (e : Event) (past : List Change) (text : List ℕ) (a b : Option (List ℕ)) → told ≡ true → Next m e n → Exact (view m) (view n) past
+    → Shows s i e (view n) past text → Appends a b text → Reported told s i m e a b
+reported_lines told s i m n e past text a b t next exact shows w =
+    record { text = text; tells = subst (λ x. Tells x s i m e text) (sym t) (reports_of s i m n e past text next exact shows); appended = w }
+
+pub reported_nothing : (told : Bool) (s : Setup) (i : ℕ) (m : Machine) (e : Event) (a : Option (List ℕ)) → told ≡ false → Reported told s i m e a a
+reported_nothing told s i m e a t = record { text = []; tells = subst (λ x. Tells x s i m e []) (sym t) refl; appended = Appends-nil a }
+
+pub halted_write : (told : Bool) (s : Setup) (i : ℕ) (m n : Machine) (e : Event) (past : List Change) (f : LogFault) (a b : Option (List ℕ)) → told ≡ true → Next m e n → Exact (view m) (view n) past
+    → ((f ≡ Memory) × Keeps a b) ⊎ ((f ≡ Write) × (text : List ℕ) × Shows s i e (view n) past text × WritesFront a b text) → Halts told s i m e f a b
+halted_write told s i m n e past f a b t next exact (inl h) = subst (λ x. Halts told s i m e x a b) (sym h.0) h.1
+halted_write told s i m n e past f a b t next exact (inr h) =
+    let tells : Tells told s i m e h.1 = subst (λ x. Tells x s i m e h.1) (sym t) (reports_of s i m n e past h.1 next exact h.2) in
+    let all : Halts told s i m e Write a b = (next.accepted, h.1, tells, h.3) in
+    subst (λ x. Halts told s i m e x a b) (sym h.0) all
+
+halted_by : (told : Bool) (s : Setup) (i : ℕ) (m : Machine) (e : Event) (n : Refusal) (a : Option (List ℕ)) → (n ≡ OutOfMemory) ⊎ (refusal m e ≡ Some n) → Keeps a a → Halts told s i m e (fault_by i n) a a
+halted_by told s i m e OutOfMemory a h k = k
+halted_by told s i m e n a h k = elim h [ inl q ↦ absurd cc | inr p ↦ (refl, p, k) ]
+
+-- an event that isn't accepted
+pub halted_refused : (told : Bool) (s : Setup) (i : ℕ) (m : Machine) (e : Event) (n : Refusal) (a : Option (List ℕ)) → ((k : Refusal) → refusal m e ≡ Some k → n ≡ k) → (refusal m e ≡ None → n ≡ OutOfMemory) → Keeps a a
+    → Halts told s i m e (fault_by i n) a a
+halted_refused told s i m e n a refused memory keeps = by (refusal m e) refl
+  where
+    by : (x : Option Refusal) → refusal m e ≡ x → Halts told s i m e (fault_by i n) a a
+    by None p = halted_by told s i m e n a (inl (memory p)) keeps
+    by (Some k) p = halted_by told s i m e n a (inr (p ∙ ap Some (sym (refused k p)))) keeps
+
+-- ---- events in a row
+
+-- the log of the first i events was written, and the next one finds their machine
+pub record Logging (s : Setup) (es : List Event) (r : EventRange) (i : ℕ) (m : Machine) (held held' : Option (List ℕ)) : Type 0 where
+  pub here : m ≡ moment s es i
+  pub done : Written s es r i held held'
+
+pub nothing_written : (s : Setup) (es : List Event) (r : EventRange) (a : Option (List ℕ)) → Written s es r 0 a a
+nothing_written s es r a = record { within = omega arith; runs = tt; text = []; log = refl; appended = Appends-nil a }
+
+pub logging_starts : (s : Setup) (es : List Event) (r : EventRange) (m : Machine) (a : Option (List ℕ)) → m ≡ start s → Logging s es r 0 m a a
+logging_starts s es r m a e = record { here = e; done = nothing_written s es r a }
+
+pub logging_more : (s : Setup) (es : List Event) (r : EventRange) (i : ℕ) (m n : Machine) (e d : Event) (a b c : Option (List ℕ)) → i < length es → Logging s es r i m a b → e ≡ get_or es i d
+    → Next m e n → Reported (has r i) s i m e b c → Logging s es r (i + 1) n a c
+logging_more s es r i m n e d a b c h l g next told =
+    let up : suc i ≡ i + 1 = omega arith in
+    let there : slice_get es i ≡ Some e = slice_get-get_or es i d h ∙ ap Some (sym g) in
+    let tells : Tells (has r i) s i (moment s es i) e told.text = subst (λ x. Tells (has r i) s i x e told.text) l.here told.tells in
+    let accepted : refusal (moment s es i) e ≡ None = ap (λ x. refusal x e) (sym l.here) ∙ next.accepted in
+    let log : Logs s es r (suc i) (l.done.text ++ told.text) = (l.done.text, told.text, e, refl, there, tells, l.done.log) in
+    record {
+      here = next.changed ∙ ap (λ x. after x e) l.here ∙ sym (moment_more s es i e d h g);
+      done = record {
+        within = omega arith;
+        runs = accepts_more (start s) es i e d h g l.done.runs accepted;
+        text = l.done.text ++ told.text;
+        log = subst (λ k. Logs s es r k (l.done.text ++ told.text)) up log;
+        appended = Appends-trans a b c _ _ l.done.appended told.appended;
+      };
+    }
+
+kept : (s : Setup) (es : List Event) (r : EventRange) (i : ℕ) (a b c : Option (List ℕ)) → Written s es r i a b → Keeps b c → Written s es r i a c
+kept s es r i a b c w k = record { within = w.within; runs = w.runs; text = w.text; log = w.log; appended = Appends-kept a b c _ w.appended k }
+
+pub logging_stops : (s : Setup) (es : List Event) (r : EventRange) (i : ℕ) (m : Machine) (e d : Event) (a b c : Option (List ℕ)) (f : LogFault) → i < length es → Logging s es r i m a b → e ≡ get_or es i d
+    → Halts (has r i) s i m e f b c → Stopped s es r f a c
+logging_stops s es r i m e d a b c (Schedule j n) h l g stop =
+    let there : slice_get es i ≡ Some e = slice_get-get_or es i d h ∙ ap Some (sym g) in
+    let refused : IsRefused s es i n = record { runs = l.done.runs; event = e; there = there; refused = ap (λ x. refusal x e) (sym l.here) ∙ stop.1 } in
+    (subst (λ k. IsRefused s es k n) (sym stop.0) refused, subst (λ k. Written s es r k a c) (sym stop.0) (kept s es r i a b c l.done stop.2))
+logging_stops s es r i m e d a b c Write h l g stop =
+    let up : suc i ≡ i + 1 = omega arith in
+    let there : slice_get es i ≡ Some e = slice_get-get_or es i d h ∙ ap Some (sym g) in
+    let tells : Tells (has r i) s i (moment s es i) e stop.1 = subst (λ x. Tells (has r i) s i x e stop.1) l.here stop.2 in
+    let accepted : refusal (moment s es i) e ≡ None = ap (λ x. refusal x e) (sym l.here) ∙ stop.0 in
+    let w = stop.3 in
+    let whole : (l.done.text ++ w.front) ++ w.rest ≡ l.done.text ++ stop.1 = append_assoc l.done.text w.front w.rest ∙ ap (λ x. l.done.text ++ x) (sym w.whole) in
+    let log : Logs s es r (suc i) ((l.done.text ++ w.front) ++ w.rest) = (l.done.text, stop.1, e, whole, there, tells, l.done.log) in (
+      i + 1,
+      record {
+        within = omega arith;
+        runs = accepts_more (start s) es i e d h g l.done.runs accepted;
+        front = l.done.text ++ w.front;
+        rest = w.rest;
+        log = subst (λ k. Logs s es r k ((l.done.text ++ w.front) ++ w.rest)) up log;
+        appended = Appends-trans a b c _ _ l.done.appended w.appended;
+      },
+    )
+logging_stops s es r i m e d a b c Memory h l g stop = (i, kept s es r i a b c l.done stop)
+logging_stops s es r i m e d a b c (Script f) h l g stop = absurd stop
+logging_stops s es r i m e d a b c (Trace f) h l g stop = absurd stop
+
+-- ---- the same of results
+
+pub told_ok : (r : Result ⊤ LogFault) (told : Bool) (s : Setup) (i : ℕ) (m n : Machine) (e : Event) (past : List Change) (a b : Option (List ℕ)) → told ≡ true → Next m e n → Exact (view m) (view n) past
+    → OnOk r ((text : List ℕ) × Shows s i e (view n) past text × Appends a b text) → OnOk r (Reported told s i m e a b)
+told_ok (Ok x) told s i m n e past a b t next exact h = reported_lines told s i m n e past h.0 a b t next exact h.1 h.2
+told_ok (Err f) told s i m n e past a b t next exact h = tt
+
+pub told_err : (r : Result ⊤ LogFault) (told : Bool) (s : Setup) (i : ℕ) (m n : Machine) (e : Event) (past : List Change) (a b : Option (List ℕ)) → told ≡ true → Next m e n → Exact (view m) (view n) past
+    → IfErr r (λ f. ((f ≡ Memory) × Keeps a b) ⊎ ((f ≡ Write) × (text : List ℕ) × Shows s i e (view n) past text × WritesFront a b text)) → IfErr r (λ f. Halts told s i m e f a b)
+told_err (Ok x) told s i m n e past a b t next exact h = tt
+told_err (Err f) told s i m n e past a b t next exact h = halted_write told s i m n e past f a b t next exact h

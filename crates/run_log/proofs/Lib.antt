@@ -1,0 +1,4 @@
+pub mod Writes
+pub mod Rows
+pub mod Following
+pub mod RowLaws

@@ -1,0 +1,33 @@
+-- What rows hold.
+use Rattle.std.proofs.Common.{◌≡◌, List, [], ◌∷◌, ◌++◌, cond, Bool, true, false, refl, ap, ◌∙◌}
+use Rattle.std.proofs.lemmas.List.Elements.{All-nil, All-cons, All-head, All-tail}
+use Rattle.std.specs.List.{flat_map, All}
+use Rattle.run_log.specs.declared.changed.Changed.{Changed}
+use Rattle.run_log.specs.Lines.{is_next, onto, rows}
+use Rattle.run_log.specs.RowShapes.{IsRow}
+
+onto_holds : (d : Changed) (rs : List (List Changed)) → flat_map (λ row. row) (onto d rs) ≡ d ∷ flat_map (λ row. row) rs
+onto_holds d [] = refl
+onto_holds d ([] ∷ rs) = refl
+onto_holds d ((e ∷ es) ∷ rs) = by (is_next d.place e.place)
+  where
+    by : (b : Bool) → flat_map (λ row. row) (cond b ((d ∷ e ∷ es) ∷ rs) ((d ∷ []) ∷ (e ∷ es) ∷ rs)) ≡ d ∷ (e ∷ es) ++ flat_map (λ row. row) rs
+    by true = refl
+    by false = refl
+
+pub hold_all : (ds : List Changed) → flat_map (λ row. row) (rows ds) ≡ ds
+hold_all [] = refl
+hold_all (d ∷ ds) = onto_holds d (rows ds) ∙ ap (λ xs. d ∷ xs) (hold_all ds)
+
+onto_goes_on : (d : Changed) (rs : List (List Changed)) → All IsRow rs → All IsRow (onto d rs)
+onto_goes_on d [] a = All-cons IsRow (d ∷ []) [] tt (All-nil IsRow)
+onto_goes_on d ([] ∷ rs) a = All-cons IsRow (d ∷ []) rs tt (All-tail IsRow [] rs a)
+onto_goes_on d ((e ∷ es) ∷ rs) a = by (is_next d.place e.place) refl
+  where
+    by : (b : Bool) → is_next d.place e.place ≡ b → All IsRow (cond b ((d ∷ e ∷ es) ∷ rs) ((d ∷ []) ∷ (e ∷ es) ∷ rs))
+    by true h = All-cons IsRow (d ∷ e ∷ es) rs (h, All-head IsRow (e ∷ es) rs a) (All-tail IsRow (e ∷ es) rs a)
+    by false h = All-cons IsRow (d ∷ []) ((e ∷ es) ∷ rs) tt a
+
+pub go_on : (ds : List Changed) → All IsRow (rows ds)
+go_on [] = All-nil IsRow
+go_on (d ∷ ds) = onto_goes_on d (rows ds) (go_on ds)

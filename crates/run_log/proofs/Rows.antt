@@ -1,0 +1,60 @@
+-- Changes parted into rows, from the front.
+use Rattle.std.proofs.Common.{◌≡◌, ℕ, ◌+◌, ◌<◌, ◌≤◌, arith, zero, suc, List, [], ◌∷◌, length, take, drop, get_or, cond, Bool, true, false, refl, sym, ap, ◌∙◌, subst, ◌-◌, ◌++◌, append_assoc}
+use Rattle.std.proofs.Math.Seq.{drop-cons}
+use Rattle.std.proofs.lemmas.List.{drop_all}
+use Rattle.std.specs.List.{flat_map}
+use Rattle.places.specs.declared.place.Place.{Place}
+use Rattle.run_log.specs.declared.changed.Changed.{Changed}
+use Rattle.run_log.specs.Lines.{is_next, onto, rows}
+
+-- how many changes at the front go on from a byte
+abbrev pub length_from : Place → List Changed → ℕ
+length_from p [] = zero
+length_from p (d ∷ ds) = cond (is_next p d.place) (suc (length_from d.place ds)) zero
+
+-- the first row, and those behind it
+pub parted : (d : Changed) (ds : List Changed) → rows (d ∷ ds) ≡ (d ∷ take (length_from d.place ds) ds) ∷ rows (drop (length_from d.place ds) ds)
+parted d [] = refl
+parted d (e ∷ es) = ap (onto d) (parted e es) ∙ by (is_next d.place e.place) (parted e es)
+  where
+    by : (b : Bool) → rows (e ∷ es) ≡ (e ∷ take (length_from e.place es) es) ∷ rows (drop (length_from e.place es) es)
+        → cond b ((d ∷ e ∷ take (length_from e.place es) es) ∷ rows (drop (length_from e.place es) es)) ((d ∷ []) ∷ (e ∷ take (length_from e.place es) es) ∷ rows (drop (length_from e.place es) es))
+        ≡ (d ∷ take (cond b (suc (length_from e.place es)) zero) (e ∷ es)) ∷ rows (drop (cond b (suc (length_from e.place es)) zero) (e ∷ es))
+    by true h = refl
+    by false h = ap (λ x. (d ∷ []) ∷ x) (sym h)
+
+-- the next change goes on, or doesn't
+pub from_next : (p : Place) (ds : List Changed) (i : ℕ) (d : Changed) → i < length ds → length_from p (drop i ds) ≡ cond (is_next p (get_or ds i d).place) (suc (length_from (get_or ds i d).place (drop (i + 1) ds))) zero
+from_next p ds i d h =
+    let e : suc i ≡ i + 1 = omega arith in
+    ap (length_from p) (drop-cons ds i d h) ∙ ap (λ k. cond (is_next p (get_or ds i d).place) (suc (length_from (get_or ds i d).place (drop k ds))) zero) e
+
+parted_at : (d : Changed) (ds : List Changed) (n : ℕ) → length_from d.place ds ≡ n → rows (d ∷ ds) ≡ (d ∷ take n ds) ∷ rows (drop n ds)
+parted_at d ds n e = parted d ds ∙ ap (λ k. (d ∷ take k ds) ∷ rows (drop k ds)) e
+
+-- the row ends before a change
+pub parted_before : (d : Changed) (ds : List Changed) (i count : ℕ) (last : Place) (x : Changed) → i < length ds → is_next last (get_or ds i x).place ≡ false
+    → length_from d.place ds ≡ count + length_from last (drop i ds) → rows (d ∷ ds) ≡ (d ∷ take count ds) ∷ rows (drop count ds)
+parted_before d ds i count last x h ends all =
+    let more = suc (length_from (get_or ds i x).place (drop (i + 1) ds)) in
+    let none : length_from last (drop i ds) ≡ zero = from_next last ds i x h ∙ ap (λ b. cond b more zero) ends in
+    parted_at d ds count (omega (arith, all, none))
+
+-- the row ends with the changes
+pub parted_whole : (d : Changed) (ds : List Changed) (i count : ℕ) (last : Place) → length ds ≤ i → length_from d.place ds ≡ count + length_from last (drop i ds) → rows (d ∷ ds) ≡ (d ∷ take count ds) ∷ rows (drop count ds)
+parted_whole d ds i count last h all =
+    let none : length_from last (drop i ds) ≡ zero = ap (length_from last) (drop_all i ds h) in
+    parted_at d ds count (omega (arith, all, none))
+
+-- ---- text
+
+-- the line of a row behind those before it
+pub line_more : (f : List Changed → List ℕ) (start out written : List ℕ) (all rest row behind : List Changed) (n : ℕ) → rows rest ≡ take n rest ∷ rows (drop n rest) → row ≡ take n rest → behind ≡ drop n rest → written ≡ out ++ f row
+    → out ++ flat_map f (rows rest) ≡ start ++ flat_map f (rows all) → written ++ flat_map f (rows behind) ≡ start ++ flat_map f (rows all)
+line_more f start out written all rest row behind n parts e g w before =
+    let line : written ≡ out ++ f (take n rest) = w ∙ ap (λ x. out ++ f x) e in
+    ap (λ ds. written ++ flat_map f (rows ds)) g
+    ∙ ap (λ o. o ++ flat_map f (rows (drop n rest))) line
+    ∙ append_assoc out (f (take n rest)) (flat_map f (rows (drop n rest)))
+    ∙ ap (λ rs. out ++ flat_map f rs) (sym parts)
+    ∙ before

@@ -1,0 +1,7 @@
+pub mod Ranges
+pub mod EventTexts
+pub mod PlaceTexts
+pub mod Listings
+pub mod Lines
+pub mod Logs
+pub mod RowShapes

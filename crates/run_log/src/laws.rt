@@ -1,0 +1,16 @@
+//! Laws of the definitions.
+ghost use Rattle.std.specs.Prelude.{◌≡◌, List};
+ghost use Rattle.std.specs.List.{flat_map, All};
+ghost use Rattle.run_log.specs.Lines.{rows};
+ghost use Rattle.run_log.specs.RowShapes.{IsRow};
+ghost use Rattle.run_log.specs.declared.changed.Changed.{Changed};
+
+/// The lines of an event hold all changes that it lists, in their order, each once.
+pub fn rows_hold_all()
+    ensures { (ds : List Changed) → flat_map (λ row. row) (rows ds) ≡ ds }
+{}
+
+/// On a line stands one change, or each byte stands just behind the one before it.
+pub fn rows_go_on()
+    ensures { (ds : List Changed) → All IsRow (rows ds) }
+{}

@@ -1,0 +1,21 @@
+//! The log of a run: what each of its events changed, as lines of text.
+#![tactic(auto)]
+
+mod changed;
+mod event_text;
+mod fault;
+mod joining;
+pub mod laws;
+mod line;
+mod logging;
+mod place_text;
+mod range;
+mod reading;
+mod writing;
+
+pub use changed::Changed;
+pub use event_text::EventText;
+pub use fault::LogFault;
+pub use logging::log_events;
+pub use range::EventRange;
+pub use reading::{log_run, log_script, log_trace};

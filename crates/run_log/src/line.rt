@@ -1,0 +1,124 @@
+//! The lines of an event.
+ghost use Rattle.std.specs.Prelude.{◌≡◌, ◌<◌, ◌++◌, length, codes, IfOk, OnOk};
+ghost use Rattle.std.specs.List.{flat_map};
+ghost use Rattle.run_log.specs.Lines.{value_shown, olds_text, news_text, end_text, values_text, line_text, rows, event_lines};
+ghost use Rattle.run_log.specs.PlaceTexts.{number_text};
+
+use crate::changed::Changed;
+use crate::event_text::EventText;
+use crate::joining::first_row;
+use crate::place_text::{number_of, put_number, put_place};
+use machine::{Event, Setup};
+use places::Value;
+use std::alloc::{AllocError, Global};
+
+// Writes what stands in a place, if anything does.
+fn put_value(alloc: Global, out: &mut Vec<u8>, value: Option<Value>) -> Result<(), AllocError>
+    ensures { OnOk result (out.new.items ≡ out.old.items ++ value_shown value) }
+{
+    match value {
+        Some(value) => out.extend_from_slice(value.text(alloc)?.as_slice()),
+        None => out.extend_from_slice(b"absent"),
+    }
+}
+
+// Writes what stood in the places of a line.
+fn put_olds(alloc: Global, out: &mut Vec<u8>, row: &[Changed]) -> Result<(), AllocError>
+    ensures { OnOk result (out.new.items ≡ out.old.items ++ olds_text row.now) }
+{
+    for changed in row {
+        put_value(alloc, out, changed.old)?;
+    }
+    Ok(())
+}
+
+// Writes what stands in them now.
+fn put_news(alloc: Global, out: &mut Vec<u8>, row: &[Changed]) -> Result<(), AllocError>
+    ensures { OnOk result (out.new.items ≡ out.old.items ++ news_text row.now) }
+{
+    for changed in row {
+        put_value(alloc, out, changed.new)?;
+    }
+    Ok(())
+}
+
+// The number of the last of some bytes.
+fn end_of(bytes: &[Changed]) -> Option<u32>
+    ensures { number_text (codes "..") result ≡ end_text bytes.now }
+{
+    match bytes.last() {
+        Some(last) => number_of(last.place),
+        None => None,
+    }
+}
+
+// Writes where a row of bytes ends, if it goes on behind its first.
+fn put_end(alloc: Global, out: &mut Vec<u8>, bytes: &[Changed]) -> Result<(), AllocError>
+    ensures { OnOk result (out.new.items ≡ out.old.items ++ end_text bytes.now) }
+{
+    match end_of(bytes) {
+        Some(number) => put_number(alloc, out, "..", number),
+        None => Ok(()),
+    }
+}
+
+// Writes what stood in the places of a line, and what stands there now.
+fn put_values(alloc: Global, out: &mut Vec<u8>, row: &[Changed]) -> Result<(), AllocError>
+    ensures { OnOk result (out.new.items ≡ out.old.items ++ values_text row.now) }
+{
+    out.extend_from_slice(b" ")?;
+    put_olds(alloc, out, row)?;
+    out.extend_from_slice(b" -> ")?;
+    put_news(alloc, out, row)?;
+    out.extend_from_slice(b"\n")
+}
+
+// Writes the line of a place, or of a row of bytes, which goes on behind the first.
+fn put_line(
+    alloc: Global,
+    out: &mut Vec<u8>,
+    setup: &Setup,
+    row: &[Changed],
+) -> Result<(), AllocError>
+    requires { 0 < length row.now }
+    ensures { OnOk result (out.new.items ≡ out.old.items ++ line_text setup.now row.now) }
+{
+    out.extend_from_slice(b"  ")?;
+    put_place(alloc, out, setup, row[0].place)?;
+    put_end(alloc, out, &row[1..])?;
+    put_values(alloc, out, row)
+}
+
+// Writes the lines of what a step changed.
+fn put_lines(
+    alloc: Global,
+    out: &mut Vec<u8>,
+    setup: &Setup,
+    changes: &[Changed],
+) -> Result<(), AllocError>
+    ensures { OnOk result (out.new.items ≡ out.old.items ++ flat_map (line_text setup.now) (rows changes.now)) }
+{
+    let mut rest = changes;
+    while !rest.is_empty() {
+        let (row, behind) = rest.split_at(first_row(rest));
+        put_line(alloc, out, setup, row)?;
+        rest = behind;
+    }
+    Ok(())
+}
+
+/// The lines of an event: its number and its words, and below it what it changed.
+pub(crate) fn event_lines(
+    alloc: Global,
+    setup: &Setup,
+    index: usize,
+    event: Event,
+    changes: &[Changed],
+) -> Result<Vec<u8>, AllocError>
+    ensures { IfOk result (λ text. text.items ≡ event_lines setup.now index event changes.now) }
+{
+    let head = format!(in alloc; "{index} {}\n", EventText(event))?;
+    let mut out = head.into_bytes();
+    put_lines(alloc, &mut out, setup, changes)?;
+    Ok(out)
+}

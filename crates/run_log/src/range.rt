@@ -1,0 +1,28 @@
+//! Which events are logged.
+ghost use Rattle.std.specs.Prelude.{◌≡◌};
+ghost use Rattle.run_log.specs.Ranges.{has, is_below};
+
+/// The events from a number on, and below another if there is one, counted from 0.
+#[derive(Clone, Copy, Debug, PartialEq, Eq)]
+pub struct EventRange {
+    pub from: u32,
+    pub to: Option<u32>,
+}
+
+impl EventRange {
+    /// Whether an event is one of them.
+    pub fn has(&self, index: usize) -> bool
+        ensures { result ≡ has self.now index }
+    {
+        self.from as usize <= index && is_below(index, self.to)
+    }
+}
+
+fn is_below(index: usize, end: Option<u32>) -> bool
+    ensures { result ≡ is_below index end }
+{
+    match end {
+        Some(end) => index < end as usize,
+        None => true,
+    }
+}

@@ -1,0 +1,26 @@
+//! Why a file couldn't be read or written.
+ghost use Rattle.std.specs.Prelude.{◌≡◌};
+ghost use Rattle.std.specs.IoError.{error_kind};
+ghost use Rattle.whole_files.specs.Faults.{told_as};
+
+use std::io;
+use std::io::ErrorKind;
+
+/// Why a file couldn't be read or written.
+#[derive(Clone, Copy, Debug, PartialEq, Eq)]
+pub enum FileFault {
+    /// Memory was refused.
+    Memory,
+    /// Any other error of a file.
+    File,
+}
+
+/// What an error is told as.
+pub fn fault_of(error: &io::Error) -> FileFault
+    ensures { result ≡ told_as (error_kind error.now) }
+{
+    match error.kind() {
+        ErrorKind::OutOfMemory => FileFault::Memory,
+        _ => FileFault::File,
+    }
+}
