@@ -1,6 +1,6 @@
 -- A run that goes on by one event, and one that is closed.
 use Rattle.std.proofs.Common.{◌≡◌, ℕ, suc, ◌+◌, ◌<◌, List, [], ◌∷◌, ◌++◌, length, None, true, refl, sym, ap, ◌∙◌, subst, arith, length-append}
-use Rattle.std.proofs.lemmas.List.Elements.{All-append}
+use Rattle.std.proofs.lemmas.List.Elements.{All-push}
 use Rattle.places.specs.declared.value.Change.{Change}
 use Rattle.scenario.specs.declared.setup.Setup.{Setup}
 use Rattle.scenario.specs.declared.event.Event.{Event}
@@ -50,7 +50,7 @@ pub counted_more : (actor : ℕ) (rs rs' : List Receipt) (parts parts' amount am
 counted_more actor rs rs' parts parts' amount amount' r was own e same more =
     let P : List Receipt → Type 0 = λ l. Counted (record { actor = actor; receipts = l; parts = parts'; amount = amount' }) in
     subst P (sym e) (record {
-      own = All-append (λ (x : Receipt). x.actor ≡ actor) rs (r ∷ []) was.own (own, tt);
+      own = All-push (λ (x : Receipt). x.actor ≡ actor) rs r was.own own;
       one = same ∙ was.one;
       told = omega (arith, was.told, more, length-append rs (r ∷ []));
     })

@@ -16,6 +16,13 @@ returns-in_err-past-clause-refused g c = λ n e.
     let a = p.1 in let b = p.2 in
     cc
 
+pub returns-then-is_err-clause-refused : goal.returns-then-is_err-clause-refused
+returns-then-is_err-clause-refused g c = λ n e.
+    let here : refusal c.self.inside.state c.args.event ≡ Some n = ap (λ (h : History). refusal h.state c.args.event) c.self.view_is ∙ e in
+    let a = c.refuses.ensures in
+    let b = c.unwrap_or.ensures in
+    search rules
+
 pub returns-in_err-past-clause-only_memory : goal.returns-in_err-past-clause-only_memory
 returns-in_err-past-clause-only_memory g c =
     let p = err_from_is_err_and c.from_residual.result c.from_residual.ensures.1 in
