@@ -17,7 +17,7 @@ use Rattle.scenario.specs.declared.event.Refusal.TheVariants.{NotEligible, NotDu
 use Rattle.scenario.specs.declared.setup.Setup.{Setup}
 use Rattle.links_drains.specs.Eligible.{is_eligible}
 use Rattle.links_drains.specs.Holding.{is_held_by}
-use Rattle.links_drains.specs.Phases.{is_issued, counts}
+use Rattle.links_drains.specs.Phases.{is_issued}
 use Rattle.model_files.specs.Worlds.{WorldState}
 use Rattle.timeouts_cancel.specs.Timers.{is_due}
 use Rattle.machine.specs.declared.whole.Machine.{Machine}
@@ -77,14 +77,15 @@ eligible_by rows r (Some row) e = eligible_phase rows r row row.phase refl e
 pub issued_eligible : (m : Machine) (r : ℕ) → may_do m Issuing r ≡ is_eligible m.table r
 issued_eligible m r = eligible_by m.table r (slice_get m.table r) refl
 
-finished_by : (held : ℕ → Bool) (w : WorldState) (row : Row) (b d : Bool) → is_issued row.phase ≡ b → counts row ≡ d → is_none (finish_refusal held w (Some row) Full) ≡ true → (is_issued row.phase && counts row) ≡ true
-finished_by held w row true true i c h = and_from _ _ i c
-finished_by held w row true false i c h = absurd (let k : is_none (finish_refusal held w (Some row) Full) ≡ false = rw c refl in cc)
+finished_by : (held : ℕ → Bool) (w : WorldState) (row : Row) (b d : Bool) → is_issued row.phase ≡ b → is_timer row.entry.opcode ≡ d → is_none (finish_refusal held w (Some row) Full) ≡ true
+    → (is_issued row.phase && not (is_timer row.entry.opcode)) ≡ true
+finished_by held w row true false i c h = and_from _ _ i (ap (λ (b : Bool). not b) c)
+finished_by held w row true true i c h = absurd (let k : is_none (finish_refusal held w (Some row) Full) ≡ false = rw c refl in cc)
 finished_by held w row false d i c h = absurd (let k = unfinished held w row d c i in cc)
 
-finished_there : (held : ℕ → Bool) (w : WorldState) (o : Option Row) → is_none (finish_refusal held w o Full) ≡ true → option_map_or (λ (row : Row). is_issued row.phase && counts row) o false ≡ true
+finished_there : (held : ℕ → Bool) (w : WorldState) (o : Option Row) → is_none (finish_refusal held w o Full) ≡ true → option_map_or (λ (row : Row). is_issued row.phase && not (is_timer row.entry.opcode)) o false ≡ true
 finished_there held w None h = h
-finished_there held w (Some row) h = finished_by held w row (is_issued row.phase) (counts row) refl refl h
+finished_there held w (Some row) h = finished_by held w row (is_issued row.phase) (is_timer row.entry.opcode) refl refl h
 
 pub finished_issued : (m : Machine) (r : ℕ) → may_do m Finishing r ≡ true → option_map_or (λ (row : Row). is_issued row.phase && not (is_timer row.entry.opcode)) (slice_get m.table r) false ≡ true
 finished_issued m r h = finished_there (is_held_by m.table) m.world (slice_get m.table r) h
@@ -229,7 +230,7 @@ accepted_by m actor e true false true clock w h = absurd (let k = polls_own is_o
 accepted_by m actor e true false false clock w h = works_accepted m e clock h
 
 pub offer_accepted : (setup : Setup) (count : ℕ) (m : Machine) (actor : ℕ) (e : Event) → WellFormed m → offer setup count m actor ≡ Some e → is_of_worker e ≡ true → refusal m e ≡ None
-offer_accepted setup count m actor e formed h w = accepted_by m actor e (nat_lt actor count) (is_submitter setup actor) (is_poller setup actor) formed.clock w h
+offer_accepted setup count m actor e formed h w = accepted_by m actor e (nat_lt actor count) (is_submitter setup actor) (is_poller setup actor) formed.mostly.clock w h
 
 -- an actor behind the submitters and the poller is a kernel worker
 behind : (n actor : ℕ) (b : Bool) → nat_lt actor n ≡ false → (b && (actor == n)) ≡ false → nat_le (n + (if b then 1 else 0)) actor ≡ true

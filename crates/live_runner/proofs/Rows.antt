@@ -7,9 +7,10 @@ use Rattle.entries.specs.declared.row.Row.{Row}
 use Rattle.entries.specs.declared.row.Phase.{Phase}
 use Rattle.entries.specs.declared.row.Phase.TheVariants.{Queued, Issued, Ended}
 use Rattle.opcodes.specs.declared.choice.Choice.TheVariants.{Full}
+use Rattle.opcodes.specs.Opcodes.{is_timer}
 use Rattle.scenario.specs.declared.event.Refusal.{Refusal}
 use Rattle.scenario.specs.declared.event.Refusal.TheVariants.{NotDue}
-use Rattle.links_drains.specs.Phases.{is_queued, is_issued, counts}
+use Rattle.links_drains.specs.Phases.{is_queued, is_issued}
 use Rattle.links_drains.specs.Eligible.{is_eligible}
 use Rattle.links_drains.specs.Holding.{is_held_by}
 use Rattle.links_drains.specs.Queued.{IsNextQueued, NoneQueuedFrom}
@@ -41,22 +42,22 @@ by_phase Queued o h = refl
 by_phase Issued o h = absurd (cc)
 by_phase (Ended res) o h = refl
 
-pub unfinished : (held : ℕ → Bool) (w : WorldState) (row : Row) (b : Bool) → counts row ≡ b → is_issued row.phase ≡ false → is_none (finish_refusal held w (Some row) Full) ≡ false
-unfinished held w row true e h = rw e (by_phase row.phase (choice_refusal held w row Full) h)
-unfinished held w row false e h = rw e refl
+pub unfinished : (held : ℕ → Bool) (w : WorldState) (row : Row) (b : Bool) → is_timer row.entry.opcode ≡ b → is_issued row.phase ≡ false → is_none (finish_refusal held w (Some row) Full) ≡ false
+unfinished held w row true e h = rw e refl
+unfinished held w row false e h = rw e (by_phase row.phase (choice_refusal held w row Full) h)
 
 -- one that isn't issued doesn't end
 not_finished : (held : ℕ → Bool) (w : WorldState) (o : Option Row) → ((row : Row) → o ≡ Some row → is_issued row.phase ≡ false) → is_none (finish_refusal held w o Full) ≡ false
 not_finished held w None h = refl
-not_finished held w (Some row) h = unfinished held w row (counts row) refl (h row refl)
+not_finished held w (Some row) h = unfinished held w row (is_timer row.entry.opcode) refl (h row refl)
 
-unexpired : (now : ℕ) (row : Row) (b : Bool) → counts row ≡ b → is_issued row.phase ≡ false → is_none (expire_refusal now (Some row)) ≡ false
-unexpired now row true e h = rw e refl
-unexpired now row false e h = rw e (by_phase row.phase (if is_due now row then None else Some NotDue) h)
+unexpired : (now : ℕ) (row : Row) (b : Bool) → is_timer row.entry.opcode ≡ b → is_issued row.phase ≡ false → is_none (expire_refusal now (Some row)) ≡ false
+unexpired now row true e h = rw e (by_phase row.phase (if is_due now row then None else Some NotDue) h)
+unexpired now row false e h = rw e refl
 
 not_expired : (now : ℕ) (o : Option Row) → ((row : Row) → o ≡ Some row → is_issued row.phase ≡ false) → is_none (expire_refusal now o) ≡ false
 not_expired now None h = refl
-not_expired now (Some row) h = unexpired now row (counts row) refl (h row refl)
+not_expired now (Some row) h = unexpired now row (is_timer row.entry.opcode) refl (h row refl)
 
 -- ---- the next row
 
