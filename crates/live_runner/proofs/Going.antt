@@ -1,15 +1,14 @@
 -- A run that goes on by one event, and one that is closed.
-use Rattle.std.proofs.Common.{◌≡◌, ℕ, suc, ◌+◌, ◌<◌, List, [], ◌∷◌, ◌++◌, length, None, true, refl, sym, ap, ◌∙◌, subst, arith, length-append}
+use Rattle.std.proofs.Common.{◌≡◌, ℕ, suc, ◌+◌, ◌<◌, List, [], ◌∷◌, ◌++◌, length, true, refl, sym, ap, ◌∙◌, subst, arith, length-append}
 use Rattle.std.proofs.lemmas.List.Elements.{All-push}
 use Rattle.places.specs.declared.value.Change.{Change}
 use Rattle.scenario.specs.declared.setup.Setup.{Setup}
 use Rattle.scenario.specs.declared.event.Event.{Event}
 use Rattle.machine.specs.declared.whole.Machine.{Machine}
-use Rattle.machine.specs.Steps.{refusal, after}
-use Rattle.machine.specs.Runs.{start, run, Link, Linked, Accepts}
+use Rattle.machine.specs.Runs.{start, Link, Accepts}
 use Rattle.inverse_log.proofs.Runs.{linked_more, linked_runs, linked_accepts}
 use Rattle.live_runner.specs.Actors.{is_own}
-use Rattle.live_runner.specs.History.{History, Held, Counted, Replays, AllOwn, Whole, closed_of}
+use Rattle.live_runner.specs.History.{History, Counted, Replays, AllOwn, Whole, closed_of}
 use Rattle.live_runner.specs.declared.receipt.Receipt.{Receipt}
 use Rattle.live_runner.specs.Told.{AllTold}
 

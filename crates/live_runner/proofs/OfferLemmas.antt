@@ -26,9 +26,9 @@ use Rattle.machine.specs.Steps.{refusal, issue_refusal, finish_refusal, expire_r
 use Rattle.machine.specs.Whole.{WellFormed}
 use Rattle.live_runner.specs.declared.offering.Deed.{Deed}
 use Rattle.live_runner.specs.declared.offering.Deed.TheVariants.{Issuing, Finishing, Expiring}
-use Rattle.live_runner.specs.Actors.{is_own, is_submitter, is_poller, is_worker, pollers}
+use Rattle.live_runner.specs.Actors.{is_own, is_submitter, is_poller, is_worker}
 use Rattle.live_runner.specs.Least.{least, or_else, least_value, lesser}
-use Rattle.live_runner.specs.Offers.{least_row, least_deadline, may_do, event_on, on_row, offer, offer_of, submits, polls, polls_by, works, ticks, ticks_to, is_over, is_of_worker}
+use Rattle.live_runner.specs.Offers.{least_row, least_deadline, may_do, event_on, on_row, offer, submits, polls, polls_by, works, ticks, ticks_to, is_over, is_of_worker}
 use Rattle.live_runner.specs.Passing.{IsLeastDeadline}
 use Rattle.live_runner.proofs.Rows.{unfinished}
 

@@ -11,7 +11,6 @@ use Rattle.opcodes.specs.Opcodes.{is_timer}
 use Rattle.scenario.specs.declared.event.Refusal.{Refusal}
 use Rattle.scenario.specs.declared.event.Refusal.TheVariants.{NotDue}
 use Rattle.links_drains.specs.Phases.{is_queued, is_issued}
-use Rattle.links_drains.specs.Eligible.{is_eligible}
 use Rattle.links_drains.specs.Holding.{is_held_by}
 use Rattle.links_drains.specs.Queued.{IsNextQueued, NoneQueuedFrom}
 use Rattle.links_drains.specs.Units.{IsNextIssued, NoneIssuedFrom}

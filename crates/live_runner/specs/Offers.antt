@@ -1,6 +1,5 @@
 -- What an actor does next.
-use Rattle.std.specs.Prelude.{◌≡◌, ℕ, ◌-◌, ◌^◌, Bool, true, false, nat_lt, if◌then◌else◌, Option, Some, None, is_none, length}
-use Rattle.std.specs.Option.{option_map_or}
+use Rattle.std.specs.Prelude.{ℕ, ◌-◌, ◌^◌, Bool, true, false, nat_lt, if◌then◌else◌, Option, Some, None, is_none, length}
 use Rattle.opcodes.specs.declared.choice.Choice.TheVariants.{Full}
 use Rattle.scenario.specs.declared.setup.Setup.{Setup}
 use Rattle.scenario.specs.declared.event.Event.{Event}
@@ -10,7 +9,7 @@ use Rattle.scenario.specs.declared.event.Refusal.TheVariants.{NoSuchThread, Thre
 use Rattle.machine.specs.declared.whole.Machine.{Machine}
 use Rattle.machine.specs.Deadlines.{deadline_at}
 use Rattle.machine.specs.Steps.{refusal}
-use Rattle.live_runner.specs.Actors.{is_submitter, is_poller, is_worker}
+use Rattle.live_runner.specs.Actors.{is_submitter, is_poller}
 use Rattle.live_runner.specs.Least.{or_else, least, least_value}
 use Rattle.live_runner.specs.declared.offering.Deed.{Deed}
 use Rattle.live_runner.specs.declared.offering.Deed.TheVariants.{Issuing, Finishing, Expiring}

@@ -376,6 +376,16 @@ fn spoil<L: Ledger>(seat: &mut Seat<L>)
     }
 }
 
+// Alters the first receipt of an actor.
+fn spoil_at<L: Ledger>(seats: &mut Vec<Seat<L>>, actor: usize)
+    requires there { actor < length seats.old.items }
+    requires order { InOrder seats.old.items }
+    ensures len { length seats.new.items ≡ length seats.old.items }
+    ensures order { InOrder seats.new.items }
+{
+    spoil(&mut seats[actor]);
+}
+
 // The actor whose altered receipt is found as a run is closed.
 fn torn<L: Ledger>(alloc: Global, blank: Blank, setup: &Setup) -> Result<Option<u32>, AllocError>
     requires name { blank.name ≡ L.name }
@@ -387,7 +397,7 @@ fn torn<L: Ledger>(alloc: Global, blank: Blank, setup: &Setup) -> Result<Option<
         return Err(AllocError);
     };
     let _ = does(&mut live, &mut seats, 0, Event::Step(0));
-    spoil(&mut seats[0]);
+    spoil_at(&mut seats, 0);
     match closed_of(alloc, live, seats)? {
         Ok(_) => Ok(None),
         Err(Torn(actor)) => Ok(Some(actor)),

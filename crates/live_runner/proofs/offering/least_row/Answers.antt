@@ -1,6 +1,5 @@
 use Rattle.std.proofs.Common.{rules, ◌≡◌, true, false, length, sym, arith}
 use Rattle.live_runner.specs.Offers.{may_do}
-use Rattle.live_runner.specs.Passing.{IsNextRow}
 use Rattle.live_runner.proofs.Leasts.{least_some, least_none, before_next, none_left, past_next}
 use Rattle.live_runner.proofs.Rows.{next_for, none_for}
 use Rattle.live_runner.proofs.offering.least_row.Goals as goal
