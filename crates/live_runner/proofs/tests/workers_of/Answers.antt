@@ -1,4 +1,4 @@
-use Rattle.std.proofs.Common.{rules, ◌≡◌, ◌+◌, ◌++◌, ◌∷◌, [], ℕ, length, vec_len, arith}
+use Rattle.std.proofs.Common.{rules, ◌≡◌, ◌+◌, ◌++◌, ◌∷◌, [], length}
 use Rattle.live_runner.specs.History.{Labour}
 use Rattle.live_runner.proofs.Numbering.{numbered_push}
 use Rattle.live_runner.proofs.tests.workers_of.Goals as goal
