@@ -1,0 +1,7 @@
+pub mod Going
+pub mod Telling
+pub mod Numbering
+pub mod Leasts
+pub mod Rows
+pub mod Rising
+pub mod OfferLemmas

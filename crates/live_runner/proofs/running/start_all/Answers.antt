@@ -1,0 +1,13 @@
+use Rattle.std.proofs.Common.{rules, ◌≡◌, ◌+◌, length, vec_len}
+use Rattle.live_runner.proofs.Numbering.{numbered_push}
+use Rattle.live_runner.proofs.running.start_all.Goals as goal
+
+pub loop-seat-preserved : goal.loop-seat-preserved
+loop-seat-preserved g c =
+    let was = c.loop-seat.invariant in
+    let actor : c.in-Some.seat.actor ≡ vec_len c.loop-seat.handles = let h = was.0 0 c.in-Some.seat in grind rules in
+    let promise : c.in-Ok.handle.promise.0 ≡ length c.loop-seat.handles.items = search rules in (
+      (λ k d h. let t = was.0 (k + 1) d in grind rules),
+      numbered_push (λ x. x.promise.0) c.loop-seat.handles.items c.push_reserved.new.self.items c.in-Ok.handle c.push_reserved.ensures.items was.1 promise,
+      search rules,
+    )

@@ -1,0 +1,10 @@
+use Rattle.std.proofs.Common.{◌≡◌, ℕ, ◌+◌, ◌<◌, length, slice_index_or, vec_len}
+use Rattle.std.specs.Vec.Iter.{into_iter_items}
+use Rattle.live_runner.specs.History.{WorkInOrder}
+use Rattle.live_runner.proofs.running.take_turns.Given as goal
+
+abbrev pub invariant-loop-handle : goal.invariant-loop-handle
+invariant-loop-handle g l =
+    let rest = into_iter_items l.handle-iterator in
+    ((k : ℕ) (d : _) → k < length rest → (slice_index_or rest k d).promise.0 ≡ vec_len l.workers + k)
+    × WorkInOrder l.workers.items

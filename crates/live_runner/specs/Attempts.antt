@@ -1,0 +1,25 @@
+-- What an attempt answers, and what it leaves.
+use Rattle.std.specs.Prelude.{◌≡◌, ◌≢◌, ◌↔◌, ◌⊎◌, length, true, false, None, Some, Result, Err, IfOk, OnOk, OnErr}
+use Rattle.scenario.specs.declared.event.Event.{Event}
+use Rattle.scenario.specs.declared.event.Refusal.{Refusal}
+use Rattle.scenario.specs.declared.event.Refusal.TheVariants.{Memory}
+use Rattle.machine.specs.Steps.{refusal}
+use Rattle.live_runner.specs.declared.receipt.Receipt.{Receipt}
+use Rattle.live_runner.specs.declared.lives.LiveRefusal.{LiveRefusal}
+use Rattle.live_runner.specs.declared.lives.LiveRefusal.TheVariants.{NotYours, TraceFull, Step}
+use Rattle.live_runner.specs.Actors.{is_own}
+use Rattle.live_runner.specs.Told.{receipt}
+use Rattle.live_runner.specs.History.{History, Held, gone_on, seat_with}
+
+-- An accepted event is done at the end of the run, and told to its actor. What isn't the actor's is refused first, then a full trace,
+-- then what the rules refuse; else memory alone is refused. A refusal changes nothing.
+pub record Attempted (old : History) (seat : Held) (e : Event) (answer : Result Receipt LiveRefusal) (new : History) (after : Held) : Type 0 where
+  pub accepted : OnOk answer (refusal old.state e ≡ None)
+  pub run : OnOk answer (new ≡ gone_on old seat.actor e)
+  pub told : IfOk answer (λ r. r ≡ receipt seat.actor (length old.events) e)
+  pub kept : IfOk answer (λ r. after ≡ seat_with seat r)
+  pub not_yours : (answer ≡ Err NotYours) ↔ (is_own old.setup old.actors seat.actor e ≡ false)
+  pub full : (answer ≡ Err TraceFull) ↔ ((is_own old.setup old.actors seat.actor e ≡ true) × (length old.events ≡ 1048576))
+  pub refused : (n : Refusal) → is_own old.setup old.actors seat.actor e ≡ true → length old.events ≢ 1048576 → refusal old.state e ≡ Some n → answer ≡ Err (Step n)
+  pub only_memory : (n : Refusal) → answer ≡ Err (Step n) → (refusal old.state e ≡ Some n) ⊎ ((n ≡ Memory) × (refusal old.state e ≡ None))
+  pub unchanged : OnErr answer ((new ≡ old) × (after ≡ seat))

@@ -1,0 +1,10 @@
+pub mod Actors
+pub mod Least
+pub mod Passing
+pub mod Offers
+pub mod Told
+pub mod History
+pub mod Attempts
+pub mod Turns
+pub mod Running
+pub mod Receipts

@@ -1,0 +1,90 @@
+-- What an actor does next.
+use Rattle.std.specs.Prelude.{ℕ, ◌-◌, ◌^◌, Bool, true, false, nat_lt, if◌then◌else◌, Option, Some, None, is_none, length}
+use Rattle.opcodes.specs.declared.choice.Choice.TheVariants.{Full}
+use Rattle.scenario.specs.declared.setup.Setup.{Setup}
+use Rattle.scenario.specs.declared.event.Event.{Event}
+use Rattle.scenario.specs.declared.event.Event.TheVariants.{Step, Take, Sleep, Issue, Finish, Expire, Tick}
+use Rattle.scenario.specs.declared.event.Refusal.{Refusal}
+use Rattle.scenario.specs.declared.event.Refusal.TheVariants.{NoSuchThread, ThreadDone, NotIdle}
+use Rattle.machine.specs.declared.whole.Machine.{Machine}
+use Rattle.machine.specs.Deadlines.{deadline_at}
+use Rattle.machine.specs.Steps.{refusal}
+use Rattle.live_runner.specs.Actors.{is_submitter, is_poller}
+use Rattle.live_runner.specs.Least.{or_else, least, least_value}
+use Rattle.live_runner.specs.declared.offering.Deed.{Deed}
+use Rattle.live_runner.specs.declared.offering.Deed.TheVariants.{Issuing, Finishing, Expiring}
+
+-- ---- a submitter
+
+-- whether a thread has nothing left to do
+abbrev pub is_over : Option Refusal → Bool
+is_over (Some NoSuchThread) = true
+is_over (Some ThreadDone) = true
+is_over _ = false
+
+-- the next step of its thread, until the program is done
+abbrev pub submits : Machine → ℕ → Option Event
+submits m t = if is_over (refusal m (Step t)) then None else Some (Step t)
+
+-- ---- the poller
+
+-- It sleeps where it may, and takes one entry where entries keep it from that.
+abbrev pub polls_by : Option Refusal → Option Event
+polls_by None = Some Sleep
+polls_by (Some NotIdle) = Some (Take 1)
+polls_by (Some n) = None
+
+abbrev pub polls : Machine → Option Event
+polls m = polls_by (refusal m Sleep)
+
+-- ---- a kernel worker
+
+-- what it does to a row
+abbrev pub event_on : Deed → ℕ → Event
+event_on Issuing r = Issue r
+event_on Finishing r = Finish r Full
+event_on Expiring r = Expire r
+
+abbrev pub may_do : Machine → Deed → ℕ → Bool
+may_do m deed r = is_none (refusal m (event_on deed r))
+
+-- the least row to which it may be done
+abbrev pub least_row : Machine → Deed → Option ℕ
+least_row m deed = least (may_do m deed) (length m.table)
+
+abbrev pub on_row : Deed → Option ℕ → Option Event
+on_row deed None = None
+on_row deed (Some r) = Some (event_on deed r)
+
+-- the least deadline of an issued row
+abbrev pub least_deadline : Machine → Option ℕ
+least_deadline m = least_value (deadline_at m.table) (length m.table)
+
+-- the clock goes on to a deadline that it can reach
+abbrev pub ticks_to : ℕ → Option ℕ → Option Event
+ticks_to clock None = None
+ticks_to clock (Some d) = if nat_lt d (2 ^ 64) then Some (Tick (d - clock)) else None
+
+abbrev pub ticks : Machine → Option Event
+ticks m = ticks_to m.clock (least_deadline m)
+
+-- the first that there is: it issues the least row that may be issued, ends in full the least that it can end, expires the least that is due, or lets the clock go on to the least deadline
+abbrev pub works : Machine → Option Event
+works m = or_else (on_row Issuing (least_row m Issuing)) (or_else (on_row Finishing (least_row m Finishing)) (or_else (on_row Expiring (least_row m Expiring)) (ticks m)))
+
+-- ---- each of so many actors
+
+abbrev pub offer_of : Setup → Machine → ℕ → Option Event
+offer_of setup m actor = if is_submitter setup actor then submits m actor else if is_poller setup actor then polls m else works m
+
+-- what an actor does next, if anything
+abbrev pub offer : Setup → ℕ → Machine → ℕ → Option Event
+offer setup count m actor = if nat_lt actor count then offer_of setup m actor else None
+
+-- whether an event is one of a kernel worker's
+abbrev pub is_of_worker : Event → Bool
+is_of_worker (Issue r) = true
+is_of_worker (Finish r c) = true
+is_of_worker (Expire r) = true
+is_of_worker (Tick d) = true
+is_of_worker _ = false

@@ -1,0 +1,113 @@
+//! Runs that have ended.
+ghost use Rattle.std.specs.Prelude.{◌≡◌, ◌↔◌, ◌<◌, ◌≢◌, ℕ, Some, None, true, Contains, slice_get};
+ghost use Rattle.live_runner.specs.Told.{IsOf, told};
+
+use crate::receipt::Receipt;
+use machine::State;
+use places::Items;
+use scenario::{Event, Setup};
+use std::marker::Model;
+
+/// A run that has ended, with what each actor was told.
+#[derive(Drop)]
+pub struct Closed {
+    pub(crate) setup: Setup,
+    pub(crate) actors: u32,
+    pub(crate) events: Vec<Event>,
+    pub(crate) owners: Vec<u32>,
+    pub(crate) state: State,
+    pub(crate) lists: Vec<Items<Receipt>>,
+}
+
+impl Model for Closed {
+    ghost use Rattle.live_runner.specs.History.{Past, Whole};
+
+    ghost Value = { Past };
+
+    ghost view = { λ c. record { setup = c.setup; actors = c.actors; events = c.events.items; owners = c.owners.items; state = c.state; receipts = c.lists.items } };
+
+    ghost invariant = { λ c. Whole (record { setup = c.setup; actors = c.actors; events = c.events.items; owners = c.owners.items; state = c.state; receipts = c.lists.items }) };
+}
+
+impl Closed {
+    ghost use Rattle.live_runner.specs.History.{Whole};
+
+    /// What the run started from.
+    pub fn setup(&self) -> &Setup
+        ensures { result.now ≡ self.now.setup }
+    {
+        &self.setup
+    }
+
+    /// How many actors there were.
+    pub fn actors(&self) -> u32
+        ensures { result ≡ self.now.actors }
+    {
+        self.actors
+    }
+
+    /// The events, in order.
+    pub fn events(&self) -> &[Event]
+        ensures events { result.now ≡ self.now.events }
+        ensures whole { Whole self.now }
+    {
+        &self.events
+    }
+
+    /// The state at the end.
+    pub fn state(&self) -> &State
+        ensures { result.now ≡ self.now.state }
+    {
+        &self.state
+    }
+
+    /// What an actor was told: its events, with their moments.
+    pub fn receipts(&self, actor: u32) -> &[Receipt]
+        requires { actor < self.now.actors }
+        ensures list { slice_get self.now.receipts actor ≡ Some result.now }
+        ensures told { result.now ≡ told actor self.now.owners self.now.events }
+    {
+        self.lists[actor as usize].as_slice()
+    }
+
+    /// The event of a receipt, if the run has that event at its moment, and it is its actor's.
+    #[tactic(auto, using(crate::proofs::Telling::told_is_of))]
+    pub fn redeem(&self, receipt: &Receipt) -> Option<Event>
+        ensures some { (result ≡ Some receipt.now.event) ↔ IsOf self.now.owners self.now.events receipt.now }
+        ensures none { result ≢ None → result ≡ Some receipt.now.event }
+        ensures own { (a : ℕ) → Contains (told a self.now.owners self.now.events) receipt.now → result ≡ Some receipt.now.event }
+    {
+        if self.has(receipt) {
+            Some(receipt.event)
+        } else {
+            None
+        }
+    }
+
+    // Whether the run has a receipt's event at its moment, and it is the receipt's actor's.
+    fn has(&self, receipt: &Receipt) -> bool
+        ensures { (result ≡ true) ↔ IsOf self.now.owners self.now.events receipt.now }
+    {
+        let moment = receipt.moment as usize;
+        has_owner(&self.owners, moment, receipt.actor)
+            && has_event(&self.events, moment, receipt.event)
+    }
+}
+
+fn has_owner(owners: &[u32], moment: usize, actor: u32) -> bool
+    ensures { (result ≡ true) ↔ (slice_get owners.now moment ≡ Some actor) }
+{
+    match owners.get(moment) {
+        Some(owner) => *owner == actor,
+        None => false,
+    }
+}
+
+fn has_event(events: &[Event], moment: usize, event: Event) -> bool
+    ensures { (result ≡ true) ↔ (slice_get events.now moment ≡ Some event) }
+{
+    match events.get(moment) {
+        Some(there) => *there == event,
+        None => false,
+    }
+}

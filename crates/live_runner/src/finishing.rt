@@ -1,0 +1,164 @@
+//! How a run is closed.
+ghost use Rattle.std.specs.Prelude.{◌≡◌, ◌↔◌, ◌+◌, ◌++◌, ◌∷◌, ◌^◌, ◌<◌, ◌≤◌, [], length, true, IfOk, IfErr, IfSome, IfNone, OnOk, vec_len, vec_capacity, slice_get, Some, option_map};
+ghost use Rattle.live_runner.specs.Told.{receipt, told, AllTold, LeastTorn};
+ghost use Rattle.live_runner.specs.History.{told_to, WorkInOrder, closed_of, receipt_count};
+
+use crate::closed::Closed;
+use crate::lives::Live;
+use crate::receipt::Receipt;
+use crate::seat::Seat;
+use crate::worker::{Gate, Worker};
+use places::Items;
+use scenario::Event;
+use std::sync::ledger::{Ledger, Share};
+
+/// The least actor whose receipts are not just its events, with their moments, in order.
+#[derive(Clone, Copy, Debug, PartialEq, Eq)]
+pub struct Torn(pub u32);
+
+/// Closes a run whose actors have all ended. It takes no memory.
+pub fn finish<'g, L: Ledger, G: Gate>(
+    live: Live<L>,
+    workers: Vec<Worker<'g, L, G>>,
+) -> Result<Closed, Torn>
+    requires all { length workers.items ≡ L.parts }
+    requires actors { length workers.items ≡ live.actors }
+    requires order { WorkInOrder workers.items }
+    ensures count { receipt_count workers.entry.items ≡ length live.events }
+    ensures closed { IfOk result (λ c. c ≡ closed_of live (told_to workers.entry.items)) }
+    ensures whole { OnOk result (AllTold live.owners live.events (told_to workers.entry.items)) }
+    ensures torn { IfErr result (λ t. LeastTorn live.owners live.events (told_to workers.entry.items) t.0) }
+{
+    let Live {
+        alloc: _,
+        setup,
+        actors,
+        events,
+        owners,
+        records: _,
+        state,
+        mut book,
+        rest: mut share,
+        room: mut lists,
+    } = live;
+    give_all_back(workers, &mut share, &mut lists);
+    book.audit(&mut share);
+    match first_torn(&owners, &events, &lists) {
+        Some(actor) => Err(Torn(actor)),
+        None => Ok(Closed {
+            setup,
+            actors,
+            events,
+            owners,
+            state,
+            lists,
+        }),
+    }
+}
+
+// Takes all shares, and what each worker was told, in their order.
+fn give_all_back<'g, L: Ledger, G: Gate>(
+    workers: Vec<Worker<'g, L, G>>,
+    share: &mut Share<L>,
+    lists: &mut Vec<Items<Receipt>>,
+)
+    requires none { lists.old.items ≡ [] }
+    requires room { length workers.items ≤ vec_capacity lists.old }
+    ensures parts { share.new.parts ≡ share.old.parts + length workers.entry.items }
+    ensures amount { share.new.amount ≡ share.old.amount + receipt_count workers.entry.items }
+    ensures lists { lists.new.items ≡ told_to workers.entry.items }
+{
+    for worker in workers {
+        give_back(worker, share, lists);
+    }
+}
+
+// Takes a worker's share, and what it was told.
+fn give_back<'g, L: Ledger, G: Gate>(
+    worker: Worker<'g, L, G>,
+    share: &mut Share<L>,
+    lists: &mut Vec<Items<Receipt>>,
+)
+    requires { vec_len lists.old < vec_capacity lists.old }
+    ensures parts { share.new.parts ≡ share.old.parts + 1 }
+    ensures amount { share.new.amount ≡ share.old.amount + length worker.entry.seat.receipts }
+    ensures lists { lists.new.items ≡ lists.old.items ++ worker.entry.seat.receipts ∷ [] }
+    ensures room { vec_capacity lists.new ≡ vec_capacity lists.old }
+{
+    let Seat {
+        actor: _,
+        receipts,
+        share: theirs,
+    } = worker.into_seat();
+    share.merge(theirs);
+    lists.push_reserved(Items::of(receipts));
+}
+
+// The least actor whose receipts are not just its events.
+fn first_torn(owners: &[u32], events: &[Event], lists: &[Items<Receipt>]) -> Option<u32>
+    requires few { length lists.now < 2 ^ 32 }
+    requires pairs { length owners.now ≡ length events.now }
+    requires most { length events.now ≤ 1048576 }
+    ensures none { IfNone result (AllTold owners.now events.now lists.now) }
+    ensures some { IfSome result (LeastTorn owners.now events.now lists.now) }
+{
+    for actor in 0..lists.len() {
+        if !is_told(actor as u32, owners, events, lists[actor].as_slice()) {
+            return Some(actor as u32);
+        }
+    }
+    None
+}
+
+// Whether receipts are just an actor's events, with their moments, in order.
+fn is_told(actor: u32, owners: &[u32], events: &[Event], receipts: &[Receipt]) -> bool
+    requires pairs { length owners.now ≡ length events.now }
+    requires most { length events.now ≤ 1048576 }
+    ensures { (result ≡ true) ↔ (receipts.now ≡ told actor owners.now events.now) }
+{
+    let mut next = 0;
+    for moment in 0..events.len() {
+        if owners[moment] == actor {
+            if !is_told_at(receipts, next, actor, events, moment) {
+                return false;
+            }
+            next += 1;
+        }
+    }
+    next == receipts.len()
+}
+
+// Whether the receipt of an event of a trace stands at a place.
+fn is_told_at(
+    receipts: &[Receipt],
+    place: usize,
+    actor: u32,
+    events: &[Event],
+    moment: usize,
+) -> bool
+    requires there { moment < length events.now }
+    requires most { length events.now ≤ 1048576 }
+    ensures { (result ≡ true) ↔ (slice_get receipts.now place ≡ option_map (receipt actor moment) (slice_get events.now moment)) }
+{
+    match events.get(moment) {
+        Some(event) => {
+            let wanted = Receipt {
+                actor,
+                moment: moment as u32,
+                event: *event,
+            };
+            is_at(receipts, place, wanted)
+        }
+        None => unreachable!(),
+    }
+}
+
+// Whether a receipt stands at a place.
+fn is_at(receipts: &[Receipt], place: usize, wanted: Receipt) -> bool
+    ensures { (result ≡ true) ↔ (slice_get receipts.now place ≡ Some wanted) }
+{
+    match receipts.get(place) {
+        Some(receipt) => *receipt == wanted,
+        None => false,
+    }
+}

@@ -1,0 +1,25 @@
+//! A run that threads make together, each event of it under one lock.
+#![tactic(auto)]
+
+mod closed;
+mod finishing;
+mod kinds;
+pub mod laws;
+mod lives;
+mod offering;
+mod receipt;
+mod running;
+mod seat;
+mod worker;
+
+pub use closed::Closed;
+pub use finishing::{Torn, finish};
+pub use kinds::actors;
+pub use lives::{Live, LiveRefusal};
+pub use receipt::Receipt;
+pub use running::{LiveFault, run_live};
+pub use seat::Seat;
+pub use worker::{Gate, Turn, Worker};
+
+#[cfg(test)]
+mod tests;

@@ -1,0 +1,318 @@
+//! The value of the lock.
+ghost use Rattle.std.specs.Prelude.{◌≡◌, ◌≢◌, ◌↔◌, [], ◌⊎◌, ℕ, length, true, Some, None, IfOk, IfErr, OnOk, OnErr, ◌<◌, ◌≤◌, vec_len, vec_capacity, All};
+ghost use Rattle.scenario.specs.Setups.{setup_refusal};
+ghost use Rattle.scenario.specs.declared.event.Event.{Event as Happening};
+ghost use Rattle.scenario.specs.declared.event.Refusal.{Refusal as Denial};
+ghost use Rattle.scenario.specs.declared.setup.SetupRefusal.{SetupRefusal as NoStart};
+ghost use Rattle.machine.specs.Runs.{start, Accepts};
+ghost use Rattle.machine.specs.Steps.{refusal};
+ghost use Rattle.live_runner.specs.Actors.{actors, is_own};
+ghost use Rattle.live_runner.specs.Attempts.{Attempted};
+ghost use Rattle.live_runner.specs.History.{InOrder, opened, gone_on, seat_with};
+ghost use Rattle.live_runner.specs.Offers.{offer};
+ghost use Rattle.live_runner.specs.Told.{receipt};
+
+use crate::kinds::{actors, is_own};
+use crate::offering::offer;
+use crate::receipt::Receipt;
+use crate::seat::Seat;
+use machine::State;
+use places::{Items, Record};
+use scenario::{Event, Refusal, Setup, SetupRefusal, setup_refusal};
+use std::alloc::{AllocError, Global};
+use std::marker::Model;
+use std::sync::ledger::{Blank, Book, Ledger, Share};
+
+/// The greatest number of events that a trace has.
+pub const TRACE_LIMIT: usize = 1048576;
+
+/// A run from its start that actors make together, and the book of its ledger.
+#[derive(Drop)]
+pub struct Live<L: Ledger> {
+    pub(crate) alloc: Global,
+    pub(crate) setup: Setup,
+    pub(crate) actors: u32,
+    pub(crate) events: Vec<Event>,
+    /// Whose the events are.
+    pub(crate) owners: Vec<u32>,
+    pub(crate) records: Vec<Record>,
+    pub(crate) state: State,
+    pub(crate) book: Book<L>,
+    /// No part of the ledger. The shares come together in it.
+    pub(crate) rest: Share<L>,
+    /// Room for what each actor was told.
+    pub(crate) room: Vec<Items<Receipt>>,
+}
+
+impl<L: Ledger> Model for Live<L> {
+    ghost use Rattle.std.specs.Prelude.{◌≡◌, ◌≤◌, vec_len, vec_capacity};
+    ghost use Rattle.live_runner.specs.History.{History, Replays};
+
+    ghost Value = { History };
+
+    ghost view = { λ l. record { setup = l.setup; actors = l.actors; events = l.events.items; owners = l.owners.items; state = l.state; total = l.book.total } };
+
+    ghost invariant = { λ l. Replays (record { setup = l.setup; actors = l.actors; events = l.events.items; owners = l.owners.items; state = l.state; total = l.book.total }) l.records.items
+        × (l.rest.parts ≡ 0) × (l.rest.amount ≡ 0) × (vec_len l.room ≡ 0) × (l.actors ≤ vec_capacity l.room) };
+}
+
+/// Why an actor's event was not done.
+#[derive(Clone, Copy, Debug, PartialEq, Eq)]
+pub enum LiveRefusal {
+    /// The event is not one of the actor's.
+    NotYours,
+    /// The trace has as many events as it can have.
+    TraceFull,
+    Step(Refusal),
+}
+
+impl<L: Ledger> Live<L> {
+    /// A run without events, and a seat for each actor, in order. A refusal gives up the blank.
+    pub fn open(
+        alloc: Global,
+        blank: Blank,
+        setup: &Setup,
+        kernel: u32,
+    ) -> Result<(Live<L>, Vec<Seat<L>>), SetupRefusal>
+        requires kernel { kernel ≤ 8 }
+        requires name { blank.name ≡ L.name }
+        requires parts { blank.parts ≡ L.parts }
+        requires all { blank.parts ≡ actors setup.now kernel }
+        ensures live { IfOk result (λ r. r.0 ≡ opened setup.now (actors setup.now kernel)) }
+        ensures count { IfOk result (λ r. vec_len r.1 ≡ actors setup.now kernel) }
+        ensures order { IfOk result (λ r. InOrder r.1.items) }
+        ensures untold { IfOk result (λ r. All (λ s. s.receipts ≡ []) r.1.items) }
+        ensures refused { (r : NoStart) → setup_refusal setup.now ≡ Some r → result ≡ Err r }
+        ensures only_memory { IfErr result (λ r. setup_refusal setup.now ≡ None → r ≡ SetupRefusal.Memory) }
+    {
+        if let Some(refusal) = setup_refusal(setup) {
+            return Err(refusal);
+        }
+        match open_for(alloc, blank, setup, actors(setup, kernel)) {
+            Ok(opened) => Ok(opened),
+            Err(_) => Err(SetupRefusal::Memory),
+        }
+    }
+
+    /// What the run started from.
+    pub fn setup(&self) -> &Setup
+        ensures { result.now ≡ self.now.setup }
+    {
+        &self.setup
+    }
+
+    /// How many actors there are.
+    pub fn actors(&self) -> u32
+        ensures { result ≡ self.now.actors }
+    {
+        self.actors
+    }
+
+    /// What the run started from, and how many actors it has. The rest of it is dropped.
+    pub(crate) fn into_setup(self) -> (Setup, u32)
+        ensures setup { result.0 ≡ self.setup }
+        ensures actors { result.1 ≡ self.actors }
+    {
+        let Live {
+            alloc: _,
+            setup,
+            actors,
+            events: _,
+            owners: _,
+            records: _,
+            state: _,
+            book: _,
+            rest: _,
+            room: _,
+        } = self;
+        (setup, actors)
+    }
+
+    /// The state that the events led to.
+    pub fn state(&self) -> &State
+        ensures { result.now ≡ self.now.state }
+    {
+        &self.state
+    }
+
+    /// The trace's events so far.
+    pub fn events(&self) -> Result<Vec<Event>, AllocError>
+        ensures events { IfOk result (λ es. es.items ≡ self.now.events) }
+        ensures runs { IfOk result (λ es. Accepts (start self.now.setup) es.items) }
+    {
+        let events = Vec::from_slice(self.alloc, &self.events)?;
+        Ok(events)
+    }
+
+    /// One event of a seat's actor at the end of the run.
+    pub fn attempt(&mut self, seat: &mut Seat<L>, event: Event) -> Result<Receipt, LiveRefusal>
+        ensures attempted { Attempted self.old seat.old event result self.new seat.new }
+        ensures kept { (self.new.setup ≡ self.old.setup) × (self.new.actors ≡ self.old.actors) × (seat.new.actor ≡ seat.old.actor) }
+    {
+        if !is_own(&self.setup, self.actors, seat.actor, event) {
+            return Err(LiveRefusal::NotYours);
+        }
+        let moment = self.events.len();
+        if moment >= TRACE_LIMIT {
+            return Err(LiveRefusal::TraceFull);
+        }
+        match self.go_on(seat, event, moment as u32) {
+            Ok(receipt) => Ok(receipt),
+            Err(refusal) => Err(LiveRefusal::Step(refusal)),
+        }
+    }
+
+    // Does an event of a seat's actor at the end of the run.
+    fn go_on(&mut self, seat: &mut Seat<L>, event: Event, moment: u32) -> Result<Receipt, Refusal>
+        requires own { is_own self.old.setup self.old.actors seat.old.actor event ≡ true }
+        requires moment { moment ≡ length self.old.events }
+        requires room { length self.old.events < 1048576 }
+        ensures accepted { OnOk result (refusal self.old.state event ≡ None) }
+        ensures run { OnOk result (self.new ≡ gone_on self.old seat.old.actor event) }
+        ensures receipt { IfOk result (λ r. r ≡ receipt seat.old.actor moment event) }
+        ensures seat { IfOk result (λ r. seat.new ≡ seat_with seat.old r) }
+        ensures refused { (n : Denial) → refusal self.old.state event ≡ Some n → result ≡ Err n }
+        ensures only_memory { IfErr result (λ n. (refusal self.old.state event ≡ Some n) ⊎ ((n ≡ Refusal.Memory) × (refusal self.old.state event ≡ None))) }
+        ensures err { OnErr result ((self.new ≡ self.old) × (seat.new ≡ seat.old)) }
+    {
+        if make_room(
+            &mut self.events,
+            &mut self.owners,
+            &mut self.records,
+            &mut seat.receipts,
+        )
+        .is_err()
+        {
+            return Err(self.state.refuses(event).unwrap_or(Refusal::Memory));
+        }
+        let actor = seat.actor;
+        let past = self.state.step(event)?;
+        let receipt = Receipt {
+            actor,
+            moment,
+            event,
+        };
+        self.book.add(&mut seat.share, 1);
+        self.events.push_reserved(event);
+        self.owners.push_reserved(actor);
+        self.records.push_reserved(past);
+        seat.receipts.push_reserved(receipt);
+        Ok(receipt)
+    }
+
+    /// What an actor does next, if anything. It takes no memory, and looks at no row that ended.
+    pub fn offer(&self, actor: u32) -> Option<Event>
+        ensures { result ≡ offer self.now.setup self.now.actors self.now.state actor }
+    {
+        offer(&self.setup, self.actors, &self.state, actor)
+    }
+
+    /// Attempts what the seat's actor does next, if anything.
+    pub fn take_offer(&mut self, seat: &mut Seat<L>) -> Option<Result<Receipt, LiveRefusal>>
+        ensures none { (result ≡ None) ↔ (offer self.old.setup self.old.actors self.old.state seat.old.actor ≡ None) }
+        ensures idle { result ≡ None → (self.new ≡ self.old) × (seat.new ≡ seat.old) }
+        ensures kept { (self.new.setup ≡ self.old.setup) × (self.new.actors ≡ self.old.actors) × (seat.new.actor ≡ seat.old.actor) }
+        ensures told { (r : _) → result ≡ Some (Ok r) → seat.new ≡ seat_with seat.old r }
+        ensures attempted { (e : Happening) (x : _) → offer self.old.setup self.old.actors self.old.state seat.old.actor ≡ Some e → result ≡ Some x
+            → Attempted self.old seat.old e x self.new seat.new }
+        ensures err { (x : _) → result ≡ Some (Err x) → (self.new ≡ self.old) × (seat.new ≡ seat.old) }
+    {
+        let event = self.offer(seat.actor())?;
+        Some(self.attempt(seat, event))
+    }
+}
+
+// Makes room for one event more.
+fn make_room(
+    events: &mut Vec<Event>,
+    owners: &mut Vec<u32>,
+    records: &mut Vec<Record>,
+    receipts: &mut Vec<Receipt>,
+) -> Result<(), AllocError>
+    ensures events { events.new.items ≡ events.old.items }
+    ensures owners { owners.new.items ≡ owners.old.items }
+    ensures records { records.new.items ≡ records.old.items }
+    ensures receipts { receipts.new.items ≡ receipts.old.items }
+    ensures event_room { OnOk result (vec_len events.new < vec_capacity events.new) }
+    ensures owner_room { OnOk result (vec_len owners.new < vec_capacity owners.new) }
+    ensures record_room { OnOk result (vec_len records.new < vec_capacity records.new) }
+    ensures receipt_room { OnOk result (vec_len receipts.new < vec_capacity receipts.new) }
+{
+    events.reserve(1)?;
+    owners.reserve(1)?;
+    records.reserve(1)?;
+    receipts.reserve(1)
+}
+
+// A run without events, and its seats.
+fn open_for<L: Ledger>(
+    alloc: Global,
+    blank: Blank,
+    setup: &Setup,
+    count: u32,
+) -> Result<(Live<L>, Vec<Seat<L>>), AllocError>
+    requires starts { setup_refusal setup.now ≡ None }
+    requires name { blank.name ≡ L.name }
+    requires parts { blank.parts ≡ L.parts }
+    requires all { blank.parts ≡ count }
+    ensures live { IfOk result (λ r. r.0 ≡ opened setup.now count) }
+    ensures count { IfOk result (λ r. vec_len r.1 ≡ count) }
+    ensures order { IfOk result (λ r. InOrder r.1.items) }
+    ensures untold { IfOk result (λ r. All (λ s. s.receipts ≡ []) r.1.items) }
+{
+    let room = Vec::with_capacity(alloc, count as usize)?;
+    let (book, mut rest) = blank.open::<L>();
+    let seats = seats_of(alloc, &mut rest, count)?;
+    let setup = setup.copy(alloc)?;
+    let Ok(state) = State::new(alloc, &setup) else {
+        return Err(AllocError);
+    };
+    let live = Live {
+        alloc,
+        setup,
+        actors: count,
+        events: Vec::new(alloc),
+        owners: Vec::new(alloc),
+        records: Vec::new(alloc),
+        state,
+        book,
+        rest,
+        room,
+    };
+    Ok((live, seats))
+}
+
+// A seat for each part.
+fn seats_of<L: Ledger>(
+    alloc: Global,
+    rest: &mut Share<L>,
+    count: u32,
+) -> Result<Vec<Seat<L>>, AllocError>
+    requires parts { rest.old.parts ≡ count }
+    requires amount { rest.old.amount ≡ 0 }
+    ensures parts { OnOk result ((rest.new.parts ≡ 0) × (rest.new.amount ≡ 0)) }
+    ensures count { IfOk result (λ seats. vec_len seats ≡ count) }
+    ensures order { IfOk result (λ seats. InOrder seats.items) }
+    ensures untold { IfOk result (λ seats. All (λ s. s.receipts ≡ []) seats.items) }
+{
+    let mut seats = Vec::new(alloc);
+    for actor in 0..count {
+        let share = rest.split_off(1, 0);
+        seats.push(seat_of(alloc, actor, share))?;
+    }
+    Ok(seats)
+}
+
+// A seat that was told nothing.
+fn seat_of<L: Ledger>(alloc: Global, actor: u32, share: Share<L>) -> Seat<L>
+    requires parts { share.parts ≡ 1 }
+    requires amount { share.amount ≡ 0 }
+    ensures actor { result.actor ≡ actor }
+    ensures receipts { result.receipts ≡ [] }
+{
+    Seat {
+        actor,
+        receipts: Vec::new(alloc),
+        share,
+    }
+}

@@ -1,0 +1,198 @@
+//! Runs in threads.
+ghost use Rattle.std.specs.Prelude.{◌≡◌, ◌≢◌, ◌≤◌, ℕ, Some, None, length, IfOk, IfSome, vec_len, vec_capacity};
+ghost use Rattle.scenario.specs.Setups.{setup_refusal};
+ghost use Rattle.scenario.specs.declared.setup.Setup.{Setup as Beginning};
+ghost use Rattle.scenario.specs.declared.setup.SetupRefusal.{SetupRefusal as NoStart};
+ghost use Rattle.live_runner.specs.Actors.{actors};
+ghost use Rattle.live_runner.specs.History.{InOrder, WorkInOrder, Whole};
+ghost use Rattle.live_runner.specs.Running.{HandlesInOrder};
+
+use crate::closed::Closed;
+use crate::finishing::finish;
+use crate::kinds::actors;
+use crate::lives::Live;
+use crate::seat::Seat;
+use crate::worker::{Gate, Worker};
+use scenario::{Setup, SetupRefusal};
+use std::alloc::Global;
+use std::marker::Brand;
+use std::sync::ledger::{Blank, Ledger};
+use std::sync::{Mutex, Wait};
+use std::thread;
+use std::thread::{Promise, PromisedHandle, Scope, Threads};
+use std::time::Clock;
+
+/// Why a live run was not closed.
+#[derive(Debug, Drop)]
+pub enum LiveFault {
+    /// There is no start, or no memory, or no thread.
+    Setup(SetupRefusal),
+    /// What an actor was told isn't what the trace has of it.
+    Torn(u32),
+    /// The lock gave back the run of another setup, or of so many actors.
+    Strange(Setup, u32),
+}
+
+/// A run in a thread for each actor, each of which makes so many turns.
+pub fn run_live<G: Gate, R: Threads + Wait + Clock + Sync>(
+    rt: &R,
+    alloc: Global,
+    setup: &Setup,
+    kernel: u32,
+    turns: u32,
+    gate: &G,
+) -> Result<Closed, LiveFault>
+    requires { kernel ≤ 8 }
+    ensures whole { IfOk result Whole }
+    ensures same { IfOk result (λ c. (c.setup ≡ setup.now) × (c.actors ≡ actors setup.now kernel)) }
+    ensures refused { (n : NoStart) → setup_refusal setup.now ≡ Some n → result ≡ Err (LiveFault.Setup n) }
+    ensures only_memory { (n : NoStart) → result ≡ Err (LiveFault.Setup n) → setup_refusal setup.now ≡ None → n ≡ SetupRefusal.Memory }
+    ensures strange { (s : Beginning) (k : ℕ) → result ≡ Err (LiveFault.Strange s k) → s ≡ setup.now → k ≢ actors setup.now kernel }
+{
+    let blank = Blank::new(actors(setup, kernel) as u64);
+    run_over::<Brand, G, R>(rt, alloc, blank, setup, kernel, turns, gate)
+}
+
+// The same, over the blank of a ledger.
+fn run_over<L: Ledger + Send + Sync, G: Gate, R: Threads + Wait + Clock + Sync>(
+    rt: &R,
+    alloc: Global,
+    blank: Blank,
+    setup: &Setup,
+    kernel: u32,
+    turns: u32,
+    gate: &G,
+) -> Result<Closed, LiveFault>
+    requires kernel { kernel ≤ 8 }
+    requires name { blank.name ≡ L.name }
+    requires parts { blank.parts ≡ L.parts }
+    requires all { blank.parts ≡ actors setup.now kernel }
+    ensures whole { IfOk result Whole }
+    ensures same { IfOk result (λ c. (c.setup ≡ setup.now) × (c.actors ≡ actors setup.now kernel)) }
+    ensures refused { (n : NoStart) → setup_refusal setup.now ≡ Some n → result ≡ Err (LiveFault.Setup n) }
+    ensures only_memory { (n : NoStart) → result ≡ Err (LiveFault.Setup n) → setup_refusal setup.now ≡ None → n ≡ SetupRefusal.Memory }
+    ensures strange { (s : Beginning) (k : ℕ) → result ≡ Err (LiveFault.Strange s k) → s ≡ setup.now → k ≢ actors setup.now kernel }
+{
+    let (live, seats) = match Live::<L>::open(alloc, blank, setup, kernel) {
+        Ok(opened) => opened,
+        Err(refusal) => return Err(LiveFault::Setup(refusal)),
+    };
+    let lock = Mutex::new(live);
+    match take_turns(rt, alloc, &lock, seats, turns, gate) {
+        Some(workers) => close(lock.into_inner(), setup, actors(setup, kernel), workers),
+        None => Err(LiveFault::Setup(SetupRefusal::Memory)),
+    }
+}
+
+// Closes what the lock gave back, if it is the run of this setup and so many actors.
+fn close<'g, L: Ledger, G: Gate>(
+    live: Live<L>,
+    setup: &Setup,
+    count: u32,
+    workers: Vec<Worker<'g, L, G>>,
+) -> Result<Closed, LiveFault>
+    requires all { length workers.items ≡ L.parts }
+    requires actors { length workers.items ≡ count }
+    requires order { WorkInOrder workers.items }
+    ensures whole { IfOk result Whole }
+    ensures same { IfOk result (λ c. (c.setup ≡ setup.now) × (c.actors ≡ count)) }
+    ensures started { (n : NoStart) → result ≢ Err (LiveFault.Setup n) }
+    ensures strange { (s : Beginning) (k : ℕ) → result ≡ Err (LiveFault.Strange s k) → s ≡ setup.now → k ≢ count }
+{
+    if !live.setup().is(setup) || live.actors() != count {
+        let (setup, count) = live.into_setup();
+        return Err(LiveFault::Strange(setup, count));
+    }
+    match finish(live, workers) {
+        Ok(closed) => Ok(closed),
+        Err(torn) => Err(LiveFault::Torn(torn.0)),
+    }
+}
+
+/// Whose seat a thread gives back.
+#[derive(Drop)]
+pub struct ForActor(u32);
+
+impl<L: Ledger> Promise<Seat<L>> for ForActor {
+    ghost kept_by = { λ p s. s.actor ≡ p.0 };
+}
+
+type Running<L> = PromisedHandle<Seat<L>, ForActor>;
+
+// Turns of a worker, each with its own hold of the lock.
+fn work<L: Ledger, G: Gate, R: Wait + Clock>(
+    rt: &R,
+    lock: &Mutex<Live<L>>,
+    seat: Seat<L>,
+    turns: u32,
+    gate: &G,
+) -> Seat<L>
+    ensures { result.actor ≡ seat.actor }
+{
+    let mut worker = Worker::new(seat, gate);
+    for _turn in 0..turns {
+        worker.turn(rt, lock);
+    }
+    worker.into_seat()
+}
+
+// A thread for each seat, up to one that can't be started.
+fn start_all<'s, E, L: Ledger + Send + Sync + 's, G: Gate + 's, R: Wait + Clock + Sync + 's>(
+    scope: &Scope<'s, E>,
+    rt: &'s R,
+    lock: &'s Mutex<Live<L>>,
+    seats: Vec<Seat<L>>,
+    turns: u32,
+    gate: &'s G,
+    mut handles: Vec<Running<L>>,
+) -> Vec<Running<L>>
+    requires order { InOrder seats.items }
+    requires none { vec_len handles ≡ 0 }
+    requires room { vec_len seats ≤ vec_capacity handles }
+    ensures { HandlesInOrder result.items }
+{
+    for seat in seats {
+        let promise = ForActor(seat.actor());
+        match scope.spawn_with(promise, move || work(rt, lock, seat, turns, gate)) {
+            Ok(handle) => handles.push_reserved(handle),
+            Err(_) => break,
+        }
+    }
+    handles
+}
+
+// Runs a thread for each seat, and joins them all. None where one couldn't be started, or there is no memory.
+fn take_turns<'g, L: Ledger + Send + Sync, G: Gate, R: Threads + Wait + Clock + Sync>(
+    rt: &R,
+    alloc: Global,
+    lock: &Mutex<Live<L>>,
+    seats: Vec<Seat<L>>,
+    turns: u32,
+    gate: &'g G,
+) -> Option<Vec<Worker<'g, L, G>>>
+    requires { InOrder seats.items }
+    ensures count { IfSome result (λ workers. length workers.items ≡ length seats.items) }
+    ensures order { IfSome result (λ workers. WorkInOrder workers.items) }
+{
+    let count = seats.len();
+    let mut workers = Vec::with_capacity(alloc, count).ok()?;
+    let handles = Vec::with_capacity(alloc, count).ok()?;
+    let handles = thread::scope(
+        thread::scope_env(),
+        rt,
+        |scope| -> Vec<Running<L>>
+            requires { InOrder seats.items × (vec_len handles ≡ 0) × (vec_len seats ≤ vec_capacity handles) }
+            ensures { HandlesInOrder result.items }
+        { start_all(scope, rt, lock, seats, turns, gate, handles) },
+    );
+    for handle in handles {
+        let Ok(()) = workers.push(Worker::new(handle.join(rt), gate)) else {
+            return None;
+        };
+    }
+    if workers.len() == count {
+        Some(workers)
+    } else {
+        None
+    }
+}

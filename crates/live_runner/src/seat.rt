@@ -1,0 +1,40 @@
+//! Places at the lock.
+ghost use Rattle.std.specs.Prelude.{◌≡◌};
+
+use crate::receipt::Receipt;
+use std::marker::Model;
+use std::sync::ledger::{Ledger, Share};
+
+/// A place at the lock: whose it is, what it was told, and its share of the ledger.
+#[derive(Drop)]
+pub struct Seat<L: Ledger> {
+    pub(crate) actor: u32,
+    pub(crate) receipts: Vec<Receipt>,
+    pub(crate) share: Share<L>,
+}
+
+impl<L: Ledger> Model for Seat<L> {
+    ghost use Rattle.live_runner.specs.History.{Held, Counted};
+
+    ghost Value = { Held };
+
+    ghost view = { λ s. record { actor = s.actor; receipts = s.receipts.items; parts = s.share.parts; amount = s.share.amount } };
+
+    ghost invariant = { λ s. Counted (record { actor = s.actor; receipts = s.receipts.items; parts = s.share.parts; amount = s.share.amount }) };
+}
+
+impl<L: Ledger> Seat<L> {
+    /// Whose it is.
+    pub fn actor(&self) -> u32
+        ensures { result ≡ self.now.actor }
+    {
+        self.actor
+    }
+
+    /// What it was told, in order.
+    pub fn receipts(&self) -> &[Receipt]
+        ensures { result.now ≡ self.now.receipts }
+    {
+        &self.receipts
+    }
+}
