@@ -17,7 +17,7 @@ use Rattle.inverse_log.specs.declared.refusal.ExtendRefusal.TheVariants.{TraceFu
 use Rattle.inverse_log.specs.Tracks.{RefusedAt}
 use Rattle.inverse_log.specs.Walks.{Walk, ending, extended}
 use Rattle.debug_server.specs.Syncs.{same_choice, same_event, torn_from, refused_from}
-use Rattle.watches.specs.Watching.{Watching}
+use Rattle.watches.specs.Watchpoints.{Stops}
 use Rattle.debug_server.specs.SessionStates.{SessionState, walked_to}
 use Rattle.debug_server.specs.Replies.{event_text, takes_over}
 use Rattle.debug_server.specs.Refusing.{Tells}
@@ -146,11 +146,11 @@ taken v w known es rest a b c h =
     refused_none (length v.walk.events) (ending v.walk) (drop (length v.walk.events) es) (subst (Accepts (ending v.walk)) r (subst P a h))
 
 -- the run with the events that it lacked
-pub taken_next : (v : SessionState) (w u : Walk) (m : Watching) (known : ℕ) (es rest : List Event) → w ≡ v.walk → known ≡ length w.events → rest ≡ drop known es → u ≡ extended w rest → m ≡ v.watching → (let x : SessionState = record { walk = u; watching = m } in x) ≡ walked_to v (extended v.walk (drop (length v.walk.events) es))
+pub taken_next : (v : SessionState) (w u : Walk) (m : Stops) (known : ℕ) (es rest : List Event) → w ≡ v.walk → known ≡ length w.events → rest ≡ drop known es → u ≡ extended w rest → m ≡ v.stops → (let x : SessionState = record { walk = u; stops = m } in x) ≡ walked_to v (extended v.walk (drop (length v.walk.events) es))
 taken_next v w u m known es rest a b c d e =
     let r : rest ≡ drop (length v.walk.events) es = c ∙ ap (λ n. drop n es) (b ∙ ap (λ (x : Walk). length x.events) a) in
     let f : u ≡ extended v.walk (drop (length v.walk.events) es) = d ∙ ap (λ x. extended x rest) a ∙ ap (extended v.walk) r in
-    λ i. record { walk = f i; watching = e i }
+    λ i. record { walk = f i; stops = e i }
 
 -- an event was refused, and that is told
 pub left : (v : SessionState) (w : Walk) (known : ℕ) (es rest : List Event) (e : ExtendRefusal) (text : List ℕ) → w ≡ v.walk → known ≡ length w.events → rest ≡ drop known es → ((i : ℕ) (n : Refusal) → e ≡ Refused i n → RefusedAt (ending w) rest i n) → Tells known e text → (i : ℕ) × (fate v es ≡ Some i) × (text ≡ event_text i)
@@ -169,8 +169,8 @@ left v w known es rest e text a b c h t =
 pub left_text : (v : SessionState) (es : List Event) (text : List ℕ) → (i : ℕ) × (fate v es ≡ Some i) × (text ≡ event_text i) → text ≡ (takes_over v es (fate v es)).text
 left_text v es text f = f.2 ∙ sym (ap (λ o. (takes_over v es o).text) f.1)
 
-pub left_next : (v : SessionState) (w u : Walk) (m : Watching) (es : List Event) (text : List ℕ) → w ≡ v.walk → u ≡ w → m ≡ v.watching → (i : ℕ) × (fate v es ≡ Some i) × (text ≡ event_text i) → (let x : SessionState = record { walk = u; watching = m } in x) ≡ (takes_over v es (fate v es)).next
+pub left_next : (v : SessionState) (w u : Walk) (m : Stops) (es : List Event) (text : List ℕ) → w ≡ v.walk → u ≡ w → m ≡ v.stops → (i : ℕ) × (fate v es ≡ Some i) × (text ≡ event_text i) → (let x : SessionState = record { walk = u; stops = m } in x) ≡ (takes_over v es (fate v es)).next
 left_next v w u m es text a d e f =
     let g : u ≡ v.walk = d ∙ a in
-    let same : (let x : SessionState = record { walk = u; watching = m } in x) ≡ v = λ i. record { walk = g i; watching = e i } in
+    let same : (let x : SessionState = record { walk = u; stops = m } in x) ≡ v = λ i. record { walk = g i; stops = e i } in
     same ∙ sym (ap (λ o. (takes_over v es o).next) f.1)

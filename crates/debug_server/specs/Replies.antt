@@ -9,14 +9,14 @@ use Rattle.inverse_log.specs.Walks.{here, ending, moved, jumped, extended}
 use Rattle.watches.specs.declared.stopping.Stop.{Stop}
 use Rattle.watches.specs.declared.stopping.Stop.TheVariants as stop
 use Rattle.watches.specs.Stops.{reverse_stop, forward_stop, position_of}
-use Rattle.watches.specs.Watching.{nothing, watched, broken}
+use Rattle.watches.specs.Watchpoints.{nothing, watched, broken}
 use Rattle.debug_server.specs.declared.commands.command.Command.{Command}
 use Rattle.debug_server.specs.declared.commands.command.Command.TheVariants.{Where, Show, Goto, Back, On, Watch, Break, Unwatch, Cont, Rcont, Sync, Quit}
 use Rattle.debug_server.specs.declared.commands.command.CommandFault.{CommandFault}
 use Rattle.debug_server.specs.declared.commands.command.CommandFault.TheVariants as fault
 use Rattle.debug_server.specs.Commands.{command_of}
 use Rattle.debug_server.specs.Syncs.{torn_from, refused_from}
-use Rattle.debug_server.specs.SessionStates.{SessionState, walked_to, minding}
+use Rattle.debug_server.specs.SessionStates.{SessionState, walked_to, with_stops}
 
 -- what a source can answer: a trace, or none
 abbrev pub Answer : Type 0
@@ -91,13 +91,13 @@ is_full xs = nat_le 64 (length xs)
 
 abbrev pub watches : SessionState → Place → Reply
 watches v p =
-    if is_full v.watching.places then stays v (fault_text fault.Many)
-    else record { text = watching_text (length (watched v.watching p).places); next = minding v (watched v.watching p); quits = false }
+    if is_full v.stops.watchpoints then stays v (fault_text fault.Many)
+    else record { text = watching_text (length (watched v.stops p).watchpoints); next = with_stops v (watched v.stops p); quits = false }
 
 abbrev pub breaks : SessionState → Place → Value → Reply
 breaks v p x =
-    if is_full v.watching.breaks then stays v (fault_text fault.Many)
-    else record { text = breaks_text (length v.watching.breaks + 1); next = minding v (broken v.watching p x); quits = false }
+    if is_full v.stops.breakpoints then stays v (fault_text fault.Many)
+    else record { text = breaks_text (length v.stops.breakpoints + 1); next = with_stops v (broken v.stops p x); quits = false }
 
 -- by single steps, which aren't counted
 abbrev pub stops_on : SessionState → Stop → Reply
@@ -131,9 +131,9 @@ reply_to v (Ok (Back n)) answer = goes v (v.walk.at - n)
 reply_to v (Ok (On n)) answer = goes v (min (v.walk.at + n) (length v.walk.events))
 reply_to v (Ok (Watch p)) answer = watches v p
 reply_to v (Ok (Break p x)) answer = breaks v p x
-reply_to v (Ok Unwatch) answer = record { text = watching_text 0; next = minding v nothing; quits = false }
-reply_to v (Ok Cont) answer = stops_on v (forward_stop v.walk v.watching)
-reply_to v (Ok Rcont) answer = stops_back v (reverse_stop v.walk v.watching.places)
+reply_to v (Ok Unwatch) answer = record { text = watching_text 0; next = with_stops v nothing; quits = false }
+reply_to v (Ok Cont) answer = stops_on v (forward_stop v.walk v.stops)
+reply_to v (Ok Rcont) answer = stops_back v (reverse_stop v.walk v.stops.watchpoints)
 reply_to v (Ok Sync) answer = syncs v answer
 reply_to v (Ok Quit) answer = record { text = codes "bye\n"; next = v; quits = true }
 

@@ -8,7 +8,7 @@ use Rattle.machine.specs.Runs.{IsRefused}
 use Rattle.inverse_log.specs.declared.refusal.ExtendRefusal.{ExtendRefusal}
 use Rattle.inverse_log.specs.declared.refusal.ExtendRefusal.TheVariants.{TraceFull, Refused}
 use Rattle.inverse_log.specs.Walks.{Walk, fresh, extended, jumped}
-use Rattle.debug_server.specs.SessionStates.{SessionState, unstopped}
+use Rattle.debug_server.specs.SessionStates.{SessionState, without_stops}
 use Rattle.debug_server.specs.declared.faults.RunFault.{RunFault}
 use Rattle.debug_server.specs.declared.faults.RunFault.TheVariants.{Script, Schedule, Serve, Memory, Net, Trace}
 
@@ -18,7 +18,7 @@ walk_over setup es = jumped (extended (fresh setup) es) (length es)
 
 -- the session's state there, without watches and breaks
 abbrev pub state_over : Setup → List Event → SessionState
-state_over setup es = unstopped (walk_over setup es)
+state_over setup es = without_stops (walk_over setup es)
 
 -- What a fault says of a schedule: the first event that was refused, or want of memory.
 abbrev pub StopsBy : Setup → List Event → RunFault → Type 0

@@ -1,7 +1,7 @@
 -- Traces of scripts, and what making one can fail by.
 use Rattle.std.specs.Prelude.{◌≡◌, ℕ, List, length}
-use Rattle.script.specs.Scripts.{Plan}
-use Rattle.traces.specs.Setups.{plain, IsTrace2}
+use Rattle.script.specs.Scripts.{Scenario}
+use Rattle.traces.specs.Setups.{canonical, IsTrace2}
 use Rattle.traces.specs.Spelling.{IsTrace}
 use Rattle.debug_server.specs.declared.faults.RunFault.{RunFault}
 use Rattle.debug_server.specs.declared.faults.RunFault.TheVariants.{Script, Schedule, Serve, Memory, Net, Trace}
@@ -10,11 +10,11 @@ use Rattle.debug_server.specs.declared.task.Form.TheVariants.{Events, Whole}
 use Rattle.debug_server.specs.declared.tracing.Traced.{Traced}
 
 -- bytes are the trace of a plan in a form
-abbrev pub IsSpelling : Form → Plan → List ℕ → Type 0
+abbrev pub IsSpelling : Form → Scenario → List ℕ → Type 0
 IsSpelling Events p bytes = IsTrace p.schedule bytes
-IsSpelling Whole p bytes = IsTrace2 (plain p.setup) p.schedule bytes
+IsSpelling Whole p bytes = IsTrace2 (canonical p.setup) p.schedule bytes
 
-pub record IsTraceOf (form : Form) (p : Plan) (t : Traced) : Type 0 where
+pub record IsTraceOf (form : Form) (p : Scenario) (t : Traced) : Type 0 where
   pub spelling : IsSpelling form p t.bytes.items
   pub events : t.events ≡ length p.schedule
 

@@ -3,7 +3,7 @@ ghost use Rattle.std.specs.Prelude.{◌≡◌, ◌≢◌, ℕ, Ok, Err, IfOk, If
 ghost use Rattle.machine.specs.Runs.{start, Accepts, IsRefused};
 ghost use Rattle.scenario.specs.declared.event.Refusal.{Refusal};
 ghost use Rattle.script.specs.declared.fault.ScriptFault.{ScriptFault};
-ghost use Rattle.script.specs.Scripts.{Plan, Reads};
+ghost use Rattle.script.specs.Scripts.{Scenario, Reads};
 ghost use Rattle.debug_server.specs.Lines.{lines_of};
 ghost use Rattle.debug_server.specs.Transcripts.{unanswered, output};
 ghost use Rattle.debug_server.specs.Schedules.{state_over, IsOfWalk};
@@ -16,12 +16,12 @@ use std::alloc::Global;
 /// What the session of a script replies to its input.
 pub fn replies(alloc: Global, script: &[u8], input: &[u8]) -> Result<Vec<u8>, RunFault>
     // The schedule runs, and these are just the replies to the input's lines, up to one that quits, without a source.
-    ensures ok { IfOk result (λ out. (p : Plan) × Reads script.now (Ok p) × Accepts (start p.setup) p.schedule
+    ensures ok { IfOk result (λ out. (p : Scenario) × Reads script.now (Ok p) × Accepts (start p.setup) p.schedule
         × (out.items ≡ output (state_over p.setup p.schedule) (lines_of input.now) (unanswered (lines_of input.now)))) }
     // A fault of the script is its first one, a fault of the schedule its first refused event.
     ensures script { IfErr result (λ e. (f : ScriptFault) → e ≡ RunFault.Script f → Reads script.now (Err f)) }
     ensures schedule { IfErr result (λ e. (i : ℕ) → (n : Refusal) → e ≡ RunFault.Schedule i n
-        → (p : Plan) × Reads script.now (Ok p) × IsRefused p.setup p.schedule i n) }
+        → (p : Scenario) × Reads script.now (Ok p) × IsRefused p.setup p.schedule i n) }
     ensures other { IfErr result IsOfWalk }
     ensures open { result ≢ Err (RunFault.Serve Closed) }
 {

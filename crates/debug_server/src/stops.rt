@@ -2,8 +2,8 @@
 ghost use Rattle.std.specs.Prelude.{◌≡◌, ◌≤◌, length, IfOk, OnOk, OnErr};
 ghost use Rattle.inverse_log.specs.Walks.{jumped};
 ghost use Rattle.watches.specs.Stops.{reverse_stop, forward_stop};
-ghost use Rattle.watches.specs.Watching.{nothing};
-ghost use Rattle.debug_server.specs.SessionStates.{minding};
+ghost use Rattle.watches.specs.Watchpoints.{nothing};
+ghost use Rattle.debug_server.specs.SessionStates.{with_stops};
 ghost use Rattle.debug_server.specs.Replies.{watching_text, watches as watched_by, breaks as broken_by, stops_on, stops_back};
 
 use crate::commands::CommandFault;
@@ -55,7 +55,7 @@ pub(crate) fn break_at(
 // Takes all watches and breaks away.
 pub(crate) fn unwatch(alloc: Global, visitor: &mut Visitor) -> Result<Vec<u8>, AllocError>
     ensures text { IfOk result (λ text. text.items ≡ watching_text 0) }
-    ensures next { OnOk result (visitor.new ≡ minding visitor.old nothing) }
+    ensures next { OnOk result (visitor.new ≡ with_stops visitor.old nothing) }
     ensures err { OnErr result (visitor.new ≡ visitor.old) }
 {
     let text = watching_line(alloc, 0)?;
@@ -77,8 +77,8 @@ pub(crate) fn jump_to(walker: &mut Walker, moment: usize) -> Result<(), AllocErr
 
 // Walks back to where a watch stops it. An `Err` changes nothing: the text is made first.
 pub(crate) fn stop_back(alloc: Global, visitor: &mut Visitor) -> Result<Vec<u8>, AllocError>
-    ensures text { IfOk result (λ text. text.items ≡ (stops_back visitor.old (reverse_stop visitor.old.walk visitor.old.watching.places)).text) }
-    ensures next { OnOk result (visitor.new ≡ (stops_back visitor.old (reverse_stop visitor.old.walk visitor.old.watching.places)).next) }
+    ensures text { IfOk result (λ text. text.items ≡ (stops_back visitor.old (reverse_stop visitor.old.walk visitor.old.stops.watchpoints)).text) }
+    ensures next { OnOk result (visitor.new ≡ (stops_back visitor.old (reverse_stop visitor.old.walk visitor.old.stops.watchpoints)).next) }
     ensures err { OnErr result (visitor.new ≡ visitor.old) }
 {
     let stop = earlier(&visitor.walker, &visitor.watches);
@@ -94,8 +94,8 @@ pub(crate) fn stop_back(alloc: Global, visitor: &mut Visitor) -> Result<Vec<u8>,
 // Walks on to where a watch or a break stops it. Where memory for the text is refused it goes back to
 // where it was, which takes none.
 pub(crate) fn stop_on(alloc: Global, visitor: &mut Visitor) -> Result<Vec<u8>, AllocError>
-    ensures text { IfOk result (λ text. text.items ≡ (stops_on visitor.old (forward_stop visitor.old.walk visitor.old.watching)).text) }
-    ensures next { OnOk result (visitor.new ≡ (stops_on visitor.old (forward_stop visitor.old.walk visitor.old.watching)).next) }
+    ensures text { IfOk result (λ text. text.items ≡ (stops_on visitor.old (forward_stop visitor.old.walk visitor.old.stops)).text) }
+    ensures next { OnOk result (visitor.new ≡ (stops_on visitor.old (forward_stop visitor.old.walk visitor.old.stops)).next) }
     ensures err { OnErr result (visitor.new ≡ visitor.old) }
 {
     let (from, len) = (visitor.walker.at(), visitor.walker.len());

@@ -4,10 +4,10 @@ ghost use Rattle.std.specs.List.{list_all};
 ghost use Rattle.machine.specs.Runs.{start, Accepts, IsRefused};
 ghost use Rattle.scenario.specs.declared.event.Event.{Event};
 ghost use Rattle.scenario.specs.declared.event.Refusal.{Refusal};
-ghost use Rattle.script.specs.Scripts.{Plan, Reads};
+ghost use Rattle.script.specs.Scripts.{Scenario, Reads};
 ghost use Rattle.script.specs.declared.fault.ScriptFault.{ScriptFault};
 ghost use Rattle.traces.specs.Faults.{IsFault};
-ghost use Rattle.traces.specs.Setups.{plain, IsTrace2};
+ghost use Rattle.traces.specs.Setups.{canonical, IsTrace2};
 ghost use Rattle.traces.specs.Spelling.{most_events, has_transfer, IsTrace};
 ghost use Rattle.traces.specs.declared.fault.TraceFault.{TraceFault};
 ghost use Rattle.debug_server.specs.Tracing.{IsSpelling, IsTraceOf, IsOfTracing, IsOfMigration, IsOfTraces};
@@ -31,9 +31,9 @@ pub struct Traced {
 
 /// Reads a script, runs its schedule, and writes the trace of it in a form.
 pub fn trace_script(alloc: Global, text: &[u8], form: Form) -> Result<Traced, RunFault>
-    ensures ok { IfOk result (λ t. (p : Plan) × Reads text.now (Ok p) × Accepts (start p.setup) p.schedule × IsTraceOf form p t) }
+    ensures ok { IfOk result (λ t. (p : Scenario) × Reads text.now (Ok p) × Accepts (start p.setup) p.schedule × IsTraceOf form p t) }
     ensures script { IfErr result (λ e. (f : ScriptFault) → e ≡ RunFault.Script f → Reads text.now (Err f)) }
-    ensures schedule { IfErr result (λ e. (i : ℕ) → (n : Refusal) → e ≡ RunFault.Schedule i n → (p : Plan) × Reads text.now (Ok p) × IsRefused p.setup p.schedule i n) }
+    ensures schedule { IfErr result (λ e. (i : ℕ) → (n : Refusal) → e ≡ RunFault.Schedule i n → (p : Scenario) × Reads text.now (Ok p) × IsRefused p.setup p.schedule i n) }
     ensures other { IfErr result IsOfTracing }
 {
     let script = script_of(alloc, text)?;
@@ -59,10 +59,10 @@ fn trace_of(alloc: Global, script: &Script, form: Form) -> Result<Traced, RunFau
 /// Reads a script and a trace of the first form, and writes the trace of the second form of the script's
 /// setup and the trace's events. It runs none of them.
 pub fn migrate_trace(alloc: Global, text: &[u8], trace: &[u8]) -> Result<Traced, RunFault>
-    ensures ok { IfOk result (λ t. (p : Plan) × Reads text.now (Ok p) × (events : List Event) × IsTrace events trace.now
-        × IsTrace2 (plain p.setup) events t.bytes.items × (t.events ≡ length events)) }
+    ensures ok { IfOk result (λ t. (p : Scenario) × Reads text.now (Ok p) × (events : List Event) × IsTrace events trace.now
+        × IsTrace2 (canonical p.setup) events t.bytes.items × (t.events ≡ length events)) }
     ensures script { IfErr result (λ e. (f : ScriptFault) → e ≡ RunFault.Script f → Reads text.now (Err f)) }
-    ensures trace { IfErr result (λ e. (f : TraceFault) → e ≡ RunFault.Trace f → ((p : Plan) × Reads text.now (Ok p)) × IsFault trace.now f) }
+    ensures trace { IfErr result (λ e. (f : TraceFault) → e ≡ RunFault.Trace f → ((p : Scenario) × Reads text.now (Ok p)) × IsFault trace.now f) }
     ensures other { IfErr result IsOfMigration }
 {
     let script = script_of(alloc, text)?;
@@ -72,7 +72,7 @@ pub fn migrate_trace(alloc: Global, text: &[u8], trace: &[u8]) -> Result<Traced,
 // The trace of the second form of a script's setup and the events of a trace of the first form.
 fn migrate_with(alloc: Global, script: &Script, trace: &[u8]) -> Result<Traced, RunFault>
     ensures ok { IfOk result (λ t. (events : List Event) × IsTrace events trace.now
-        × IsTrace2 (plain script.now.setup) events t.bytes.items × (t.events ≡ length events)) }
+        × IsTrace2 (canonical script.now.setup) events t.bytes.items × (t.events ≡ length events)) }
     ensures trace { IfErr result (λ e. (f : TraceFault) → e ≡ RunFault.Trace f → IsFault trace.now f) }
     ensures other { IfErr result IsOfTraces }
 {
@@ -115,7 +115,7 @@ fn spelled(alloc: Global, script: &Script, form: Form) -> Result<Vec<u8>, AllocE
 fn whole_of(alloc: Global, script: &Script, events: &[Event]) -> Result<Vec<u8>, AllocError>
     requires few { length events.now ≤ most_events }
     requires transfers { IsTrue (list_all has_transfer events.now) }
-    ensures { IfOk result (λ bytes. IsTrace2 (plain script.now.setup) events.now bytes.items) }
+    ensures { IfOk result (λ bytes. IsTrace2 (canonical script.now.setup) events.now bytes.items) }
 {
     write_trace2(alloc, script.setup(), events)
 }

@@ -18,7 +18,7 @@ impl Model for Visitor {
 
     ghost Value = { SessionState };
 
-    ghost view = { λ v. record { walk = v.walker; watching = v.watches } };
+    ghost view = { λ v. record { walk = v.walker; stops = v.watches } };
 }
 
 impl Visitor {

@@ -4,7 +4,7 @@ ghost use Rattle.std.specs.Io.KnownBytes.{Keeps};
 ghost use Rattle.machine.specs.Runs.{IsRefused};
 ghost use Rattle.scenario.specs.Setups.{setup_refusal};
 ghost use Rattle.scenario.specs.declared.event.Refusal.{Refusal};
-ghost use Rattle.script.specs.Scripts.{Plan, Reads};
+ghost use Rattle.script.specs.Scripts.{Scenario, Reads};
 ghost use Rattle.script.specs.declared.fault.ScriptFault.{ScriptFault};
 ghost use Rattle.debug_server.specs.declared.faults.ServeFault.{ServeFault};
 ghost use Rattle.debug_server.specs.declared.faults.ServeFault.TheVariants.{Closed};
@@ -29,15 +29,15 @@ pub fn walk<R: Read, W: Write>(
     writer: &mut W,
 ) -> Result<(), RunFault>
     // The schedule runs, and what is written is the output of the session of the script, without a source.
-    ensures ok { OnOk result ((p : Plan) × Reads text.now (Ok p) × Walked p.setup p.schedule
+    ensures ok { OnOk result ((p : Scenario) × Reads text.now (Ok p) × Walked p.setup p.schedule
         (streams (R.remaining reader.old) (W.contents writer.old)) (streams (R.remaining reader.new) (W.contents writer.new))) }
     // A fault of the script is its first one, a fault of the schedule its first refused event. Nothing was written then.
     ensures script { IfErr result (λ e. (f : ScriptFault) → e ≡ RunFault.Script f → Reads text.now (Err f) × Keeps (W.contents writer.old) (W.contents writer.new)) }
     ensures schedule { IfErr result (λ e. (i : ℕ) → (n : Refusal) → e ≡ RunFault.Schedule i n
-        → (p : Plan) × Reads text.now (Ok p) × IsRefused p.setup p.schedule i n × Keeps (W.contents writer.old) (W.contents writer.new)) }
+        → (p : Scenario) × Reads text.now (Ok p) × IsRefused p.setup p.schedule i n × Keeps (W.contents writer.old) (W.contents writer.new)) }
     ensures memory { IfErr result (λ e. e ≡ RunFault.Memory → Keeps (W.contents writer.old) (W.contents writer.new)) }
     // At a fault of serving a beginning of that output was written.
-    ensures begins { IfErr result (λ e. (f : ServeFault) → e ≡ RunFault.Serve f → (p : Plan) × Reads text.now (Ok p) × BrokenOff p.setup p.schedule
+    ensures begins { IfErr result (λ e. (f : ServeFault) → e ≡ RunFault.Serve f → (p : Scenario) × Reads text.now (Ok p) × BrokenOff p.setup p.schedule
         (streams (R.remaining reader.old) (W.contents writer.old)) (streams (R.remaining reader.new) (W.contents writer.new)) f) }
     ensures open { result ≢ Err (RunFault.Serve Closed) }
     ensures other { IfErr result IsOfWalk }

@@ -1,9 +1,9 @@
 //! The value of the lock.
 ghost use Rattle.std.specs.Prelude.{◌≡◌, ◌≢◌, ◌↔◌, [], ◌⊎◌, ℕ, length, true, Some, None, IfOk, IfErr, OnOk, OnErr, ◌<◌, ◌≤◌, vec_len, vec_capacity, All};
 ghost use Rattle.scenario.specs.Setups.{setup_refusal};
-ghost use Rattle.scenario.specs.declared.event.Event.{Event as Happening};
-ghost use Rattle.scenario.specs.declared.event.Refusal.{Refusal as Denial};
-ghost use Rattle.scenario.specs.declared.setup.SetupRefusal.{SetupRefusal as NoStart};
+ghost use Rattle.scenario.specs.declared.event.Event.{Event};
+ghost use Rattle.scenario.specs.declared.event.Refusal.{Refusal};
+ghost use Rattle.scenario.specs.declared.setup.SetupRefusal.{SetupRefusal};
 ghost use Rattle.machine.specs.Runs.{start, Accepts};
 ghost use Rattle.machine.specs.Steps.{refusal};
 ghost use Rattle.live_runner.specs.Actors.{actors, is_own};
@@ -82,7 +82,7 @@ impl<L: Ledger> Live<L> {
         ensures count { IfOk result (λ r. vec_len r.1 ≡ actors setup.now kernel) }
         ensures order { IfOk result (λ r. InOrder r.1.items) }
         ensures untold { IfOk result (λ r. All (λ s. s.receipts ≡ []) r.1.items) }
-        ensures refused { (r : NoStart) → setup_refusal setup.now ≡ Some r → result ≡ Err r }
+        ensures refused { (r : SetupRefusal) → setup_refusal setup.now ≡ Some r → result ≡ Err r }
         ensures only_memory { IfErr result (λ r. setup_refusal setup.now ≡ None → r ≡ SetupRefusal.Memory) }
     {
         if let Some(refusal) = setup_refusal(setup) {
@@ -171,7 +171,7 @@ impl<L: Ledger> Live<L> {
         ensures run { OnOk result (self.new ≡ gone_on self.old seat.old.actor event) }
         ensures receipt { IfOk result (λ r. r ≡ receipt seat.old.actor moment event) }
         ensures seat { IfOk result (λ r. seat.new ≡ seat_with seat.old r) }
-        ensures refused { (n : Denial) → refusal self.old.state event ≡ Some n → result ≡ Err n }
+        ensures refused { (n : Refusal) → refusal self.old.state event ≡ Some n → result ≡ Err n }
         ensures only_memory { IfErr result (λ n. (refusal self.old.state event ≡ Some n) ⊎ ((n ≡ Refusal.Memory) × (refusal self.old.state event ≡ None))) }
         ensures err { OnErr result ((self.new ≡ self.old) × (seat.new ≡ seat.old)) }
     {
@@ -213,7 +213,7 @@ impl<L: Ledger> Live<L> {
         ensures idle { result ≡ None → (self.new ≡ self.old) × (seat.new ≡ seat.old) }
         ensures kept { (self.new.setup ≡ self.old.setup) × (self.new.actors ≡ self.old.actors) × (seat.new.actor ≡ seat.old.actor) }
         ensures told { (r : _) → result ≡ Some (Ok r) → seat.new ≡ seat_with seat.old r }
-        ensures attempted { (e : Happening) (x : _) → offer self.old.setup self.old.actors self.old.state seat.old.actor ≡ Some e → result ≡ Some x
+        ensures attempted { (e : Event) (x : _) → offer self.old.setup self.old.actors self.old.state seat.old.actor ≡ Some e → result ≡ Some x
             → Attempted self.old seat.old e x self.new seat.new }
         ensures err { (x : _) → result ≡ Some (Err x) → (self.new ≡ self.old) × (seat.new ≡ seat.old) }
     {

@@ -1,8 +1,8 @@
 //! Runs in threads.
 ghost use Rattle.std.specs.Prelude.{◌≡◌, ◌≢◌, ◌≤◌, ℕ, Some, None, length, IfOk, IfSome, vec_len, vec_capacity};
 ghost use Rattle.scenario.specs.Setups.{setup_refusal};
-ghost use Rattle.scenario.specs.declared.setup.Setup.{Setup as Beginning};
-ghost use Rattle.scenario.specs.declared.setup.SetupRefusal.{SetupRefusal as NoStart};
+ghost use Rattle.scenario.specs.declared.setup.Setup.{Setup};
+ghost use Rattle.scenario.specs.declared.setup.SetupRefusal.{SetupRefusal};
 ghost use Rattle.live_runner.specs.Actors.{actors};
 ghost use Rattle.live_runner.specs.History.{InOrder, WorkInOrder, Whole};
 ghost use Rattle.live_runner.specs.Running.{HandlesInOrder};
@@ -45,9 +45,9 @@ pub fn run_live<G: Gate, R: Threads + Wait + Clock + Sync>(
     requires { kernel ≤ 8 }
     ensures whole { IfOk result Whole }
     ensures same { IfOk result (λ c. (c.setup ≡ setup.now) × (c.actors ≡ actors setup.now kernel)) }
-    ensures refused { (n : NoStart) → setup_refusal setup.now ≡ Some n → result ≡ Err (LiveFault.Setup n) }
-    ensures only_memory { (n : NoStart) → result ≡ Err (LiveFault.Setup n) → setup_refusal setup.now ≡ None → n ≡ SetupRefusal.Memory }
-    ensures strange { (s : Beginning) (k : ℕ) → result ≡ Err (LiveFault.Strange s k) → s ≡ setup.now → k ≢ actors setup.now kernel }
+    ensures refused { (n : SetupRefusal) → setup_refusal setup.now ≡ Some n → result ≡ Err (LiveFault.Setup n) }
+    ensures only_memory { (n : SetupRefusal) → result ≡ Err (LiveFault.Setup n) → setup_refusal setup.now ≡ None → n ≡ SetupRefusal.Memory }
+    ensures strange { (s : Setup) (k : ℕ) → result ≡ Err (LiveFault.Strange s k) → s ≡ setup.now → k ≢ actors setup.now kernel }
 {
     let blank = Blank::new(actors(setup, kernel) as u64);
     run_over::<Brand, G, R>(rt, alloc, blank, setup, kernel, turns, gate)
@@ -69,9 +69,9 @@ fn run_over<L: Ledger + Send + Sync, G: Gate, R: Threads + Wait + Clock + Sync>(
     requires all { blank.parts ≡ actors setup.now kernel }
     ensures whole { IfOk result Whole }
     ensures same { IfOk result (λ c. (c.setup ≡ setup.now) × (c.actors ≡ actors setup.now kernel)) }
-    ensures refused { (n : NoStart) → setup_refusal setup.now ≡ Some n → result ≡ Err (LiveFault.Setup n) }
-    ensures only_memory { (n : NoStart) → result ≡ Err (LiveFault.Setup n) → setup_refusal setup.now ≡ None → n ≡ SetupRefusal.Memory }
-    ensures strange { (s : Beginning) (k : ℕ) → result ≡ Err (LiveFault.Strange s k) → s ≡ setup.now → k ≢ actors setup.now kernel }
+    ensures refused { (n : SetupRefusal) → setup_refusal setup.now ≡ Some n → result ≡ Err (LiveFault.Setup n) }
+    ensures only_memory { (n : SetupRefusal) → result ≡ Err (LiveFault.Setup n) → setup_refusal setup.now ≡ None → n ≡ SetupRefusal.Memory }
+    ensures strange { (s : Setup) (k : ℕ) → result ≡ Err (LiveFault.Strange s k) → s ≡ setup.now → k ≢ actors setup.now kernel }
 {
     let (live, seats) = match Live::<L>::open(alloc, blank, setup, kernel) {
         Ok(opened) => opened,
@@ -96,8 +96,8 @@ fn close<'g, L: Ledger, G: Gate>(
     requires order { WorkInOrder workers.items }
     ensures whole { IfOk result Whole }
     ensures same { IfOk result (λ c. (c.setup ≡ setup.now) × (c.actors ≡ count)) }
-    ensures started { (n : NoStart) → result ≢ Err (LiveFault.Setup n) }
-    ensures strange { (s : Beginning) (k : ℕ) → result ≡ Err (LiveFault.Strange s k) → s ≡ setup.now → k ≢ count }
+    ensures started { (n : SetupRefusal) → result ≢ Err (LiveFault.Setup n) }
+    ensures strange { (s : Setup) (k : ℕ) → result ≡ Err (LiveFault.Strange s k) → s ≡ setup.now → k ≢ count }
 {
     if !live.setup().is(setup) || live.actors() != count {
         let (setup, count) = live.into_setup();

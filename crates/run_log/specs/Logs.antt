@@ -11,7 +11,7 @@ use Rattle.machine.specs.declared.whole.Machine.{Machine}
 use Rattle.machine.specs.Whole.{view}
 use Rattle.machine.specs.Steps.{after, refusal}
 use Rattle.machine.specs.Runs.{start, moment, Accepts, IsRefused}
-use Rattle.script.specs.Scripts.{Plan, Reads}
+use Rattle.script.specs.Scripts.{Scenario, Reads}
 use Rattle.traces.specs.Reading.{IsFault2}
 use Rattle.traces.specs.Setups.{IsTrace2}
 use Rattle.run_log.specs.declared.changed.Changed.{Changed}
@@ -109,7 +109,7 @@ is_trace (b ∷ bs) = b == 85
 
 -- the whole log of the schedule of a script was written
 abbrev pub LoggedScript : List ℕ → EventRange → Option (List ℕ) → Option (List ℕ) → Type 0
-LoggedScript text r held held' = (p : Plan) × Reads text (Ok p) × Written p.setup p.schedule r (length p.schedule) held held'
+LoggedScript text r held held' = (p : Scenario) × Reads text (Ok p) × Written p.setup p.schedule r (length p.schedule) held held'
 
 -- the same of a trace
 abbrev pub LoggedTrace : List ℕ → EventRange → Option (List ℕ) → Option (List ℕ) → Type 0
@@ -119,9 +119,9 @@ LoggedTrace trace r held held' = (setup : Setup) × (events : List Event) × IsT
 abbrev pub FailsScript : List ℕ → EventRange → LogFault → Option (List ℕ) → Option (List ℕ) → Type 0
 FailsScript text r (Script f) held held' = Reads text (Err f) × Keeps held held'
 FailsScript text r (Trace f) held held' = ⊥
-FailsScript text r (Schedule i n) held held' = (p : Plan) × Reads text (Ok p) × Stopped p.setup p.schedule r (Schedule i n) held held'
-FailsScript text r Write held held' = (p : Plan) × Reads text (Ok p) × Stopped p.setup p.schedule r Write held held'
-FailsScript text r Memory held held' = Keeps held held' ⊎ ((p : Plan) × Reads text (Ok p) × Stopped p.setup p.schedule r Memory held held')
+FailsScript text r (Schedule i n) held held' = (p : Scenario) × Reads text (Ok p) × Stopped p.setup p.schedule r (Schedule i n) held held'
+FailsScript text r Write held held' = (p : Scenario) × Reads text (Ok p) × Stopped p.setup p.schedule r Write held held'
+FailsScript text r Memory held held' = Keeps held held' ⊎ ((p : Scenario) × Reads text (Ok p) × Stopped p.setup p.schedule r Memory held held')
 
 -- the same of a trace
 abbrev pub FailsTrace : List ℕ → EventRange → LogFault → Option (List ℕ) → Option (List ℕ) → Type 0

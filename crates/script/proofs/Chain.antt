@@ -14,45 +14,45 @@ use Rattle.script.specs.Faults.{◌>>=◌, at_key}
 use Rattle.script.specs.Lists.{keyed}
 use Rattle.script.specs.Memory.{memory_of}
 use Rattle.script.specs.Objects.{objects_of, fds_of}
-use Rattle.script.specs.Scripts.{Plan, is_script_key, entries_of, cq_of, flag_of, base_of, threads_of, schedule_of, script_of}
+use Rattle.script.specs.Scripts.{Scenario, is_script_key, entries_of, cq_of, flag_of, base_of, threads_of, schedule_of, script_of}
 
-abbrev pub planned : ℕ → Option ℕ → Bool → Bool → ℕ → List ℕ → List Object → List Descriptor → List (List Instruction) → List Event → Plan
-planned entries cq sqpoll submit_all base memory objects fds threads schedule = record {
+abbrev pub scenario_with : ℕ → Option ℕ → Bool → Bool → ℕ → List ℕ → List Object → List Descriptor → List (List Instruction) → List Event → Scenario
+scenario_with entries cq sqpoll submit_all base memory objects fds threads schedule = record {
   setup = record { entries = entries; cq = cq; sqpoll = sqpoll; submit_all = submit_all; base = base; memory = memory; objects = objects; fds = fds; threads = threads };
   schedule = schedule;
 }
 
-abbrev pub with_schedule : Data → ℕ → Option ℕ → Bool → Bool → ℕ → List ℕ → List Object → List Descriptor → List (List Instruction) → List Event → Result Plan ScriptFault
-with_schedule d entries cq sqpoll submit_all base memory objects fds threads schedule = Ok (planned entries cq sqpoll submit_all base memory objects fds threads schedule)
+abbrev pub with_schedule : Data → ℕ → Option ℕ → Bool → Bool → ℕ → List ℕ → List Object → List Descriptor → List (List Instruction) → List Event → Result Scenario ScriptFault
+with_schedule d entries cq sqpoll submit_all base memory objects fds threads schedule = Ok (scenario_with entries cq sqpoll submit_all base memory objects fds threads schedule)
 
-abbrev pub with_threads : Data → ℕ → Option ℕ → Bool → Bool → ℕ → List ℕ → List Object → List Descriptor → List (List Instruction) → Result Plan ScriptFault
+abbrev pub with_threads : Data → ℕ → Option ℕ → Bool → Bool → ℕ → List ℕ → List Object → List Descriptor → List (List Instruction) → Result Scenario ScriptFault
 with_threads d entries cq sqpoll submit_all base memory objects fds threads = schedule_of (get (codes "schedule") d) >>= with_schedule d entries cq sqpoll submit_all base memory objects fds threads
 
-abbrev pub with_fds : Data → ℕ → Option ℕ → Bool → Bool → ℕ → List ℕ → List Object → List Descriptor → Result Plan ScriptFault
+abbrev pub with_fds : Data → ℕ → Option ℕ → Bool → Bool → ℕ → List ℕ → List Object → List Descriptor → Result Scenario ScriptFault
 with_fds d entries cq sqpoll submit_all base memory objects fds = threads_of (rounded entries) (get (codes "threads") d) >>= with_threads d entries cq sqpoll submit_all base memory objects fds
 
-abbrev pub with_objects : Data → ℕ → Option ℕ → Bool → Bool → ℕ → List ℕ → List Object → Result Plan ScriptFault
+abbrev pub with_objects : Data → ℕ → Option ℕ → Bool → Bool → ℕ → List ℕ → List Object → Result Scenario ScriptFault
 with_objects d entries cq sqpoll submit_all base memory objects = fds_of objects (get (codes "fds") d) >>= with_fds d entries cq sqpoll submit_all base memory objects
 
-abbrev pub with_memory : Data → ℕ → Option ℕ → Bool → Bool → ℕ → List ℕ → Result Plan ScriptFault
+abbrev pub with_memory : Data → ℕ → Option ℕ → Bool → Bool → ℕ → List ℕ → Result Scenario ScriptFault
 with_memory d entries cq sqpoll submit_all base memory = objects_of (get (codes "objects") d) >>= with_objects d entries cq sqpoll submit_all base memory
 
-abbrev pub with_base : Data → ℕ → Option ℕ → Bool → Bool → ℕ → Result Plan ScriptFault
+abbrev pub with_base : Data → ℕ → Option ℕ → Bool → Bool → ℕ → Result Scenario ScriptFault
 with_base d entries cq sqpoll submit_all base = memory_of (get (codes "memory") d) >>= with_memory d entries cq sqpoll submit_all base
 
-abbrev pub with_submit_all : Data → ℕ → Option ℕ → Bool → Bool → Result Plan ScriptFault
+abbrev pub with_submit_all : Data → ℕ → Option ℕ → Bool → Bool → Result Scenario ScriptFault
 with_submit_all d entries cq sqpoll submit_all = base_of (get (codes "base") d) >>= with_base d entries cq sqpoll submit_all
 
-abbrev pub with_sqpoll : Data → ℕ → Option ℕ → Bool → Result Plan ScriptFault
+abbrev pub with_sqpoll : Data → ℕ → Option ℕ → Bool → Result Scenario ScriptFault
 with_sqpoll d entries cq sqpoll = flag_of key.SubmitAll (get (codes "submit_all") d) >>= with_submit_all d entries cq sqpoll
 
-abbrev pub with_cq : Data → ℕ → Option ℕ → Result Plan ScriptFault
+abbrev pub with_cq : Data → ℕ → Option ℕ → Result Scenario ScriptFault
 with_cq d entries cq = flag_of key.Sqpoll (get (codes "sqpoll") d) >>= with_sqpoll d entries cq
 
-abbrev pub with_entries : Data → ℕ → Result Plan ScriptFault
+abbrev pub with_entries : Data → ℕ → Result Scenario ScriptFault
 with_entries d entries = cq_of entries (get (codes "cq") d) >>= with_cq d entries
 
-abbrev pub with_keys : Data → Unit {0} → Result Plan ScriptFault
+abbrev pub with_keys : Data → Unit {0} → Result Scenario ScriptFault
 with_keys d u = entries_of (get (codes "entries") d) >>= with_entries d
 
 bound : {A B : Type 0} → (r : Result A ScriptFault) (x : A) (f : A → Result B ScriptFault) → r ≡ Ok x → (r >>= f) ≡ f x
@@ -71,7 +71,7 @@ pub scripted : (d : Data) (u : Unit {0}) (entries : ℕ) (cq : Option ℕ) (sqpo
     → fds_of objects (get (codes "fds") d) ≡ Ok fds
     → threads_of (rounded entries) (get (codes "threads") d) ≡ Ok threads
     → schedule_of (get (codes "schedule") d) ≡ Ok schedule
-    → script_of d ≡ Ok (planned entries cq sqpoll submit_all base memory objects fds threads schedule)
+    → script_of d ≡ Ok (scenario_with entries cq sqpoll submit_all base memory objects fds threads schedule)
 scripted d u entries cq sqpoll submit_all base memory objects fds threads schedule hk he hq hs ha hb hm ho hf ht hh =
     bound (keyed is_script_key (at_key key.Document) d) u (with_keys d) hk
     ∙ bound (entries_of (get (codes "entries") d)) entries (with_entries d) he

@@ -19,7 +19,7 @@ use Rattle.script.specs.Numbers.{whole_of, between, number_between}
 use Rattle.script.specs.Instructions.{instruction_form, keeps_limits, instruction_in_range, instruction_at, thread_at}
 use Rattle.script.specs.Events.{event_form, event_in_range, event_at}
 use Rattle.script.proofs.Chain.{with_schedule, with_threads, with_fds, with_objects, with_memory, with_base, with_submit_all, with_sqpoll, with_cq, with_entries, with_keys}
-use Rattle.script.specs.Scripts.{Plan, is_script_key, entries_of, large_enough, cq_of, flag_of, base_of, threads_of, schedule_of, script_of, IsNoJson}
+use Rattle.script.specs.Scripts.{Scenario, is_script_key, entries_of, large_enough, cq_of, flag_of, base_of, threads_of, schedule_of, script_of, IsNoJson}
 
 abbrev Clean : {A : Type 0} → Result A ScriptFault → Type 0
 Clean (Ok x) = Unit {0}
@@ -154,7 +154,7 @@ pub script_is_json : (d : Data) → script_of d ≢ Err NotJson
 script_is_json d = clean_is (script_of d) (script_clean d)
 
 -- what was answered for a value that was read is no NotJson
-pub answered : (text : List ℕ) (told : Result Plan ScriptFault) (d : Data) → Gives (λ s. s) told (script_of d) → told ≡ Err NotJson → IsNoJson text
+pub answered : (text : List ℕ) (told : Result Scenario ScriptFault) (d : Data) → Gives (λ s. s) told (script_of d) → told ≡ Err NotJson → IsNoJson text
 answered text (Ok s) d g e = absurd (cc)
 answered text (Err NotJson) d g e = absurd (script_is_json d g)
 answered text (Err (Shape p)) d g e = absurd (cc)

@@ -2,9 +2,9 @@
 use Rattle.std.proofs.Common.{◌≡◌, ℕ, List, Result, refl, ap, arith}
 use Rattle.serde_json.specs.Data.{Data}
 use Rattle.script.specs.declared.fault.ScriptFault.{ScriptFault}
-use Rattle.script.specs.Scripts.{Plan, Reads, long, unread, value, script_of}
+use Rattle.script.specs.Scripts.{Scenario, Reads, long, unread, value, script_of}
 
-pub reads_once : (text : List ℕ) (one other : Result Plan ScriptFault) → Reads text one → Reads text other → one ≡ other
+pub reads_once : (text : List ℕ) (one other : Result Scenario ScriptFault) → Reads text one → Reads text other → one ≡ other
 reads_once text one other (long h) (long k) = refl
 reads_once text one other (long h) (unread k) = absurd (omega arith)
 reads_once text one other (long h) (value d l u r) = absurd (omega arith)

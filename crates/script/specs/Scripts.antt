@@ -25,7 +25,7 @@ use Rattle.script.specs.Instructions.{thread_at}
 use Rattle.script.specs.Events.{event_at}
 
 -- what a script gives: a setup, and the events to run from it
-pub record Plan : Type 0 where
+pub record Scenario : Type 0 where
   pub setup : Setup
   pub schedule : List Event
 
@@ -61,7 +61,7 @@ abbrev pub schedule_of : Option Data → Result (List Event) ScriptFault
 schedule_of d = required key.Schedule d >>= listed (at_key key.Schedule) >>= at_most 65536 (at_key key.Schedule) event_at
 
 -- The script that a JSON value is, or its first fault: an unknown key first, then the keys in this order.
-abbrev pub script_of : Data → Result Plan ScriptFault
+abbrev pub script_of : Data → Result Scenario ScriptFault
 script_of d = do
   _ ← keyed is_script_key (at_key key.Document) d
   entries ← entries_of (get (codes "entries") d)
@@ -97,7 +97,7 @@ abbrev pub IsNoJson : List ℕ → Type 0
 IsNoJson text = (length text ≤ limit) × (IsUtf8 text → read text ≡ None)
 
 -- What a text is: too long, no JSON, or a JSON value that is a script or has a fault.
-pub data Reads (text : List ℕ) : Result Plan ScriptFault → Type 0 where
+pub data Reads (text : List ℕ) : Result Scenario ScriptFault → Type 0 where
   long : limit < length text → Reads text (Err (Limit (at_key key.Document)))
   unread : IsNoJson text → Reads text (Err NotJson)
   value : (d : Data) → length text ≤ limit → IsUtf8 text → read text ≡ Some d → Reads text (script_of d)
@@ -107,7 +107,7 @@ is_short_of_nothing (Finish row (Short zero)) = true
 is_short_of_nothing _ = false
 
 -- What each script keeps: a run can start from its setup, it has at most 65,536 events, and no transfer of 0 bytes.
-pub record Startable (p : Plan) : Type 0 where
+pub record Startable (p : Scenario) : Type 0 where
   pub setup : setup_refusal p.setup ≡ None
   pub events : length p.schedule ≤ 65536
   pub transfers : list_any is_short_of_nothing p.schedule ≡ false

@@ -1,9 +1,9 @@
 //! Laws of the definitions.
 ghost use Rattle.std.specs.Prelude.{◌≡◌, ℕ, List, Result};
 ghost use Rattle.script.specs.declared.fault.ScriptFault.{ScriptFault};
-ghost use Rattle.script.specs.Scripts.{Plan, Reads};
+ghost use Rattle.script.specs.Scripts.{Scenario, Reads};
 
 /// A text is read as one thing: one script, or one first fault.
 pub fn texts_read_alike()
-    ensures { (text : List ℕ) (one other : Result Plan ScriptFault) → Reads text one → Reads text other → one ≡ other }
+    ensures { (text : List ℕ) (one other : Result Scenario ScriptFault) → Reads text one → Reads text other → one ≡ other }
 {}

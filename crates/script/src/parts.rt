@@ -14,9 +14,9 @@ pub struct Script {
 }
 
 impl Model for Script {
-    ghost use Rattle.script.specs.Scripts.{Plan, Startable};
+    ghost use Rattle.script.specs.Scripts.{Scenario, Startable};
 
-    ghost Value = { Plan };
+    ghost Value = { Scenario };
 
     ghost view = { λ s. record { setup = s.setup; schedule = s.schedule } };
 

@@ -6,7 +6,7 @@ use Rattle.scenario.specs.declared.event.Event.{Event}
 use Rattle.scenario.specs.declared.setup.Setup.{Setup}
 use Rattle.traces.specs.declared.fault.TraceFault.{TraceFault}
 use Rattle.traces.specs.declared.fault.TraceFault.TheVariants.{Magic, Truncated, Count, Kind, Padding, Trailing, Memory, Setup as SetupFault}
-use Rattle.traces.specs.Spots.{Spot}
+use Rattle.traces.specs.Cursors.{Cursor}
 use Rattle.traces.specs.Spelling.{magic, most_events, IsTrace}
 use Rattle.traces.specs.Faults.{event_fault, AreClean, IsEventsFault, HasCount, IsCountedFault, BeginsAs, IsFault}
 use Rattle.traces.specs.Setups.{magic2}
@@ -100,7 +100,7 @@ faults_alike bytes f g a b = by (of_trace bytes f a) (of_trace bytes g b)
     by (inr x) (inl y) = absurd (y.1 x.0)
     by (inr x) (inr y) = counted_alike (drop 8 bytes) f g x.1 y.1
 
-body_alike : (r : Result (Setup × Spot) TraceFault) (f g : TraceFault) → IsBodyFault r f → IsBodyFault r g → f ≡ g
+body_alike : (r : Result (Setup × Cursor) TraceFault) (f g : TraceFault) → IsBodyFault r f → IsBodyFault r g → f ≡ g
 body_alike (Ok found) f g a b = counted_alike found.1.rest f g a b
 body_alike (Err first) f g a b = a ∙ sym b
 

@@ -2,10 +2,10 @@
 use Rattle.std.proofs.Common.{◌≡◌, ℕ, suc, ◌+◌, ◌-◌, ◌<◌, ◌≤◌, List, [], ◌∷◌, ◌++◌, Result, Ok, Err, refl, sym, ◌∙◌, arith}
 use Rattle.traces.specs.declared.fault.TraceFault.{TraceFault}
 use Rattle.traces.specs.declared.fault.TraceFault.TheVariants.{Magic, Truncated, Count, Kind, Padding, Trailing, Memory, Setup}
-use Rattle.traces.specs.Spots.{Spot}
+use Rattle.traces.specs.Cursors.{Cursor}
 use Rattle.traces.specs.Reading.{Fails, items_at}
 
-pub goes_on : {A : Type 0} (item : List A → Spot → Result (A × Spot) TraceFault) (count i : ℕ) (before : List A) (s : Spot) (x : A) (after : Spot) (total : Result (List A × Spot) TraceFault)
+pub goes_on : {A : Type 0} (item : List A → Cursor → Result (A × Cursor) TraceFault) (count i : ℕ) (before : List A) (s : Cursor) (x : A) (after : Cursor) (total : Result (List A × Cursor) TraceFault)
     → i < count → item before s ≡ Ok (x, after)
     → items_at item (count - i) before s ≡ total → items_at item (count - (i + 1)) (before ++ x ∷ []) after ≡ total
 unfolding items_at
@@ -14,7 +14,7 @@ goes_on {A} item count i before s x after total lt h so_far =
     let one : items_at item (count - i) before s ≡ items_at item (count - (i + 1)) (before ++ x ∷ []) after = rw (k, h) refl in
     sym one ∙ so_far
 
-stops : {A : Type 0} (item : List A → Spot → Result (A × Spot) TraceFault) (count i : ℕ) (before : List A) (s : Spot) (e : TraceFault) (total : Result (List A × Spot) TraceFault)
+stops : {A : Type 0} (item : List A → Cursor → Result (A × Cursor) TraceFault) (count i : ℕ) (before : List A) (s : Cursor) (e : TraceFault) (total : Result (List A × Cursor) TraceFault)
     → i < count → item before s ≡ Err e → items_at item (count - i) before s ≡ total → total ≡ Err e
 unfolding items_at
 stops {A} item count i before s e total lt h so_far =
@@ -22,7 +22,7 @@ stops {A} item count i before s e total lt h so_far =
     let one : items_at item (count - i) before s ≡ Err e = rw (k, h) refl in
     sym so_far ∙ one
 
-pub ends : {A : Type 0} (item : List A → Spot → Result (A × Spot) TraceFault) (count i : ℕ) (before : List A) (s : Spot) (e : TraceFault) (total : Result (List A × Spot) TraceFault)
+pub ends : {A : Type 0} (item : List A → Cursor → Result (A × Cursor) TraceFault) (count i : ℕ) (before : List A) (s : Cursor) (e : TraceFault) (total : Result (List A × Cursor) TraceFault)
     → i < count → Fails e (item before s) → items_at item (count - i) before s ≡ total → Fails e total
 ends item count i before s Memory total lt h so_far = tt
 ends item count i before s Magic total lt h so_far = stops item count i before s Magic total lt h so_far
@@ -33,7 +33,7 @@ ends item count i before s Padding total lt h so_far = stops item count i before
 ends item count i before s Trailing total lt h so_far = stops item count i before s Trailing total lt h so_far
 ends item count i before s (Setup offset) total lt h so_far = stops item count i before s (Setup offset) total lt h so_far
 
-pub is_done : {A : Type 0} (item : List A → Spot → Result (A × Spot) TraceFault) (count i : ℕ) (before : List A) (s : Spot) (total : Result (List A × Spot) TraceFault)
+pub is_done : {A : Type 0} (item : List A → Cursor → Result (A × Cursor) TraceFault) (count i : ℕ) (before : List A) (s : Cursor) (total : Result (List A × Cursor) TraceFault)
     → count ≤ i → items_at item (count - i) before s ≡ total → total ≡ Ok (before, s)
 unfolding items_at
 is_done {A} item count i before s total le so_far =

@@ -7,15 +7,15 @@ use Rattle.std.proofs.lemmas.List.{append-nil}
 use Rattle.std.proofs.lemmas.List.Concat.{flat_map-cons}
 use Rattle.byteorder.specs.Endian.{little_bytes}
 use Rattle.traces.specs.declared.fault.TraceFault.{TraceFault}
-use Rattle.traces.specs.Spots.{Spot}
+use Rattle.traces.specs.Cursors.{Cursor}
 use Rattle.traces.specs.Limits.{all_behind}
 use Rattle.traces.specs.Setups.{list_bytes}
 use Rattle.traces.specs.Reading.{count_at, items_at, list_at}
-use Rattle.traces.proofs.Taking.{IsBytes, bind_ok, ok_is, spot, Takes, Takes-then, Again, width4, number_in_takes, number_in_again}
+use Rattle.traces.proofs.Taking.{IsBytes, bind_ok, ok_is, cursor_at, Takes, Takes-then, Again, width4, number_in_takes, number_in_again}
 
 -- What is read is spelled so, and what is spelled so is read, for an item behind those before it.
-pub record Reads (A : Type 0) (item : List A → Spot → Result (A × Spot) TraceFault) (bytes : A → List ℕ) (Fits : List A → A → Type 0) : Type 0 where
-  pub takes : (before : List A) (s : Spot) (x : A) (t : Spot) → IsBytes s.rest → item before s ≡ Ok (x, t) → Takes s (bytes x) t × Fits before x
+pub record Reads (A : Type 0) (item : List A → Cursor → Result (A × Cursor) TraceFault) (bytes : A → List ℕ) (Fits : List A → A → Type 0) : Type 0 where
+  pub takes : (before : List A) (s : Cursor) (x : A) (t : Cursor) → IsBytes s.rest → item before s ≡ Ok (x, t) → Takes s (bytes x) t × Fits before x
   pub again : (before : List A) (offset : ℕ) (x : A) (rest : List ℕ) → Fits before x → Again (item before) offset (bytes x ++ rest) x rest
 
 abbrev pub FitBehind : {A : Type 0} → (List A → A → Type 0) → List A → List A → Type 0
@@ -23,18 +23,18 @@ FitBehind Fits before [] = Unit {0}
 FitBehind Fits before (x ∷ xs) = Fits before x × FitBehind Fits (before ++ x ∷ []) xs
 
 -- the items that were read behind those before them
-pub record Took (A : Type 0) (bytes : A → List ℕ) (Fits : List A → A → Type 0) (n : ℕ) (before : List A) (s : Spot) (all : List A) (t : Spot) : Type 0 where
+pub record Took (A : Type 0) (bytes : A → List ℕ) (Fits : List A → A → Type 0) (n : ℕ) (before : List A) (s : Cursor) (all : List A) (t : Cursor) : Type 0 where
   pub xs : List A
   pub all-is : all ≡ before ++ xs
   pub count : length xs ≡ n
   pub taken : Takes s (flat_map bytes xs) t
   pub fit : FitBehind Fits before xs
 
-items_take : (A : Type 0) (item : List A → Spot → Result (A × Spot) TraceFault) (bytes : A → List ℕ) (Fits : List A → A → Type 0) → Reads A item bytes Fits
-    → (n : ℕ) (before : List A) (s : Spot) (all : List A) (t : Spot) → IsBytes s.rest → items_at item n before s ≡ Ok (all, t) → Took A bytes Fits n before s all t
+items_take : (A : Type 0) (item : List A → Cursor → Result (A × Cursor) TraceFault) (bytes : A → List ℕ) (Fits : List A → A → Type 0) → Reads A item bytes Fits
+    → (n : ℕ) (before : List A) (s : Cursor) (all : List A) (t : Cursor) → IsBytes s.rest → items_at item n before s ≡ Ok (all, t) → Took A bytes Fits n before s all t
 unfolding items_at
 items_take A item bytes Fits r zero before s all t fits e =
-    subst (λ (p : List A × Spot). Took A bytes Fits 0 before s p.0 p.1) (ok_is (before, s) (all, t) e)
+    subst (λ (p : List A × Cursor). Took A bytes Fits 0 before s p.0 p.1) (ok_is (before, s) (all, t) e)
     (record { xs = []; all-is = sym (append-nil before); count = refl; taken = record { parts = refl; fits = fits }; fit = tt })
 items_take A item bytes Fits r (suc n) before s all t fits e =
     let a = bind_ok (item before s) (λ x. items_at item n (before ++ x.0 ∷ []) x.1) (all, t) e in
@@ -49,23 +49,23 @@ items_take A item bytes Fits r (suc n) before s all t fits e =
       fit = (first.1, more.fit);
     }
 
-items_again : (A : Type 0) (item : List A → Spot → Result (A × Spot) TraceFault) (bytes : A → List ℕ) (Fits : List A → A → Type 0) → Reads A item bytes Fits
+items_again : (A : Type 0) (item : List A → Cursor → Result (A × Cursor) TraceFault) (bytes : A → List ℕ) (Fits : List A → A → Type 0) → Reads A item bytes Fits
     → (xs before : List A) (offset : ℕ) (rest : List ℕ) → FitBehind Fits before xs
-    → (o : ℕ) × (items_at item (length xs) before (spot offset (flat_map bytes xs ++ rest)) ≡ Ok (before ++ xs, spot o rest))
+    → (o : ℕ) × (items_at item (length xs) before (cursor_at offset (flat_map bytes xs ++ rest)) ≡ Ok (before ++ xs, cursor_at o rest))
 unfolding items_at
-items_again A item bytes Fits r [] before offset rest fit = (offset, ap (λ (l : List A). Ok (l, spot offset rest)) (sym (append-nil before)))
+items_again A item bytes Fits r [] before offset rest fit = (offset, ap (λ (l : List A). Ok (l, cursor_at offset rest)) (sym (append-nil before)))
 items_again A item bytes Fits r (x ∷ xs) before offset rest fit =
     let a = r.again before offset x (flat_map bytes xs ++ rest) fit.0 in
     let b = items_again A item bytes Fits r xs (before ++ x ∷ []) a.0 rest fit.1 in
     let regrouped : flat_map bytes (x ∷ xs) ++ rest ≡ bytes x ++ (flat_map bytes xs ++ rest) =
     ap (λ (t : List ℕ). t ++ rest) (flat_map-cons bytes x xs) ∙ append_assoc (bytes x) (flat_map bytes xs) rest in (
       b.0,
-      ap (λ (input : List ℕ). items_at item (suc (length xs)) before (spot offset input)) regrouped
-          ∙ rw (a.1, b.1) (ap (λ (l : List A). Ok (l, spot b.0 rest)) (append_assoc before (x ∷ []) xs)),
+      ap (λ (input : List ℕ). items_at item (suc (length xs)) before (cursor_at offset input)) regrouped
+          ∙ rw (a.1, b.1) (ap (λ (l : List A). Ok (l, cursor_at b.0 rest)) (append_assoc before (x ∷ []) xs)),
     )
 
-pub list_takes : (A : Type 0) (item : List A → Spot → Result (A × Spot) TraceFault) (bytes : A → List ℕ) (Fits : List A → A → Type 0) → Reads A item bytes Fits
-    → (most : ℕ) (s : Spot) (xs : List A) (t : Spot) → IsBytes s.rest → list_at most item s ≡ Ok (xs, t)
+pub list_takes : (A : Type 0) (item : List A → Cursor → Result (A × Cursor) TraceFault) (bytes : A → List ℕ) (Fits : List A → A → Type 0) → Reads A item bytes Fits
+    → (most : ℕ) (s : Cursor) (xs : List A) (t : Cursor) → IsBytes s.rest → list_at most item s ≡ Ok (xs, t)
     → Takes s (list_bytes bytes xs) t × (nat_le (length xs) most ≡ true) × FitBehind Fits [] xs
 unfolding list_at
 list_takes A item bytes Fits r most s xs t fits e =
@@ -76,7 +76,7 @@ list_takes A item bytes Fits r most s xs t fits e =
     let counted = subst (λ (n : ℕ). Takes s (little_bytes 4 n ++ flat_map bytes items.xs) t × (nat_le n most ≡ true) × FitBehind Fits [] items.xs) (sym items.count) (both, count.2, items.fit) in
     subst (λ (ys : List A). Takes s (list_bytes bytes ys) t × (nat_le (length ys) most ≡ true) × FitBehind Fits [] ys) (sym items.all-is) counted
 
-pub list_again : (A : Type 0) (item : List A → Spot → Result (A × Spot) TraceFault) (bytes : A → List ℕ) (Fits : List A → A → Type 0) → Reads A item bytes Fits
+pub list_again : (A : Type 0) (item : List A → Cursor → Result (A × Cursor) TraceFault) (bytes : A → List ℕ) (Fits : List A → A → Type 0) → Reads A item bytes Fits
     → (most offset : ℕ) (xs : List A) (rest : List ℕ) → most < 2 ^ 32 → nat_le (length xs) most ≡ true → FitBehind Fits [] xs
     → Again (list_at most item) offset (list_bytes bytes xs ++ rest) xs rest
 unfolding list_at
@@ -85,7 +85,7 @@ list_again A item bytes Fits r most offset xs rest small le fit =
     let a = number_in_again 4 (λ n. nat_le n most) offset (length xs) (flat_map bytes xs ++ rest) (omega arith) le in
     let b = items_again A item bytes Fits r xs [] a.0 rest fit in
     let regrouped : list_bytes bytes xs ++ rest ≡ little_bytes 4 (length xs) ++ (flat_map bytes xs ++ rest) = append_assoc (little_bytes 4 (length xs)) (flat_map bytes xs) rest in
-    (b.0, ap (λ (input : List ℕ). list_at most item (spot offset input)) regrouped ∙ rw (a.1, b.1) refl)
+    (b.0, ap (λ (input : List ℕ). list_at most item (cursor_at offset input)) regrouped ∙ rw (a.1, b.1) refl)
 
 -- a test of each item behind those before it
 pub behind_fit : {A : Type 0} (keeps : List A → A → Bool) (before xs : List A) → all_behind keeps before xs ≡ true → FitBehind (λ b x. keeps b x ≡ true) before xs

@@ -11,11 +11,11 @@ use Rattle.places.specs.declared.object.Contents.TheVariants.{File, Pipe, EventF
 use Rattle.places.specs.declared.object.End.{End}
 use Rattle.places.specs.declared.object.End.TheVariants.{Whole, Read, Write}
 use Rattle.places.specs.declared.object.Descriptor.{Descriptor}
-use Rattle.traces.specs.Spots.{Spot}
+use Rattle.traces.specs.Cursors.{Cursor}
 use Rattle.traces.specs.Limits.{is_within, is_new_name, keeps_contents, keeps_object, end_number, is_end_of, is_end, keeps_descriptor}
 use Rattle.traces.specs.Setups.{long_bytes, name_bytes, contents_bytes, object_bytes, descriptor_bytes}
 use Rattle.traces.specs.Reading.{◌>>=◌, kept, number_in, bytes_at, long_at, name_at, contents_of, contents_at, object_at, end_of, end_at, descriptor_at}
-use Rattle.traces.proofs.Taking.{IsBytes, bind_ok, kept_ok, ok_is, spot, Takes, Takes-then, Again, width1, width4, width8, number_in_takes, number_in_again, bytes_takes, bytes_again, long_takes, long_again}
+use Rattle.traces.proofs.Taking.{IsBytes, bind_ok, kept_ok, ok_is, cursor_at, Takes, Takes-then, Again, width1, width4, width8, number_in_takes, number_in_again, bytes_takes, bytes_again, long_takes, long_again}
 use Rattle.traces.proofs.Lists.{Reads}
 
 pub within_least : (least most n : ℕ) → is_within least most n ≡ true → least ≤ n
@@ -26,7 +26,7 @@ within_most least most n h = leb-true _ _ (and_parts (nat_le least n) (nat_le n 
 
 -- ---- names
 
-name_takes : (before : List Object) (s : Spot) (x : List ℕ) (t : Spot) → IsBytes s.rest → name_at before s ≡ Ok (x, t)
+name_takes : (before : List Object) (s : Cursor) (x : List ℕ) (t : Cursor) → IsBytes s.rest → name_at before s ≡ Ok (x, t)
     → Takes s (name_bytes x) t × (is_within 1 16 (length x) ≡ true) × (is_new_name before x ≡ true)
 unfolding name_at
 name_takes before s x t fits e =
@@ -37,7 +37,7 @@ name_takes before s x t fits e =
     let bytes = bytes_takes a.0.0 a.0.1 b.0.0 b.0.1 count.0.fits b.1 in
     let both = Takes-then s (little_bytes 1 a.0.0) a.0.1 b.0.0 b.0.1 count.0 bytes.0 in
     let sized = subst (λ (n : ℕ). Takes s (little_bytes 1 n ++ b.0.0) b.0.1 × (is_within 1 16 n ≡ true) × (is_new_name before b.0.0 ≡ true)) (sym bytes.1) (both, count.2, c.0) in
-    subst (λ (p : List ℕ × Spot). Takes s (name_bytes p.0) p.1 × (is_within 1 16 (length p.0) ≡ true) × (is_new_name before p.0 ≡ true)) c.1 sized
+    subst (λ (p : List ℕ × Cursor). Takes s (name_bytes p.0) p.1 × (is_within 1 16 (length p.0) ≡ true) × (is_new_name before p.0 ≡ true)) c.1 sized
 
 name_again : (before : List Object) (offset : ℕ) (x rest : List ℕ) → is_within 1 16 (length x) ≡ true → is_new_name before x ≡ true
     → Again (name_at before) offset (name_bytes x ++ rest) x rest
@@ -47,7 +47,7 @@ name_again before offset x rest short new =
     let a = number_in_again 1 (is_within 1 16) offset (length x) (x ++ rest) (omega arith) short in
     let b = bytes_again (length x) a.0 x rest refl in
     let regrouped : name_bytes x ++ rest ≡ little_bytes 1 (length x) ++ (x ++ rest) = append_assoc (little_bytes 1 (length x)) x rest in
-    (b.0, ap (λ (input : List ℕ). name_at before (spot offset input)) regrouped ∙ rw (a.1, b.1, new) refl)
+    (b.0, ap (λ (input : List ℕ). name_at before (cursor_at offset input)) regrouped ∙ rw (a.1, b.1, new) refl)
 
 -- ---- contents
 
@@ -66,28 +66,28 @@ contents_split (File bytes) = refl
 contents_split (Pipe capacity) = refl
 contents_split (EventFd counter) = refl
 
-file_takes : (s : Spot) (c : Contents) (t : Spot) → IsBytes s.rest → contents_of 1 s ≡ Ok (c, t) → Takes s (contents_tail c) t × (contents_kind c ≡ 1) × (keeps_contents c ≡ true)
+file_takes : (s : Cursor) (c : Contents) (t : Cursor) → IsBytes s.rest → contents_of 1 s ≡ Ok (c, t) → Takes s (contents_tail c) t × (contents_kind c ≡ 1) × (keeps_contents c ≡ true)
 unfolding contents_of
 file_takes s c t fits e =
     let a = bind_ok (long_at 65536 s) (λ bytes. Ok (File bytes.0, bytes.1)) (c, t) e in
     let bytes = long_takes 65536 s a.0.0 a.0.1 fits a.1 in
-    subst (λ (p : Contents × Spot). Takes s (contents_tail p.0) p.1 × (contents_kind p.0 ≡ 1) × (keeps_contents p.0 ≡ true)) (ok_is (File a.0.0, a.0.1) (c, t) a.2) (bytes.0, refl, bytes.1)
+    subst (λ (p : Contents × Cursor). Takes s (contents_tail p.0) p.1 × (contents_kind p.0 ≡ 1) × (keeps_contents p.0 ≡ true)) (ok_is (File a.0.0, a.0.1) (c, t) a.2) (bytes.0, refl, bytes.1)
 
-pipe_takes : (s : Spot) (c : Contents) (t : Spot) → IsBytes s.rest → contents_of 2 s ≡ Ok (c, t) → Takes s (contents_tail c) t × (contents_kind c ≡ 2) × (keeps_contents c ≡ true)
+pipe_takes : (s : Cursor) (c : Contents) (t : Cursor) → IsBytes s.rest → contents_of 2 s ≡ Ok (c, t) → Takes s (contents_tail c) t × (contents_kind c ≡ 2) × (keeps_contents c ≡ true)
 unfolding contents_of
 pipe_takes s c t fits e =
     let a = bind_ok (number_in 4 (is_within 1 65536) s) (λ capacity. Ok (Pipe capacity.0, capacity.1)) (c, t) e in
     let capacity = number_in_takes 4 width4 (is_within 1 65536) s a.0.0 a.0.1 fits a.1 in
-    subst (λ (p : Contents × Spot). Takes s (contents_tail p.0) p.1 × (contents_kind p.0 ≡ 2) × (keeps_contents p.0 ≡ true)) (ok_is (Pipe a.0.0, a.0.1) (c, t) a.2) (capacity.0, refl, capacity.2)
+    subst (λ (p : Contents × Cursor). Takes s (contents_tail p.0) p.1 × (contents_kind p.0 ≡ 2) × (keeps_contents p.0 ≡ true)) (ok_is (Pipe a.0.0, a.0.1) (c, t) a.2) (capacity.0, refl, capacity.2)
 
-counter_takes : (s : Spot) (c : Contents) (t : Spot) → IsBytes s.rest → contents_of 3 s ≡ Ok (c, t) → Takes s (contents_tail c) t × (contents_kind c ≡ 3) × (keeps_contents c ≡ true)
+counter_takes : (s : Cursor) (c : Contents) (t : Cursor) → IsBytes s.rest → contents_of 3 s ≡ Ok (c, t) → Takes s (contents_tail c) t × (contents_kind c ≡ 3) × (keeps_contents c ≡ true)
 unfolding contents_of
 counter_takes s c t fits e =
     let a = bind_ok (number_in 8 (λ n. nat_lt n (2 ^ 64 - 1)) s) (λ counter. Ok (EventFd counter.0, counter.1)) (c, t) e in
     let counter = number_in_takes 8 width8 (λ n. nat_lt n (2 ^ 64 - 1)) s a.0.0 a.0.1 fits a.1 in
-    subst (λ (p : Contents × Spot). Takes s (contents_tail p.0) p.1 × (contents_kind p.0 ≡ 3) × (keeps_contents p.0 ≡ true)) (ok_is (EventFd a.0.0, a.0.1) (c, t) a.2) (counter.0, refl, counter.2)
+    subst (λ (p : Contents × Cursor). Takes s (contents_tail p.0) p.1 × (contents_kind p.0 ≡ 3) × (keeps_contents p.0 ≡ true)) (ok_is (EventFd a.0.0, a.0.1) (c, t) a.2) (counter.0, refl, counter.2)
 
-contents_of_takes : (k : ℕ) (s : Spot) (c : Contents) (t : Spot) → is_within 1 3 k ≡ true → IsBytes s.rest → contents_of k s ≡ Ok (c, t)
+contents_of_takes : (k : ℕ) (s : Cursor) (c : Contents) (t : Cursor) → is_within 1 3 k ≡ true → IsBytes s.rest → contents_of k s ≡ Ok (c, t)
     → Takes s (contents_tail c) t × (contents_kind c ≡ k) × (keeps_contents c ≡ true)
 contents_of_takes zero s c t within fits e = absurd (omega (arith, within_least 1 3 0 within))
 contents_of_takes (suc zero) s c t within fits e = file_takes s c t fits e
@@ -95,7 +95,7 @@ contents_of_takes (suc (suc zero)) s c t within fits e = pipe_takes s c t fits e
 contents_of_takes (suc (suc (suc zero))) s c t within fits e = counter_takes s c t fits e
 contents_of_takes (suc (suc (suc (suc k)))) s c t within fits e = absurd (omega (arith, within_most 1 3 (suc (suc (suc (suc k)))) within))
 
-contents_takes : (s : Spot) (c : Contents) (t : Spot) → IsBytes s.rest → contents_at s ≡ Ok (c, t) → Takes s (contents_bytes c) t × (keeps_contents c ≡ true)
+contents_takes : (s : Cursor) (c : Contents) (t : Cursor) → IsBytes s.rest → contents_at s ≡ Ok (c, t) → Takes s (contents_bytes c) t × (keeps_contents c ≡ true)
 unfolding contents_at
 contents_takes s c t fits e =
     let a = bind_ok (number_in 1 (is_within 1 3) s) (λ kind. contents_of kind.0 kind.1) (c, t) e in
@@ -134,11 +134,11 @@ contents_again offset c rest keeps =
     let b = contents_of_again a.0 c rest keeps in
     let regrouped : contents_bytes c ++ rest ≡ little_bytes 1 (contents_kind c) ++ (contents_tail c ++ rest) =
     ap (λ (text : List ℕ). text ++ rest) (contents_split c) ∙ append_assoc (little_bytes 1 (contents_kind c)) (contents_tail c) rest in
-    (b.0, ap (λ (input : List ℕ). contents_at (spot offset input)) regrouped ∙ rw (a.1, b.1) refl)
+    (b.0, ap (λ (input : List ℕ). contents_at (cursor_at offset input)) regrouped ∙ rw (a.1, b.1) refl)
 
 -- ---- objects
 
-object_takes : (before : List Object) (s : Spot) (o : Object) (t : Spot) → IsBytes s.rest → object_at before s ≡ Ok (o, t) → Takes s (object_bytes o) t × (keeps_object before o ≡ true)
+object_takes : (before : List Object) (s : Cursor) (o : Object) (t : Cursor) → IsBytes s.rest → object_at before s ≡ Ok (o, t) → Takes s (object_bytes o) t × (keeps_object before o ≡ true)
 unfolding object_at
 object_takes before s o t fits e =
     let a = bind_ok (name_at before s) (λ name. contents_at name.1 >>= λ contents. Ok (record { name = name.0; contents = contents.0 }, contents.1)) (o, t) e in
@@ -146,8 +146,8 @@ object_takes before s o t fits e =
     let name = name_takes before s a.0.0 a.0.1 fits a.1 in
     let contents = contents_takes a.0.1 b.0.0 b.0.1 name.0.fits b.1 in
     let both = Takes-then s (name_bytes a.0.0) a.0.1 (contents_bytes b.0.0) b.0.1 name.0 contents.0 in
-    let made : Object × Spot = (record { name = a.0.0; contents = b.0.0 }, b.0.1) in
-    subst (λ (p : Object × Spot). Takes s (object_bytes p.0) p.1 × (keeps_object before p.0 ≡ true)) (ok_is made (o, t) b.2)
+    let made : Object × Cursor = (record { name = a.0.0; contents = b.0.0 }, b.0.1) in
+    subst (λ (p : Object × Cursor). Takes s (object_bytes p.0) p.1 × (keeps_object before p.0 ≡ true)) (ok_is made (o, t) b.2)
     (both, and_from _ _ (and_from _ _ name.1 name.2) contents.1)
 
 object_again : (before : List Object) (offset : ℕ) (o : Object) (rest : List ℕ) → keeps_object before o ≡ true → Again (object_at before) offset (object_bytes o ++ rest) o rest
@@ -158,7 +158,7 @@ object_again before offset o rest keeps =
     let a = name_again before offset o.name (contents_bytes o.contents ++ rest) q.0 q.1 in
     let b = contents_again a.0 o.contents rest p.1 in
     let regrouped : object_bytes o ++ rest ≡ name_bytes o.name ++ (contents_bytes o.contents ++ rest) = append_assoc (name_bytes o.name) (contents_bytes o.contents) rest in
-    (b.0, ap (λ (input : List ℕ). object_at before (spot offset input)) regrouped ∙ rw (a.1, b.1) refl)
+    (b.0, ap (λ (input : List ℕ). object_at before (cursor_at offset input)) regrouped ∙ rw (a.1, b.1) refl)
 
 pub object_reads : Reads Object object_at object_bytes (λ before o. keeps_object before o ≡ true)
 object_reads = record { takes = object_takes; again = object_again }
@@ -190,14 +190,14 @@ end_small Whole = omega arith
 end_small Read = omega arith
 end_small Write = omega arith
 
-end_takes : (o : Option Object) (s : Spot) (e : End) (t : Spot) → IsBytes s.rest → end_at o s ≡ Ok (e, t) → Takes s (little_bytes 1 (end_number e)) t × (is_end o (end_number e) ≡ true)
+end_takes : (o : Option Object) (s : Cursor) (e : End) (t : Cursor) → IsBytes s.rest → end_at o s ≡ Ok (e, t) → Takes s (little_bytes 1 (end_number e)) t × (is_end o (end_number e) ≡ true)
 unfolding end_at
 end_takes o s e t fits h =
     let a = bind_ok (number_in 1 (is_end o) s) (λ n. Ok (end_of n.0, n.1)) (e, t) h in
     let n = number_in_takes 1 width1 (is_end o) s a.0.0 a.0.1 fits a.1 in
     let back = end_back o a.0.0 n.2 in
     let made = subst (λ (k : ℕ). Takes s (little_bytes 1 k) a.0.1 × (is_end o k ≡ true)) (sym back) (n.0, n.2) in
-    subst (λ (p : End × Spot). Takes s (little_bytes 1 (end_number p.0)) p.1 × (is_end o (end_number p.0) ≡ true)) (ok_is (end_of a.0.0, a.0.1) (e, t) a.2) made
+    subst (λ (p : End × Cursor). Takes s (little_bytes 1 (end_number p.0)) p.1 × (is_end o (end_number p.0) ≡ true)) (ok_is (end_of a.0.0, a.0.1) (e, t) a.2) made
 
 end_again : (o : Option Object) (offset : ℕ) (e : End) (rest : List ℕ) → is_end o (end_number e) ≡ true → Again (end_at o) offset (little_bytes 1 (end_number e) ++ rest) e rest
 unfolding end_at
@@ -213,7 +213,7 @@ end_there objects i n h =
       | inr past ↦ let none = ap (λ (o : Option Object). is_end o n) past.1 in absurd cc
     ]
 
-descriptor_takes : (objects : List Object) (before : List Descriptor) (s : Spot) (d : Descriptor) (t : Spot) → IsBytes s.rest → descriptor_at objects s ≡ Ok (d, t)
+descriptor_takes : (objects : List Object) (before : List Descriptor) (s : Cursor) (d : Descriptor) (t : Cursor) → IsBytes s.rest → descriptor_at objects s ≡ Ok (d, t)
     → Takes s (descriptor_bytes d) t × ((keeps_descriptor objects d ≡ true) × Unit {0})
 unfolding descriptor_at
 descriptor_takes objects before s d t fits e =
@@ -222,8 +222,8 @@ descriptor_takes objects before s d t fits e =
     let object = number_in_takes 1 width1 (λ n. nat_lt n (length objects)) s a.0.0 a.0.1 fits a.1 in
     let end = end_takes (slice_get objects a.0.0) a.0.1 b.0.0 b.0.1 object.0.fits b.1 in
     let both = Takes-then s (little_bytes 1 a.0.0) a.0.1 (little_bytes 1 (end_number b.0.0)) b.0.1 object.0 end.0 in
-    let made : Descriptor × Spot = (record { object = a.0.0; end = b.0.0 }, b.0.1) in
-    subst (λ (p : Descriptor × Spot). Takes s (descriptor_bytes p.0) p.1 × ((keeps_descriptor objects p.0 ≡ true) × Unit {0})) (ok_is made (d, t) b.2) (both, (end.1, tt))
+    let made : Descriptor × Cursor = (record { object = a.0.0; end = b.0.0 }, b.0.1) in
+    subst (λ (p : Descriptor × Cursor). Takes s (descriptor_bytes p.0) p.1 × ((keeps_descriptor objects p.0 ≡ true) × Unit {0})) (ok_is made (d, t) b.2) (both, (end.1, tt))
 
 descriptor_again : (objects : List Object) → length objects ≤ 32 → (before : List Descriptor) (offset : ℕ) (d : Descriptor) (rest : List ℕ) → (keeps_descriptor objects d ≡ true) × Unit {0}
     → Again (descriptor_at objects) offset (descriptor_bytes d ++ rest) d rest
@@ -234,14 +234,14 @@ descriptor_again objects few before offset d rest keeps =
     let a = number_in_again 1 (λ n. nat_lt n (length objects)) offset d.object (little_bytes 1 (end_number d.end) ++ rest) (omega arith) below in
     let b = end_again (slice_get objects d.object) a.0 d.end rest keeps.0 in
     let regrouped : descriptor_bytes d ++ rest ≡ little_bytes 1 d.object ++ (little_bytes 1 (end_number d.end) ++ rest) = append_assoc (little_bytes 1 d.object) (little_bytes 1 (end_number d.end)) rest in
-    (b.0, ap (λ (input : List ℕ). descriptor_at objects (spot offset input)) regrouped ∙ rw (a.1, b.1) refl)
+    (b.0, ap (λ (input : List ℕ). descriptor_at objects (cursor_at offset input)) regrouped ∙ rw (a.1, b.1) refl)
 
 pub descriptor_reads : (objects : List Object) → length objects ≤ 32
     → Reads Descriptor (λ before. descriptor_at objects) descriptor_bytes (λ before d. (keeps_descriptor objects d ≡ true) × Unit {0})
 descriptor_reads objects few = record { takes = descriptor_takes objects; again = descriptor_again objects few }
 
 -- an object that there is, and one of its ends
-pub descriptor_is : (objects : List Object) (s : Spot) (i : ℕ) (behind : Spot) (o : Object) (e : End) (t : Spot) → i < length objects
+pub descriptor_is : (objects : List Object) (s : Cursor) (i : ℕ) (behind : Cursor) (o : Object) (e : End) (t : Cursor) → i < length objects
     → number_in 1 (λ n. nat_lt n (length objects)) s ≡ Ok (i, behind) → o ≡ get_or objects i o → end_at (Some o) behind ≡ Ok (e, t)
     → descriptor_at objects s ≡ Ok (record { object = i; end = e }, t)
 unfolding descriptor_at

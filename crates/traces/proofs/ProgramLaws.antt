@@ -12,11 +12,11 @@ use Rattle.entries.specs.declared.entry.Sqe.{Sqe}
 use Rattle.entries.specs.Layout.{entry_bytes}
 use Rattle.scenario.specs.declared.setup.Instruction.{Instruction}
 use Rattle.scenario.specs.declared.setup.Instruction.TheVariants.{Put, Push, Store, Enter, Reap, Close}
-use Rattle.traces.specs.Spots.{Spot}
+use Rattle.traces.specs.Cursors.{Cursor}
 use Rattle.traces.specs.Limits.{is_within, keeps_instruction, keeps_program, HasWidths}
 use Rattle.traces.specs.Setups.{long_bytes, instruction_bytes, program_bytes}
 use Rattle.traces.specs.Reading.{◌>>=◌, kept, number_at, number_in, bytes_at, count_at, entry_of, put_at, push_at, store_at, enter_at, close_at, instruction_of, instruction_at, program_at}
-use Rattle.traces.proofs.Taking.{IsBytes, IsBytes-take, bind_ok, kept_ok, ok_is, spot, Takes, Takes-then, Again, width1, width4, number_takes, number_again, number_in_takes, number_in_again, bytes_takes, bytes_again}
+use Rattle.traces.proofs.Taking.{IsBytes, IsBytes-take, bind_ok, kept_ok, ok_is, cursor_at, Takes, Takes-then, Again, width1, width4, number_takes, number_again, number_in_takes, number_in_again, bytes_takes, bytes_again}
 use Rattle.traces.proofs.Entries.{entry_fits, rest_long, entry_spelled, entry_long, entry_again}
 use Rattle.traces.proofs.Lists.{Reads, list_takes, list_again, all_fit, fit_all}
 use Rattle.traces.proofs.ObjectLaws.{within_least, within_most}
@@ -49,16 +49,16 @@ abbrev Kept : ℕ → Instruction → Type 0
 Kept slots i = (keeps_instruction slots i ≡ true) × HasWidths i
 
 -- what reading the tail of an instruction of a kind gives
-abbrev TailTakes : ℕ → ℕ → Spot → Instruction → Spot → Type 0
+abbrev TailTakes : ℕ → ℕ → Cursor → Instruction → Cursor → Type 0
 TailTakes slots k s i t = Takes s (tail_of i) t × (kind_of i ≡ k) × Kept slots i
 
 -- bytes that were taken are bytes
-bytes_fit : (s : Spot) (x : List ℕ) (t : Spot) → IsBytes s.rest → Takes s x t → IsBytes x
+bytes_fit : (s : Cursor) (x : List ℕ) (t : Cursor) → IsBytes s.rest → Takes s x t → IsBytes x
 bytes_fit s x t fits taken =
     let front : take (length x) s.rest ≡ x = ap (λ (r : List ℕ). take (length x) r) taken.parts ∙ take_at x t.rest (length x) refl in
     subst (λ (r : List ℕ). IsBytes r) front (IsBytes-take (length x) s.rest fits)
 
-put_takes : (slots : ℕ) (s : Spot) (i : Instruction) (t : Spot) → IsBytes s.rest → put_at slots s ≡ Ok (i, t) → TailTakes slots 1 s i t
+put_takes : (slots : ℕ) (s : Cursor) (i : Instruction) (t : Cursor) → IsBytes s.rest → put_at slots s ≡ Ok (i, t) → TailTakes slots 1 s i t
 unfolding put_at
 put_takes slots s i t fits e =
     let a = bind_ok (number_in 4 (λ n. nat_lt n slots) s) (λ slot. bytes_at 64 slot.1 >>= λ entry. Ok (Put slot.0 (entry_of entry.0), entry.1)) (i, t) e in
@@ -68,19 +68,19 @@ put_takes slots s i t fits e =
     let entry_fit = bytes_fit a.0.1 b.0.0 b.0.1 slot.0.fits bytes.0 in
     let spelled = subst (λ (text : List ℕ). Takes a.0.1 text b.0.1) (entry_spelled b.0.0 bytes.1 entry_fit) bytes.0 in
     let both = Takes-then s (little_bytes 4 a.0.0) a.0.1 (entry_bytes (entry_of b.0.0)) b.0.1 slot.0 spelled in
-    let made : Instruction × Spot = (Put a.0.0 (entry_of b.0.0), b.0.1) in
-    subst (λ (p : Instruction × Spot). TailTakes slots 1 s p.0 p.1) (ok_is made (i, t) b.2)
+    let made : Instruction × Cursor = (Put a.0.0 (entry_of b.0.0), b.0.1) in
+    subst (λ (p : Instruction × Cursor). TailTakes slots 1 s p.0 p.1) (ok_is made (i, t) b.2)
     (both, refl, (slot.2, (entry_fits b.0.0 entry_fit, rest_long b.0.0 bytes.1)))
 
-push_takes : (slots : ℕ) (s : Spot) (i : Instruction) (t : Spot) → IsBytes s.rest → push_at s ≡ Ok (i, t) → TailTakes slots 2 s i t
+push_takes : (slots : ℕ) (s : Cursor) (i : Instruction) (t : Cursor) → IsBytes s.rest → push_at s ≡ Ok (i, t) → TailTakes slots 2 s i t
 unfolding push_at
 push_takes slots s i t fits e =
     let a = bind_ok (number_at 4 s) (λ index. Ok (Push index.0, index.1)) (i, t) e in
     let index = number_takes 4 width4 s a.0.0 a.0.1 fits a.1 in
     let small : a.0.0 < 2 ^ 32 = omega (arith, index.1) in
-    subst (λ (p : Instruction × Spot). TailTakes slots 2 s p.0 p.1) (ok_is (Push a.0.0, a.0.1) (i, t) a.2) (index.0, refl, (refl, small))
+    subst (λ (p : Instruction × Cursor). TailTakes slots 2 s p.0 p.1) (ok_is (Push a.0.0, a.0.1) (i, t) a.2) (index.0, refl, (refl, small))
 
-store_takes : (slots : ℕ) (s : Spot) (i : Instruction) (t : Spot) → IsBytes s.rest → store_at s ≡ Ok (i, t) → TailTakes slots 3 s i t
+store_takes : (slots : ℕ) (s : Cursor) (i : Instruction) (t : Cursor) → IsBytes s.rest → store_at s ≡ Ok (i, t) → TailTakes slots 3 s i t
 unfolding store_at
 store_takes slots s i t fits e =
     let a = bind_ok (number_at 4 s) (λ address. count_at 4096 address.1 >>= λ n. kept (nat_le (address.0 + n.0) 65536) s.offset n >>= λ inside. bytes_at inside.0 inside.1 >>= λ bytes. Ok (Store address.0 bytes.0, bytes.1)) (i, t) e in
@@ -88,7 +88,7 @@ store_takes slots s i t fits e =
     let c = bind_ok (kept (nat_le (a.0.0 + b.0.0) 65536) s.offset b.0) (λ inside. bytes_at inside.0 inside.1 >>= λ bytes. Ok (Store a.0.0 bytes.0, bytes.1)) (i, t) b.2 in
     let g = kept_ok (nat_le (a.0.0 + b.0.0) 65536) s.offset b.0 c.0 c.1 in
     let e4 : (bytes_at b.0.0 b.0.1 >>= λ bytes. Ok (Store a.0.0 bytes.0, bytes.1)) ≡ Ok (i, t) =
-    ap (λ (n : ℕ × Spot). bytes_at n.0 n.1 >>= λ bytes. Ok (Store a.0.0 bytes.0, bytes.1)) g.1 ∙ c.2 in
+    ap (λ (n : ℕ × Cursor). bytes_at n.0 n.1 >>= λ bytes. Ok (Store a.0.0 bytes.0, bytes.1)) g.1 ∙ c.2 in
     let d = bind_ok (bytes_at b.0.0 b.0.1) (λ bytes. Ok (Store a.0.0 bytes.0, bytes.1)) (i, t) e4 in
     let address = number_takes 4 width4 s a.0.0 a.0.1 fits a.1 in
     let count = number_in_takes 4 width4 (λ n. nat_le n 4096) a.0.1 b.0.0 b.0.1 address.0.fits b.1 in
@@ -96,10 +96,10 @@ store_takes slots s i t fits e =
     let long = Takes-then a.0.1 (little_bytes 4 b.0.0) b.0.1 d.0.0 d.0.1 count.0 bytes.0 in
     let sized = subst (λ (n : ℕ). Takes a.0.1 (little_bytes 4 n ++ d.0.0) d.0.1 × (nat_le n 4096 ≡ true) × (nat_le (a.0.0 + n) 65536 ≡ true)) (sym bytes.1) (long, count.2, g.0) in
     let both = Takes-then s (little_bytes 4 a.0.0) a.0.1 (long_bytes d.0.0) d.0.1 address.0 sized.0 in
-    subst (λ (p : Instruction × Spot). TailTakes slots 3 s p.0 p.1) (ok_is (Store a.0.0 d.0.0, d.0.1) (i, t) d.2)
+    subst (λ (p : Instruction × Cursor). TailTakes slots 3 s p.0 p.1) (ok_is (Store a.0.0 d.0.0, d.0.1) (i, t) d.2)
     (both, refl, (and_from _ _ sized.1 sized.2, tt))
 
-enter_takes : (slots : ℕ) (s : Spot) (i : Instruction) (t : Spot) → IsBytes s.rest → enter_at s ≡ Ok (i, t) → TailTakes slots 4 s i t
+enter_takes : (slots : ℕ) (s : Cursor) (i : Instruction) (t : Cursor) → IsBytes s.rest → enter_at s ≡ Ok (i, t) → TailTakes slots 4 s i t
 unfolding enter_at
 enter_takes slots s i t fits e =
     let a = bind_ok (number_at 4 s) (λ to_submit. number_at 4 to_submit.1 >>= λ min_complete. number_at 4 min_complete.1 >>= λ flags. Ok (Enter to_submit.0 min_complete.0 flags.0, flags.1)) (i, t) e in
@@ -113,10 +113,10 @@ enter_takes slots s i t fits e =
     let sx : a.0.0 < 2 ^ 32 = omega (arith, x.1) in
     let sy : b.0.0 < 2 ^ 32 = omega (arith, y.1) in
     let sz : c.0.0 < 2 ^ 32 = omega (arith, z.1) in
-    subst (λ (p : Instruction × Spot). TailTakes slots 4 s p.0 p.1) (ok_is (Enter a.0.0 b.0.0 c.0.0, c.0.1) (i, t) c.2)
+    subst (λ (p : Instruction × Cursor). TailTakes slots 4 s p.0 p.1) (ok_is (Enter a.0.0 b.0.0 c.0.0, c.0.1) (i, t) c.2)
     (both, refl, (refl, (sx, sy, sz)))
 
-close_takes : (slots : ℕ) (s : Spot) (i : Instruction) (t : Spot) → IsBytes s.rest → close_at s ≡ Ok (i, t) → TailTakes slots 6 s i t
+close_takes : (slots : ℕ) (s : Cursor) (i : Instruction) (t : Cursor) → IsBytes s.rest → close_at s ≡ Ok (i, t) → TailTakes slots 6 s i t
 unfolding close_at
 close_takes slots s i t fits e =
     let a = bind_ok (number_at 4 s) (λ fd. Ok (Close (cast_signed w32 fd.0), fd.1)) (i, t) e in
@@ -124,16 +124,16 @@ close_takes slots s i t fits e =
     let small : a.0.0 < 2 ^ 32 = omega (arith, fd.1) in
     let back : cast_unsigned w32 (cast_signed w32 a.0.0) ≡ a.0.0 = of_z-to_z w32 a.0.0 small in
     let spelled = subst (λ (n : ℕ). Takes s (little_bytes 4 n) a.0.1) (sym back) fd.0 in
-    let made : Instruction × Spot = (Close (cast_signed w32 a.0.0), a.0.1) in
+    let made : Instruction × Cursor = (Close (cast_signed w32 a.0.0), a.0.1) in
     let wide : Fits w32 a.0.0 = omega (arith, fd.1) in
-    subst (λ (p : Instruction × Spot). TailTakes slots 6 s p.0 p.1) (ok_is made (i, t) a.2) (spelled, refl, (refl, sfits_to_z wide))
+    subst (λ (p : Instruction × Cursor). TailTakes slots 6 s p.0 p.1) (ok_is made (i, t) a.2) (spelled, refl, (refl, sfits_to_z wide))
 
-reap_takes : (slots : ℕ) (s : Spot) (i : Instruction) (t : Spot) → IsBytes s.rest → instruction_of slots 5 s ≡ Ok (i, t) → TailTakes slots 5 s i t
+reap_takes : (slots : ℕ) (s : Cursor) (i : Instruction) (t : Cursor) → IsBytes s.rest → instruction_of slots 5 s ≡ Ok (i, t) → TailTakes slots 5 s i t
 unfolding instruction_of
 reap_takes slots s i t fits e =
-    subst (λ (p : Instruction × Spot). TailTakes slots 5 s p.0 p.1) (ok_is (Reap, s) (i, t) e) (record { parts = refl; fits = fits }, refl, (refl, tt))
+    subst (λ (p : Instruction × Cursor). TailTakes slots 5 s p.0 p.1) (ok_is (Reap, s) (i, t) e) (record { parts = refl; fits = fits }, refl, (refl, tt))
 
-instruction_of_takes : (slots k : ℕ) (s : Spot) (i : Instruction) (t : Spot) → is_within 1 6 k ≡ true → IsBytes s.rest → instruction_of slots k s ≡ Ok (i, t) → TailTakes slots k s i t
+instruction_of_takes : (slots k : ℕ) (s : Cursor) (i : Instruction) (t : Cursor) → is_within 1 6 k ≡ true → IsBytes s.rest → instruction_of slots k s ≡ Ok (i, t) → TailTakes slots k s i t
 unfolding instruction_of
 instruction_of_takes slots zero s i t within fits e = absurd (omega (arith, within_least 1 6 0 within))
 instruction_of_takes slots (suc zero) s i t within fits e = put_takes slots s i t fits e
@@ -144,7 +144,7 @@ instruction_of_takes slots (suc (suc (suc (suc (suc zero))))) s i t within fits 
 instruction_of_takes slots (suc (suc (suc (suc (suc (suc zero)))))) s i t within fits e = close_takes slots s i t fits e
 instruction_of_takes slots (suc (suc (suc (suc (suc (suc (suc k))))))) s i t within fits e = absurd (omega (arith, within_most 1 6 (suc (suc (suc (suc (suc (suc (suc k))))))) within))
 
-instruction_takes : (slots : ℕ) (before : List Instruction) (s : Spot) (i : Instruction) (t : Spot) → IsBytes s.rest → instruction_at slots s ≡ Ok (i, t)
+instruction_takes : (slots : ℕ) (before : List Instruction) (s : Cursor) (i : Instruction) (t : Cursor) → IsBytes s.rest → instruction_at slots s ≡ Ok (i, t)
     → Takes s (instruction_bytes i) t × Kept slots i
 unfolding instruction_at
 instruction_takes slots before s i t fits e =
@@ -167,8 +167,8 @@ put_again slots offset slot entry rest few kept =
     let a = number_in_again 4 (λ n. nat_lt n slots) offset slot (entry_bytes entry ++ rest) (omega arith) kept.0 in
     let b = bytes_again 64 a.0 (entry_bytes entry) rest (entry_long entry kept.1.1) in
     let regrouped : tail_of (Put slot entry) ++ rest ≡ little_bytes 4 slot ++ (entry_bytes entry ++ rest) = append_assoc (little_bytes 4 slot) (entry_bytes entry) rest in
-    let made : (a.0 ≡ a.0) × (put_at slots (spot offset (little_bytes 4 slot ++ (entry_bytes entry ++ rest))) ≡ Ok (Put slot (entry_of (entry_bytes entry)), spot b.0 rest)) = (refl, rw (a.1, b.1) refl) in
-    (b.0, ap (λ (input : List ℕ). put_at slots (spot offset input)) regrouped ∙ made.1 ∙ ap (λ (x : Sqe). Ok (Put slot x, spot b.0 rest)) (entry_again entry kept.1.0 kept.1.1))
+    let made : (a.0 ≡ a.0) × (put_at slots (cursor_at offset (little_bytes 4 slot ++ (entry_bytes entry ++ rest))) ≡ Ok (Put slot (entry_of (entry_bytes entry)), cursor_at b.0 rest)) = (refl, rw (a.1, b.1) refl) in
+    (b.0, ap (λ (input : List ℕ). put_at slots (cursor_at offset input)) regrouped ∙ made.1 ∙ ap (λ (x : Sqe). Ok (Put slot x, cursor_at b.0 rest)) (entry_again entry kept.1.0 kept.1.1))
 
 push_again : (offset index : ℕ) (rest : List ℕ) → index < 2 ^ 32 → Again push_at offset (little_bytes 4 index ++ rest) (Push index) rest
 unfolding push_at
@@ -185,7 +185,7 @@ store_again offset address bytes rest short inside few low =
     let c = bytes_again (length bytes) b.0 bytes rest refl in
     let regrouped : tail_of (Store address bytes) ++ rest ≡ little_bytes 4 address ++ (little_bytes 4 (length bytes) ++ (bytes ++ rest)) =
     append_assoc (little_bytes 4 address) (long_bytes bytes) rest ∙ ap (λ (x : List ℕ). little_bytes 4 address ++ x) (append_assoc (little_bytes 4 (length bytes)) bytes rest) in
-    (c.0, ap (λ (input : List ℕ). store_at (spot offset input)) regrouped ∙ rw (a.1, b.1, inside, c.1) refl)
+    (c.0, ap (λ (input : List ℕ). store_at (cursor_at offset input)) regrouped ∙ rw (a.1, b.1, inside, c.1) refl)
 
 stored_again : (slots offset address : ℕ) (bytes rest : List ℕ) → keeps_instruction slots (Store address bytes) ≡ true → Again store_at offset (tail_of (Store address bytes) ++ rest) (Store address bytes) rest
 stored_again slots offset address bytes rest keeps =
@@ -203,7 +203,7 @@ enter_again offset to_submit min_complete flags rest widths =
     let c = number_again 4 b.0 flags rest (omega (arith, widths.2)) in
     let regrouped : tail_of (Enter to_submit min_complete flags) ++ rest ≡ little_bytes 4 to_submit ++ (little_bytes 4 min_complete ++ (little_bytes 4 flags ++ rest)) =
     append_assoc (little_bytes 4 to_submit) (little_bytes 4 min_complete ++ little_bytes 4 flags) rest ∙ ap (λ (x : List ℕ). little_bytes 4 to_submit ++ x) (append_assoc (little_bytes 4 min_complete) (little_bytes 4 flags) rest) in
-    (c.0, ap (λ (input : List ℕ). enter_at (spot offset input)) regrouped ∙ rw (a.1, b.1, c.1) refl)
+    (c.0, ap (λ (input : List ℕ). enter_at (cursor_at offset input)) regrouped ∙ rw (a.1, b.1, c.1) refl)
 
 close_again : (offset : ℕ) (fd : _) (rest : List ℕ) → HasWidths (Close fd) → Again close_at offset (tail_of (Close fd) ++ rest) (Close fd) rest
 unfolding close_at
@@ -239,14 +239,14 @@ instruction_again slots few before offset i rest kept =
     let b = instruction_of_again slots a.0 i rest few kept in
     let regrouped : instruction_bytes i ++ rest ≡ little_bytes 1 (kind_of i) ++ (tail_of i ++ rest) =
     ap (λ (text : List ℕ). text ++ rest) (instruction_split i) ∙ append_assoc (little_bytes 1 (kind_of i)) (tail_of i) rest in
-    (b.0, ap (λ (input : List ℕ). instruction_at slots (spot offset input)) regrouped ∙ rw (a.1, b.1) refl)
+    (b.0, ap (λ (input : List ℕ). instruction_at slots (cursor_at offset input)) regrouped ∙ rw (a.1, b.1) refl)
 
 instruction_reads : (slots : ℕ) → slots ≤ 4096 → Reads Instruction (λ before. instruction_at slots) instruction_bytes (λ before i. (keeps_instruction slots i ≡ true) × HasWidths i)
 instruction_reads slots few = record { takes = instruction_takes slots; again = instruction_again slots few }
 
 -- ---- programs
 
-program_takes : (slots : ℕ) → slots ≤ 4096 → (before : List (List Instruction)) (s : Spot) (p : List Instruction) (t : Spot) → IsBytes s.rest → program_at slots s ≡ Ok (p, t)
+program_takes : (slots : ℕ) → slots ≤ 4096 → (before : List (List Instruction)) (s : Cursor) (p : List Instruction) (t : Cursor) → IsBytes s.rest → program_at slots s ≡ Ok (p, t)
     → Takes s (program_bytes p) t × ((keeps_program slots p ≡ true) × AllByRecursion HasWidths p)
 unfolding program_at
 program_takes slots few before s p t fits e =

@@ -12,29 +12,29 @@ use Rattle.scenario.specs.declared.event.Event.{Event}
 use Rattle.scenario.specs.declared.setup.Setup.{Setup}
 use Rattle.traces.specs.declared.fault.TraceFault.{TraceFault}
 use Rattle.traces.specs.declared.fault.TraceFault.TheVariants.{Magic, Truncated, Count, Kind, Padding, Trailing, Memory, Setup as SetupFault}
-use Rattle.traces.specs.Spots.{Spot}
+use Rattle.traces.specs.Cursors.{Cursor}
 use Rattle.traces.specs.Spelling.{counted_bytes, trace_bytes, magic, Fits, has_transfer, AreEvents, IsTrace}
 use Rattle.traces.specs.Faults.{BeginsAs, IsCountedFault, IsFault}
 use Rattle.scenario.specs.Setups.{setup_refusal}
 use Rattle.traces.specs.Limits.{Widths}
-use Rattle.traces.specs.Setups.{setup_bytes, magic2, trace2_bytes, plain, IsTrace2}
+use Rattle.traces.specs.Setups.{setup_bytes, magic2, trace2_bytes, canonical, IsTrace2}
 use Rattle.traces.specs.Reading.{number_in, setup_at, behind_magic, IsBodyFault, IsFault2}
-use Rattle.traces.proofs.Taking.{IsBytes, IsBytes-drop, ok_is, spot}
+use Rattle.traces.proofs.Taking.{IsBytes, IsBytes-drop, ok_is, cursor_at}
 use Rattle.traces.proofs.Traces.{same_trace, no_counted_fault, begins}
 use Rattle.traces.proofs.SetupLaws.{Spelled, setup_takes, setup_again}
 use Rattle.traces.proofs.Startable.{startable, starting}
-use Rattle.traces.proofs.Trimming.{plain_spelled}
+use Rattle.traces.proofs.Trimming.{canonical_spelled}
 
 -- the fault of the events behind a setup
-pub body_fault : (r : Result (Setup × Spot) TraceFault) (setup : Setup) (s : Spot) (rest : List ℕ) (fault : TraceFault) → r ≡ Ok (setup, s) → rest ≡ s.rest
+pub body_fault : (r : Result (Setup × Cursor) TraceFault) (setup : Setup) (s : Cursor) (rest : List ℕ) (fault : TraceFault) → r ≡ Ok (setup, s) → rest ≡ s.rest
     → (fault ≡ Memory) ⊎ IsCountedFault rest fault → (fault ≡ Memory) ⊎ IsBodyFault r fault
 body_fault r setup s rest fault e f h =
     elim h [
       | inl m ↦ inl m
-      | inr g ↦ inr (subst (λ (x : Result (Setup × Spot) TraceFault). IsBodyFault x fault) (sym e) (subst (λ (xs : List ℕ). IsCountedFault xs fault) f g))
+      | inr g ↦ inr (subst (λ (x : Result (Setup × Cursor) TraceFault). IsBodyFault x fault) (sym e) (subst (λ (xs : List ℕ). IsCountedFault xs fault) f g))
     ]
 
-nothing_read : setup_at (spot 8 []) ≡ Err Truncated
+nothing_read : setup_at (cursor_at 8 []) ≡ Err Truncated
 unfolding setup_at number_in
 nothing_read = refl
 
@@ -42,8 +42,8 @@ nothing_read = refl
 pub short_fault : (bytes : List ℕ) → length bytes < 8 → IsBodyFault (setup_at (behind_magic bytes)) Truncated
 short_fault bytes lt =
     let none : drop 8 bytes ≡ [] = drop_all 8 bytes (omega arith) in
-    let e : setup_at (behind_magic bytes) ≡ Err Truncated = ap (λ (xs : List ℕ). setup_at (spot 8 xs)) none ∙ nothing_read in
-    subst (λ (x : Result (Setup × Spot) TraceFault). IsBodyFault x Truncated) (sym e) refl
+    let e : setup_at (behind_magic bytes) ≡ Err Truncated = ap (λ (xs : List ℕ). setup_at (cursor_at 8 xs)) none ∙ nothing_read in
+    subst (λ (x : Result (Setup × Cursor) TraceFault). IsBodyFault x Truncated) (sym e) refl
 
 -- the bytes behind the first eight
 begun : (bytes : List ℕ) → 8 ≤ length bytes → BeginsAs magic2 bytes → bytes ≡ magic2 ++ drop 8 bytes
@@ -53,14 +53,14 @@ begun bytes le h =
     sym (take-append-drop 8 bytes) ∙ ap (λ (xs : List ℕ). xs ++ drop 8 bytes) front
 
 abbrev pub Body : List ℕ → Setup → List Event → Type 0
-Body bytes setup events = (s : Spot) × (setup_at (behind_magic bytes) ≡ Ok (setup, s)) × (s.rest ≡ counted_bytes events) × AreEvents events
+Body bytes setup events = (s : Cursor) × (setup_at (behind_magic bytes) ≡ Ok (setup, s)) × (s.rest ≡ counted_bytes events) × AreEvents events
 
 -- what is read is spelled so
 body_spelled : (bytes : List ℕ) (setup : Setup) (events : List Event) → IsBytes bytes → 8 ≤ length bytes → BeginsAs magic2 bytes → Body bytes setup events → IsTrace2 setup events bytes
 body_spelled bytes setup events fits le h body =
     let t = setup_takes (behind_magic bytes) setup body.0 (IsBytes-drop 8 bytes fits) body.1 in
     record {
-      plain = t.1.plain;
+      canonical = t.1.canonical;
       starts = starting setup t.1.ranges;
       widths = t.1.widths;
       are_events = body.3;
@@ -78,9 +78,9 @@ is_fault bytes (Ok v) h f = tt
 is_fault bytes (Err fault) h f = elim f [ inl e ↦ inl e | inr g ↦ inr (inr (h, g)) ]
 
 -- what is spelled so is read
-again2 : (setup : Setup) (events : List Event) (bytes : List ℕ) → IsTrace2 setup events bytes → (o : ℕ) × (setup_at (behind_magic bytes) ≡ Ok (setup, spot o (counted_bytes events)))
+again2 : (setup : Setup) (events : List Event) (bytes : List ℕ) → IsTrace2 setup events bytes → (o : ℕ) × (setup_at (behind_magic bytes) ≡ Ok (setup, cursor_at o (counted_bytes events)))
 again2 setup events bytes h =
-    let spelled : Spelled setup = record { plain = h.plain; ranges = startable setup h.starts; widths = h.widths } in
+    let spelled : Spelled setup = record { canonical = h.canonical; ranges = startable setup h.starts; widths = h.widths } in
     let a = setup_again 8 setup (counted_bytes events) spelled in
     (a.0, ap (λ (xs : List ℕ). setup_at (behind_magic xs)) h.spelled ∙ a.1)
 
@@ -92,10 +92,10 @@ pub same_trace2 : (a b : Setup) (d e : List Event) (bytes : List ℕ) → IsTrac
 same_trace2 a b d e bytes f g =
     let p = again2 a d bytes f in
     let q = again2 b e bytes g in
-    let m : Setup × Spot = (a, spot p.0 (counted_bytes d)) in
-    let n : Setup × Spot = (b, spot q.0 (counted_bytes e)) in
+    let m : Setup × Cursor = (a, cursor_at p.0 (counted_bytes d)) in
+    let n : Setup × Cursor = (b, cursor_at q.0 (counted_bytes e)) in
     let r = ok_is m n (sym p.1 ∙ q.1) in
-    (ap (λ (x : Setup × Spot). x.0) r, same_events d e f.are_events g.are_events (ap (λ (x : Setup × Spot). x.1.rest) r))
+    (ap (λ (x : Setup × Cursor). x.0) r, same_events d e f.are_events g.are_events (ap (λ (x : Setup × Cursor). x.1.rest) r))
 
 begins2 : (setup : Setup) (events : List Event) (bytes : List ℕ) → IsTrace2 setup events bytes → BeginsAs magic2 bytes
 begins2 setup events bytes h = subst (BeginsAs magic2) (sym h.spelled) (begins magic2 (setup_bytes setup ++ counted_bytes events) refl)
@@ -104,7 +104,7 @@ pub no_fault2 : (setup : Setup) (events : List Event) (bytes : List ℕ) (fault 
 no_fault2 setup events bytes fault h f =
     elim f [
       | inl other ↦ other.0 (begins2 setup events bytes h)
-      | inr body ↦ no_counted_fault events fault h.are_events (subst (λ (x : Result (Setup × Spot) TraceFault). IsBodyFault x fault) (again2 setup events bytes h).1 body.1)
+      | inr body ↦ no_counted_fault events fault h.are_events (subst (λ (x : Result (Setup × Cursor) TraceFault). IsBodyFault x fault) (again2 setup events bytes h).1 body.1)
     ]
 
 pub only_answer2 : (bytes : List ℕ) (r : Result (Setup × Vec Event) TraceFault) → IfOk r (λ found. IsTrace2 found.0 found.1.items bytes)
@@ -119,10 +119,10 @@ only_answer2 bytes (Err f) found fault setup events h =
 
 -- what is written
 pub is_written : (setup : Setup) (events : List Event) (out : List ℕ) → setup_refusal setup ≡ None → Widths setup → AreEvents events
-    → out ≡ trace2_bytes (plain setup) events → IsTrace2 (plain setup) events out
+    → out ≡ trace2_bytes (canonical setup) events → IsTrace2 (canonical setup) events out
 is_written setup events out starts widths are spelled =
-    let p = plain_spelled setup (startable setup starts) widths in
-    record { plain = p.plain; starts = starting (plain setup) p.ranges; widths = p.widths; are_events = are; spelled = spelled }
+    let p = canonical_spelled setup (startable setup starts) widths in
+    record { canonical = p.canonical; starts = starting (canonical setup) p.ranges; widths = p.widths; are_events = are; spelled = spelled }
 
 pub three_written : (a b c : List ℕ) (one two three : List ℕ) → one ≡ a → two ≡ one ++ b → three ≡ two ++ c → three ≡ a ++ (b ++ c)
 three_written a b c one two three e f g = g ∙ ap (λ (t : List ℕ). t ++ c) (f ∙ ap (λ (t : List ℕ). t ++ b) e) ∙ append_assoc a b c

@@ -10,11 +10,11 @@ use Rattle.places.specs.declared.object.Descriptor.{Descriptor}
 use Rattle.scenario.specs.declared.setup.Instruction.{Instruction}
 use Rattle.scenario.specs.declared.setup.Setup.{Setup}
 use Rattle.traces.specs.declared.fault.TraceFault.{TraceFault}
-use Rattle.traces.specs.Spots.{Spot}
+use Rattle.traces.specs.Cursors.{Cursor}
 use Rattle.traces.specs.Limits.{is_within, is_size, is_completion_size, all_behind, keeps_object, keeps_descriptor, keeps_program, keeps_completions, keeps_rings, keeps_objects, keeps_threads, keeps_ranges, HasWidths, Widths}
-use Rattle.traces.specs.Setups.{list_bytes, long_bytes, object_bytes, descriptor_bytes, program_bytes, options_number, setup_bytes, is_trimmed, IsPlain}
+use Rattle.traces.specs.Setups.{list_bytes, long_bytes, object_bytes, descriptor_bytes, program_bytes, options_number, setup_bytes, is_trimmed, IsCanonical}
 use Rattle.traces.specs.Reading.{◌>>=◌, kept, number_at, number_in, long_at, list_at, object_at, descriptor_at, program_at, memory_at, setup_at}
-use Rattle.traces.proofs.Taking.{IsBytes, bind_ok, kept_ok, ok_is, spot, Takes, Takes-then, Again, width1, width2, width4, number_takes, number_again, number_in_takes, number_in_again, long_takes, long_again}
+use Rattle.traces.proofs.Taking.{IsBytes, bind_ok, kept_ok, ok_is, cursor_at, Takes, Takes-then, Again, width1, width2, width4, number_takes, number_again, number_in_takes, number_in_again, long_takes, long_again}
 use Rattle.traces.proofs.Lists.{list_takes, list_again, behind_fit, fit_behind, all_fit, fit_all, no_more}
 use Rattle.traces.proofs.ObjectLaws.{object_reads, descriptor_reads}
 use Rattle.traces.proofs.ProgramLaws.{program_reads}
@@ -43,13 +43,13 @@ size_within most n h = within_is 1 most n (size_some most n h) (size_most most n
 
 -- ---- memory
 
-memory_takes : (s : Spot) (x : List ℕ) (t : Spot) → IsBytes s.rest → memory_at s ≡ Ok (x, t) → Takes s (long_bytes x) t × (nat_le (length x) 65536 ≡ true) × (is_trimmed x ≡ true)
+memory_takes : (s : Cursor) (x : List ℕ) (t : Cursor) → IsBytes s.rest → memory_at s ≡ Ok (x, t) → Takes s (long_bytes x) t × (nat_le (length x) 65536 ≡ true) × (is_trimmed x ≡ true)
 unfolding memory_at
 memory_takes s x t fits e =
     let a = bind_ok (long_at 65536 s) (λ bytes. kept (is_trimmed bytes.0) s.offset bytes) (x, t) e in
     let g = kept_ok (is_trimmed a.0.0) s.offset a.0 (x, t) a.2 in
     let bytes = long_takes 65536 s a.0.0 a.0.1 fits a.1 in
-    subst (λ (p : List ℕ × Spot). Takes s (long_bytes p.0) p.1 × (nat_le (length p.0) 65536 ≡ true) × (is_trimmed p.0 ≡ true)) g.1 (bytes.0, bytes.1, g.0)
+    subst (λ (p : List ℕ × Cursor). Takes s (long_bytes p.0) p.1 × (nat_le (length p.0) 65536 ≡ true) × (is_trimmed p.0 ≡ true)) g.1 (bytes.0, bytes.1, g.0)
 
 memory_again : (offset : ℕ) (x rest : List ℕ) → nat_le (length x) 65536 ≡ true → is_trimmed x ≡ true → Again memory_at offset (long_bytes x ++ rest) x rest
 unfolding memory_at
@@ -122,7 +122,7 @@ pub record Parts (entries completions options base : ℕ) (memory : List ℕ) (o
   pub widths : AllByRecursion (AllByRecursion HasWidths) threads
 
 -- what reading a setup took
-pub record SetupTakes (s : Spot) (x : Setup) (t : Spot) : Type 0 where
+pub record SetupTakes (s : Cursor) (x : Setup) (t : Cursor) : Type 0 where
   pub entries : ℕ
   pub completions : ℕ
   pub options : ℕ
@@ -136,7 +136,7 @@ pub record SetupTakes (s : Spot) (x : Setup) (t : Spot) : Type 0 where
   pub taken : Takes s (bytes_of entries completions options base memory objects fds threads) t
 
 -- what reading the parts behind the rings took
-record Things (entries completions options base : ℕ) (s : Spot) (x : Setup) (t : Spot) : Type 0 where
+record Things (entries completions options base : ℕ) (s : Cursor) (x : Setup) (t : Cursor) : Type 0 where
   memory : List ℕ
   objects : List Object
   fds : List Descriptor
@@ -153,10 +153,10 @@ record Things (entries completions options base : ℕ) (s : Spot) (x : Setup) (t
   widths : AllByRecursion (AllByRecursion HasWidths) threads
   taken : Takes s (long_bytes memory ++ (list_bytes object_bytes objects ++ (list_bytes descriptor_bytes fds ++ list_bytes program_bytes threads))) t
 
-abbrev finish : Setup → Spot → Result (Setup × Spot) TraceFault
+abbrev finish : Setup → Cursor → Result (Setup × Cursor) TraceFault
 finish x t = Ok (x, t)
 
-threads_take : (entries completions options base : ℕ) (s : Spot) (memory : List ℕ) (s1 : Spot) (objects : List Object) (s2 : Spot) (fds : List Descriptor) (s3 : Spot) (x : Setup) (t : Spot) → entries ≤ 4096
+threads_take : (entries completions options base : ℕ) (s : Cursor) (memory : List ℕ) (s1 : Cursor) (objects : List Object) (s2 : Cursor) (fds : List Descriptor) (s3 : Cursor) (x : Setup) (t : Cursor) → entries ≤ 4096
     → Takes s (long_bytes memory) s1 → nat_le (length memory) 65536 ≡ true → is_trimmed memory ≡ true
     → Takes s1 (list_bytes object_bytes objects) s2 → nat_le (length objects) 32 ≡ true → all_behind keeps_object [] objects ≡ true
     → Takes s2 (list_bytes descriptor_bytes fds) s3 → nat_le (length fds) 64 ≡ true → list_all (keeps_descriptor objects) fds ≡ true
@@ -169,8 +169,8 @@ threads_take entries completions options base s memory s1 objects s2 fds s3 x t 
     let t3 = Takes-then s2 (list_bytes descriptor_bytes fds) s3 (list_bytes program_bytes a.0.0) a.0.1 f threads.0 in
     let t2 = Takes-then s1 (list_bytes object_bytes objects) s2 (list_bytes descriptor_bytes fds ++ list_bytes program_bytes a.0.0) a.0.1 o t3 in
     let t1 = Takes-then s (long_bytes memory) s1 (list_bytes object_bytes objects ++ (list_bytes descriptor_bytes fds ++ list_bytes program_bytes a.0.0)) a.0.1 m t2 in
-    let made : Setup × Spot = (setup_of entries completions options base memory objects fds a.0.0, a.0.1) in
-    subst (λ (p : Setup × Spot). Things entries completions options base s p.0 p.1) (ok_is made (x, t) a.2)
+    let made : Setup × Cursor = (setup_of entries completions options base memory objects fds a.0.0, a.0.1) in
+    subst (λ (p : Setup × Cursor). Things entries completions options base s p.0 p.1) (ok_is made (x, t) a.2)
     (record {
       memory = memory;
       objects = objects;
@@ -189,7 +189,7 @@ threads_take entries completions options base s memory s1 objects s2 fds s3 x t 
       taken = t1;
     })
 
-fds_take : (entries completions options base : ℕ) (s : Spot) (memory : List ℕ) (s1 : Spot) (objects : List Object) (s2 : Spot) (x : Setup) (t : Spot) → entries ≤ 4096
+fds_take : (entries completions options base : ℕ) (s : Cursor) (memory : List ℕ) (s1 : Cursor) (objects : List Object) (s2 : Cursor) (x : Setup) (t : Cursor) → entries ≤ 4096
     → Takes s (long_bytes memory) s1 → nat_le (length memory) 65536 ≡ true → is_trimmed memory ≡ true
     → Takes s1 (list_bytes object_bytes objects) s2 → nat_le (length objects) 32 ≡ true → all_behind keeps_object [] objects ≡ true
     → (list_at 64 (λ before. descriptor_at objects) s2 >>= λ fds. list_at 16 (λ before. program_at entries) fds.1 >>= λ threads. finish (setup_of entries completions options base memory objects fds.0 threads.0) threads.1) ≡ Ok (x, t)
@@ -201,7 +201,7 @@ fds_take entries completions options base s memory s1 objects s2 x t slots m m1 
     let all = fit_all (keeps_descriptor objects) (λ d. Unit {0}) [] a.0.0 fds.2 in
     threads_take entries completions options base s memory s1 objects s2 a.0.0 a.0.1 x t slots m m1 m2 o o1 o2 fds.0 fds.1 all.0 a.2
 
-objects_take : (entries completions options base : ℕ) (s : Spot) (memory : List ℕ) (s1 : Spot) (x : Setup) (t : Spot) → entries ≤ 4096
+objects_take : (entries completions options base : ℕ) (s : Cursor) (memory : List ℕ) (s1 : Cursor) (x : Setup) (t : Cursor) → entries ≤ 4096
     → Takes s (long_bytes memory) s1 → nat_le (length memory) 65536 ≡ true → is_trimmed memory ≡ true
     → (list_at 32 object_at s1 >>= λ objects. list_at 64 (λ before. descriptor_at objects.0) objects.1 >>= λ fds. list_at 16 (λ before. program_at entries) fds.1 >>= λ threads. finish (setup_of entries completions options base memory objects.0 fds.0 threads.0) threads.1) ≡ Ok (x, t)
     → Things entries completions options base s x t
@@ -210,7 +210,7 @@ objects_take entries completions options base s memory s1 x t slots m m1 m2 e =
     let objects = list_takes Object object_at object_bytes (λ before o. keeps_object before o ≡ true) object_reads 32 s1 a.0.0 a.0.1 m.fits a.1 in
     fds_take entries completions options base s memory s1 a.0.0 a.0.1 x t slots m m1 m2 objects.0 objects.1 (fit_behind keeps_object [] a.0.0 objects.2) a.2
 
-things_take : (entries completions options base : ℕ) (s : Spot) (x : Setup) (t : Spot) → entries ≤ 4096 → IsBytes s.rest
+things_take : (entries completions options base : ℕ) (s : Cursor) (x : Setup) (t : Cursor) → entries ≤ 4096 → IsBytes s.rest
     → (memory_at s >>= λ memory. list_at 32 object_at memory.1 >>= λ objects. list_at 64 (λ before. descriptor_at objects.0) objects.1 >>= λ fds. list_at 16 (λ before. program_at entries) fds.1 >>= λ threads. finish (setup_of entries completions options base memory.0 objects.0 fds.0 threads.0) threads.1) ≡ Ok (x, t)
     → Things entries completions options base s x t
 things_take entries completions options base s x t slots fits e =
@@ -218,7 +218,7 @@ things_take entries completions options base s x t slots fits e =
     let memory = memory_takes s a.0.0 a.0.1 fits a.1 in
     objects_take entries completions options base s a.0.0 a.0.1 x t slots memory.0 memory.1 memory.2 a.2
 
-base_take : (s : Spot) (entries : ℕ) (s1 : Spot) (completions : ℕ) (s2 : Spot) (options : ℕ) (s3 : Spot) (x : Setup) (t : Spot)
+base_take : (s : Cursor) (entries : ℕ) (s1 : Cursor) (completions : ℕ) (s2 : Cursor) (options : ℕ) (s3 : Cursor) (x : Setup) (t : Cursor)
     → Takes s (little_bytes 2 entries) s1 → is_size 4096 entries ≡ true
     → Takes s1 (little_bytes 2 completions) s2 → is_completion_size entries completions ≡ true
     → Takes s2 (little_bytes 1 options) s3 → nat_lt options 4 ≡ true
@@ -261,7 +261,7 @@ base_take s entries s1 completions s2 options s3 x t e e1 c c1 o o1 h =
       taken = t1;
     }
 
-parts_take : (s : Spot) (x : Setup) (t : Spot) → IsBytes s.rest → setup_at s ≡ Ok (x, t) → SetupTakes s x t
+parts_take : (s : Cursor) (x : Setup) (t : Cursor) → IsBytes s.rest → setup_at s ≡ Ok (x, t) → SetupTakes s x t
 unfolding setup_at
 parts_take s x t fits h =
     let a = bind_ok (number_in 2 (is_size 4096) s) (λ entries. number_in 2 (is_completion_size entries.0) entries.1 >>= λ completions. number_in 1 (λ n. nat_lt n 4) completions.1 >>= λ options. number_at 4 options.1 >>= λ base. memory_at base.1 >>= λ memory. list_at 32 object_at memory.1 >>= λ objects. list_at 64 (λ before. descriptor_at objects.0) objects.1 >>= λ fds. list_at 16 (λ before. program_at entries.0) fds.1 >>= λ threads. finish (setup_of entries.0 completions.0 options.0 base.0 memory.0 objects.0 fds.0 threads.0) threads.1) (x, t) h in
@@ -303,12 +303,12 @@ parts_again offset entries completions options base memory objects fds threads r
     let i = list_again (List Instruction) (λ before. program_at entries) program_bytes (λ before p. (keeps_program entries p ≡ true) × AllByRecursion HasWidths p) (program_reads entries slots) 16 h.0 threads rest (omega arith) p.threads_few
     (all_fit (keeps_program entries) (AllByRecursion HasWidths) [] threads p.threads_ok p.widths) in
     let regrouped = regroup (little_bytes 2 entries) (little_bytes 2 completions) (little_bytes 1 options) (little_bytes 4 base) (long_bytes memory) (list_bytes object_bytes objects) (list_bytes descriptor_bytes fds) (list_bytes program_bytes threads) rest in
-    (i.0, ap (λ (input : List ℕ). setup_at (spot offset input)) regrouped ∙ rw (a.1, b.1, c.1, d.1, f.1, g.1, h.1, i.1) refl)
+    (i.0, ap (λ (input : List ℕ). setup_at (cursor_at offset input)) regrouped ∙ rw (a.1, b.1, c.1, d.1, f.1, g.1, h.1, i.1) refl)
 
 -- ---- what the parts say of the setup
 
 pub record Spelled (x : Setup) : Type 0 where
-  pub plain : IsPlain x
+  pub canonical : IsCanonical x
   pub ranges : keeps_ranges x ≡ true
   pub widths : Widths x
 
@@ -325,12 +325,12 @@ of_parts entries completions options base memory objects fds threads p =
     let things = and_from _ _ (and_from _ _ (and_from _ _ (and_from _ _ p.memory_few p.objects_few) p.objects_ok) p.fds_few) p.fds_ok in
     let programs : list_all (keeps_program (rounded entries)) threads ≡ true = subst (λ (n : ℕ). list_all (keeps_program n) threads ≡ true) (sym same) p.threads_ok in
     record {
-      plain = record { entries = p.entries_ok; completions = (completions, refl, q.0); memory = p.memory_trim };
+      canonical = record { entries = p.entries_ok; completions = (completions, refl, q.0); memory = p.memory_trim };
       ranges = and_from _ _ (and_from _ _ rings things) (and_from _ _ p.threads_few programs);
       widths = record { base = p.base_ok; threads = p.widths };
     }
 
-pub setup_takes : (s : Spot) (x : Setup) (t : Spot) → IsBytes s.rest → setup_at s ≡ Ok (x, t) → Takes s (setup_bytes x) t × Spelled x
+pub setup_takes : (s : Cursor) (x : Setup) (t : Cursor) → IsBytes s.rest → setup_at s ≡ Ok (x, t) → Takes s (setup_bytes x) t × Spelled x
 setup_takes s x t fits e =
     let p = parts_take s x t fits e in
     let text : bytes_of p.entries p.completions p.options p.base p.memory p.objects p.fds p.threads ≡ setup_bytes (setup_of p.entries p.completions p.options p.base p.memory p.objects p.fds p.threads) =
@@ -342,9 +342,9 @@ to_parts : (x : Setup) (completions : ℕ) → x.cq ≡ Some completions → Spe
     → Parts x.entries completions (options_number x.sqpoll x.submit_all) x.base x.memory x.objects x.fds x.threads
 unfolding keeps_ranges
 to_parts x completions cq s =
-    let entries_ok : is_size 4096 x.entries ≡ true = s.plain.entries in
-    let same_number : s.plain.completions.0 ≡ completions = let e : Some s.plain.completions.0 ≡ Some completions = sym s.plain.completions.1 ∙ cq in cc in
-    let size : is_size 8192 completions ≡ true = subst (λ (n : ℕ). is_size 8192 n ≡ true) same_number s.plain.completions.2 in
+    let entries_ok : is_size 4096 x.entries ≡ true = s.canonical.entries in
+    let same_number : s.canonical.completions.0 ≡ completions = let e : Some s.canonical.completions.0 ≡ Some completions = sym s.canonical.completions.1 ∙ cq in cc in
+    let size : is_size 8192 completions ≡ true = subst (λ (n : ℕ). is_size 8192 n ≡ true) same_number s.canonical.completions.2 in
     let q = and_parts (keeps_rings x && keeps_objects x) (keeps_threads x) s.ranges in
     let r = and_parts (keeps_rings x) (keeps_objects x) q.0 in
     let rings = and_parts (is_within 1 4096 x.entries) (keeps_completions x.entries x.cq) r.0 in
@@ -364,7 +364,7 @@ to_parts x completions cq s =
       options_ok = options_small x.sqpoll x.submit_all;
       base_ok = s.widths.base;
       memory_few = o2.0;
-      memory_trim = s.plain.memory;
+      memory_trim = s.canonical.memory;
       objects_few = o2.1;
       objects_ok = o3.1;
       fds_few = o4.1;
@@ -376,8 +376,8 @@ to_parts x completions cq s =
 
 pub setup_again : (offset : ℕ) (x : Setup) (rest : List ℕ) → Spelled x → Again setup_at offset (setup_bytes x ++ rest) x rest
 setup_again offset x rest s =
-    let n = s.plain.completions.0 in
-    let cq = s.plain.completions.1 in
+    let n = s.canonical.completions.0 in
+    let cq = s.canonical.completions.1 in
     let o = options_number x.sqpoll x.submit_all in
     let a = parts_again offset x.entries n o x.base x.memory x.objects x.fds x.threads rest (to_parts x n cq s) in
     let text : setup_bytes x ≡ bytes_of x.entries n o x.base x.memory x.objects x.fds x.threads = ap (λ (q : Option ℕ). setup_bytes (record x { cq = q })) cq in
@@ -385,4 +385,4 @@ setup_again offset x rest s =
     ap (λ (p : Bool). record x { cq = Some n; sqpoll = p; submit_all = (o == 2) || (o == 3) }) (options_sqpoll x.sqpoll x.submit_all)
     ∙ ap (λ (p : Bool). record x { cq = Some n; submit_all = p }) (options_submit_all x.sqpoll x.submit_all)
     ∙ ap (λ (q : Option ℕ). record x { cq = q }) (sym cq) in
-    (a.0, ap (λ (bytes : List ℕ). setup_at (spot offset (bytes ++ rest))) text ∙ a.1 ∙ ap (λ (y : Setup). Ok (y, spot a.0 rest)) whole)
+    (a.0, ap (λ (bytes : List ℕ). setup_at (cursor_at offset (bytes ++ rest))) text ∙ a.1 ∙ ap (λ (y : Setup). Ok (y, cursor_at a.0 rest)) whole)

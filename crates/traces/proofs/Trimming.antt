@@ -8,7 +8,7 @@ use Rattle.std.proofs.lemmas.List.{append_assoc, take_more}
 use Rattle.ring_words.specs.Rings.{rounded, first_not_below}
 use Rattle.scenario.specs.declared.setup.Setup.{Setup}
 use Rattle.traces.specs.Limits.{is_within, is_size, all_behind, keeps_object, keeps_descriptor, keeps_program, keeps_completions, keeps_rings, keeps_objects, keeps_threads, keeps_ranges, Widths}
-use Rattle.traces.specs.Setups.{cut_behind, trimmed, is_trimmed, completion_size, plain}
+use Rattle.traces.specs.Setups.{cut_behind, trimmed, is_trimmed, completion_size, canonical}
 use Rattle.traces.proofs.ObjectLaws.{within_most}
 use Rattle.traces.proofs.SetupLaws.{size_rounded, size_most, size_within, Spelled}
 
@@ -165,9 +165,9 @@ completion_above entries (Some cq) h = leb-true _ _ (and_parts (is_within 1 8192
 
 -- ---- setups
 
-pub plain_spelled : (s : Setup) → keeps_ranges s ≡ true → Widths s → Spelled (plain s)
+pub canonical_spelled : (s : Setup) → keeps_ranges s ≡ true → Widths s → Spelled (canonical s)
 unfolding keeps_ranges
-plain_spelled s ranges widths =
+canonical_spelled s ranges widths =
     let q = and_parts (keeps_rings s && keeps_objects s) (keeps_threads s) ranges in
     let r = and_parts (keeps_rings s) (keeps_objects s) q.0 in
     let rings = and_parts (is_within 1 4096 s.entries) (keeps_completions s.entries s.cq) r.0 in
@@ -192,7 +192,7 @@ plain_spelled s ranges widths =
     let th = and_parts (nat_le (length s.threads) 16) (list_all (keeps_program (rounded s.entries)) s.threads) q.1 in
     let programs : list_all (keeps_program (rounded entries)) s.threads ≡ true = subst (λ (n : ℕ). list_all (keeps_program n) s.threads ≡ true) (sym same) th.1 in
     record {
-      plain = record { entries = size; completions = (completions, refl, other); memory = trimmed_is s.memory };
+      canonical = record { entries = size; completions = (completions, refl, other); memory = trimmed_is s.memory };
       ranges = and_from _ _ (and_from _ _ new_rings things) (and_from _ _ th.0 programs);
       widths = record { base = widths.base; threads = widths.threads };
     }

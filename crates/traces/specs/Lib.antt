@@ -1,6 +1,6 @@
 pub mod Spelling
 pub mod Faults
-pub mod Spots
+pub mod Cursors
 pub mod Limits
 pub mod Setups
 pub mod Reading

@@ -15,12 +15,12 @@ use Rattle.scenario.specs.declared.setup.Instruction.TheVariants.{Put, Push, Sto
 use Rattle.scenario.specs.declared.setup.Setup.{Setup}
 use Rattle.traces.specs.declared.fault.TraceFault.{TraceFault}
 use Rattle.traces.specs.declared.fault.TraceFault.TheVariants.{Magic, Truncated, Memory, Setup as SetupFault}
-use Rattle.traces.specs.Spots.{Spot}
+use Rattle.traces.specs.Cursors.{Cursor}
 use Rattle.traces.specs.Limits.{is_within, is_size, is_completion_size, is_new_name, is_end}
 use Rattle.traces.specs.Setups.{is_trimmed, magic2}
 use Rattle.traces.specs.Faults.{BeginsAs, IsCountedFault}
 
-abbrev pub past : ℕ → Spot → Spot
+abbrev pub past : ℕ → Cursor → Cursor
 past n s = record { offset = s.offset + n; rest = drop n s.rest }
 
 infixl 10 ◌>>=◌
@@ -41,47 +41,47 @@ Gives view (Err e) read = Fails e read
 abbrev pub kept : {A : Type 0} → Bool → ℕ → A → Result A TraceFault
 kept keeps at x = if keeps then Ok x else Err (SetupFault at)
 
-abbrev pub number_at : ℕ → Spot → Result (ℕ × Spot) TraceFault
+abbrev pub number_at : ℕ → Cursor → Result (ℕ × Cursor) TraceFault
 number_at width s = if nat_lt (length s.rest) width then Err Truncated else Ok (little_number width s.rest, past width s)
 
-abbrev pub bytes_at : ℕ → Spot → Result (List ℕ × Spot) TraceFault
+abbrev pub bytes_at : ℕ → Cursor → Result (List ℕ × Cursor) TraceFault
 bytes_at n s = if nat_lt (length s.rest) n then Err Truncated else Ok (take n s.rest, past n s)
 
 -- a number that passes a test
-unfoldable pub number_in : ℕ → (ℕ → Bool) → Spot → Result (ℕ × Spot) TraceFault
+unfoldable pub number_in : ℕ → (ℕ → Bool) → Cursor → Result (ℕ × Cursor) TraceFault
 number_in width test s = do
   n ← number_at width s
   kept (test n.0) s.offset n
 
 -- a length of 32 bits up to a limit
-abbrev pub count_at : ℕ → Spot → Result (ℕ × Spot) TraceFault
+abbrev pub count_at : ℕ → Cursor → Result (ℕ × Cursor) TraceFault
 count_at most s = number_in 4 (λ n. nat_le n most) s
 
 -- a length, and so many bytes
-unfoldable pub long_at : ℕ → Spot → Result (List ℕ × Spot) TraceFault
+unfoldable pub long_at : ℕ → Cursor → Result (List ℕ × Cursor) TraceFault
 long_at most s = do
   n ← count_at most s
   bytes_at n.0 n.1
 
 -- so many items, each behind those before it
-unfoldable pub items_at : {A : Type 0} → (List A → Spot → Result (A × Spot) TraceFault) → ℕ → List A → Spot → Result (List A × Spot) TraceFault
+unfoldable pub items_at : {A : Type 0} → (List A → Cursor → Result (A × Cursor) TraceFault) → ℕ → List A → Cursor → Result (List A × Cursor) TraceFault
 items_at item zero before s = Ok (before, s)
 items_at item (suc n) before s = do
   x ← item before s
   items_at item n (before ++ x.0 ∷ []) x.1
 
-unfoldable pub list_at : {A : Type 0} → ℕ → (List A → Spot → Result (A × Spot) TraceFault) → Spot → Result (List A × Spot) TraceFault
+unfoldable pub list_at : {A : Type 0} → ℕ → (List A → Cursor → Result (A × Cursor) TraceFault) → Cursor → Result (List A × Cursor) TraceFault
 list_at most item s = do
   n ← count_at most s
   items_at item n.0 [] n.1
 
-unfoldable pub name_at : List Object → Spot → Result (List ℕ × Spot) TraceFault
+unfoldable pub name_at : List Object → Cursor → Result (List ℕ × Cursor) TraceFault
 name_at before s = do
   n ← number_in 1 (is_within 1 16) s
   name ← bytes_at n.0 n.1
   kept (is_new_name before name.0) n.1.offset name
 
-unfoldable pub contents_of : ℕ → Spot → Result (Contents × Spot) TraceFault
+unfoldable pub contents_of : ℕ → Cursor → Result (Contents × Cursor) TraceFault
 contents_of kind s =
     if kind == 1 then (do
       bytes ← long_at 65536 s
@@ -93,12 +93,12 @@ contents_of kind s =
       counter ← number_in 8 (λ n. nat_lt n (2 ^ 64 - 1)) s
       Ok (EventFd counter.0, counter.1))
 
-unfoldable pub contents_at : Spot → Result (Contents × Spot) TraceFault
+unfoldable pub contents_at : Cursor → Result (Contents × Cursor) TraceFault
 contents_at s = do
   kind ← number_in 1 (is_within 1 3) s
   contents_of kind.0 kind.1
 
-unfoldable pub object_at : List Object → Spot → Result (Object × Spot) TraceFault
+unfoldable pub object_at : List Object → Cursor → Result (Object × Cursor) TraceFault
 object_at before s = do
   name ← name_at before s
   contents ← contents_at name.1
@@ -108,13 +108,13 @@ abbrev pub end_of : ℕ → End
 end_of n = if n == 0 then Whole else if n == 1 then Read else Write
 
 -- one of the object's ends
-unfoldable pub end_at : Option Object → Spot → Result (End × Spot) TraceFault
+unfoldable pub end_at : Option Object → Cursor → Result (End × Cursor) TraceFault
 end_at object s = do
   n ← number_in 1 (is_end object) s
   Ok (end_of n.0, n.1)
 
 -- an object that there is, and one of its ends
-unfoldable pub descriptor_at : List Object → Spot → Result (Descriptor × Spot) TraceFault
+unfoldable pub descriptor_at : List Object → Cursor → Result (Descriptor × Cursor) TraceFault
 descriptor_at objects s = do
   object ← number_in 1 (λ n. nat_lt n (length objects)) s
   end ← end_at (slice_get objects object.0) object.1
@@ -138,14 +138,14 @@ entry_of bytes = record {
   rest = take 16 (drop 48 bytes);
 }
 
-unfoldable pub put_at : ℕ → Spot → Result (Instruction × Spot) TraceFault
+unfoldable pub put_at : ℕ → Cursor → Result (Instruction × Cursor) TraceFault
 put_at slots s = do
   slot ← number_in 4 (λ n. nat_lt n slots) s
   entry ← bytes_at 64 slot.1
   Ok (Put slot.0 (entry_of entry.0), entry.1)
 
 -- The address is tested with the length, once that is read and keeps its own limit.
-unfoldable pub store_at : Spot → Result (Instruction × Spot) TraceFault
+unfoldable pub store_at : Cursor → Result (Instruction × Cursor) TraceFault
 store_at s = do
   address ← number_at 4 s
   n ← count_at 4096 address.1
@@ -153,24 +153,24 @@ store_at s = do
   bytes ← bytes_at inside.0 inside.1
   Ok (Store address.0 bytes.0, bytes.1)
 
-unfoldable pub enter_at : Spot → Result (Instruction × Spot) TraceFault
+unfoldable pub enter_at : Cursor → Result (Instruction × Cursor) TraceFault
 enter_at s = do
   to_submit ← number_at 4 s
   min_complete ← number_at 4 to_submit.1
   flags ← number_at 4 min_complete.1
   Ok (Enter to_submit.0 min_complete.0 flags.0, flags.1)
 
-unfoldable pub push_at : Spot → Result (Instruction × Spot) TraceFault
+unfoldable pub push_at : Cursor → Result (Instruction × Cursor) TraceFault
 push_at s = do
   index ← number_at 4 s
   Ok (Push index.0, index.1)
 
-unfoldable pub close_at : Spot → Result (Instruction × Spot) TraceFault
+unfoldable pub close_at : Cursor → Result (Instruction × Cursor) TraceFault
 close_at s = do
   fd ← number_at 4 s
   Ok (Close (cast_signed w32 fd.0), fd.1)
 
-unfoldable pub instruction_of : ℕ → ℕ → Spot → Result (Instruction × Spot) TraceFault
+unfoldable pub instruction_of : ℕ → ℕ → Cursor → Result (Instruction × Cursor) TraceFault
 instruction_of slots kind s =
     if kind == 1 then put_at slots s
     else if kind == 2 then push_at s
@@ -179,21 +179,21 @@ instruction_of slots kind s =
     else if kind == 5 then Ok (Reap, s)
     else close_at s
 
-unfoldable pub instruction_at : ℕ → Spot → Result (Instruction × Spot) TraceFault
+unfoldable pub instruction_at : ℕ → Cursor → Result (Instruction × Cursor) TraceFault
 instruction_at slots s = do
   kind ← number_in 1 (is_within 1 6) s
   instruction_of slots kind.0 kind.1
 
-unfoldable pub program_at : ℕ → Spot → Result (List Instruction × Spot) TraceFault
+unfoldable pub program_at : ℕ → Cursor → Result (List Instruction × Cursor) TraceFault
 program_at slots s = list_at 4096 (λ before. instruction_at slots) s
 
 -- A last byte of 0 is a fault of the length.
-unfoldable pub memory_at : Spot → Result (List ℕ × Spot) TraceFault
+unfoldable pub memory_at : Cursor → Result (List ℕ × Cursor) TraceFault
 memory_at s = do
   bytes ← long_at 65536 s
   kept (is_trimmed bytes.0) s.offset bytes
 
-unfoldable pub setup_at : Spot → Result (Setup × Spot) TraceFault
+unfoldable pub setup_at : Cursor → Result (Setup × Cursor) TraceFault
 setup_at s = do
   entries ← number_in 2 (is_size 4096) s
   completions ← number_in 2 (is_completion_size entries.0) entries.1
@@ -219,11 +219,11 @@ setup_at s = do
   )
 
 -- behind the first eight bytes
-abbrev pub behind_magic : List ℕ → Spot
+abbrev pub behind_magic : List ℕ → Cursor
 behind_magic bytes = record { offset = 8; rest = drop 8 bytes }
 
 -- the first fault of a setup and its events
-abbrev pub IsBodyFault : Result (Setup × Spot) TraceFault → TraceFault → Type 0
+abbrev pub IsBodyFault : Result (Setup × Cursor) TraceFault → TraceFault → Type 0
 IsBodyFault (Ok setup) fault = IsCountedFault setup.1.rest fault
 IsBodyFault (Err first) fault = fault ≡ first
 

@@ -89,22 +89,22 @@ completion_size entries None = 2 * rounded entries
 completion_size entries (Some cq) = rounded cq
 
 -- the same setup with rounded sizes and its memory cut to the last byte that isn't 0
-abbrev pub plain : Setup → Setup
-plain s = record s {
+abbrev pub canonical : Setup → Setup
+canonical s = record s {
   entries = rounded s.entries;
   cq = Some (completion_size s.entries s.cq);
   memory = trimmed s.memory;
 }
 
 -- a setup with rounded sizes, and no 0 as the last byte of its memory
-pub record IsPlain (s : Setup) : Type 0 where
+pub record IsCanonical (s : Setup) : Type 0 where
   pub entries : IsTrue (is_size 4096 s.entries)
   pub completions : (n : ℕ) × (s.cq ≡ Some n) × IsTrue (is_size 8192 n)
   pub memory : IsTrue (is_trimmed s.memory)
 
 -- The bytes are the trace of a setup that a run can start from, and of the events.
 pub record IsTrace2 (setup : Setup) (events : List Event) (bytes : List ℕ) : Type 0 where
-  pub plain : IsPlain setup
+  pub canonical : IsCanonical setup
   pub starts : setup_refusal setup ≡ None
   pub widths : Widths setup
   pub are_events : AreEvents events

@@ -16,9 +16,9 @@ pub(crate) struct Cursor<'a> {
 
 impl<'a> Model for Cursor<'a> {
     ghost use Rattle.std.specs.Prelude.{drop, length, ◌≤◌};
-    ghost use Rattle.traces.specs.Spots.{Spot};
+    ghost use Rattle.traces.specs.Cursors.{Cursor};
 
-    ghost Value = { Spot };
+    ghost Value = { Cursor };
 
     ghost view = { λ c. record { offset = c.offset; rest = drop c.offset c.bytes.now } };
 

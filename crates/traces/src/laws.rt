@@ -7,7 +7,7 @@ ghost use Rattle.scenario.specs.Setups.{setup_refusal};
 ghost use Rattle.traces.specs.declared.fault.TraceFault.{TraceFault};
 ghost use Rattle.traces.specs.Faults.{IsFault};
 ghost use Rattle.traces.specs.Reading.{IsFault2};
-ghost use Rattle.traces.specs.Setups.{plain, IsTrace2};
+ghost use Rattle.traces.specs.Setups.{canonical, IsTrace2};
 ghost use Rattle.traces.specs.Spelling.{most_events, has_transfer, IsTrace};
 
 use crate::fault::TraceFault;
@@ -72,7 +72,7 @@ pub fn setup_and_events_again(
     requires starts { setup_refusal setup.now ≡ None }
     requires few { length events.now ≤ most_events }
     requires transfers { IsTrue (list_all has_transfer events.now) }
-    ensures setup { IfOk result (λ again. again.0 ≡ plain setup.now) }
+    ensures setup { IfOk result (λ again. again.0 ≡ canonical setup.now) }
     ensures events { IfOk result (λ again. again.1.items ≡ events.now) }
     ensures memory { IfErr result (λ fault. fault ≡ TraceFault.Memory) }
 {

@@ -3,11 +3,11 @@ ghost use Rattle.std.specs.Prelude.{◌≡◌, ◌≤◌, ◌++◌, ◌<◌, ◌
 ghost use Rattle.std.specs.List.{list_all};
 ghost use Rattle.scenario.specs.declared.event.Event.{Event};
 ghost use Rattle.scenario.specs.declared.setup.Setup.{Setup};
-ghost use Rattle.traces.specs.Spots.{Spot};
+ghost use Rattle.traces.specs.Cursors.{Cursor};
 ghost use Rattle.traces.specs.Spelling.{counted_bytes, magic, most_events, has_transfer, AreEvents, IsTrace};
 ghost use Rattle.traces.specs.Faults.{BeginsAs, IsFault};
 ghost use Rattle.scenario.specs.Setups.{setup_refusal};
-ghost use Rattle.traces.specs.Setups.{plain, magic2, trace2_bytes, IsTrace2};
+ghost use Rattle.traces.specs.Setups.{canonical, magic2, trace2_bytes, IsTrace2};
 ghost use Rattle.traces.specs.Reading.{setup_at, behind_magic, IsBodyFault, IsFault2};
 
 use crate::cursor::Cursor;
@@ -24,7 +24,7 @@ const MAGIC: [u8; 8] = *b"URTRACE2";
 
 // The setup that stands at the place, and the events behind it.
 fn read_body(alloc: Global, cursor: Cursor<'_>) -> Result<(Setup, Vec<Event>), TraceFault>
-    ensures found { IfOk result (λ found. (s : Spot) × (setup_at cursor.entry ≡ Ok (found.0, s))
+    ensures found { IfOk result (λ found. (s : Cursor) × (setup_at cursor.entry ≡ Ok (found.0, s))
         × (s.rest ≡ counted_bytes found.1.items) × AreEvents found.1.items) }
     ensures fault { IfErr result (λ fault. (fault ≡ TraceFault.Memory) ⊎ IsBodyFault (setup_at cursor.entry) fault) }
 {
@@ -75,7 +75,7 @@ pub fn write_trace2(alloc: Global, setup: &Setup, events: &[Event]) -> Result<Ve
     requires starts { setup_refusal setup.now ≡ None }
     requires few { length events.now ≤ most_events }
     requires transfers { IsTrue (list_all has_transfer events.now) }
-    ensures { IfOk result (λ bytes. IsTrace2 (plain setup.now) events.now bytes.items) }
+    ensures { IfOk result (λ bytes. IsTrace2 (canonical setup.now) events.now bytes.items) }
 {
     let mut out = Vec::new(alloc);
     out.extend_from_slice(&MAGIC)?;
@@ -88,11 +88,11 @@ pub fn write_trace2(alloc: Global, setup: &Setup, events: &[Event]) -> Result<Ve
 pub fn migrate(alloc: Global, setup: &Setup, bytes: &[u8]) -> Result<Vec<u8>, TraceFault>
     requires { setup_refusal setup.now ≡ None }
     // What is migrated has the setup and just those events.
-    ensures migrated { IfOk result (λ made. (events : List Event) × IsTrace events bytes.now × IsTrace2 (plain setup.now) events made.items) }
+    ensures migrated { IfOk result (λ made. (events : List Event) × IsTrace events bytes.now × IsTrace2 (canonical setup.now) events made.items) }
 
     // A trace of the first form is migrated, unless memory runs out.
     ensures only { (events : List Event) → IsTrace events bytes.now →
-        MatchResult result (λ made. IsTrace2 (plain setup.now) events made.items) (λ fault. fault ≡ TraceFault.Memory) }
+        MatchResult result (λ made. IsTrace2 (canonical setup.now) events made.items) (λ fault. fault ≡ TraceFault.Memory) }
 
     // Which fault it is.
     ensures fault { IfErr result (λ fault. (fault ≡ TraceFault.Memory) ⊎ IsFault bytes.now fault) }

@@ -10,7 +10,7 @@ ghost use Rattle.scenario.specs.declared.setup.Instruction.{Instruction};
 ghost use Rattle.scenario.specs.declared.setup.Instruction.TheVariants.{Put};
 ghost use Rattle.scenario.specs.declared.setup.Setup.{Setup};
 ghost use Rattle.traces.specs.Limits.{is_within, all_behind, keeps_contents, keeps_object, end_number, keeps_descriptor, keeps_instruction, keeps_program, keeps_completions, keeps_rings, keeps_ranges, HasWidths, Widths};
-ghost use Rattle.traces.specs.Setups.{list_bytes, long_bytes, name_bytes, contents_bytes, object_bytes, descriptor_bytes, instruction_bytes, program_bytes, options_number, rings_bytes, setup_bytes, trimmed, completion_size, plain};
+ghost use Rattle.traces.specs.Setups.{list_bytes, long_bytes, name_bytes, contents_bytes, object_bytes, descriptor_bytes, instruction_bytes, program_bytes, options_number, rings_bytes, setup_bytes, trimmed, completion_size, canonical};
 
 use byteorder::{ByteOrder, LittleEndian};
 use entries::Sqe;
@@ -268,7 +268,7 @@ fn options_number(sqpoll: bool, submit_all: bool) -> u8
 
 fn push_rings(out: &mut Vec<u8>, setup: &Setup) -> Result<(), AllocError>
     requires { IsTrue (keeps_rings setup.now) }
-    ensures spelled { OnOk result (out.new.items ≡ out.old.items ++ rings_bytes (plain setup.now)) }
+    ensures spelled { OnOk result (out.new.items ≡ out.old.items ++ rings_bytes (canonical setup.now)) }
     ensures base { OnOk result (setup.now.base < 2 ^ 32) }
 {
     push_u16(out, ring_size(setup.entries) as u16)?;
@@ -287,7 +287,7 @@ fn push_memory(out: &mut Vec<u8>, memory: &[u8]) -> Result<(), AllocError>
 /// The setup with rounded sizes, and its memory up to the last byte that isn't 0.
 pub(crate) fn push_setup(out: &mut Vec<u8>, setup: &Setup) -> Result<(), AllocError>
     requires { IsTrue (keeps_ranges setup.now) }
-    ensures spelled { OnOk result (out.new.items ≡ out.old.items ++ setup_bytes (plain setup.now)) }
+    ensures spelled { OnOk result (out.new.items ≡ out.old.items ++ setup_bytes (canonical setup.now)) }
     ensures widths { OnOk result (Widths setup.now) }
 {
     push_rings(out, setup)?;

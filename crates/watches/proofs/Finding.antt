@@ -10,7 +10,7 @@ use Rattle.watches.specs.declared.watched.Break.{Break}
 use Rattle.watches.specs.declared.stopping.Stop.{Stop}
 use Rattle.watches.specs.declared.stopping.Stop.TheVariants.{Change, Met, Start, End}
 use Rattle.watches.specs.Sameness.{same}
-use Rattle.watches.specs.Watching.{Watching}
+use Rattle.watches.specs.Watchpoints.{Stops}
 use Rattle.watches.specs.Stops.{seen, changes, meets, stop_before, stop_behind, first_stop, moments_before, reverse_stop, forward_stop, Stays, NoneMet, Unchanged, Unmet, Quiet, IsEarlier, IsLater}
 use Rattle.watches.proofs.Same.{same_decides}
 
@@ -116,29 +116,29 @@ the_earlier w ps End h = absurd h
 
 -- ---- on
 
-goes_on : (w : Walk) (v : Watching) (from to k : ℕ) → Quiet w v from to → from < k → k ≤ to → stop_behind w v k ≡ None
+goes_on : (w : Walk) (v : Stops) (from to k : ℕ) → Quiet w v from to → from < k → k ≤ to → stop_behind w v k ≡ None
 goes_on w v from to k q a b =
     let e : k - 1 + 1 ≡ k = omega arith in
     let h = q (k - 1) (omega arith) (omega arith) in
-    let still : changes (seen w (k - 1)) (seen w k) v.places ≡ false = unchanged (seen w (k - 1)) (seen w k) v.places (subst (λ (i : ℕ). Stays (seen w (k - 1)) (seen w i) v.places) e h.0) in
-    let none : meets (seen w (k - 1)) (seen w k) v.breaks ≡ false = unmet (seen w (k - 1)) (seen w k) v.breaks (subst (λ (i : ℕ). NoneMet (seen w (k - 1)) (seen w i) v.breaks) e h.1) in
+    let still : changes (seen w (k - 1)) (seen w k) v.watchpoints ≡ false = unchanged (seen w (k - 1)) (seen w k) v.watchpoints (subst (λ (i : ℕ). Stays (seen w (k - 1)) (seen w i) v.watchpoints) e h.0) in
+    let none : meets (seen w (k - 1)) (seen w k) v.breakpoints ≡ false = unmet (seen w (k - 1)) (seen w k) v.breakpoints (subst (λ (i : ℕ). NoneMet (seen w (k - 1)) (seen w i) v.breakpoints) e h.1) in
     rw (still, none) refl
 
-changes_behind : (w : Walk) (v : Watching) (m : ℕ) → 0 < m → (Unchanged w v.places (m - 1) → ⊥) → stop_behind w v m ≡ Some (Change m)
+changes_behind : (w : Walk) (v : Stops) (m : ℕ) → 0 < m → (Unchanged w v.watchpoints (m - 1) → ⊥) → stop_behind w v m ≡ Some (Change m)
 changes_behind w v m some h =
     let e : m - 1 + 1 ≡ m = omega arith in
-    let there : changes (seen w (m - 1)) (seen w m) v.places ≡ true = changed (seen w (m - 1)) (seen w m) v.places (λ s. h (subst (λ (i : ℕ). Stays (seen w (m - 1)) (seen w i) v.places) (sym e) s)) in
+    let there : changes (seen w (m - 1)) (seen w m) v.watchpoints ≡ true = changed (seen w (m - 1)) (seen w m) v.watchpoints (λ s. h (subst (λ (i : ℕ). Stays (seen w (m - 1)) (seen w i) v.watchpoints) (sym e) s)) in
     rw there refl
 
-meets_behind : (w : Walk) (v : Watching) (m : ℕ) → 0 < m → Unchanged w v.places (m - 1) → (Unmet w v.breaks (m - 1) → ⊥) → stop_behind w v m ≡ Some (Met m)
+meets_behind : (w : Walk) (v : Stops) (m : ℕ) → 0 < m → Unchanged w v.watchpoints (m - 1) → (Unmet w v.breakpoints (m - 1) → ⊥) → stop_behind w v m ≡ Some (Met m)
 meets_behind w v m some s h =
     let e : m - 1 + 1 ≡ m = omega arith in
-    let still : changes (seen w (m - 1)) (seen w m) v.places ≡ false = unchanged (seen w (m - 1)) (seen w m) v.places (subst (λ (i : ℕ). Stays (seen w (m - 1)) (seen w i) v.places) e s) in
-    let there : meets (seen w (m - 1)) (seen w m) v.breaks ≡ true = met (seen w (m - 1)) (seen w m) v.breaks (λ n. h (subst (λ (i : ℕ). NoneMet (seen w (m - 1)) (seen w i) v.breaks) (sym e) n)) in
+    let still : changes (seen w (m - 1)) (seen w m) v.watchpoints ≡ false = unchanged (seen w (m - 1)) (seen w m) v.watchpoints (subst (λ (i : ℕ). Stays (seen w (m - 1)) (seen w i) v.watchpoints) e s) in
+    let there : meets (seen w (m - 1)) (seen w m) v.breakpoints ≡ true = met (seen w (m - 1)) (seen w m) v.breakpoints (λ n. h (subst (λ (i : ℕ). NoneMet (seen w (m - 1)) (seen w i) v.breakpoints) (sym e) n)) in
     rw (still, there) refl
 
 -- there is one later stop
-pub the_later : (w : Walk) (v : Watching) (s : Stop) → IsLater w v s → s ≡ forward_stop w v
+pub the_later : (w : Walk) (v : Stops) (s : Stop) → IsLater w v s → s ≡ forward_stop w v
 unfolding forward_stop
 the_later w v (Change m) h = sym (soonest (stop_behind w v) End (Change m) (w.at + 1) (length w.events - w.at) m (omega arith) (omega (arith, h.0, h.1)) (changes_behind w v m (omega (arith, h.0)) h.2) (λ k x y. goes_on w v w.at (m - 1) k h.3 (omega arith) (omega arith)))
 the_later w v (Met m) h = sym (soonest (stop_behind w v) End (Met m) (w.at + 1) (length w.events - w.at) m (omega arith) (omega (arith, h.0, h.1)) (meets_behind w v m (omega (arith, h.0)) h.2 h.3) (λ k x y. goes_on w v w.at (m - 1) k h.4 (omega arith) (omega arith)))

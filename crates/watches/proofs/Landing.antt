@@ -8,7 +8,7 @@ use Rattle.machine.specs.declared.whole.Machine.{Machine}
 use Rattle.machine.specs.Whole.{view}
 use Rattle.inverse_log.specs.Walks.{Walk, here, moved}
 use Rattle.watches.specs.declared.watched.Break.{Break}
-use Rattle.watches.specs.Watching.{Watching}
+use Rattle.watches.specs.Watchpoints.{Stops}
 use Rattle.watches.specs.declared.stopping.Stop.{Stop}
 use Rattle.watches.specs.declared.stopping.Stop.TheVariants.{Change, Met, Start, End}
 use Rattle.watches.specs.Stops.{seen, NoneMet, Unchanged, Unmet, Quiet, IsStop, IsLater, position_of}
@@ -52,25 +52,25 @@ went_on w u v e g h =
     (g ∙ ap (λ (x : Walk). moved x (min (u.at + 1) (length u.events))) e ∙ ap (moved w) (sym at), omega (arith, long, at))
 
 -- one event more that stops nothing
-pub quiet_more : (w : Walk) (ws : Watching) (from to : ℕ) → Quiet w ws from to → Unchanged w ws.places to × Unmet w ws.breaks to → Quiet w ws from (to + 1)
+pub quiet_more : (w : Walk) (ws : Stops) (from to : ℕ) → Quiet w ws from to → Unchanged w ws.watchpoints to × Unmet w ws.breakpoints to → Quiet w ws from (to + 1)
 quiet_more w ws from to q h k a b = by (cases_lt k to)
   where
-    by : (k < to) ⊎ (to ≤ k) → Unchanged w ws.places k × Unmet w ws.breaks k
+    by : (k < to) ⊎ (to ≤ k) → Unchanged w ws.watchpoints k × Unmet w ws.breakpoints k
     by (inl c) = q k a c
     by (inr c) =
         let e : to ≡ k = omega arith in
-        subst (λ (n : ℕ). Unchanged w ws.places n × Unmet w ws.breaks n) e h
+        subst (λ (n : ℕ). Unchanged w ws.watchpoints n × Unmet w ws.breakpoints n) e h
 
 -- the walker came further by an event that stops nothing
-pub quiet_on : (w v : Walk) (ws : Watching) (at : ℕ) → v ≡ moved w v.at → v.at ≡ at + 1 → IsStop v ws None → Quiet w ws w.at at → Quiet w ws w.at v.at
+pub quiet_on : (w v : Walk) (ws : Stops) (at : ℕ) → v ≡ moved w v.at → v.at ≡ at + 1 → IsStop v ws None → Quiet w ws w.at at → Quiet w ws w.at v.at
 quiet_on w v ws at e g h q =
     let k : IsStop (moved w v.at) ws None = subst (λ (x : Walk). IsStop x ws None) e h in
     let n : v.at - 1 ≡ at = omega arith in
-    let here : Unchanged w ws.places at × Unmet w ws.breaks at = subst (λ (m : ℕ). Unchanged w ws.places m × Unmet w ws.breaks m) n k in
+    let here : Unchanged w ws.watchpoints at × Unmet w ws.breakpoints at = subst (λ (m : ℕ). Unchanged w ws.watchpoints m × Unmet w ws.breakpoints m) n k in
     subst (Quiet w ws w.at) (sym g) (quiet_more w ws w.at at q here)
 
 -- the walker came further by an event that stops there
-pub stops_there : (w v : Walk) (ws : Watching) (at : ℕ) (s : Stop) → v ≡ moved w v.at → v.at ≡ at + 1 → w.at ≤ at → v.at ≤ length w.events → IsStop v ws (Some s) → Quiet w ws w.at at → IsLater w ws s × (position_of w s ≡ v.at)
+pub stops_there : (w v : Walk) (ws : Stops) (at : ℕ) (s : Stop) → v ≡ moved w v.at → v.at ≡ at + 1 → w.at ≤ at → v.at ≤ length w.events → IsStop v ws (Some s) → Quiet w ws w.at at → IsLater w ws s × (position_of w s ≡ v.at)
 stops_there w v ws at s e g low high h q = by s (subst (λ (x : Walk). IsStop x ws (Some s)) e h)
   where
     n : v.at - 1 ≡ at
@@ -82,7 +82,7 @@ stops_there w v ws at s e g low high h q = by s (subst (λ (x : Walk). IsStop x 
     by : (t : Stop) → IsStop (moved w v.at) ws (Some t) → IsLater w ws t × (position_of w t ≡ v.at)
     by (Change m) k = (later m k.0 k.1, k.0)
       where
-        later : (m : ℕ) → m ≡ v.at → (Unchanged w ws.places (v.at - 1) → ⊥) → IsLater w ws (Change m)
+        later : (m : ℕ) → m ≡ v.at → (Unchanged w ws.watchpoints (v.at - 1) → ⊥) → IsLater w ws (Change m)
         later m f c = subst (λ (i : ℕ). IsLater w ws (Change i)) (sym f) (omega arith, high, c, quiet)
     by (Met m) k = (subst (λ (i : ℕ). IsLater w ws (Met i)) (sym k.0) (omega arith, high, k.1, k.2, quiet), k.0)
     by Start k = absurd k

@@ -1,3 +1,3 @@
-pub mod Watching
+pub mod Watchpoints
 pub mod Stops
 pub mod Sameness

@@ -10,7 +10,7 @@ use Rattle.inverse_log.specs.Walks.{Walk}
 use Rattle.watches.specs.declared.watched.Break.{Break}
 use Rattle.watches.specs.declared.stopping.Stop.{Stop}
 use Rattle.watches.specs.declared.stopping.Stop.TheVariants.{Change, Met, Start, End}
-use Rattle.watches.specs.Watching.{Watching}
+use Rattle.watches.specs.Watchpoints.{Stops}
 use Rattle.watches.specs.Sameness.{same}
 
 -- whether a record names a place
@@ -36,10 +36,10 @@ abbrev pub stop_before : Walk → List Place → ℕ → Option Stop
 stop_before w ps m = if changes (seen w m) (seen w (m + 1)) ps then Some (Change m) else None
 
 -- where the event before a moment stops a walk on, if it does: by a change, or else by a break that is met
-abbrev pub stop_behind : Walk → Watching → ℕ → Option Stop
+abbrev pub stop_behind : Walk → Stops → ℕ → Option Stop
 stop_behind w v m =
-    if changes (seen w (m - 1)) (seen w m) v.places then Some (Change m)
-    else if meets (seen w (m - 1)) (seen w m) v.breaks then Some (Met m)
+    if changes (seen w (m - 1)) (seen w m) v.watchpoints then Some (Change m)
+    else if meets (seen w (m - 1)) (seen w m) v.breakpoints then Some (Met m)
     else None
 
 -- the first of some moments that stops, or else where the walk ends
@@ -57,7 +57,7 @@ unfoldable pub reverse_stop : Walk → List Place → Stop
 reverse_stop w ps = first_stop (stop_before w ps) Start (moments_before w.at)
 
 -- where a walk on stops
-unfoldable pub forward_stop : Walk → Watching → Stop
+unfoldable pub forward_stop : Walk → Stops → Stop
 forward_stop w v = first_stop (stop_behind w v) End (range_with_len (w.at + 1) (length w.events - w.at))
 
 -- ---- what is said by it
@@ -88,21 +88,21 @@ IsEarlier w ps (Met m) = ⊥
 IsEarlier w ps End = ⊥
 
 -- from one moment on up to another nothing stops
-abbrev pub Quiet : Walk → Watching → ℕ → ℕ → Type 0
-Quiet w v from to = (k : ℕ) → from ≤ k → k < to → Unchanged w v.places k × Unmet w v.breaks k
+abbrev pub Quiet : Walk → Stops → ℕ → ℕ → Type 0
+Quiet w v from to = (k : ℕ) → from ≤ k → k < to → Unchanged w v.watchpoints k × Unmet w v.breakpoints k
 
 -- The least moment past the position to which an event has changed one of the places, or else met one of the breaks; or the end, where there is none.
-abbrev pub IsLater : Walk → Watching → Stop → Type 0
-IsLater w v (Change m) = (w.at < m) × (m ≤ length w.events) × (Unchanged w v.places (m - 1) → ⊥) × Quiet w v w.at (m - 1)
-IsLater w v (Met m) = (w.at < m) × (m ≤ length w.events) × Unchanged w v.places (m - 1) × (Unmet w v.breaks (m - 1) → ⊥) × Quiet w v w.at (m - 1)
+abbrev pub IsLater : Walk → Stops → Stop → Type 0
+IsLater w v (Change m) = (w.at < m) × (m ≤ length w.events) × (Unchanged w v.watchpoints (m - 1) → ⊥) × Quiet w v w.at (m - 1)
+IsLater w v (Met m) = (w.at < m) × (m ≤ length w.events) × Unchanged w v.watchpoints (m - 1) × (Unmet w v.breakpoints (m - 1) → ⊥) × Quiet w v w.at (m - 1)
 IsLater w v End = Quiet w v w.at (length w.events)
 IsLater w v Start = ⊥
 
 -- whether the event before the position stops there
-abbrev pub IsStop : Walk → Watching → Option Stop → Type 0
-IsStop w v None = Unchanged w v.places (w.at - 1) × Unmet w v.breaks (w.at - 1)
-IsStop w v (Some (Change m)) = (m ≡ w.at) × (Unchanged w v.places (w.at - 1) → ⊥)
-IsStop w v (Some (Met m)) = (m ≡ w.at) × Unchanged w v.places (w.at - 1) × (Unmet w v.breaks (w.at - 1) → ⊥)
+abbrev pub IsStop : Walk → Stops → Option Stop → Type 0
+IsStop w v None = Unchanged w v.watchpoints (w.at - 1) × Unmet w v.breakpoints (w.at - 1)
+IsStop w v (Some (Change m)) = (m ≡ w.at) × (Unchanged w v.watchpoints (w.at - 1) → ⊥)
+IsStop w v (Some (Met m)) = (m ≡ w.at) × Unchanged w v.watchpoints (w.at - 1) × (Unmet w v.breakpoints (w.at - 1) → ⊥)
 IsStop w v (Some Start) = ⊥
 IsStop w v (Some End) = ⊥
 

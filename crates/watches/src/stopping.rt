@@ -26,8 +26,8 @@ pub enum Stop {
 /// The latest earlier moment whose event changes a watched place, or the start. It is found in the
 /// records, without moving.
 pub fn earlier(walker: &Walker, watches: &Watches) -> Stop
-    ensures stop { result ≡ reverse_stop walker.now watches.now.places }
-    ensures meaning { IsEarlier walker.now watches.now.places result }
+    ensures stop { result ≡ reverse_stop walker.now watches.now.watchpoints }
+    ensures meaning { IsEarlier walker.now watches.now.watchpoints result }
 {
     earlier_among(walker, watches.places())
 }
@@ -35,10 +35,10 @@ pub fn earlier(walker: &Walker, watches: &Watches) -> Stop
 /// Goes back to the latest earlier moment whose event changes a watched place, or to the start. It is
 /// found in the records, without moving, and reached by a jump.
 pub fn rcont(walker: &mut Walker, watches: &Watches) -> Result<Stop, AllocError>
-    ensures stop { IfOk result (λ stop. stop ≡ reverse_stop walker.old watches.now.places) }
-    ensures meaning { IfOk result (IsEarlier walker.old watches.now.places) }
+    ensures stop { IfOk result (λ stop. stop ≡ reverse_stop walker.old watches.now.watchpoints) }
+    ensures meaning { IfOk result (IsEarlier walker.old watches.now.watchpoints) }
     ensures lands { IfOk result (λ stop. walker.new ≡ jumped walker.old (position_of walker.old stop)) }
-    ensures near { walker.old.at ≤ position_of walker.old (reverse_stop walker.old watches.now.places) + walker.old.window → IsOk result }
+    ensures near { walker.old.at ≤ position_of walker.old (reverse_stop walker.old watches.now.watchpoints) + walker.old.window → IsOk result }
     ensures err { OnErr result (walker.new ≡ walker.old) }
 {
     let stop = earlier(walker, watches);

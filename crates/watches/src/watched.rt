@@ -1,7 +1,7 @@
 //! Watched places, and values to stop at.
 ghost use Rattle.std.specs.Prelude.{◌≡◌, ◌+◌, ◌<◌, ◌≤◌, true, length, IsOk, IfOk, OnOk, OnErr};
 ghost use Rattle.places.specs.Places.{same_place};
-ghost use Rattle.watches.specs.Watching.{nothing, watched, broken, is_watched};
+ghost use Rattle.watches.specs.Watchpoints.{nothing, watched, broken, is_watched};
 
 use places::{Place, Value};
 use std::alloc::{AllocError, Global};
@@ -25,11 +25,11 @@ pub struct Watches {
 }
 
 impl Model for Watches {
-    ghost use Rattle.watches.specs.Watching.{Watching, Few};
+    ghost use Rattle.watches.specs.Watchpoints.{Stops, Few};
 
-    ghost Value = { Watching };
+    ghost Value = { Stops };
 
-    ghost view = { λ w. record { places = w.places.items; breaks = w.breaks.items } };
+    ghost view = { λ w. record { watchpoints = w.places.items; breakpoints = w.breaks.items } };
 
     ghost invariant = { λ w. Few w.places.items w.breaks.items };
 }
@@ -47,23 +47,23 @@ impl Watches {
 
     /// The watched places, each once.
     pub fn places(&self) -> &[Place]
-        ensures value { result.now ≡ self.now.places }
-        ensures few { length self.now.places ≤ 64 }
+        ensures value { result.now ≡ self.now.watchpoints }
+        ensures few { length self.now.watchpoints ≤ 64 }
     {
         self.places.as_slice()
     }
 
     /// The breaks, in the order in which they were made.
     pub fn breaks(&self) -> &[Break]
-        ensures value { result.now ≡ self.now.breaks }
-        ensures few { length self.now.breaks ≤ 64 }
+        ensures value { result.now ≡ self.now.breakpoints }
+        ensures few { length self.now.breakpoints ≤ 64 }
     {
         self.breaks.as_slice()
     }
 
     /// How many watches there are once a place is watched.
     pub fn count_with(&self, place: Place) -> usize
-        ensures value { result ≡ length (watched self.now place).places }
+        ensures value { result ≡ length (watched self.now place).watchpoints }
         ensures few { result ≤ 65 }
     {
         let count = self.places.len();
@@ -76,10 +76,10 @@ impl Watches {
 
     /// Watches a place, and tells how many watches there are now. A watch that is there isn't added twice.
     pub fn watch(&mut self, place: Place) -> Result<u32, AllocError>
-        requires { length self.old.places < 64 }
+        requires { length self.old.watchpoints < 64 }
         ensures ok { OnOk result (self.new ≡ watched self.old place) }
-        ensures there { is_watched self.old.places place ≡ true → IsOk result }
-        ensures number { IfOk result (λ n. n ≡ length self.new.places) }
+        ensures there { is_watched self.old.watchpoints place ≡ true → IsOk result }
+        ensures number { IfOk result (λ n. n ≡ length self.new.watchpoints) }
         ensures err { OnErr result (self.new ≡ self.old) }
     {
         if !has_place(&self.places, place) {
@@ -90,9 +90,9 @@ impl Watches {
 
     /// Stops at a value of a place from now on, and tells how many breaks there are now.
     pub fn break_at(&mut self, place: Place, value: Value) -> Result<u32, AllocError>
-        requires { length self.old.breaks < 64 }
+        requires { length self.old.breakpoints < 64 }
         ensures ok { OnOk result (self.new ≡ broken self.old place value) }
-        ensures number { IfOk result (λ n. n ≡ length self.new.breaks) }
+        ensures number { IfOk result (λ n. n ≡ length self.new.breakpoints) }
         ensures err { OnErr result (self.new ≡ self.old) }
     {
         self.breaks.push(Break { place, value })?;

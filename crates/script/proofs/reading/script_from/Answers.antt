@@ -7,7 +7,7 @@ use Rattle.script.specs.Lists.{keyed}
 use Rattle.script.specs.Memory.{memory_of}
 use Rattle.script.specs.Objects.{objects_of, fds_of}
 use Rattle.script.specs.Scripts.{is_script_key, entries_of, cq_of, flag_of, base_of, threads_of, schedule_of}
-use Rattle.script.proofs.Chain.{planned, scripted}
+use Rattle.script.proofs.Chain.{scenario_with, scripted}
 use Rattle.script.proofs.Starts.{startable}
 use Rattle.script.proofs.reading.script_from.Goals as goal
 
@@ -42,5 +42,5 @@ returns c =
     (ap (fds_of c.in_ok-objects.objects) (sym c.get-8.ensures) ∙ c.in_ok-fds.ensures)
     (ap (λ n. threads_of n (get (codes "threads") d)) (sym c.ring_size.ensures) ∙ ap (threads_of c.ring_size.result) (sym c.get-9.ensures) ∙ c.in_ok-threads.ensures)
     (ap schedule_of (sym c.get-10.ensures) ∙ c.in_ok-schedule.ensures)
-    ∙ ap (λ objects. Ok (planned entries cq sqpoll submit_all base memory objects fds threads schedule)) (sym c.into_items.ensures)
+    ∙ ap (λ objects. Ok (scenario_with entries cq sqpoll submit_all base memory objects fds threads schedule)) (sym c.into_items.ensures)
     ∙ ap Ok (sym c.of.ensures)

@@ -1,4 +1,4 @@
-use Rattle.traces.specs.Setups.{long_bytes, list_bytes, object_bytes, descriptor_bytes, program_bytes, rings_bytes, trimmed, plain}
+use Rattle.traces.specs.Setups.{long_bytes, list_bytes, object_bytes, descriptor_bytes, program_bytes, rings_bytes, trimmed, canonical}
 use Rattle.traces.proofs.Written.{numbers_small}
 use Rattle.traces.proofs.Trimming.{asked, chained}
 use Rattle.traces.proofs.setup_writing.push_setup.Goals as goal
@@ -37,5 +37,5 @@ returns-clause-spelled c =
     let objects = rw c.as_slice-2.ensures at c.in_ok-push_objects.ensures in
     let fds = rw c.as_slice-3.ensures at c.in_ok-push_descriptors.ensures in
     let threads = rw c.as_slice-4.ensures at c.in_ok-push_threads.ensures.spelled in
-    chained c.args.out.now.items (rings_bytes (plain s)) (long_bytes (trimmed s.memory)) (list_bytes object_bytes s.objects) (list_bytes descriptor_bytes s.fds) (list_bytes program_bytes s.threads)
+    chained c.args.out.now.items (rings_bytes (canonical s)) (long_bytes (trimmed s.memory)) (list_bytes object_bytes s.objects) (list_bytes descriptor_bytes s.fds) (list_bytes program_bytes s.threads)
     _ _ _ _ _ c.in_ok-push_rings.ensures.spelled memory objects fds threads

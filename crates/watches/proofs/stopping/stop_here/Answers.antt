@@ -11,18 +11,18 @@ returns-then-names_any c =
     let w = c.args.walker.now in
     let r = c.record_of-past.result.now in
     let exact = subst (λ (n : ℕ). Exact (seen w (n - 1)) (seen w (n - 1 + 1)) r) c.at-moment.ensures.value c.record_of-past.ensures in
-    let named : list_any (names r) c.args.watches.now.places ≡ true = ap (list_any (names r)) (sym c.places.ensures.value) ∙ sym c.names_any.ensures ∙ c.if-names_any.true in
-    (c.at-moment.ensures.value, any_named (seen w (w.at - 1)) (seen w (w.at - 1 + 1)) r c.args.watches.now.places exact named)
+    let named : list_any (names r) c.args.watches.now.watchpoints ≡ true = ap (list_any (names r)) (sym c.places.ensures.value) ∙ sym c.names_any.ensures ∙ c.if-names_any.true in
+    (c.at-moment.ensures.value, any_named (seen w (w.at - 1)) (seen w (w.at - 1 + 1)) r c.args.watches.now.watchpoints exact named)
 
 pub returns-then-meets_any : goal.returns-then-meets_any
 returns-then-meets_any c =
     let w = c.args.walker.now in
     let r = c.record_of-past.result.now in
     let exact = subst (λ (n : ℕ). Exact (seen w (n - 1)) (seen w (n - 1 + 1)) r) c.at-moment.ensures.value c.record_of-past.ensures in
-    let named : list_any (names r) c.args.watches.now.places ≡ false = ap (list_any (names r)) (sym c.places.ensures.value) ∙ sym c.names_any.ensures ∙ c.if-names_any.false in (
+    let named : list_any (names r) c.args.watches.now.watchpoints ≡ false = ap (list_any (names r)) (sym c.places.ensures.value) ∙ sym c.names_any.ensures ∙ c.if-names_any.false in (
       c.at-moment.ensures.value,
-      none_named (seen w (w.at - 1)) (seen w (w.at - 1 + 1)) r c.args.watches.now.places exact named,
-      met_here w r c.state.result.now c.breaks.result.now c.args.watches.now.breaks c.requires c.state.ensures c.breaks.ensures.value exact (c.meets_any.ensures.yes c.if-meets_any.true),
+      none_named (seen w (w.at - 1)) (seen w (w.at - 1 + 1)) r c.args.watches.now.watchpoints exact named,
+      met_here w r c.state.result.now c.breaks.result.now c.args.watches.now.breakpoints c.requires c.state.ensures c.breaks.ensures.value exact (c.meets_any.ensures.yes c.if-meets_any.true),
     )
 
 pub returns : goal.returns
@@ -30,7 +30,7 @@ returns c =
     let w = c.args.walker.now in
     let r = c.record_of-past.result.now in
     let exact = subst (λ (n : ℕ). Exact (seen w (n - 1)) (seen w (n - 1 + 1)) r) c.at-moment.ensures.value c.record_of-past.ensures in
-    let named : list_any (names r) c.args.watches.now.places ≡ false = ap (list_any (names r)) (sym c.places.ensures.value) ∙ sym c.names_any.ensures ∙ c.if-names_any.false in (
-      none_named (seen w (w.at - 1)) (seen w (w.at - 1 + 1)) r c.args.watches.now.places exact named,
-      unmet_here w r c.state.result.now c.breaks.result.now c.args.watches.now.breaks c.requires c.state.ensures c.breaks.ensures.value exact (c.meets_any.ensures.no c.if-meets_any.false),
+    let named : list_any (names r) c.args.watches.now.watchpoints ≡ false = ap (list_any (names r)) (sym c.places.ensures.value) ∙ sym c.names_any.ensures ∙ c.if-names_any.false in (
+      none_named (seen w (w.at - 1)) (seen w (w.at - 1 + 1)) r c.args.watches.now.watchpoints exact named,
+      unmet_here w r c.state.result.now c.breaks.result.now c.args.watches.now.breakpoints c.requires c.state.ensures c.breaks.ensures.value exact (c.meets_any.ensures.no c.if-meets_any.false),
     )
