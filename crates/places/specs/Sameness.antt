@@ -57,5 +57,5 @@ same_value (Awake a) (Awake b) = beq a b
 same_value _ _ = false
 
 -- the same for places in which nothing may stand
-unfoldable pub same : Option Value → Option Value → Bool
-same = option_eq same_value
+unfoldable pub is_same : Option Value → Option Value → Bool
+is_same = option_eq same_value

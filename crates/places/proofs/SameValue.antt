@@ -15,7 +15,7 @@ use Rattle.places.specs.declared.value.Stage.{Stage}
 use Rattle.places.specs.declared.value.Stage.TheVariants.{Ready, Waiting}
 use Rattle.places.specs.declared.value.Value.{Value}
 use Rattle.places.specs.declared.value.Value.TheVariants.{Number, Signed, Byte, Entry, Completed, Requested, Staged, Reaped, Awake}
-use Rattle.watches.specs.Sameness.{same_number, numbers_of, same_entry, same_completion, same_phase, same_row, same_stage, same_value, same}
+use Rattle.places.specs.Sameness.{same_number, numbers_of, same_entry, same_completion, same_phase, same_row, same_stage, same_value, is_same}
 
 -- two that differ, by a test that says no
 differing : {P : Type 0} → (P → ⊥) → Decides false P
@@ -118,6 +118,6 @@ value_decides (Awake a) (Awake b) = Decides-like _ (λ e. ap Awake e) (λ e. cc)
 value_decides _ _ = differing (λ e. cc)
 
 -- whether the same stands in a place at two moments
-pub same_decides : (a b : Option Value) → Decides (same a b) (a ≡ b)
-unfolding same
+pub same_decides : (a b : Option Value) → Decides (is_same a b) (a ≡ b)
+unfolding is_same
 same_decides = optional same_value value_decides
