@@ -2,7 +2,6 @@ pub mod Bytes
 pub mod Turns
 pub mod Feeding
 pub mod Reading
-pub mod Writing
 pub mod Asking
 pub mod Alone
 pub mod Torn

@@ -9,6 +9,7 @@ pub mod Lines
 pub mod Transcripts
 pub mod Tracing
 pub mod Pending
+pub mod Kinds
 pub mod Schedules
 pub mod Walked
 pub mod Jobs

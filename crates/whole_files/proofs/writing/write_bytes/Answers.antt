@@ -1,6 +1,7 @@
 use Rattle.std.proofs.Common.{◌+◌, ◌-◌, length, drop, arith, length-drop, length-take}
-use Rattle.debug_server.proofs.Writing.{appends_kept, wrote_slice, wrote_front}
-use Rattle.debug_server.proofs.serving.write_bytes.Goals as goal
+use Rattle.std.proofs.KnownBytes.{Appends-kept}
+use Rattle.whole_files.proofs.Writes.{wrote_slice, wrote_front}
+use Rattle.whole_files.proofs.writing.write_bytes.Goals as goal
 
 pub returns-in-Ok-eq0-clause-err : goal.returns-in-Ok-eq0-clause-err
 returns-in-Ok-eq0-clause-err g c = wrote_front _ _ c.args.bytes.now (c.loop-at.at + c.in-Ok-eq0.field-0) (wrote_slice _ _ _ c.args.bytes.now c.loop-at.at c.in-Ok-eq0.field-0 c.loop-at.invariant.0 c.in-Ok-eq0.ensures.bytes)
@@ -12,4 +13,4 @@ loop-at-preserved g c = (
 )
 
 pub returns-in-Err-clause-err : goal.returns-in-Err-clause-err
-returns-in-Err-clause-err g c = wrote_front _ _ c.args.bytes.now c.loop-at.at (appends_kept _ _ _ _ c.loop-at.invariant.0 c.in-Err.ensures.bytes)
+returns-in-Err-clause-err g c = wrote_front _ _ c.args.bytes.now c.loop-at.at (Appends-kept _ _ _ _ c.loop-at.invariant.0 c.in-Err.ensures.bytes)

@@ -1,9 +1,9 @@
 -- Writes, one after another.
-use Rattle.std.proofs.Common.{◌≡◌, ℕ, ◌+◌, ◌-◌, zero, suc, List, [], ◌∷◌, ◌++◌, length, take, drop, Option, None, Some, refl, sym, ap, ◌∙◌, subst, arith, append-nil, take-append-drop}
+use Rattle.std.proofs.Common.{◌≡◌, ℕ, ◌+◌, ◌-◌, zero, suc, List, [], ◌∷◌, ◌++◌, length, take, drop, Option, refl, sym, ap, ◌∙◌, subst, arith, take-append-drop}
 use Rattle.std.proofs.KnownBytes.{Appends-trans}
 use Rattle.std.proofs.lemmas.List.{take_rest}
-use Rattle.std.specs.Io.KnownBytes.{Appends, Keeps}
-use Rattle.debug_server.specs.Pending.{WritesFront}
+use Rattle.std.specs.Io.KnownBytes.{Appends}
+use Rattle.whole_files.specs.Writes.{WritesFront}
 
 none_of_none : (n : ℕ) → take {A = ℕ} n [] ≡ []
 none_of_none zero = refl
@@ -16,12 +16,6 @@ take_on (suc at) n (x ∷ bytes) =
     let e : suc (at + n) ≡ suc at + n = omega arith in
     ap (λ l. x ∷ l) (take_on at n bytes) ∙ ap (λ m. take m (x ∷ bytes)) e
 
-pub appends_kept : (a b c : Option (List ℕ)) (bs : List ℕ) → Appends a b bs → Keeps b c → Appends a c bs
-appends_kept None b c bs p q = tt
-appends_kept (Some x) None c bs p q = absurd p
-appends_kept (Some x) (Some y) None bs p q = absurd q
-appends_kept (Some x) (Some y) (Some z) bs p q = q ∙ p
-
 -- the next bytes of a slice that goes to the end
 pub wrote_slice : (a b c : Option (List ℕ)) (bytes : List ℕ) (at n : ℕ) → Appends a b (take at bytes) → Appends b c (take n (take (length bytes - at) (drop at bytes))) → Appends a c (take (at + n) bytes)
 wrote_slice a b c bytes at n p q =
@@ -31,7 +25,3 @@ wrote_slice a b c bytes at n p q =
 -- the first bytes were written
 pub wrote_front : (a b : Option (List ℕ)) (bytes : List ℕ) (at : ℕ) → Appends a b (take at bytes) → WritesFront a b bytes
 wrote_front a b bytes at p = record { front = take at bytes; rest = drop at bytes; whole = sym (take-append-drop at bytes); appended = p }
-
--- all of them were
-pub wrote_all : (a b c : Option (List ℕ)) (bytes : List ℕ) → Appends a b bytes → Keeps b c → WritesFront a c bytes
-wrote_all a b c bytes p k = record { front = bytes; rest = []; whole = sym (append-nil bytes); appended = appends_kept a b c bytes p k }
