@@ -15,3 +15,4 @@ pub mod Numerals
 pub mod Moving
 pub mod Faulting
 pub mod Stepping
+pub mod Walks

@@ -1,5 +1,5 @@
 //! Walking a script, or some events.
-ghost use Rattle.std.specs.Prelude.{◌≡◌, ◌≢◌, ◌≤◌, ℕ, Ok, Err, None, OnOk, IfErr, length};
+ghost use Rattle.std.specs.Prelude.{◌≡◌, ◌≢◌, ◌≤◌, ℕ, false, Ok, Err, None, OnOk, IfErr, length};
 ghost use Rattle.std.specs.Io.KnownBytes.{Keeps};
 ghost use Rattle.machine.specs.Runs.{IsRefused};
 ghost use Rattle.scenario.specs.Setups.{setup_refusal};
@@ -10,7 +10,7 @@ ghost use Rattle.debug_server.specs.declared.faults.ServeFault.{ServeFault};
 ghost use Rattle.debug_server.specs.declared.faults.ServeFault.TheVariants.{Closed};
 ghost use Rattle.debug_server.specs.Transcripts.{streams};
 ghost use Rattle.debug_server.specs.Schedules.{IsOfRun, IsOfWalk};
-ghost use Rattle.debug_server.specs.Walked.{Walked, BrokenOff};
+ghost use Rattle.debug_server.specs.Walked.{Walked, BrokenOff, Replied, BrokenBy};
 
 use crate::faults::RunFault;
 use crate::serving::serve;
@@ -93,7 +93,23 @@ pub(crate) fn walk_events<R: Read, W: Write>(
     ensures other { IfErr result IsOfRun }
 {
     let mut session = Session::of(alloc, setup, events)?;
-    match serve(&mut session, reader, writer, &mut NoSource) {
+    reply_to_all(&mut session, reader, writer)
+}
+
+// Replies to the lines that the reader gives, without a source.
+fn reply_to_all<R: Read, W: Write>(
+    session: &mut Session,
+    reader: &mut R,
+    writer: &mut W,
+) -> Result<(), RunFault>
+    requires { session.old.is_closed ≡ false }
+    ensures ok { OnOk result (Replied session.old.state
+        (streams (R.remaining reader.old) (W.contents writer.old)) (streams (R.remaining reader.new) (W.contents writer.new))) }
+    ensures err { IfErr result (BrokenBy session.old.state
+        (streams (R.remaining reader.old) (W.contents writer.old)) (streams (R.remaining reader.new) (W.contents writer.new))) }
+    ensures open { result ≢ Err (RunFault.Serve Closed) }
+{
+    match serve(session, reader, writer, &mut NoSource) {
         Ok(()) => Ok(()),
         Err(fault) => Err(RunFault::Serve(fault)),
     }
