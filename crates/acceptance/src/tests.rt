@@ -21,6 +21,10 @@ const INPUT: &str = "where\nshow got 0\nshow last 0\ngoto 4\nshow cq.tail\nback 
 const OUTPUT: &str =
     "at 6 of 6\n07000000000000000000000000000000\n1\nat 4 of 6\n0\nat 3 of 6\nop 0 user 7 unit 0 queued\n";
 
+fn check(rt: &impl Abort, holds: bool) {
+    assert!(rt; holds);
+}
+
 // There is no number of a wrong one.
 fn check_none(rt: &impl Abort, wrong: Option<usize>) {
     assert!(rt; wrong.is_none(), "at {wrong:?}");
