@@ -25,12 +25,12 @@ impl Model for Ended {
     ghost Value = { Past };
 
     ghost view = { λ c. record {
-        setup = c.setup;
-        actors = c.actors;
-        events = c.events.items;
-        owners = c.owners.items;
-        state = c.state;
-        receipts = c.lists.items
+      setup = c.setup;
+      actors = c.actors;
+      events = c.events.items;
+      owners = c.owners.items;
+      state = c.state;
+      receipts = c.lists.items;
     } };
 }
 
