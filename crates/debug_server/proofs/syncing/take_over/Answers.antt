@@ -20,7 +20,7 @@ returns-in-Err-clause-text c =
 pub returns-in-Err-clause-next : goal.returns-in-Err-clause-next
 returns-in-Err-clause-next c =
     IfOk-weaker c.refused_line.result _ _ (λ text t. left_next c.args.visitor.now c.visitor.inside.walker c.extend.new.self c.visitor.inside.watches c.args.source.now text.items
-    (ap (λ (x : SessionState). x.walk) c.visitor.view_is) c.in-Err.ensures.err (ap (λ (x : SessionState). x.watching) c.visitor.view_is)
+    (ap (λ (x : SessionState). x.walk) c.visitor.view_is) c.in-Err.ensures.err (ap (λ (x : SessionState). x.stops) c.visitor.view_is)
     (left c.args.visitor.now c.visitor.inside.walker c.len-known.result c.args.source.now c.rest_of.result.now c.in-Err.refusal text.items
     (ap (λ (x : SessionState). x.walk) c.visitor.view_is) c.len-known.ensures.value c.rest_of.ensures (λ i n q. c.in-Err.ensures.refused i n (ap (λ x. Err x) q)) t)) c.refused_line.ensures
 
@@ -33,6 +33,6 @@ returns-clause-text c =
 pub returns-clause-next : goal.returns-clause-next
 returns-clause-next c =
     taken_next c.args.visitor.now c.visitor.inside.walker c.extend.new.self c.visitor.inside.watches c.len-known.result c.args.source.now c.rest_of.result.now
-    (ap (λ (x : SessionState). x.walk) c.visitor.view_is) c.len-known.ensures.value c.rest_of.ensures c.in_default.ensures.ok (ap (λ (x : SessionState). x.watching) c.visitor.view_is)
+    (ap (λ (x : SessionState). x.walk) c.visitor.view_is) c.len-known.ensures.value c.rest_of.ensures c.in_default.ensures.ok (ap (λ (x : SessionState). x.stops) c.visitor.view_is)
     ∙ sym (ap (λ o. (takes_over c.args.visitor.now c.args.source.now o).next) (taken c.args.visitor.now c.visitor.inside.walker c.len-known.result c.args.source.now c.rest_of.result.now
     (ap (λ (x : SessionState). x.walk) c.visitor.view_is) c.len-known.ensures.value c.rest_of.ensures c.in_default.ensures.accepts))
