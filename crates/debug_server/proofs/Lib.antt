@@ -5,6 +5,7 @@ pub mod Reading
 pub mod Writing
 pub mod Asking
 pub mod Alone
+pub mod Accepted
 pub mod Torn
 pub mod SyncLaws
 pub mod SyncLines

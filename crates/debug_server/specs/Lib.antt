@@ -11,5 +11,6 @@ pub mod Tracing
 pub mod Pending
 pub mod Schedules
 pub mod Walked
+pub mod Living
 pub mod Jobs
 pub mod Failing

@@ -1,0 +1,39 @@
+-- What live runs can fail by.
+use Rattle.std.specs.Prelude.{◌≡◌}
+use Rattle.scenario.specs.declared.setup.SetupRefusal.TheVariants.{Memory as WantOfMemory}
+use Rattle.live_runner.specs.declared.running.LiveFault.{LiveFault}
+use Rattle.live_runner.specs.declared.running.LiveFault.TheVariants as live
+use Rattle.debug_server.specs.declared.faults.Fault.{Fault as Failure}
+use Rattle.debug_server.specs.declared.faults.Fault.TheVariants.{File, Run, Live}
+use Rattle.debug_server.specs.declared.faults.RunFault.{RunFault}
+use Rattle.debug_server.specs.declared.faults.RunFault.TheVariants.{Script, Schedule, Serve, Memory, Net, Trace}
+
+-- a fault of a script, or of memory
+abbrev pub IsOfScript : RunFault → Type 0
+IsOfScript (Script f) = Unit {0}
+IsOfScript Memory = Unit {0}
+IsOfScript (Schedule i n) = ⊥
+IsOfScript (Serve f) = ⊥
+IsOfScript Net = ⊥
+IsOfScript (Trace f) = ⊥
+
+-- a run that wasn't closed: a setup that has a start wants memory alone
+abbrev pub IsOfRunning : LiveFault → Type 0
+IsOfRunning (live.Setup n) = n ≡ WantOfMemory
+IsOfRunning (live.Torn actor) = Unit {0}
+IsOfRunning (live.Strange setup actors) = Unit {0}
+
+-- a fault of a script, or of the run over its setup
+abbrev pub IsOfLive : Failure → Type 0
+IsOfLive File = ⊥
+IsOfLive (Run fault) = IsOfScript fault
+IsOfLive (Live fault) = IsOfRunning fault
+
+-- a fault of replying to lines over events that run
+abbrev pub IsOfAnswering : RunFault → Type 0
+IsOfAnswering (Serve f) = Unit {0}
+IsOfAnswering Memory = Unit {0}
+IsOfAnswering (Script f) = ⊥
+IsOfAnswering (Schedule i n) = ⊥
+IsOfAnswering Net = ⊥
+IsOfAnswering (Trace f) = ⊥
