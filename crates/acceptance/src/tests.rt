@@ -8,6 +8,8 @@ mod sessions;
 mod sources;
 mod texts;
 
+use std::process::Abort;
+
 /// One NOP with user_data 7: put, pushed, entered, issued, finished and reaped.
 const ONE_NOP: &str =
     r#"{"entries":1,"threads":[[["put",0,{"op":0,"ud":7}],["push",0],["enter",1,0,0],["reap"]]],"schedule":[["step",0],["step",0],["step",0],["issue",0],["finish",0],["step",0]]}"#;
@@ -18,3 +20,12 @@ const INPUT: &str = "where\nshow got 0\nshow last 0\ngoto 4\nshow cq.tail\nback 
 /// What they are replied.
 const OUTPUT: &str =
     "at 6 of 6\n07000000000000000000000000000000\n1\nat 4 of 6\n0\nat 3 of 6\nop 0 user 7 unit 0 queued\n";
+
+fn check(rt: &impl Abort, holds: bool) {
+    assert!(rt; holds);
+}
+
+// There is no number of a wrong one.
+fn check_none(rt: &impl Abort, wrong: Option<usize>) {
+    assert!(rt; wrong.is_none(), "at {wrong:?}");
+}

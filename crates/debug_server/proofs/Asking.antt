@@ -4,13 +4,14 @@ use Rattle.std.proofs.Common.{◌≡◌, inl, inr, ℕ, ◌+◌, ◌==◌, ◌<�
 use Rattle.std.proofs.KnownBytes.{Appends-nil}
 use Rattle.std.specs.Str.{bytes_eq}
 use Rattle.std.specs.Io.KnownBytes.{Appends, Consumes, Keeps, IsAtEnd}
+use Rattle.whole_files.specs.Writes.{WritesFront}
 use Rattle.debug_server.specs.SessionStates.{SessionState}
 use Rattle.debug_server.specs.Replies.{Answer, Reply, reply}
 use Rattle.debug_server.specs.Lines.{lines_of, ended_lines}
 use Rattle.debug_server.specs.Transcripts.{asks, answer_for, turn, Fits, Transcript, transcript, output, streams, Asked, Served, BrokeBy}
 use Rattle.debug_server.specs.declared.faults.ServeFault.{ServeFault}
 use Rattle.debug_server.specs.declared.faults.ServeFault.TheVariants.{Memory, Closed}
-use Rattle.debug_server.specs.Pending.{IsPending, grown, IsOfReplying, WritesFront, Gave, FillsBy, BreaksBy, EndsBy, FrontBy, ReadsBy}
+use Rattle.debug_server.specs.Pending.{IsPending, grown, IsOfReplying, Gave, FillsBy, BreaksBy, EndsBy, FrontBy, ReadsBy}
 use Rattle.debug_server.proofs.Bytes.{lines_by-ended}
 use Rattle.debug_server.proofs.Turns.{alone_asked, lacking}
 use Rattle.debug_server.proofs.Feeding.{byte_at, ended_at, cut_at, fed_on, fed_quit, cut_on, lacks_on, fills_start}

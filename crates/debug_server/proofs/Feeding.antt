@@ -3,11 +3,12 @@ use Rattle.std.proofs.lemmas.List.{take_more}
 use Rattle.std.proofs.Common.{◌≡◌, ℕ, ◌+◌, take, drop, get_or, take-append-drop, ◌==◌, ◌<◌, List, [], ◌∷◌, ◌++◌, length, Bool, true, false, Option, None, refl, sym, ap, ◌∙◌, subst, append_assoc, append-nil}
 use Rattle.std.proofs.KnownBytes.{Appends-nil, Appends-trans}
 use Rattle.std.specs.Io.KnownBytes.{Appends}
+use Rattle.whole_files.specs.Writes.{WritesFront}
 use Rattle.debug_server.specs.SessionStates.{SessionState}
 use Rattle.debug_server.specs.Replies.{Answer}
 use Rattle.debug_server.specs.Lines.{lines_by, ended_lines}
 use Rattle.debug_server.specs.Transcripts.{asks, Fits, turn, Transcript, transcript, prepended, output, AllAsked}
-use Rattle.debug_server.specs.Pending.{IsPending, grown, rest_of, Fed, Fills, Breaks, WritesFront}
+use Rattle.debug_server.specs.Pending.{IsPending, grown, rest_of, Fed, Fills, Breaks}
 use Rattle.debug_server.proofs.Bytes.{lines_by-ended}
 use Rattle.debug_server.proofs.Turns.{transcript_line, prepended_prepended, grown_alike, rest_asked}
 

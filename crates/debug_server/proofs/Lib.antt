@@ -2,9 +2,9 @@ pub mod Bytes
 pub mod Turns
 pub mod Feeding
 pub mod Reading
-pub mod Writing
 pub mod Asking
 pub mod Alone
+pub mod Accepted
 pub mod Torn
 pub mod SyncLaws
 pub mod SyncLines
@@ -15,3 +15,4 @@ pub mod Numerals
 pub mod Moving
 pub mod Faulting
 pub mod Stepping
+pub mod Walks

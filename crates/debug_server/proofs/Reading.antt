@@ -2,13 +2,14 @@
 use Rattle.std.proofs.Common.{◌≡◌, ◌⊎◌, inl, inr, ℕ, take, ◌<◌, List, [], ◌∷◌, ◌++◌, length, Bool, true, false, cond, Option, Some, None, refl, sym, ap, ◌∙◌, subst, append_assoc, append-nil}
 use Rattle.std.proofs.KnownBytes.{Appends-nil, Appends-trans, Consumes-nil, Consumes-trans, Consumes-kept}
 use Rattle.std.specs.Io.KnownBytes.{Appends, Consumes, Keeps, IsAtEnd}
+use Rattle.whole_files.specs.Writes.{WritesFront}
 use Rattle.debug_server.specs.SessionStates.{SessionState}
 use Rattle.debug_server.specs.Replies.{Answer, Reply}
 use Rattle.debug_server.specs.Lines.{lines_of, ended_lines}
 use Rattle.debug_server.specs.Transcripts.{asks, Fits, turn, Transcript, transcript, prepended, ended, output, streams, Served, AllAsked, Broke}
 use Rattle.debug_server.specs.declared.faults.ServeFault.{ServeFault}
 use Rattle.debug_server.specs.declared.faults.ServeFault.TheVariants.{Read}
-use Rattle.debug_server.specs.Pending.{IsPending, Fills, Breaks, IsOfReplying, WritesFront, Ends, Reads}
+use Rattle.debug_server.specs.Pending.{IsPending, Fills, Breaks, IsOfReplying, Ends, Reads}
 use Rattle.debug_server.proofs.Bytes.{lines_of-last, ended_lines-plain}
 use Rattle.debug_server.proofs.Turns.{transcript_line, lacking}
 use Rattle.debug_server.proofs.Feeding.{fills_start, fills_trans, breaks_later, transcript_later, fed_whole}

@@ -1,5 +1,5 @@
 -- The reply to a line, by its command.
-use Rattle.std.proofs.Common.{◌≡◌, ℕ, ◌-◌, ◌+◌, min, List, length, drop, nat_le, nat_lt, Bool, true, false, cond, Option, Some, None, Result, Ok, Err, refl, sym, ap, ◌∙◌}
+use Rattle.std.proofs.Common.{◌≡◌, ℕ, List, length, nat_le, nat_lt, Bool, true, false, cond, Option, Some, None, Result, Ok, Err, refl, ap, ◌∙◌}
 use Rattle.scenario.specs.declared.setup.Setup.{Setup}
 use Rattle.scenario.specs.declared.event.Event.{Event}
 use Rattle.inverse_log.specs.Walks.{Walk}
@@ -9,7 +9,7 @@ use Rattle.debug_server.specs.Commands.{command_of}
 use Rattle.debug_server.specs.declared.commands.command.Command.TheVariants.{Where, Show, Goto, Back, On, Watch, Break, Unwatch, Cont, Rcont, Sync, Quit}
 use Rattle.debug_server.specs.Syncs.{torn_from}
 use Rattle.debug_server.specs.SessionStates.{SessionState}
-use Rattle.debug_server.specs.Replies.{Answer, Reply, takes_over, agrees, syncs, is_full, goes_to, watches, breaks, reply_to, reply}
+use Rattle.debug_server.specs.Replies.{Answer, Reply, takes_over, agrees, syncs, is_full, reply_to, reply}
 use Rattle.debug_server.specs.Quitting.{is_quit}
 
 pub replied_to : (v : SessionState) (w : Walk) (setup : Setup) (line : List ℕ) (command : Result Command CommandFault) (t : Answer) → w ≡ v.walk → setup ≡ w.setup → command ≡ command_of setup line → reply_to v command t ≡ reply v line t

@@ -11,9 +11,10 @@ use Rattle.scenario.specs.declared.event.Refusal.TheVariants.{Memory}
 use Rattle.machine.specs.Steps.{refusal, after, Next}
 use Rattle.machine.specs.Runs.{run, start, Accepts, IsRefused}
 use Rattle.inverse_log.proofs.Runs.{run-push, accepts-push}
+use Rattle.debug_server.specs.Kinds.{IsOf, OfSchedule, OfMemory}
 use Rattle.debug_server.specs.declared.faults.RunFault.{RunFault}
 use Rattle.debug_server.specs.declared.faults.RunFault.TheVariants.{Schedule}
-use Rattle.debug_server.specs.Schedules.{StopsBy, IsOfSchedule, fault_by}
+use Rattle.debug_server.specs.Schedules.{StopsBy, fault_by}
 use Rattle.debug_server.proofs.Stopping.{stops_by_number, refused_at, of_schedule}
 
 -- the first i events were run
@@ -50,6 +51,6 @@ pub stops_at : {A : Type 0} (setup : Setup) (es : List Event) (r : Result A RunF
 stops_at setup es (Ok x) h = tt
 stops_at setup es (Err e) h = refused_at setup es e h
 
-pub stops_as : {A : Type 0} (setup : Setup) (es : List Event) (r : Result A RunFault) → IfErr r (λ e. StopsBy setup es e) → IfErr r IsOfSchedule
+pub stops_as : {A : Type 0} (setup : Setup) (es : List Event) (r : Result A RunFault) → IfErr r (λ e. StopsBy setup es e) → IfErr r (IsOf (OfSchedule ∷ OfMemory ∷ []))
 stops_as setup es (Ok x) h = tt
 stops_as setup es (Err e) h = of_schedule setup es e h

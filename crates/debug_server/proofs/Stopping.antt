@@ -1,5 +1,5 @@
 -- What a schedule that stops says.
-use Rattle.std.proofs.Common.{◌≡◌, inl, inr, ℕ, List, refl, sym, subst}
+use Rattle.std.proofs.Common.{◌≡◌, inl, inr, ℕ, List, ◌∷◌, [], refl, sym, subst}
 use Rattle.scenario.specs.declared.setup.Setup.{Setup}
 use Rattle.scenario.specs.declared.event.Event.{Event}
 use Rattle.scenario.specs.declared.event.Refusal.{Refusal}
@@ -10,7 +10,8 @@ use Rattle.inverse_log.specs.declared.refusal.ExtendRefusal.TheVariants.{TraceFu
 use Rattle.inverse_log.specs.Tracks.{RefusedAt}
 use Rattle.debug_server.specs.declared.faults.RunFault.{RunFault}
 use Rattle.debug_server.specs.declared.faults.RunFault.TheVariants.{Script, Schedule, Serve, Memory as OutOfMemory, Net, Trace}
-use Rattle.debug_server.specs.Schedules.{StopsBy, IsOfSchedule, fault_by, fault_of}
+use Rattle.debug_server.specs.Kinds.{IsOf, OfSchedule, OfMemory}
+use Rattle.debug_server.specs.Schedules.{StopsBy, fault_by, fault_of}
 
 pub stops_by_number : (setup : Setup) (es : List Event) (i : ℕ) (n : Refusal) → RefusedAt (start setup) es i n → StopsBy setup es (fault_by i n)
 stops_by_number setup es i Memory s = tt
@@ -23,13 +24,13 @@ stops_by setup es (Refused i n) h = stops_by_number setup es i n (h i n refl)
 pub refused_at : (setup : Setup) (es : List Event) (f : RunFault) → StopsBy setup es f → (i : ℕ) (n : Refusal) → f ≡ Schedule i n → IsRefused setup es i n
 refused_at setup es f s i n e = let P : RunFault → Type 0 = λ x. StopsBy setup es x in subst P e s
 
-pub of_schedule : (setup : Setup) (es : List Event) (f : RunFault) → StopsBy setup es f → IsOfSchedule f
-of_schedule setup es (Script f) s = s
-of_schedule setup es (Schedule i n) s = tt
-of_schedule setup es (Serve f) s = s
-of_schedule setup es OutOfMemory s = tt
-of_schedule setup es Net s = s
-of_schedule setup es (Trace f) s = s
+pub of_schedule : (setup : Setup) (es : List Event) (f : RunFault) → StopsBy setup es f → IsOf (OfSchedule ∷ OfMemory ∷ []) f
+of_schedule setup es (Script f) s = absurd s
+of_schedule setup es (Schedule i n) s = refl
+of_schedule setup es (Serve f) s = absurd s
+of_schedule setup es OutOfMemory s = refl
+of_schedule setup es Net s = absurd s
+of_schedule setup es (Trace f) s = absurd s
 
 -- what refuses a trace's events stops the schedule
 pub stops_for : (setup : Setup) (es : List Event) (e : ExtendRefusal) (f : RunFault) → f ≡ fault_of e → ((i : ℕ) (n : Refusal) → e ≡ Refused i n → RefusedAt (start setup) es i n) → StopsBy setup es f

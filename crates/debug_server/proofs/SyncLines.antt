@@ -10,7 +10,7 @@ use Rattle.scenario.specs.declared.setup.Setup.{Setup}
 use Rattle.scenario.specs.declared.names.PlaceFault.{PlaceFault}
 use Rattle.scenario.specs.Names.{number_of, place_named}
 use Rattle.debug_server.specs.declared.commands.command.Command.{Command}
-use Rattle.debug_server.specs.declared.commands.command.Command.TheVariants.{Show, Goto, Back, On, Watch, Break, Sync}
+use Rattle.debug_server.specs.declared.commands.command.Command.TheVariants.{Show, Goto, Back, On, Watch, Sync}
 use Rattle.debug_server.specs.declared.commands.command.CommandFault.{CommandFault}
 use Rattle.debug_server.specs.declared.commands.command.CommandFault.TheVariants.{Long}
 use Rattle.debug_server.specs.declared.commands.verb.Verb.{Verb}

@@ -12,7 +12,9 @@ use Rattle.debug_server.specs.declared.faults.ServeFault.TheVariants as serve
 use Rattle.debug_server.specs.declared.faults.RunFault.{RunFault}
 use Rattle.debug_server.specs.declared.faults.RunFault.TheVariants as run
 use Rattle.debug_server.specs.declared.faults.Fault.{Fault}
-use Rattle.debug_server.specs.declared.faults.Fault.TheVariants.{File, Run}
+use Rattle.debug_server.specs.declared.faults.Fault.TheVariants.{File, Run, Live}
+use Rattle.live_runner.specs.declared.running.LiveFault.{LiveFault}
+use Rattle.live_runner.specs.declared.running.LiveFault.TheVariants as live
 use Rattle.traces.specs.Faults.{fault_number}
 use Rattle.machine.specs.Refusals.{number_of}
 
@@ -64,6 +66,13 @@ run_fault_text run.Memory = codes "fault memory"
 run_fault_text run.Net = codes "fault net"
 run_fault_text (run.Trace fault) = trace_fault_text fault
 
+-- a setup whose run has no start wants memory alone: a script's setup has a start
+abbrev pub live_fault_text : LiveFault → List ℕ
+live_fault_text (live.Setup refusal) = codes "fault memory"
+live_fault_text (live.Torn actor) = codes "fault torn"
+live_fault_text (live.Strange setup actors) = codes "fault torn"
+
 abbrev pub failure_text : Fault → List ℕ
 failure_text File = codes "fault file"
 failure_text (Run fault) = run_fault_text fault
+failure_text (Live fault) = live_fault_text fault

@@ -9,7 +9,9 @@ pub mod Lines
 pub mod Transcripts
 pub mod Tracing
 pub mod Pending
+pub mod Kinds
 pub mod Schedules
 pub mod Walked
+pub mod Living
 pub mod Jobs
 pub mod Failing

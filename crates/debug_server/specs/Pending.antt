@@ -2,6 +2,7 @@
 use Rattle.std.specs.Prelude.{◌≡◌, ◌⊎◌, ◌≤◌, ℕ, ◌==◌, not, List, [], ◌∷◌, ◌++◌, length, take, Bool, true, false, if◌then◌else◌, Option, Some, None}
 use Rattle.std.specs.List.{list_all}
 use Rattle.std.specs.Io.KnownBytes.{Appends, Consumes}
+use Rattle.whole_files.specs.Writes.{WritesFront}
 use Rattle.debug_server.specs.SessionStates.{SessionState}
 use Rattle.debug_server.specs.Replies.{Answer}
 use Rattle.debug_server.specs.Lines.{lines_by, lines_of, ended_lines}
@@ -45,13 +46,6 @@ IsOfReplying Write = Unit {0}
 IsOfReplying Memory = Unit {0}
 IsOfReplying Read = ⊥
 IsOfReplying Closed = ⊥
-
--- A beginning of the text was written.
-pub record WritesFront (held held' : Option (List ℕ)) (text : List ℕ) : Type 0 where
-  pub front : List ℕ
-  pub rest : List ℕ
-  pub whole : text ≡ front ++ rest
-  pub appended : Appends held held' front
 
 -- The input ends in this line, which was answered unless it is empty.
 pub record Ends (v : SessionState) (line : List ℕ) (answers : List Answer) (held held' : Option (List ℕ)) (q : Bool) (v' : SessionState) : Type 0 where

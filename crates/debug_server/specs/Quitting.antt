@@ -1,5 +1,5 @@
 -- Which command ends a session.
-use Rattle.std.specs.Prelude.{Bool, true, false, Result, Ok, Err}
+use Rattle.std.specs.Prelude.{Bool, true, false, Result, Ok}
 use Rattle.debug_server.specs.declared.commands.command.Command.{Command}
 use Rattle.debug_server.specs.declared.commands.command.Command.TheVariants.{Quit}
 use Rattle.debug_server.specs.declared.commands.command.CommandFault.{CommandFault}

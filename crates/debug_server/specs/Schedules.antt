@@ -29,42 +29,6 @@ StopsBy setup es (Serve f) = ⊥
 StopsBy setup es Net = ⊥
 StopsBy setup es (Trace f) = ⊥
 
--- a fault of running a schedule
-abbrev pub IsOfSchedule : RunFault → Type 0
-IsOfSchedule (Schedule i n) = Unit {0}
-IsOfSchedule Memory = Unit {0}
-IsOfSchedule (Script f) = ⊥
-IsOfSchedule (Serve f) = ⊥
-IsOfSchedule Net = ⊥
-IsOfSchedule (Trace f) = ⊥
-
--- a fault of walking some events: no script and no trace is read there, and nothing listens
-abbrev pub IsOfRun : RunFault → Type 0
-IsOfRun (Schedule i n) = Unit {0}
-IsOfRun (Serve f) = Unit {0}
-IsOfRun Memory = Unit {0}
-IsOfRun (Script f) = ⊥
-IsOfRun Net = ⊥
-IsOfRun (Trace f) = ⊥
-
--- a fault of walking a trace: no script is read
-abbrev pub IsOfReplay : RunFault → Type 0
-IsOfReplay (Schedule i n) = Unit {0}
-IsOfReplay (Serve f) = Unit {0}
-IsOfReplay Memory = Unit {0}
-IsOfReplay (Trace f) = Unit {0}
-IsOfReplay (Script f) = ⊥
-IsOfReplay Net = ⊥
-
--- a fault of walking a script: nothing listens there, and no trace is read
-abbrev pub IsOfWalk : RunFault → Type 0
-IsOfWalk (Script f) = Unit {0}
-IsOfWalk (Schedule i n) = Unit {0}
-IsOfWalk (Serve f) = Unit {0}
-IsOfWalk Memory = Unit {0}
-IsOfWalk Net = ⊥
-IsOfWalk (Trace f) = ⊥
-
 abbrev pub fault_by : ℕ → Refusal → RunFault
 fault_by i refusal.Memory = Memory
 fault_by i n = Schedule i n

@@ -1,5 +1,5 @@
 -- What walking some events comes to, without a source.
-use Rattle.std.specs.Prelude.{List, Bool}
+use Rattle.std.specs.Prelude.{◌≡◌, List, Bool}
 use Rattle.scenario.specs.declared.setup.Setup.{Setup}
 use Rattle.scenario.specs.declared.event.Event.{Event}
 use Rattle.machine.specs.Runs.{start, Accepts}
@@ -7,7 +7,25 @@ use Rattle.debug_server.specs.SessionStates.{SessionState}
 use Rattle.debug_server.specs.Replies.{Answer}
 use Rattle.debug_server.specs.Transcripts.{Unanswered, Streams, Served, Broke}
 use Rattle.debug_server.specs.Schedules.{state_over}
+use Rattle.debug_server.specs.declared.faults.RunFault.{RunFault}
+use Rattle.debug_server.specs.declared.faults.RunFault.TheVariants.{Serve}
 use Rattle.debug_server.specs.declared.faults.ServeFault.{ServeFault}
+
+-- A session replied to what was read.
+pub record Replied (v : SessionState) (before after : Streams) : Type 0 where
+  pub answers : List Answer
+  pub unanswered : Unanswered answers
+  pub next : SessionState
+  pub quits : Bool
+  pub served : Served v before after answers next quits
+
+-- A fault of serving broke its replies off.
+pub record BrokenBy (v : SessionState) (before after : Streams) (e : RunFault) : Type 0 where
+  pub fault : ServeFault
+  pub told : e ≡ Serve fault
+  pub answers : List Answer
+  pub unanswered : Unanswered answers
+  pub broke : Broke v before after answers fault
 
 -- The events run from the setup, and the session that stands at their end replied to what was read.
 pub record Walked (setup : Setup) (events : List Event) (before after : Streams) : Type 0 where

@@ -1,5 +1,6 @@
 //! What ends a run or a session early.
 
+use live_runner::LiveFault;
 use machine::Refusal;
 use machine::laws::number_told;
 use script::{Key, Path, ScriptFault};
@@ -109,6 +110,8 @@ pub enum Fault {
     /// A file couldn't be read or written.
     File,
     Run(RunFault),
+    /// A live run wasn't closed.
+    Live(LiveFault),
 }
 
 impl From<RunFault> for Fault {
@@ -122,6 +125,17 @@ impl From<RunFault> for Fault {
     }
 }
 
+impl From<LiveFault> for Fault {
+    ghost use Rattle.std.specs.Prelude.{◌≡◌};
+    ghost use Rattle.debug_server.specs.declared.faults.Fault.TheVariants.{Live};
+
+    ghost from_gives = { λ live e. e ≡ Live live };
+
+    fn from(fault: LiveFault) -> Fault {
+        Fault::Live(fault)
+    }
+}
+
 impl fmt::Display for Fault {
     ghost use Rattle.std.specs.Prelude.{Some};
     ghost use Rattle.debug_server.specs.Failing.{failure_text};
@@ -132,6 +146,10 @@ impl fmt::Display for Fault {
         match self {
             Fault::File => f.write_str("fault file"),
             Fault::Run(fault) => write!(f, "{fault}"),
+            Fault::Live(LiveFault::Setup(_)) => f.write_str("fault memory"),
+            Fault::Live(LiveFault::Torn(_)) | Fault::Live(LiveFault::Strange(_, _)) => {
+                f.write_str("fault torn")
+            }
         }
     }
 }

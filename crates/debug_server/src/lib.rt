@@ -6,6 +6,7 @@ mod commands;
 mod faults;
 pub mod laws;
 mod lines;
+mod living;
 mod memory;
 mod replaying;
 mod running;
@@ -22,6 +23,7 @@ mod walking;
 mod words;
 
 pub use faults::{Fault, PathText, RunFault, ServeFault};
+pub use living::{answer_closed, live_script, trace_closed};
 pub use memory::replies;
 pub use replaying::replay;
 pub use serving::serve;

@@ -1,12 +1,13 @@
 //! A walk over memory.
-ghost use Rattle.std.specs.Prelude.{◌≡◌, ◌≢◌, ℕ, Ok, Err, IfOk, IfErr};
+ghost use Rattle.std.specs.Prelude.{◌≡◌, ◌≢◌, ℕ, Ok, Err, IfOk, IfErr, ◌∷◌, []};
 ghost use Rattle.machine.specs.Runs.{start, Accepts, IsRefused};
 ghost use Rattle.scenario.specs.declared.event.Refusal.{Refusal};
 ghost use Rattle.script.specs.declared.fault.ScriptFault.{ScriptFault};
 ghost use Rattle.script.specs.Scripts.{Scenario, Reads};
+ghost use Rattle.debug_server.specs.Kinds.{IsOf, OfScript, OfSchedule, OfServing, OfMemory};
 ghost use Rattle.debug_server.specs.Lines.{lines_of};
 ghost use Rattle.debug_server.specs.Transcripts.{unanswered, output};
-ghost use Rattle.debug_server.specs.Schedules.{state_over, IsOfWalk};
+ghost use Rattle.debug_server.specs.Schedules.{state_over};
 ghost use Rattle.debug_server.specs.declared.faults.ServeFault.TheVariants.{Closed};
 
 use crate::faults::RunFault;
@@ -22,7 +23,7 @@ pub fn replies(alloc: Global, script: &[u8], input: &[u8]) -> Result<Vec<u8>, Ru
     ensures script { IfErr result (λ e. (f : ScriptFault) → e ≡ RunFault.Script f → Reads script.now (Err f)) }
     ensures schedule { IfErr result (λ e. (i : ℕ) → (n : Refusal) → e ≡ RunFault.Schedule i n
         → (p : Scenario) × Reads script.now (Ok p) × IsRefused p.setup p.schedule i n) }
-    ensures other { IfErr result IsOfWalk }
+    ensures other { IfErr result (IsOf (OfScript ∷ OfSchedule ∷ OfServing ∷ OfMemory ∷ [])) }
     ensures open { result ≢ Err (RunFault.Serve Closed) }
 {
     let mut reader = input;

@@ -1,5 +1,5 @@
 //! Walking a trace of the second form.
-ghost use Rattle.std.specs.Prelude.{◌≡◌, ◌≢◌, ℕ, List, Err, OnOk, IfErr};
+ghost use Rattle.std.specs.Prelude.{◌≡◌, ◌≢◌, ℕ, List, Err, OnOk, IfErr, ◌∷◌, []};
 ghost use Rattle.std.specs.Io.KnownBytes.{Keeps};
 ghost use Rattle.machine.specs.Runs.{IsRefused};
 ghost use Rattle.scenario.specs.declared.event.Event.{Event};
@@ -8,10 +8,10 @@ ghost use Rattle.scenario.specs.declared.setup.Setup.{Setup};
 ghost use Rattle.traces.specs.Reading.{IsFault2};
 ghost use Rattle.traces.specs.Setups.{IsTrace2};
 ghost use Rattle.traces.specs.declared.fault.TraceFault.{TraceFault};
+ghost use Rattle.debug_server.specs.Kinds.{IsOf, OfSchedule, OfServing, OfMemory, OfTrace};
 ghost use Rattle.debug_server.specs.declared.faults.ServeFault.{ServeFault};
 ghost use Rattle.debug_server.specs.declared.faults.ServeFault.TheVariants.{Closed};
 ghost use Rattle.debug_server.specs.Transcripts.{streams};
-ghost use Rattle.debug_server.specs.Schedules.{IsOfReplay};
 ghost use Rattle.debug_server.specs.Walked.{Walked, BrokenOff};
 
 use crate::faults::RunFault;
@@ -40,7 +40,7 @@ pub fn replay<R: Read, W: Write>(
     ensures begins { IfErr result (λ e. (f : ServeFault) → e ≡ RunFault.Serve f → (setup : Setup) × (events : List Event) × IsTrace2 setup events trace.now × BrokenOff setup events
         (streams (R.remaining reader.old) (W.contents writer.old)) (streams (R.remaining reader.new) (W.contents writer.new)) f) }
     ensures open { result ≢ Err (RunFault.Serve Closed) }
-    ensures other { IfErr result IsOfReplay }
+    ensures other { IfErr result (IsOf (OfTrace ∷ OfSchedule ∷ OfServing ∷ OfMemory ∷ [])) }
 {
     let (setup, events) = match read_trace2(alloc, trace) {
         Ok(found) => found,

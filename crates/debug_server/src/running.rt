@@ -1,10 +1,11 @@
 //! Events that are run, and of which nothing is kept.
-ghost use Rattle.std.specs.Prelude.{◌≡◌, ◌≤◌, ℕ, [], None, length, IsOk, OnOk, IfErr};
+ghost use Rattle.std.specs.Prelude.{◌≡◌, ◌≤◌, ℕ, [], None, length, IsOk, OnOk, IfErr, ◌∷◌};
 ghost use Rattle.machine.specs.Runs.{start, Accepts, IsRefused};
 ghost use Rattle.scenario.specs.declared.event.Refusal.{Refusal};
 ghost use Rattle.scenario.specs.declared.setup.Setup.{Setup};
 ghost use Rattle.scenario.specs.Setups.{setup_refusal};
-ghost use Rattle.debug_server.specs.Schedules.{StopsBy, IsOfSchedule, fault_by};
+ghost use Rattle.debug_server.specs.Kinds.{IsOf, OfSchedule, OfMemory};
+ghost use Rattle.debug_server.specs.Schedules.{StopsBy, fault_by};
 
 use crate::faults::RunFault;
 use machine::{Event, Refusal, Setup, State};
@@ -25,7 +26,7 @@ pub(crate) fn fault_by(index: u32, refusal: Refusal) -> RunFault
 pub(crate) fn run_schedule(alloc: Global, script: &Script) -> Result<(), RunFault>
     ensures accepts { OnOk result (Accepts (start script.now.setup) script.now.schedule) }
     ensures schedule { IfErr result (λ e. (i : ℕ) → (n : Refusal) → e ≡ RunFault.Schedule i n → IsRefused script.now.setup script.now.schedule i n) }
-    ensures other { IfErr result IsOfSchedule }
+    ensures other { IfErr result (IsOf (OfSchedule ∷ OfMemory ∷ [])) }
 {
     run_from(alloc, script.setup(), script.schedule())
 }

@@ -1,10 +1,11 @@
 //! ServeFault lines from a reader to a writer.
 ghost use Rattle.std.specs.Prelude.{◌≡◌, ◌≢◌, ◌↔◌, ◌++◌, ◌∷◌, [], List, true, false, option_map, IsTrue, IfOk, IfErr, OnOk, OnErr, IsErrOf};
 ghost use Rattle.std.specs.Io.KnownBytes.{Appends, Keeps};
+ghost use Rattle.whole_files.specs.Writes.{WritesFront};
 ghost use Rattle.debug_server.specs.Replies.{Answer, reply};
 ghost use Rattle.debug_server.specs.Transcripts.{asks, Asked, streams, Served, BrokeBy};
 ghost use Rattle.debug_server.specs.SessionStates.{Runs};
-ghost use Rattle.debug_server.specs.Pending.{IsPending, IsOfReplying, WritesFront, Gave, FillsBy, BreaksBy, EndsBy, FrontBy};
+ghost use Rattle.debug_server.specs.Pending.{IsPending, IsOfReplying, Gave, FillsBy, BreaksBy, EndsBy, FrontBy};
 
 use crate::answering::reply_to_line;
 use crate::faults::ServeFault;
@@ -16,31 +17,13 @@ use machine::Event;
 use std::alloc::Global;
 use std::io::{Read, Write};
 
-// Writes all of the bytes. An `Err` may leave a beginning of them.
-fn write_bytes<W: Write>(writer: &mut W, bytes: &[u8]) -> Result<(), ServeFault>
-    ensures ok { OnOk result (Appends (W.contents writer.old) (W.contents writer.new) bytes.now) }
-    ensures err { OnErr result (WritesFront (W.contents writer.old) (W.contents writer.new) bytes.now) }
-    ensures fault { IfErr result (λ fault. fault ≡ ServeFault.Write) }
-{
-    let mut at = 0;
-    while at < bytes.len() {
-        match writer.write(&bytes[at..]) {
-            Ok(0) => return Err(ServeFault::Write),
-            Ok(n) => at += n,
-            Err(_) => return Err(ServeFault::Write),
-        }
-    }
-    Ok(())
-}
-
 // Writes all of the bytes, and flushes them.
 fn write_out<W: Write>(writer: &mut W, bytes: &[u8]) -> Result<(), ServeFault>
     ensures ok { OnOk result (Appends (W.contents writer.old) (W.contents writer.new) bytes.now) }
     ensures err { OnErr result (WritesFront (W.contents writer.old) (W.contents writer.new) bytes.now) }
     ensures fault { IfErr result (λ fault. fault ≡ ServeFault.Write) }
 {
-    write_bytes(writer, bytes)?;
-    match writer.flush() {
+    match whole_files::write_out(writer, bytes) {
         Ok(()) => Ok(()),
         Err(_) => Err(ServeFault::Write),
     }

@@ -1,12 +1,13 @@
 //! Sessions.
-ghost use Rattle.std.specs.Prelude.{◌≡◌, ◌≤◌, ℕ, length, false, option_map, IfOk, IfErr, OnOk, OnErr};
+ghost use Rattle.std.specs.Prelude.{◌≡◌, ◌≤◌, ℕ, length, false, option_map, IfOk, IfErr, OnOk, OnErr, ◌∷◌, []};
 ghost use Rattle.machine.specs.Runs.{start, Accepts, IsRefused};
 ghost use Rattle.scenario.specs.declared.event.Refusal.{Refusal};
 ghost use Rattle.scenario.specs.Setups.{setup_refusal};
 ghost use Rattle.scenario.specs.declared.setup.Setup.{Setup};
 ghost use Rattle.inverse_log.specs.Walks.{ending, fresh, jumped, extended};
+ghost use Rattle.debug_server.specs.Kinds.{IsOf, OfSchedule, OfMemory};
 ghost use Rattle.debug_server.specs.Replies.{reply};
-ghost use Rattle.debug_server.specs.Schedules.{state_over, StopsBy, IsOfSchedule, fault_of};
+ghost use Rattle.debug_server.specs.Schedules.{state_over, StopsBy, fault_of};
 ghost use Rattle.debug_server.specs.SessionStates.{Runs};
 
 use crate::answering;
@@ -21,11 +22,21 @@ use std::marker::Model;
 use watches::Watches;
 
 /// A run that lines of commands walk through.
-#[derive(Drop)]
 pub struct Session {
     pub(crate) alloc: Global,
     pub(crate) visitor: Visitor,
     pub(crate) is_closed: bool,
+}
+
+// By hand, so that letting a session go is one step of a proof: a derived drop is a step for each of its parts.
+impl Drop for Session {
+    fn drop(self) {
+        let Session {
+            alloc: _,
+            visitor: _,
+            is_closed: _,
+        } = self;
+    }
 }
 
 impl Model for Session {
@@ -42,7 +53,7 @@ impl Session {
         ensures ok { IfOk result (λ s. s ≡ record { state = state_over script.now.setup script.now.schedule; is_closed = false }) }
         ensures accepts { OnOk result (Accepts (start script.now.setup) script.now.schedule) }
         ensures schedule { IfErr result (λ e. (i : ℕ) → (n : Refusal) → e ≡ RunFault.Schedule i n → IsRefused script.now.setup script.now.schedule i n) }
-        ensures other { IfErr result IsOfSchedule }
+        ensures other { IfErr result (IsOf (OfSchedule ∷ OfMemory ∷ [])) }
     {
         session_of(alloc, script.setup(), script.schedule())
     }
@@ -54,7 +65,7 @@ impl Session {
         ensures ok { IfOk result (λ s. s ≡ record { state = state_over setup.now events.now; is_closed = false }) }
         ensures accepts { OnOk result (Accepts (start setup.now) events.now) }
         ensures schedule { IfErr result (λ e. (i : ℕ) → (n : Refusal) → e ≡ RunFault.Schedule i n → IsRefused setup.now events.now i n) }
-        ensures other { IfErr result IsOfSchedule }
+        ensures other { IfErr result (IsOf (OfSchedule ∷ OfMemory ∷ [])) }
     {
         session_of(alloc, setup, events)
     }
@@ -92,7 +103,7 @@ fn session_of(alloc: Global, setup: &Setup, events: &[Event]) -> Result<Session,
     ensures ok { IfOk result (λ s. s ≡ record { state = state_over setup.now events.now; is_closed = false }) }
     ensures accepts { OnOk result (Accepts (start setup.now) events.now) }
     ensures schedule { IfErr result (λ e. (i : ℕ) → (n : Refusal) → e ≡ RunFault.Schedule i n → IsRefused setup.now events.now i n) }
-    ensures other { IfErr result IsOfSchedule }
+    ensures other { IfErr result (IsOf (OfSchedule ∷ OfMemory ∷ [])) }
 {
     let Ok(mut walker) = Walker::new(alloc, setup) else {
         return Err(RunFault::Memory);

@@ -23,6 +23,17 @@ pub enum Job<'a> {
         from: u32,
         to: Option<u32>,
     },
+    /// A session over what threads made together from the setup of the script in this file: a thread for each
+    /// of its threads, the poller if there is one, and so many kernel workers, each of which made so many turns.
+    /// If there is an `out`, the run's trace is written there first.
+    Live {
+        script: &'a str,
+        /// 1 to 1000000.
+        turns: u32,
+        /// 1 to 8.
+        kernel: u32,
+        out: Option<&'a str>,
+    },
     /// The trace of a script's schedule.
     Trace {
         script: &'a str,

@@ -1,5 +1,5 @@
 //! Traces of scripts.
-ghost use Rattle.std.specs.Prelude.{◌≡◌, ◌⊎◌, ◌≤◌, ℕ, List, Ok, Err, length, IfOk, IfErr, IsTrue};
+ghost use Rattle.std.specs.Prelude.{◌≡◌, ◌⊎◌, ◌≤◌, ℕ, List, Ok, Err, length, IfOk, IfErr, IsTrue, ◌∷◌, []};
 ghost use Rattle.std.specs.List.{list_all};
 ghost use Rattle.machine.specs.Runs.{start, Accepts, IsRefused};
 ghost use Rattle.scenario.specs.declared.event.Event.{Event};
@@ -10,8 +10,8 @@ ghost use Rattle.traces.specs.Faults.{IsFault};
 ghost use Rattle.traces.specs.Setups.{canonical, IsTrace2};
 ghost use Rattle.traces.specs.Spelling.{most_events, has_transfer, IsTrace};
 ghost use Rattle.traces.specs.declared.fault.TraceFault.{TraceFault};
-ghost use Rattle.debug_server.specs.Tracing.{IsSpelling, IsTraceOf, IsOfTracing, IsOfMigration, IsOfTraces};
-ghost use Rattle.debug_server.specs.Schedules.{IsOfSchedule};
+ghost use Rattle.debug_server.specs.Kinds.{IsOf, OfScript, OfSchedule, OfMemory, OfTrace};
+ghost use Rattle.debug_server.specs.Tracing.{IsSpelling, IsTraceOf};
 
 use crate::faults::RunFault;
 use crate::running::run_schedule;
@@ -34,7 +34,7 @@ pub fn trace_script(alloc: Global, text: &[u8], form: Form) -> Result<Traced, Ru
     ensures ok { IfOk result (λ t. (p : Scenario) × Reads text.now (Ok p) × Accepts (start p.setup) p.schedule × IsTraceOf form p t) }
     ensures script { IfErr result (λ e. (f : ScriptFault) → e ≡ RunFault.Script f → Reads text.now (Err f)) }
     ensures schedule { IfErr result (λ e. (i : ℕ) → (n : Refusal) → e ≡ RunFault.Schedule i n → (p : Scenario) × Reads text.now (Ok p) × IsRefused p.setup p.schedule i n) }
-    ensures other { IfErr result IsOfTracing }
+    ensures other { IfErr result (IsOf (OfScript ∷ OfSchedule ∷ OfMemory ∷ [])) }
 {
     let script = script_of(alloc, text)?;
     Ok(trace_of(alloc, &script, form)?)
@@ -44,7 +44,7 @@ pub fn trace_script(alloc: Global, text: &[u8], form: Form) -> Result<Traced, Ru
 fn trace_of(alloc: Global, script: &Script, form: Form) -> Result<Traced, RunFault>
     ensures ok { IfOk result (λ t. Accepts (start script.now.setup) script.now.schedule × IsTraceOf form script.now t) }
     ensures schedule { IfErr result (λ e. (i : ℕ) → (n : Refusal) → e ≡ RunFault.Schedule i n → IsRefused script.now.setup script.now.schedule i n) }
-    ensures other { IfErr result IsOfSchedule }
+    ensures other { IfErr result (IsOf (OfSchedule ∷ OfMemory ∷ [])) }
 {
     run_schedule(alloc, script)?;
     match spelled(alloc, script, form) {
@@ -63,7 +63,7 @@ pub fn migrate_trace(alloc: Global, text: &[u8], trace: &[u8]) -> Result<Traced,
         × IsTrace2 (canonical p.setup) events t.bytes.items × (t.events ≡ length events)) }
     ensures script { IfErr result (λ e. (f : ScriptFault) → e ≡ RunFault.Script f → Reads text.now (Err f)) }
     ensures trace { IfErr result (λ e. (f : TraceFault) → e ≡ RunFault.Trace f → ((p : Scenario) × Reads text.now (Ok p)) × IsFault trace.now f) }
-    ensures other { IfErr result IsOfMigration }
+    ensures other { IfErr result (IsOf (OfScript ∷ OfTrace ∷ OfMemory ∷ [])) }
 {
     let script = script_of(alloc, text)?;
     Ok(migrate_with(alloc, &script, trace)?)
@@ -74,7 +74,7 @@ fn migrate_with(alloc: Global, script: &Script, trace: &[u8]) -> Result<Traced, 
     ensures ok { IfOk result (λ t. (events : List Event) × IsTrace events trace.now
         × IsTrace2 (canonical script.now.setup) events t.bytes.items × (t.events ≡ length events)) }
     ensures trace { IfErr result (λ e. (f : TraceFault) → e ≡ RunFault.Trace f → IsFault trace.now f) }
-    ensures other { IfErr result IsOfTraces }
+    ensures other { IfErr result (IsOf (OfTrace ∷ OfMemory ∷ [])) }
 {
     let events = match read_trace(alloc, trace) {
         Ok(events) => events,

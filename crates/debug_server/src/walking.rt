@@ -1,16 +1,16 @@
 //! Walking a script, or some events.
-ghost use Rattle.std.specs.Prelude.{◌≡◌, ◌≢◌, ◌≤◌, ℕ, Ok, Err, None, OnOk, IfErr, length};
+ghost use Rattle.std.specs.Prelude.{◌≡◌, ◌≢◌, ◌≤◌, ℕ, false, Ok, Err, None, OnOk, IfErr, length, ◌∷◌, []};
 ghost use Rattle.std.specs.Io.KnownBytes.{Keeps};
 ghost use Rattle.machine.specs.Runs.{IsRefused};
 ghost use Rattle.scenario.specs.Setups.{setup_refusal};
 ghost use Rattle.scenario.specs.declared.event.Refusal.{Refusal};
 ghost use Rattle.script.specs.Scripts.{Scenario, Reads};
 ghost use Rattle.script.specs.declared.fault.ScriptFault.{ScriptFault};
+ghost use Rattle.debug_server.specs.Kinds.{IsOf, OfScript, OfSchedule, OfServing, OfMemory};
 ghost use Rattle.debug_server.specs.declared.faults.ServeFault.{ServeFault};
 ghost use Rattle.debug_server.specs.declared.faults.ServeFault.TheVariants.{Closed};
 ghost use Rattle.debug_server.specs.Transcripts.{streams};
-ghost use Rattle.debug_server.specs.Schedules.{IsOfRun, IsOfWalk};
-ghost use Rattle.debug_server.specs.Walked.{Walked, BrokenOff};
+ghost use Rattle.debug_server.specs.Walked.{Walked, BrokenOff, Replied, BrokenBy};
 
 use crate::faults::RunFault;
 use crate::serving::serve;
@@ -40,7 +40,7 @@ pub fn walk<R: Read, W: Write>(
     ensures begins { IfErr result (λ e. (f : ServeFault) → e ≡ RunFault.Serve f → (p : Scenario) × Reads text.now (Ok p) × BrokenOff p.setup p.schedule
         (streams (R.remaining reader.old) (W.contents writer.old)) (streams (R.remaining reader.new) (W.contents writer.new)) f) }
     ensures open { result ≢ Err (RunFault.Serve Closed) }
-    ensures other { IfErr result IsOfWalk }
+    ensures other { IfErr result (IsOf (OfScript ∷ OfSchedule ∷ OfServing ∷ OfMemory ∷ [])) }
 {
     let script = match read_script(alloc, text) {
         Ok(script) => script,
@@ -67,7 +67,7 @@ fn walk_script<R: Read, W: Write>(
     ensures begins { IfErr result (λ e. (f : ServeFault) → e ≡ RunFault.Serve f → BrokenOff script.now.setup script.now.schedule
         (streams (R.remaining reader.old) (W.contents writer.old)) (streams (R.remaining reader.new) (W.contents writer.new)) f) }
     ensures open { result ≢ Err (RunFault.Serve Closed) }
-    ensures other { IfErr result IsOfWalk }
+    ensures other { IfErr result (IsOf (OfScript ∷ OfSchedule ∷ OfServing ∷ OfMemory ∷ [])) }
 {
     walk_events(alloc, script.setup(), script.schedule(), reader, writer)
 }
@@ -90,10 +90,26 @@ pub(crate) fn walk_events<R: Read, W: Write>(
     ensures begins { IfErr result (λ e. (f : ServeFault) → e ≡ RunFault.Serve f → BrokenOff setup.now events.now
         (streams (R.remaining reader.old) (W.contents writer.old)) (streams (R.remaining reader.new) (W.contents writer.new)) f) }
     ensures open { result ≢ Err (RunFault.Serve Closed) }
-    ensures other { IfErr result IsOfRun }
+    ensures other { IfErr result (IsOf (OfSchedule ∷ OfServing ∷ OfMemory ∷ [])) }
 {
     let mut session = Session::of(alloc, setup, events)?;
-    match serve(&mut session, reader, writer, &mut NoSource) {
+    reply_to_all(&mut session, reader, writer)
+}
+
+// Replies to the lines that the reader gives, without a source.
+fn reply_to_all<R: Read, W: Write>(
+    session: &mut Session,
+    reader: &mut R,
+    writer: &mut W,
+) -> Result<(), RunFault>
+    requires { session.old.is_closed ≡ false }
+    ensures ok { OnOk result (Replied session.old.state
+        (streams (R.remaining reader.old) (W.contents writer.old)) (streams (R.remaining reader.new) (W.contents writer.new))) }
+    ensures err { IfErr result (BrokenBy session.old.state
+        (streams (R.remaining reader.old) (W.contents writer.old)) (streams (R.remaining reader.new) (W.contents writer.new))) }
+    ensures open { result ≢ Err (RunFault.Serve Closed) }
+{
+    match serve(session, reader, writer, &mut NoSource) {
         Ok(()) => Ok(()),
         Err(fault) => Err(RunFault::Serve(fault)),
     }

@@ -1,6 +1,6 @@
 //! The program's words.
-ghost use Rattle.std.specs.Prelude.{◌↔◌, IsTrue, IfOk};
-ghost use Rattle.debug_server.specs.Jobs.{LosesScript};
+ghost use Rattle.std.specs.Prelude.{◌↔◌, IsTrue, IfOk, IfNone};
+ghost use Rattle.debug_server.specs.Jobs.{LosesScript, IsInRange};
 
 use crate::task::{Form, Job};
 use clap::error::ErrorKind;
@@ -21,11 +21,30 @@ const MIGRATED: &str =
 const LOGGED: &str =
     "One line an event, as its number and its words in a schedule, and below it a line for each place that it changed, as PLACE OLD -> NEW. Example:\n  uringwalk log examples/one_nop.json --from 3 --to 4";
 
+const LIVE: &str =
+    "A thread runs each thread of the script, the poller if there is one, and each kernel worker, all side by side; the script's schedule isn't run. It prints how many events there were, as closed E, and then answers commands as walk does. Another run may go another way: OUT keeps this one, for replay. Example:\n  uringwalk live examples/words_in_a_pipe/script.json --trace words.trace <examples/words_in_a_pipe/stdin\n  echo where | uringwalk replay words.trace";
+
 const ONTO_SCRIPT: &str = "OUT is SCRIPT's own file: the trace would take the script's place";
 
 const SCRIPT: &str = "A script: a setup, programs and a schedule, as JSON";
 
 const FORMS: &[&str] = &["1", "2"];
+
+/// The most turns that an actor of a live run makes.
+const MOST_TURNS: u32 = 1000000;
+
+/// How many it makes where the words don't say.
+const DEFAULT_TURNS: u32 = 1000;
+
+/// The most kernel workers of a live run.
+const MOST_WORKERS: u32 = 8;
+
+/// How many there are where the words don't say.
+const DEFAULT_WORKERS: u32 = 2;
+
+const BEYOND_TURNS: &str = "invalid value for '--turns <N>': a number from 1 to 1000000 is wanted";
+
+const BEYOND_WORKERS: &str = "invalid value for '--kernel <Q>': a number from 1 to 8 is wanted";
 
 // A word that names a file.
 fn file<'a>(alloc: Global, name: &'a str, help: &'a str) -> Arg<'a> {
@@ -42,19 +61,23 @@ fn walk_words<'a>(alloc: Global) -> Result<Command<'a>, AllocError> {
         .arg(file(alloc, "SCRIPT", SCRIPT))
 }
 
-fn trace_words<'a>(alloc: Global) -> Result<Command<'a>, AllocError> {
-    let form = Arg::new(alloc, "FORM")
+// The form of a trace.
+fn form_option<'a>(alloc: Global) -> Arg<'a> {
+    Arg::new(alloc, "FORM")
         .long("form")
         .help("1: the events alone; 2: the setup and the events")
         .default_value("2")
         .value_parser(FORMS)
-        .action(ArgAction::Set);
+        .action(ArgAction::Set)
+}
+
+fn trace_words<'a>(alloc: Global) -> Result<Command<'a>, AllocError> {
     Command::new(alloc, "trace")
         .about("Run a script's schedule, and write its trace to a file")
         .after_help(TRACED)
         .arg(file(alloc, "SCRIPT", SCRIPT))?
         .arg(file(alloc, "OUT", "Where the trace is written to"))?
-        .arg(form)
+        .arg(form_option(alloc))
 }
 
 fn migrate_words<'a>(alloc: Global) -> Result<Command<'a>, AllocError> {
@@ -105,6 +128,39 @@ fn log_words<'a>(alloc: Global) -> Result<Command<'a>, AllocError> {
         ))
 }
 
+// A word with a file behind it.
+fn file_option<'a>(alloc: Global, name: &'a str, word: &'a str, help: &'a str) -> Arg<'a> {
+    Arg::new(alloc, name)
+        .long(word)
+        .help(help)
+        .action(ArgAction::Set)
+}
+
+fn live_words<'a>(alloc: Global) -> Result<Command<'a>, AllocError> {
+    Command::new(alloc, "live")
+        .about("Run a script's threads side by side, and answer commands from standard input")
+        .after_help(LIVE)
+        .arg(file(alloc, "SCRIPT", SCRIPT))?
+        .arg(number(
+            alloc,
+            "N",
+            "turns",
+            "How many turns each makes, 1 to 1000000; where left out, 1000",
+        ))?
+        .arg(number(
+            alloc,
+            "Q",
+            "kernel",
+            "How many kernel workers there are, 1 to 8; where left out, 2",
+        ))?
+        .arg(file_option(
+            alloc,
+            "OUT",
+            "trace",
+            "Where the trace of the run is written to",
+        ))
+}
+
 fn text_of<'a>(matches: &ArgMatches<'a>, name: &str) -> &'a str {
     matches.get_str(name).unwrap_or("")
 }
@@ -135,6 +191,12 @@ fn job_of<'a>(name: &str, matches: &ArgMatches<'a>) -> Job<'a> {
             to: matches.get_one::<u32>("N"),
         },
         "replay" => Job::Replay(text_of(matches, "TRACE")),
+        "live" => Job::Live {
+            script,
+            turns: matches.get_one::<u32>("N").unwrap_or(DEFAULT_TURNS),
+            kernel: matches.get_one::<u32>("Q").unwrap_or(DEFAULT_WORKERS),
+            out: matches.get_str("OUT"),
+        },
         _ => Job::Walk(script),
     }
 }
@@ -146,31 +208,78 @@ fn loses_script(job: Job<'_>) -> bool
     match job {
         Job::Trace { script, out, .. } => out == script,
         Job::Migrate { script, out, .. } => out == script,
-        Job::Walk(_) | Job::Replay(_) | Job::Log { .. } => false,
+        Job::Live {
+            script,
+            out: Some(out),
+            ..
+        } => out == script,
+        Job::Walk(_) | Job::Replay(_) | Job::Log { .. } | Job::Live { out: None, .. } => false,
     }
 }
 
-/// Reads the words of the program. Words that can't be read, help, and a trace onto its script are
-/// errors with their text.
-pub fn job<'a>(alloc: Global, words: &'a [&'a str]) -> Result<Job<'a>, Error>
-    ensures keeps_script { IfOk result (λ j. LosesScript j → ⊥) }
+// Which number of a job is out of its range, as a text that tells the range.
+fn out_of_range(job: Job<'_>) -> Option<&'static str>
+    ensures { IfNone result (IsInRange job.entry) }
 {
-    let mut command = Command::new(alloc, "uringwalk")
+    match job {
+        Job::Live { turns, .. } if turns < 1 || turns > MOST_TURNS => Some(BEYOND_TURNS),
+        Job::Live { kernel, .. } if kernel < 1 || kernel > MOST_WORKERS => Some(BEYOND_WORKERS),
+        _ => None,
+    }
+}
+
+// The program with one word more.
+fn with<'a>(
+    command: Command<'a>,
+    word: Result<Command<'a>, AllocError>,
+) -> Result<Command<'a>, AllocError> {
+    command.subcommand(word?)
+}
+
+// The program, with all its words.
+fn program<'a>(alloc: Global) -> Result<Command<'a>, AllocError> {
+    let command = Command::new(alloc, "uringwalk")
         .about("A reversible debugger for io_uring programs")
         .after_help(EXAMPLE)
-        .subcommand_required(true)
-        .subcommand(walk_words(alloc)?)?
-        .subcommand(trace_words(alloc)?)?
-        .subcommand(migrate_words(alloc)?)?
-        .subcommand(replay_words(alloc)?)?
-        .subcommand(log_words(alloc)?)?;
+        .subcommand_required(true);
+    let command = with(command, walk_words(alloc))?;
+    let command = with(command, trace_words(alloc))?;
+    let command = with(command, migrate_words(alloc))?;
+    let command = with(command, replay_words(alloc))?;
+    let command = with(command, log_words(alloc))?;
+    with(command, live_words(alloc))
+}
+
+// What the words ask for, whatever its files and numbers are.
+fn asked<'a>(command: &mut Command<'a>, words: &'a [&'a str]) -> Result<Job<'a>, Error> {
     let matches = command.try_get_matches_from_mut(words)?;
-    let job = match matches.subcommand() {
+    Ok(match matches.subcommand() {
         Some((name, matches)) => job_of(name, matches),
         None => Job::Walk(""),
-    };
-    if loses_script(job) {
-        return Err(command.error(ErrorKind::ArgumentConflict, ONTO_SCRIPT)?);
+    })
+}
+
+// The error of a kind, with its text.
+fn refused(command: &mut Command<'_>, kind: ErrorKind, text: &str) -> Error {
+    match command.error(kind, text) {
+        Ok(error) => error,
+        Err(error) => Error::from(error),
     }
-    Ok(job)
+}
+
+/// Reads the words of the program. Words that can't be read, help, a trace onto its script, and a number out
+/// of its range are errors with their text.
+pub fn job<'a>(alloc: Global, words: &'a [&'a str]) -> Result<Job<'a>, Error>
+    ensures keeps_script { IfOk result (λ j. LosesScript j → ⊥) }
+    ensures in_range { IfOk result IsInRange }
+{
+    let mut command = program(alloc)?;
+    let job = asked(&mut command, words)?;
+    if loses_script(job) {
+        return Err(refused(&mut command, ErrorKind::ArgumentConflict, ONTO_SCRIPT));
+    }
+    match out_of_range(job) {
+        Some(text) => Err(refused(&mut command, ErrorKind::ValueValidation, text)),
+        None => Ok(job),
+    }
 }

@@ -1,10 +1,12 @@
 -- The layouts are one to one.
-use Rattle.std.proofs.Common.{◌≡◌, ℕ, ◌+◌, ◌<◌, ◌^◌, ℤ, List, ◌++◌, length, drop, refl, sym, ap, ◌∙◌, arith, length-drop, FitsSigned, w32, to_z, of_z}
+use Rattle.std.proofs.Common.{◌≡◌, ℕ, ◌+◌, ◌<◌, ◌^◌, ℤ, List, [], ◌++◌, append-nil, length, drop, refl, sym, ap, ◌∙◌, arith, length-drop, FitsSigned, w32, to_z, of_z}
 use Rattle.std.proofs.lemmas.Int.{to_z-of_z, ints}
 use Rattle.std.proofs.lemmas.List.{drop-drop, take-append-drop, take_all}
+use Rattle.byteorder.specs.Endian.{little_bytes, little_number}
+use Rattle.byteorder.specs.Numbers.{little_number-reads_back}
 use Rattle.entries.specs.declared.completion.Cqe.{Cqe}
 use Rattle.entries.specs.declared.entry.Sqe.{Sqe}
-use Rattle.entries.specs.Layout.{BytesAt, NumberAt, SignedAt, EntryFits, EntryLayout, CompletionFits, CompletionLayout, completion_bytes, entry_bytes}
+use Rattle.entries.specs.Layout.{BytesAt, NumberAt, SignedAt, EntryFits, EntryLayout, CompletionFits, CompletionLayout, completion_bytes, entry_bytes, number_at, signed_at, entry_of_bytes}
 use Rattle.entries.proofs.ByteLemmas.{same_number}
 
 -- a part, and what stands behind it
@@ -92,3 +94,29 @@ same_entry d e bytes f g h i =
     let p12 = signed_is 44 d.splice_fd_in e.splice_fd_in bytes f.splice_fd_in g.splice_fd_in h.splice_fd_in i.splice_fd_in in
     let p13 : d.rest ≡ e.rest = sym h.rest ∙ i.rest in
     entry_of-same _ _ _ _ _ _ _ _ _ _ _ _ _ _ _ _ _ _ _ _ _ _ _ _ _ _ p1 p2 p3 p4 p5 p6 p7 p8 p9 p10 p11 p12 p13
+
+-- the number that stands at an offset is the one that is read there
+number_here : (o n x : ℕ) (bytes : List ℕ) → x < 256 ^ n → NumberAt o n x bytes → x ≡ number_at o n bytes
+number_here o n x bytes l h = sym (ap (little_number n) h ∙ ap (little_number n) (sym (append-nil (little_bytes n x))) ∙ little_number-reads_back n x [] l)
+
+signed_here : (o : ℕ) (z : ℤ) (bytes : List ℕ) → FitsSigned w32 z → SignedAt o 4 z bytes → z ≡ signed_at o bytes
+signed_here o z bytes f h = sym (to_z-of_z w32 z f) ∙ ap (to_z w32) (number_here o 4 (of_z w32 z) bytes (of_z_small z f) h)
+
+-- the entry that lies in some bytes is the one that is read of them
+pub entry_here : (e : Sqe) (bytes : List ℕ) → EntryFits e → EntryLayout e bytes → e ≡ entry_of_bytes bytes
+unfolding entry_of_bytes
+entry_here e bytes f h =
+    entry_of-same _ _ _ _ _ _ _ _ _ _ _ _ _ _ _ _ _ _ _ _ _ _ _ _ _ _
+    (number_here 0 1 e.opcode bytes f.opcode h.opcode)
+    (number_here 1 1 e.flags bytes f.flags h.flags)
+    (number_here 2 2 e.ioprio bytes f.ioprio h.ioprio)
+    (signed_here 4 e.fd bytes f.fd h.fd)
+    (number_here 8 8 e.off bytes f.off h.off)
+    (number_here 16 8 e.addr bytes f.addr h.addr)
+    (number_here 24 4 e.len bytes f.len h.len)
+    (number_here 28 4 e.operation_flags bytes f.operation_flags h.operation_flags)
+    (number_here 32 8 e.user_data bytes f.user_data h.user_data)
+    (number_here 40 2 e.buf_index bytes f.buf_index h.buf_index)
+    (number_here 42 2 e.personality bytes f.personality h.personality)
+    (signed_here 44 e.splice_fd_in bytes f.splice_fd_in h.splice_fd_in)
+    (sym h.rest)

@@ -1,8 +1,8 @@
 -- How entries and completions lie in memory (io_uring_enter(2)). A list of bytes is a list of numbers
 -- below 256.
 use Rattle.std.specs.Prelude.{◌≡◌, ◌<◌, ◌^◌, ◌+◌, ◌++◌, ℕ, ℤ, FitsSigned, List, length, take, drop}
-use Rattle.std.specs.Int.{w32, cast_unsigned}
-use Rattle.byteorder.specs.Endian.{little_bytes}
+use Rattle.std.specs.Int.{w32, cast_signed, cast_unsigned}
+use Rattle.byteorder.specs.Endian.{little_bytes, little_number}
 use Rattle.entries.specs.declared.completion.Cqe.{Cqe}
 use Rattle.entries.specs.declared.entry.Sqe.{Sqe}
 
@@ -38,6 +38,32 @@ pub record EntryLayout (entry : Sqe) (bytes : List ℕ) : Type 0 where
   pub personality : NumberAt 42 2 entry.personality bytes
   pub splice_fd_in : SignedAt 44 4 entry.splice_fd_in bytes
   pub rest : BytesAt 48 16 entry.rest bytes
+
+-- the unsigned number that stands from the offset on
+abbrev pub number_at : ℕ → ℕ → List ℕ → ℕ
+number_at offset width bytes = little_number width (take width (drop offset bytes))
+
+-- the signed number of 32 bits that stands from the offset on
+abbrev pub signed_at : ℕ → List ℕ → ℤ
+signed_at offset bytes = cast_signed w32 (number_at offset 4 bytes)
+
+-- the one entry that 64 bytes hold in that layout
+unfoldable pub entry_of_bytes : List ℕ → Sqe
+entry_of_bytes bytes = record {
+  opcode = number_at 0 1 bytes;
+  flags = number_at 1 1 bytes;
+  ioprio = number_at 2 2 bytes;
+  fd = signed_at 4 bytes;
+  off = number_at 8 8 bytes;
+  addr = number_at 16 8 bytes;
+  len = number_at 24 4 bytes;
+  operation_flags = number_at 28 4 bytes;
+  user_data = number_at 32 8 bytes;
+  buf_index = number_at 40 2 bytes;
+  personality = number_at 42 2 bytes;
+  splice_fd_in = signed_at 44 bytes;
+  rest = take 16 (drop 48 bytes);
+}
 
 -- the bytes of a completion
 pub record CompletionLayout (completion : Cqe) (bytes : List ℕ) : Type 0 where

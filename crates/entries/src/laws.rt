@@ -2,7 +2,7 @@
 ghost use Rattle.std.specs.Prelude.{◌≡◌, ◌↔◌, ℕ, List, length};
 ghost use Rattle.entries.specs.declared.completion.Cqe.{Cqe};
 ghost use Rattle.entries.specs.declared.entry.Sqe.{Sqe};
-ghost use Rattle.entries.specs.Layout.{EntryFits, EntryLayout, CompletionFits, CompletionLayout, completion_bytes, entry_bytes};
+ghost use Rattle.entries.specs.Layout.{EntryFits, EntryLayout, CompletionFits, CompletionLayout, completion_bytes, entry_bytes, entry_of_bytes};
 
 use crate::completion::Cqe;
 use crate::entry::Sqe;
@@ -15,6 +15,11 @@ pub fn one_list_of_an_entry()
 /// Bytes hold one entry.
 pub fn one_entry_of_a_list()
     ensures { (d e : Sqe) (bytes : List ℕ) → EntryFits d → EntryFits e → EntryLayout d bytes → EntryLayout e bytes → d ≡ e }
+{}
+
+/// The entry that lies in some bytes is the one that the layout's fields of them make.
+pub fn entry_made_of_a_list()
+    ensures { (e : Sqe) (bytes : List ℕ) → EntryFits e → EntryLayout e bytes → e ≡ entry_of_bytes bytes }
 {}
 
 /// A completion lies in one list of bytes.

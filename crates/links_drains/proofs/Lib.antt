@@ -9,11 +9,10 @@ pub mod FailingRows
 pub mod Filters
 pub mod Fixed
 pub mod Indexing
-pub mod IssuedRows
+pub mod NextRows
 pub mod Listing
 pub mod MetRows
 pub mod Numbers
-pub mod QueuedRows
 pub mod Reaching
 pub mod Rising
 pub mod Remaining

@@ -29,8 +29,12 @@ none_behind p (suc k) (x ∷ xs) h = ap (λ ys. cond (p x) (x ∷ ys) ys) (none_
 
 -- ---- the rest of a row's unit, among the first rows
 
+-- the test of a row with its number
+abbrev in_rest : List Row → ℕ → ℕ × Row → Bool
+in_rest rows r p = is_rest rows r p.0 p.1
+
 abbrev pub rest_to : List Row → ℕ → ℕ → List ℕ
-rest_to rows r k = map (λ (other : ℕ × Row). other.0) (filter (is_rest rows r) (take k (enumerate_from 0 rows)))
+rest_to rows r k = map (λ (other : ℕ × Row). other.0) (filter (in_rest rows r) (take k (enumerate_from 0 rows)))
 
 -- a test of the numbered rows, row by row
 pub numbered : (test : ℕ × Row → Bool) (rows : List Row) (i : ℕ) (p : ℕ × Row) → ((row : Row) → slice_get rows i ≡ Some row → test (i, row) ≡ false) → slice_get (enumerate_from 0 rows) i ≡ Some p → test p ≡ false
@@ -41,19 +45,19 @@ numbered test rows i p h e = by (slice_get rows i) refl (sym (enumerated rows i)
     by (Some row) g k = let same : (i, row) ≡ p = cc in ap test (sym same) ∙ h row g
 
 pub rest_start : (rows : List Row) (r : ℕ) → [] ≡ rest_to rows r (r + 1)
-rest_start rows r = sym (ap (map (λ (other : ℕ × Row). other.0)) (none_before (is_rest rows r) (r + 1) (enumerate_from 0 rows)
-    (λ i p l e. numbered (is_rest rows r) rows i p (λ row g. and_left _ _ (late i l)) e)))
+rest_start rows r = sym (ap (map (λ (other : ℕ × Row). other.0)) (none_before (in_rest rows r) (r + 1) (enumerate_from 0 rows)
+    (λ i p l e. numbered (in_rest rows r) rows i p (λ row g. and_left _ _ (late i l)) e)))
   where
     late : (i : ℕ) → i < r + 1 → nat_lt r i ≡ false
     late i l = elim (cases_Bool (nat_lt r i)) [ inl t ↦ absurd (let x = ltb-true r i t in omega (arith, x, l)) | inr f ↦ f ]
 
-rest_more : (rows : List Row) (r k : ℕ) (row : Row) → slice_get rows k ≡ Some row → rest_to rows r (k + 1) ≡ rest_to rows r k ++ map (λ (other : ℕ × Row). other.0) (cond (is_rest rows r (k, row)) ((k, row) ∷ []) [])
+rest_more : (rows : List Row) (r k : ℕ) (row : Row) → slice_get rows k ≡ Some row → rest_to rows r (k + 1) ≡ rest_to rows r k ++ map (λ (other : ℕ × Row). other.0) (cond (in_rest rows r (k, row)) ((k, row) ∷ []) [])
 rest_more rows r k row h =
-    ap (λ xs. map (λ (other : ℕ × Row). other.0) (filter (is_rest rows r) xs)) (take_more (enumerate_from 0 rows) k (k, row) (enumerated rows k ∙ ap (option_map (λ (y : Row). (k, y))) h))
-    ∙ ap (map (λ (other : ℕ × Row). other.0)) (filter-append (is_rest rows r) (take k (enumerate_from 0 rows)) ((k, row) ∷ []))
-    ∙ map-append (λ (other : ℕ × Row). other.0) (filter (is_rest rows r) (take k (enumerate_from 0 rows))) (cond (is_rest rows r (k, row)) ((k, row) ∷ []) [])
+    ap (λ xs. map (λ (other : ℕ × Row). other.0) (filter (in_rest rows r) xs)) (take_more (enumerate_from 0 rows) k (k, row) (enumerated rows k ∙ ap (option_map (λ (y : Row). (k, y))) h))
+    ∙ ap (map (λ (other : ℕ × Row). other.0)) (filter-append (in_rest rows r) (take k (enumerate_from 0 rows)) ((k, row) ∷ []))
+    ∙ map-append (λ (other : ℕ × Row). other.0) (filter (in_rest rows r) (take k (enumerate_from 0 rows))) (cond (in_rest rows r (k, row)) ((k, row) ∷ []) [])
 
-here_is_rest : (rows : List Row) (r k : ℕ) (head row : Row) (b : Bool) → slice_get rows r ≡ Some head → r + 1 ≤ k → row.unit ≡ head.unit → is_open row ≡ b → is_rest rows r (k, row) ≡ b
+here_is_rest : (rows : List Row) (r k : ℕ) (head row : Row) (b : Bool) → slice_get rows r ≡ Some head → r + 1 ≤ k → row.unit ≡ head.unit → is_open row ≡ b → in_rest rows r (k, row) ≡ b
 here_is_rest rows r k head row b h l u e =
     ap (λ c. c && (passes_at (λ (x : Row). row.unit == x.unit) rows r && is_open row)) (lt-ltb r k (omega (arith, l)))
     ∙ ap (λ c. c && is_open row) (passes_here (λ (x : Row). row.unit == x.unit) rows r head h ∙ eq-eqb row.unit head.unit u) ∙ e
@@ -68,9 +72,9 @@ rest_on rows r k head row b h g l u e = rest_more rows r k row g ∙ ap (λ c. r
 
 -- no row from one on is of the unit
 pub rest_end : (rows : List Row) (r k : ℕ) → ((i : ℕ) (row head : Row) → k ≤ i → slice_get rows i ≡ Some row → slice_get rows r ≡ Some head → row.unit ≡ head.unit → ⊥) → rest_to rows r k ≡ rest_of rows r
-rest_end rows r k other = ap (map (λ (other : ℕ × Row). other.0)) (none_behind (is_rest rows r) k (enumerate_from 0 rows) (λ i p l e. numbered (is_rest rows r) rows i p (λ row g. apart i row l g) e))
+rest_end rows r k other = ap (map (λ (other : ℕ × Row). other.0)) (none_behind (in_rest rows r) k (enumerate_from 0 rows) (λ i p l e. numbered (in_rest rows r) rows i p (λ row g. apart i row l g) e))
   where
-    apart : (i : ℕ) (row : Row) → k ≤ i → slice_get rows i ≡ Some row → is_rest rows r (i, row) ≡ false
+    apart : (i : ℕ) (row : Row) → k ≤ i → slice_get rows i ≡ Some row → in_rest rows r (i, row) ≡ false
     apart i row l g = by (nat_lt r i) (passes_at (λ (x : Row). row.unit == x.unit) rows r) (is_open row) (of_unit (slice_get rows r) refl)
       where
         of_unit : (o : Option Row) → slice_get rows r ≡ o → passes_at (λ (x : Row). row.unit == x.unit) rows r ≡ false

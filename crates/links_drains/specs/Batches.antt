@@ -2,12 +2,13 @@
 use Rattle.std.specs.Prelude.{ℕ, zero, suc, ℤ, ◌+◌, ◌-◌, ◌==◌, Bool, false, not, ◌&&◌, if◌then◌else◌, Option, Some, None, is_none, is_some, slice_get, List, map, take}
 use Rattle.std.specs.Option.{option_and_then, option_map_or}
 use Rattle.std.specs.Result.{result_err}
-use Rattle.std.specs.List.{prefix_len, list_any, enumerate_from}
+use Rattle.std.specs.List.{prefix_len, list_any}
 use Rattle.entries.specs.declared.entry.Sqe.{Sqe}
 use Rattle.entries.specs.declared.row.Row.{Row}
 use Rattle.model_files.specs.Worlds.{WorldState}
 use Rattle.opcodes.specs.Check.{check_of, time_of}
 use Rattle.links_drains.specs.Endings.{Ending, ecanceled, given, or_else, endings_from}
+use Rattle.links_drains.specs.Numbered.{any_numbered, map_numbered}
 use Rattle.links_drains.specs.Links.{is_linked}
 use Rattle.links_drains.specs.Rows.{new_row}
 
@@ -38,7 +39,7 @@ error_at w entries i = option_and_then (error_of w entries i) (slice_get entries
 
 -- what each entry fails with, if it does
 abbrev pub errors_of : WorldState → List Sqe → List (Option ℤ)
-errors_of w entries = map (λ (p : ℕ × Sqe). error_of w entries p.0 p.1) (enumerate_from 0 entries)
+errors_of w entries = map_numbered (error_of w entries) entries
 
 -- whether a submission halts: one of the entries fails, and the ring doesn't go on behind an error (io_uring_setup(2), IORING_SETUP_SUBMIT_ALL)
 abbrev pub halts : Bool → WorldState → List Sqe → Bool
@@ -66,13 +67,13 @@ row_of w first entries i entry = new_row entry (first + chain_of entries i) (tim
 
 -- the rows that entries become, numbered from a first one, each in the unit that has the number of its chain's first row
 abbrev pub rows_of : WorldState → ℕ → List Sqe → List Row
-rows_of w first entries = map (λ (p : ℕ × Sqe). row_of w first entries p.0 p.1) (enumerate_from 0 entries)
+rows_of w first entries = map_numbered (row_of w first entries) entries
 
 -- ---- which rows end at once
 
 -- whether some entry of a chain fails
 abbrev pub chain_fails : WorldState → List Sqe → ℕ → Bool
-chain_fails w entries chain = list_any (λ (p : ℕ × Sqe). (chain_of entries p.0 == chain) && is_some (error_of w entries p.0 p.1)) (enumerate_from 0 entries)
+chain_fails w entries chain = any_numbered (λ i entry. (chain_of entries i == chain) && is_some (error_of w entries i entry)) entries
 
 -- what the row of an entry ends with, if it ends at once: its own error, or ECANCELED where another of its chain fails
 abbrev pub direct_result : WorldState → List Sqe → ℕ → Option ℤ

@@ -1,9 +1,10 @@
 -- Which requests may be issued (io_uring_enter(2), IOSQE_IO_LINK and IOSQE_IO_DRAIN): a filter over all that were ever submitted.
 use Rattle.std.specs.Prelude.{◌≡◌, ℕ, ◌<◌, ◌==◌, Bool, true, false, not, ◌&&◌, ◌||◌, nat_lt, Some, List, slice_get}
 use Rattle.std.specs.Option.{option_map_or}
-use Rattle.std.specs.List.{list_any, enumerate_from}
+use Rattle.std.specs.List.{list_any}
 use Rattle.entries.specs.declared.row.Row.{Row}
 use Rattle.links_drains.specs.Links.{asks_to_drain, is_guard}
+use Rattle.links_drains.specs.Numbered.{any_numbered}
 use Rattle.links_drains.specs.Phases.{is_queued, is_unfinished}
 
 -- A unit drains where some member has IO_DRAIN, one that has ended too.
@@ -24,7 +25,7 @@ waits_for rows r row q other = is_unfinished other.phase && (is_before_in_unit r
 
 -- a guard is issued with its target, and never by itself
 abbrev pub may_start : List Row → ℕ → Row → Bool
-may_start rows r row = is_queued row.phase && (not (is_guard row) && not (list_any (λ (p : ℕ × Row). waits_for rows r row p.0 p.1) (enumerate_from 0 rows)))
+may_start rows r row = is_queued row.phase && (not (is_guard row) && not (any_numbered (waits_for rows r row) rows))
 
 -- whether the row of a number may be issued
 abbrev pub is_eligible : List Row → ℕ → Bool

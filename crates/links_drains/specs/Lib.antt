@@ -13,3 +13,4 @@ pub mod Thresholds
 pub mod Units
 pub mod Beside
 pub mod Queued
+pub mod Numbered

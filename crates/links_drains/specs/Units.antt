@@ -1,9 +1,10 @@
 -- Units of rows, and which of them hold later ones.
-use Rattle.std.specs.Prelude.{◌≡◌, ℕ, ◌==◌, ◌≤◌, ◌<◌, Bool, true, false, ◌&&◌, nat_lt, nat_le, Option, Some, List, map, slice_get}
+use Rattle.std.specs.Prelude.{◌≡◌, ℕ, ◌==◌, Bool, true, false, ◌&&◌, nat_lt, Option, Some, List, slice_get}
 use Rattle.std.specs.Option.{option_map_or}
-use Rattle.std.specs.List.{filter, list_any, enumerate_from}
+use Rattle.std.specs.List.{list_any}
 use Rattle.entries.specs.declared.row.Row.{Row}
 use Rattle.links_drains.specs.Eligible.{drains}
+use Rattle.links_drains.specs.Numbered.{numbers_where, next_where, IsNextWhere, NoneWhere}
 use Rattle.links_drains.specs.Phases.{is_issued, is_unfinished}
 use Rattle.links_drains.specs.Sets.{has}
 
@@ -18,31 +19,23 @@ is_open row = is_unfinished row.phase
 abbrev pub is_going : Row → Bool
 is_going row = is_issued row.phase
 
--- the numbers of the issued rows from one on, in order, and the least of them
-abbrev pub issued_from : List Row → ℕ → List ℕ
-issued_from rows from = map (λ (p : ℕ × Row). p.0) (filter (λ (p : ℕ × Row). nat_le from p.0 && is_going p.1) (enumerate_from 0 rows))
-
+-- the least issued row from a number on
 abbrev pub next_issued : List Row → ℕ → Option ℕ
-next_issued rows from = slice_get (issued_from rows from) 0
+next_issued = next_where is_going
 
--- r is the least issued row from a number on.
-pub record IsNextIssued (rows : List Row) (from r : ℕ) : Type 0 where
-  pub after : from ≤ r
-  pub row : Row
-  pub there : slice_get rows r ≡ Some row
-  pub issued : is_going row ≡ true
-  pub least : (i : ℕ) (x : Row) → from ≤ i → i < r → slice_get rows i ≡ Some x → is_going x ≡ false
+abbrev pub IsNextIssued : List Row → ℕ → ℕ → Type 0
+IsNextIssued = IsNextWhere is_going
 
 abbrev pub NoneIssuedFrom : List Row → ℕ → Type 0
-NoneIssuedFrom rows from = (i : ℕ) (x : Row) → from ≤ i → slice_get rows i ≡ Some x → is_going x ≡ false
+NoneIssuedFrom = NoneWhere is_going
 
 -- whether a row stands behind another of its unit, and hasn't ended
-abbrev pub is_rest : List Row → ℕ → ℕ × Row → Bool
-is_rest rows r other = nat_lt r other.0 && (passes_at (λ (row : Row). other.1.unit == row.unit) rows r && is_open other.1)
+abbrev pub is_rest : List Row → ℕ → ℕ → Row → Bool
+is_rest rows r k other = nat_lt r k && (passes_at (λ (row : Row). other.unit == row.unit) rows r && is_open other)
 
 -- the later rows of a row's unit that haven't ended
 abbrev pub rest_of : List Row → ℕ → List ℕ
-rest_of rows r = map (λ (other : ℕ × Row). other.0) (filter (is_rest rows r) (enumerate_from 0 rows))
+rest_of rows r = numbers_where (is_rest rows r) rows
 
 -- whether some row of a unit hasn't ended
 abbrev pub is_under_way : List Row → ℕ → Bool

@@ -11,8 +11,7 @@ use std::alloc::{AllocError, Global};
 
 /// What an entry of a batch fails with as it is submitted, if it does.
 pub(crate) fn error_at(world: &World, entries: &[Sqe], i: usize) -> Option<i32>
-    requires memory { length world.now.memory ≡ 65536 }
-    requires within { i < length entries.now }
+    requires { i < length entries.now }
     ensures { result ≡ error_at world.now entries.now i }
 {
     let behind = behind_at(entries, i);
@@ -50,7 +49,6 @@ pub(crate) fn direct_ends(
     first: u32,
     rows: &[Row],
 ) -> Result<Vec<(u32, i32)>, AllocError>
-    requires memory { length world.now.memory ≡ 65536 }
     requires batch { rows.now ≡ rows_of world.now first entries.now }
     requires few { first + length entries.now ≤ 65536 }
     ensures { IfOk result (λ direct. direct.items ≡ direct_of world.now first entries.now) }
@@ -75,8 +73,7 @@ fn failing_chains(
     first: u32,
     rows: &[Row],
 ) -> Result<Vec<bool>, AllocError>
-    requires memory { length world.now.memory ≡ 65536 }
-    requires batch { rows.now ≡ rows_of world.now first entries.now }
+    requires { rows.now ≡ rows_of world.now first entries.now }
     ensures { IfOk result (λ failing. (u : ℕ) → u < length rows.now → slice_get failing.items u ≡ Some (chain_fails world.now entries.now u)) }
 {
     let mut failing = Vec::from_elem(alloc, false, rows.len())?;

@@ -38,8 +38,7 @@ impl Table {
         submit_all: bool,
         notes: &mut Recorder,
     ) -> Result<Batch, AllocError>
-        requires few { length self.old + length entries.now ≤ 65536 }
-        requires memory { length world.now.memory ≡ 65536 }
+        requires { length self.old + length entries.now ≤ 65536 }
         ensures ok { OnOk result (self.new ≡ self.old ++ rows_of world.now (length self.old) (taken_of submit_all world.now entries.now)) }
         ensures taken { IfOk result (λ batch. batch.taken ≡ length (taken_of submit_all world.now entries.now)) }
         ensures halted { IfOk result (λ batch. batch.halted ≡ halts submit_all world.now entries.now) }
@@ -74,8 +73,7 @@ impl Table {
         world: &World,
         notes: &mut Recorder,
     ) -> Result<Vec<(u32, i32)>, AllocError>
-        requires few { length self.old + length entries.now ≤ 65536 }
-        requires memory { length world.now.memory ≡ 65536 }
+        requires { length self.old + length entries.now ≤ 65536 }
         ensures ok { OnOk result (self.new ≡ self.old ++ rows_of world.now (length self.old) entries.now) }
         ensures len { OnOk result (length self.new ≡ length self.old + length entries.now) }
         ensures direct { IfOk result (λ direct. direct.items ≡ direct_of world.now (length self.old) entries.now) }
@@ -98,8 +96,7 @@ impl Table {
         world: &World,
         notes: &mut Recorder,
     ) -> Result<(), AllocError>
-        requires few { length self.old + length entries.now ≤ 65536 }
-        requires memory { length world.now.memory ≡ 65536 }
+        requires { length self.old + length entries.now ≤ 65536 }
         ensures ok { OnOk result (self.new ≡ self.old ++ rows_of world.now (length self.old) entries.now) }
         ensures before { take (length self.old) self.new ≡ self.old }
         ensures keeps { Keeps table_owns (table_seen self.old) (table_seen self.new) notes.old.made notes.new.made }
@@ -123,7 +120,6 @@ impl Table {
 
 // The row that an entry of a batch becomes, in a unit; the rows of the batch are numbered from a first one.
 fn row_at(world: &World, entries: &[Sqe], i: usize, first: u32, unit: u32) -> Row
-    requires memory { length world.now.memory ≡ 65536 }
     requires within { i < length entries.now }
     requires few { first + length entries.now ≤ 65536 }
     ensures { (entry : Sqe) → slice_get entries.now i ≡ Some entry
@@ -139,7 +135,6 @@ fn row_at(world: &World, entries: &[Sqe], i: usize, first: u32, unit: u32) -> Ro
 
 // The row that an entry of a batch guards.
 fn target_at(world: &World, entries: &[Sqe], i: usize, first: u32) -> Option<u32>
-    requires memory { length world.now.memory ≡ 65536 }
     requires within { i < length entries.now }
     requires few { first + length entries.now ≤ 65536 }
     ensures { (entry : Sqe) → slice_get entries.now i ≡ Some entry → result ≡ target_of world.now first entries.now i entry }
@@ -152,7 +147,6 @@ fn target_at(world: &World, entries: &[Sqe], i: usize, first: u32) -> Option<u32
 
 // How many of the entries that are offered become rows, and whether the last of these fails.
 fn taken_count(entries: &[Sqe], world: &World, submit_all: bool) -> (usize, bool)
-    requires memory { length world.now.memory ≡ 65536 }
     ensures taken { take result.0 entries.now ≡ taken_of submit_all world.now entries.now }
     ensures within { result.0 ≤ length entries.now }
     ensures halted { result.1 ≡ halts submit_all world.now entries.now }

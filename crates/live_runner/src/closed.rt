@@ -8,9 +8,9 @@ use places::Items;
 use scenario::{Event, Setup};
 use std::marker::Model;
 
-/// A run that has ended, with what each actor was told.
+/// A run whose actors have ended, with what each says that it was told.
 #[derive(Drop)]
-pub struct Closed {
+pub(crate) struct Ended {
     pub(crate) setup: Setup,
     pub(crate) actors: u32,
     pub(crate) events: Vec<Event>,
@@ -19,14 +19,35 @@ pub struct Closed {
     pub(crate) lists: Vec<Items<Receipt>>,
 }
 
+impl Model for Ended {
+    ghost use Rattle.live_runner.specs.History.{Past};
+
+    ghost Value = { Past };
+
+    ghost view = { λ c. record {
+      setup = c.setup;
+      actors = c.actors;
+      events = c.events.items;
+      owners = c.owners.items;
+      state = c.state;
+      receipts = c.lists.items;
+    } };
+}
+
+/// A run that has ended, with what each actor was told.
+#[derive(Drop)]
+pub struct Closed {
+    pub(crate) ended: Ended,
+}
+
 impl Model for Closed {
     ghost use Rattle.live_runner.specs.History.{Past, Whole};
 
     ghost Value = { Past };
 
-    ghost view = { λ c. record { setup = c.setup; actors = c.actors; events = c.events.items; owners = c.owners.items; state = c.state; receipts = c.lists.items } };
+    ghost view = { λ c. c.ended };
 
-    ghost invariant = { λ c. Whole (record { setup = c.setup; actors = c.actors; events = c.events.items; owners = c.owners.items; state = c.state; receipts = c.lists.items }) };
+    ghost invariant = { λ c. Whole c.ended };
 }
 
 impl Closed {
@@ -36,14 +57,14 @@ impl Closed {
     pub fn setup(&self) -> &Setup
         ensures { result.now ≡ self.now.setup }
     {
-        &self.setup
+        &self.ended.setup
     }
 
     /// How many actors there were.
     pub fn actors(&self) -> u32
         ensures { result ≡ self.now.actors }
     {
-        self.actors
+        self.ended.actors
     }
 
     /// The events, in order.
@@ -51,14 +72,14 @@ impl Closed {
         ensures events { result.now ≡ self.now.events }
         ensures whole { Whole self.now }
     {
-        &self.events
+        &self.ended.events
     }
 
     /// The state at the end.
     pub fn state(&self) -> &State
         ensures { result.now ≡ self.now.state }
     {
-        &self.state
+        &self.ended.state
     }
 
     /// What an actor was told: its events, with their moments.
@@ -67,7 +88,7 @@ impl Closed {
         ensures list { slice_get self.now.receipts actor ≡ Some result.now }
         ensures told { result.now ≡ told actor self.now.owners self.now.events }
     {
-        self.lists[actor as usize].as_slice()
+        self.ended.lists[actor as usize].as_slice()
     }
 
     /// The event of a receipt, if the run has that event at its moment, and it is its actor's.
@@ -89,8 +110,8 @@ impl Closed {
         ensures { (result ≡ true) ↔ IsOf self.now.owners self.now.events receipt.now }
     {
         let moment = receipt.moment as usize;
-        has_owner(&self.owners, moment, receipt.actor)
-            && has_event(&self.events, moment, receipt.event)
+        has_owner(&self.ended.owners, moment, receipt.actor)
+            && has_event(&self.ended.events, moment, receipt.event)
     }
 }
 

@@ -1,9 +1,9 @@
 //! How a run is closed.
 ghost use Rattle.std.specs.Prelude.{◌≡◌, ◌↔◌, ◌+◌, ◌++◌, ◌∷◌, ◌^◌, ◌<◌, ◌≤◌, [], length, true, IfOk, IfErr, IfSome, IfNone, OnOk, vec_len, vec_capacity, slice_get, Some, option_map};
 ghost use Rattle.live_runner.specs.Told.{receipt, told, AllTold, LeastTorn};
-ghost use Rattle.live_runner.specs.History.{told_to, WorkInOrder, closed_of, receipt_count};
+ghost use Rattle.live_runner.specs.History.{told_to, WorkInOrder, Whole, closed_of, receipt_count};
 
-use crate::closed::Closed;
+use crate::closed::{Closed, Ended};
 use crate::lives::Live;
 use crate::receipt::Receipt;
 use crate::seat::Seat;
@@ -29,6 +29,24 @@ pub fn finish<'g, L: Ledger, G: Gate>(
     ensures whole { OnOk result (AllTold live.owners live.events (told_to workers.entry.items)) }
     ensures torn { IfErr result (λ t. LeastTorn live.owners live.events (told_to workers.entry.items) t.0) }
 {
+    let ended = end(live, workers);
+    match first_torn(&ended.owners, &ended.events, &ended.lists) {
+        Some(actor) => Err(Torn(actor)),
+        None => Ok(Closed { ended }),
+    }
+}
+
+// Ends a run whose actors have ended: all shares come back, with what each worker was told.
+fn end<'g, L: Ledger, G: Gate>(live: Live<L>, workers: Vec<Worker<'g, L, G>>) -> Ended
+    requires all { length workers.items ≡ L.parts }
+    requires actors { length workers.items ≡ live.actors }
+    ensures count { receipt_count workers.entry.items ≡ length live.events }
+    ensures value { result ≡ closed_of live (told_to workers.entry.items) }
+    ensures few { length (told_to workers.entry.items) < 2 ^ 32 }
+    ensures pairs { length live.owners ≡ length live.events }
+    ensures most { length live.events ≤ 1048576 }
+    ensures whole { AllTold live.owners live.events (told_to workers.entry.items) → Whole (closed_of live (told_to workers.entry.items)) }
+{
     let Live {
         alloc: _,
         setup,
@@ -43,16 +61,13 @@ pub fn finish<'g, L: Ledger, G: Gate>(
     } = live;
     give_all_back(workers, &mut share, &mut lists);
     book.audit(&mut share);
-    match first_torn(&owners, &events, &lists) {
-        Some(actor) => Err(Torn(actor)),
-        None => Ok(Closed {
-            setup,
-            actors,
-            events,
-            owners,
-            state,
-            lists,
-        }),
+    Ended {
+        setup,
+        actors,
+        events,
+        owners,
+        state,
+        lists,
     }
 }
 

@@ -2,7 +2,7 @@
 use Rattle.std.proofs.Common.{◌≡◌, ℕ, ℤ, Bool, true, false, cond, refl, sym, ◌∙◌, ap, List, [], ◌∷◌, length, map, ◌+◌, arith}
 use Rattle.std.proofs.lemmas.Bool.{eqb-true}
 use Rattle.std.specs.Prelude.{Option, Some, None, option_map, slice_get, not, ◌==◌}
-use Rattle.std.specs.List.{cons_option, enumerate_from, filter}
+use Rattle.std.specs.List.{cons_option, filter}
 use Rattle.std.specs.Option.{option_map_or}
 use Rattle.entries.specs.declared.row.Row.{Row}
 use Rattle.entries.specs.declared.row.Phase.TheVariants.{Ended}
@@ -12,6 +12,7 @@ use Rattle.ring_words.specs.Rings.{with_flag}
 use Rattle.ring_words.specs.declared.flag.RingFlag.TheVariants.{CqOverflow}
 use Rattle.overflow.specs.Backlogs.{Delivery, DeliveryFormed, all_posted, is_clear}
 use Rattle.overflow.proofs.KeptInOrder.{posted_formed}
+use Rattle.links_drains.specs.Numbered.{map_numbered}
 use Rattle.links_drains.specs.Endings.{Ending, result_in}
 use Rattle.links_drains.specs.Phases.{counts, is_ended}
 use Rattle.links_drains.proofs.RowsKept.{get-updated}
@@ -112,8 +113,8 @@ listed_once rows (e ∷ es) r row h g u = by (e.0 == r) refl (λ k. listed_once 
 
 -- ---- the first row, and then the others
 
-same_rows : (rows : List Row) (e : Ending) (es : List Ending) → CanEnd rows (e ∷ es) → map (ended_by es) (enumerate_from 0 (updated (ending e.1) rows e.0)) ≡ map (ended_by (e ∷ es)) (enumerate_from 0 rows)
-same_rows rows e es h = same_list _ _ (λ i. mapped_at (ended_by es) (updated (ending e.1) rows e.0) i ∙ ap (option_map (λ row. ended_by es (i, row))) (get-updated (ending e.1) rows e.0 i) ∙ by i (e.0 == i) refl (slice_get rows i) ∙ sym (mapped_at (ended_by (e ∷ es)) rows i))
+same_rows : (rows : List Row) (e : Ending) (es : List Ending) → CanEnd rows (e ∷ es) → map_numbered (ended_by es) (updated (ending e.1) rows e.0) ≡ map_numbered (ended_by (e ∷ es)) rows
+same_rows rows e es h = same_list _ _ (λ i. mapped_at (ended_by es) (updated (ending e.1) rows e.0) i ∙ ap (option_map (λ row. ended_by es i row)) (get-updated (ending e.1) rows e.0 i) ∙ by i (e.0 == i) refl (slice_get rows i) ∙ sym (mapped_at (ended_by (e ∷ es)) rows i))
   where
     there : slice_get (updated (ending e.1) rows e.0) e.0 ≡ Some (ending e.1 h.0)
     there = here (ending e.1) rows e.0 h.0 h.1
@@ -121,10 +122,10 @@ same_rows rows e es h = same_list _ _ (λ i. mapped_at (ended_by es) (updated (e
     once : result_in es e.0 ≡ None
     once = listed_once (updated (ending e.1) rows e.0) es e.0 (ending e.1 h.0) h.3 there refl
 
-    by : (i : ℕ) (b : Bool) → (e.0 == i) ≡ b → (o : Option Row) → option_map (λ row. ended_by es (i, row)) (cond b (option_map (ending e.1) o) o) ≡ option_map (λ row. option_map_or (λ res. ending res row) (cond (e.0 == i) (Some e.1) (result_in es i)) row) o
+    by : (i : ℕ) (b : Bool) → (e.0 == i) ≡ b → (o : Option Row) → option_map (λ row. ended_by es i row) (cond b (option_map (ending e.1) o) o) ≡ option_map (λ row. option_map_or (λ res. ending res row) (cond (e.0 == i) (Some e.1) (result_in es i)) row) o
     by i b k None = none b
       where
-        none : (c : Bool) → option_map (λ row. ended_by es (i, row)) (cond c None None) ≡ None
+        none : (c : Bool) → option_map (λ row. ended_by es i row) (cond c None None) ≡ None
         none true = refl
         none false = refl
     by i true k (Some row) =
@@ -138,9 +139,9 @@ made m d rows n = record (with_delivery m d) { table = rows; counted = n }
 
 first_ended : (m : Machine) (e : Ending) (es : List Ending) → Posts m → CanEnd m.table (e ∷ es) → all_ended (ended m e.0 e.1) es ≡ all_ended m (e ∷ es)
 first_ended m e es h k =
-    ap (λ d. made m d (map (ended_by es) (enumerate_from 0 (updated (ending e.1) m.table e.0))) (m.counted + count_of (slice_get m.table e.0) + counted_in (updated (ending e.1) m.table e.0) es)) posting
+    ap (λ d. made m d (map_numbered (ended_by es) (updated (ending e.1) m.table e.0)) (m.counted + count_of (slice_get m.table e.0) + counted_in (updated (ending e.1) m.table e.0) es)) posting
     ∙ ap (λ rows. made m (all_posted (delivery m) (completions_of m.table (e ∷ es))) rows (m.counted + count_of (slice_get m.table e.0) + counted_in (updated (ending e.1) m.table e.0) es)) (same_rows m.table e es k)
-    ∙ ap (made m (all_posted (delivery m) (completions_of m.table (e ∷ es))) (map (ended_by (e ∷ es)) (enumerate_from 0 m.table))) counting
+    ∙ ap (made m (all_posted (delivery m) (completions_of m.table (e ∷ es))) (map_numbered (ended_by (e ∷ es)) m.table)) counting
   where
     posting : all_posted (all_posted (delivery m) (completion_at (slice_get m.table e.0) e.1)) (completions_of (updated (ending e.1) m.table e.0) es) ≡ all_posted (delivery m) (completions_of m.table (e ∷ es))
     posting =
@@ -158,11 +159,11 @@ first_ended m e es h k =
 
 none_ended : (m : Machine) → Posts m → all_ended m [] ≡ m
 none_ended m h =
-    ap (λ d. made m d (map (ended_by []) (enumerate_from 0 m.table)) (m.counted + 0)) (none_posted (delivery m) (is_asleep m.poller) h.flags)
+    ap (λ d. made m d (map_numbered (ended_by []) m.table) (m.counted + 0)) (none_posted (delivery m) (is_asleep m.poller) h.flags)
     ∙ ap (λ rows. made m (delivery m) rows (m.counted + 0)) (same_list _ m.table (λ i. mapped_at (ended_by []) m.table i ∙ by i (slice_get m.table i)))
     ∙ ap (made m (delivery m) m.table) (let n : m.counted + 0 ≡ m.counted = omega arith in n)
   where
-    by : (i : ℕ) (o : Option Row) → option_map (λ row. ended_by [] (i, row)) o ≡ o
+    by : (i : ℕ) (o : Option Row) → option_map (λ row. ended_by [] i row) o ≡ o
     by i None = refl
     by i (Some row) = refl
 

@@ -146,12 +146,12 @@ issued_open Queued h = refl
 issued_open Issued h = refl
 issued_open (Ended n) h = absurd cc
 
-match_open : (key : Key) (me : ℕ) (p : ℕ × Row) → is_match key me p ≡ true → is_unfinished p.1.phase ≡ true
+match_open : (key : Key) (me : ℕ) (p : ℕ × Row) → is_match key me p.0 p.1 ≡ true → is_unfinished p.1.phase ≡ true
 match_open key me p h = issued_open p.1.phase (both (is_issued p.1.phase) (not (is_guard p.1) && (not (p.0 == me) && fits_key key p.1)) h).0
 
 others_waiting : (rows : List Row) (w : WorldState) (key : Key) (me : ℕ) → Others rows 0 (waiting_by rows w key me)
 others_waiting rows w key me =
-    others_from rows (is_waiting_match w key me) (λ p h. match_open key me p (both (is_match key me p) (not (is_running w p.1)) h).0) 0 rows
+    others_from rows (λ p. is_waiting_match w key me p.0 p.1) (λ p h. match_open key me p (both (is_match key me p.0 p.1) (not (is_running w p.1)) h).0) 0 rows
     (λ i x e. let k : 0 + i ≡ i = omega arith in ap (slice_get rows) k ∙ e)
 
 others_found : (rows : List Row) (w : WorldState) (key : Key) (me : ℕ) → Others rows 0 (on_found (found_by rows w key me)).1
@@ -159,7 +159,7 @@ others_found rows w key me = by (slice_get (matches_of rows key me) 0) refl
   where
     waits : (p : ℕ × Row) → slice_get (matches_of rows key me) 0 ≡ Some p → (b : Bool) → Others rows 0 (on_found (if b then Running p.0 else Waiting p.0)).1
     waits p e true = tt
-    waits p e false = let t = first_there rows (is_match key me) p e in (p.1, t.0, match_open key me p t.1, omega arith, tt)
+    waits p e false = let t = first_there rows (λ q. is_match key me q.0 q.1) p e in (p.1, t.0, match_open key me p t.1, omega arith, tt)
 
     by : (o : Option (ℕ × Row)) → slice_get (matches_of rows key me) 0 ≡ o → Others rows 0 (on_found (found_first w o)).1
     by None e = tt
@@ -189,4 +189,4 @@ few_from test n (row ∷ rows) = by (test (n, row)) (few_from test (n + 1) rows)
 
 -- no more rows wait than there are
 pub few_waiting : (rows : List Row) (w : WorldState) (key : Key) (me : ℕ) → length (waiting_by rows w key me) ≤ length rows
-few_waiting rows w key me = few_from (is_waiting_match w key me) 0 rows
+few_waiting rows w key me = few_from (λ p. is_waiting_match w key me p.0 p.1) 0 rows

@@ -93,9 +93,9 @@ fallen_unmet m direct r x h = by (slice_get m.table r) refl (sym (mapped_at (end
     told y e None n = stays y e n (is_ended y.phase) refl
     told y e (Some res) n = refl
 
-    by : (o : Option Row) → slice_get m.table r ≡ o → option_map (λ y. ended_by falls (r, y)) o ≡ Some x → is_met total x ≡ false
+    by : (o : Option Row) → slice_get m.table r ≡ o → option_map (λ y. ended_by falls r y) o ≡ Some x → is_met total x ≡ false
     by None e k = absurd cc
-    by (Some y) e k = let same : ended_by falls (r, y) ≡ x = cc in ap (is_met total) (sym same) ∙ told y e (result_in falls r) refl
+    by (Some y) e k = let same : ended_by falls r y ≡ x = cc in ap (is_met total) (sym same) ∙ told y e (result_in falls r) refl
 
 -- guards that stand behind their targets, but for some that a step ends of itself, do once rows have fallen
 guards_in_turn : (m : Machine) (direct : List (ℕ × ℤ)) → ((r : ℕ) (x : Row) → slice_get m.table r ≡ Some x → is_guard x ≡ true → is_unfinished x.phase ≡ true → result_in direct r ≡ None → GuardStands m.table r x) → AllGuardsStand (ended_in_turn m (fall_of m.table m.counted direct)).table

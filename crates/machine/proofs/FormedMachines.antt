@@ -19,7 +19,6 @@ use Rattle.ring_words.specs.Rings.{waiting, with_flag}
 use Rattle.ring_words.specs.declared.flag.RingFlag.TheVariants.{NeedWakeup, CqOverflow}
 use Rattle.ring_words.proofs.Laws.{formed_pushed, formed_entry, formed_flag, formed_reaped}
 use Rattle.ring_words.proofs.Order.{waiting_less, waiting_more}
-use Rattle.ring_words.proofs.Sizes.{size_most}
 use Rattle.links_drains.specs.Counts.{is_met}
 use Rattle.links_drains.specs.Links.{is_guard}
 use Rattle.links_drains.specs.Phases.{is_ended, is_queued, counts, counted_of}
@@ -234,9 +233,9 @@ started_unmet c n rows r h i y e = at (slice_get rows i) refl (sym (mapped_at (s
     by x g true = started_alone_unmet c n x
     by x g false = h i x g
 
-    at : (o : Option Row) → slice_get rows i ≡ o → option_map (λ row. started_with c n r (i, row)) o ≡ Some y → is_met n y ≡ false
+    at : (o : Option Row) → slice_get rows i ≡ o → option_map (λ row. started_with c n r i row) o ≡ Some y → is_met n y ≡ false
     at None g k = absurd cc
-    at (Some x) g k = let same : started_with c n r (i, x) ≡ y = cc in ap (is_met n) (sym same) ∙ by x g ((i == r) || is_guard_of r x)
+    at (Some x) g k = let same : started_with c n r i x ≡ y = cc in ap (is_met n) (sym same) ∙ by x g ((i == r) || is_guard_of r x)
 
 issued_in_turn : (m : Machine) (r : ℕ) (x : Row) → WellFormed m → slice_get m.table r ≡ Some x → x.phase ≡ Queued → is_guard x ≡ false → lacks_descriptor m.world x ≡ false → WellFormed (record m { table = started_in_turn m.clock m.counted m.table r })
 issued_in_turn m r x h e q plain l = by (slice_get m.table (r + 1)) refl
@@ -314,7 +313,7 @@ formed_push m x h b l = record {
       completions = h.mostly.rings.completions;
       entries_wait =
           let f = h.mostly.rings.submissions in
-          let most = size_most 4096 (length m.submissions.array) (omega arith) f.size in
+          let most = f.size.most in
           let a = waiting_more m.submissions.head m.submissions.tail (length m.submissions.array) f.head f.tail (omega (arith, most)) l in
           let n = length-set m.submissions.array (m.submissions.tail % length m.submissions.array) x in
           rw (n, a) (omega (arith, l));

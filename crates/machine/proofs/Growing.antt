@@ -91,13 +91,13 @@ grows_all_ended m es =
     record {
       setup = record { array = refl; slots = refl; completions = p.setup.completions; world = worlds.setup_self _; programs = refl; poller = refl; submit_all = refl };
       rows = let a = mapped_length (ended_by es) m.table in omega (arith, a);
-      stay = mapped_stay (ended_by es) m.table (λ q. by q (result_in es q.0));
+      stay = mapped_stay (ended_by es) m.table (λ r row. by row (result_in es r));
       backlog = p.backlog;
     }
   where
-    by : (q : ℕ × Row) (o : Option ℤ) → fixed_of (option_map_or (λ res. record q.1 { phase = Ended res }) o q.1) ≡ fixed_of q.1
-    by q None = refl
-    by q (Some res) = refl
+    by : (row : Row) (o : Option ℤ) → fixed_of (option_map_or (λ res. record row { phase = Ended res }) o row) ≡ fixed_of row
+    by row None = refl
+    by row (Some res) = refl
 
 pub grows_fallen : (m : Machine) (direct : List (ℕ × ℤ)) → Grows m (fallen m direct)
 unfolding fallen
@@ -296,13 +296,13 @@ grows_issued m r (Some x) = by (lacks_descriptor m.world x)
     by false = record {
       setup = record { array = refl; slots = refl; completions = refl; world = worlds.setup_self _; programs = refl; poller = refl; submit_all = refl };
       rows = let a = mapped_length (started_with m.clock m.counted r) m.table in omega (arith, a);
-      stay = mapped_stay (started_with m.clock m.counted r) m.table (λ q. same q ((q.0 == r) || is_guard_of r q.1));
+      stay = mapped_stay (started_with m.clock m.counted r) m.table (λ k row. same row ((k == r) || is_guard_of r row));
       backlog = le_refl _;
     }
       where
-        same : (q : ℕ × Row) (c : Bool) → fixed_of (if c then started m.clock m.counted q.1 else q.1) ≡ fixed_of q.1
-        same q true = refl
-        same q false = refl
+        same : (row : Row) (c : Bool) → fixed_of (if c then started m.clock m.counted row else row) ≡ fixed_of row
+        same row true = refl
+        same row false = refl
 
 pub grows_finished : (m : Machine) (r : ℕ) (c : Choice) → WellFormed m → (o : Option Row) → Grows m (finished m r o c)
 grows_finished m r c f None = grows_self m

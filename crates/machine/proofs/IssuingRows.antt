@@ -60,7 +60,7 @@ started_at_once c n rows r s = same_list _ _ (λ i. mapped_at (started_with c n 
     apart_told i row h away past true g = absurd (past (stands i row h g))
     apart_told i row h away past false g = other i away past follows refl ∙ h
 
-    at : (i : ℕ) (row : Row) → slice_get rows i ≡ Some row → slice_get (started_in_turn c n rows r) i ≡ Some (started_with c n r (i, row))
+    at : (i : ℕ) (row : Row) → slice_get rows i ≡ Some row → slice_get (started_in_turn c n rows r) i ≡ Some (started_with c n r i row)
     at i row h = elim (cases_eq r i) [
       | inl k ↦
           ap (slice_get (started_in_turn c n rows r)) (sym k) ∙ itself row (ap (slice_get rows) k ∙ h) follows refl
@@ -77,6 +77,6 @@ started_at_once c n rows r s = same_list _ _ (λ i. mapped_at (started_with c n 
     none i h true e = ap (λ rs. slice_get rs i) (told true e) ∙ none_changed f (updated f rows r) (r + 1) i (none_changed f rows r i h)
     none i h false e = ap (λ rs. slice_get rs i) (told false e) ∙ none_changed f rows r i h
 
-    by : (i : ℕ) (o : Option Row) → slice_get rows i ≡ o → option_map (λ row. started_with c n r (i, row)) o ≡ slice_get (started_in_turn c n rows r) i
+    by : (i : ℕ) (o : Option Row) → slice_get rows i ≡ o → option_map (λ row. started_with c n r i row) o ≡ slice_get (started_in_turn c n rows r) i
     by i None h = sym (none i h follows refl)
     by i (Some row) h = sym (at i row h)

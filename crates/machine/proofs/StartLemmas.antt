@@ -13,7 +13,7 @@ use Rattle.std.proofs.Common.{zero, suc, rules}
 use Rattle.entries.specs.declared.row.Row.{Row}
 use Rattle.ring_words.specs.Rings.{rounded, zero_entry}
 use Rattle.ring_words.proofs.Order.{waiting_none}
-use Rattle.ring_words.proofs.Sizes.{rounded_size, size_most}
+use Rattle.ring_words.proofs.Sizes.{rounded_size, size_some}
 use Rattle.ring_words.proofs.Laws.{formed_sub_start, formed_com_start}
 use Rattle.scenario.specs.Programs.{HasWidths, HaveWidths, IsDone, IsProgram}
 use Rattle.links_drains.proofs.Chains.{chained-none}
@@ -149,9 +149,10 @@ entries_between s h =
 
 completions_between : (entries : ℕ) (cq : Option ℕ) → 0 < entries → entries ≤ 4096 → is_completion_size entries cq ≡ true → (0 < completion_entries entries cq) × (completion_entries entries cq ≤ 8192)
 completions_between entries None l m h =
-    let size = rounded_size entries 12 l m (omega (arith, m)) in
-    let most = size_most 4096 (rounded entries) (omega arith) size in
-    (omega (arith, size.some), omega (arith, most))
+    let size = rounded_size entries 12 l m (omega arith) (omega (arith, m)) in
+    let some = size_some size in
+    let most = size.most in
+    (omega (arith, some), omega (arith, most))
 completions_between entries (Some n) l m h =
     let b = both_true (is_between 1 8192 n) (leb (rounded entries) (rounded n)) h in
     let c = both_true (leb 1 n) (leb n 8192) b.0 in

@@ -1,39 +1,46 @@
 -- How many rows, and items of the backlog, stay when a record is put back.
-use Rattle.std.proofs.Common.{◌≡◌, sym, ◌∙◌, List, length, take}
+use Rattle.std.proofs.Common.{◌≡◌, ℕ, sym, subst, ◌∙◌, List, length, take}
 use Rattle.std.proofs.lemmas.List.{length-take-le}
 use Rattle.places.specs.declared.listed.Listed.TheVariants.{Requests, Overflowed}
 use Rattle.places.specs.declared.place.Place.{Place}
 use Rattle.places.specs.declared.place.Place.TheVariants.{Request, Backlog}
 use Rattle.places.specs.declared.value.Value.TheVariants.{Completed, Requested}
 use Rattle.places.specs.declared.value.Change.{Change}
-use Rattle.places.specs.View.{undo, NamesOnce}
-use Rattle.places.specs.Notes.{rows_left, backlog_left}
-use Rattle.places.proofs.Restored.{left_le, left_all, left_back}
+use Rattle.places.specs.View.{undo}
+use Rattle.places.specs.Notes.{IsLeft}
+use Rattle.places.proofs.Restored.{left_all, left_back}
 use Rattle.links_drains.proofs.Remaining.{stay_cut}
 use Rattle.machine.specs.Whole.{view, GoesBack, Overwrites}
 use Rattle.machine.specs.declared.whole.Machine.{Machine}
 
--- the machine without the rows and items that are named as absent
-abbrev pub cut : List Change → Machine → Machine
-cut cs m = record m { table = take (rows_left cs (length m.table)) m.table; backlog = record m.backlog { items = take (backlog_left cs (length m.backlog.items)) m.backlog.items } }
+-- the machine with so many of its rows and of its backlog's items
+abbrev pub cut : ℕ → ℕ → Machine → Machine
+cut rows items m = record m { table = take rows m.table; backlog = record m.backlog { items = take items m.backlog.items } }
 
--- once they are gone, the rest is written over
-pub overwrites : (s m : Machine) (cs : List Change) → NamesOnce cs → GoesBack s m cs → Overwrites s (cut cs m) cs
-overwrites s m cs o g = record {
+-- once those are gone that are named as absent, the rest is written over
+pub overwrites : (s m : Machine) (cs : List Change) (few some rows items : ℕ) → few ≡ length m.table → some ≡ length m.backlog.items → IsLeft Requests cs few rows → IsLeft Overflowed cs some items
+    → GoesBack s m cs → Overwrites s (cut rows items m) cs
+overwrites s m cs few some left kept e f fewer less g = record {
   formed = g.formed;
   setup = record { array = g.grows.setup.array; slots = g.grows.setup.slots; completions = g.grows.setup.completions; world = g.grows.setup.world; programs = g.grows.setup.programs; poller = g.grows.setup.poller; submit_all = g.grows.setup.submit_all };
-  rows = stay_cut s.table m.table (rows_left cs (length m.table)) rows g.grows.stay;
-  backlog = sym items ∙ sym (length-take-le (backlog_left cs (length m.backlog.items)) m.backlog.items (left_le Overflowed cs (length m.backlog.items)));
+  rows = stay_cut s.table m.table left rows g.grows.stay;
+  backlog = sym items ∙ sym (length-take-le kept m.backlog.items k.most);
   back = back;
 }
   where
-    rows : rows_left cs (length m.table) ≡ length s.table
-    rows = left_all Requested Requests s.table m.table cs o g.grows.rows (λ i. g.back (Request i))
+    l : IsLeft Requests cs (length m.table) left
+    l = subst (λ n. IsLeft Requests cs n left) e fewer
 
-    items : backlog_left cs (length m.backlog.items) ≡ length s.backlog.items
-    items = left_all Completed Overflowed s.backlog.items m.backlog.items cs o g.grows.backlog (λ i. g.back (Backlog i))
+    k : IsLeft Overflowed cs (length m.backlog.items) kept
+    k = subst (λ n. IsLeft Overflowed cs n kept) f less
 
-    back : (p : Place) → undo (view (cut cs m)) cs p ≡ view s p
-    back (Request i) = left_back Requested Requests s.table m.table cs o g.grows.rows (λ j. g.back (Request j)) i
-    back (Backlog i) = left_back Completed Overflowed s.backlog.items m.backlog.items cs o g.grows.backlog (λ j. g.back (Backlog j)) i
+    rows : left ≡ length s.table
+    rows = left_all Requested Requests s.table m.table cs left l g.grows.rows (λ i. g.back (Request i))
+
+    items : kept ≡ length s.backlog.items
+    items = left_all Completed Overflowed s.backlog.items m.backlog.items cs kept k g.grows.backlog (λ i. g.back (Backlog i))
+
+    back : (p : Place) → undo (view (cut left kept m)) cs p ≡ view s p
+    back (Request i) = left_back Requested Requests s.table m.table cs left l g.grows.rows (λ j. g.back (Request j)) i
+    back (Backlog i) = left_back Completed Overflowed s.backlog.items m.backlog.items cs kept k g.grows.backlog (λ j. g.back (Backlog j)) i
     back p = g.back p

@@ -2,7 +2,7 @@
 use Rattle.std.specs.Prelude.{◌≡◌, ℤ, pos, negsuc, ℕ, ◌+◌, ◌-◌, ◌%◌, ◌^◌, ◌==◌, Bool, false, not, ◌&&◌, ◌||◌, nat_lt, min, if◌then◌else◌, Option, Some, None, option_map, slice_get, slice_set, List, [], ◌∷◌, ◌++◌, length, map}
 use Rattle.std.specs.Int.Bits.{bit_and}
 use Rattle.std.specs.Option.{option_map_or}
-use Rattle.std.specs.List.{enumerate_from, filter_map}
+use Rattle.std.specs.List.{filter_map}
 use Rattle.entries.specs.declared.completion.Cqe.{Cqe}
 use Rattle.entries.specs.declared.entry.Sqe.{Sqe}
 use Rattle.entries.specs.declared.row.Row.{Row}
@@ -31,6 +31,7 @@ use Rattle.links_drains.specs.Batches.{rows_of, direct_of}
 use Rattle.links_drains.specs.Eligible.{is_eligible}
 use Rattle.links_drains.specs.Endings.{Ending, ecanceled, result_in}
 use Rattle.links_drains.specs.Links.{has_flag, is_guard}
+use Rattle.links_drains.specs.Numbered.{map_numbered}
 use Rattle.links_drains.specs.Phases.{is_issued, is_queued}
 use Rattle.timeouts_cancel.specs.Falls.{counted_in, fall_of}
 use Rattle.timeouts_cancel.specs.Timers.{is_due}
@@ -194,13 +195,13 @@ abbrev pub completions_of : List Row → List Ending → List Cqe
 completions_of rows es = filter_map (λ (e : Ending). option_map (completion_of e.1) (slice_get rows e.0)) es
 
 -- a row with its number, once those that a list names have ended
-abbrev pub ended_by : List Ending → ℕ × Row → Row
-ended_by es p = option_map_or (λ res. record p.1 { phase = Ended res }) (result_in es p.0) p.1
+abbrev pub ended_by : List Ending → ℕ → Row → Row
+ended_by es r row = option_map_or (λ res. record row { phase = Ended res }) (result_in es r) row
 
 -- the machine once the rows that a list names have ended, each with its result: their completions are posted in the list's order, and those of them that count are counted
 abbrev pub all_ended : Machine → List Ending → Machine
 all_ended m es = record (posted m (completions_of m.table es)) {
-  table = map (ended_by es) (enumerate_from 0 m.table);
+  table = map_numbered (ended_by es) m.table;
   counted = m.counted + counted_in m.table es;
 }
 
@@ -350,12 +351,12 @@ abbrev pub is_guard_of : ℕ → Row → Bool
 is_guard_of r row = is_guard row && (is_queued row.phase && option_map_or (λ t. t == r) row.target false)
 
 -- a row with its number, once one of a number is issued, and with it its queued guard
-abbrev pub started_with : ℕ → ℕ → ℕ → ℕ × Row → Row
-started_with clock counted r p = if (p.0 == r) || is_guard_of r p.1 then started clock counted p.1 else p.1
+abbrev pub started_with : ℕ → ℕ → ℕ → ℕ → Row → Row
+started_with clock counted r k row = if (k == r) || is_guard_of r row then started clock counted row else row
 
 -- the rows then
 abbrev pub all_started : ℕ → ℕ → List Row → ℕ → List Row
-all_started clock counted rows r = map (started_with clock counted r) (enumerate_from 0 rows)
+all_started clock counted rows r = map_numbered (started_with clock counted r) rows
 
 -- the machine once a row is issued; one without its descriptor ends
 abbrev pub issued : Machine → ℕ → Option Row → Machine

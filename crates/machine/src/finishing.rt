@@ -99,7 +99,6 @@ impl Machine {
 
     /// What an issued row comes to.
     pub(crate) fn outcome(&self, row: &Row, choice: Choice) -> Outcome
-        requires memory { length self.now.world.memory ≡ 65536 }
         ensures { result ≡ outcome_of (is_held_by self.now.table) self.now.world row.now choice }
     {
         outcome(&self.world, self.table.held(), row, choice)

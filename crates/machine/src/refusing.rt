@@ -209,7 +209,6 @@ impl Machine {
 
     // Why an issued row can't end as a kernel chooses.
     fn refuses_choice(&self, row: &Row, choice: Choice) -> Option<Refusal>
-        requires memory { length self.now.world.memory ≡ 65536 }
         ensures { result ≡ choice_refusal (is_held_by self.now.table) self.now.world row.now choice }
     {
         if is_cancel(row.entry.opcode) {

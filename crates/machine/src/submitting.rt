@@ -30,8 +30,7 @@ impl Machine {
 
     // The words of a submission are taken, and their entries become rows.
     fn take(&mut self, to_submit: u32, notes: &mut Recorder) -> Result<Batch, AllocError>
-        requires room { length self.old.table + length (offered self.old.submissions to_submit) ≤ 65536 }
-        requires memory { length self.old.world.memory ≡ 65536 }
+        requires { length self.old.table + length (offered self.old.submissions to_submit) ≤ 65536 }
         ensures ok { OnOk result (self.new ≡ taken self.old to_submit) }
         ensures count { IfOk result (λ batch. batch.taken ≡ length (entries_for self.old to_submit)) }
         ensures direct { IfOk result (λ batch. batch.direct.items ≡ direct_of self.old.world (length self.old.table) (entries_for self.old to_submit)) }

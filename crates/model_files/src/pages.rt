@@ -11,7 +11,7 @@ pub(crate) const PAGE: usize = 4096;
 pub(crate) const PAGES: usize = 16;
 
 /// Which pages of a file may differ between what a program reads and what is on the device.
-#[derive(Clone, Copy, Debug)]
+#[derive(Clone, Copy)]
 pub(crate) struct Pages {
     marks: [bool; 16],
 }

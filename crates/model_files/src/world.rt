@@ -1,5 +1,5 @@
 //! Memory, objects and descriptors together.
-ghost use Rattle.std.specs.Prelude.{◌≡◌, ◌+◌, ◌<◌, ◌≤◌, ◌^◌, ℕ, IsSome, IfOk, IfSome, IsSomeAnd, None, OnErr, OnOk, Some, length, option_map, slice_get};
+ghost use Rattle.std.specs.Prelude.{◌≡◌, ◌+◌, ◌<◌, ◌≤◌, ◌^◌, ℕ, IsSome, IfOk, IfSome, IsSomeAnd, None, OnErr, OnOk, IsOk, Some, length, option_map, slice_get};
 ghost use Rattle.places.specs.View.{Keeps, named, put_at};
 ghost use Rattle.places.specs.declared.place.Place.{Place};
 ghost use Rattle.places.specs.declared.place.Place.TheVariants.{MemoryByte, FileByte, DurableByte, PipeByte, Position};
@@ -477,6 +477,7 @@ impl World {
         requires { IsSome (world_seen self.old (Position fd)) }
         ensures ok { OnOk result (self.new ≡ world_at fd position self.old) }
         ensures err { OnErr result (self.new ≡ self.old) }
+        ensures there { 0 < notes.old.numbers → fd < 67 → IsOk result }
         ensures keeps { Keeps world_owns (world_seen self.old) (world_seen self.new) notes.old.made notes.new.made }
         ensures named { (p : Place) → named notes.new.made p ≡ None → named notes.old.made p ≡ None }
         ensures numbers { notes.old.numbers ≤ notes.new.numbers + 1 }

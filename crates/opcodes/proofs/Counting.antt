@@ -2,6 +2,7 @@
 use Rattle.std.proofs.Common.{◌≡◌, ℕ, ℤ, pos, negsuc, zero, suc, Bool, true, false, cond, refl, sym, ◌∙◌, ap, subst, List, [], ◌∷◌, length, drop, length-take, ◌+◌, ◌≤◌, ◌^◌, arith}
 use Rattle.std.specs.Prelude.{Option, Some, None, slice_get}
 use Rattle.std.specs.Option.{option_and_then}
+use Rattle.std.specs.Option.{option_map_or}
 use Rattle.entries.specs.declared.entry.Sqe.{Sqe}
 use Rattle.entries.specs.declared.row.Row.{Row}
 use Rattle.places.specs.Lists.{updated}
@@ -19,7 +20,7 @@ use Rattle.opcodes.specs.declared.op.Op.TheVariants.{Fsync, Read, Write}
 use Rattle.opcodes.specs.declared.ending.Outcome.TheVariants.{Res}
 use Rattle.opcodes.specs.Check.{op_of}
 use Rattle.opcodes.specs.Outcomes.{outcome_of, held_descriptor, is_at_position, offset_of, position_of}
-use Rattle.opcodes.specs.Effects.{moved_on, bytes_read, bytes_written, done_by, done_through, done_holding, world_after}
+use Rattle.opcodes.specs.Effects.{moved_on, bytes_read, bytes_written, done_by, world_after}
 use Rattle.opcodes.proofs.Transferring.{row_written}
 
 -- what a change of an object makes of what went into pipes
@@ -109,10 +110,10 @@ puts_after held w row (pos k) c n h puts = holding row.held refl
     through fd d here (Some Write) (Some (EventFd m)) e i = more (world_added d.object (number_at w row.entry.addr) w) (puts_file (on_counter (λ z. z + number_at w row.entry.addr)) (counters_same (λ z. z + number_at w row.entry.addr)) n w.objects d.object puts)
     through fd d here o s e i = more w puts
 
-    holding : (x : Option ℕ) → row.held ≡ x → PutsWithin (n + 65536) (done_holding row.entry x k w)
+    holding : (x : Option ℕ) → row.held ≡ x → PutsWithin (n + 65536) (option_map_or (λ fd. option_map_or (λ d. done_by row.entry (op_of row.entry.opcode) (stock_of w d.object) fd d k w) (descriptor_of w fd) w) x w)
     holding None e = more w puts
     holding (Some fd) e = at (descriptor_of w fd) refl
       where
-        at : (y : Option DescriptorState) → descriptor_of w fd ≡ y → PutsWithin (n + 65536) (done_through row.entry fd y k w)
+        at : (y : Option DescriptorState) → descriptor_of w fd ≡ y → PutsWithin (n + 65536) (option_map_or (λ d. done_by row.entry (op_of row.entry.opcode) (stock_of w d.object) fd d k w) y w)
         at None g = more w puts
         at (Some d) g = through fd d (ap (option_and_then (descriptor_of w)) e ∙ g) (op_of row.entry.opcode) (stock_of w d.object) refl refl

@@ -2,3 +2,4 @@ pub mod Transferring
 pub mod Nothing
 pub mod Staying
 pub mod Counting
+pub mod Moving

@@ -2,6 +2,7 @@
 use Rattle.std.proofs.Common.{◌≡◌, ℕ, ℤ, pos, negsuc, zero, suc, Bool, true, false, cond, refl, sym, subst, ◌∙◌, ap, ◌+◌, ◌<◌, ◌≤◌, arith}
 use Rattle.std.specs.Prelude.{Option, Some, None, IsSomeAnd, if◌then◌else◌, ◌^◌}
 use Rattle.std.specs.Option.{option_and_then}
+use Rattle.std.specs.Option.{option_map_or}
 use Rattle.entries.specs.declared.entry.Sqe.{Sqe}
 use Rattle.entries.specs.declared.row.Row.{Row}
 use Rattle.model_files.specs.declared.descriptor.DescriptorState.{DescriptorState}
@@ -18,7 +19,7 @@ use Rattle.opcodes.specs.declared.ending.Outcome.TheVariants.{Res}
 use Rattle.opcodes.specs.Check.{op_of}
 use Rattle.opcodes.specs.Outcomes.{outcome_of, held_descriptor, is_at_position, offset_of, position_of}
 use Rattle.opcodes.proofs.Nothing.{bytes_read_nothing, bytes_written_nothing}
-use Rattle.opcodes.specs.Effects.{moved_on, bytes_read, bytes_written, done_by, done_through, done_holding, world_after}
+use Rattle.opcodes.specs.Effects.{moved_on, bytes_read, bytes_written, done_by, world_after}
 use Rattle.opcodes.proofs.Transferring.{Moves, row_read, row_written, setup_moved, gives_out, takes_in, counts_to}
 
 -- The world that follows is well formed, and one of the setup.
@@ -94,10 +95,10 @@ stays_after held w row (pos k) c f puts h = holding row.held refl
         record { formed = world_added_formed d.object (number_at w row.entry.addr) w f (counts_to w d.object n (number_at w row.entry.addr) i t.1); setup = setup_added d.object (number_at w row.entry.addr) w }
     through fd d there here o s e i = stays_self w f
 
-    holding : (x : Option ℕ) → row.held ≡ x → Stays w (done_holding row.entry x k w)
+    holding : (x : Option ℕ) → row.held ≡ x → Stays w (option_map_or (λ fd. option_map_or (λ d. done_by row.entry (op_of row.entry.opcode) (stock_of w d.object) fd d k w) (descriptor_of w fd) w) x w)
     holding None e = stays_self w f
     holding (Some fd) e = at (descriptor_of w fd) refl
       where
-        at : (y : Option DescriptorState) → descriptor_of w fd ≡ y → Stays w (done_through row.entry fd y k w)
+        at : (y : Option DescriptorState) → descriptor_of w fd ≡ y → Stays w (option_map_or (λ d. done_by row.entry (op_of row.entry.opcode) (stock_of w d.object) fd d k w) y w)
         at None g = stays_self w f
         at (Some d) g = through fd d g (ap (option_and_then (descriptor_of w)) e ∙ g) (op_of row.entry.opcode) (stock_of w d.object) refl refl

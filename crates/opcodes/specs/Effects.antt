@@ -1,5 +1,6 @@
 -- What the end of a request does to memory, objects and descriptors (read(2), write(2), fsync(2), pipe(7), eventfd(2)).
 use Rattle.std.specs.Prelude.{ℕ, ℤ, pos, negsuc, ◌+◌, Option, Some, None, if◌then◌else◌}
+use Rattle.std.specs.Option.{option_map_or}
 use Rattle.entries.specs.declared.entry.Sqe.{Sqe}
 use Rattle.entries.specs.declared.row.Row.{Row}
 use Rattle.model_files.specs.declared.descriptor.DescriptorState.{DescriptorState}
@@ -13,8 +14,7 @@ use Rattle.opcodes.specs.Outcomes.{held_descriptor, is_at_position, offset_of, p
 
 -- the position moves on behind the bytes of a transfer that began there
 abbrev pub moved_on : Sqe → ℕ → Option ℕ → ℕ → WorldState → WorldState
-moved_on entry fd None k w = w
-moved_on entry fd (Some position) k w = if is_at_position entry then world_at fd (position + k) w else w
+moved_on entry fd position k w = option_map_or (λ n. if is_at_position entry then world_at fd (n + k) w else w) position w
 
 -- k bytes come from a file, or go to it
 abbrev pub bytes_read : Sqe → ℕ → DescriptorState → ℕ → WorldState → WorldState
@@ -34,15 +34,7 @@ done_by entry (Some Write) (Some (Pipe filled capacity)) fd d k w = world_put d.
 done_by entry (Some Write) (Some (EventFd counter)) fd d k w = world_added d.object (number_at w entry.addr) w
 done_by entry op stock fd d k w = w
 
-abbrev pub done_through : Sqe → ℕ → Option DescriptorState → ℕ → WorldState → WorldState
-done_through entry fd None k w = w
-done_through entry fd (Some d) k w = done_by entry (op_of entry.opcode) (stock_of w d.object) fd d k w
-
-abbrev pub done_holding : Sqe → Option ℕ → ℕ → WorldState → WorldState
-done_holding entry None k w = w
-done_holding entry (Some fd) k w = done_through entry fd (descriptor_of w fd) k w
-
--- the world once a request has ended with a result; a bad one changed nothing
+-- The world once a request has ended with a result. A bad one changed nothing, and nor did one that holds no descriptor.
 abbrev pub world_after : Row → ℤ → WorldState → WorldState
 world_after row (negsuc n) w = w
-world_after row (pos k) w = done_holding row.entry row.held k w
+world_after row (pos k) w = option_map_or (λ fd. option_map_or (λ d. done_by row.entry (op_of row.entry.opcode) (stock_of w d.object) fd d k w) (descriptor_of w fd) w) row.held w

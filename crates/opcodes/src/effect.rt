@@ -1,6 +1,6 @@
 //! What the end of a request does to memory, objects and descriptors (read(2), write(2), fsync(2), pipe(7),
 //! eventfd(2)).
-ghost use Rattle.std.specs.Prelude.{◌≡◌, ◌+◌, ◌-◌, ◌^◌, ◌<◌, ◌≤◌, ◌≤ℤ◌, ℕ, Bool, pos, OnOk, IsSome, IsSomeAnd, None, Some, unwrap_or};
+ghost use Rattle.std.specs.Prelude.{◌≡◌, ◌+◌, ◌-◌, ◌^◌, ◌<◌, ◌≤◌, ◌≤ℤ◌, ℕ, Bool, pos, OnOk, OnErr, IsOk, IsSome, IsSomeAnd, None, Some, unwrap_or};
 ghost use Rattle.model_files.specs.declared.descriptor.DescriptorState.{DescriptorState};
 ghost use Rattle.places.specs.View.{Keeps, named};
 ghost use Rattle.places.specs.declared.place.Place.{Place};
@@ -18,8 +18,7 @@ use model_files::{DescriptorState, Stock, World};
 use places::Recorder;
 use std::alloc::AllocError;
 
-/// Does what the end of a request with a result does. Where it stops for want of memory, undoing the notes
-/// still gives what was.
+/// Does what the end of a request with a result does. Want of memory for the notes leaves all as it was.
 pub fn carry_out(
     world: &mut World,
     row: &Row,
@@ -31,6 +30,7 @@ pub fn carry_out(
     requires came { (held : ℕ → Bool) × (c : Choice) × (outcome_of held world.old row.now c ≡ Res res) }
     requires fresh { (p : Place) → named notes.old.made p ≡ None }
     ensures ok { OnOk result (world.new ≡ world_after row.now res world.old) }
+    ensures err { OnErr result (world.new ≡ world.old) }
     ensures setup { OneWorldSetup world.old world.new }
     ensures keeps { Keeps world_owns (world_seen world.old) (world_seen world.new) notes.old.made notes.new.made }
 {
@@ -94,12 +94,15 @@ fn read_bytes(
     requires in_memory { entry.now.addr + count ≤ 65536 }
     requires fresh { (p : Place) → named notes.old.made p ≡ None }
     ensures ok { OnOk result (world.new ≡ bytes_read entry.now fd descriptor.now count world.old) }
+    ensures err { OnErr result (world.new ≡ world.old) }
     ensures setup { OneWorldSetup world.old world.new }
     ensures keeps { Keeps world_owns (world_seen world.old) (world_seen world.new) notes.old.made notes.new.made }
 {
     if count == 0 {
         return Ok(());
     }
+    // The position.
+    notes.room_for_numbers(1)?;
     let offset = offset_of(entry, position_of(Some(*descriptor)));
     world.read_at(
         descriptor.object,
@@ -127,12 +130,15 @@ fn write_bytes(
     requires in_memory { entry.now.addr + count ≤ 65536 }
     requires fresh { (p : Place) → named notes.old.made p ≡ None }
     ensures ok { OnOk result (world.new ≡ bytes_written entry.now fd descriptor.now count world.old) }
+    ensures err { OnErr result (world.new ≡ world.old) }
     ensures setup { OneWorldSetup world.old world.new }
     ensures keeps { Keeps world_owns (world_seen world.old) (world_seen world.new) notes.old.made notes.new.made }
 {
     if count == 0 {
         return Ok(());
     }
+    // The position, and the length of the file.
+    notes.room_for_numbers(2)?;
     let offset = offset_of(entry, position_of(Some(*descriptor)));
     world.write_at(
         descriptor.object,
@@ -157,6 +163,7 @@ fn take_bytes(
     requires in_memory { entry.now.addr + count ≤ 65536 }
     requires fresh { (p : Place) → named notes.old.made p ≡ None }
     ensures ok { OnOk result (world.new ≡ world_taken object count entry.now.addr world.old) }
+    ensures err { OnErr result (world.new ≡ world.old) }
     ensures setup { OneWorldSetup world.old world.new }
     ensures keeps { Keeps world_owns (world_seen world.old) (world_seen world.new) notes.old.made notes.new.made }
 {
@@ -179,6 +186,7 @@ fn put_bytes(
     requires in_memory { entry.now.addr + count ≤ 65536 }
     requires fresh { (p : Place) → named notes.old.made p ≡ None }
     ensures ok { OnOk result (world.new ≡ world_put object count entry.now.addr world.old) }
+    ensures err { OnErr result (world.new ≡ world.old) }
     ensures setup { OneWorldSetup world.old world.new }
     ensures keeps { Keeps world_owns (world_seen world.old) (world_seen world.new) notes.old.made notes.new.made }
 {
@@ -200,6 +208,7 @@ fn clear(
     requires in_memory { entry.now.addr + 8 ≤ 65536 }
     requires fresh { (p : Place) → named notes.old.made p ≡ None }
     ensures ok { OnOk result (world.new ≡ world_cleared object entry.now.addr world.old) }
+    ensures err { OnErr result (world.new ≡ world.old) }
     ensures setup { OneWorldSetup world.old world.new }
     ensures keeps { Keeps world_owns (world_seen world.old) (world_seen world.new) notes.old.made notes.new.made }
 {
@@ -212,6 +221,7 @@ fn add(world: &mut World, entry: &Sqe, object: u32, notes: &mut Recorder) -> Res
     requires in_memory { entry.now.addr + 8 ≤ 65536 }
     requires room { IsSomeAnd (counter_of world.old object) (λ n. n + number_at world.old entry.now.addr < 2 ^ 64 - 1) }
     ensures ok { OnOk result (world.new ≡ world_added object (number_at world.old entry.now.addr) world.old) }
+    ensures err { OnErr result (world.new ≡ world.old) }
     ensures setup { OneWorldSetup world.old world.new }
     ensures keeps { Keeps world_owns (world_seen world.old) (world_seen world.new) notes.old.made notes.new.made }
 {
@@ -231,6 +241,7 @@ fn move_on(
     requires descriptor { (d : DescriptorState) × (descriptor_of world.old fd ≡ Some d) × (d.position ≡ position) }
     requires in_file { offset_of entry.now (unwrap_or position 0) + count ≤ 65536 }
     ensures ok { OnOk result (world.new ≡ moved_on entry.now fd position count world.old) }
+    ensures there { 0 < notes.old.numbers → fd < 67 → IsOk result }
     ensures setup { OneWorldSetup world.old world.new }
     ensures keeps { Keeps world_owns (world_seen world.old) (world_seen world.new) notes.old.made notes.new.made }
 {

@@ -12,7 +12,6 @@ use Rattle.places.proofs.Keeping.{keeps_same, keeps_then}
 use Rattle.ring_words.specs.Rings.{ComWords, ComFormed, waiting, com_list, com_owns, com_seen}
 use Rattle.ring_words.proofs.Laws.{com_posted, com_length, formed_posted}
 use Rattle.ring_words.proofs.Order.{waiting_more}
-use Rattle.ring_words.proofs.Sizes.{size_most}
 use Rattle.overflow.specs.Backlogs.{posted_one, posted_in_order}
 
 -- one completion more
@@ -34,7 +33,7 @@ posted_well w [] f = f
 posted_well w (c ∷ cs) f = posted_well (posted_one w c) cs (formed_posted w c f)
 
 one_waits : (w : ComWords) (c : Cqe) → ComFormed w → waiting w.head w.tail < length w.slots → waiting (posted_one w c).head (posted_one w c).tail ≡ waiting w.head w.tail + 1
-one_waits w c f l = waiting_more w.head w.tail (length w.slots) f.head f.tail (size_most 8192 _ (omega arith) f.size) l
+one_waits w c f l = waiting_more w.head w.tail (length w.slots) f.head f.tail f.size.most l
 
 -- where there is room for all, they wait behind the others
 pub posted_waits : (w : ComWords) (cs : List Cqe) → ComFormed w → waiting w.head w.tail + length cs ≤ length w.slots → waiting (posted_in_order w cs).head (posted_in_order w cs).tail ≡ waiting w.head w.tail + length cs

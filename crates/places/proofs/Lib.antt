@@ -11,3 +11,4 @@ pub mod Sorts
 pub mod Sound
 pub mod Left
 pub mod Restored
+pub mod SameValue

@@ -1,5 +1,5 @@
 -- A list whose elements come and go at its end, as a record gives it back: first it is cut, then written over.
-use Rattle.std.proofs.Common.{◌≡◌, ℕ, Bool, true, false, cond, refl, sym, ◌∙◌, ap, List, [], ◌∷◌, length, take, ◌<◌, ◌≤◌, ◌⊎◌, inl, inr, arith}
+use Rattle.std.proofs.Common.{◌≡◌, ℕ, Bool, true, false, cond, refl, sym, ◌∙◌, ap, subst, List, [], ◌∷◌, length, take, ◌<◌, ◌≤◌, ◌⊎◌, inl, inr, arith}
 use Rattle.std.specs.Prelude.{Option, Some, None, option_map, slice_get, unwrap_or}
 use Rattle.std.proofs.lemmas.Option.{slice_get_past}
 use Rattle.std.proofs.lemmas.Bool.Decides.{leb_tells}
@@ -11,7 +11,7 @@ use Rattle.places.specs.declared.value.Value.{Value}
 use Rattle.places.specs.declared.value.Change.{Change}
 use Rattle.places.specs.Places.{same_place}
 use Rattle.places.specs.View.{named, NamesOnce}
-use Rattle.places.specs.Notes.{number_in, element, cut_off, after_change, left}
+use Rattle.places.specs.Notes.{number_in, element, IsLeft, cut_off, after_change, left}
 use Rattle.places.proofs.SamePlace.{same_place_is, same_place_self}
 use Rattle.places.proofs.ListLemmas.{slice_get_none, slice_get-take_below, slice_get-take_above}
 
@@ -84,9 +84,20 @@ left_is l (c ∷ cs) n o = by (after_cases l c.place c.old n) (left_is l cs (aft
     by (inl e) (inl k) = inl (k ∙ e)
     by (inr e) (inl k) = inr (e.0, k ∙ e.3, here e.0 e.1 e.2)
 
+-- what is counted note by note is up to the least that is named as absent
+pub left_least : (l : Listed) (cs : List Change) (n : ℕ) → NamesOnce cs → IsLeft l cs n (left l cs n)
+left_least l cs n o = record {
+  most = left_le l cs n;
+  least = λ i h. left_named l cs n i h;
+  reached = elim (left_is l cs n o) [
+    | inl e ↦ inl e
+    | inr w ↦ inr (subst (λ (i : ℕ). named cs (element l i) ≡ Some None) (sym w.1) w.2)
+  ];
+}
+
 -- what the notes give back of a list that had grown
 
-module _ {X : Type 0} (f : X → Value) (l : Listed) (xs ys : List X) (cs : List Change) (o : NamesOnce cs) (grown : length xs ≤ length ys) (back : (i : ℕ) → unwrap_or (named cs (element l i)) (option_map f (slice_get ys i)) ≡ option_map f (slice_get xs i)) where
+module _ {X : Type 0} (f : X → Value) (l : Listed) (xs ys : List X) (cs : List Change) (left : ℕ) (h : IsLeft l cs (length ys) left) (grown : length xs ≤ length ys) (back : (i : ℕ) → unwrap_or (named cs (element l i)) (option_map f (slice_get ys i)) ≡ option_map f (slice_get xs i)) where
   absent : (zs : List X) (i : ℕ) → option_map f (slice_get zs i) ≡ None → length zs ≤ i
   absent zs i h = slice_get_none zs i (by (slice_get zs i) h)
     where
@@ -95,16 +106,14 @@ module _ {X : Type 0} (f : X → Value) (l : Listed) (xs ys : List X) (cs : List
       by (Some x) k = absurd cc
 
   -- as many stay as there were
-  pub left_all : left l cs (length ys) ≡ length xs
-  left_all = let a = up (left_is l cs (length ys) o) in let b = down (order (length ys) (length xs)) in omega arith
+  pub left_all : left ≡ length xs
+  left_all = let a = up h.reached in let b = down (order (length ys) (length xs)) in omega arith
     where
-      up : (left l cs (length ys) ≡ length ys) ⊎ ((i : ℕ) × (left l cs (length ys) ≡ i) × (named cs (element l i) ≡ Some None)) → length xs ≤ left l cs (length ys)
+      up : (left ≡ length ys) ⊎ (named cs (element l left) ≡ Some None) → length xs ≤ left
       up (inl k) = omega arith
       up (inr k) =
-          let e : option_map f (slice_get xs k.0) ≡ None = sym (back k.0) ∙ ap (λ n. unwrap_or n (option_map f (slice_get ys k.0))) k.2 in
-          let m = absent xs k.0 e in
-          let i = k.1 in
-          omega arith
+          let e : option_map f (slice_get xs left) ≡ None = sym (back left) ∙ ap (λ n. unwrap_or n (option_map f (slice_get ys left))) k in
+          absent xs left e
 
       taken : (n : Option (Option Value)) (x : Value) → unwrap_or n (Some x) ≡ None → n ≡ Some None
       taken None x h = absurd cc
@@ -115,22 +124,22 @@ module _ {X : Type 0} (f : X → Value) (l : Listed) (xs ys : List X) (cs : List
       there None e m = let k = slice_get_none ys (length xs) e in absurd (omega arith)
       there (Some x) e m = (f x, ap (option_map f) e)
 
-      down : (length ys ≤ length xs) ⊎ (length xs < length ys) → left l cs (length ys) ≤ length xs
-      down (inl k) = let m = left_le l cs (length ys) in omega arith
+      down : (length ys ≤ length xs) ⊎ (length xs < length ys) → left ≤ length xs
+      down (inl k) = let m = h.most in omega arith
       down (inr k) =
           let x = there (slice_get ys (length xs)) refl k in
           let n : named cs (element l (length xs)) ≡ Some None = taken (named cs (element l (length xs))) x.0 (ap (unwrap_or (named cs (element l (length xs)))) (sym x.1) ∙ back (length xs) ∙ ap (option_map f) (slice_get_past xs (length xs) (omega arith))) in
-          left_named l cs (length ys) (length xs) n
+          h.least (length xs) n
 
   -- once those that go are gone, the others are written over
-  pub left_back : (i : ℕ) → unwrap_or (named cs (element l i)) (option_map f (slice_get (take (left l cs (length ys)) ys) i)) ≡ option_map f (slice_get xs i)
-  left_back i = by (order (left l cs (length ys)) i)
+  pub left_back : (i : ℕ) → unwrap_or (named cs (element l i)) (option_map f (slice_get (take left ys) i)) ≡ option_map f (slice_get xs i)
+  left_back i = by (order left i)
     where
       still : (a : Option (Option Value)) (x : Option Value) → unwrap_or a x ≡ None → unwrap_or a None ≡ None
       still None x h = refl
       still (Some y) x h = h
 
-      by : (left l cs (length ys) ≤ i) ⊎ (i < left l cs (length ys)) → unwrap_or (named cs (element l i)) (option_map f (slice_get (take (left l cs (length ys)) ys) i)) ≡ option_map f (slice_get xs i)
+      by : (left ≤ i) ⊎ (i < left) → unwrap_or (named cs (element l i)) (option_map f (slice_get (take left ys) i)) ≡ option_map f (slice_get xs i)
       by (inl k) =
           let gone : option_map f (slice_get xs i) ≡ None = ap (option_map f) (slice_get_past xs i (let a = left_all in omega arith)) in
           ap (λ x. unwrap_or (named cs (element l i)) (option_map f x)) (slice_get-take_above ys _ i k) ∙ still (named cs (element l i)) (option_map f (slice_get ys i)) (back i ∙ gone) ∙ sym gone

@@ -13,3 +13,4 @@ pub mod RestOf
 pub mod All
 pub mod SlotLaws
 pub mod Text
+pub mod Sameness

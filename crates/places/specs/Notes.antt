@@ -1,5 +1,5 @@
 -- What a recorder has.
-use Rattle.std.specs.Prelude.{ℕ, ◌+◌, ◌≤◌, Bool, true, false, Option, Some, None, List, [], ◌∷◌, min, if◌then◌else◌}
+use Rattle.std.specs.Prelude.{◌≡◌, ◌⊎◌, ℕ, ◌+◌, ◌≤◌, Bool, true, false, Option, Some, None, List, [], ◌∷◌, min, if◌then◌else◌}
 use Rattle.places.specs.declared.listed.Listed.{Listed}
 use Rattle.places.specs.declared.listed.Listed.TheVariants.{Requests, Overflowed}
 use Rattle.places.specs.declared.place.Place.{Place}
@@ -7,6 +7,7 @@ use Rattle.places.specs.declared.place.Place.TheVariants.{Request, Backlog}
 use Rattle.places.specs.declared.value.Value.{Value}
 use Rattle.places.specs.declared.value.Change.{Change}
 use Rattle.places.specs.Places.{is_number, is_completion}
+use Rattle.places.specs.View.{named}
 
 -- the notes in order, and how many more of each kind there is memory for
 pub record Notes : Type 0 where
@@ -50,6 +51,15 @@ abbrev pub element : Listed → ℕ → Place
 element Requests i = Request i
 element Overflowed i = Backlog i
 
+-- How many of n elements of a list stay once a record takes those back that it names as absent, with all behind
+-- them: up to the least that it names, or all of them.
+pub record IsLeft (l : Listed) (cs : List Change) (n left : ℕ) : Type 0 where
+  pub most : left ≤ n
+  pub least : (i : ℕ) → named cs (element l i) ≡ Some None → left ≤ i
+  pub reached : (left ≡ n) ⊎ (named cs (element l left) ≡ Some None)
+
+-- ---- note by note
+
 -- how many of n elements stay once one of a number is absent, with all behind it
 abbrev pub cut_off : Option ℕ → Option Value → ℕ → ℕ
 cut_off (Some i) None n = min n i
@@ -63,11 +73,3 @@ after_change l p x n = cut_off (number_in l p) x n
 abbrev pub left : Listed → List Change → ℕ → ℕ
 left l [] n = n
 left l (c ∷ cs) n = left l cs (after_change l c.place c.old n)
-
--- the same of rows
-abbrev pub rows_left : List Change → ℕ → ℕ
-rows_left cs n = left Requests cs n
-
--- the same of the completions that did not fit into the ring
-abbrev pub backlog_left : List Change → ℕ → ℕ
-backlog_left cs n = left Overflowed cs n

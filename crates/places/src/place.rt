@@ -68,7 +68,8 @@ impl Place {
             && (self.index() == other.index() && self.second() == other.second())
     }
 
-    pub(crate) fn kind(&self) -> u8
+    /// Where its kind stands among the kinds, from 0 on.
+    pub fn kind(&self) -> u8
         ensures { result ≡ kind_of self.now }
     {
         match self {
@@ -105,7 +106,8 @@ impl Place {
         }
     }
 
-    pub(crate) fn index(&self) -> u32
+    /// The number of its object, descriptor, thread, slot or byte of memory; 0 where it has none.
+    pub fn index(&self) -> u32
         ensures { result ≡ index_of self.now }
     {
         match self {
@@ -131,7 +133,8 @@ impl Place {
         }
     }
 
-    pub(crate) fn second(&self) -> u32
+    /// The index of its byte within its object; 0 where it has none.
+    pub fn second(&self) -> u32
         ensures { result ≡ second_of self.now }
     {
         match self {

@@ -1,7 +1,8 @@
 //! Records: the places that differ, with what stood there.
 ghost use Rattle.std.specs.Prelude.{◌≡◌, ◌∷◌, [], map, MatchOption, None};
 ghost use Rattle.places.specs.View.{NamesOnce};
-ghost use Rattle.places.specs.Notes.{rows_left, backlog_left, left, after_change, number_in};
+ghost use Rattle.places.specs.declared.listed.Listed.TheVariants.{Requests, Overflowed};
+ghost use Rattle.places.specs.Notes.{IsLeft, left, after_change, number_in};
 ghost use Rattle.places.specs.Slots.{row_change};
 ghost use Rattle.places.specs.All.{all_changes};
 
@@ -126,23 +127,23 @@ impl Record {
         drop(self);
     }
 
-    /// How many of n rows stay once the rows go that are named as absent.
+    /// How many of n rows stay once those go that are named as absent, with all behind them.
     pub fn rows_left(&self, n: usize) -> usize
-        ensures { result ≡ rows_left self.now n }
+        ensures { IsLeft Requests self.now n result }
     {
         self.left(Listed::Requests, n)
     }
 
     /// How many of n completions that did not fit into the ring stay once those go that are named as
-    /// absent.
+    /// absent, with all behind them.
     pub fn backlog_left(&self, n: usize) -> usize
-        ensures { result ≡ backlog_left self.now n }
+        ensures { IsLeft Overflowed self.now n result }
     {
         self.left(Listed::Overflowed, n)
     }
 
     fn left(&self, list: Listed, n: usize) -> usize
-        ensures { result ≡ left list self.now n }
+        ensures { IsLeft list self.now n result }
     {
         left_by(list, self.rest.odd(), left_of(list, &self.rows, n))
     }

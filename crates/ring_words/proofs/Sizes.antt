@@ -1,24 +1,13 @@
 -- Sizes of rings.
-use Rattle.std.proofs.Common.{◌≡◌, ◌-◌, ◌*◌, ℕ, zero, suc, Bool, true, false, cond, refl, sym, ◌∙◌, ap, List, [], ◌∷◌, ◌+◌, ◌/◌, ◌%◌, ◌<◌, ◌≤◌, ◌^◌, ◌⊎◌, inl, inr, nat_lt, subst, arith, pow_mono, pow-add}
+use Rattle.std.proofs.Common.{length, slice_index_or, ◌≡◌, ◌-◌, ◌*◌, ℕ, zero, suc, Bool, true, false, cond, refl, sym, ◌∙◌, ap, List, [], ◌∷◌, ◌+◌, ◌/◌, ◌%◌, ◌<◌, ◌≤◌, ◌^◌, ◌⊎◌, inl, inr, nat_lt, subst, arith, pow_mono, pow-add}
 use Rattle.std.proofs.lemmas.Bool.{ltb-true, ltb-false}
 use Rattle.std.proofs.Math.Nat.{pow-succ', mul-mod_right}
-use Rattle.std.proofs.Math.Nat.{mod-eq_of_lt}
 use Rattle.std.proofs.Math.Dec.{leb}
 use Rattle.std.proofs.lemmas.Bool.Decides.{leb_tells}
-use Rattle.std.proofs.lemmas.Nat.Gcd.{dvd_of_mod-eq-zero, dvd_trans}
+use Rattle.std.proofs.lemmas.Nat.{pow_pos}
+use Rattle.std.proofs.lemmas.Nat.Gcd.{dvd_of_mod-eq-zero}
 use Rattle.std.specs.Int.{◌∣◌, IsNextPowerOfTwo}
 use Rattle.ring_words.specs.Rings.{IsSize, sizes, first_not_below, rounded}
-
-pub size_most : (limit n : ℕ) → 0 < limit → IsSize limit n → n ≤ limit
-size_most limit n l h = by (leb_tells n limit)
-  where
-    by : ((leb n limit ≡ true) × (n ≤ limit)) ⊎ ((leb n limit ≡ false) × (limit < n)) → n ≤ limit
-    by (inl a) = a.1
-    by (inr a) = let p = h.power in let e : limit % n ≡ limit = mod-eq_of_lt a.1 in omega (arith, p, e)
-
--- words wrap at a multiple of each size
-pub size_divides : (limit n : ℕ) → 2 ^ 32 % limit ≡ 0 → IsSize limit n → n ∣ 2 ^ 32
-size_divides limit n l h = dvd_trans n (dvd_of_mod-eq-zero n h.power) (dvd_of_mod-eq-zero limit l)
 
 -- the next powers of two above 2 ^ k, with it
 powers : ℕ → ℕ → List ℕ
@@ -28,6 +17,36 @@ powers k (suc j) = 2 ^ k ∷ powers (suc k) j
 sizes_are : sizes ≡ powers 0 13
 unfolding powers
 sizes_are = refl
+
+-- the power at an index
+power_at : (k j i n : ℕ) → i < length (powers k j) → slice_index_or (powers k j) i n ≡ 2 ^ (k + i)
+unfolding powers
+power_at k zero zero n l = ap (λ m. 2 ^ m) (omega arith)
+power_at k zero (suc i) n l = absurd (omega (arith, l))
+power_at k (suc j) zero n l = ap (λ m. 2 ^ m) (omega arith)
+power_at k (suc j) (suc i) n l = power_at (suc k) j i n (omega (arith, l)) ∙ ap (λ m. 2 ^ m) (omega arith)
+
+size_at : (i n : ℕ) → i < length sizes → slice_index_or sizes i n ≡ 2 ^ i
+size_at i n l =
+    let there = power_at 0 13 i n (subst (λ (ps : List ℕ). i < length ps) sizes_are l) in
+    let same : 2 ^ (0 + i) ≡ 2 ^ i = ap (λ k. 2 ^ k) (omega arith) in
+    ap (λ ps. slice_index_or ps i n) sizes_are ∙ (there ∙ same)
+
+-- a size is two to the power of its index
+size_is : (limit n : ℕ) → IsSize limit n → (i : ℕ) × (i < 14) × (n ≡ 2 ^ i)
+size_is limit n h =
+    let (i, l, e) = h.power in
+    (i, l, sym e ∙ size_at i n l)
+
+pub size_some : {limit n : ℕ} → IsSize limit n → 0 < n
+size_some {limit} {n} h = let (i, l, e) = size_is limit n h in let p = pow_pos i in omega (arith, e, p)
+
+-- words wrap at a multiple of each size
+pub size_divides : (limit n : ℕ) → IsSize limit n → n ∣ 2 ^ 32
+size_divides limit n h =
+    let (i, l, e) = size_is limit n h in
+    let parts : 32 ≡ i + (32 - i) = omega arith in
+    dvd_of_mod-eq-zero n (subst (λ (x : ℕ). 2 ^ 32 % x ≡ 0) (sym e) (ap (λ k. 2 ^ k % 2 ^ i) parts ∙ ap (λ x. x % 2 ^ i) (pow-add 2 i (32 - i)) ∙ mul-mod_right (2 ^ i) (2 ^ (32 - i))))
 
 -- the first power that is not below a number is the least one
 walk : (n k j : ℕ) → 0 < n → n ≤ 2 ^ (k + j) → 2 ^ k / 2 < n → IsNextPowerOfTwo n (first_not_below n (powers k j))
@@ -74,16 +93,17 @@ next_is_one n p q s h k =
     let e : h.0.0 ≡ k.0.0 = omega (arith, not_below n h.0.0 k.0.0 s a d, not_below n k.0.0 h.0.0 s b c) in
     h.0.1 ∙ ap (λ i. 2 ^ i) e ∙ sym k.0.1
 
--- it is a size, where the number is within a limit that is a power of two
-pub next_size : (n p l : ℕ) → 0 < n → n ≤ 2 ^ l → IsNextPowerOfTwo n p → IsSize (2 ^ l) p
-next_size n p l s m h =
+-- it is a size, where the number is within a limit that is one
+pub next_size : (n p l : ℕ) → 0 < n → n ≤ 2 ^ l → l ≤ 13 → IsNextPowerOfTwo n p → IsSize (2 ^ l) p
+next_size n p l s m few h =
     let d : 2 ^ h.0.0 / 2 < n = subst (λ (x : ℕ). x / 2 < n) h.0.1 (omega (arith, h.2)) in
     let b : h.0.0 ≤ l = not_below n l h.0.0 s m d in
-    let e : l ≡ h.0.0 + (l - h.0.0) = omega arith in
+    let here : h.0.0 < length sizes = omega arith in
+    let most : 2 ^ h.0.0 ≤ 2 ^ l = pow_mono {i = h.0.0} {j = l} b in
     record {
-      some = omega (arith, h.1);
-      power = subst (λ (x : ℕ). 2 ^ l % x ≡ 0) (sym h.0.1) (ap (λ i. 2 ^ i % 2 ^ h.0.0) e ∙ ap (λ x. x % 2 ^ h.0.0) (pow-add 2 h.0.0 (l - h.0.0)) ∙ mul-mod_right (2 ^ h.0.0) (2 ^ (l - h.0.0)));
+      power = (h.0.0, here, size_at h.0.0 p here ∙ sym h.0.1);
+      most = omega (arith, h.0.1, most);
     }
 
-pub rounded_size : (n l : ℕ) → 0 < n → n ≤ 2 ^ l → n ≤ 8192 → IsSize (2 ^ l) (rounded n)
-rounded_size n l s m k = next_size n (rounded n) l s m (rounded_next n s k)
+pub rounded_size : (n l : ℕ) → 0 < n → n ≤ 2 ^ l → l ≤ 13 → n ≤ 8192 → IsSize (2 ^ l) (rounded n)
+rounded_size n l s m few k = next_size n (rounded n) l s m few (rounded_next n s k)

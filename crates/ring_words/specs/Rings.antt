@@ -1,5 +1,6 @@
 -- The two rings as lists of what waits (io_uring(7), io_uring_setup(2)).
-use Rattle.std.specs.Prelude.{◌≡◌, ℕ, zero, suc, pos, ◌+◌, ◌-◌, ◌%◌, ◌^◌, ◌<◌, nat_lt, ◌==◌, not, Bool, true, false, Option, Some, None, option_map, option_to_list, slice_get, slice_index, List, [], ◌∷◌, ◌++◌, length, if◌then◌else◌}
+use Rattle.std.specs.Prelude.{◌≡◌, ℕ, zero, suc, pos, ◌+◌, ◌-◌, ◌%◌, ◌^◌, ◌<◌, ◌≤◌, nat_lt, ◌==◌, not, Bool, true, false, Option, Some, None, option_map, option_to_list, slice_get, slice_index, List, [], ◌∷◌, ◌++◌, length, if◌then◌else◌}
+use Rattle.std.specs.List.{Contains}
 use Rattle.std.proofs.Math.ListN.{replicate}
 use Rattle.std.specs.Int.Bits.{bit_or, bit_and}
 use Rattle.entries.specs.declared.completion.Cqe.{Cqe}
@@ -29,14 +30,14 @@ pub record ComWords : Type 0 where
   pub tail : ℕ
   pub slots : List Cqe
 
--- A size is a power of two, at most a limit that is one itself: so it divides the limit.
-pub record IsSize (limit n : ℕ) : Type 0 where
-  pub some : 0 < n
-  pub power : limit % n ≡ 0
-
 -- the powers of two that a ring can have as its size
 abbrev pub sizes : List ℕ
 sizes = 1 ∷ 2 ∷ 4 ∷ 8 ∷ 16 ∷ 32 ∷ 64 ∷ 128 ∷ 256 ∷ 512 ∷ 1024 ∷ 2048 ∷ 4096 ∷ 8192 ∷ []
+
+-- one of them, at most a limit
+pub record IsSize (limit n : ℕ) : Type 0 where
+  pub power : Contains sizes n
+  pub most : n ≤ limit
 
 -- the first of a rising list that is not below n
 abbrev pub first_not_below : ℕ → List ℕ → ℕ

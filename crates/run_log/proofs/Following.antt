@@ -15,11 +15,12 @@ use Rattle.machine.specs.declared.whole.Machine.{Machine}
 use Rattle.machine.specs.Whole.{view}
 use Rattle.machine.specs.Steps.{after, refusal, Next}
 use Rattle.machine.specs.Runs.{run, start, moment, Accepts, IsRefused}
+use Rattle.whole_files.specs.Writes.{WritesFront}
 use Rattle.run_log.specs.declared.fault.LogFault.{LogFault}
 use Rattle.run_log.specs.declared.fault.LogFault.TheVariants.{Script, Trace, Schedule, Write, Memory}
 use Rattle.run_log.specs.declared.range.EventRange.{EventRange}
 use Rattle.run_log.specs.Ranges.{has}
-use Rattle.run_log.specs.Logs.{Shows, Reports, Tells, Reported, WritesFront, Halts, fault_by, Logs, Written, Stopped}
+use Rattle.run_log.specs.Logs.{Shows, Reports, Tells, Reported, Halts, fault_by, Logs, Written, Stopped}
 
 -- ---- runs, one event longer
 

@@ -14,6 +14,7 @@ use Rattle.machine.specs.Runs.{start, moment, Accepts, IsRefused}
 use Rattle.script.specs.Scripts.{Scenario, Reads}
 use Rattle.traces.specs.Reading.{IsFault2}
 use Rattle.traces.specs.Setups.{IsTrace2}
+use Rattle.whole_files.specs.Writes.{WritesFront}
 use Rattle.run_log.specs.declared.changed.Changed.{Changed}
 use Rattle.run_log.specs.declared.fault.LogFault.{LogFault}
 use Rattle.run_log.specs.declared.fault.LogFault.TheVariants.{Script, Trace, Schedule, Write, Memory}
@@ -47,13 +48,6 @@ pub record Reported (told : Bool) (s : Setup) (i : ℕ) (m : Machine) (e : Event
   pub text : List ℕ
   pub tells : Tells told s i m e text
   pub appended : Appends held held' text
-
--- A beginning of the text was written.
-pub record WritesFront (held held' : Option (List ℕ)) (text : List ℕ) : Type 0 where
-  pub front : List ℕ
-  pub rest : List ℕ
-  pub whole : text ≡ front ++ rest
-  pub appended : Appends held held' front
 
 abbrev pub fault_by : ℕ → Refusal → LogFault
 fault_by i refused.Memory = Memory

@@ -5,8 +5,9 @@ ghost use Rattle.scenario.specs.Setups.{setup_refusal};
 ghost use Rattle.machine.specs.Whole.{view};
 ghost use Rattle.machine.specs.Steps.{Next};
 ghost use Rattle.machine.specs.Runs.{start, Accepts};
+ghost use Rattle.whole_files.specs.Writes.{WritesFront};
 ghost use Rattle.run_log.specs.Ranges.{has};
-ghost use Rattle.run_log.specs.Logs.{fault_by, Shows, WritesFront, Reported, Halts, Written, Stopped};
+ghost use Rattle.run_log.specs.Logs.{fault_by, Shows, Reported, Halts, Written, Stopped};
 
 use crate::changed::changes_of;
 use crate::fault::LogFault;

@@ -9,7 +9,7 @@ use crate::setup::Setup;
 use places::{Descriptor, Place};
 
 /// Places that have one name, and a number each.
-#[derive(Clone, Copy, Debug, PartialEq, Eq)]
+#[derive(Clone, Copy)]
 pub enum PlaceKind {
     Array,
     Slots,

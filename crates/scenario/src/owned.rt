@@ -8,7 +8,7 @@ use crate::names::{PlaceFault, read_number};
 use crate::setup::Setup;
 use places::{Contents, Object, Place};
 
-#[derive(Clone, Copy, Debug, PartialEq, Eq)]
+#[derive(Clone, Copy)]
 pub enum ObjectKind {
     File,
     Pipe,
@@ -16,7 +16,7 @@ pub enum ObjectKind {
 }
 
 /// Places that an object has once.
-#[derive(Clone, Copy, Debug, PartialEq, Eq)]
+#[derive(Clone, Copy)]
 pub enum ObjectPlace {
     FileLength,
     DurableLength,
@@ -26,7 +26,7 @@ pub enum ObjectPlace {
 }
 
 /// Bytes of an object.
-#[derive(Clone, Copy, Debug, PartialEq, Eq)]
+#[derive(Clone, Copy)]
 pub enum BytePlace {
     FileByte,
     DurableByte,

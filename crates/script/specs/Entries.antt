@@ -1,13 +1,12 @@
 -- Entries of the submission ring, as a script writes them (io_uring_enter(2)).
-use Rattle.std.specs.Prelude.{ℕ, ℤ, pos, replicate, take, drop, ◌||◌, List, codes, Bool, if◌then◌else◌, Option, Some, None, option_map}
-use Rattle.std.specs.Int.{w32, cast_signed}
+use Rattle.std.specs.Prelude.{ℕ, pos, replicate, ◌||◌, List, codes, Bool, if◌then◌else◌, Option, Some, None, option_map}
 use Rattle.std.specs.Result.{result_ok}
 use Rattle.std.specs.Str.{bytes_eq}
-use Rattle.byteorder.specs.Endian.{little_number}
 use Rattle.hex.specs.Hex.{decode_sized}
 use Rattle.serde_json.specs.Data.{Data, string}
 use Rattle.serde_json.specs.Find.{get}
 use Rattle.entries.specs.declared.entry.Sqe.{Sqe}
+use Rattle.entries.specs.Layout.{entry_of_bytes}
 use Rattle.script.specs.declared.number.Whole.{Whole}
 use Rattle.script.specs.declared.entry.EntryNumbers.{EntryNumbers}
 use Rattle.script.specs.declared.entry.EntryForm.{EntryForm}
@@ -45,32 +44,6 @@ entry_numbers d = do
 -- an object with no other key than these
 abbrev pub object_form : Data → Option EntryForm
 object_form d = if has_keys is_entry_key d then option_map Numbers (entry_numbers d) else None
-
--- the number of so many bytes from an offset on, the lowest byte first
-abbrev pub number_at : ℕ → ℕ → List ℕ → ℕ
-number_at offset width bytes = little_number width (take width (drop offset bytes))
-
--- a number of four bytes in two's complement
-abbrev pub signed_at : ℕ → List ℕ → ℤ
-signed_at offset bytes = cast_signed w32 (number_at offset 4 bytes)
-
--- the entry that 64 bytes hold
-unfoldable pub entry_of_bytes : List ℕ → Sqe
-entry_of_bytes bytes = record {
-  opcode = number_at 0 1 bytes;
-  flags = number_at 1 1 bytes;
-  ioprio = number_at 2 2 bytes;
-  fd = signed_at 4 bytes;
-  off = number_at 8 8 bytes;
-  addr = number_at 16 8 bytes;
-  len = number_at 24 4 bytes;
-  operation_flags = number_at 28 4 bytes;
-  user_data = number_at 32 8 bytes;
-  buf_index = number_at 40 2 bytes;
-  personality = number_at 42 2 bytes;
-  splice_fd_in = signed_at 44 bytes;
-  rest = take 16 (drop 48 bytes);
-}
 
 -- 128 hex digits, of either case
 abbrev pub entry_of_text : List ℕ → Option Sqe

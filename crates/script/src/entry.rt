@@ -9,7 +9,7 @@ use entries::Sqe;
 use serde_json::Value;
 
 /// The numbers of an entry, before their ranges are tested.
-#[derive(Clone, Copy, Debug, PartialEq, Eq)]
+#[derive(Clone, Copy)]
 pub struct EntryNumbers {
     pub op: Whole,
     pub flags: Whole,
@@ -23,7 +23,7 @@ pub struct EntryNumbers {
 }
 
 /// An entry, before the ranges of its numbers are tested.
-#[derive(Clone, Copy, Debug, PartialEq, Eq)]
+#[derive(Clone, Copy)]
 pub enum EntryForm {
     /// All of its bytes.
     Written(Sqe),

@@ -14,7 +14,7 @@ use serde_json::Value;
 use std::alloc::Global;
 
 /// What a Finish chooses, before the range of its number is tested.
-#[derive(Clone, Copy, Debug, PartialEq, Eq)]
+#[derive(Clone, Copy)]
 pub enum ChoiceForm {
     Full,
     Short(Whole),
@@ -22,7 +22,7 @@ pub enum ChoiceForm {
 }
 
 /// An event, before the ranges of its numbers are tested.
-#[derive(Clone, Copy, Debug, PartialEq, Eq)]
+#[derive(Clone, Copy)]
 pub enum EventForm {
     Step(Whole),
     Take(Whole),

@@ -16,7 +16,7 @@ use serde_json::Value;
 use std::alloc::Global;
 
 /// An instruction, before its limits and ranges are tested.
-#[derive(Debug, Drop)]
+#[derive(Drop)]
 pub enum InstructionForm {
     Put(Whole, EntryForm),
     Push(Whole),

@@ -16,7 +16,7 @@ use std::alloc::{AllocError, Global};
 const MEMORY_SIZE: usize = 65536;
 
 /// Bytes of memory from an address on, before their limit and their place are tested.
-#[derive(Debug, Drop)]
+#[derive(Drop)]
 pub struct Piece {
     pub address: Whole,
     pub bytes: Items<u8>,

@@ -7,7 +7,7 @@ use crate::fault::{Path, ScriptFault};
 use serde_json::Value;
 
 /// A whole number, before its range is tested.
-#[derive(Clone, Copy, Debug, PartialEq, Eq)]
+#[derive(Clone, Copy)]
 pub enum Whole {
     Natural(u64),
     Negative(i64),

@@ -19,7 +19,7 @@ use std::alloc::Global;
 const LARGEST_COUNTER: u64 = u64::MAX - 1;
 
 /// What an object is, before its limits and ranges are tested.
-#[derive(Debug, Drop)]
+#[derive(Drop)]
 pub enum ContentsForm {
     File(Items<u8>),
     Pipe(Whole),
@@ -27,7 +27,7 @@ pub enum ContentsForm {
 }
 
 /// An object, before its limits and ranges are tested.
-#[derive(Debug, Drop)]
+#[derive(Drop)]
 pub struct Found<'a> {
     pub name: &'a str,
     pub contents: ContentsForm,

@@ -17,27 +17,34 @@ use Rattle.timeouts_cancel.specs.declared.matching.Key.{Key}
 use Rattle.timeouts_cancel.specs.declared.matching.Found.TheVariants.{Absent}
 use Rattle.timeouts_cancel.specs.Matches.{is_match, is_waiting_match, found_by, found_first, waiting_by, IsNextMatch, NoMatchFrom, Passed}
 
+-- the tests of a row with its number
+abbrev matches : Key → ℕ → ℕ × Row → Bool
+matches key me p = is_match key me p.0 p.1
+
+abbrev waits_in : WorldState → Key → ℕ → ℕ × Row → Bool
+waits_in w key me p = is_waiting_match w key me p.0 p.1
+
 -- ---- from one issued row to the next
 
 pub passed_none : (rows : List Row) (key : Key) (me from : ℕ) → Passed rows key me from from
 passed_none rows key me from = record { after = omega arith; none = λ i x low high g. absurd (omega (arith, low, high)) }
 
 -- the next issued row doesn't match
-pub passed_on : (rows : List Row) (key : Key) (me from at r : ℕ) (row : Row) → Passed rows key me from at → IsNextIssued rows at r → slice_get rows r ≡ Some row → is_match key me (r, row) ≡ false → Passed rows key me from (r + 1)
+pub passed_on : (rows : List Row) (key : Key) (me from at r : ℕ) (row : Row) → Passed rows key me from at → IsNextIssued rows at r → slice_get rows r ≡ Some row → matches key me (r, row) ≡ false → Passed rows key me from (r + 1)
 passed_on rows key me from at r row p next h fails = record {
   after = let a = p.after in let b = next.after in omega (arith, a, b);
   none = λ i x low high g. by i x low high g (cases_lt i at) (cases_lt i r);
 }
   where
-    by : (i : ℕ) (x : Row) → from ≤ i → i < r + 1 → slice_get rows i ≡ Some x → (i < at) ⊎ (at ≤ i) → (i < r) ⊎ (r ≤ i) → is_match key me (i, x) ≡ false
+    by : (i : ℕ) (x : Row) → from ≤ i → i < r + 1 → slice_get rows i ≡ Some x → (i < at) ⊎ (at ≤ i) → (i < r) ⊎ (r ≤ i) → matches key me (i, x) ≡ false
     by i x low high g (inl less) s = p.none i x low less g
     by i x low high g (inr le) (inl less) = and_left _ _ (next.least i x le less g)
     by i x low high g (inr le) (inr last) = let e : r ≡ i = omega (arith, high, last) in let k : Some row ≡ Some x = sym h ∙ ap (slice_get rows) e ∙ g in same k e
       where
-        same : Some row ≡ Some x → r ≡ i → is_match key me (i, x) ≡ false
-        same k e = let y : row ≡ x = cc in ap (λ n. is_match key me (n, x)) (sym e) ∙ ap (λ z. is_match key me (r, z)) (sym y) ∙ fails
+        same : Some row ≡ Some x → r ≡ i → matches key me (i, x) ≡ false
+        same k e = let y : row ≡ x = cc in ap (λ n. matches key me (n, x)) (sym e) ∙ ap (λ z. matches key me (r, z)) (sym y) ∙ fails
 
-pub match_found : (rows : List Row) (key : Key) (me from at r : ℕ) (row : Row) → Passed rows key me from at → IsNextIssued rows at r → slice_get rows r ≡ Some row → is_match key me (r, row) ≡ true → IsNextMatch rows key me from r row
+pub match_found : (rows : List Row) (key : Key) (me from at r : ℕ) (row : Row) → Passed rows key me from at → IsNextIssued rows at r → slice_get rows r ≡ Some row → matches key me (r, row) ≡ true → IsNextMatch rows key me from r row
 match_found rows key me from at r row p next h yes_match = record {
   after = let a = p.after in let b = next.after in omega (arith, a, b);
   there = h;
@@ -45,32 +52,32 @@ match_found rows key me from at r row p next h yes_match = record {
   least = λ i x low high g. by i x low high g (cases_lt i at);
 }
   where
-    by : (i : ℕ) (x : Row) → from ≤ i → i < r → slice_get rows i ≡ Some x → (i < at) ⊎ (at ≤ i) → is_match key me (i, x) ≡ false
+    by : (i : ℕ) (x : Row) → from ≤ i → i < r → slice_get rows i ≡ Some x → (i < at) ⊎ (at ≤ i) → matches key me (i, x) ≡ false
     by i x low high g (inl less) = p.none i x low less g
     by i x low high g (inr le) = and_left _ _ (next.least i x le high g)
 
 pub match_none : (rows : List Row) (key : Key) (me from at : ℕ) → Passed rows key me from at → NoneIssuedFrom rows at → NoMatchFrom rows key me from
 match_none rows key me from at p none i x low g = by (cases_lt i at)
   where
-    by : (i < at) ⊎ (at ≤ i) → is_match key me (i, x) ≡ false
+    by : (i < at) ⊎ (at ≤ i) → matches key me (i, x) ≡ false
     by (inl less) = p.none i x low less g
     by (inr le) = and_left _ _ (none i x le g)
 
 -- ---- the least match
 
 pub found_next : (rows : List Row) (w : WorldState) (key : Key) (me r : ℕ) (row : Row) → IsNextMatch rows key me 0 r row → found_first w (Some (r, row)) ≡ found_by rows w key me
-found_next rows w key me r row m = ap (found_first w) (sym (first_numbered (is_match key me) rows r row m.there m.matching (λ i x l g. m.least i x (omega arith) l g)))
+found_next rows w key me r row m = ap (found_first w) (sym (first_numbered (matches key me) rows r row m.there m.matching (λ i x l g. m.least i x (omega arith) l g)))
 
 pub found_none : (rows : List Row) (w : WorldState) (key : Key) (me : ℕ) → NoMatchFrom rows key me 0 → Absent ≡ found_by rows w key me
-found_none rows w key me none = ap (λ (ps : List (ℕ × Row)). found_first w (slice_get ps 0)) (sym (none_numbered (is_match key me) rows (λ i x g. none i x (omega arith) g)))
+found_none rows w key me none = ap (λ (ps : List (ℕ × Row)). found_first w (slice_get ps 0)) (sym (none_numbered (matches key me) rows (λ i x g. none i x (omega arith) g)))
 
 -- ---- the matches that wait, among the first rows
 
 abbrev pub waiting_to : List Row → WorldState → Key → ℕ → ℕ → List ℕ
-waiting_to rows w key me k = map (λ (p : ℕ × Row). p.0) (filter (is_waiting_match w key me) (take k (enumerate_from 0 rows)))
+waiting_to rows w key me k = map (λ (p : ℕ × Row). p.0) (filter (waits_in w key me) (take k (enumerate_from 0 rows)))
 
 -- a row that doesn't match isn't among them
-not_waiting : (w : WorldState) (key : Key) (me : ℕ) (p : ℕ × Row) → is_match key me p ≡ false → is_waiting_match w key me p ≡ false
+not_waiting : (w : WorldState) (key : Key) (me : ℕ) (p : ℕ × Row) → matches key me p ≡ false → waits_in w key me p ≡ false
 not_waiting w key me p fails = and_left _ _ fails
 
 abbrev number : ℕ × Row → ℕ
@@ -78,10 +85,10 @@ number p = p.0
 
 pub waiting_on : (rows : List Row) (w : WorldState) (key : Key) (me from r : ℕ) (row : Row) (b : Bool) → IsNextMatch rows key me from r row → is_running w row ≡ b → waiting_to rows w key me (r + 1) ≡ waiting_to rows w key me from ++ cond b [] (r ∷ [])
 waiting_on rows w key me from r row b m e =
-    ap (λ xs. map number (filter (is_waiting_match w key me) xs)) (take_more (enumerate_from 0 rows) r (r, row) (enumerated rows r ∙ ap (option_map (λ (y : Row). (r, y))) m.there))
-    ∙ ap (map number) (filter-append (is_waiting_match w key me) (take r (enumerate_from 0 rows)) ((r, row) ∷ []))
-    ∙ map-append number (filter (is_waiting_match w key me) (take r (enumerate_from 0 rows))) (cond (is_waiting_match w key me (r, row)) ((r, row) ∷ []) [])
-    ∙ ap (λ xs. map number xs ++ map number (cond (is_waiting_match w key me (r, row)) ((r, row) ∷ []) [])) (filter_skip (is_waiting_match w key me) from r (enumerate_from 0 rows) m.after (λ i p low high g. numbered (is_waiting_match w key me) rows i p (λ x h. not_waiting w key me (i, x) (m.least i x low high h)) g))
+    ap (λ xs. map number (filter (waits_in w key me) xs)) (take_more (enumerate_from 0 rows) r (r, row) (enumerated rows r ∙ ap (option_map (λ (y : Row). (r, y))) m.there))
+    ∙ ap (map number) (filter-append (waits_in w key me) (take r (enumerate_from 0 rows)) ((r, row) ∷ []))
+    ∙ map-append number (filter (waits_in w key me) (take r (enumerate_from 0 rows))) (cond (waits_in w key me (r, row)) ((r, row) ∷ []) [])
+    ∙ ap (λ xs. map number xs ++ map number (cond (waits_in w key me (r, row)) ((r, row) ∷ []) [])) (filter_skip (waits_in w key me) from r (enumerate_from 0 rows) m.after (λ i p low high g. numbered (waits_in w key me) rows i p (λ x h. not_waiting w key me (i, x) (m.least i x low high h)) g))
     ∙ ap (λ c. waiting_to rows w key me from ++ map number (cond c ((r, row) ∷ []) [])) (ap (λ c. c && not (is_running w row)) m.matching ∙ ap not e)
     ∙ ap (λ xs. waiting_to rows w key me from ++ xs) (by b)
   where
@@ -90,4 +97,4 @@ waiting_on rows w key me from r row b m e =
     by false = refl
 
 pub waiting_past : (rows : List Row) (w : WorldState) (key : Key) (me from : ℕ) → NoMatchFrom rows key me from → waiting_to rows w key me from ≡ waiting_by rows w key me
-waiting_past rows w key me from none = ap (map (λ (p : ℕ × Row). p.0)) (none_behind (is_waiting_match w key me) from (enumerate_from 0 rows) (λ i p low g. numbered (is_waiting_match w key me) rows i p (λ x h. not_waiting w key me (i, x) (none i x low h)) g))
+waiting_past rows w key me from none = ap (map (λ (p : ℕ × Row). p.0)) (none_behind (waits_in w key me) from (enumerate_from 0 rows) (λ i p low g. numbered (waits_in w key me) rows i p (λ x h. not_waiting w key me (i, x) (none i x low h)) g))

@@ -1,10 +1,10 @@
 -- What a cancel or a removal matches (io_uring_enter(2), IORING_OP_ASYNC_CANCEL, IORING_OP_POLL_REMOVE and IORING_OP_TIMEOUT_REMOVE): a filter over all rows.
-use Rattle.std.specs.Prelude.{◌≡◌, ℕ, ℤ, ◌<◌, ◌≤◌, ◌==◌, Bool, true, false, not, ◌&&◌, if◌then◌else◌, Option, Some, None, slice_get, List, map}
-use Rattle.std.specs.List.{filter, enumerate_from}
+use Rattle.std.specs.Prelude.{◌≡◌, ℕ, ℤ, ◌<◌, ◌≤◌, ◌==◌, Bool, true, false, not, ◌&&◌, if◌then◌else◌, Option, Some, None, slice_get, List}
 use Rattle.entries.specs.declared.row.Row.{Row}
 use Rattle.model_files.specs.Worlds.{WorldState}
 use Rattle.opcodes.specs.Outcomes.{is_running}
 use Rattle.links_drains.specs.Links.{is_guard}
+use Rattle.links_drains.specs.Numbered.{numbered_where, numbers_where}
 use Rattle.links_drains.specs.Phases.{is_issued}
 use Rattle.timeouts_cancel.specs.Falls.{is_number}
 use Rattle.timeouts_cancel.specs.declared.matching.Key.{Key}
@@ -25,11 +25,11 @@ fits_key (Poll n) row = (row.entry.opcode == 6) && (row.entry.user_data == n)
 fits_key (Timeout n) row = (row.entry.opcode == 11) && (row.entry.user_data == n)
 
 -- An issued row matches, but neither a LINK_TIMEOUT nor the row that asks.
-abbrev pub is_match : Key → ℕ → ℕ × Row → Bool
-is_match key me p = is_issued p.1.phase && (not (is_guard p.1) && (not (p.0 == me) && fits_key key p.1))
+abbrev pub is_match : Key → ℕ → ℕ → Row → Bool
+is_match key me r row = is_issued row.phase && (not (is_guard row) && (not (r == me) && fits_key key row))
 
 abbrev pub matches_of : List Row → Key → ℕ → List (ℕ × Row)
-matches_of rows key me = filter (is_match key me) (enumerate_from 0 rows)
+matches_of rows key me = numbered_where (is_match key me) rows
 
 -- ---- what is found
 
@@ -42,12 +42,12 @@ abbrev pub found_by : List Row → WorldState → Key → ℕ → Found
 found_by rows w key me = found_first w (slice_get (matches_of rows key me) 0)
 
 -- whether a row matches, and waits
-abbrev pub is_waiting_match : WorldState → Key → ℕ → ℕ × Row → Bool
-is_waiting_match w key me p = is_match key me p && not (is_running w p.1)
+abbrev pub is_waiting_match : WorldState → Key → ℕ → ℕ → Row → Bool
+is_waiting_match w key me r row = is_match key me r row && not (is_running w row)
 
 -- the numbers of all matches that wait, in order
 abbrev pub waiting_by : List Row → WorldState → Key → ℕ → List ℕ
-waiting_by rows w key me = map (λ (p : ℕ × Row). p.0) (filter (is_waiting_match w key me) (enumerate_from 0 rows))
+waiting_by rows w key me = numbers_where (is_waiting_match w key me) rows
 
 -- ---- match by match
 
@@ -55,13 +55,13 @@ waiting_by rows w key me = map (λ (p : ℕ × Row). p.0) (filter (is_waiting_ma
 pub record IsNextMatch (rows : List Row) (key : Key) (me from r : ℕ) (row : Row) : Type 0 where
   pub after : from ≤ r
   pub there : slice_get rows r ≡ Some row
-  pub matching : is_match key me (r, row) ≡ true
-  pub least : (i : ℕ) (x : Row) → from ≤ i → i < r → slice_get rows i ≡ Some x → is_match key me (i, x) ≡ false
+  pub matching : is_match key me r row ≡ true
+  pub least : (i : ℕ) (x : Row) → from ≤ i → i < r → slice_get rows i ≡ Some x → is_match key me i x ≡ false
 
 abbrev pub NoMatchFrom : List Row → Key → ℕ → ℕ → Type 0
-NoMatchFrom rows key me from = (i : ℕ) (x : Row) → from ≤ i → slice_get rows i ≡ Some x → is_match key me (i, x) ≡ false
+NoMatchFrom rows key me from = (i : ℕ) (x : Row) → from ≤ i → slice_get rows i ≡ Some x → is_match key me i x ≡ false
 
 -- The rows from one up to another have been looked at, and don't match.
 pub record Passed (rows : List Row) (key : Key) (me from at : ℕ) : Type 0 where
   pub after : from ≤ at
-  pub none : (i : ℕ) (x : Row) → from ≤ i → i < at → slice_get rows i ≡ Some x → is_match key me (i, x) ≡ false
+  pub none : (i : ℕ) (x : Row) → from ≤ i → i < at → slice_get rows i ≡ Some x → is_match key me i x ≡ false

@@ -100,7 +100,7 @@ fn next_match(table: &Table, key: Key, me: u32, from: u32) -> Option<(u32, Row)>
 }
 
 fn is_match(key: Key, me: u32, r: u32, row: &Row) -> bool
-    ensures { result ≡ is_match key me (r, row.now) }
+    ensures { result ≡ is_match key me r row.now }
 {
     if !is_issued(row) || is_guard(row) {
         return false;

@@ -9,13 +9,13 @@ use Rattle.std.proofs.lemmas.Bool.{and_parts, and_from, leb-true, ltb-true}
 use Rattle.std.proofs.lemmas.List.{take_at}
 use Rattle.byteorder.specs.Endian.{little_bytes}
 use Rattle.entries.specs.declared.entry.Sqe.{Sqe}
-use Rattle.entries.specs.Layout.{entry_bytes}
+use Rattle.entries.specs.Layout.{entry_bytes, entry_of_bytes}
 use Rattle.scenario.specs.declared.setup.Instruction.{Instruction}
 use Rattle.scenario.specs.declared.setup.Instruction.TheVariants.{Put, Push, Store, Enter, Reap, Close}
 use Rattle.traces.specs.Cursors.{Cursor}
 use Rattle.traces.specs.Limits.{is_within, keeps_instruction, keeps_program, HasWidths}
 use Rattle.traces.specs.Setups.{long_bytes, instruction_bytes, program_bytes}
-use Rattle.traces.specs.Reading.{◌>>=◌, kept, number_at, number_in, bytes_at, count_at, entry_of, put_at, push_at, store_at, enter_at, close_at, instruction_of, instruction_at, program_at}
+use Rattle.traces.specs.Reading.{◌>>=◌, kept, number_at, number_in, bytes_at, count_at, put_at, push_at, store_at, enter_at, close_at, instruction_of, instruction_at, program_at}
 use Rattle.traces.proofs.Taking.{IsBytes, IsBytes-take, bind_ok, kept_ok, ok_is, cursor_at, Takes, Takes-then, Again, width1, width4, number_takes, number_again, number_in_takes, number_in_again, bytes_takes, bytes_again}
 use Rattle.traces.proofs.Entries.{entry_fits, rest_long, entry_spelled, entry_long, entry_again}
 use Rattle.traces.proofs.Lists.{Reads, list_takes, list_again, all_fit, fit_all}
@@ -61,14 +61,14 @@ bytes_fit s x t fits taken =
 put_takes : (slots : ℕ) (s : Cursor) (i : Instruction) (t : Cursor) → IsBytes s.rest → put_at slots s ≡ Ok (i, t) → TailTakes slots 1 s i t
 unfolding put_at
 put_takes slots s i t fits e =
-    let a = bind_ok (number_in 4 (λ n. nat_lt n slots) s) (λ slot. bytes_at 64 slot.1 >>= λ entry. Ok (Put slot.0 (entry_of entry.0), entry.1)) (i, t) e in
-    let b = bind_ok (bytes_at 64 a.0.1) (λ entry. Ok (Put a.0.0 (entry_of entry.0), entry.1)) (i, t) a.2 in
+    let a = bind_ok (number_in 4 (λ n. nat_lt n slots) s) (λ slot. bytes_at 64 slot.1 >>= λ entry. Ok (Put slot.0 (entry_of_bytes entry.0), entry.1)) (i, t) e in
+    let b = bind_ok (bytes_at 64 a.0.1) (λ entry. Ok (Put a.0.0 (entry_of_bytes entry.0), entry.1)) (i, t) a.2 in
     let slot = number_in_takes 4 width4 (λ n. nat_lt n slots) s a.0.0 a.0.1 fits a.1 in
     let bytes = bytes_takes 64 a.0.1 b.0.0 b.0.1 slot.0.fits b.1 in
     let entry_fit = bytes_fit a.0.1 b.0.0 b.0.1 slot.0.fits bytes.0 in
     let spelled = subst (λ (text : List ℕ). Takes a.0.1 text b.0.1) (entry_spelled b.0.0 bytes.1 entry_fit) bytes.0 in
-    let both = Takes-then s (little_bytes 4 a.0.0) a.0.1 (entry_bytes (entry_of b.0.0)) b.0.1 slot.0 spelled in
-    let made : Instruction × Cursor = (Put a.0.0 (entry_of b.0.0), b.0.1) in
+    let both = Takes-then s (little_bytes 4 a.0.0) a.0.1 (entry_bytes (entry_of_bytes b.0.0)) b.0.1 slot.0 spelled in
+    let made : Instruction × Cursor = (Put a.0.0 (entry_of_bytes b.0.0), b.0.1) in
     subst (λ (p : Instruction × Cursor). TailTakes slots 1 s p.0 p.1) (ok_is made (i, t) b.2)
     (both, refl, (slot.2, (entry_fits b.0.0 entry_fit, rest_long b.0.0 bytes.1)))
 
@@ -167,7 +167,7 @@ put_again slots offset slot entry rest few kept =
     let a = number_in_again 4 (λ n. nat_lt n slots) offset slot (entry_bytes entry ++ rest) (omega arith) kept.0 in
     let b = bytes_again 64 a.0 (entry_bytes entry) rest (entry_long entry kept.1.1) in
     let regrouped : tail_of (Put slot entry) ++ rest ≡ little_bytes 4 slot ++ (entry_bytes entry ++ rest) = append_assoc (little_bytes 4 slot) (entry_bytes entry) rest in
-    let made : (a.0 ≡ a.0) × (put_at slots (cursor_at offset (little_bytes 4 slot ++ (entry_bytes entry ++ rest))) ≡ Ok (Put slot (entry_of (entry_bytes entry)), cursor_at b.0 rest)) = (refl, rw (a.1, b.1) refl) in
+    let made : (a.0 ≡ a.0) × (put_at slots (cursor_at offset (little_bytes 4 slot ++ (entry_bytes entry ++ rest))) ≡ Ok (Put slot (entry_of_bytes (entry_bytes entry)), cursor_at b.0 rest)) = (refl, rw (a.1, b.1) refl) in
     (b.0, ap (λ (input : List ℕ). put_at slots (cursor_at offset input)) regrouped ∙ made.1 ∙ ap (λ (x : Sqe). Ok (Put slot x, cursor_at b.0 rest)) (entry_again entry kept.1.0 kept.1.1))
 
 push_again : (offset index : ℕ) (rest : List ℕ) → index < 2 ^ 32 → Again push_at offset (little_bytes 4 index ++ rest) (Push index) rest

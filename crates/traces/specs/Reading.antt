@@ -3,7 +3,7 @@
 use Rattle.std.specs.Prelude.{◌≡◌, ◌⊎◌, ℕ, zero, suc, ◌+◌, ◌-◌, ◌^◌, Bool, ◌||◌, ◌==◌, if◌then◌else◌, nat_lt, nat_le, slice_get, List, [], ◌∷◌, ◌++◌, length, take, drop, Option, Some, Result, Ok, Err}
 use Rattle.std.specs.Int.{w32, cast_signed}
 use Rattle.byteorder.specs.Endian.{little_number}
-use Rattle.entries.specs.declared.entry.Sqe.{Sqe}
+use Rattle.entries.specs.Layout.{entry_of_bytes}
 use Rattle.places.specs.declared.object.Object.{Object}
 use Rattle.places.specs.declared.object.Contents.{Contents}
 use Rattle.places.specs.declared.object.Contents.TheVariants.{File, Pipe, EventFd}
@@ -120,29 +120,11 @@ descriptor_at objects s = do
   end ← end_at (slice_get objects object.0) object.1
   Ok (record { object = object.0; end = end.0 }, end.1)
 
--- the entry that 64 bytes hold
-abbrev pub entry_of : List ℕ → Sqe
-entry_of bytes = record {
-  opcode = little_number 1 bytes;
-  flags = little_number 1 (drop 1 bytes);
-  ioprio = little_number 2 (drop 2 bytes);
-  fd = cast_signed w32 (little_number 4 (drop 4 bytes));
-  off = little_number 8 (drop 8 bytes);
-  addr = little_number 8 (drop 16 bytes);
-  len = little_number 4 (drop 24 bytes);
-  operation_flags = little_number 4 (drop 28 bytes);
-  user_data = little_number 8 (drop 32 bytes);
-  buf_index = little_number 2 (drop 40 bytes);
-  personality = little_number 2 (drop 42 bytes);
-  splice_fd_in = cast_signed w32 (little_number 4 (drop 44 bytes));
-  rest = take 16 (drop 48 bytes);
-}
-
 unfoldable pub put_at : ℕ → Cursor → Result (Instruction × Cursor) TraceFault
 put_at slots s = do
   slot ← number_in 4 (λ n. nat_lt n slots) s
   entry ← bytes_at 64 slot.1
-  Ok (Put slot.0 (entry_of entry.0), entry.1)
+  Ok (Put slot.0 (entry_of_bytes entry.0), entry.1)
 
 -- The address is tested with the length, once that is read and keeps its own limit.
 unfoldable pub store_at : Cursor → Result (Instruction × Cursor) TraceFault

@@ -1,7 +1,8 @@
 //! The programs of a setup's threads, read.
 ghost use Rattle.std.specs.Prelude.{◌≡◌, ◌+◌, ◌≤◌, ◌^◌, length, take, []};
+ghost use Rattle.entries.specs.Layout.{entry_of_bytes};
 ghost use Rattle.scenario.specs.declared.setup.Instruction.{Instruction};
-ghost use Rattle.traces.specs.Reading.{Gives, entry_of, put_at, push_at, store_at, enter_at, close_at, instruction_of, instruction_at, program_at, items_at, list_at};
+ghost use Rattle.traces.specs.Reading.{Gives, put_at, push_at, store_at, enter_at, close_at, instruction_of, instruction_at, program_at, items_at, list_at};
 
 use crate::cursor::{Cursor, bytes_at, count_at, u8_within, u32_at, u32_below};
 use crate::fault::TraceFault;
@@ -12,7 +13,7 @@ use std::alloc::Global;
 
 fn entry_of(bytes: &[u8]) -> Sqe
     requires { length bytes.now ≡ 64 }
-    ensures { result ≡ entry_of bytes.now }
+    ensures { result ≡ entry_of_bytes bytes.now }
 {
     let mut entry = [0; 64];
     entry.copy_from_slice(bytes);

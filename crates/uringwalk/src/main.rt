@@ -1,18 +1,24 @@
 //! The program: one job, over the libraries.
 #![tactic(auto)]
 
-ghost use Rattle.std.specs.Prelude.{◌≡◌};
+ghost use Rattle.std.specs.Prelude.{◌≡◌, IfOk};
+ghost use Rattle.debug_server.specs.Jobs.{IsInRange};
 ghost use Rattle.uringwalk.specs.Files.{told_as};
 
+mod living;
 mod logging;
 
 use debug_server::{
     Fault, Form, Job, RunFault, ServeFault, Traced, job, migrate_trace, replay, trace_script, walk,
 };
+use living::live_file;
 use logging::log_file;
 use run_log::EventRange;
 use std::process::ExitCode;
 use std::rt::Files;
+use std::sync::Wait;
+use std::thread::Threads;
+use std::time::Clock;
 use std::{env, fmt, io};
 use whole_files::{FileFault, lead_to_one_file, read_file, write_file};
 
@@ -99,11 +105,22 @@ fn migrate_file(
     keep(rt, out, &migrate_trace(rt.alloc(), &text, &bytes)?)
 }
 
-fn run(rt: &(impl Files + Input + Print + AllocGlobal), job: Job<'_>) -> Result<(), Fault> {
+fn run<R: Files + Input + Print + AllocGlobal + Threads + Wait + Clock + Sync>(
+    rt: &R,
+    job: Job<'_>,
+) -> Result<(), Fault>
+    requires { IsInRange job }
+{
     match job {
         Job::Walk(script) => answer_over(rt, Over::Script, script),
         Job::Replay(trace) => answer_over(rt, Over::Trace, trace),
         Job::Log { run, from, to } => log_file(rt, run, EventRange { from, to }),
+        Job::Live {
+            script,
+            turns,
+            kernel,
+            out,
+        } => live_file(rt, script, turns, kernel, out),
         Job::Trace { script, out, form } => trace_file(rt, script, out, form),
         Job::Migrate { script, trace, out } => migrate_file(rt, script, trace, out),
     }
@@ -115,7 +132,12 @@ fn loses_script(rt: &(impl Files + AllocGlobal), job: Job<'_>) -> Result<bool, F
         Job::Trace { script, out, .. } | Job::Migrate { script, out, .. } => {
             lead_to_one_file(rt, script, out).map_err(told)
         }
-        Job::Walk(_) | Job::Replay(_) | Job::Log { .. } => Ok(false),
+        Job::Live {
+            script,
+            out: Some(out),
+            ..
+        } => lead_to_one_file(rt, script, out).map_err(told),
+        Job::Walk(_) | Job::Replay(_) | Job::Log { .. } | Job::Live { out: None, .. } => Ok(false),
     }
 }
 
@@ -131,36 +153,59 @@ fn fail_for_memory(rt: &impl Eprint) -> ExitCode {
     fail(rt, 1, &Fault::Run(RunFault::Memory))
 }
 
+// Does what the words ask for, unless it would lose a script.
+fn carry_out<R: Files + Input + Print + Eprint + AllocGlobal + Threads + Wait + Clock + Sync>(
+    rt: &R,
+    job: Job<'_>,
+) -> ExitCode
+    requires { IsInRange job }
+{
+    match loses_script(rt, job) {
+        Ok(false) => match run(rt, job) {
+            Ok(()) => ExitCode::SUCCESS,
+            Err(fault) => fail(rt, 1, &fault),
+        },
+        Ok(true) => fail(rt, 2, &ONTO_SCRIPT),
+        Err(fault) => fail(rt, 1, &fault),
+    }
+}
+
+// Reads the words, and does what they ask for.
+fn read_words<R: Files + Input + Print + Eprint + AllocGlobal + Threads + Wait + Clock + Sync>(
+    rt: &R,
+    words: &[&str],
+) -> ExitCode {
+    match job(rt.alloc(), words) {
+        Ok(job) => carry_out(rt, job),
+        Err(error) => fail(rt, 2, &error),
+    }
+}
+
+// The same of words that the program owns.
+fn read_texts<R: Files + Input + Print + Eprint + AllocGlobal + Threads + Wait + Clock + Sync>(
+    rt: &R,
+    words: &[String],
+) -> ExitCode {
+    match words
+        .iter()
+        .map(|word| word.as_str())
+        .collect::<Vec<&str>>(rt.alloc())
+    {
+        Ok(texts) => read_words(rt, &texts),
+        Err(_) => fail_for_memory(rt),
+    }
+}
+
 fn main(rt: HostRuntime) -> io::Result<ExitCode> {
-    let alloc = rt.alloc();
     let words = match env::args(&rt) {
-        Ok(words) => words.collect::<Vec<String>>(alloc),
+        Ok(words) => words.collect::<Vec<String>>(rt.alloc()),
         Err(error) if error.kind() == io::ErrorKind::OutOfMemory => {
             return Ok(fail_for_memory(&rt));
         }
         Err(_) => return Ok(fail(&rt, 2, &"error: a word is not UTF-8 text")),
     };
-    let Ok(words) = words else {
-        return Ok(fail_for_memory(&rt));
-    };
-    let Ok(texts) = words
-        .iter()
-        .map(|word| word.as_str())
-        .collect::<Vec<&str>>(alloc)
-    else {
-        return Ok(fail_for_memory(&rt));
-    };
-    let job = match job(alloc, &texts) {
-        Ok(job) => job,
-        Err(error) => return Ok(fail(&rt, 2, &error)),
-    };
-    match loses_script(&rt, job) {
-        Ok(false) => {}
-        Ok(true) => return Ok(fail(&rt, 2, &ONTO_SCRIPT)),
-        Err(fault) => return Ok(fail(&rt, 1, &fault)),
-    }
-    match run(&rt, job) {
-        Ok(()) => Ok(ExitCode::SUCCESS),
-        Err(fault) => Ok(fail(&rt, 1, &fault)),
+    match words {
+        Ok(words) => Ok(read_texts(&rt, &words)),
+        Err(_) => Ok(fail_for_memory(&rt)),
     }
 }

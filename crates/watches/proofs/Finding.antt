@@ -9,10 +9,10 @@ use Rattle.inverse_log.specs.Walks.{Walk}
 use Rattle.watches.specs.declared.watched.Break.{Break}
 use Rattle.watches.specs.declared.stopping.Stop.{Stop}
 use Rattle.watches.specs.declared.stopping.Stop.TheVariants.{Change, Met, Start, End}
-use Rattle.watches.specs.Sameness.{same}
 use Rattle.watches.specs.Watchpoints.{Stops}
 use Rattle.watches.specs.Stops.{seen, changes, meets, stop_before, stop_behind, first_stop, moments_before, reverse_stop, forward_stop, Stays, NoneMet, Unchanged, Unmet, Quiet, IsEarlier, IsLater}
-use Rattle.watches.proofs.Same.{same_decides}
+use Rattle.places.specs.Sameness.{is_same}
+use Rattle.places.proofs.SameValue.{same_decides}
 
 -- ---- tests of two views
 
@@ -41,7 +41,7 @@ unchanged old new (p ∷ ps) h = rw ((same_decides (old p) (new p)).1 h.0) (unch
 stays : (old new : View) (ps : List Place) → changes old new ps ≡ false → Stays old new ps
 stays old new [] h = tt
 stays old new (p ∷ ps) h =
-    let parts = differs_first (same (old p) (new p)) (changes old new ps) h in
+    let parts = differs_first (is_same (old p) (new p)) (changes old new ps) h in
     ((same_decides (old p) (new p)).0 parts.0, stays old new ps parts.1)
 
 -- one of them does
@@ -52,14 +52,14 @@ changed old new ps h = something_of (changes old new ps) (λ e. h (stays old new
 pub unmet : (old new : View) (bs : List Break) → NoneMet old new bs → meets old new bs ≡ false
 unmet old new [] h = refl
 unmet old new (b ∷ bs) h =
-    meets_none (same (new b.place) (Some b.value)) (same (old b.place) (Some b.value)) (meets old new bs)
+    meets_none (is_same (new b.place) (Some b.value)) (is_same (old b.place) (Some b.value)) (meets old new bs)
     (λ e. (same_decides (old b.place) (Some b.value)).1 (h.0 ((same_decides (new b.place) (Some b.value)).0 e)))
     (unmet old new bs h.1)
 
 none_met : (old new : View) (bs : List Break) → meets old new bs ≡ false → NoneMet old new bs
 none_met old new [] h = tt
 none_met old new (b ∷ bs) h =
-    let parts = meets_first (same (new b.place) (Some b.value)) (same (old b.place) (Some b.value)) (meets old new bs) h in
+    let parts = meets_first (is_same (new b.place) (Some b.value)) (is_same (old b.place) (Some b.value)) (meets old new bs) h in
     ((λ e. (same_decides (old b.place) (Some b.value)).0 (parts.0 ((same_decides (new b.place) (Some b.value)).1 e))), none_met old new bs parts.1)
 
 -- one break is

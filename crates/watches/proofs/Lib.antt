@@ -1,4 +1,3 @@
-pub mod Same
 pub mod Naming
 pub mod Landing
 pub mod Finding

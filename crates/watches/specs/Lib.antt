@@ -1,3 +1,2 @@
 pub mod Watchpoints
 pub mod Stops
-pub mod Sameness

@@ -4,6 +4,7 @@ use Rattle.std.specs.List.{list_any, range_with_len}
 use Rattle.places.specs.declared.place.Place.{Place}
 use Rattle.places.specs.declared.value.Change.{Change as Noted}
 use Rattle.places.specs.View.{View, named}
+use Rattle.places.specs.Sameness.{is_same}
 use Rattle.machine.specs.Whole.{view}
 use Rattle.machine.specs.Runs.{moment}
 use Rattle.inverse_log.specs.Walks.{Walk}
@@ -11,7 +12,6 @@ use Rattle.watches.specs.declared.watched.Break.{Break}
 use Rattle.watches.specs.declared.stopping.Stop.{Stop}
 use Rattle.watches.specs.declared.stopping.Stop.TheVariants.{Change, Met, Start, End}
 use Rattle.watches.specs.Watchpoints.{Stops}
-use Rattle.watches.specs.Sameness.{same}
 
 -- whether a record names a place
 abbrev pub names : List Noted → Place → Bool
@@ -25,11 +25,11 @@ seen w m = view (moment w.setup w.events m)
 
 -- whether one of the places differs
 abbrev pub changes : View → View → List Place → Bool
-changes old new ps = list_any (λ p. not (same (old p) (new p))) ps
+changes old new ps = list_any (λ p. not (is_same (old p) (new p))) ps
 
 -- whether the value of one of the breaks stands in its place that didn't before
 abbrev pub meets : View → View → List Break → Bool
-meets old new bs = list_any (λ b. same (new b.place) (Some b.value) && not (same (old b.place) (Some b.value))) bs
+meets old new bs = list_any (λ b. is_same (new b.place) (Some b.value) && not (is_same (old b.place) (Some b.value))) bs
 
 -- where the event after a moment stops a walk back, if it does
 abbrev pub stop_before : Walk → List Place → ℕ → Option Stop

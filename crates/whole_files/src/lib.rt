@@ -1,7 +1,8 @@
-//! Files that are read and written whole.
+//! Files that are read and written whole, and writers that take all of some bytes.
 #![tactic(auto)]
 
 mod fault;
+mod writing;
 
 pub use fault::FileFault;
 use fault::fault_of;
@@ -11,6 +12,7 @@ use std::io::{ErrorKind, Read, Write};
 use std::path::PathBuf;
 use std::rt::Files;
 use std::{fs, io};
+pub use writing::{NotWritten, write_out};
 
 /// How many names beside a file are tried.
 const NAMES: u32 = 100;

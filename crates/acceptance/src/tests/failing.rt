@@ -1,8 +1,8 @@
 //! Files one of whose calls fails.
 
-use std::alloc::Allocator;
+use std::alloc::{Alloc, Allocator, Global};
 use std::cell::Cell;
-use std::fs::{Metadata, OpenFile, OpenOptions};
+use std::fs::{File, Metadata, OpenFile, OpenOptions};
 use std::io;
 use std::io::{ErrorKind, Read, Seek, SeekFrom, Write};
 use std::rt::Files;
@@ -47,24 +47,32 @@ impl Calls {
 
 /// Files whose calls are counted.
 #[derive(Drop)]
-pub struct CountedFiles<'a, R> {
-    pub files: &'a R,
+pub struct CountedFiles<'a> {
+    pub files: &'a HostRuntime,
     pub calls: &'a Calls,
+}
+
+impl Alloc for CountedFiles<'_> {
+    type A = Global;
+
+    fn alloc(&self) -> Global {
+        self.files.alloc()
+    }
 }
 
 /// An open one.
 #[derive(Drop)]
-pub struct CountedFile<'a, F> {
-    file: F,
+pub struct CountedFile<'a> {
+    file: File,
     calls: &'a Calls,
 }
 
-impl<'a, R: Files> Files for CountedFiles<'a, R> {
-    type File = CountedFile<'a, R::File>;
+impl<'a> Files for CountedFiles<'a> {
+    type File = CountedFile<'a>;
 
-    type Dir = R::Dir;
+    type Dir = <HostRuntime as Files>::Dir;
 
-    fn open_file(&self, how: &OpenOptions, path: &str) -> io::Result<CountedFile<'a, R::File>> {
+    fn open_file(&self, how: &OpenOptions, path: &str) -> io::Result<CountedFile<'a>> {
         self.calls.count()?;
         let file = self.files.open_file(how, path)?;
         Ok(CountedFile {
@@ -73,7 +81,7 @@ impl<'a, R: Files> Files for CountedFiles<'a, R> {
         })
     }
 
-    fn open_dir(&self, path: &str) -> io::Result<R::Dir> {
+    fn open_dir(&self, path: &str) -> io::Result<<HostRuntime as Files>::Dir> {
         self.calls.count()?;
         self.files.open_dir(path)
     }
@@ -119,14 +127,14 @@ impl<'a, R: Files> Files for CountedFiles<'a, R> {
     }
 }
 
-impl<F: Read> Read for CountedFile<'_, F> {
+impl Read for CountedFile<'_> {
     fn read(&mut self, buf: &mut [u8]) -> io::Result<usize> {
         self.calls.count()?;
         self.file.read(buf)
     }
 }
 
-impl<F: Write> Write for CountedFile<'_, F> {
+impl Write for CountedFile<'_> {
     fn write(&mut self, buf: &[u8]) -> io::Result<usize> {
         self.calls.count()?;
         let most = buf.len().min(AT_ONCE);
@@ -139,14 +147,14 @@ impl<F: Write> Write for CountedFile<'_, F> {
     }
 }
 
-impl<F: Seek> Seek for CountedFile<'_, F> {
+impl Seek for CountedFile<'_> {
     fn seek(&mut self, to: SeekFrom) -> io::Result<u64> {
         self.calls.count()?;
         self.file.seek(to)
     }
 }
 
-impl<F: OpenFile> OpenFile for CountedFile<'_, F> {
+impl OpenFile for CountedFile<'_> {
     fn metadata(&self) -> io::Result<Metadata> {
         self.calls.count()?;
         self.file.metadata()

@@ -1,19 +1,33 @@
 //! A device that fails at one of its calls.
 
-use crate::tests::devices::{Failure, Plan, SOUND, SlowReader, SlowWriter};
-use crate::tests::sessions::session_of;
-use crate::tests::{INPUT, ONE_NOP, OUTPUT};
-use debug_server::{NoSource, RunFault, ServeFault, Session, serve, walk};
+use crate::tests::devices::{Failure, Plan, SOUND};
+use crate::tests::sessions::{Served, serve_slowly, session_of, walk_slowly};
+use crate::tests::{INPUT, ONE_NOP, OUTPUT, check, check_none};
+use debug_server::{NoSource, RunFault, ServeFault, Session};
 use std::alloc::Global;
 use std::io::ErrorKind;
-use std::process::Abort;
-use std::test::Fail;
 
 /// The input has 67 bytes, and its end is read too.
 const READS: usize = 68;
 
 /// The output has 93 bytes, in seven replies, each of which is flushed.
 const WRITES: usize = 100;
+
+const INTERRUPTED: Failure = Failure::Error(ErrorKind::Interrupted);
+
+/// The eleventh call is the first flush, and the last one too is a flush: it can't take nothing.
+const WRITES_THAT_FAIL: [(usize, Failure); 10] = [
+    (1, INTERRUPTED),
+    (1, Failure::Nothing),
+    (10, INTERRUPTED),
+    (10, Failure::Nothing),
+    (11, INTERRUPTED),
+    (12, INTERRUPTED),
+    (12, Failure::Nothing),
+    (WRITES - 1, INTERRUPTED),
+    (WRITES - 1, Failure::Nothing),
+    (WRITES, INTERRUPTED),
+];
 
 // The lines that some bytes end.
 fn lines(bytes: &[u8]) -> usize {
@@ -22,59 +36,6 @@ fn lines(bytes: &[u8]) -> usize {
 
 fn is_beginning(bytes: &[u8]) -> bool {
     OUTPUT.as_bytes().starts_with(bytes)
-}
-
-// Serves a session over devices that fail as planned: the answer, and what was written.
-fn served(
-    alloc: Global,
-    session: &mut Session,
-    reading: Plan,
-    writing: Plan,
-) -> (Result<(), ServeFault>, Vec<u8>) {
-    let mut reader = SlowReader::new(INPUT.as_bytes(), reading);
-    let mut writer = SlowWriter::new(alloc, writing);
-    let answer = serve(session, &mut reader, &mut writer, &mut NoSource);
-    (answer, writer.written)
-}
-
-// Whether a session is refused as closed without a call of a device.
-fn is_closed(alloc: Global, session: &mut Session) -> bool {
-    let mut reader = SlowReader::new(INPUT.as_bytes(), SOUND);
-    let mut writer = SlowWriter::new(alloc, SOUND);
-    let answer = serve(session, &mut reader, &mut writer, &mut NoSource);
-    answer == Err(ServeFault::Closed) && reader.calls == 0 && writer.calls == 0
-}
-
-// What a walk over such devices answers, and what was written.
-fn walked(alloc: Global, reading: Plan, writing: Plan) -> (Result<(), RunFault>, Vec<u8>) {
-    let mut reader = SlowReader::new(INPUT.as_bytes(), reading);
-    let mut writer = SlowWriter::new(alloc, writing);
-    let answer = walk(alloc, ONE_NOP.as_bytes(), &mut reader, &mut writer);
-    (answer, writer.written)
-}
-
-// A read fails: the lines before it are answered.
-fn check_read_of(
-    rt: &(impl Abort + AllocGlobal),
-    session: &mut Session,
-    call: usize,
-    kind: ErrorKind,
-) {
-    let plan = Plan {
-        call,
-        failure: Failure::Error(kind),
-    };
-    let (answer, written) = served(rt.alloc(), session, plan, SOUND);
-    assert!(rt; answer == Err(ServeFault::Read), "at {call}");
-    assert!(rt; is_beginning(&written), "at {call}");
-    assert!(rt; lines(&written) == lines_before(call), "at {call}");
-    assert!(rt; is_closed(rt.alloc(), session), "at {call}");
-}
-
-fn check_read(rt: &(impl Abort + AllocGlobal), call: usize, kind: ErrorKind) -> Result<(), Fail> {
-    let mut session = session_of(rt.alloc(), ONE_NOP)?;
-    check_read_of(rt, &mut session, call, kind);
-    Ok(())
 }
 
 // The lines that were read before a call.
@@ -96,104 +57,142 @@ fn written_before(call: usize) -> usize {
     OUTPUT.len()
 }
 
-// Whether just the bytes of the calls before one were written.
-fn is_cut_at(written: &[u8], call: usize) -> bool {
-    is_beginning(written) && written.len() == written_before(call)
-}
-
-// A write or a flush fails: the calls before it are done.
-fn check_write_of(
-    rt: &(impl Abort + AllocGlobal),
-    session: &mut Session,
-    call: usize,
-    failure: Failure,
-) {
-    let plan = Plan { call, failure };
-    let (answer, written) = served(rt.alloc(), session, SOUND, plan);
-    assert!(rt; answer == Err(ServeFault::Write), "at {call}");
-    assert!(rt; is_cut_at(&written, call), "at {call}");
-    assert!(rt; is_closed(rt.alloc(), session), "at {call}");
-}
-
-fn check_write(rt: &(impl Abort + AllocGlobal), call: usize, failure: Failure) -> Result<(), Fail> {
-    let mut session = session_of(rt.alloc(), ONE_NOP)?;
-    check_write_of(rt, &mut session, call, failure);
-    Ok(())
-}
-
-// The same of walks, whose fault is one of serving.
-fn check_walk_read(rt: &(impl Abort + AllocGlobal), call: usize, kind: ErrorKind) {
-    let plan = Plan {
-        call,
-        failure: Failure::Error(kind),
+// Whether a call that fails is told, and just that written which comes before it: at a read the replies to the lines
+// before it, at a write or a flush the bytes of the calls before it.
+fn is_told(fault: Option<ServeFault>, written: &[u8], reading: Plan, writing: Plan) -> bool {
+    let cut = match fault {
+        Some(ServeFault::Read) => reading.call > 0 && lines(written) == lines_before(reading.call),
+        Some(ServeFault::Write) => {
+            writing.call > 0 && written.len() == written_before(writing.call)
+        }
+        _ => false,
     };
-    let (answer, written) = walked(rt.alloc(), plan, SOUND);
-    assert!(rt;
-        answer == Err(RunFault::Serve(ServeFault::Read)),
-        "at {call}"
-    );
-    assert!(rt; is_beginning(&written), "at {call}");
-    assert!(rt; lines(&written) == lines_before(call), "at {call}");
+    cut && is_beginning(written)
 }
 
-fn check_walk_write(rt: &(impl Abort + AllocGlobal), call: usize, failure: Failure) {
-    let (answer, written) = walked(rt.alloc(), SOUND, Plan { call, failure });
-    assert!(rt;
-        answer == Err(RunFault::Serve(ServeFault::Write)),
-        "at {call}"
-    );
-    assert!(rt; is_cut_at(&written, call), "at {call}");
+// Whether a session was refused as closed without a call of a device.
+fn is_refused(served: &Served) -> bool {
+    served.fault == Some(ServeFault::Closed) && served.reads == 0 && served.writes == 0
 }
 
-#[test]
-fn each_read_fails(rt: HostRuntime) -> Result<(), Fail> {
+// Whether a session that meets a call that fails tells it, and is closed then.
+fn closes(alloc: Global, session: &mut Session, plans: (Plan, Plan)) -> bool {
+    let input = INPUT.as_bytes();
+    let served = serve_slowly(alloc, session, input, plans, &mut NoSource);
+    let again = serve_slowly(alloc, session, input, (SOUND, SOUND), &mut NoSource);
+    is_told(served.fault, served.written.as_slice(), plans.0, plans.1) & is_refused(&again)
+}
+
+fn closes_anew(alloc: Global, plans: (Plan, Plan)) -> bool {
+    match session_of(alloc, ONE_NOP) {
+        Ok(mut session) => closes(alloc, &mut session, plans),
+        Err(_) => false,
+    }
+}
+
+// The same of a walk, whose fault is one of serving.
+fn walk_tells(alloc: Global, plans: (Plan, Plan)) -> bool {
+    let walked = walk_slowly(alloc, ONE_NOP, INPUT, plans);
+    let fault = match walked.fault {
+        Some(RunFault::Serve(fault)) => Some(fault),
+        _ => None,
+    };
+    is_told(fault, walked.written.as_slice(), plans.0, plans.1)
+}
+
+fn read_at(call: usize, kind: ErrorKind) -> (Plan, Plan) {
+    let failure = Failure::Error(kind);
+    (Plan { call, failure }, SOUND)
+}
+
+fn write_at(call: usize, failure: Failure) -> (Plan, Plan) {
+    (SOUND, Plan { call, failure })
+}
+
+// The first call of those that fail in turn that isn't told as it should be, if any isn't.
+fn wrong_read(alloc: Global) -> Option<usize> {
     for call in 1..READS + 1 {
-        check_read(&rt, call, ErrorKind::UnexpectedEof)?;
+        if !closes_anew(alloc, read_at(call, ErrorKind::UnexpectedEof)) {
+            return Some(call);
+        }
     }
+    None
+}
+
+fn wrong_interrupted_read(alloc: Global) -> Option<usize> {
     for call in [1, 7, 40, READS] {
-        check_read(&rt, call, ErrorKind::Interrupted)?;
+        if !closes_anew(alloc, read_at(call, ErrorKind::Interrupted)) {
+            return Some(call);
+        }
     }
-    Ok(())
+    None
 }
 
-// The eleventh call is the first flush, and the last one too is a flush: it can't take nothing.
-#[test]
-fn each_write_fails(rt: HostRuntime) -> Result<(), Fail> {
+fn wrong_write(alloc: Global) -> Option<usize> {
     for call in 1..WRITES + 1 {
-        check_write(&rt, call, Failure::Error(ErrorKind::BrokenPipe))?;
+        if !closes_anew(alloc, write_at(call, Failure::Error(ErrorKind::BrokenPipe))) {
+            return Some(call);
+        }
     }
-    for call in [1, 10, 12, WRITES - 1] {
-        check_write(&rt, call, Failure::Error(ErrorKind::Interrupted))?;
-        check_write(&rt, call, Failure::Nothing)?;
-    }
-    for call in [11, WRITES] {
-        check_write(&rt, call, Failure::Error(ErrorKind::Interrupted))?;
-    }
-    Ok(())
+    None
 }
 
-// No call is left that could fail.
-fn check_whole_walk(rt: &(impl Abort + AllocGlobal)) {
+fn wrong_other_write(alloc: Global) -> Option<usize> {
+    for (call, failure) in WRITES_THAT_FAIL {
+        if !closes_anew(alloc, write_at(call, failure)) {
+            return Some(call);
+        }
+    }
+    None
+}
+
+fn wrong_read_of_a_walk(alloc: Global) -> Option<usize> {
+    for call in 1..READS + 1 {
+        if !walk_tells(alloc, read_at(call, ErrorKind::Interrupted)) {
+            return Some(call);
+        }
+    }
+    None
+}
+
+fn wrong_write_of_a_walk(alloc: Global) -> Option<usize> {
+    for call in 1..WRITES + 1 {
+        if !walk_tells(alloc, write_at(call, INTERRUPTED)) {
+            return Some(call);
+        }
+    }
+    None
+}
+
+#[test]
+fn each_read_fails(rt: HostRuntime) {
+    check_none(&rt, wrong_read(rt.alloc()));
+    check_none(&rt, wrong_interrupted_read(rt.alloc()));
+}
+
+#[test]
+fn each_write_fails(rt: HostRuntime) {
+    check_none(&rt, wrong_write(rt.alloc()));
+    check_none(&rt, wrong_other_write(rt.alloc()));
+}
+
+// Whether a walk is whole where the calls behind the last ones fail: no call is left that could.
+fn is_whole_walk(alloc: Global) -> bool {
     let reading = Plan {
         call: READS + 1,
-        failure: Failure::Error(ErrorKind::Interrupted),
+        failure: INTERRUPTED,
     };
     let writing = Plan {
         call: WRITES + 1,
-        failure: Failure::Error(ErrorKind::Interrupted),
+        failure: INTERRUPTED,
     };
-    let (answer, written) = walked(rt.alloc(), reading, writing);
-    assert!(rt; answer.is_ok());
-    assert!(rt; written.as_slice() == OUTPUT.as_bytes());
+    let walked = walk_slowly(alloc, ONE_NOP, INPUT, (reading, writing));
+    walked.fault.is_none() & (walked.written.as_slice() == OUTPUT.as_bytes())
 }
 
 #[test]
 fn each_call_of_a_walk_fails(rt: HostRuntime) {
-    for call in 1..READS + 1 {
-        check_walk_read(&rt, call, ErrorKind::Interrupted);
-    }
-    for call in 1..WRITES + 1 {
-        check_walk_write(&rt, call, Failure::Error(ErrorKind::Interrupted));
-    }
-    check_whole_walk(&rt);
+    check_none(&rt, wrong_read_of_a_walk(rt.alloc()));
+    check_none(&rt, wrong_write_of_a_walk(rt.alloc()));
+    check(&rt, is_whole_walk(rt.alloc()));
 }

@@ -1,11 +1,10 @@
 //! Sessions over readers and writers of one byte a call.
 
-use crate::tests::devices::{SOUND, SlowReader, SlowWriter};
-use crate::tests::{INPUT, ONE_NOP, OUTPUT};
-use debug_server::{NoSource, ServeFault, Session, replies, serve, walk};
-use script::{Script, read_script};
+use crate::tests::devices::{Plan, SOUND, SlowReader, SlowWriter};
+use crate::tests::{INPUT, ONE_NOP, OUTPUT, check};
+use debug_server::{NoSource, RunFault, ServeFault, Session, Source, replies, serve, walk};
+use script::read_script;
 use std::alloc::Global;
-use std::process::Abort;
 use std::test::Fail;
 
 const EMPTY: &str = r#"{"entries":1,"threads":[],"schedule":[]}"#;
@@ -16,84 +15,138 @@ const RUNS: [(&str, &str, &str); 2] = [
     (EMPTY, "where\nshow clock\nquit", "at 0 of 0\n0\nbye\n"),
 ];
 
-// What a walk writes, where each call moves one byte.
-fn slow_walk(alloc: Global, script: &str, input: &str) -> Result<Vec<u8>, Fail> {
-    let mut reader = SlowReader::new(input.as_bytes(), SOUND);
-    let mut writer = SlowWriter::new(alloc, SOUND);
-    walk(alloc, script.as_bytes(), &mut reader, &mut writer)?;
-    Ok(writer.written)
+/// How a loop over lines ended, what it wrote, and how many calls read and wrote.
+#[derive(Drop)]
+pub struct Served {
+    pub fault: Option<ServeFault>,
+    pub written: Vec<u8>,
+    pub reads: usize,
+    pub writes: usize,
+}
+
+/// How a walk ended, and what it wrote.
+#[derive(Drop)]
+pub struct Walked {
+    pub fault: Option<RunFault>,
+    pub written: Vec<u8>,
+}
+
+/// Serves a session some lines, over devices that may fail.
+pub fn serve_slowly<S: Source>(
+    alloc: Global,
+    session: &mut Session,
+    lines: &[u8],
+    (reading, writing): (Plan, Plan),
+    source: &mut S,
+) -> Served {
+    let mut reader = SlowReader::new(lines, reading);
+    let mut writer = SlowWriter::new(alloc, writing);
+    let fault = serve(session, &mut reader, &mut writer, source).err();
+    Served {
+        fault,
+        written: writer.written,
+        reads: reader.calls,
+        writes: writer.calls,
+    }
+}
+
+/// Walks a script by some lines, over devices that may fail.
+pub fn walk_slowly(
+    alloc: Global,
+    script: &str,
+    lines: &str,
+    (reading, writing): (Plan, Plan),
+) -> Walked {
+    let mut reader = SlowReader::new(lines.as_bytes(), reading);
+    let mut writer = SlowWriter::new(alloc, writing);
+    let fault = walk(alloc, script.as_bytes(), &mut reader, &mut writer).err();
+    Walked {
+        fault,
+        written: writer.written,
+    }
+}
+
+// Whether a walk writes some output, and ends well.
+fn walks(alloc: Global, script: &str, input: &str, output: &str) -> bool {
+    let walked = walk_slowly(alloc, script, input, (SOUND, SOUND));
+    walked.fault.is_none() & (walked.written.as_slice() == output.as_bytes())
+}
+
+// Whether it is replied the same over memory.
+fn is_replied(alloc: Global, script: &str, input: &str, output: &str) -> bool {
+    match replies(alloc, script.as_bytes(), input.as_bytes()) {
+        Ok(replied) => replied.as_slice() == output.as_bytes(),
+        Err(_) => false,
+    }
 }
 
 #[test]
-fn one_byte_a_call(rt: HostRuntime) -> Result<(), Fail> {
+fn one_byte_a_call(rt: HostRuntime) {
     for (script, input, output) in RUNS {
-        let walked = slow_walk(rt.alloc(), script, input)?;
-        assert!(rt; walked.as_slice() == output.as_bytes(), "{output}");
-        let replied = replies(rt.alloc(), script.as_bytes(), input.as_bytes())?;
-        assert!(rt; replied.as_slice() == output.as_bytes(), "{output}");
+        check(&rt, walks(rt.alloc(), script, input, output));
+        check(&rt, is_replied(rt.alloc(), script, input, output));
     }
-    Ok(())
-}
-
-fn session_over(alloc: Global, script: &Script) -> Result<Session, Fail> {
-    Ok(Session::new(alloc, script)?)
 }
 
 // The session of a script, at its end.
-pub fn session_of(alloc: Global, text: &str) -> Result<Session, Fail> {
-    let script = read_script(alloc, text.as_bytes())?;
-    session_over(alloc, &script)
+pub fn session_of(alloc: Global, text: &str) -> Result<Session, RunFault> {
+    match read_script(alloc, text.as_bytes()) {
+        Ok(script) => Session::new(alloc, &script),
+        Err(fault) => Err(RunFault::Script(fault)),
+    }
 }
 
-// What a session replies to a line.
-fn reply(session: &mut Session, line: &str) -> Result<Vec<u8>, Fail> {
-    Ok(session.line(line.as_bytes(), None)?)
+// Whether a session replies to a line.
+fn is_told(session: &mut Session, line: &str, text: &str) -> bool {
+    match session.line(line.as_bytes(), None) {
+        Ok(reply) => reply.as_slice() == text.as_bytes(),
+        Err(_) => false,
+    }
 }
 
-fn check_replies(rt: &impl Abort, session: &mut Session) -> Result<(), Fail> {
-    assert!(rt; reply(session, "back 2")?.as_slice() == b"at 4 of 6\n".as_slice());
-    assert!(rt; reply(session, "where")?.as_slice() == b"at 4 of 6\n".as_slice());
-    Ok(())
+fn is_told_twice(session: &mut Session) -> bool {
+    is_told(session, "back 2", "at 4 of 6\n") && is_told(session, "where", "at 4 of 6\n")
 }
 
 #[test]
 fn lines_one_by_one(rt: HostRuntime) -> Result<(), Fail> {
     let mut session = session_of(rt.alloc(), ONE_NOP)?;
-    check_replies(&rt, &mut session)
+    check(&rt, is_told_twice(&mut session));
+    Ok(())
 }
 
-/// The answer of a loop over lines, and how many calls read and wrote.
-type Answer = (Result<(), ServeFault>, usize, usize);
+/// How a loop over lines ended, and how many calls read and wrote.
+type Counts = (Option<ServeFault>, usize, usize);
 
-// Serves a session some input.
-fn served(alloc: Global, session: &mut Session, input: &str) -> Answer {
-    let mut reader = SlowReader::new(input.as_bytes(), SOUND);
-    let mut writer = SlowWriter::new(alloc, SOUND);
-    let answer = serve(session, &mut reader, &mut writer, &mut NoSource);
-    (answer, reader.calls, writer.calls)
+fn counts(alloc: Global, session: &mut Session, input: &str) -> Counts {
+    let served = serve_slowly(
+        alloc,
+        session,
+        input.as_bytes(),
+        (SOUND, SOUND),
+        &mut NoSource,
+    );
+    (served.fault, served.reads, served.writes)
 }
 
-// Serves a session some input, and then a line.
-fn served_twice(alloc: Global, input: &str) -> Result<(Answer, Answer), Fail> {
+// Serves a new session some input, and then a line.
+fn counts_twice(alloc: Global, input: &str) -> Result<(Counts, Counts), RunFault> {
     let mut session = session_of(alloc, ONE_NOP)?;
-    let first = served(alloc, &mut session, input);
-    Ok((first, served(alloc, &mut session, "where\n")))
+    let first = counts(alloc, &mut session, input);
+    let second = counts(alloc, &mut session, "where\n");
+    Ok((first, second))
 }
 
 // To quit, five bytes are read; four are written, and flushed. An end of input closes nothing: a line is six reads and
 // the end a seventh, its reply ten writes and a flush.
 #[test]
 fn calls_of_a_session_are_counted(rt: HostRuntime) -> Result<(), Fail> {
-    for (input, first, second) in [
-        (
-            "quit\nwhere\n",
-            (Ok(()), 5, 5),
-            (Err(ServeFault::Closed), 0, 0),
-        ),
-        ("where\n", (Ok(()), 7, 11), (Ok(()), 7, 11)),
-    ] {
-        let answers = served_twice(rt.alloc(), input)?;
-        assert!(rt; answers == (first, second), "{input}");
-    }
+    let closed = counts_twice(rt.alloc(), "quit\nwhere\n")?;
+    let left_open = counts_twice(rt.alloc(), "where\n")?;
+    check(
+        &rt,
+        closed == ((None, 5, 5), (Some(ServeFault::Closed), 0, 0)),
+    );
+    check(&rt, left_open == ((None, 7, 11), (None, 7, 11)));
     Ok(())
 }

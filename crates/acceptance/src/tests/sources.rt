@@ -1,9 +1,10 @@
 //! Sessions that take over events from a source.
 ghost use Rattle.std.specs.Prelude.{◌≡◌, None, option_map, drop, slice_get};
 
-use crate::tests::devices::{SOUND, SlowReader, SlowWriter};
-use crate::tests::sessions::session_of;
-use debug_server::{ServeFault, Session, Source, serve};
+use crate::tests::check;
+use crate::tests::devices::SOUND;
+use crate::tests::sessions::{Served, serve_slowly, session_of};
+use debug_server::{RunFault, ServeFault, Source};
 use machine::Event;
 use std::alloc::{AllocError, Global};
 use std::test::Fail;
@@ -16,6 +17,17 @@ const LINES: &str = "sync\nwhere\ngoto 1\nshow mem 0\nsync\nsync\nsync\nsync\nsy
 
 const REPLIES: &str =
     "synced 1\nat 0 of 1\nat 1 of 1\naa\nsynced 2\nrefused 3 torn 0\nrefused 3 torn 1\nrefused 4 event 2\nrefused 2 source\nat 1 of 2\n";
+
+const STEP: Event = Event::Step(0);
+
+/// One step, two, a tick, one step, three.
+const TRACES: [&[Event]; 5] = [
+    &[STEP],
+    &[STEP, STEP],
+    &[Event::Tick(1)],
+    &[STEP],
+    &[STEP, STEP, STEP],
+];
 
 /// A list of answers: it gives the first, and drops it, or none where no one is left.
 #[derive(Drop)]
@@ -50,55 +62,37 @@ impl Source for Starved {
     }
 }
 
-// One step, two, a tick, one step, three.
-fn five_answers(alloc: Global) -> Result<Answers, Fail> {
-    let (step, tick) = (Event::Step(0), Event::Tick(1));
+fn five_answers(alloc: Global) -> Result<Answers, AllocError> {
     let mut traces = Vec::new(alloc);
-    traces.push(Vec::from_slice(alloc, &[step])?)?;
-    traces.push(Vec::from_slice(alloc, &[step, step])?)?;
-    traces.push(Vec::from_slice(alloc, &[tick])?)?;
-    traces.push(Vec::from_slice(alloc, &[step])?)?;
-    traces.push(Vec::from_slice(alloc, &[step, step, step])?)?;
+    for trace in TRACES {
+        traces.push(Vec::from_slice(alloc, trace)?)?;
+    }
     Ok(Answers { traces })
 }
 
-// What a session over some source answers, and what was written.
-fn served<S: Source>(
-    alloc: Global,
-    session: &mut Session,
-    lines: &[u8],
-    source: &mut S,
-) -> (Result<(), ServeFault>, Vec<u8>) {
-    let mut reader = SlowReader::new(lines, SOUND);
-    let mut writer = SlowWriter::new(alloc, SOUND);
-    let answer = serve(session, &mut reader, &mut writer, source);
-    (answer, writer.written)
+// Serves a new session some lines.
+fn serve_anew<S: Source>(alloc: Global, lines: &[u8], source: &mut S) -> Result<Served, RunFault> {
+    let mut session = session_of(alloc, TWO_STORES)?;
+    let served = serve_slowly(alloc, &mut session, lines, (SOUND, SOUND), source);
+    Ok(served)
 }
 
-// The same of a new session.
-fn served_anew<S: Source>(
-    alloc: Global,
-    lines: &[u8],
-    source: &mut S,
-) -> Result<(Result<(), ServeFault>, Vec<u8>), Fail> {
-    let mut session = session_of(alloc, TWO_STORES)?;
-    Ok(served(alloc, &mut session, lines, source))
+fn has(served: &Served, fault: Option<ServeFault>, written: &str) -> bool {
+    served.fault == fault && served.written.as_slice() == written.as_bytes()
 }
 
 #[test]
 fn syncs_with_a_list_of_answers(rt: HostRuntime) -> Result<(), Fail> {
     let mut source = five_answers(rt.alloc())?;
-    let (answer, written) = served_anew(rt.alloc(), LINES.as_bytes(), &mut source)?;
-    assert!(rt; answer == Ok(()));
-    assert!(rt; written.as_slice() == REPLIES.as_bytes());
+    let served = serve_anew(rt.alloc(), LINES.as_bytes(), &mut source)?;
+    check(&rt, has(&served, None, REPLIES));
     Ok(())
 }
 
 // What was asked for before is answered, and nothing behind it.
 #[test]
 fn a_source_without_memory_closes_the_session(rt: HostRuntime) -> Result<(), Fail> {
-    let (answer, written) = served_anew(rt.alloc(), b"where\nsync\nwhere\n", &mut Starved)?;
-    assert!(rt; answer == Err(ServeFault::Memory));
-    assert!(rt; written.as_slice() == b"at 0 of 0\n".as_slice());
+    let served = serve_anew(rt.alloc(), b"where\nsync\nwhere\n", &mut Starved)?;
+    check(&rt, has(&served, Some(ServeFault::Memory), "at 0 of 0\n"));
     Ok(())
 }

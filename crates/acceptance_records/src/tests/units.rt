@@ -29,8 +29,7 @@ fn nop(flags: u8) -> Sqe {
 
 // Three linked NOPs and one more come into a table that has no rows.
 fn fill(table: &mut Table, world: &World) -> Result<(), AllocError>
-    requires rows { table.old ≡ [] }
-    requires memory { length world.now.memory ≡ 65536 }
+    requires { table.old ≡ [] }
 {
     let mut notes = Recorder::new(table.allocator());
     let entries = [nop(4), nop(4), nop(0), nop(0)];
@@ -51,8 +50,7 @@ fn has_rest(table: &Table, r: u32, rest: &[u32]) -> Result<bool, AllocError> {
 }
 
 fn check_rest(rt: &impl Abort, table: &mut Table, world: &World) -> Result<(), AllocError>
-    requires rows { table.old ≡ [] }
-    requires memory { length world.now.memory ≡ 65536 }
+    requires { table.old ≡ [] }
 {
     fill(table, world)?;
     assert_eq!(rt; table.len(), 4);

@@ -14,7 +14,7 @@ use std::alloc::{AllocError, Global};
 pub(crate) const LIMIT: usize = 256;
 
 /// What a line asks for.
-#[derive(Clone, Copy, Debug)]
+#[derive(Clone, Copy)]
 pub(crate) enum Command {
     Where,
     Show(Place),
@@ -31,7 +31,7 @@ pub(crate) enum Command {
 }
 
 /// What is wrong with a line, by its number.
-#[derive(Clone, Copy, Debug, PartialEq, Eq)]
+#[derive(Clone, Copy)]
 pub(crate) enum CommandFault {
     /// There is no such command, or not with so many words.
     Command = 1,

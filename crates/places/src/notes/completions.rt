@@ -6,7 +6,7 @@ use crate::value::{Change, Value};
 use entries::Cqe;
 
 /// A slot of the completion ring, and what stood there.
-#[derive(Clone, Copy, Debug)]
+#[derive(Clone, Copy)]
 pub struct CompletionNote {
     pub slot: u32,
     pub old: Cqe,

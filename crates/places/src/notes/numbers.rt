@@ -9,7 +9,7 @@ use crate::place::Place;
 use crate::value::{Change, Value};
 
 /// The place of a number by its kind and its index, and what stood there.
-#[derive(Clone, Copy, Debug)]
+#[derive(Clone, Copy)]
 pub struct NumberNote {
     pub kind: u8,
     pub index: u32,

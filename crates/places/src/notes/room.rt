@@ -7,7 +7,7 @@ use crate::place::Place;
 
 /// For how many notes of numbers, of completions and of other places there is memory, and for how
 /// many in all.
-#[derive(Clone, Copy, Debug)]
+#[derive(Clone, Copy)]
 pub struct Room {
     pub numbers: usize,
     pub completions: usize,

@@ -14,7 +14,7 @@ use crate::value::{Change, Stage, Value};
 use entries::{Cqe, Row, Sqe};
 
 /// A value that is no row.
-#[derive(Clone, Copy, Debug)]
+#[derive(Clone, Copy)]
 pub enum Small {
     Amount(u64),
     Answer(i64),
@@ -28,7 +28,7 @@ pub enum Small {
 
 /// A row by its number, and what stood there, if anything did; or another place, by its kind and its
 /// index.
-#[derive(Clone, Copy, Debug)]
+#[derive(Clone, Copy)]
 pub enum RowNote {
     Absent(u32),
     Was(u32, Row),

@@ -59,7 +59,7 @@ impl Region {
 }
 
 /// Bytes of a region, one behind the other.
-#[derive(Clone, Copy, Debug)]
+#[derive(Clone, Copy)]
 pub struct Run {
     pub region: Region,
     pub start: u32,

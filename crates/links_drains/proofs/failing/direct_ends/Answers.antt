@@ -14,8 +14,8 @@ index-chain_fails-requires c =
     rw c.in_ok-failing.failing.ok.0
     (slice_get_within c.in_ok-failing.failing.items _ _ (c.in_ok-failing.ensures _ (unit_high c.args.world.now c.args.first c.args.entries.now c.args.rows.now c.loop-i.i _ c.requires.batch c.loop-i-test.true)))
 
-pub error_at-requires-clause-within : goal.error_at-requires-clause-within
-error_at-requires-clause-within c = rw (← many c.args.world.now c.args.first c.args.entries.now c.args.rows.now c.requires.batch) c.loop-i-test.true
+pub error_at-requires : goal.error_at-requires
+error_at-requires c = rw (← many c.args.world.now c.args.first c.args.entries.now c.args.rows.now c.requires.batch) c.loop-i-test.true
 
 pub overflow_cast-i : goal.overflow_cast-i
 overflow_cast-i c =

@@ -1,4 +1,4 @@
-use Rattle.std.proofs.Common.{sym}
+use Rattle.std.proofs.Common.{sym, arith}
 use Rattle.opcodes.proofs.Nothing.{bytes_written_nothing}
 use Rattle.std.proofs.Common.{◌≡◌}
 use Rattle.std.specs.Prelude.{Some}
@@ -6,6 +6,7 @@ use Rattle.opcodes.specs.Outcomes.{offset_of, position_of}
 use Rattle.model_files.specs.Worlds.{WorldState}
 use Rattle.model_files.proofs.Fixing.{setup_then, setup_written}
 use Rattle.opcodes.proofs.Transferring.{file_there, ok_written, some_bytes}
+use Rattle.opcodes.proofs.Moving.{moves, number_below}
 use Rattle.opcodes.proofs.effect.write_bytes.Goals as goal
 
 pub write_at-requires-clause-file : goal.write_at-requires-clause-file
@@ -19,3 +20,9 @@ returns-clause-setup c = setup_then c.args.world.now c.write_at.new.self c.move_
 
 pub returns-then-count-eq0-clause-ok : goal.returns-then-count-eq0-clause-ok
 returns-then-count-eq0-clause-ok c = rw c.if-count-eq0.true (sym (bytes_written_nothing c.args.entry.now c.args.fd c.args.descriptor.now c.args.world.now c.requires.formed c.requires.descriptor))
+
+pub returns-clause-err : goal.returns-clause-err
+returns-clause-err c =
+    let room = c.in_ok-room_for_numbers.ensures.room in
+    let kept = c.write_at.ensures.numbers in
+    moves c.move_on.result _ (c.move_on.ensures.there (omega (arith, room, kept)) (number_below c.args.world.now c.args.fd c.args.descriptor.now c.requires.formed c.requires.descriptor))

@@ -1,9 +1,9 @@
 use Rattle.std.proofs.Common.{◌∙◌, sym, ap, rules}
 use Rattle.std.specs.Prelude.{option_map, Some}
 use Rattle.hex.specs.Hex.{decode_sized}
-use Rattle.entries.specs.Layout.{EntryFits}
-use Rattle.script.specs.Entries.{entry_of_bytes}
-use Rattle.script.proofs.Bytes.{entry_here, decoded, not_decoded}
+use Rattle.entries.specs.Layout.{EntryFits, entry_of_bytes}
+use Rattle.entries.proofs.OneToOne.{entry_here}
+use Rattle.script.proofs.Bytes.{decoded, not_decoded}
 use Rattle.script.proofs.entry.entry_of_text.Goals as goal
 
 pub returns-in-Ok : goal.returns-in-Ok

@@ -1,6 +1,7 @@
 use Rattle.std.proofs.Common.{sym, arith}
 use Rattle.std.proofs.lemmas.Option.{slice_get_within}
-use Rattle.links_drains.proofs.QueuedRows.{queued_found, queued_is, none_queued, none_is}
+use Rattle.links_drains.specs.Queued.{is_queued_row}
+use Rattle.links_drains.proofs.NextRows.{queued_found, next_is, none_queued, none_is}
 use Rattle.links_drains.proofs.table.Table.next_queued.Goals as goal
 
 pub overflow_cast-result : goal.overflow_cast-result
@@ -14,7 +15,7 @@ overflow_cast-result c =
 pub returns-in-Some-clause-value : goal.returns-in-Some-clause-value
 returns-in-Some-clause-value c =
     let index = c.self.invariant.indexed in
-    rw (← c.self.view_is) (sym (queued_is c.self.inside.rows.items c.args.from c.in-Some.r (queued_found c.self.inside.rows.items _ _ c.args.from c.in-Some.r index.unfinished index.issued c.in-Some.ensures.some)))
+    rw (← c.self.view_is) (sym (next_is is_queued_row c.self.inside.rows.items c.args.from c.in-Some.r (queued_found c.self.inside.rows.items _ _ c.args.from c.in-Some.r index.unfinished index.issued c.in-Some.ensures.some)))
 
 pub returns-in-Some-clause-some : goal.returns-in-Some-clause-some
 returns-in-Some-clause-some c =
@@ -32,7 +33,7 @@ returns-in-Some-clause-few c =
 pub returns-in-None-clause-value : goal.returns-in-None-clause-value
 returns-in-None-clause-value c =
     let index = c.self.invariant.indexed in
-    rw (← c.self.view_is) (sym (none_is c.self.inside.rows.items c.args.from (none_queued c.self.inside.rows.items _ _ c.args.from index.unfinished index.issued c.in-None.ensures.none)))
+    rw (← c.self.view_is) (sym (none_is is_queued_row c.self.inside.rows.items c.args.from (none_queued c.self.inside.rows.items _ _ c.args.from index.unfinished index.issued c.in-None.ensures.none)))
 
 pub returns-in-None-clause-none : goal.returns-in-None-clause-none
 returns-in-None-clause-none c =

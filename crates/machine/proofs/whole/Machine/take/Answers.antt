@@ -11,13 +11,13 @@ use Rattle.machine.proofs.Growing.{grows_taken, grows_more}
 use Rattle.machine.proofs.SubmissionLemmas.{take_told, words_least}
 use Rattle.machine.proofs.whole.Machine.take.Goals as goal
 
-pub take_batch-requires-clause-few : goal.take_batch-requires-clause-few
-take_batch-requires-clause-few c =
+pub take_batch-requires : goal.take_batch-requires
+take_batch-requires c =
     let w = c.args.self.now.submissions in
     let same = words_least w c.args.to_submit c.offered-offered.result c.offered-offered.ensures.least in
     let e = ap length (c.deref.ensures.value ∙ c.in_ok-entries.ensures ∙ ap (entries_at w.slots) same) in
     let l = length-entries_at w.slots (offered w c.args.to_submit) in
-    omega (arith, e, l, c.requires.room)
+    omega (arith, e, l, c.requires)
 
 pub returns-in_err-room_for_numbers-clause-grows : goal.returns-in_err-room_for_numbers-clause-grows
 returns-in_err-room_for_numbers-clause-grows c =

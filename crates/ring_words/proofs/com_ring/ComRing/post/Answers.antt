@@ -2,7 +2,7 @@ use Rattle.std.proofs.Common.{◌≡◌, refl, ◌∙◌, length, ◌<◌, ◌%�
 use Rattle.std.proofs.lemmas.Option.{slice_get_read}
 use Rattle.places.proofs.Keeping.{keeps_noted, keeps_then}
 use Rattle.ring_words.proofs.Order.{list_back}
-use Rattle.ring_words.proofs.Sizes.{size_most, size_divides}
+use Rattle.ring_words.proofs.Sizes.{size_divides, size_some}
 use Rattle.ring_words.proofs.Seen.{com_seen_tail, com_seen_slot}
 use Rattle.ring_words.specs.Rings.{com_list}
 use Rattle.ring_words.proofs.com_ring.ComRing.post.Goals as goal
@@ -11,7 +11,7 @@ use Rattle.ring_words.proofs.com_ring.ComRing.post.Goals as goal
 pub returns-clause-keeps : goal.returns-clause-keeps
 returns-clause-keeps c =
     let same : c.len.result ≡ length c.self.inside.slots.items = c.len.ensures ∙ c.self.inside.slots.ok.0 in
-    let within : c.self.inside.tail % c.len.result < c.len.result = omega (arith, c.self.invariant.size.some, same) in
+    let within : c.self.inside.tail % c.len.result < c.len.result = omega (arith, (size_some c.self.invariant.size), same) in
     let inside : c.self.inside.tail % c.len.result < length c.self.inside.slots.items = omega (arith, same, within) in
     let before = slice_get_read _ _ _ _ same within c.index.ensures in
     rw (← c.self.view_is)
@@ -24,5 +24,5 @@ unfolding com_list
 returns-clause-list c =
     let same : c.len.result ≡ length c.self.inside.slots.items = c.len.ensures ∙ c.self.inside.slots.ok.0 in
     let free = rw (← c.self.view_is) at c.requires.free in
-    let list = list_back c.self.inside.slots.items c.self.inside.head c.self.inside.tail c.args.completion c.self.invariant.size.some (size_most 8192 _ (omega arith) c.self.invariant.size) (size_divides 8192 _ refl c.self.invariant.size) (omega arith) (omega arith) free in
+    let list = list_back c.self.inside.slots.items c.self.inside.head c.self.inside.tail c.args.completion (size_some c.self.invariant.size) c.self.invariant.size.most (size_divides 8192 _ c.self.invariant.size) (omega arith) (omega arith) free in
     rw (← c.self.view_is, same) list

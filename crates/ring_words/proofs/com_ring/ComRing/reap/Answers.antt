@@ -2,7 +2,7 @@ use Rattle.std.proofs.Common.{◌≡◌, refl, ◌∙◌, ◌<◌, ◌%◌, leng
 use Rattle.std.proofs.lemmas.Option.{slice_get_read}
 use Rattle.places.proofs.Keeping.{keeps_noted}
 use Rattle.ring_words.proofs.Order.{list_front}
-use Rattle.ring_words.proofs.Sizes.{size_divides}
+use Rattle.ring_words.proofs.Sizes.{size_divides, size_some}
 use Rattle.ring_words.proofs.Seen.{com_seen_head}
 use Rattle.ring_words.specs.Rings.{com_list}
 use Rattle.ring_words.proofs.com_ring.ComRing.reap.Goals as goal
@@ -14,7 +14,7 @@ pub returns-clause-list : goal.returns-clause-list
 unfolding com_list
 returns-clause-list c =
     let same : c.len.result ≡ length c.self.inside.slots.items = c.len.ensures ∙ c.self.inside.slots.ok.0 in
-    let within : c.self.inside.head % c.len.result < c.len.result = omega (arith, c.self.invariant.size.some, same) in
+    let within : c.self.inside.head % c.len.result < c.len.result = omega (arith, (size_some c.self.invariant.size), same) in
     let here = rw same at (slice_get_read _ _ _ _ same within c.index-completion.ensures) in
     let some = rw (← c.self.view_is) at c.requires.some in
-    rw (← c.self.view_is) (list_front _ _ _ _ (size_divides 8192 _ refl c.self.invariant.size) (omega arith) (omega arith) some here)
+    rw (← c.self.view_is) (list_front _ _ _ _ (size_divides 8192 _ c.self.invariant.size) (omega arith) (omega arith) some here)

@@ -2,7 +2,7 @@ use Rattle.std.proofs.Common.{◌≡◌, refl, ◌∙◌, length, ◌<◌, ◌%�
 use Rattle.std.proofs.lemmas.Option.{slice_get_read}
 use Rattle.places.proofs.Keeping.{keeps_noted, keeps_then}
 use Rattle.ring_words.proofs.Order.{list_back}
-use Rattle.ring_words.proofs.Sizes.{size_most, size_divides}
+use Rattle.ring_words.proofs.Sizes.{size_divides, size_some}
 use Rattle.ring_words.proofs.Seen.{sub_seen_tail, sub_seen_word}
 use Rattle.ring_words.specs.Rings.{sub_list}
 use Rattle.ring_words.proofs.sub_ring.SubRing.push.Goals as goal
@@ -11,7 +11,7 @@ use Rattle.ring_words.proofs.sub_ring.SubRing.push.Goals as goal
 pub returns-clause-keeps : goal.returns-clause-keeps
 returns-clause-keeps c =
     let same : c.len.result ≡ length c.self.inside.array.items = c.len.ensures ∙ c.self.inside.array.ok.0 in
-    let within : c.self.inside.tail % c.len.result < c.len.result = omega (arith, c.self.invariant.size.some, same) in
+    let within : c.self.inside.tail % c.len.result < c.len.result = omega (arith, (size_some c.self.invariant.size), same) in
     let inside : c.self.inside.tail % c.len.result < length c.self.inside.array.items = omega (arith, same, within) in
     let before = slice_get_read _ _ _ _ same within c.index.ensures in
     rw (← c.self.view_is)
@@ -24,6 +24,6 @@ unfolding sub_list
 returns-clause-list c =
     let same : c.len.result ≡ length c.self.inside.array.items = c.len.ensures ∙ c.self.inside.array.ok.0 in
     let free = rw (← c.self.view_is) at c.requires.free in
-    let most = size_most 4096 _ (omega arith) c.self.invariant.size in
-    let list = list_back c.self.inside.array.items c.self.inside.head c.self.inside.tail c.args.index c.self.invariant.size.some (omega (arith, most)) (size_divides 4096 _ refl c.self.invariant.size) (omega arith) (omega arith) free in
+    let most = c.self.invariant.size.most in
+    let list = list_back c.self.inside.array.items c.self.inside.head c.self.inside.tail c.args.index (size_some c.self.invariant.size) (omega (arith, most)) (size_divides 4096 _ c.self.invariant.size) (omega arith) (omega arith) free in
     rw (← c.self.view_is, same) list

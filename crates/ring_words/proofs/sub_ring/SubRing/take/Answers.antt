@@ -2,7 +2,7 @@ use Rattle.std.proofs.Common.{refl, ◌<◌, ◌%◌, length, arith}
 use Rattle.std.proofs.lemmas.Option.{slice_get-get_or}
 use Rattle.places.proofs.Keeping.{keeps_noted, keeps_then}
 use Rattle.ring_words.proofs.Order.{list_front}
-use Rattle.ring_words.proofs.Sizes.{size_divides}
+use Rattle.ring_words.proofs.Sizes.{size_divides, size_some}
 use Rattle.ring_words.proofs.Seen.{sub_seen_head, sub_seen_dropped}
 use Rattle.ring_words.specs.Rings.{sub_list}
 use Rattle.ring_words.proofs.sub_ring.SubRing.take.Goals as goal
@@ -13,9 +13,9 @@ returns-then-index-len-clause-keeps c = rw (← c.self.view_is) (keeps_noted _ _
 pub returns-then-index-len-clause-list : goal.returns-then-index-len-clause-list
 unfolding sub_list
 returns-then-index-len-clause-list c =
-    let within : c.self.inside.head % length c.self.inside.array.items < length c.self.inside.array.items = omega (arith, c.self.invariant.size.some) in
+    let within : c.self.inside.head % length c.self.inside.array.items < length c.self.inside.array.items = omega (arith, (size_some c.self.invariant.size)) in
     let some = rw (← c.self.view_is) at c.requires.some in
-    rw (← c.self.view_is) (list_front _ _ _ _ (size_divides 4096 _ refl c.self.invariant.size) (omega arith) (omega arith) some (slice_get-get_or c.self.inside.array.items _ 0 within))
+    rw (← c.self.view_is) (list_front _ _ _ _ (size_divides 4096 _ c.self.invariant.size) (omega arith) (omega arith) some (slice_get-get_or c.self.inside.array.items _ 0 within))
 
 pub returns-clause-keeps : goal.returns-clause-keeps
 returns-clause-keeps c =
@@ -27,6 +27,6 @@ returns-clause-keeps c =
 pub returns-clause-list : goal.returns-clause-list
 unfolding sub_list
 returns-clause-list c =
-    let within : c.self.inside.head % length c.self.inside.array.items < length c.self.inside.array.items = omega (arith, c.self.invariant.size.some) in
+    let within : c.self.inside.head % length c.self.inside.array.items < length c.self.inside.array.items = omega (arith, (size_some c.self.invariant.size)) in
     let some = rw (← c.self.view_is) at c.requires.some in
-    rw (← c.self.view_is) (list_front _ _ _ _ (size_divides 4096 _ refl c.self.invariant.size) (omega arith) (omega arith) some (slice_get-get_or c.self.inside.array.items _ 0 within))
+    rw (← c.self.view_is) (list_front _ _ _ _ (size_divides 4096 _ c.self.invariant.size) (omega arith) (omega arith) some (slice_get-get_or c.self.inside.array.items _ 0 within))

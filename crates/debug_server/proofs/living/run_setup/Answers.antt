@@ -1,0 +1,8 @@
+use Rattle.debug_server.proofs.Accepted.{running}
+use Rattle.debug_server.proofs.living.run_setup.Goals as goal
+
+pub returns-clause-same : goal.returns-clause-same
+returns-clause-same g c = rw (← c.setup.ensures.value) c.run_live.ensures.same
+
+pub returns-clause-other : goal.returns-clause-other
+returns-clause-other g c = running c.run_live.result (λ n h. c.run_live.ensures.only_memory n h (rw c.setup.ensures.value c.setup.ensures.kept.setup))

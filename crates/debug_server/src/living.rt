@@ -1,0 +1,110 @@
+//! Runs that threads make together from a script's setup.
+ghost use Rattle.std.specs.Prelude.{◌≡◌, ◌≢◌, ◌≤◌, ◌∷◌, [], Ok, Err, IfOk, IfErr, OnOk, length};
+ghost use Rattle.std.specs.Io.KnownBytes.{Keeps};
+ghost use Rattle.live_runner.specs.Actors.{actors};
+ghost use Rattle.live_runner.specs.History.{Whole};
+ghost use Rattle.script.specs.Scripts.{Scenario, Reads};
+ghost use Rattle.script.specs.declared.fault.ScriptFault.{ScriptFault};
+ghost use Rattle.traces.specs.Setups.{canonical, IsTrace2};
+ghost use Rattle.debug_server.specs.declared.faults.ServeFault.{ServeFault};
+ghost use Rattle.debug_server.specs.declared.faults.ServeFault.TheVariants.{Closed as WasClosed};
+ghost use Rattle.debug_server.specs.Living.{IsOfLive, IsOfRunning};
+ghost use Rattle.debug_server.specs.Kinds.{IsOf, OfServing, OfMemory};
+ghost use Rattle.debug_server.specs.Transcripts.{streams};
+ghost use Rattle.debug_server.specs.Walked.{Walked, BrokenOff};
+
+use crate::faults::{Fault, RunFault};
+use crate::tracing::Traced;
+use crate::walking::walk_events;
+use live_runner::{Closed, Gate, LiveFault, run_live};
+use script::{Script, ScriptFault, read_script};
+use std::alloc::{AllocError, Global};
+use std::io::{Read, Write};
+use std::sync::Wait;
+use std::thread::Threads;
+use std::time::Clock;
+use traces::write_trace2;
+
+/// A gate at which nobody waits.
+#[derive(Clone, Copy)]
+struct Free;
+
+impl Gate for Free {
+    fn arrive<R: Wait + Clock>(&self, _rt: &R, _actor: u32, _turn: u32) -> bool {
+        true
+    }
+}
+
+/// Reads a script, and runs a thread for each actor of its setup, each of which makes so many turns. The
+/// schedule isn't run.
+pub fn live_script<R: Threads + Wait + Clock + Sync>(
+    rt: &R,
+    alloc: Global,
+    text: &[u8],
+    turns: u32,
+    kernel: u32,
+) -> Result<Closed, Fault>
+    requires { kernel ≤ 8 }
+    // The run is whole: its events run from the setup of the script to its state, and it is that setup's.
+    ensures ok { IfOk result (λ c. Whole c × ((p : Scenario) × Reads text.now (Ok p) × (c.setup ≡ p.setup) × (c.actors ≡ actors p.setup kernel))) }
+    ensures script { IfErr result (λ e. (f : ScriptFault) → e ≡ Fault.Run (RunFault.Script f) → Reads text.now (Err f)) }
+    ensures other { IfErr result IsOfLive }
+{
+    let script = match read_script(alloc, text) {
+        Ok(script) => script,
+        Err(ScriptFault::Memory) => return Err(Fault::Run(RunFault::Memory)),
+        Err(fault) => return Err(Fault::Run(RunFault::Script(fault))),
+    };
+    match run_setup(rt, alloc, &script, turns, kernel) {
+        Ok(closed) => Ok(closed),
+        Err(fault) => Err(Fault::Live(fault)),
+    }
+}
+
+// Runs a thread for each actor of a script's setup.
+fn run_setup<R: Threads + Wait + Clock + Sync>(
+    rt: &R,
+    alloc: Global,
+    script: &Script,
+    turns: u32,
+    kernel: u32,
+) -> Result<Closed, LiveFault>
+    requires { kernel ≤ 8 }
+    ensures whole { IfOk result Whole }
+    ensures same { IfOk result (λ c. (c.setup ≡ script.now.setup) × (c.actors ≡ actors script.now.setup kernel)) }
+    ensures other { IfErr result IsOfRunning }
+{
+    run_live(rt, alloc, script.setup(), kernel, turns, &Free)
+}
+
+/// Replies to the lines that the reader gives, over a run that was closed.
+pub fn answer_closed<R: Read, W: Write>(
+    alloc: Global,
+    closed: &Closed,
+    reader: &mut R,
+    writer: &mut W,
+) -> Result<(), RunFault>
+    // What is written is the output of the session of the run's setup and events, without a source.
+    ensures ok { OnOk result (Walked closed.now.setup closed.now.events
+        (streams (R.remaining reader.old) (W.contents writer.old)) (streams (R.remaining reader.new) (W.contents writer.new))) }
+    ensures memory { IfErr result (λ e. e ≡ RunFault.Memory → Keeps (W.contents writer.old) (W.contents writer.new)) }
+    // At a fault of serving a beginning of that output was written.
+    ensures begins { IfErr result (λ e. (f : ServeFault) → e ≡ RunFault.Serve f → BrokenOff closed.now.setup closed.now.events
+        (streams (R.remaining reader.old) (W.contents writer.old)) (streams (R.remaining reader.new) (W.contents writer.new)) f) }
+    ensures open { result ≢ Err (RunFault.Serve WasClosed) }
+    // No event is refused.
+    ensures other { IfErr result (IsOf (OfServing ∷ OfMemory ∷ [])) }
+{
+    walk_events(alloc, closed.setup(), closed.events(), reader, writer)
+}
+
+/// The trace of a run that was closed, in the second form.
+pub fn trace_closed(alloc: Global, closed: &Closed) -> Result<Traced, AllocError>
+    ensures { IfOk result (λ t. IsTrace2 (canonical closed.now.setup) closed.now.events t.bytes.items × (t.events ≡ length closed.now.events)) }
+{
+    let events = closed.events();
+    Ok(Traced {
+        events: events.len() as u32,
+        bytes: write_trace2(alloc, closed.setup(), events)?,
+    })
+}

@@ -1,0 +1,25 @@
+use Rattle.std.proofs.Common.{rules, ◌≡◌, length, arith, ap, subst, ◌∙◌}
+use Rattle.std.proofs.lemmas.List.{length-map}
+use Rattle.live_runner.specs.History.{History, Labour, Replays, told_to}
+use Rattle.live_runner.proofs.Going.{own_pairs, wholes}
+use Rattle.live_runner.proofs.finishing.end.Goals as goal
+
+pub returns-clause-count : goal.returns-clause-count
+returns-clause-count g c =
+    let all : c.give_all_back.new.share.parts ≡ g.L.Ledger.parts = search rules in
+    let whole = c.audit.ensures.whole all in
+    let total = c.live.invariant.0.counted in
+    let events = ap (λ h. length h.events) c.live.view_is in
+    omega (arith, whole, total, events, c.give_all_back.ensures.amount, c.live.invariant.2)
+
+pub returns-clause-pairs : goal.returns-clause-pairs
+returns-clause-pairs g c =
+    let live = c.args.live in
+    let replays = subst (λ (h : History). Replays h c.live.inside.records.items) c.live.view_is c.live.invariant.0 in
+    own_pairs live.setup live.actors live.owners live.events replays.own
+
+pub returns-clause-whole : goal.returns-clause-whole
+returns-clause-whole g c = λ told.
+    let replays = subst (λ (h : History). Replays h c.live.inside.records.items) c.live.view_is c.live.invariant.0 in
+    let each = length-map c.args.workers.items (λ (w : Labour). w.seat.receipts) ∙ c.requires.actors in
+    wholes c.args.live c.live.inside.records.items (told_to c.args.workers.items) replays each told

@@ -1,0 +1,31 @@
+-- Writes, one after another.
+use Rattle.std.proofs.Common.{◌≡◌, ℕ, ◌+◌, ◌-◌, zero, suc, List, [], ◌∷◌, ◌++◌, length, take, drop, Option, refl, sym, ap, ◌∙◌, subst, arith, append-nil, take-append-drop}
+use Rattle.std.proofs.KnownBytes.{Appends-trans, Appends-kept}
+use Rattle.std.proofs.lemmas.List.{take_rest}
+use Rattle.std.specs.Io.KnownBytes.{Appends, Keeps}
+use Rattle.whole_files.specs.Writes.{WritesFront}
+
+none_of_none : (n : ℕ) → take {A = ℕ} n [] ≡ []
+none_of_none zero = refl
+none_of_none (suc n) = refl
+
+take_on : (at n : ℕ) (bytes : List ℕ) → take at bytes ++ take n (drop at bytes) ≡ take (at + n) bytes
+take_on zero n bytes = let e : n ≡ zero + n = omega arith in ap (λ m. take m bytes) e
+take_on (suc at) n [] = none_of_none n ∙ sym (none_of_none (suc at + n))
+take_on (suc at) n (x ∷ bytes) =
+    let e : suc (at + n) ≡ suc at + n = omega arith in
+    ap (λ l. x ∷ l) (take_on at n bytes) ∙ ap (λ m. take m (x ∷ bytes)) e
+
+-- the next bytes of a slice that goes to the end
+pub wrote_slice : (a b c : Option (List ℕ)) (bytes : List ℕ) (at n : ℕ) → Appends a b (take at bytes) → Appends b c (take n (take (length bytes - at) (drop at bytes))) → Appends a c (take (at + n) bytes)
+wrote_slice a b c bytes at n p q =
+    let rest : Appends b c (take n (drop at bytes)) = subst (Appends b c) (ap (take n) (take_rest bytes at)) q in
+    subst (Appends a c) (take_on at n bytes) (Appends-trans a b c _ _ p rest)
+
+-- the first bytes were written
+pub wrote_front : (a b : Option (List ℕ)) (bytes : List ℕ) (at : ℕ) → Appends a b (take at bytes) → WritesFront a b bytes
+wrote_front a b bytes at p = record { front = take at bytes; rest = drop at bytes; whole = sym (take-append-drop at bytes); appended = p }
+
+-- all of them were
+pub wrote_all : (a b c : Option (List ℕ)) (bytes : List ℕ) → Appends a b bytes → Keeps b c → WritesFront a c bytes
+wrote_all a b c bytes p k = record { front = bytes; rest = []; whole = sym (append-nil bytes); appended = Appends-kept a b c bytes p k }

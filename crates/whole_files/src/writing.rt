@@ -1,0 +1,38 @@
+//! Bytes that go to a writer whole.
+ghost use Rattle.std.specs.Prelude.{OnErr, OnOk};
+ghost use Rattle.std.specs.Io.KnownBytes.{Appends};
+ghost use Rattle.whole_files.specs.Writes.{WritesFront};
+
+use std::io::Write;
+
+/// Bytes were not written, or only a beginning of them.
+#[derive(Clone, Copy, Debug, PartialEq, Eq)]
+pub struct NotWritten;
+
+// Writes all of the bytes. An `Err` may leave a beginning of them.
+fn write_bytes<W: Write>(writer: &mut W, bytes: &[u8]) -> Result<(), NotWritten>
+    ensures ok { OnOk result (Appends (W.contents writer.old) (W.contents writer.new) bytes.now) }
+    ensures err { OnErr result (WritesFront (W.contents writer.old) (W.contents writer.new) bytes.now) }
+{
+    let mut at = 0;
+    while at < bytes.len() {
+        match writer.write(&bytes[at..]) {
+            Ok(0) => return Err(NotWritten),
+            Ok(n) => at += n,
+            Err(_) => return Err(NotWritten),
+        }
+    }
+    Ok(())
+}
+
+/// Writes all of the bytes, and flushes them. A writer that takes none of them is at its end.
+pub fn write_out<W: Write>(writer: &mut W, bytes: &[u8]) -> Result<(), NotWritten>
+    ensures ok { OnOk result (Appends (W.contents writer.old) (W.contents writer.new) bytes.now) }
+    ensures err { OnErr result (WritesFront (W.contents writer.old) (W.contents writer.new) bytes.now) }
+{
+    write_bytes(writer, bytes)?;
+    match writer.flush() {
+        Ok(()) => Ok(()),
+        Err(_) => Err(NotWritten),
+    }
+}
