@@ -9,7 +9,6 @@ use scenario::{Event, Setup};
 use std::marker::Model;
 
 /// A run whose actors have ended, with what each says that it was told.
-#[derive(Drop)]
 pub(crate) struct Ended {
     pub(crate) setup: Setup,
     pub(crate) actors: u32,
@@ -17,6 +16,20 @@ pub(crate) struct Ended {
     pub(crate) owners: Vec<u32>,
     pub(crate) state: State,
     pub(crate) lists: Vec<Items<Receipt>>,
+}
+
+// By hand, so that letting a run go is one step of a proof.
+impl Drop for Ended {
+    fn drop(self) {
+        let Ended {
+            setup: _,
+            actors: _,
+            events: _,
+            owners: _,
+            state: _,
+            lists: _,
+        } = self;
+    }
 }
 
 impl Model for Ended {
@@ -35,9 +48,15 @@ impl Model for Ended {
 }
 
 /// A run that has ended, with what each actor was told.
-#[derive(Drop)]
 pub struct Closed {
     pub(crate) ended: Ended,
+}
+
+// By hand, as that of what it holds.
+impl Drop for Closed {
+    fn drop(self) {
+        let Closed { ended: _ } = self;
+    }
 }
 
 impl Model for Closed {
