@@ -1,8 +1,8 @@
 -- Writes, one after another.
-use Rattle.std.proofs.Common.{◌≡◌, ℕ, ◌+◌, ◌-◌, zero, suc, List, [], ◌∷◌, ◌++◌, length, take, drop, Option, refl, sym, ap, ◌∙◌, subst, arith, append-nil, take-append-drop}
-use Rattle.std.proofs.KnownBytes.{Appends-trans, Appends-kept}
+use Rattle.std.proofs.Common.{◌≡◌, ℕ, ◌+◌, ◌-◌, zero, suc, List, [], ◌∷◌, ◌++◌, length, take, drop, Option, refl, sym, ap, ◌∙◌, subst, arith, take-append-drop}
+use Rattle.std.proofs.KnownBytes.{Appends-trans}
 use Rattle.std.proofs.lemmas.List.{take_rest}
-use Rattle.std.specs.Io.KnownBytes.{Appends, Keeps}
+use Rattle.std.specs.Io.KnownBytes.{Appends}
 use Rattle.whole_files.specs.Writes.{WritesFront}
 
 none_of_none : (n : ℕ) → take {A = ℕ} n [] ≡ []
@@ -25,7 +25,3 @@ wrote_slice a b c bytes at n p q =
 -- the first bytes were written
 pub wrote_front : (a b : Option (List ℕ)) (bytes : List ℕ) (at : ℕ) → Appends a b (take at bytes) → WritesFront a b bytes
 wrote_front a b bytes at p = record { front = take at bytes; rest = drop at bytes; whole = sym (take-append-drop at bytes); appended = p }
-
--- all of them were
-pub wrote_all : (a b c : Option (List ℕ)) (bytes : List ℕ) → Appends a b bytes → Keeps b c → WritesFront a c bytes
-wrote_all a b c bytes p k = record { front = bytes; rest = []; whole = sym (append-nil bytes); appended = Appends-kept a b c bytes p k }
