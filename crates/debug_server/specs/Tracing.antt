@@ -7,7 +7,7 @@ use Rattle.debug_server.specs.declared.task.Form.{Form}
 use Rattle.debug_server.specs.declared.task.Form.TheVariants.{Events, Whole}
 use Rattle.debug_server.specs.declared.tracing.Traced.{Traced}
 
--- bytes are the trace of a plan in a form
+-- bytes are the trace of a scenario in a form
 abbrev pub IsSpelling : Form → Scenario → List ℕ → Type 0
 IsSpelling Events p bytes = IsTrace p.schedule bytes
 IsSpelling Whole p bytes = IsTrace2 (canonical p.setup) p.schedule bytes
