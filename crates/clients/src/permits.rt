@@ -39,8 +39,7 @@ impl Permits {
         requires { 0 < count }
         ensures { IfOk result (λ r. IsSeatAt (sends_on r.0.sender) r.1) }
     {
-        let (sender, receiver, mut pass) =
-            bounded_with::<Permit, (), Free, Global>(alloc, count)?;
+        let (sender, receiver, mut pass) = bounded_with::<Permit, (), Free, Global>(alloc, count)?;
         for _permit in 0..count {
             let _ = sender.send_as::<Free, R>(rt, &mut pass, Permit);
         }

@@ -8,7 +8,9 @@ ghost use Rattle.clients.specs.Serving.{IsOfServing};
 
 use crate::serving::serve_clients;
 use debug_server::{Fault, RunFault};
-use live_runner::{AlwaysOpen, Closed, Live, Running, Seat, Worker, actors, close, join_all, start_all};
+use live_runner::{
+    AlwaysOpen, Closed, Live, Running, Seat, Worker, actors, close, join_all, start_all,
+};
 use script::Script;
 use std::alloc::Global;
 use std::marker::Brand;
@@ -84,7 +86,12 @@ fn close_run<'g, L: Ledger>(
     ensures same { IfOk result (λ c. (c.setup ≡ script.now.setup) × (c.actors ≡ actors script.now.setup kernel)) }
     ensures other { IfErr result IsOfServing }
 {
-    match close(live, script.setup(), actors(script.setup(), kernel), workers) {
+    match close(
+        live,
+        script.setup(),
+        actors(script.setup(), kernel),
+        workers,
+    ) {
         Ok(closed) => Ok(closed),
         Err(fault) => Err(Fault::Live(fault)),
     }
@@ -119,7 +126,11 @@ fn run_beside<L: Ledger + Send + Sync, R: Threads + Wait + Clock + Sync>(
         |scope| -> (Vec<Running<L>>, Result<u32, RunFault>)
             requires { InOrder seats.items × (vec_len handles ≡ 0) × (vec_len seats ≤ vec_capacity handles) }
             ensures { HandlesInOrder result.0.items × IfErr result.1 (IsOf (OfMemory ∷ OfListening ∷ [])) }
-        { start_beside(scope, rt, alloc, script, listener, lock, seats, turns, sessions, handles) },
+        {
+            start_beside(
+                scope, rt, alloc, script, listener, lock, seats, turns, sessions, handles,
+            )
+        },
     );
     let workers = join_all(rt, handles, &AlwaysOpen, workers);
     served?;

@@ -45,11 +45,13 @@ pub fn serve_clients<L: Ledger + Send + Sync, R: Threads + Wait + Sync>(
         rt,
         |scope| -> Result<u32, RunFault>
             requires { IsSeatAt (sends_on permits.now.sender) pass }
-            ensures {
-                IfOk result (λ n. (most : _) → sessions ≡ Some most → n ≡ most)
-                × IfErr result (IsOf (OfMemory ∷ OfListening ∷ []))
-            }
-        { accept_all(scope, rt, alloc, script, listener, lock, permits, pass, sessions) },
+            ensures { IfOk result (λ n. (most : _) → sessions ≡ Some most → n ≡ most)
+                × IfErr result (IsOf (OfMemory ∷ OfListening ∷ [])) }
+        {
+            accept_all(
+                scope, rt, alloc, script, listener, lock, permits, pass, sessions,
+            )
+        },
     )
 }
 
@@ -101,9 +103,9 @@ fn start<'s, E, L: Ledger + Send + Sync + 's, R: Wait + Sync + 's>(
     ensures { IsSeatAt (sends_on permits.now.sender) pass.new }
 {
     let theirs = permits.another(pass);
-    let session = move || requires { IsSeatAt (sends_on permits.now.sender) theirs } {
-        attend(rt, alloc, script, lock, permits, theirs, stream)
-    };
+    let session = move ||
+        requires { IsSeatAt (sends_on permits.now.sender) theirs }
+    { attend(rt, alloc, script, lock, permits, theirs, stream) };
     if scope.spawn(session).is_err() {
         permits.put_back(rt, pass);
     }

@@ -7,15 +7,14 @@ use live_runner::{Live, Seat, actors};
 use machine::Event;
 use script::{Script, read_script};
 use std::alloc::Global;
-use std::io;
 use std::io::{Read, Write};
 use std::marker::Brand;
 use std::net::{Net, SocketAddr, TcpListener, TcpStream};
 use std::process::Abort;
 use std::sync::ledger::{Blank, Ledger};
 use std::sync::{Mutex, Wait};
-use std::thread;
 use std::thread::Threads;
+use std::{io, thread};
 
 /// Two stores of a thread, and a schedule that can't run.
 const TWO_STORES: &str =
@@ -60,7 +59,11 @@ fn are_told<L: Ledger, R: Wait>(
     is_told(first, "sync\n", "synced 0\n")
         && is_told(second, "sync\nwhere\n", "synced 0\nat 0 of 0\n")
         && steps(rt, lock, seats)
-        && is_told(first, "sync\ngoto 1\nshow mem 0\n", "synced 1\nat 1 of 1\naa\n")
+        && is_told(
+            first,
+            "sync\ngoto 1\nshow mem 0\n",
+            "synced 1\nat 1 of 1\naa\n",
+        )
         && is_told(second, "where\nquit\n", "at 0 of 0\nbye\n")
         && is_told(first, "quit\n", "bye\n")
 }
@@ -72,7 +75,10 @@ fn connect_two<L: Ledger, R: Net<Listener = TcpListener, Stream = TcpStream> + W
     lock: &Mutex<Live<L>>,
     mut seats: Vec<Seat<L>>,
 ) -> bool {
-    match (TcpStream::connect(rt, address), TcpStream::connect(rt, address)) {
+    match (
+        TcpStream::connect(rt, address),
+        TcpStream::connect(rt, address),
+    ) {
         (Ok(first), Ok(second)) => are_told(rt, &first, &second, lock, &mut seats),
         _ => false,
     }
@@ -132,6 +138,9 @@ fn two_clients_look_at_one_run(rt: HostRuntime) -> io::Result<()> {
     let Ok(script) = read_script(rt.alloc(), TWO_STORES.as_bytes()) else {
         panic!(&rt; "the script isn't read");
     };
-    check(&rt, serve_both(&rt, rt.alloc(), &script, &listener, address));
+    check(
+        &rt,
+        serve_both(&rt, rt.alloc(), &script, &listener, address),
+    );
     Ok(())
 }

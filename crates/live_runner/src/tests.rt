@@ -3,7 +3,9 @@ ghost use Rattle.std.specs.Prelude.{◌≡◌, ◌<◌, length, IfOk};
 ghost use Rattle.live_runner.specs.Actors.{actors};
 ghost use Rattle.live_runner.specs.History.{InOrder, WorkInOrder};
 
-use crate::{AlwaysOpen, Closed, Gate, Live, LiveRefusal, Receipt, Seat, Torn, Worker, finish, run_live};
+use crate::{
+    AlwaysOpen, Closed, Gate, Live, LiveRefusal, Receipt, Seat, Torn, Worker, finish, run_live,
+};
 use entries::Sqe;
 use opcodes::Choice;
 use places::{Items, Place, Value};

@@ -118,10 +118,7 @@ fn run<
         + Clock
         + Net<Listener = TcpListener, Stream = TcpStream>
         + Sync,
->(
-    rt: &R,
-    job: Job<'_>,
-) -> Result<(), Fault>
+>(rt: &R, job: Job<'_>) -> Result<(), Fault>
     requires { IsInRange job }
 {
     match job {
@@ -189,10 +186,7 @@ fn carry_out<
         + Clock
         + Net<Listener = TcpListener, Stream = TcpStream>
         + Sync,
->(
-    rt: &R,
-    job: Job<'_>,
-) -> ExitCode
+>(rt: &R, job: Job<'_>) -> ExitCode
     requires { IsInRange job }
 {
     match loses_script(rt, job) {
@@ -217,10 +211,7 @@ fn read_words<
         + Clock
         + Net<Listener = TcpListener, Stream = TcpStream>
         + Sync,
->(
-    rt: &R,
-    words: &[&str],
-) -> ExitCode {
+>(rt: &R, words: &[&str]) -> ExitCode {
     match job(rt.alloc(), words) {
         Ok(job) => carry_out(rt, job),
         Err(error) => fail(rt, 2, &error),
@@ -239,10 +230,7 @@ fn read_texts<
         + Clock
         + Net<Listener = TcpListener, Stream = TcpStream>
         + Sync,
->(
-    rt: &R,
-    words: &[String],
-) -> ExitCode {
+>(rt: &R, words: &[String]) -> ExitCode {
     match words
         .iter()
         .map(|word| word.as_str())

@@ -12,7 +12,10 @@ use std::time::Clock;
 use whole_files::read_file;
 
 // Listens on a port of loopback.
-fn listen(rt: &impl Net<Listener = TcpListener, Stream = TcpStream>, port: u16) -> Result<TcpListener, Fault> {
+fn listen(
+    rt: &impl Net<Listener = TcpListener, Stream = TcpStream>,
+    port: u16,
+) -> Result<TcpListener, Fault> {
     match TcpListener::bind(rt, (Ipv4Addr::LOCALHOST, port)) {
         Ok(listener) => Ok(listener),
         Err(_) => Err(Fault::Run(RunFault::Net)),
