@@ -114,10 +114,10 @@ fn run_beside<L: Ledger + Send + Sync, R: Threads + Wait + Clock + Sync>(
     ensures other { IfErr result (IsOf (OfMemory ∷ OfListening ∷ [])) }
 {
     let count = seats.len();
-    let (Ok(workers), Ok(handles)) = (
-        Vec::with_capacity(alloc, count),
-        Vec::with_capacity(alloc, count),
-    ) else {
+    let Ok(workers) = Vec::with_capacity(alloc, count) else {
+        return Err(RunFault::Memory);
+    };
+    let Ok(handles) = Vec::with_capacity(alloc, count) else {
         return Err(RunFault::Memory);
     };
     let (handles, served) = thread::scope(
@@ -132,11 +132,13 @@ fn run_beside<L: Ledger + Send + Sync, R: Threads + Wait + Clock + Sync>(
             )
         },
     );
-    let workers = join_all(rt, handles, &AlwaysOpen, workers);
-    served?;
-    match workers {
-        Some(workers) if workers.len() == count => Ok(workers),
-        _ => Err(RunFault::Memory),
+    let workers = join_all(rt, handles, &AlwaysOpen, workers, count);
+    match served {
+        Ok(_) => match workers {
+            Some(workers) => Ok(workers),
+            None => Err(RunFault::Memory),
+        },
+        Err(fault) => Err(fault),
     }
 }
 

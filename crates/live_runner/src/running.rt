@@ -162,23 +162,30 @@ pub fn start_all<'s, E, L: Ledger + Send + Sync + 's, G: Gate + 's, R: Wait + Cl
     handles
 }
 
-/// Joins threads, in order, and adds a worker of each one's seat to none. None where there is no memory.
+/// Joins threads, in order, and makes a worker of each one's seat, in room that there is for so many. None where
+/// there are fewer.
 pub fn join_all<'g, L: Ledger, G: Gate, R: Threads>(
     rt: &R,
     handles: Vec<Running<L>>,
     gate: &'g G,
     mut workers: Vec<Worker<'g, L, G>>,
+    count: usize,
 ) -> Option<Vec<Worker<'g, L, G>>>
     requires order { HandlesInOrder handles.items }
     requires none { vec_len workers ≡ 0 }
-    ensures { IfSome result (λ workers. WorkInOrder workers.items) }
+    ensures count { IfSome result (λ workers. length workers.items ≡ count) }
+    ensures order { IfSome result (λ workers. WorkInOrder workers.items) }
 {
     for handle in handles {
         let Ok(()) = workers.push(Worker::new(handle.join(rt), gate)) else {
             return None;
         };
     }
-    Some(workers)
+    if workers.len() == count {
+        Some(workers)
+    } else {
+        None
+    }
 }
 
 // Runs a thread for each seat, and joins them all. None where one couldn't be started, or there is no memory.
@@ -205,10 +212,5 @@ fn take_turns<'g, L: Ledger + Send + Sync, G: Gate, R: Threads + Wait + Clock + 
             ensures { HandlesInOrder result.items }
         { start_all(scope, rt, lock, seats, turns, gate, handles) },
     );
-    let workers = join_all(rt, handles, gate, workers)?;
-    if workers.len() == count {
-        Some(workers)
-    } else {
-        None
-    }
+    join_all(rt, handles, gate, workers, count)
 }
