@@ -11,6 +11,7 @@ use debug_server::{Fault, RunFault};
 use live_runner::{
     AlwaysOpen, Closed, Live, Running, Seat, Worker, actors, close, join_all, start_all,
 };
+use scenario::Setup;
 use script::Script;
 use std::alloc::Global;
 use std::marker::Brand;
@@ -38,15 +39,19 @@ pub fn serve_live<R: Threads + Wait + Clock + Sync>(
     ensures same { IfOk result (λ c. (c.setup ≡ script.now.setup) × (c.actors ≡ actors script.now.setup kernel)) }
     ensures other { IfErr result IsOfServing }
 {
-    let blank = Blank::new(actors(script.setup(), kernel) as u64);
-    serve_over::<Brand, R>(rt, alloc, blank, script, listener, turns, kernel, sessions)
+    let setup = script.setup();
+    let blank = Blank::new(actors(setup, kernel) as u64);
+    serve_over::<Brand, R>(
+        rt, alloc, blank, setup, script, listener, turns, kernel, sessions,
+    )
 }
 
-// The same, over the blank of a ledger.
+// The same, over the blank of a ledger, for the script's setup.
 fn serve_over<L: Ledger + Send + Sync, R: Threads + Wait + Clock + Sync>(
     rt: &R,
     alloc: Global,
     blank: Blank,
+    setup: &Setup,
     script: &Script,
     listener: &TcpListener,
     turns: u32,
@@ -56,17 +61,17 @@ fn serve_over<L: Ledger + Send + Sync, R: Threads + Wait + Clock + Sync>(
     requires kernel { kernel ≤ 8 }
     requires name { blank.name ≡ L.name }
     requires parts { blank.parts ≡ L.parts }
-    requires all { blank.parts ≡ actors script.now.setup kernel }
+    requires all { blank.parts ≡ actors setup.now kernel }
     ensures whole { IfOk result Whole }
-    ensures same { IfOk result (λ c. (c.setup ≡ script.now.setup) × (c.actors ≡ actors script.now.setup kernel)) }
+    ensures same { IfOk result (λ c. (c.setup ≡ setup.now) × (c.actors ≡ actors setup.now kernel)) }
     ensures other { IfErr result IsOfServing }
 {
-    let Ok((live, seats)) = Live::<L>::open(alloc, blank, script.setup(), kernel) else {
+    let Ok((live, seats)) = Live::<L>::open(alloc, blank, setup, kernel) else {
         return Err(Fault::Run(RunFault::Memory));
     };
     let lock = Mutex::new(live);
     match run_beside(rt, alloc, script, listener, &lock, seats, turns, sessions) {
-        Ok(workers) => close_run(lock.into_inner(), script, kernel, workers),
+        Ok(workers) => close_run(lock.into_inner(), setup, actors(setup, kernel), workers),
         Err(fault) => Err(Fault::Run(fault)),
     }
 }
@@ -74,24 +79,18 @@ fn serve_over<L: Ledger + Send + Sync, R: Threads + Wait + Clock + Sync>(
 // Closes what the lock gave back.
 fn close_run<'g, L: Ledger>(
     live: Live<L>,
-    script: &Script,
-    kernel: u32,
+    setup: &Setup,
+    count: u32,
     workers: Vec<Worker<'g, L, AlwaysOpen>>,
 ) -> Result<Closed, Fault>
-    requires kernel { kernel ≤ 8 }
     requires all { length workers.items ≡ L.parts }
-    requires actors { length workers.items ≡ actors script.now.setup kernel }
+    requires actors { length workers.items ≡ count }
     requires order { WorkInOrder workers.items }
     ensures whole { IfOk result Whole }
-    ensures same { IfOk result (λ c. (c.setup ≡ script.now.setup) × (c.actors ≡ actors script.now.setup kernel)) }
+    ensures same { IfOk result (λ c. (c.setup ≡ setup.now) × (c.actors ≡ count)) }
     ensures other { IfErr result IsOfServing }
 {
-    match close(
-        live,
-        script.setup(),
-        actors(script.setup(), kernel),
-        workers,
-    ) {
+    match close(live, setup, count, workers) {
         Ok(closed) => Ok(closed),
         Err(fault) => Err(Fault::Live(fault)),
     }
