@@ -1,6 +1,5 @@
 -- What serving clients of a live run can fail by.
 use Rattle.std.specs.Prelude.{[], ◌∷◌}
-use Rattle.live_runner.specs.declared.running.LiveFault.{LiveFault}
 use Rattle.live_runner.specs.declared.running.LiveFault.TheVariants as live
 use Rattle.debug_server.specs.declared.faults.Fault.{Fault}
 use Rattle.debug_server.specs.declared.faults.Fault.TheVariants.{File, Run, Live}
