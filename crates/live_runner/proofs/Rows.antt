@@ -19,10 +19,9 @@ use Rattle.timeouts_cancel.specs.Timers.{is_due}
 use Rattle.machine.specs.declared.whole.Machine.{Machine}
 use Rattle.machine.specs.Deadlines.{issued_deadline, deadline_at}
 use Rattle.machine.specs.Steps.{issue_refusal, finish_refusal, expire_refusal, phase_refusal, choice_refusal}
-use Rattle.live_runner.specs.declared.offering.Deed.{Deed}
 use Rattle.live_runner.specs.declared.offering.Deed.TheVariants.{Issuing, Finishing, Expiring}
 use Rattle.live_runner.specs.Offers.{may_do}
-use Rattle.live_runner.specs.Passing.{IsNextRow, IsNextFor, NoneFor}
+use Rattle.live_runner.specs.Passing.{IsNextRow}
 
 -- ---- what keeps a row from it
 
@@ -60,45 +59,35 @@ not_expired now (Some row) h = unexpired now row (is_timer row.entry.opcode) ref
 
 -- ---- the next row
 
-none_to_issue : (m : Machine) (from : ℕ) → NoneQueuedFrom m.table from → (k : ℕ) → from ≤ k → may_do m Issuing k ≡ false
+pub none_to_issue : (m : Machine) (from : ℕ) → NoneQueuedFrom m.table from → (k : ℕ) → from ≤ k → may_do m Issuing k ≡ false
 none_to_issue m from none k low = unissued m.table k (slice_get m.table k) (λ row e. none k row low e)
 
-none_to_finish : (m : Machine) (from : ℕ) → NoneIssuedFrom m.table from → (k : ℕ) → from ≤ k → may_do m Finishing k ≡ false
+pub none_to_finish : (m : Machine) (from : ℕ) → NoneIssuedFrom m.table from → (k : ℕ) → from ≤ k → may_do m Finishing k ≡ false
 none_to_finish m from none k low = not_finished (is_held_by m.table) m.world (slice_get m.table k) (λ row e. none k row low e)
 
-none_to_expire : (m : Machine) (from : ℕ) → NoneIssuedFrom m.table from → (k : ℕ) → from ≤ k → may_do m Expiring k ≡ false
+pub none_to_expire : (m : Machine) (from : ℕ) → NoneIssuedFrom m.table from → (k : ℕ) → from ≤ k → may_do m Expiring k ≡ false
 none_to_expire m from none k low = not_expired m.clock (slice_get m.table k) (λ row e. none k row low e)
 
-next_to_issue : (m : Machine) (from r : ℕ) → IsNextQueued m.table from r → IsNextRow (may_do m Issuing) (length m.table) from r
+pub next_to_issue : (m : Machine) (from r : ℕ) → IsNextQueued m.table from r → IsNextRow (may_do m Issuing) (length m.table) from r
 next_to_issue m from r next = record {
   after = next.after;
   within = slice_get_within m.table r next.row next.there;
   least = λ k low high. unissued m.table k (slice_get m.table k) (λ row e. next.least k row low high e);
 }
 
-next_to_finish : (m : Machine) (from r : ℕ) → IsNextIssued m.table from r → IsNextRow (may_do m Finishing) (length m.table) from r
+pub next_to_finish : (m : Machine) (from r : ℕ) → IsNextIssued m.table from r → IsNextRow (may_do m Finishing) (length m.table) from r
 next_to_finish m from r next = record {
   after = next.after;
   within = slice_get_within m.table r next.row next.there;
   least = λ k low high. not_finished (is_held_by m.table) m.world (slice_get m.table k) (λ row e. next.least k row low high e);
 }
 
-next_to_expire : (m : Machine) (from r : ℕ) → IsNextIssued m.table from r → IsNextRow (may_do m Expiring) (length m.table) from r
+pub next_to_expire : (m : Machine) (from r : ℕ) → IsNextIssued m.table from r → IsNextRow (may_do m Expiring) (length m.table) from r
 next_to_expire m from r next = record {
   after = next.after;
   within = slice_get_within m.table r next.row next.there;
   least = λ k low high. not_expired m.clock (slice_get m.table k) (λ row e. next.least k row low high e);
 }
-
-pub next_for : (m : Machine) (deed : Deed) (from r : ℕ) → IsNextFor deed m.table from r → IsNextRow (may_do m deed) (length m.table) from r
-next_for m Issuing from r next = next_to_issue m from r next
-next_for m Finishing from r next = next_to_finish m from r next
-next_for m Expiring from r next = next_to_expire m from r next
-
-pub none_for : (m : Machine) (deed : Deed) (from : ℕ) → NoneFor deed m.table from → (k : ℕ) → from ≤ k → may_do m deed k ≡ false
-none_for m Issuing from none = none_to_issue m from none
-none_for m Finishing from none = none_to_finish m from none
-none_for m Expiring from none = none_to_expire m from none
 
 -- ---- deadlines
 

@@ -200,7 +200,8 @@ impl<L: Ledger> Live<L> {
         Ok(receipt)
     }
 
-    /// What an actor does next, if anything. It takes no memory, and looks at no row that ended.
+    /// What an actor does next, if anything. It takes no memory. It looks at each queued and each issued row once at
+    /// most, and at none that ended.
     pub fn offer(&self, actor: u32) -> Option<Event>
         ensures { result ≡ offer self.now.setup self.now.actors self.now.state actor }
     {
