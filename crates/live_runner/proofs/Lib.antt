@@ -6,3 +6,4 @@ pub mod Rows
 pub mod Rising
 pub mod OfferLemmas
 pub mod Ends
+pub mod EndedRows

@@ -31,7 +31,7 @@ unissued_phase rows r row Issued e h = rw e refl
 unissued_phase rows r row (Ended res) e h = rw e refl
 
 -- a row that isn't queued isn't issued
-unissued : (rows : List Row) (r : ℕ) (o : Option Row) → ((row : Row) → o ≡ Some row → is_queued row.phase ≡ false) → is_none (issue_refusal rows r o) ≡ false
+pub unissued : (rows : List Row) (r : ℕ) (o : Option Row) → ((row : Row) → o ≡ Some row → is_queued row.phase ≡ false) → is_none (issue_refusal rows r o) ≡ false
 unissued rows r None h = refl
 unissued rows r (Some row) h = unissued_phase rows r row row.phase refl (h row refl)
 
@@ -45,7 +45,7 @@ unfinished held w row true e h = rw e refl
 unfinished held w row false e h = rw e (by_phase row.phase (choice_refusal held w row Full) h)
 
 -- one that isn't issued doesn't end
-not_finished : (held : ℕ → Bool) (w : WorldState) (o : Option Row) → ((row : Row) → o ≡ Some row → is_issued row.phase ≡ false) → is_none (finish_refusal held w o Full) ≡ false
+pub not_finished : (held : ℕ → Bool) (w : WorldState) (o : Option Row) → ((row : Row) → o ≡ Some row → is_issued row.phase ≡ false) → is_none (finish_refusal held w o Full) ≡ false
 not_finished held w None h = refl
 not_finished held w (Some row) h = unfinished held w row (is_timer row.entry.opcode) refl (h row refl)
 
@@ -53,7 +53,7 @@ unexpired : (now : ℕ) (row : Row) (b : Bool) → is_timer row.entry.opcode ≡
 unexpired now row true e h = rw e (by_phase row.phase (if is_due now row then None else Some NotDue) h)
 unexpired now row false e h = rw e refl
 
-not_expired : (now : ℕ) (o : Option Row) → ((row : Row) → o ≡ Some row → is_issued row.phase ≡ false) → is_none (expire_refusal now o) ≡ false
+pub not_expired : (now : ℕ) (o : Option Row) → ((row : Row) → o ≡ Some row → is_issued row.phase ≡ false) → is_none (expire_refusal now o) ≡ false
 not_expired now None h = refl
 not_expired now (Some row) h = unexpired now row (is_timer row.entry.opcode) refl (h row refl)
 
@@ -91,7 +91,7 @@ next_to_expire m from r next = record {
 
 -- ---- deadlines
 
-no_deadline : (o : Option Row) → ((row : Row) → o ≡ Some row → is_issued row.phase ≡ false) → option_map_or issued_deadline o None ≡ None
+pub no_deadline : (o : Option Row) → ((row : Row) → o ≡ Some row → is_issued row.phase ≡ false) → option_map_or issued_deadline o None ≡ None
 no_deadline None h = refl
 no_deadline (Some row) h = rw (h row refl) refl
 

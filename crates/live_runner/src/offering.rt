@@ -4,7 +4,7 @@ ghost use Rattle.machine.specs.Deadlines.{deadline_at};
 ghost use Rattle.machine.specs.Whole.{WellFormed};
 ghost use Rattle.live_runner.specs.Least.{or_else, lesser};
 ghost use Rattle.live_runner.specs.Offers.{submits, polls, works, ends, on_row, least_row, may_do, event_on, ticks_to, offer};
-ghost use Rattle.live_runner.specs.Passing.{has_come};
+ghost use Rattle.live_runner.specs.Passing.{EndedBelow, has_come};
 ghost use Rattle.live_runner.specs.declared.offering.Deed.TheVariants.{Issuing, Finishing, Expiring};
 
 use crate::kinds::{is_poller, is_submitter};
@@ -21,8 +21,15 @@ pub enum Deed {
     Expiring,
 }
 
-/// What an actor of so many does next, if anything. It takes no memory.
-pub(crate) fn offer(setup: &Setup, count: u32, state: &State, actor: u32) -> Option<Event>
+/// What an actor of so many does next, if anything, where each row before the first has ended. It takes no memory.
+pub(crate) fn offer(
+    setup: &Setup,
+    count: u32,
+    state: &State,
+    first: u32,
+    actor: u32,
+) -> Option<Event>
+    requires ended { EndedBelow state.now.table first }
     ensures { result ≡ offer setup.now count state.now actor }
 {
     if actor >= count {
@@ -33,7 +40,20 @@ pub(crate) fn offer(setup: &Setup, count: u32, state: &State, actor: u32) -> Opt
     } else if is_poller(setup, actor) {
         polls(state)
     } else {
-        works(state)
+        works(state, first)
+    }
+}
+
+/// The least row from one on that hasn't ended, where all before have; where all have, that one.
+pub(crate) fn first_open(state: &State, from: u32) -> u32
+    requires { EndedBelow state.now.table from }
+    ensures { EndedBelow state.now.table result }
+{
+    match (state.next_queued(from), state.next_issued(from)) {
+        (Some(queued), Some(issued)) => queued.min(issued),
+        (Some(queued), None) => queued,
+        (None, Some(issued)) => issued,
+        (None, None) => from,
     }
 }
 
@@ -56,12 +76,13 @@ fn polls(state: &State) -> Option<Event>
     }
 }
 
-fn works(state: &State) -> Option<Event>
+fn works(state: &State, first: u32) -> Option<Event>
+    requires ended { EndedBelow state.now.table first }
     ensures { result ≡ works state.now }
 {
-    match least_to_issue(state) {
+    match least_to_issue(state, first) {
         Some(r) => Some(event_on(Deed::Issuing, r)),
-        None => ends(state),
+        None => ends(state, first),
     }
 }
 
@@ -76,10 +97,11 @@ fn event_on(deed: Deed, r: u32) -> Event
 }
 
 // The least row that may be issued.
-fn least_to_issue(state: &State) -> Option<u32>
+fn least_to_issue(state: &State, first: u32) -> Option<u32>
+    requires ended { EndedBelow state.now.table first }
     ensures { result ≡ least_row state.now Issuing }
 {
-    let mut from = 0;
+    let mut from = first;
     'rows: while let Some(r) = state.next_queued(from) {
         if may_do(state, Deed::Issuing, r) {
             return Some(r);
@@ -96,13 +118,14 @@ fn may_do(state: &State, deed: Deed, r: u32) -> bool
 }
 
 // What there is to do where no row may be issued. It looks at each issued row once.
-fn ends(state: &State) -> Option<Event>
+fn ends(state: &State, first: u32) -> Option<Event>
+    requires ended { EndedBelow state.now.table first }
     ensures { result ≡ ends state.now }
 {
     let clock = clock(state);
     let mut due = None;
     let mut least = None;
-    let mut from = 0;
+    let mut from = first;
     'rows: while let Some(r) = state.next_issued(from) {
         let deadline = state.deadline(r);
         if may_finish(state, r, deadline) {

@@ -4,10 +4,21 @@ use Rattle.live_runner.specs.declared.offering.Deed.TheVariants.{Finishing, Expi
 use Rattle.live_runner.specs.Least.{lesser, least_value, least, or_else}
 use Rattle.live_runner.specs.Offers.{may_do, on_row, ticks_to}
 use Rattle.live_runner.specs.Passing.{has_come}
+use Rattle.live_runner.proofs.EndedRows.{below_within, none_finishing, none_due_yet, no_deadline_yet}
 use Rattle.live_runner.proofs.Ends.{expires_come, finish_ends, rest_ends}
 use Rattle.live_runner.proofs.Leasts.{least_some, least_none, least_same, least_next, before_next, none_left, past_next, least_value_same, least_value_next}
 use Rattle.live_runner.proofs.Rows.{next_to_finish, next_to_expire, none_to_finish, none_to_expire, none_due, none_due_before}
 use Rattle.live_runner.proofs.offering.ends.Goals as goal
+
+pub rows-init : goal.rows-init
+rows-init c =
+    let m = c.args.state.now in
+    record {
+      within = below_within m.table c.args.first c.requires.ended;
+      none = none_finishing m c.args.first c.requires.ended;
+      due = none_due_yet m c.args.first c.requires.ended;
+      so_far = no_deadline_yet m c.args.first c.requires.ended;
+    }
 
 pub returns-then-may_finish : goal.returns-then-may_finish
 returns-then-may_finish c =

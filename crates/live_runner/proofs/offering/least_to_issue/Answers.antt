@@ -1,9 +1,13 @@
 use Rattle.std.proofs.Common.{rules, ◌≡◌, true, false, length, sym, arith}
 use Rattle.live_runner.specs.declared.offering.Deed.TheVariants.{Issuing}
 use Rattle.live_runner.specs.Offers.{may_do}
+use Rattle.live_runner.proofs.EndedRows.{below_within, none_issuing}
 use Rattle.live_runner.proofs.Leasts.{least_some, least_none, before_next, none_left, past_next}
 use Rattle.live_runner.proofs.Rows.{next_to_issue, none_to_issue}
 use Rattle.live_runner.proofs.offering.least_to_issue.Goals as goal
+
+pub rows-init : goal.rows-init
+rows-init c = record { within = below_within c.args.state.now.table c.args.first c.requires.ended; none = none_issuing c.args.state.now c.args.first c.requires.ended }
 
 pub returns-then-may_do : goal.returns-then-may_do
 returns-then-may_do c =
