@@ -10,7 +10,7 @@ ghost use Rattle.model_files.specs.Files.{synced, written, FileFormed};
 use crate::file::RegularFile;
 use crate::pipe::PipeBuffer;
 use crate::stock::Stock;
-use places::{At, Place, Recorder, Value};
+use places::{At, Place, Recorder, Region, Value};
 use std::alloc::{AllocError, Global};
 
 /// What an object holds.
@@ -36,6 +36,14 @@ impl At for Body {
                 Place::EventCount(_) => Some(Value::Number(*counter)),
                 _ => None,
             },
+        }
+    }
+
+    fn bytes_in(&self, region: Region) -> Option<&[u8]> {
+        match self {
+            Body::File(file) => file.bytes_in(region),
+            Body::Pipe(pipe) => pipe.bytes_in(region),
+            Body::EventFd(_) => None,
         }
     }
 }

@@ -5,7 +5,7 @@ ghost use Rattle.model_files.specs.Files.{file_seen, file_start, synced, written
 
 use crate::bytes::{overwrite, pad};
 use crate::pages::Pages;
-use places::{At, Place, Value};
+use places::{At, Place, Region, Value};
 use std::alloc::{AllocError, Global};
 use std::marker::Model;
 
@@ -46,6 +46,14 @@ impl At for RegularFile {
             },
             Place::FileLength(_) => Some(Value::Number(self.len as u64)),
             Place::DurableLength(_) => Some(Value::Number(self.durable_len as u64)),
+            _ => None,
+        }
+    }
+
+    fn bytes_in(&self, region: Region) -> Option<&[u8]> {
+        match region {
+            Region::File(_) => Some(&self.bytes),
+            Region::Durable(_) => Some(&self.durable),
             _ => None,
         }
     }

@@ -5,7 +5,7 @@ ghost use Rattle.model_files.specs.Objects.{CanPut, PutsIn};
 ghost use Rattle.model_files.specs.Pipes.{pipe_seen, pipe_start, bytes_from, filled, room_in, put_in, taken_out, GivesOut};
 
 use crate::bytes::overwrite;
-use places::{At, Place, Value};
+use places::{At, Place, Region, Value};
 use std::alloc::{AllocError, Global};
 use std::marker::Model;
 
@@ -39,6 +39,13 @@ impl At for PipeBuffer {
             },
             Place::PutCount(_) => Some(Value::Number(self.put)),
             Place::TakenCount(_) => Some(Value::Number(self.taken)),
+            _ => None,
+        }
+    }
+
+    fn bytes_in(&self, region: Region) -> Option<&[u8]> {
+        match region {
+            Region::Pipe(_) => Some(&self.slots),
             _ => None,
         }
     }

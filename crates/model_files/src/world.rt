@@ -76,6 +76,18 @@ impl At for World {
             _ => None,
         }
     }
+
+    fn bytes_in(&self, region: Region) -> Option<&[u8]> {
+        match region {
+            Region::Memory => Some(&self.memory),
+            Region::File(object) | Region::Durable(object) | Region::Pipe(object) => {
+                match self.objects.get(object as usize) {
+                    Some(body) => body.bytes_in(region),
+                    None => None,
+                }
+            }
+        }
+    }
 }
 
 impl Part for World {

@@ -12,3 +12,4 @@ pub mod Sound
 pub mod Left
 pub mod Restored
 pub mod SameValue
+pub mod MaskedLemmas

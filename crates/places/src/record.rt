@@ -1,5 +1,5 @@
 //! Records: the places that differ, with what stood there.
-ghost use Rattle.std.specs.Prelude.{◌≡◌, ◌∷◌, [], map, MatchOption, None};
+ghost use Rattle.std.specs.Prelude.{◌≡◌, ◌∷◌, ◌++◌, [], map, MatchOption, None};
 ghost use Rattle.places.specs.View.{NamesOnce};
 ghost use Rattle.places.specs.declared.listed.Listed.TheVariants.{Requests, Overflowed};
 ghost use Rattle.places.specs.Notes.{IsLeft, left, after_change, number_in};
@@ -12,7 +12,7 @@ use crate::notes::numbers::NumberNote;
 use crate::notes::rest::Rest;
 use crate::notes::rows::RowNote;
 use crate::notes::slots::Slotted;
-use crate::notes::telling::ByteChanges;
+use crate::notes::telling::{ByteChanges, Stretches};
 use crate::place::Place;
 use crate::value::Change;
 use std::marker::Model;
@@ -120,6 +120,29 @@ impl Record {
             bytes: self.rest.bytes(),
             odd: self.rest.odd(),
         }
+    }
+
+    /// The changes in three parts: those of numbers, completions and rows, those of bytes a run at a time,
+    /// and the others.
+    pub fn parts(&self) -> (Changes<'_>, Stretches<'_>, Changes<'_>)
+        ensures value { self.now ≡ result.0 ++ (result.1.left ++ result.2) }
+        ensures once { NamesOnce self.now }
+    {
+        let kinds = Changes {
+            numbers: &self.numbers,
+            completions: &self.completions,
+            rows: &self.rows,
+            bytes: ByteChanges::of(&[], &[], &[]),
+            odd: &[],
+        };
+        let others = Changes {
+            numbers: &[],
+            completions: &[],
+            rows: &[],
+            bytes: ByteChanges::of(&[], &[], &[]),
+            odd: self.rest.odd(),
+        };
+        (kinds, self.rest.stretches(), others)
     }
 
     /// Lets the record go.

@@ -6,7 +6,7 @@ ghost use Rattle.places.specs.Runs.{place_in, run_changes, NotedBytes, AllKept};
 
 use crate::notes::odd::Odd;
 use crate::notes::runs::{ByteNotes, Region};
-use crate::notes::telling::ByteChanges;
+use crate::notes::telling::{ByteChanges, Stretches};
 use crate::part::At;
 use crate::place::Place;
 use crate::value::{Change, Value};
@@ -153,8 +153,18 @@ impl Rest {
         ensures { result.left ≡ run_changes self.now.runs self.now.olds }
     {
         match &self.inner {
-            None => ByteChanges::of(&[], &[]),
+            None => ByteChanges::of(&[], &[], &[]),
             Some(inner) => inner.bytes.changes(),
+        }
+    }
+
+    /// The runs, one after the other.
+    pub fn stretches(&self) -> Stretches<'_>
+        ensures { result.left ≡ run_changes self.now.runs self.now.olds }
+    {
+        match &self.inner {
+            None => Stretches::of(&[], &[], &[]),
+            Some(inner) => inner.bytes.stretches(),
         }
     }
 
