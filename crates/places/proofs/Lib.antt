@@ -13,3 +13,5 @@ pub mod Left
 pub mod Restored
 pub mod SameValue
 pub mod MaskedLemmas
+pub mod Undoing
+pub mod KeptAt

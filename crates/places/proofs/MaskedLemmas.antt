@@ -65,6 +65,12 @@ masked_at (b ∷ bs) [] i o h = absurd cc
 masked_at (b ∷ bs) (k ∷ ks) zero o h = (b, k, refl, refl, (let e : kept_byte k b ≡ o = cc in sym e))
 masked_at (b ∷ bs) (k ∷ ks) (suc i) o h = masked_at bs ks i o h
 
+pub masked_here : (bs : List ℕ) (ks : List Bool) (i b : ℕ) (k : Bool) → slice_get bs i ≡ Some b → slice_get ks i ≡ Some k → slice_get (masked bs ks) i ≡ Some (kept_byte k b)
+masked_here [] ks i b k e f = absurd cc
+masked_here (c ∷ bs) [] i b k e f = absurd cc
+masked_here (c ∷ bs) (m ∷ ks) zero b k e f = let p : c ≡ b = cc in let q : m ≡ k = cc in ap (λ x. Some (kept_byte m x)) p ∙ ap (λ x. Some (kept_byte x b)) q
+masked_here (c ∷ bs) (m ∷ ks) (suc i) b k e f = masked_here bs ks i b k e f
+
 some_other : (x : Option ℕ) (b : ℕ) → x ≢ Some b → Some (Byte b) ≢ option_map Byte x
 some_other None b h e = cc
 some_other (Some c) b h e = h (let i : b ≡ c = cc in ap Some (sym i))

@@ -1,7 +1,10 @@
 -- Old bytes beside marks that say which of them are kept.
-use Rattle.std.specs.Prelude.{◌≡◌, ◌≢◌, ℕ, Bool, true, false, List, [], ◌∷◌, Option, Some, None, ◌⊎◌, length, if◌then◌else◌}
+use Rattle.std.specs.Prelude.{◌≡◌, ◌≢◌, ℕ, ◌+◌, ◌-◌, nat_lt, Bool, true, false, List, [], ◌∷◌, Option, Some, None, IsSome, ◌⊎◌, length, option_map, slice_get, unwrap_or, if◌then◌else◌}
+use Rattle.std.specs.Option.{option_flatten}
+use Rattle.places.specs.declared.notes.runs.Region.{Region}
 use Rattle.places.specs.declared.notes.runs.Run.{Run}
-use Rattle.places.specs.Runs.{RunsOnce}
+use Rattle.places.specs.Runs.{place_in, RunsOnce}
+use Rattle.places.specs.View.{View}
 
 abbrev pub kept_byte : Bool → ℕ → Option ℕ
 kept_byte true b = Some b
@@ -21,3 +24,19 @@ LeftMark x b k l = ((l ≡ k) × (x ≢ Some b)) ⊎ ((l ≡ false) × (x ≡ So
 pub record MaskedOnce (rs : List Run) (bs : List ℕ) (ks : List Bool) : Type 0 where
   pub once : RunsOnce rs (masked bs ks)
   pub paired : length ks ≡ length bs
+
+-- what is kept of the byte of an index, of bytes that stand from s on
+abbrev pub kept_at : ℕ → List (Option ℕ) → ℕ → Option ℕ
+kept_at s os i = if nat_lt i s then None else option_flatten (slice_get os (i - s))
+
+-- the mark of the byte of an index, where one of the marks from s on is its
+abbrev pub mark_at : ℕ → List Bool → ℕ → Option Bool
+mark_at s ks i = if nat_lt i s then None else slice_get ks (i - s)
+
+-- Of bytes that stand from s on, those that are kept were written over others, as far as these reach.
+abbrev pub PutOver : List ℕ → ℕ → List (Option ℕ) → List ℕ → Type 0
+PutOver before s os after = (i : ℕ) → slice_get after i ≡ option_map (unwrap_or (kept_at s os i)) (slice_get before i)
+
+-- Something stands where a byte of a region is kept, of bytes that stand from s on.
+abbrev pub BytesStand : View → Region → ℕ → List (Option ℕ) → Type 0
+BytesStand v g s os = (i b : ℕ) → slice_get os i ≡ Some (Some b) → IsSome (v (place_in g (s + i)))

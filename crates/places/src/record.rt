@@ -1,6 +1,6 @@
 //! Records: the places that differ, with what stood there.
-ghost use Rattle.std.specs.Prelude.{◌≡◌, ◌∷◌, ◌++◌, [], map, MatchOption, None};
-ghost use Rattle.places.specs.View.{NamesOnce};
+ghost use Rattle.std.specs.Prelude.{◌≡◌, ◌∷◌, ◌++◌, [], map, is_some, MatchOption, None};
+ghost use Rattle.places.specs.View.{named, NamesOnce};
 ghost use Rattle.places.specs.declared.listed.Listed.TheVariants.{Requests, Overflowed};
 ghost use Rattle.places.specs.Notes.{IsLeft, left, after_change, number_in};
 ghost use Rattle.places.specs.Slots.{row_change};
@@ -11,7 +11,7 @@ use crate::notes::completions::CompletionNote;
 use crate::notes::numbers::NumberNote;
 use crate::notes::rest::Rest;
 use crate::notes::rows::RowNote;
-use crate::notes::slots::Slotted;
+use crate::notes::slots::{Slotted, either, names_place};
 use crate::notes::telling::{ByteChanges, Stretches};
 use crate::place::Place;
 use crate::value::Change;
@@ -143,6 +143,21 @@ impl Record {
             odd: self.rest.odd(),
         };
         (kinds, self.rest.stretches(), others)
+    }
+
+    /// Whether a place is named.
+    pub fn names(&self, place: Place) -> bool
+        ensures { result ≡ is_some (named self.now place) }
+    {
+        let by_slot = either(
+            names_place(&self.completions, place),
+            names_place(&self.rows, place),
+        );
+        let by_kind = either(
+            self.rest.names_byte(place),
+            either(names_place(&self.numbers, place), by_slot),
+        );
+        either(self.rest.names(place), by_kind)
     }
 
     /// Lets the record go.

@@ -132,6 +132,14 @@ impl Rest {
         }
     }
 
+    /// Whether a byte that is kept is of a place.
+    pub fn names_byte(&self, place: Place) -> bool
+        ensures { result ≡ is_some (named (run_changes self.now.runs self.now.olds) place) }
+    {
+        let mut stretches = self.stretches();
+        stretches.names(place)
+    }
+
     /// Drops the notes whose place has its old value.
     pub fn close<A: At>(&mut self, whole: &A)
         ensures bytes { KeptOf (A.seen whole.now) (run_changes self.old.runs self.old.olds) (run_changes self.new.runs self.new.olds) }

@@ -36,7 +36,7 @@ impl Region {
         }
     }
 
-    fn has(&self, place: Place) -> bool
+    pub(crate) fn has(&self, place: Place) -> bool
         ensures { result ≡ is_in self.now place }
     {
         let kind = place.kind();
@@ -49,7 +49,7 @@ impl Region {
         }
     }
 
-    fn offset(&self, place: Place) -> u32
+    pub(crate) fn offset(&self, place: Place) -> u32
         ensures { result ≡ offset_in self.now place }
     {
         match self {

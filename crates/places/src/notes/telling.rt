@@ -1,10 +1,12 @@
 //! The old bytes of runs, told one after the other.
-ghost use Rattle.std.specs.Prelude.{◌≡◌, ◌<◌, ◌∷◌, ◌++◌, ◌⊎◌, [], None, length, MatchOption, IfSome};
+ghost use Rattle.std.specs.Prelude.{◌≡◌, ◌<◌, ◌∷◌, ◌++◌, ◌⊎◌, [], None, is_some, length, MatchOption, IfSome};
 ghost use Rattle.places.specs.Runs.{old_bytes, run_changes, run_total, RunsFit};
-ghost use Rattle.places.specs.Masked.{masked};
+ghost use Rattle.places.specs.Masked.{masked, mark_at};
+ghost use Rattle.places.specs.View.{named};
 ghost use Rattle.places.specs.Turns.{MatchTurn};
 
 use crate::notes::runs::{Region, Run};
+use crate::place::Place;
 use crate::value::{Change, Value};
 use std::marker::Model;
 
@@ -41,6 +43,27 @@ pub struct Stretch<'a> {
     pub start: u32,
     pub olds: &'a [u8],
     pub kept: &'a [bool],
+}
+
+impl<'a> Stretch<'a> {
+    /// Whether a place is of a byte that is kept.
+    pub fn names(&self, place: Place) -> bool
+        requires { length self.now.kept.now ≡ length self.now.olds.now }
+        ensures { result ≡ is_some (named (old_bytes self.now.region self.now.start (masked self.now.olds.now self.now.kept.now)) place) }
+    {
+        let offset = self.region.offset(place);
+        let is_kept = mark_at(self.kept, self.start, offset).unwrap_or(false);
+        self.region.has(place) && is_kept
+    }
+}
+
+fn mark_at(kept: &[bool], start: u32, offset: u32) -> Option<bool>
+    ensures { result ≡ mark_at start kept.now offset }
+{
+    if offset < start {
+        return None;
+    }
+    kept.get((offset - start) as usize).copied()
 }
 
 /// Runs that are left to tell, each at once.
@@ -95,6 +118,18 @@ impl<'a> Stretches<'a> {
             olds,
             kept,
         })
+    }
+
+    /// Whether one of the runs that are left names a place.
+    pub fn names(&mut self, place: Place) -> bool
+        ensures { result ≡ is_some (named self.old.left place) }
+    {
+        while let Some(stretch) = self.next() {
+            if stretch.names(place) {
+                return true;
+            }
+        }
+        false
     }
 }
 
