@@ -8,7 +8,6 @@ pub mod Closed
 pub mod Slots
 pub mod Runs
 pub mod Masked
-pub mod Pieces
 pub mod Turns
 pub mod RestList
 pub mod RestOf

@@ -1,6 +1,6 @@
 //! The old bytes of runs, told one after the other.
-ghost use Rattle.std.specs.Prelude.{◌≡◌, ◌<◌, ◌∷◌, ◌++◌, ◌⊎◌, [], None, is_some, length, MatchOption, IfSome};
-ghost use Rattle.places.specs.Runs.{old_bytes, run_changes, run_total, RunsFit};
+ghost use Rattle.std.specs.Prelude.{◌≡◌, ◌<◌, ◌∷◌, ◌++◌, ◌⊎◌, [], None, is_some, false, ◌&&◌, unwrap_or, length, MatchOption, IfSome};
+ghost use Rattle.places.specs.Runs.{is_in, offset_in, old_bytes, run_changes, run_total, RunsFit};
 ghost use Rattle.places.specs.Masked.{masked, mark_at};
 ghost use Rattle.places.specs.View.{named};
 ghost use Rattle.places.specs.Turns.{MatchTurn};
@@ -51,6 +51,12 @@ impl<'a> Stretch<'a> {
         requires { length self.now.kept.now ≡ length self.now.olds.now }
         ensures { result ≡ is_some (named (old_bytes self.now.region self.now.start (masked self.now.olds.now self.now.kept.now)) place) }
     {
+        self.has_mark(place)
+    }
+
+    fn has_mark(&self, place: Place) -> bool
+        ensures { result ≡ (is_in self.now.region place && unwrap_or (mark_at self.now.start self.now.kept.now (offset_in self.now.region place)) false) }
+    {
         let offset = self.region.offset(place);
         let is_kept = mark_at(self.kept, self.start, offset).unwrap_or(false);
         self.region.has(place) && is_kept
@@ -77,10 +83,9 @@ pub struct Stretches<'a> {
 impl<'a> Model for Stretches<'a> {
     ghost use Rattle.std.specs.Prelude.{◌≡◌, length};
     ghost use Rattle.places.specs.Masked.{masked};
-    ghost use Rattle.places.specs.Pieces.{PiecesLeft};
-    ghost use Rattle.places.specs.Runs.{run_changes, run_total, RunsFit};
+    ghost use Rattle.places.specs.Runs.{ByteRest, run_changes, run_total, RunsFit};
 
-    ghost Value = { PiecesLeft };
+    ghost Value = { ByteRest };
 
     ghost view = { λ a. record { left = run_changes a.runs.now (masked a.olds.now a.kept.now); work = length a.runs.now } };
 
