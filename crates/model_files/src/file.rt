@@ -158,7 +158,12 @@ impl RegularFile {
         ensures bytes { length self.new.bytes ≡ length self.old.bytes }
         ensures durable { length self.new.durable ≡ length self.old.durable }
     {
-        let Stretch { region, start, olds, kept } = stretch;
+        let Stretch {
+            region,
+            start,
+            olds,
+            kept,
+        } = stretch;
         match region {
             Region::File(_) => {
                 self.dirty.mark_within(start as usize, olds.len());

@@ -151,7 +151,12 @@ impl PipeBuffer {
         ensures put { PutsBack (pipe_seen self.old) (pipe_seen self.new) stretch.region stretch.start (masked stretch.olds.now stretch.kept.now) }
         ensures size { length self.new.slots ≡ length self.old.slots }
     {
-        let Stretch { region, start, olds, kept } = stretch;
+        let Stretch {
+            region,
+            start,
+            olds,
+            kept,
+        } = stretch;
         match region {
             Region::Pipe(_) => put_over(&mut self.slots, start, olds, kept),
             Region::Memory | Region::File(_) | Region::Durable(_) => {}

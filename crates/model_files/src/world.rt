@@ -161,12 +161,7 @@ impl World {
             self.put_object_back(object, stretch);
             return;
         }
-        put_over(
-            &mut self.memory,
-            stretch.start,
-            stretch.olds,
-            stretch.kept,
-        );
+        put_over(&mut self.memory, stretch.start, stretch.olds, stretch.kept);
     }
 
     // Puts back the bytes of a stretch of an object, if it is there.

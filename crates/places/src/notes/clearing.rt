@@ -39,7 +39,11 @@ fn clear_alike(olds: &[u8], kept: &mut [bool], start: usize, now: &[u8])
 fn stays<A: At>(kept: bool, old: u8, place: Place, whole: &A) -> bool
     ensures { LeftOf (A.seen whole.now place) (kept_byte kept old) (kept_byte result old) }
 {
-    if kept { !is_byte(whole.at(place), old) } else { false }
+    if kept {
+        !is_byte(whole.at(place), old)
+    } else {
+        false
+    }
 }
 
 /// The same, where the bytes that stand there are asked for one by one.
