@@ -1,6 +1,6 @@
 -- What is seen of objects and of the world once bytes were put back.
-use Rattle.std.proofs.Common.{◌≡◌, ℕ, ◌<◌, ◌≤◌, ◌+◌, Bool, true, false, cond, refl, sym, ◌∙◌, ap, subst, List, length, arith}
-use Rattle.std.specs.Prelude.{Option, Some, None, IsSome, is_some, option_map, slice_get, unwrap_or, ◌==◌}
+use Rattle.std.proofs.Common.{◌≡◌, ℕ, ◌<◌, ◌≤◌, ◌+◌, Bool, true, false, cond, refl, sym, ◌∙◌, ap, subst, List, length, arith, inl, inr}
+use Rattle.std.specs.Prelude.{Option, Some, None, IsSome, is_some, option_map, slice_get, unwrap_or, ◌==◌, ◌⊎◌}
 use Rattle.std.specs.Option.{option_and_then}
 use Rattle.std.proofs.lemmas.Option.{slice_get_within, slice_get_past}
 use Rattle.places.specs.declared.place.Place.{Place}
@@ -63,8 +63,32 @@ put_pipe_bytes d x s os ys over stand o q p own = undone_bytes (pipe_seen d) (pi
     outside _ k e = refl
 
 -- regions that an object doesn't have
-pub put_nothing : (v : View) (g : Region) (s : ℕ) (os : List (Option ℕ)) → BytesStand v g s os → ((j : ℕ) → v (place_in g j) ≡ None) → PutsBack v v g s os
+put_nothing : (v : View) (g : Region) (s : ℕ) (os : List (Option ℕ)) → BytesStand v g s os → ((j : ℕ) → v (place_in g j) ≡ None) → PutsBack v v g s os
 put_nothing v g s os stand none o q p own = undone_nothing v g s os q stand none
+
+pub put_no_file_bytes : (f : FileState) (g : Region) (s : ℕ) (os : List (Option ℕ)) → (g ≡ Memory) ⊎ ((x : ℕ) × (g ≡ Pipe x)) → BytesStand (file_seen f) g s os → PutsBack (file_seen f) (file_seen f) g s os
+put_no_file_bytes f g s os other stand = put_nothing (file_seen f) g s os stand (λ j. none j other)
+  where
+    none : (j : ℕ) → (g ≡ Memory) ⊎ ((x : ℕ) × (g ≡ Pipe x)) → file_seen f (place_in g j) ≡ None
+    none j (inl e) = ap (λ r. file_seen f (place_in r j)) e
+    none j (inr e) = ap (λ r. file_seen f (place_in r j)) e.1
+
+pub put_no_pipe_bytes : (d : PipeState) (g : Region) (s : ℕ) (os : List (Option ℕ)) → (g ≡ Memory) ⊎ (((x : ℕ) × (g ≡ File x)) ⊎ ((x : ℕ) × (g ≡ Durable x))) → BytesStand (pipe_seen d) g s os → PutsBack (pipe_seen d) (pipe_seen d) g s os
+put_no_pipe_bytes d g s os other stand = put_nothing (pipe_seen d) g s os stand (λ j. none j other)
+  where
+    none : (j : ℕ) → (g ≡ Memory) ⊎ (((x : ℕ) × (g ≡ File x)) ⊎ ((x : ℕ) × (g ≡ Durable x))) → pipe_seen d (place_in g j) ≡ None
+    none j (inl e) = ap (λ r. pipe_seen d (place_in r j)) e
+    none j (inr (inl e)) = ap (λ r. pipe_seen d (place_in r j)) e.1
+    none j (inr (inr e)) = ap (λ r. pipe_seen d (place_in r j)) e.1
+
+pub put_no_counter_bytes : (n : ℕ) (g : Region) (s : ℕ) (os : List (Option ℕ)) → BytesStand (counter_seen n) g s os → PutsBack (counter_seen n) (counter_seen n) g s os
+put_no_counter_bytes n g s os stand = put_nothing (counter_seen n) g s os stand (λ j. none g j)
+  where
+    none : (r : Region) (j : ℕ) → counter_seen n (place_in r j) ≡ None
+    none Memory j = refl
+    none (File x) j = refl
+    none (Durable x) j = refl
+    none (Pipe x) j = refl
 
 -- ---- the world
 

@@ -95,7 +95,7 @@ impl Body {
     pub(crate) fn put_back(&mut self, stretch: Stretch<'_>)
         requires paired { length stretch.kept.now ≡ length stretch.olds.now }
         requires stand { BytesStand (body_seen self.old) stretch.region stretch.start (masked stretch.olds.now stretch.kept.now) }
-        ensures put { PutsBack (body_seen self.old) (body_seen self.new) stretch.region stretch.start (masked stretch.olds.now stretch.kept.now) }
+        ensures put { PutsBack (body_seen self.old) (body_seen self.new) stretch.entry.region stretch.entry.start (masked stretch.entry.olds.now stretch.entry.kept.now) }
         ensures kind { kind_of_body self.new ≡ kind_of_body self.old }
     {
         match self {

@@ -154,7 +154,7 @@ impl RegularFile {
     pub(crate) fn put_back(&mut self, stretch: Stretch<'_>)
         requires paired { length stretch.kept.now ≡ length stretch.olds.now }
         requires stand { BytesStand (file_seen self.old) stretch.region stretch.start (masked stretch.olds.now stretch.kept.now) }
-        ensures put { PutsBack (file_seen self.old) (file_seen self.new) stretch.region stretch.start (masked stretch.olds.now stretch.kept.now) }
+        ensures put { PutsBack (file_seen self.old) (file_seen self.new) stretch.entry.region stretch.entry.start (masked stretch.entry.olds.now stretch.entry.kept.now) }
         ensures bytes { length self.new.bytes ≡ length self.old.bytes }
         ensures durable { length self.new.durable ≡ length self.old.durable }
     {

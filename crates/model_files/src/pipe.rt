@@ -148,7 +148,7 @@ impl PipeBuffer {
     pub(crate) fn put_back(&mut self, stretch: Stretch<'_>)
         requires paired { length stretch.kept.now ≡ length stretch.olds.now }
         requires stand { BytesStand (pipe_seen self.old) stretch.region stretch.start (masked stretch.olds.now stretch.kept.now) }
-        ensures put { PutsBack (pipe_seen self.old) (pipe_seen self.new) stretch.region stretch.start (masked stretch.olds.now stretch.kept.now) }
+        ensures put { PutsBack (pipe_seen self.old) (pipe_seen self.new) stretch.entry.region stretch.entry.start (masked stretch.entry.olds.now stretch.entry.kept.now) }
         ensures size { length self.new.slots ≡ length self.old.slots }
     {
         let Stretch {

@@ -154,7 +154,7 @@ impl World {
     pub fn put_back(&mut self, stretch: Stretch<'_>)
         requires paired { length stretch.kept.now ≡ length stretch.olds.now }
         requires stand { BytesStand (world_seen self.old) stretch.region stretch.start (masked stretch.olds.now stretch.kept.now) }
-        ensures put { (q : Place) → world_seen self.new q ≡ undo (world_seen self.old) (old_bytes stretch.region stretch.start (masked stretch.olds.now stretch.kept.now)) q }
+        ensures put { (q : Place) → world_seen self.new q ≡ undo (world_seen self.old) (old_bytes stretch.entry.region stretch.entry.start (masked stretch.entry.olds.now stretch.entry.kept.now)) q }
         ensures setup { OneSetup self.old self.new }
     {
         if let Some(object) = object_in(stretch.region.place(stretch.start)) {
@@ -169,7 +169,7 @@ impl World {
         requires its { object_in (place_in stretch.region stretch.start) ≡ Some object }
         requires paired { length stretch.kept.now ≡ length stretch.olds.now }
         requires stand { BytesStand (world_seen self.old) stretch.region stretch.start (masked stretch.olds.now stretch.kept.now) }
-        ensures put { (q : Place) → world_seen self.new q ≡ undo (world_seen self.old) (old_bytes stretch.region stretch.start (masked stretch.olds.now stretch.kept.now)) q }
+        ensures put { (q : Place) → world_seen self.new q ≡ undo (world_seen self.old) (old_bytes stretch.entry.region stretch.entry.start (masked stretch.entry.olds.now stretch.entry.kept.now)) q }
         ensures setup { OneSetup self.old self.new }
     {
         let index = object as usize;
