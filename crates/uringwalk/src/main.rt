@@ -5,12 +5,14 @@ ghost use Rattle.std.specs.Prelude.{◌≡◌, IfOk};
 ghost use Rattle.debug_server.specs.Jobs.{IsInRange};
 ghost use Rattle.uringwalk.specs.Files.{told_as};
 
+mod explaining;
 mod living;
 mod logging;
 
 use debug_server::{
     Fault, Form, Job, RunFault, ServeFault, Traced, job, migrate_trace, replay, trace_script, walk,
 };
+use explaining::explain_file;
 use living::live_file;
 use logging::log_file;
 use run_log::EventRange;
@@ -108,22 +110,24 @@ fn migrate_file(
 fn run<R: Files + Input + Print + AllocGlobal + Threads + Wait + Clock + Sync>(
     rt: &R,
     job: Job<'_>,
-) -> Result<(), Fault>
+) -> Result<ExitCode, Fault>
     requires { IsInRange job }
 {
     match job {
-        Job::Walk(script) => answer_over(rt, Over::Script, script),
-        Job::Replay(trace) => answer_over(rt, Over::Trace, trace),
-        Job::Log { run, from, to } => log_file(rt, run, EventRange { from, to }),
+        Job::Walk(script) => answer_over(rt, Over::Script, script)?,
+        Job::Replay(trace) => answer_over(rt, Over::Trace, trace)?,
+        Job::Log { run, from, to } => log_file(rt, run, EventRange { from, to })?,
+        Job::Explain { run, kind, json } => return explain_file(rt, run, kind, json),
         Job::Live {
             script,
             turns,
             kernel,
             out,
-        } => live_file(rt, script, turns, kernel, out),
-        Job::Trace { script, out, form } => trace_file(rt, script, out, form),
-        Job::Migrate { script, trace, out } => migrate_file(rt, script, trace, out),
+        } => live_file(rt, script, turns, kernel, out)?,
+        Job::Trace { script, out, form } => trace_file(rt, script, out, form)?,
+        Job::Migrate { script, trace, out } => migrate_file(rt, script, trace, out)?,
     }
+    Ok(ExitCode::SUCCESS)
 }
 
 // Whether a trace would take the place of its script, which another path names.
@@ -137,7 +141,11 @@ fn loses_script(rt: &(impl Files + AllocGlobal), job: Job<'_>) -> Result<bool, F
             out: Some(out),
             ..
         } => lead_to_one_file(rt, script, out).map_err(told),
-        Job::Walk(_) | Job::Replay(_) | Job::Log { .. } | Job::Live { out: None, .. } => Ok(false),
+        Job::Walk(_)
+        | Job::Replay(_)
+        | Job::Log { .. }
+        | Job::Explain { .. }
+        | Job::Live { out: None, .. } => Ok(false),
     }
 }
 
@@ -162,7 +170,7 @@ fn carry_out<R: Files + Input + Print + Eprint + AllocGlobal + Threads + Wait + 
 {
     match loses_script(rt, job) {
         Ok(false) => match run(rt, job) {
-            Ok(()) => ExitCode::SUCCESS,
+            Ok(status) => status,
             Err(fault) => fail(rt, 1, &fault),
         },
         Ok(true) => fail(rt, 2, &ONTO_SCRIPT),
