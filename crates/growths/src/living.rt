@@ -1,0 +1,254 @@
+//! Calls of live runs, which are driven by hand.
+ghost use Rattle.std.specs.Prelude.{◌≡◌};
+ghost use Rattle.live_runner.specs.Actors.{actors};
+
+use crate::comparing::{Compared, compare_states};
+use crate::fault::Fault;
+use crate::plan::{Call, Plan};
+use crate::situation::{Answer, Given, arm, disarm, tell};
+use crate::stepping::state_at;
+use live_runner::{Live, LiveRefusal, Receipt, Seat, actors};
+use machine::{Event, Setup, State};
+use script::{Script, read_script};
+use std::alloc::Global;
+use std::marker::Brand;
+use std::sync::ledger::{Blank, Ledger};
+
+/// How many kernel workers there are.
+const KERNEL: u32 = 1;
+
+/// Makes a call of a live run while a growth is refused.
+pub fn try_live(rt: &(impl Print + Eprint), given: &Given<'_>) -> Result<(), Fault> {
+    let script = read_script(given.alloc, given.text)?;
+    match given.plan.call {
+        Call::Open => try_open(rt, given, &script),
+        _ => try_driven(rt, given, &script),
+    }
+}
+
+// ---- opening
+
+fn try_open(rt: &(impl Print + Eprint), given: &Given<'_>, script: &Script) -> Result<(), Fault> {
+    let state = state_at(given.alloc, script, 0)?;
+    let setup = script.setup();
+    let (answer, stood) = opened(rt, given.alloc, setup, &state, given.plan.number)?;
+    let (first, left) = opened(rt, given.alloc, setup, &state, 0)?;
+    Ok(tell(rt, (answer, first, first), (stood, left))?)
+}
+
+fn opened(
+    rt: &impl Eprint,
+    alloc: Global,
+    setup: &Setup,
+    state: &State,
+    number: u32,
+) -> Result<(Answer, Compared), Fault> {
+    let blank = Blank::new(actors(setup, KERNEL) as u64);
+    open::<Brand>(rt, alloc, blank, setup, state, number)
+}
+
+// Opens a live run, and compares what stands in it with a state.
+fn open<L: Ledger>(
+    rt: &impl Eprint,
+    alloc: Global,
+    blank: Blank,
+    setup: &Setup,
+    state: &State,
+    number: u32,
+) -> Result<(Answer, Compared), Fault>
+    requires name { blank.name ≡ L.name }
+    requires parts { blank.parts ≡ L.parts }
+    requires all { blank.parts ≡ actors setup.now 1 }
+{
+    arm(rt, number)?;
+    let opened = Live::<L>::open(alloc, blank, setup, KERNEL);
+    disarm(rt)?;
+    let mut compared = Compared::default();
+    match opened {
+        Ok((live, seats)) => {
+            compare_opened(&mut compared, &live, seats.as_slice(), state);
+            Ok((Answer::done(seats.len() as u64), compared))
+        }
+        Err(refusal) => Ok((Answer::refused(refusal as u32, 0), compared)),
+    }
+}
+
+fn compare_opened<L: Ledger>(
+    compared: &mut Compared,
+    live: &Live<L>,
+    seats: &[Seat<L>],
+    state: &State,
+) {
+    compare_states(compared, live.setup(), live.state(), state);
+    for seat in seats {
+        compared.count(seat.receipts().is_empty());
+    }
+}
+
+// ---- a run by hand
+
+fn try_driven(rt: &(impl Print + Eprint), given: &Given<'_>, script: &Script) -> Result<(), Fault> {
+    let setup = script.setup();
+    let blank = Blank::new(actors(setup, KERNEL) as u64);
+    drive::<Brand>(rt, given, blank, setup, script.schedule())
+}
+
+fn drive<L: Ledger>(
+    rt: &(impl Print + Eprint),
+    given: &Given<'_>,
+    blank: Blank,
+    setup: &Setup,
+    events: &[Event],
+) -> Result<(), Fault>
+    requires name { blank.name ≡ L.name }
+    requires parts { blank.parts ≡ L.parts }
+    requires all { blank.parts ≡ actors setup.now 1 }
+{
+    let (mut live, mut seats) = Live::<L>::open(given.alloc, blank, setup, KERNEL)?;
+    drive_on(rt, given, &mut live, seats.as_mut_slice(), events)
+}
+
+// Does the first events, and makes the call with the seat of the next one's actor.
+fn drive_on<L: Ledger>(
+    rt: &(impl Print + Eprint),
+    given: &Given<'_>,
+    live: &mut Live<L>,
+    seats: &mut [Seat<L>],
+    events: &[Event],
+) -> Result<(), Fault> {
+    let from = given.plan.from;
+    for event in events.iter().take(from) {
+        let seat = seat_of(live.setup(), seats, *event)?;
+        live.attempt(seat, *event)?;
+    }
+    let event = events.get(from).copied().ok_or(Fault::Missing("event"))?;
+    let seat = seat_of(live.setup(), seats, event)?;
+    act_beside(rt, given, live, seat, events, event)
+}
+
+// The seat of an event's actor: a thread's, or else the poller's, or that of the kernel worker behind it.
+fn seat_of<'a, L: Ledger>(
+    setup: &Setup,
+    seats: &'a mut [Seat<L>],
+    event: Event,
+) -> Result<&'a mut Seat<L>, Fault> {
+    let threads = setup.threads.len();
+    let place = match event {
+        Event::Step(thread) => thread as usize,
+        Event::Take(_) | Event::Sleep => threads,
+        _ => threads.saturating_add(usize::from(setup.sqpoll)),
+    };
+    seats.get_mut(place).ok_or(Fault::Missing("seat"))
+}
+
+// Makes the call beside a state that the same events led to.
+fn act_beside<L: Ledger>(
+    rt: &(impl Print + Eprint),
+    given: &Given<'_>,
+    live: &mut Live<L>,
+    seat: &mut Seat<L>,
+    events: &[Event],
+    event: Event,
+) -> Result<(), Fault> {
+    let mut twin = State::new(given.alloc, live.setup())?;
+    run(&mut twin, events, given.plan.from)?;
+    act(rt, given, live, seat, &mut twin, event)
+}
+
+fn run(state: &mut State, events: &[Event], count: usize) -> Result<(), Fault> {
+    for event in events.iter().take(count) {
+        state.step(*event)?;
+    }
+    Ok(())
+}
+
+fn act<L: Ledger>(
+    rt: &(impl Print + Eprint),
+    given: &Given<'_>,
+    live: &mut Live<L>,
+    seat: &mut Seat<L>,
+    twin: &mut State,
+    event: Event,
+) -> Result<(), Fault> {
+    let plan = given.plan;
+    let mut told = Vec::from_slice(given.alloc, seat.receipts())?;
+    arm(rt, plan.number)?;
+    let answer = call(plan, live, seat, event);
+    disarm(rt)?;
+    let (mut stood, mut again) = (Compared::default(), answer);
+    if answer.number != 0 {
+        compare(&mut stood, live, seat, twin, told.as_slice());
+        again = call(plan, live, seat, event);
+    }
+    if plan.call == Call::Attempt || plan.call == Call::TakeOffer {
+        twin.step(event)?;
+        told.push(receipt(seat.actor(), plan.from, event))?;
+    }
+    let mut left = Compared::default();
+    compare(&mut left, live, seat, twin, told.as_slice());
+    let first = Answer::done(plan.from as u64);
+    Ok(tell(rt, (answer, again, first), (stood, left))?)
+}
+
+fn receipt(actor: u32, moment: usize, event: Event) -> Receipt {
+    Receipt {
+        actor,
+        moment: moment.min(1048576) as u32,
+        event,
+    }
+}
+
+// The call. It tells a moment, or how many events there are.
+fn call<L: Ledger>(
+    plan: Plan<'_>,
+    live: &mut Live<L>,
+    seat: &mut Seat<L>,
+    event: Event,
+) -> Answer {
+    match plan.call {
+        Call::Attempt => answer_of(live.attempt(seat, event)),
+        Call::TakeOffer => match live.take_offer(seat) {
+            Some(attempted) => answer_of(attempted),
+            None => Answer::refused(100, 0),
+        },
+        Call::Events => count_events(live),
+        _ => look_at_offer(live, seat, event, plan.from),
+    }
+}
+
+fn answer_of(attempted: Result<Receipt, LiveRefusal>) -> Answer {
+    match attempted {
+        Ok(receipt) => Answer::done(u64::from(receipt.moment)),
+        Err(LiveRefusal::NotYours) => Answer::refused(1, 0),
+        Err(LiveRefusal::TraceFull) => Answer::refused(2, 0),
+        Err(LiveRefusal::Step(refusal)) => Answer::refused(3, refusal as u64),
+    }
+}
+
+fn count_events<L: Ledger>(live: &Live<L>) -> Answer {
+    match live.events() {
+        Ok(events) => Answer::done(events.len() as u64),
+        Err(_) => Answer::refused(1, 0),
+    }
+}
+
+// Whether the event is what the actor is offered. The moment is that of the actor's next event.
+fn look_at_offer<L: Ledger>(live: &Live<L>, seat: &Seat<L>, event: Event, moment: usize) -> Answer {
+    if live.offer(seat.actor()) == Some(event) {
+        Answer::done(moment as u64)
+    } else {
+        Answer::refused(100, 0)
+    }
+}
+
+// Compares a live run with a state, and what a seat was told with what it should be.
+fn compare<L: Ledger>(
+    compared: &mut Compared,
+    live: &Live<L>,
+    seat: &Seat<L>,
+    twin: &State,
+    told: &[Receipt],
+) {
+    compare_states(compared, live.setup(), live.state(), twin);
+    compared.count(seat.receipts() == told);
+}
