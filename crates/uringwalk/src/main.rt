@@ -8,6 +8,7 @@ ghost use Rattle.uringwalk.specs.Files.{told_as};
 mod living;
 mod logging;
 
+use clap::error::ErrorKind;
 use debug_server::{
     Fault, Form, Job, RunFault, ServeFault, Traced, job, migrate_trace, replay, trace_script, walk,
 };
@@ -177,6 +178,7 @@ fn read_words<R: Files + Input + Print + Eprint + AllocGlobal + Threads + Wait +
 ) -> ExitCode {
     match job(rt.alloc(), words) {
         Ok(job) => carry_out(rt, job),
+        Err(error) if error.kind() == ErrorKind::OutOfMemory => fail_for_memory(rt),
         Err(error) => fail(rt, 2, &error),
     }
 }
