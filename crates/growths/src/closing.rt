@@ -38,14 +38,14 @@ pub fn try_finish(rt: &(impl Print + Eprint), given: &Given<'_>) -> Result<(), F
     redeem_all(rt, given, &closed)
 }
 
-fn run_by_hand(rt: &impl Eprint, given: &Given<'_>, setup: &Setup) -> Result<Closed, Fault>
+fn run_by_hand<R: Eprint>(rt: &R, given: &Given<'_>, setup: &Setup) -> Result<Closed, Fault>
     requires { actors setup.now 1 ≡ 2 }
 {
-    by_hand::<Brand>(rt, given, Blank::new(2), setup)
+    by_hand::<Brand, R>(rt, given, Blank::new(2), setup)
 }
 
-fn by_hand<L: Ledger>(
-    rt: &impl Eprint,
+fn by_hand<L: Ledger, R: Eprint>(
+    rt: &R,
     given: &Given<'_>,
     blank: Blank,
     setup: &Setup,

@@ -79,7 +79,9 @@ fn keeping_over(given: &Given<'_>, script: Script) -> Result<Keeping, Fault> {
 fn spare_states(alloc: Global, script: &Script) -> Result<Vec<Vec<State>>, Fault> {
     let mut spare = Vec::new(alloc);
     for _call in 0..CALLS {
-        spare.push(first_state(alloc, script)?)?;
+        spare
+            .push(first_state(alloc, script)?)
+            .map_err(AllocError::from)?;
     }
     Ok(spare)
 }

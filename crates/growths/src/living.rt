@@ -6,11 +6,11 @@ use crate::comparing::{Compared, compare_states};
 use crate::fault::Fault;
 use crate::plan::{Call, Plan};
 use crate::situation::{Answer, Given, arm, disarm, tell};
-use crate::stepping::state_at;
+use crate::stepping::{run_first, state_at};
 use live_runner::{Live, LiveRefusal, Receipt, Seat, actors};
 use machine::{Event, Setup, State};
 use script::{Script, read_script};
-use std::alloc::Global;
+use std::alloc::{AllocError, Global};
 use std::marker::Brand;
 use std::sync::ledger::{Blank, Ledger};
 
@@ -36,20 +36,20 @@ fn try_open(rt: &(impl Print + Eprint), given: &Given<'_>, script: &Script) -> R
     Ok(tell(rt, (answer, first, first), (stood, left))?)
 }
 
-fn opened(
-    rt: &impl Eprint,
+fn opened<R: Eprint>(
+    rt: &R,
     alloc: Global,
     setup: &Setup,
     state: &State,
     number: u32,
 ) -> Result<(Answer, Compared), Fault> {
     let blank = Blank::new(actors(setup, KERNEL) as u64);
-    open::<Brand>(rt, alloc, blank, setup, state, number)
+    open::<Brand, R>(rt, alloc, blank, setup, state, number)
 }
 
 // Opens a live run, and compares what stands in it with a state.
-fn open<L: Ledger>(
-    rt: &impl Eprint,
+fn open<L: Ledger, R: Eprint>(
+    rt: &R,
     alloc: Global,
     blank: Blank,
     setup: &Setup,
@@ -87,14 +87,14 @@ fn compare_opened<L: Ledger>(
 
 // ---- a run by hand
 
-fn try_driven(rt: &(impl Print + Eprint), given: &Given<'_>, script: &Script) -> Result<(), Fault> {
+fn try_driven<R: Print + Eprint>(rt: &R, given: &Given<'_>, script: &Script) -> Result<(), Fault> {
     let setup = script.setup();
     let blank = Blank::new(actors(setup, KERNEL) as u64);
-    drive::<Brand>(rt, given, blank, setup, script.schedule())
+    drive::<Brand, R>(rt, given, blank, setup, script.schedule())
 }
 
-fn drive<L: Ledger>(
-    rt: &(impl Print + Eprint),
+fn drive<L: Ledger, R: Print + Eprint>(
+    rt: &R,
     given: &Given<'_>,
     blank: Blank,
     setup: &Setup,
@@ -151,15 +151,8 @@ fn act_beside<L: Ledger>(
     event: Event,
 ) -> Result<(), Fault> {
     let mut twin = State::new(given.alloc, live.setup())?;
-    run(&mut twin, events, given.plan.from)?;
+    run_first(&mut twin, events, given.plan.from)?;
     act(rt, given, live, seat, &mut twin, event)
-}
-
-fn run(state: &mut State, events: &[Event], count: usize) -> Result<(), Fault> {
-    for event in events.iter().take(count) {
-        state.step(*event)?;
-    }
-    Ok(())
 }
 
 fn act<L: Ledger>(
@@ -173,16 +166,17 @@ fn act<L: Ledger>(
     let plan = given.plan;
     let mut told = Vec::from_slice(given.alloc, seat.receipts())?;
     arm(rt, plan.number)?;
-    let answer = call(plan, live, seat, event);
+    let answer = make_call(plan, live, seat, event);
     disarm(rt)?;
     let (mut stood, mut again) = (Compared::default(), answer);
     if answer.number != 0 {
         compare(&mut stood, live, seat, twin, told.as_slice());
-        again = call(plan, live, seat, event);
+        again = make_call(plan, live, seat, event);
     }
     if plan.call == Call::Attempt || plan.call == Call::TakeOffer {
         twin.step(event)?;
-        told.push(receipt(seat.actor(), plan.from, event))?;
+        told.push(receipt(seat.actor(), plan.from, event))
+            .map_err(AllocError::from)?;
     }
     let mut left = Compared::default();
     compare(&mut left, live, seat, twin, told.as_slice());
@@ -199,7 +193,7 @@ fn receipt(actor: u32, moment: usize, event: Event) -> Receipt {
 }
 
 // The call. It tells a moment, or how many events there are.
-fn call<L: Ledger>(
+fn make_call<L: Ledger>(
     plan: Plan<'_>,
     live: &mut Live<L>,
     seat: &mut Seat<L>,

@@ -41,23 +41,23 @@ use whole_files::read_file;
 /// The most bytes of a script.
 const SCRIPT: u64 = 8388608;
 
-fn try_plan(rt: &(impl Print + Eprint), given: &Given<'_>) -> Result<(), Fault> {
+fn try_plan<R: Print + Eprint>(rt: &R, given: &Given<'_>) -> Result<(), Fault> {
     match given.plan.call {
         Call::Step | Call::Start | Call::Copy | Call::Look => {
-            try_situation::<Stepping>(rt, given)
+            try_situation::<Stepping, R>(rt, given)
         }
         Call::Unwind => try_unwind(rt, given),
         Call::Extend | Call::Goto | Call::On | Call::Back | Call::Rcont | Call::Cont => {
-            try_situation::<Walking>(rt, given)
+            try_situation::<Walking, R>(rt, given)
         }
-        Call::Keep | Call::Watch | Call::Break => try_situation::<Keeping>(rt, given),
-        Call::Session | Call::SessionOf | Call::Line => try_situation::<Talking>(rt, given),
-        Call::Serve | Call::Walk | Call::Replay => try_situation::<Serving>(rt, given),
+        Call::Keep | Call::Watch | Call::Break => try_situation::<Keeping, R>(rt, given),
+        Call::Session | Call::SessionOf | Call::Line => try_situation::<Talking, R>(rt, given),
+        Call::Serve | Call::Walk | Call::Replay => try_situation::<Serving, R>(rt, given),
         Call::Open | Call::Attempt | Call::TakeOffer | Call::Events | Call::Offer => {
             try_live(rt, given)
         }
         Call::Finish => try_finish(rt, given),
-        _ => try_situation::<Spelling>(rt, given),
+        _ => try_situation::<Spelling, R>(rt, given),
     }
 }
 
@@ -70,7 +70,8 @@ fn try_words(
         Err(fault) => return Err(Fault::File(fault)),
     };
     let mut lines = Vec::new(rt.alloc());
-    rt.reader().read_to_end(&mut lines)?;
+    let mut input = rt.reader();
+    input.read_to_end(&mut lines)?;
     let given = Given {
         alloc: rt.alloc(),
         plan,

@@ -5,7 +5,7 @@ use crate::fault::Fault;
 use crate::plan::Call;
 use crate::situation::{Answer, Given, Situation};
 use crate::talking::{answer_of, session_over};
-use debug_server::{Form, NoSource, Session, replay, serve, trace_script, walk};
+use debug_server::{Form, NoSource, Session, Traced, replay, serve, trace_script, walk};
 use script::read_script;
 use std::alloc::Global;
 use std::io;
@@ -15,6 +15,7 @@ use std::io::Read;
 const ROOM: usize = 1048576;
 
 /// Gives some bytes, and counts how often it is asked.
+#[derive(Drop)]
 struct Counted<'a> {
     rest: &'a [u8],
     reads: u64,
@@ -77,14 +78,16 @@ impl Situation for Serving {
     fn compare(&mut self, other: &mut Serving) -> Compared {
         let mut compared = Compared::default();
         compared.count(self.whole.starts_with(self.written.as_slice()));
-        compared.count(other.written.is_empty() || other.written.as_slice() == self.whole.as_slice());
+        compared.count(
+            other.written.is_empty() || other.written.as_slice() == self.whole.as_slice(),
+        );
         compared
     }
 }
 
 fn serving_over(given: &Given<'_>, session: Session) -> Result<Serving, Fault> {
     let run = match given.plan.call {
-        Call::Replay => trace_script(given.alloc, given.text, Form::Whole)?.bytes,
+        Call::Replay => whole_trace(given)?,
         _ => Vec::from_slice(given.alloc, given.text)?,
     };
     let input = Vec::from_slice(given.alloc, given.lines)?;
@@ -98,6 +101,11 @@ fn serving_over(given: &Given<'_>, session: Session) -> Result<Serving, Fault> {
         written: Vec::with_capacity(given.alloc, ROOM)?,
         whole,
     })
+}
+
+fn whole_trace(given: &Given<'_>) -> Result<Vec<u8>, Fault> {
+    let Traced { events: _, bytes } = trace_script(given.alloc, given.text, Form::Whole)?;
+    Ok(bytes)
 }
 
 // What a session that meets no refusal replies to the lines.
@@ -122,7 +130,12 @@ impl Serving {
             rest: self.input.as_slice(),
             reads: 0,
         };
-        let served = serve(&mut self.session, &mut reader, &mut self.written, &mut NoSource);
+        let served = serve(
+            &mut self.session,
+            &mut reader,
+            &mut self.written,
+            &mut NoSource,
+        );
         match served {
             Ok(()) => Answer::done(reader.reads),
             Err(fault) => Answer::refused(fault as u32, reader.reads),
@@ -132,8 +145,18 @@ impl Serving {
     fn run(&mut self) -> Answer {
         let mut reader = self.input.as_slice();
         let run = match self.call {
-            Call::Replay => replay(self.alloc, self.run.as_slice(), &mut reader, &mut self.written),
-            _ => walk(self.alloc, self.run.as_slice(), &mut reader, &mut self.written),
+            Call::Replay => replay(
+                self.alloc,
+                self.run.as_slice(),
+                &mut reader,
+                &mut self.written,
+            ),
+            _ => walk(
+                self.alloc,
+                self.run.as_slice(),
+                &mut reader,
+                &mut self.written,
+            ),
         };
         match run {
             Ok(()) => Answer::done(self.written.len() as u64),

@@ -62,8 +62,8 @@ pub trait Situation: Drop {
 }
 
 /// Makes the call of a situation while a growth is refused.
-pub fn try_situation<S: Situation>(
-    rt: &(impl Print + Eprint),
+pub fn try_situation<S: Situation, R: Print + Eprint>(
+    rt: &R,
     given: &Given<'_>,
 ) -> Result<(), Fault> {
     let mut subject = S::make(given)?;

@@ -4,11 +4,9 @@ use crate::comparing::Compared;
 use crate::fault::Fault;
 use crate::plan::Call;
 use crate::situation::{Answer, Given, Situation};
-use debug_server::{Form, trace_script};
+use debug_server::{Form, Traced, trace_script};
 use machine::{Event, Setup};
-use script::{
-    Script, migrate, read_script, read_trace, read_trace2, write_trace, write_trace2,
-};
+use script::{Script, migrate, read_script, read_trace, read_trace2, write_trace, write_trace2};
 use std::alloc::{AllocError, Global};
 
 /// What a call found or made.
@@ -74,13 +72,13 @@ fn spelling_over(given: &Given<'_>, script: Script) -> Result<Spelling, Fault> {
         _ => Form::Events,
     };
     let text = Vec::from_slice(given.alloc, given.text)?;
-    let trace = trace_script(given.alloc, given.text, form)?.bytes;
+    let Traced { events: _, bytes } = trace_script(given.alloc, given.text, form)?;
     Ok(Spelling {
         alloc: given.alloc,
         call: given.plan.call,
         script,
         text,
-        trace,
+        trace: bytes,
         found: Found::Nothing,
     })
 }

@@ -85,12 +85,12 @@ fn event_at(script: &Script, moment: usize) -> Event {
 /// The state at a moment of a script's schedule.
 pub fn state_at(alloc: Global, script: &Script, moment: usize) -> Result<State, Fault> {
     let mut state = State::new(alloc, script.setup())?;
-    run(&mut state, script.schedule(), moment)?;
+    run_first(&mut state, script.schedule(), moment)?;
     Ok(state)
 }
 
-// Runs the first events.
-fn run(state: &mut State, events: &[Event], count: usize) -> Result<(), Fault> {
+/// Runs the first events.
+pub fn run_first(state: &mut State, events: &[Event], count: usize) -> Result<(), Fault> {
     for event in events.iter().take(count) {
         state.step(*event)?;
     }
