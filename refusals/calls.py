@@ -26,7 +26,7 @@ def check_refused(situation, done, before):
     else:
         wanted = [(number, answer[1] if more is None else more) for number, more in situation.refused]
         require(answer in wanted, f"answer {answer}, and not {situation.refused}")
-    require(stood[0] == 0 and stood[1] > 0, f"behind the refusal {stood[0]} of {stood[1]} differ")
+    require(stood[0] == 0 and (stood[1] > 0 or situation.call == "open"), f"behind the refusal {stood[0]} of {stood[1]} differ")
     require(left[0] == 0 and left[1] > 0, f"at the end {left[0]} of {left[1]} differ")
     if situation.closes:
         require(again == (4, 0), f"answered again {again} and not as closed")

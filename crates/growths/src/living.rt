@@ -123,7 +123,12 @@ fn drive_on<L: Ledger>(
     }
     let event = events.get(from).copied().ok_or(Fault::Missing("event"))?;
     let seat = seat_of(live.setup(), seats, event)?;
-    act_beside(rt, given, live, seat, events, event)
+    let calling = Calling {
+        plan: given.plan,
+        events,
+        event,
+    };
+    act_beside(rt, given.alloc, live, seat, calling)
 }
 
 // The seat of an event's actor: a thread's, or else the poller's, or that of the kernel worker behind it.
@@ -141,47 +146,84 @@ fn seat_of<'a, L: Ledger>(
     seats.get_mut(place).ok_or(Fault::Missing("seat"))
 }
 
+/// A call of a live run.
+#[derive(Clone, Copy)]
+struct Calling<'a> {
+    plan: Plan<'a>,
+    /// The run's events, and others that may come.
+    events: &'a [Event],
+    /// The event that comes next.
+    event: Event,
+}
+
 // Makes the call beside a state that the same events led to.
 fn act_beside<L: Ledger>(
     rt: &(impl Print + Eprint),
-    given: &Given<'_>,
+    alloc: Global,
     live: &mut Live<L>,
     seat: &mut Seat<L>,
-    events: &[Event],
-    event: Event,
+    calling: Calling<'_>,
 ) -> Result<(), Fault> {
-    let mut twin = State::new(given.alloc, live.setup())?;
-    run_first(&mut twin, events, given.plan.from)?;
-    act(rt, given, live, seat, &mut twin, event)
+    let mut twin = State::new(alloc, live.setup())?;
+    run_first(&mut twin, calling.events, calling.plan.from)?;
+    let mut told = Vec::from_slice(alloc, seat.receipts())?;
+    act(rt, live, seat, &mut twin, &mut told, calling)
 }
 
 fn act<L: Ledger>(
     rt: &(impl Print + Eprint),
-    given: &Given<'_>,
     live: &mut Live<L>,
     seat: &mut Seat<L>,
     twin: &mut State,
-    event: Event,
+    told: &mut Vec<Receipt>,
+    calling: Calling<'_>,
 ) -> Result<(), Fault> {
-    let plan = given.plan;
-    let mut told = Vec::from_slice(given.alloc, seat.receipts())?;
-    arm(rt, plan.number)?;
-    let answer = make_call(plan, live, seat, event);
+    let from = calling.plan.from;
+    arm(rt, calling.plan.number)?;
+    let answer = make_call(live, seat, calling);
     disarm(rt)?;
     let (mut stood, mut again) = (Compared::default(), answer);
     if answer.number != 0 {
-        compare(&mut stood, live, seat, twin, told.as_slice());
-        again = make_call(plan, live, seat, event);
+        stood = compare(
+            live,
+            seat,
+            twin,
+            told.as_slice(),
+            first_of(calling.events, from),
+        );
+        again = make_call(live, seat, calling);
     }
-    if plan.call == Call::Attempt || plan.call == Call::TakeOffer {
-        twin.step(event)?;
-        told.push(receipt(seat.actor(), plan.from, event))
-            .map_err(AllocError::from)?;
-    }
-    let mut left = Compared::default();
-    compare(&mut left, live, seat, twin, told.as_slice());
-    let first = Answer::done(plan.from as u64);
+    let count = go_on(twin, told, seat.actor(), calling)?;
+    let left = compare(
+        live,
+        seat,
+        twin,
+        told.as_slice(),
+        first_of(calling.events, count),
+    );
+    let first = Answer::done(from as u64);
     Ok(tell(rt, (answer, again, first), (stood, left))?)
+}
+
+fn first_of(events: &[Event], count: usize) -> &[Event] {
+    events.get(..count).unwrap_or(events)
+}
+
+// What a call that changes the run leads to. Tells how many events there are.
+fn go_on(
+    twin: &mut State,
+    told: &mut Vec<Receipt>,
+    actor: u32,
+    calling: Calling<'_>,
+) -> Result<usize, Fault> {
+    let Calling { plan, event, .. } = calling;
+    if plan.call != Call::Attempt && plan.call != Call::TakeOffer {
+        return Ok(plan.from);
+    }
+    twin.step(event)?;
+    told.push(receipt(actor, plan.from, event))
+        .map_err(AllocError::from)?;
+    Ok(plan.from.saturating_add(1))
 }
 
 fn receipt(actor: u32, moment: usize, event: Event) -> Receipt {
@@ -193,20 +235,15 @@ fn receipt(actor: u32, moment: usize, event: Event) -> Receipt {
 }
 
 // The call. It tells a moment, or how many events there are.
-fn make_call<L: Ledger>(
-    plan: Plan<'_>,
-    live: &mut Live<L>,
-    seat: &mut Seat<L>,
-    event: Event,
-) -> Answer {
-    match plan.call {
-        Call::Attempt => answer_of(live.attempt(seat, event)),
+fn make_call<L: Ledger>(live: &mut Live<L>, seat: &mut Seat<L>, calling: Calling<'_>) -> Answer {
+    match calling.plan.call {
+        Call::Attempt => answer_of(live.attempt(seat, calling.event)),
         Call::TakeOffer => match live.take_offer(seat) {
             Some(attempted) => answer_of(attempted),
             None => Answer::refused(100, 0),
         },
         Call::Events => count_events(live),
-        _ => look_at_offer(live, seat, event, plan.from),
+        _ => look_at_offer(live, seat, calling),
     }
 }
 
@@ -226,23 +263,33 @@ fn count_events<L: Ledger>(live: &Live<L>) -> Answer {
     }
 }
 
-// Whether the event is what the actor is offered. The moment is that of the actor's next event.
-fn look_at_offer<L: Ledger>(live: &Live<L>, seat: &Seat<L>, event: Event, moment: usize) -> Answer {
-    if live.offer(seat.actor()) == Some(event) {
-        Answer::done(moment as u64)
+// Whether the event is what the actor is offered. It tells the moment of the actor's next event.
+fn look_at_offer<L: Ledger>(live: &Live<L>, seat: &Seat<L>, calling: Calling<'_>) -> Answer {
+    if live.offer(seat.actor()) == Some(calling.event) {
+        Answer::done(calling.plan.from as u64)
     } else {
         Answer::refused(100, 0)
     }
 }
 
-// Compares a live run with a state, and what a seat was told with what it should be.
+// Compares a live run with a state, what a seat was told with what it should be, and the trace with events.
 fn compare<L: Ledger>(
-    compared: &mut Compared,
     live: &Live<L>,
     seat: &Seat<L>,
     twin: &State,
     told: &[Receipt],
-) {
-    compare_states(compared, live.setup(), live.state(), twin);
+    events: &[Event],
+) -> Compared {
+    let mut compared = Compared::default();
+    compare_states(&mut compared, live.setup(), live.state(), twin);
     compared.count(seat.receipts() == told);
+    compared.count(has_events(live, events));
+    compared
+}
+
+fn has_events<L: Ledger>(live: &Live<L>, events: &[Event]) -> bool {
+    match live.events() {
+        Ok(found) => found.as_slice() == events,
+        Err(_) => false,
+    }
 }

@@ -5,7 +5,7 @@ use crate::fault::Fault;
 use crate::plan::Call;
 use crate::situation::{Answer, Given, Situation};
 use crate::talking::{answer_of, session_over};
-use debug_server::{Form, NoSource, Session, Traced, replay, serve, trace_script, walk};
+use debug_server::{Form, NoSource, RunFault, Session, Traced, replay, serve, trace_script, walk};
 use script::read_script;
 use std::alloc::Global;
 use std::io;
@@ -65,7 +65,8 @@ impl Situation for Serving {
         serving_over(given, session)
     }
 
-    // Behind a number of a fault stands how many reads there were, behind that of a run's fault what it names.
+    // Behind the number of a session's fault stands how many reads there were, behind that of a run's fault what it
+    // names, or for want of memory how many bytes were written.
     fn call(&mut self) -> Answer {
         self.written.clear();
         match self.call {
@@ -158,8 +159,10 @@ impl Serving {
                 &mut self.written,
             ),
         };
+        let written = self.written.len() as u64;
         match run {
-            Ok(()) => Answer::done(self.written.len() as u64),
+            Ok(()) => Answer::done(written),
+            Err(RunFault::Memory) => Answer::refused(4, written),
             Err(fault) => answer_of(fault),
         }
     }

@@ -111,7 +111,7 @@ fn first_events(script: &Script, count: usize) -> &[Event] {
 // Says the lines behind the first.
 fn say(session: &mut Session, lines: &[String]) -> Result<(), Fault> {
     for line in lines.iter().skip(1) {
-        session.line(line.as_bytes(), None)?;
+        session.line(line.as_str().as_bytes(), None)?;
     }
     Ok(())
 }
