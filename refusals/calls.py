@@ -5,6 +5,8 @@ from room import Wrong, numbers_of, require
 
 # Less than this was not compared of a state.
 LEAST_PLACES = 65536
+# Up to here a growth is refused with all later ones too.
+MOST_OF_ALL = 100
 ANSWERS = re.compile(r"answer (\d+) (\d+), again (\d+) (\d+), first (\d+) (\d+)\ndiffer (\d+) of (\d+), then (\d+) of (\d+)\n$")
 
 
@@ -64,15 +66,18 @@ def try_situation(room, situation):
     done, reached, count = room.ran(situation_words(room, situation, 0), "growth", "one", None, given)
     check_unrefused(situation, done)
     require(count > 0, "it met no refusal")
-    numbers, before, how = numbers_of(count), (0, 0), "one"
-    for number in numbers + [count + 1]:
-        try:
-            done, reached, _ = room.ran(situation_words(room, situation, number), "growth", how, None, given)
-            require(reached == (number <= count), f"growth {number} of {count} was{'' if reached else ' not'} reached")
-            if reached:
+    runs, refusals = 1, 0
+    for how, numbers in (("one", numbers_of(count)), ("all", range(1, min(count, MOST_OF_ALL) + 1))):
+        before = (0, 0)
+        for number in numbers:
+            try:
+                done, reached, _ = room.ran(situation_words(room, situation, number), "growth", how, None, given)
+                require(reached, "it was not reached")
                 before = check_refused(situation, done, before)
-            else:
-                check_unrefused(situation, done)
-        except Wrong as wrong:
-            raise Wrong(f"growth {number} of {count}: {wrong}") from wrong
-    return len(numbers) + 2, len(numbers), count
+            except Wrong as wrong:
+                raise Wrong(f"growth {number} of {count}, {how}: {wrong}") from wrong
+        refusals += len(numbers)
+    done, reached, _ = room.ran(situation_words(room, situation, count + 1), "growth", "one", None, given)
+    require(not reached, f"behind growth {count} there is another")
+    check_unrefused(situation, done)
+    return runs + refusals + 1, refusals, 2 * count
