@@ -1,7 +1,7 @@
 """Calls of the program `growths`, each of whose growths is refused in turn."""
 import re
 
-from room import Wrong, numbers_of, require
+from room import Wrong, note_of, numbers_of, require
 
 # Less than this was not compared of a state.
 LEAST_PLACES = 65536
@@ -59,10 +59,10 @@ def situation_words(room, situation, number):
 
 
 def try_situation(room, situation):
-    """Returns how many runs of a call were as they should be, and how many growths it has."""
+    """Returns how many runs of a call were as they should be, how many refusals there were, and what is said of it."""
     given = room.lines_of(situation.asked)
     if situation.quiet:
-        return try_quiet(room, situation, given), 0, 0
+        return try_quiet(room, situation, given), 0, ""
     done, reached, count = room.ran(situation_words(room, situation, 0), "growth", "one", None, given)
     check_unrefused(situation, done)
     require(count > 0, "it met no refusal")
@@ -80,4 +80,4 @@ def try_situation(room, situation):
     done, reached, _ = room.ran(situation_words(room, situation, count + 1), "growth", "one", None, given)
     require(not reached, f"behind growth {count} there is another")
     check_unrefused(situation, done)
-    return runs + refusals + 1, refusals, 2 * count
+    return runs + refusals + 1, refusals, note_of(numbers_of(count), count)

@@ -4,7 +4,7 @@ import random
 import shutil
 import tempfile
 
-from room import numbers_of, require
+from room import note_of, numbers_of, require
 
 LINES = b"where\nshow got 0\ngoto 3\nwatch cq.tail\nbreak last 0 = 1\ncont\nrcont\nshow row 0\nsync\nwhere\nquit\n"
 OLD = b"what stood there"
@@ -113,7 +113,7 @@ def refuse_growths(job):
                     f"growth {number} of {count}: {shown(done)}, files {sorted(files)}")
         done, files, reached, _ = job.run(room, "growth", "one", count + 1)
         require(not reached and expected.is_whole(done, files), f"behind the last growth: {shown(done)}")
-        return len(numbers) + 1, len(numbers), count
+        return len(numbers) + 1, len(numbers), note_of(numbers, count)
     return trial
 
 
@@ -128,7 +128,7 @@ def refuse_growths_of_a_text(job):
             require(reached, f"growth {number} of {count} was not reached")
             told = done.returncode == 1 and done.stderr == NO_MEMORY and not done.stdout
             require(told and files == expected.before, f"growth {number} of {count}: {shown(done)}")
-        return count, count, count
+        return count, count, ""
     return trial
 
 
@@ -167,7 +167,7 @@ def refuse_growths_of_threads(room):
         met += reached
         require(is_live_run(room, done, files), f"growth {number}: {shown(done)}, files {sorted(files)}")
     require(met > 0, "it met no refusal")
-    return LIVE_RUNS, met, met
+    return LIVE_RUNS, met, ""
 
 
 # ---- reads and writes
@@ -189,7 +189,7 @@ def fail_reads(job, how):
             require(right, f"read {number}: {shown(done)}, files {sorted(files)}")
             number, met = number + 1, met + 1
         require(met > 0 and expected.is_whole(done, files), f"{met} reads were met, and then {shown(done)}")
-        return met + 1, met, met
+        return met + 1, met, ""
     return trial
 
 
@@ -214,7 +214,7 @@ def fail_writes(job, what, how):
             require(right, f"{what} {number}: {shown(done)}, files {sorted(files)}")
             number, met = number + 1, met + 1
         require(met > 0 and expected.is_whole(done, files), f"{met} were met, and then {shown(done)}")
-        return met + 1, met, met
+        return met + 1, met, ""
     return trial
 
 
@@ -253,7 +253,7 @@ def kill(job, how):
             require(is_left(files, before, whole, beginning), f"killed at {number}: files {sorted(files)}")
             number += 1
         require(number > 3 and done.returncode == 0, f"{number - 1} were met, and then {shown(done)}")
-        return number, number - 1, number - 1
+        return number, number - 1, ""
     return trial
 
 

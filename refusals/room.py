@@ -73,3 +73,8 @@ def numbers_of(count):
         return list(range(1, count + 1))
     step = (count - FIRST) / SPREAD
     return list(range(1, FIRST + 1)) + [FIRST + int(step * (k + 1)) for k in range(SPREAD)]
+
+
+def note_of(numbers, count):
+    """What is said where not all growths are refused."""
+    return "" if len(numbers) == count else f"the first {FIRST} and {SPREAD} more of {count} growths were refused"
