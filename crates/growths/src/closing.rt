@@ -142,7 +142,7 @@ fn redeem_all(rt: &(impl Print + Eprint), given: &Given<'_>, closed: &Closed) ->
     let left = redeemed(closed);
     disarm(rt)?;
     let answer = Answer::done(closed.events().len() as u64);
-    Ok(tell(rt, (answer, answer, answer), (Compared::default(), left))?)
+    tell(rt, (answer, answer, answer), (Compared::default(), left))
 }
 
 // Whether each receipt is redeemed for its own event.

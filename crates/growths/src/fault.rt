@@ -32,6 +32,8 @@ pub enum Fault {
     File(FileFault),
     #[error("there is no {0}")]
     Missing(&'static str),
+    #[error("values differ")]
+    Differs,
     #[error("memory")]
     Memory(#[from] AllocError),
     #[error("{0}")]

@@ -33,7 +33,7 @@ fn try_open(rt: &(impl Print + Eprint), given: &Given<'_>, script: &Script) -> R
     let setup = script.setup();
     let (answer, stood) = opened(rt, given.alloc, setup, &state, given.plan.number)?;
     let (first, left) = opened(rt, given.alloc, setup, &state, 0)?;
-    Ok(tell(rt, (answer, first, first), (stood, left))?)
+    tell(rt, (answer, first, first), (stood, left))
 }
 
 fn opened<R: Eprint>(
@@ -202,7 +202,7 @@ fn act<L: Ledger>(
         first_of(calling.events, count),
     );
     let first = Answer::done(from as u64);
-    Ok(tell(rt, (answer, again, first), (stood, left))?)
+    tell(rt, (answer, again, first), (stood, left))
 }
 
 fn first_of(events: &[Event], count: usize) -> &[Event] {

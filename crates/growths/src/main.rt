@@ -81,7 +81,15 @@ fn try_words(
     try_plan(rt, &given)
 }
 
-// Does what the words ask for. The status is 2 where they aren't read, and 1 where the call couldn't be made.
+fn status_of(fault: &Fault) -> u8 {
+    match fault {
+        Fault::Differs => 3,
+        _ => 1,
+    }
+}
+
+// Does what the words ask for. The status is 3 where values differ, 2 where the words aren't read, and 1 where the call
+// couldn't be made.
 fn run(
     rt: &(impl Files + Input + Print + Eprint + AllocGlobal),
     words: &[String],
@@ -90,11 +98,13 @@ fn run(
         eprintln!(rt; "{WORDS}")?;
         return Ok(ExitCode::from(2));
     };
-    if let Err(fault) = try_words(rt, plan) {
-        eprintln!(rt; "{fault}")?;
-        return Ok(ExitCode::from(1));
+    match try_words(rt, plan) {
+        Ok(()) => Ok(ExitCode::SUCCESS),
+        Err(fault) => {
+            eprintln!(rt; "{fault}")?;
+            Ok(ExitCode::from(status_of(&fault)))
+        }
     }
-    Ok(ExitCode::SUCCESS)
 }
 
 fn main(rt: HostRuntime) -> io::Result<ExitCode> {

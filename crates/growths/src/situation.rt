@@ -77,7 +77,7 @@ fn try_beside<S: Situation>(
     given: &Given<'_>,
 ) -> Result<(), Fault> {
     let mut twin = S::make(given)?;
-    Ok(try_call(rt, subject, &mut twin, given.plan.number)?)
+    try_call(rt, subject, &mut twin, given.plan.number)
 }
 
 // What a call answered while a growth was refused.
@@ -97,7 +97,7 @@ fn try_call<S: Situation>(
     subject: &mut S,
     twin: &mut S,
     number: u32,
-) -> io::Result<()> {
+) -> Result<(), Fault> {
     let answer = refused_call(rt, subject, number)?;
     let (mut stood, mut again) = (Compared::default(), answer);
     if answer.number != 0 {
@@ -125,7 +125,11 @@ pub fn tell(
     rt: &impl Print,
     (answer, again, first): (Answer, Answer, Answer),
     (stood, left): (Compared, Compared),
-) -> io::Result<()> {
+) -> Result<(), Fault> {
     println!(rt; "answer {answer}, again {again}, first {first}")?;
-    println!(rt; "differ {stood}, then {left}")
+    println!(rt; "differ {stood}, then {left}")?;
+    if stood.differ > 0 || left.differ > 0 {
+        return Err(Fault::Differs);
+    }
+    Ok(())
 }
