@@ -11,7 +11,7 @@ ANSWERS = re.compile(r"answer (\d+) (\d+), again (\d+) (\d+), first (\d+) (\d+)\
 
 
 def answers(done):
-    require(done.returncode == 0, f"status {done.returncode}: {done.stderr.decode().strip()}")
+    require(done.returncode in (0, 3), f"status {done.returncode}: {done.stderr.decode().strip()}")
     found = ANSWERS.match(done.stdout.decode())
     require(found, f"it told {done.stdout.decode()!r}")
     told = list(map(int, found.groups()))
