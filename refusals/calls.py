@@ -1,12 +1,12 @@
-"""Calls of the program `growths`, each of whose growths is refused in turn."""
+"""Calls of the program `growths`, each of whose growths is refused in turn, alone and with all later ones.
+
+Where one alone is refused a call may go on with less: a list that can't have room for twice its items asks for one more."""
 import re
 
 from room import Wrong, note_of, numbers_of, require
 
 # Less than this was not compared of a state.
 LEAST_PLACES = 65536
-# Up to here a growth is refused with all later ones too.
-MOST_OF_ALL = 100
 ANSWERS = re.compile(r"answer (\d+) (\d+), again (\d+) (\d+), first (\d+) (\d+)\ndiffer (\d+) of (\d+), then (\d+) of (\d+)\n$")
 
 
@@ -66,18 +66,21 @@ def try_situation(room, situation):
     done, reached, count = room.ran(situation_words(room, situation, 0), "growth", "one", None, given)
     check_unrefused(situation, done)
     require(count > 0, "it met no refusal")
-    runs, refusals = 1, 0
-    for how, numbers in (("one", numbers_of(count)), ("all", range(1, min(count, MOST_OF_ALL) + 1))):
+    numbers, refusals = numbers_of(count), 0
+    for how in ("one", "all"):
         before = (0, 0)
         for number in numbers:
             try:
                 done, reached, _ = room.ran(situation_words(room, situation, number), "growth", how, None, given)
                 require(reached, "it was not reached")
-                before = check_refused(situation, done, before)
+                if how == "one" and answers(done)[0][0] == 0:
+                    check_unrefused(situation, done)
+                else:
+                    before = check_refused(situation, done, before)
+                    refusals += 1
             except Wrong as wrong:
                 raise Wrong(f"growth {number} of {count}, {how}: {wrong}") from wrong
-        refusals += len(numbers)
     done, reached, _ = room.ran(situation_words(room, situation, count + 1), "growth", "one", None, given)
     require(not reached, f"behind growth {count} there is another")
     check_unrefused(situation, done)
-    return runs + refusals + 1, refusals, note_of(numbers_of(count), count)
+    return 2 * len(numbers) + 2, refusals, note_of(numbers, count)

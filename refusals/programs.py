@@ -20,6 +20,7 @@ class Job:
 
     def __init__(self, name, words, over="one_nop", out=None, given=b""):
         self.name, self.words, self.over, self.out, self.given = name, words, over, out, given
+        self.serves = words[0] in ("walk", "replay")
 
     def run(self, room, what, how, number):
         """Runs the words under the shim. Returns what ran, the files behind it, whether the refusal was reached, and how
@@ -98,37 +99,27 @@ FIXED = (WALK, REPLAY, LOG, LOG_TRACE, TRACE, TRACE_1, MIGRATE)
 # ---- memory
 
 def refuse_growths(job):
-    """Want of memory is told by its line; what was written is a beginning, and the files are as they were."""
+    """Want of memory is told by its line; what was written is a beginning, and the files are as they were. Where one growth
+    alone is refused the program may go on with less."""
     def trial(room):
         expected = Expected(job, room)
         _, _, _, count = job.run(room, "growth", "one", 0)
         require(count > 0, "it met no refusal")
-        numbers, serves = numbers_of(count), job.given and job.words[0] != "live"
-        for number in numbers:
-            done, files, reached, _ = job.run(room, "growth", "one", number)
-            require(reached, f"growth {number} of {count} was not reached")
-            fault = MEMORY if serves and done.stderr == MEMORY else NO_MEMORY
-            written = fault == MEMORY or job.words[0] == "log"
-            require(expected.is_cut(done, files, fault, written) and files == expected.before,
-                    f"growth {number} of {count}: {shown(done)}, files {sorted(files)}")
+        numbers, refused = numbers_of(count), 0
+        for how in ("one", "all"):
+            for number in numbers:
+                done, files, reached, _ = job.run(room, "growth", how, number)
+                require(reached, f"growth {number} of {count}, {how}, was not reached")
+                if how == "one" and expected.is_whole(done, files):
+                    continue
+                fault = MEMORY if job.serves and done.stderr == MEMORY else NO_MEMORY
+                written = fault == MEMORY or job.words[0] == "log"
+                require(expected.is_cut(done, files, fault, written) and files == expected.before,
+                        f"growth {number} of {count}, {how}: {shown(done)}, files {sorted(files)}")
+                refused += 1
         done, files, reached, _ = job.run(room, "growth", "one", count + 1)
         require(not reached and expected.is_whole(done, files), f"behind the last growth: {shown(done)}")
-        return len(numbers) + 1, len(numbers), note_of(numbers, count)
-    return trial
-
-
-def refuse_growths_of_a_text(job):
-    """Where the text on words can't be made, that is told, or the words are."""
-    def trial(room):
-        expected = Expected(job, room)
-        _, _, _, count = job.run(room, "growth", "one", 0)
-        require(count > 0, "it met no refusal")
-        for number in range(1, count + 1):
-            done, files, reached, _ = job.run(room, "growth", "one", number)
-            require(reached, f"growth {number} of {count} was not reached")
-            told = done.returncode == 1 and done.stderr == NO_MEMORY and not done.stdout
-            require(told and files == expected.before, f"growth {number} of {count}: {shown(done)}")
-        return count, count, ""
+        return 2 * len(numbers) + 1, refused, note_of(numbers, count)
     return trial
 
 
@@ -258,10 +249,8 @@ def kill(job, how):
 
 
 def all_trials():
-    for job in FIXED:
+    for job in FIXED + (HELP, WRONG_WORDS):
         yield f"growths of {job.name}", refuse_growths(job)
-    for job in (HELP, WRONG_WORDS):
-        yield f"growths of {job.name}", refuse_growths_of_a_text(job)
     yield "growths of live", refuse_growths_of_threads
     for job in FIXED:
         for how in ("eio", "eintr"):
