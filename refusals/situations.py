@@ -177,6 +177,7 @@ def calls_of_states():
         yield Situation("break", name)
         yield Situation("session", name, asked=name, refused=((4, 0),))
         yield Situation("session_of", name, 0, whole, asked=name, refused=((4, 0),))
+        yield Situation("session_live", name, asked=name, refused=((4, 0),))
 
 
 def calls_of_walkers():

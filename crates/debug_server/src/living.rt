@@ -14,26 +14,17 @@ ghost use Rattle.debug_server.specs.Transcripts.{streams};
 ghost use Rattle.debug_server.specs.Walked.{Walked, BrokenOff};
 
 use crate::faults::{Fault, RunFault};
+use crate::scripts::script_of;
 use crate::tracing::Traced;
 use crate::walking::walk_events;
-use live_runner::{Closed, Gate, LiveFault, run_live};
-use script::{Script, ScriptFault, read_script};
+use live_runner::{AlwaysOpen, Closed, LiveFault, run_live};
+use script::Script;
 use std::alloc::{AllocError, Global};
 use std::io::{Read, Write};
 use std::sync::Wait;
 use std::thread::Threads;
 use std::time::Clock;
 use traces::write_trace2;
-
-/// A gate at which nobody waits.
-#[derive(Clone, Copy)]
-struct Free;
-
-impl Gate for Free {
-    fn arrive<R: Wait + Clock>(&self, _rt: &R, _actor: u32, _turn: u32) -> bool {
-        true
-    }
-}
 
 /// Reads a script, and runs a thread for each actor of its setup, each of which makes so many turns. The
 /// schedule isn't run.
@@ -50,10 +41,9 @@ pub fn live_script<R: Threads + Wait + Clock + Sync>(
     ensures script { IfErr result (λ e. (f : ScriptFault) → e ≡ Fault.Run (RunFault.Script f) → Reads text.now (Err f)) }
     ensures other { IfErr result IsOfLive }
 {
-    let script = match read_script(alloc, text) {
+    let script = match script_of(alloc, text) {
         Ok(script) => script,
-        Err(ScriptFault::Memory) => return Err(Fault::Run(RunFault::Memory)),
-        Err(fault) => return Err(Fault::Run(RunFault::Script(fault))),
+        Err(fault) => return Err(Fault::Run(fault)),
     };
     match run_setup(rt, alloc, &script, turns, kernel) {
         Ok(closed) => Ok(closed),
@@ -74,7 +64,7 @@ fn run_setup<R: Threads + Wait + Clock + Sync>(
     ensures same { IfOk result (λ c. (c.setup ≡ script.now.setup) × (c.actors ≡ actors script.now.setup kernel)) }
     ensures other { IfErr result IsOfRunning }
 {
-    run_live(rt, alloc, script.setup(), kernel, turns, &Free)
+    run_live(rt, alloc, script.setup(), kernel, turns, &AlwaysOpen)
 }
 
 /// Replies to the lines that the reader gives, over a run that was closed.

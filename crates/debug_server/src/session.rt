@@ -8,7 +8,7 @@ ghost use Rattle.inverse_log.specs.Walks.{ending, fresh, jumped, extended};
 ghost use Rattle.debug_server.specs.Kinds.{IsOf, OfSchedule, OfMemory};
 ghost use Rattle.debug_server.specs.Replies.{reply};
 ghost use Rattle.debug_server.specs.Schedules.{state_over, StopsBy, fault_of};
-ghost use Rattle.debug_server.specs.SessionStates.{Runs};
+ghost use Rattle.debug_server.specs.SessionStates.{Runs, without_stops};
 
 use crate::answering;
 use crate::faults::RunFault;
@@ -70,6 +70,18 @@ impl Session {
         session_of(alloc, setup, events)
     }
 
+    /// A session over a script's setup that has no events and runs none: a source may give it some. A new
+    /// session is open.
+    pub fn live(alloc: Global, script: &Script) -> Result<Session, RunFault>
+        ensures ok { IfOk result (λ s. s ≡ record { state = without_stops (fresh script.now.setup); is_closed = false }) }
+        ensures err { IfErr result (λ e. e ≡ RunFault.Memory) }
+    {
+        match Walker::new(alloc, script.setup()) {
+            Ok(walker) => Ok(over_walk(alloc, walker)),
+            Err(_) => Err(RunFault::Memory),
+        }
+    }
+
     /// Replies to one line. An `Err` changes nothing. The answer, what a source gave, counts for the
     /// commands that ask it. Whether the session is closed is neither asked nor changed.
     pub fn line(&mut self, line: &[u8], answer: Option<&[Event]>) -> Result<Vec<u8>, AllocError>
@@ -109,15 +121,22 @@ fn session_of(alloc: Global, setup: &Setup, events: &[Event]) -> Result<Session,
         return Err(RunFault::Memory);
     };
     match run_through(&mut walker, events) {
-        Ok(()) => Ok(Session {
-            alloc,
-            visitor: Visitor {
-                walker,
-                watches: Watches::new(alloc),
-            },
-            is_closed: false,
-        }),
+        Ok(()) => Ok(over_walk(alloc, walker)),
         Err(fault) => Err(fault),
+    }
+}
+
+// A session over a walk, which is open, and without watches and breaks.
+fn over_walk(alloc: Global, walker: Walker) -> Session
+    ensures { result ≡ record { state = without_stops walker; is_closed = false } }
+{
+    Session {
+        alloc,
+        visitor: Visitor {
+            walker,
+            watches: Watches::new(alloc),
+        },
+        is_closed: false,
     }
 }
 

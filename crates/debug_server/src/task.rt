@@ -34,6 +34,19 @@ pub enum Job<'a> {
         kernel: u32,
         out: Option<&'a str>,
     },
+    /// Clients on a port of loopback, each with a session of its own over such a run while it goes on; it ends
+    /// once so many sessions have, or goes on.
+    Serve {
+        script: &'a str,
+        /// From 1 on.
+        port: u16,
+        /// 1 to 1000000.
+        turns: u32,
+        /// 1 to 8.
+        kernel: u32,
+        /// 1 to 1000000.
+        clients: Option<u32>,
+    },
     /// The trace of a script's schedule.
     Trace {
         script: &'a str,

@@ -1,6 +1,6 @@
 //! The program's words.
 ghost use Rattle.std.specs.Prelude.{◌↔◌, IsTrue, IfOk, IfNone};
-ghost use Rattle.debug_server.specs.Jobs.{LosesScript, IsInRange};
+ghost use Rattle.debug_server.specs.Jobs.{LosesScript, IsInRange, AreInRange, AreClients};
 
 use crate::task::{Form, Job};
 use clap::error::ErrorKind;
@@ -24,6 +24,9 @@ const LOGGED: &str =
 const LIVE: &str =
     "A thread runs each thread of the script, the poller if there is one, and each kernel worker, all side by side; the script's schedule isn't run. It prints how many events there were, as closed E, and then answers commands as walk does. Another run may go another way: OUT keeps this one, for replay. Example:\n  uringwalk live examples/words_in_a_pipe/script.json --trace words.trace <examples/words_in_a_pipe/stdin\n  echo where | uringwalk replay words.trace";
 
+const SERVE: &str =
+    "The script's threads, the poller if there is one, and the kernel workers run as live runs them. It listens on 127.0.0.1 alone, prints port P, and answers each client's commands over a session of the client's own, which begins without events: sync takes over what the run has got meanwhile. Up to 16 clients are served at once, and more wait. Example:\n  uringwalk serve examples/words_in_a_pipe/script.json --port 7001 --clients 2 &\n  printf 'sync\\nwhere\\nquit\\n' | nc 127.0.0.1 7001";
+
 const ONTO_SCRIPT: &str = "OUT is SCRIPT's own file: the trace would take the script's place";
 
 const SCRIPT: &str = "A script: a setup, programs and a schedule, as JSON";
@@ -42,9 +45,17 @@ const MOST_WORKERS: u32 = 8;
 /// How many there are where the words don't say.
 const DEFAULT_WORKERS: u32 = 2;
 
+/// The most sessions after which a server ends.
+const MOST_SESSIONS: u32 = 1000000;
+
 const BEYOND_TURNS: &str = "invalid value for '--turns <N>': a number from 1 to 1000000 is wanted";
 
 const BEYOND_WORKERS: &str = "invalid value for '--kernel <Q>': a number from 1 to 8 is wanted";
+
+const BEYOND_PORTS: &str = "invalid value for '--port <P>': a number from 1 to 65535 is wanted";
+
+const BEYOND_SESSIONS: &str =
+    "invalid value for '--clients <C>': a number from 1 to 1000000 is wanted";
 
 // A word that names a file.
 fn file<'a>(alloc: Global, name: &'a str, help: &'a str) -> Arg<'a> {
@@ -136,28 +147,62 @@ fn file_option<'a>(alloc: Global, name: &'a str, word: &'a str, help: &'a str) -
         .action(ArgAction::Set)
 }
 
+fn turns_option<'a>(alloc: Global) -> Arg<'a> {
+    number(
+        alloc,
+        "N",
+        "turns",
+        "How many turns each makes, 1 to 1000000; where left out, 1000",
+    )
+}
+
+fn workers_option<'a>(alloc: Global) -> Arg<'a> {
+    number(
+        alloc,
+        "Q",
+        "kernel",
+        "How many kernel workers there are, 1 to 8; where left out, 2",
+    )
+}
+
 fn live_words<'a>(alloc: Global) -> Result<Command<'a>, AllocError> {
     Command::new(alloc, "live")
         .about("Run a script's threads side by side, and answer commands from standard input")
         .after_help(LIVE)
         .arg(file(alloc, "SCRIPT", SCRIPT))?
-        .arg(number(
-            alloc,
-            "N",
-            "turns",
-            "How many turns each makes, 1 to 1000000; where left out, 1000",
-        ))?
-        .arg(number(
-            alloc,
-            "Q",
-            "kernel",
-            "How many kernel workers there are, 1 to 8; where left out, 2",
-        ))?
+        .arg(turns_option(alloc))?
+        .arg(workers_option(alloc))?
         .arg(file_option(
             alloc,
             "OUT",
             "trace",
             "Where the trace of the run is written to",
+        ))
+}
+
+// The word that says where clients connect.
+fn port_option<'a>(alloc: Global) -> Arg<'a> {
+    Arg::new(alloc, "P")
+        .long("port")
+        .help("The port to listen on, 1 to 65535")
+        .required(true)
+        .value_parser(value_parser!(u16))
+        .action(ArgAction::Set)
+}
+
+fn serve_words<'a>(alloc: Global) -> Result<Command<'a>, AllocError> {
+    Command::new(alloc, "serve")
+        .about("Run a script's threads side by side, and answer commands of many clients meanwhile")
+        .after_help(SERVE)
+        .arg(file(alloc, "SCRIPT", SCRIPT))?
+        .arg(port_option(alloc))?
+        .arg(turns_option(alloc))?
+        .arg(workers_option(alloc))?
+        .arg(number(
+            alloc,
+            "C",
+            "clients",
+            "How many sessions to end after, 1 to 1000000; where left out, it goes on",
         ))
 }
 
@@ -170,6 +215,14 @@ fn form_of(matches: &ArgMatches<'_>) -> Form {
         "1" => Form::Events,
         _ => Form::Whole,
     }
+}
+
+fn turns_of(matches: &ArgMatches<'_>) -> u32 {
+    matches.get_one::<u32>("N").unwrap_or(DEFAULT_TURNS)
+}
+
+fn workers_of(matches: &ArgMatches<'_>) -> u32 {
+    matches.get_one::<u32>("Q").unwrap_or(DEFAULT_WORKERS)
 }
 
 fn job_of<'a>(name: &str, matches: &ArgMatches<'a>) -> Job<'a> {
@@ -193,9 +246,16 @@ fn job_of<'a>(name: &str, matches: &ArgMatches<'a>) -> Job<'a> {
         "replay" => Job::Replay(text_of(matches, "TRACE")),
         "live" => Job::Live {
             script,
-            turns: matches.get_one::<u32>("N").unwrap_or(DEFAULT_TURNS),
-            kernel: matches.get_one::<u32>("Q").unwrap_or(DEFAULT_WORKERS),
+            turns: turns_of(matches),
+            kernel: workers_of(matches),
             out: matches.get_str("OUT"),
+        },
+        "serve" => Job::Serve {
+            script,
+            port: matches.get_one::<u16>("P").unwrap_or(0),
+            turns: turns_of(matches),
+            kernel: workers_of(matches),
+            clients: matches.get_one::<u32>("C"),
         },
         _ => Job::Walk(script),
     }
@@ -213,17 +273,56 @@ fn loses_script(job: Job<'_>) -> bool
             out: Some(out),
             ..
         } => out == script,
-        Job::Walk(_) | Job::Replay(_) | Job::Log { .. } | Job::Live { out: None, .. } => false,
+        Job::Walk(_)
+        | Job::Replay(_)
+        | Job::Log { .. }
+        | Job::Live { out: None, .. }
+        | Job::Serve { .. } => false,
     }
 }
 
-// Which number of a job is out of its range, as a text that tells the range.
+// Which number of a live run is out of its range, as a text that tells the range.
+fn run_out_of_range(turns: u32, kernel: u32) -> Option<&'static str>
+    ensures { IfNone result (AreInRange turns kernel) }
+{
+    if turns < 1 || turns > MOST_TURNS {
+        return Some(BEYOND_TURNS);
+    }
+    if kernel < 1 || kernel > MOST_WORKERS {
+        return Some(BEYOND_WORKERS);
+    }
+    None
+}
+
+// Which number of a server is out of its range.
+fn clients_out_of_range(port: u16, clients: Option<u32>) -> Option<&'static str>
+    ensures { IfNone result (AreClients port clients) }
+{
+    if port < 1 {
+        return Some(BEYOND_PORTS);
+    }
+    match clients {
+        Some(count) if count < 1 || count > MOST_SESSIONS => Some(BEYOND_SESSIONS),
+        _ => None,
+    }
+}
+
+// Which number of a job is out of its range.
 fn out_of_range(job: Job<'_>) -> Option<&'static str>
     ensures { IfNone result (IsInRange job.entry) }
 {
     match job {
-        Job::Live { turns, .. } if turns < 1 || turns > MOST_TURNS => Some(BEYOND_TURNS),
-        Job::Live { kernel, .. } if kernel < 1 || kernel > MOST_WORKERS => Some(BEYOND_WORKERS),
+        Job::Live { turns, kernel, .. } => run_out_of_range(turns, kernel),
+        Job::Serve {
+            port,
+            turns,
+            kernel,
+            clients,
+            ..
+        } => match clients_out_of_range(port, clients) {
+            Some(text) => Some(text),
+            None => run_out_of_range(turns, kernel),
+        },
         _ => None,
     }
 }
@@ -247,7 +346,8 @@ fn program<'a>(alloc: Global) -> Result<Command<'a>, AllocError> {
     let command = with(command, migrate_words(alloc))?;
     let command = with(command, replay_words(alloc))?;
     let command = with(command, log_words(alloc))?;
-    with(command, live_words(alloc))
+    let command = with(command, live_words(alloc))?;
+    with(command, serve_words(alloc))
 }
 
 // What the words ask for, whatever its files and numbers are.

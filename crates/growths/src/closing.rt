@@ -6,25 +6,13 @@ ghost use Rattle.live_runner.specs.History.{InOrder, WorkInOrder};
 use crate::comparing::Compared;
 use crate::fault::Fault;
 use crate::situation::{Answer, Given, arm, disarm, tell};
-use live_runner::{Closed, Gate, Live, Seat, Torn, Worker, actors, finish};
+use live_runner::{AlwaysOpen, Closed, Live, Seat, Torn, Worker, actors, finish};
 use machine::{Event, Setup};
 use opcodes::Choice;
 use script::read_script;
 use std::alloc::AllocError;
 use std::marker::Brand;
-use std::sync::Wait;
 use std::sync::ledger::{Blank, Ledger};
-use std::time::Clock;
-
-// A gate that is always open.
-#[derive(Clone, Copy)]
-struct Open;
-
-impl Gate for Open {
-    fn arrive<R: Wait + Clock>(&self, _rt: &R, _actor: u32, _turn: u32) -> bool {
-        true
-    }
-}
 
 /// Closes a run of one NOP while growths are refused: a worker for each of its two seats, `finish`, and what its
 /// receipts are redeemed for.
@@ -100,17 +88,17 @@ fn close<L: Ledger>(
 {
     let room = Vec::with_capacity(given.alloc, 2)?;
     arm(rt, given.plan.number)?;
-    let closed = finish_with(live, workers_of(room, seats, &Open)?);
+    let closed = finish_with(live, workers_of(room, seats, &AlwaysOpen)?);
     disarm(rt)?;
     closed
 }
 
 // A worker for each seat.
 fn workers_of<'g, L: Ledger>(
-    room: Vec<Worker<'g, L, Open>>,
+    room: Vec<Worker<'g, L, AlwaysOpen>>,
     seats: Vec<Seat<L>>,
-    gate: &'g Open,
-) -> Result<Vec<Worker<'g, L, Open>>, AllocError>
+    gate: &'g AlwaysOpen,
+) -> Result<Vec<Worker<'g, L, AlwaysOpen>>, AllocError>
     requires none { length room.items ≡ 0 }
     requires order { InOrder seats.items }
     ensures len { IfOk result (λ ws. length ws.items ≡ length seats.items) }
@@ -125,7 +113,7 @@ fn workers_of<'g, L: Ledger>(
 
 fn finish_with<'g, L: Ledger>(
     live: Live<L>,
-    workers: Vec<Worker<'g, L, Open>>,
+    workers: Vec<Worker<'g, L, AlwaysOpen>>,
 ) -> Result<Closed, Fault>
     requires all { length workers.items ≡ L.parts }
     requires actors { length workers.items ≡ live.actors }

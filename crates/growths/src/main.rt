@@ -51,7 +51,9 @@ fn try_plan<R: Print + Eprint>(rt: &R, given: &Given<'_>) -> Result<(), Fault> {
             try_situation::<Walking, R>(rt, given)
         }
         Call::Keep | Call::Watch | Call::Break => try_situation::<Keeping, R>(rt, given),
-        Call::Session | Call::SessionOf | Call::Line => try_situation::<Talking, R>(rt, given),
+        Call::Session | Call::SessionOf | Call::SessionLive | Call::Line => {
+            try_situation::<Talking, R>(rt, given)
+        }
         Call::Serve | Call::Walk | Call::Replay => try_situation::<Serving, R>(rt, given),
         Call::Open | Call::Attempt | Call::TakeOffer | Call::Events | Call::Offer => {
             try_live(rt, given)

@@ -39,6 +39,8 @@ pub enum Call {
     Session,
     /// `Session::of`.
     SessionOf,
+    /// `Session::live`.
+    SessionLive,
     /// `Session::line`.
     Line,
     Serve,
@@ -99,6 +101,7 @@ fn call_over_bytes(name: &str) -> Option<Call> {
         "migrate" => Call::Migrate,
         "session" => Call::Session,
         "session_of" => Call::SessionOf,
+        "session_live" => Call::SessionLive,
         "line" => Call::Line,
         "serve" => Call::Serve,
         "walk" => Call::Walk,

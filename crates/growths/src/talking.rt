@@ -46,9 +46,8 @@ impl Situation for Talking {
 
     fn call(&mut self) -> Answer {
         match self.call {
-            Call::Session => self.open(),
-            Call::SessionOf => self.open_of(),
-            _ => self.talk(),
+            Call::Line => self.talk(),
+            call => self.open(call),
         }
     }
 
@@ -116,19 +115,18 @@ fn say(session: &mut Session, lines: &[String]) -> Result<(), Fault> {
     Ok(())
 }
 
-impl Talking {
-    fn open(&mut self) -> Answer {
-        match Session::new(self.alloc, &self.script) {
-            Ok(session) => {
-                self.session = Some(session);
-                Answer::done(0)
-            }
-            Err(fault) => answer_of(fault),
-        }
+fn opened(alloc: Global, script: &Script, call: Call, count: usize) -> Result<Session, RunFault> {
+    match call {
+        Call::Session => Session::new(alloc, script),
+        Call::SessionLive => Session::live(alloc, script),
+        _ => session_of(alloc, script, count),
     }
+}
 
-    fn open_of(&mut self) -> Answer {
-        match session_of(self.alloc, &self.script, self.told) {
+impl Talking {
+    // Makes a session.
+    fn open(&mut self, call: Call) -> Answer {
+        match opened(self.alloc, &self.script, call, self.told) {
             Ok(session) => {
                 self.session = Some(session);
                 Answer::done(0)

@@ -17,9 +17,9 @@ pub use finishing::{Torn, finish};
 pub use kinds::actors;
 pub use lives::{Live, LiveRefusal};
 pub use receipt::Receipt;
-pub use running::{LiveFault, run_live};
+pub use running::{ForActor, LiveFault, Running, close, join_all, run_live, start_all};
 pub use seat::Seat;
-pub use worker::{Gate, Turn, Worker};
+pub use worker::{AlwaysOpen, Gate, Turn, Worker};
 
 #[cfg(test)]
 mod tests;

@@ -84,8 +84,8 @@ fn run_over<L: Ledger + Send + Sync, G: Gate, R: Threads + Wait + Clock + Sync>(
     }
 }
 
-// Closes what the lock gave back, if it is the run of this setup and so many actors.
-fn close<'g, L: Ledger, G: Gate>(
+/// Closes what the lock gave back, if it is the run of this setup and so many actors.
+pub fn close<'g, L: Ledger, G: Gate>(
     live: Live<L>,
     setup: &Setup,
     count: u32,
@@ -117,7 +117,8 @@ impl<L: Ledger> Promise<Seat<L>> for ForActor {
     ghost kept_by = { λ p s. s.actor ≡ p.0 };
 }
 
-type Running<L> = PromisedHandle<Seat<L>, ForActor>;
+/// A thread that gives its seat back.
+pub type Running<L> = PromisedHandle<Seat<L>, ForActor>;
 
 // Turns of a worker, each with its own hold of the lock.
 fn work<L: Ledger, G: Gate, R: Wait + Clock>(
@@ -136,8 +137,8 @@ fn work<L: Ledger, G: Gate, R: Wait + Clock>(
     worker.into_seat()
 }
 
-// A thread for each seat, up to one that can't be started.
-fn start_all<'s, E, L: Ledger + Send + Sync + 's, G: Gate + 's, R: Wait + Clock + Sync + 's>(
+/// Starts a thread for each seat, which makes so many turns, up to one that can't be started.
+pub fn start_all<'s, E, L: Ledger + Send + Sync + 's, G: Gate + 's, R: Wait + Clock + Sync + 's>(
     scope: &Scope<'s, E>,
     rt: &'s R,
     lock: &'s Mutex<Live<L>>,
@@ -161,6 +162,32 @@ fn start_all<'s, E, L: Ledger + Send + Sync + 's, G: Gate + 's, R: Wait + Clock 
     handles
 }
 
+/// Joins threads, in order, and makes a worker of each one's seat, in room that there is for so many. None where
+/// there are fewer.
+pub fn join_all<'g, L: Ledger, G: Gate, R: Threads>(
+    rt: &R,
+    handles: Vec<Running<L>>,
+    gate: &'g G,
+    mut workers: Vec<Worker<'g, L, G>>,
+    count: usize,
+) -> Option<Vec<Worker<'g, L, G>>>
+    requires order { HandlesInOrder handles.items }
+    requires none { vec_len workers ≡ 0 }
+    ensures count { IfSome result (λ workers. length workers.items ≡ count) }
+    ensures order { IfSome result (λ workers. WorkInOrder workers.items) }
+{
+    for handle in handles {
+        let Ok(()) = workers.push(Worker::new(handle.join(rt), gate)) else {
+            return None;
+        };
+    }
+    if workers.len() == count {
+        Some(workers)
+    } else {
+        None
+    }
+}
+
 // Runs a thread for each seat, and joins them all. None where one couldn't be started, or there is no memory.
 fn take_turns<'g, L: Ledger + Send + Sync, G: Gate, R: Threads + Wait + Clock + Sync>(
     rt: &R,
@@ -175,7 +202,7 @@ fn take_turns<'g, L: Ledger + Send + Sync, G: Gate, R: Threads + Wait + Clock + 
     ensures order { IfSome result (λ workers. WorkInOrder workers.items) }
 {
     let count = seats.len();
-    let mut workers = Vec::with_capacity(alloc, count).ok()?;
+    let workers = Vec::with_capacity(alloc, count).ok()?;
     let handles = Vec::with_capacity(alloc, count).ok()?;
     let handles = thread::scope(
         thread::scope_env(),
@@ -185,14 +212,5 @@ fn take_turns<'g, L: Ledger + Send + Sync, G: Gate, R: Threads + Wait + Clock + 
             ensures { HandlesInOrder result.items }
         { start_all(scope, rt, lock, seats, turns, gate, handles) },
     );
-    for handle in handles {
-        let Ok(()) = workers.push(Worker::new(handle.join(rt), gate)) else {
-            return None;
-        };
-    }
-    if workers.len() == count {
-        Some(workers)
-    } else {
-        None
-    }
+    join_all(rt, handles, gate, workers, count)
 }

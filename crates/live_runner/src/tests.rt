@@ -3,7 +3,9 @@ ghost use Rattle.std.specs.Prelude.{◌≡◌, ◌<◌, length, IfOk};
 ghost use Rattle.live_runner.specs.Actors.{actors};
 ghost use Rattle.live_runner.specs.History.{InOrder, WorkInOrder};
 
-use crate::{Closed, Gate, Live, LiveRefusal, Receipt, Seat, Torn, Worker, finish, run_live};
+use crate::{
+    AlwaysOpen, Closed, Gate, Live, LiveRefusal, Receipt, Seat, Torn, Worker, finish, run_live,
+};
 use entries::Sqe;
 use opcodes::Choice;
 use places::{Items, Place, Value};
@@ -131,16 +133,6 @@ fn threads_take_turns_side_by_side(rt: HostRuntime) -> Result<(), AllocError> {
 
 // ---- by hand
 
-// A gate that is always open.
-#[derive(Clone, Copy)]
-struct Open;
-
-impl Gate for Open {
-    fn arrive<R: Wait + Clock>(&self, _rt: &R, _actor: u32, _turn: u32) -> bool {
-        true
-    }
-}
-
 fn nop(user_data: u64) -> Sqe {
     Sqe {
         opcode: 0,
@@ -265,8 +257,8 @@ fn acts<L: Ledger>(live: &mut Live<L>, seats: &mut Vec<Seat<L>>) -> bool
 fn workers_of<'g, L: Ledger>(
     alloc: Global,
     seats: Vec<Seat<L>>,
-    gate: &'g Open,
-) -> Result<Vec<Worker<'g, L, Open>>, AllocError>
+    gate: &'g AlwaysOpen,
+) -> Result<Vec<Worker<'g, L, AlwaysOpen>>, AllocError>
     requires { InOrder seats.items }
     ensures len { IfOk result (λ ws. length ws.items ≡ length seats.items) }
     ensures order { IfOk result (λ ws. WorkInOrder ws.items) }
@@ -288,7 +280,7 @@ fn closed_of<L: Ledger>(
     requires actors { length seats.items ≡ live.actors }
     requires order { InOrder seats.items }
 {
-    let workers = workers_of(alloc, seats, &Open)?;
+    let workers = workers_of(alloc, seats, &AlwaysOpen)?;
     Ok(finish(live, workers))
 }
 

@@ -16,6 +16,16 @@ pub trait Gate: Sync {
     fn arrive<R: Wait + Clock>(&self, rt: &R, actor: u32, turn: u32) -> bool;
 }
 
+/// A gate at which nobody waits.
+#[derive(Clone, Copy, Debug)]
+pub struct AlwaysOpen;
+
+impl Gate for AlwaysOpen {
+    fn arrive<R: Wait + Clock>(&self, _rt: &R, _actor: u32, _turn: u32) -> bool {
+        true
+    }
+}
+
 /// What a turn came to.
 #[derive(Clone, Copy, Debug, PartialEq, Eq)]
 pub enum Turn {

@@ -7,6 +7,7 @@ ghost use Rattle.uringwalk.specs.Files.{told_as};
 
 mod living;
 mod logging;
+mod serving;
 
 use clap::error::ErrorKind;
 use debug_server::{
@@ -15,6 +16,8 @@ use debug_server::{
 use living::live_file;
 use logging::log_file;
 use run_log::EventRange;
+use serving::serve_file;
+use std::net::{Net, TcpListener, TcpStream};
 use std::process::ExitCode;
 use std::rt::Files;
 use std::sync::Wait;
@@ -106,10 +109,17 @@ fn migrate_file(
     keep(rt, out, &migrate_trace(rt.alloc(), &text, &bytes)?)
 }
 
-fn run<R: Files + Input + Print + AllocGlobal + Threads + Wait + Clock + Sync>(
-    rt: &R,
-    job: Job<'_>,
-) -> Result<(), Fault>
+fn run<
+    R: Files
+        + Input
+        + Print
+        + AllocGlobal
+        + Threads
+        + Wait
+        + Clock
+        + Net<Listener = TcpListener, Stream = TcpStream>
+        + Sync,
+>(rt: &R, job: Job<'_>) -> Result<(), Fault>
     requires { IsInRange job }
 {
     match job {
@@ -122,6 +132,13 @@ fn run<R: Files + Input + Print + AllocGlobal + Threads + Wait + Clock + Sync>(
             kernel,
             out,
         } => live_file(rt, script, turns, kernel, out),
+        Job::Serve {
+            script,
+            port,
+            turns,
+            kernel,
+            clients,
+        } => serve_file(rt, script, port, turns, kernel, clients),
         Job::Trace { script, out, form } => trace_file(rt, script, out, form),
         Job::Migrate { script, trace, out } => migrate_file(rt, script, trace, out),
     }
@@ -138,7 +155,11 @@ fn loses_script(rt: &(impl Files + AllocGlobal), job: Job<'_>) -> Result<bool, F
             out: Some(out),
             ..
         } => lead_to_one_file(rt, script, out).map_err(told),
-        Job::Walk(_) | Job::Replay(_) | Job::Log { .. } | Job::Live { out: None, .. } => Ok(false),
+        Job::Walk(_)
+        | Job::Replay(_)
+        | Job::Log { .. }
+        | Job::Live { out: None, .. }
+        | Job::Serve { .. } => Ok(false),
     }
 }
 
@@ -155,10 +176,18 @@ fn fail_for_memory(rt: &impl Eprint) -> ExitCode {
 }
 
 // Does what the words ask for, unless it would lose a script.
-fn carry_out<R: Files + Input + Print + Eprint + AllocGlobal + Threads + Wait + Clock + Sync>(
-    rt: &R,
-    job: Job<'_>,
-) -> ExitCode
+fn carry_out<
+    R: Files
+        + Input
+        + Print
+        + Eprint
+        + AllocGlobal
+        + Threads
+        + Wait
+        + Clock
+        + Net<Listener = TcpListener, Stream = TcpStream>
+        + Sync,
+>(rt: &R, job: Job<'_>) -> ExitCode
     requires { IsInRange job }
 {
     match loses_script(rt, job) {
@@ -172,10 +201,18 @@ fn carry_out<R: Files + Input + Print + Eprint + AllocGlobal + Threads + Wait + 
 }
 
 // Reads the words, and does what they ask for.
-fn read_words<R: Files + Input + Print + Eprint + AllocGlobal + Threads + Wait + Clock + Sync>(
-    rt: &R,
-    words: &[&str],
-) -> ExitCode {
+fn read_words<
+    R: Files
+        + Input
+        + Print
+        + Eprint
+        + AllocGlobal
+        + Threads
+        + Wait
+        + Clock
+        + Net<Listener = TcpListener, Stream = TcpStream>
+        + Sync,
+>(rt: &R, words: &[&str]) -> ExitCode {
     match job(rt.alloc(), words) {
         Ok(job) => carry_out(rt, job),
         Err(error) if error.kind() == ErrorKind::OutOfMemory => fail_for_memory(rt),
@@ -184,10 +221,18 @@ fn read_words<R: Files + Input + Print + Eprint + AllocGlobal + Threads + Wait +
 }
 
 // The same of words that the program owns.
-fn read_texts<R: Files + Input + Print + Eprint + AllocGlobal + Threads + Wait + Clock + Sync>(
-    rt: &R,
-    words: &[String],
-) -> ExitCode {
+fn read_texts<
+    R: Files
+        + Input
+        + Print
+        + Eprint
+        + AllocGlobal
+        + Threads
+        + Wait
+        + Clock
+        + Net<Listener = TcpListener, Stream = TcpStream>
+        + Sync,
+>(rt: &R, words: &[String]) -> ExitCode {
     match words
         .iter()
         .map(|word| word.as_str())

@@ -1,17 +1,21 @@
-//! Sessions that take over events from a source.
+//! Live sessions, which take over events from a source.
 ghost use Rattle.std.specs.Prelude.{◌≡◌, None, option_map, drop, slice_get};
 
 use crate::tests::check;
 use crate::tests::devices::SOUND;
-use crate::tests::sessions::{Served, serve_slowly, session_of};
-use debug_server::{RunFault, ServeFault, Source};
+use crate::tests::sessions::{Served, serve_slowly};
+use debug_server::{RunFault, ServeFault, Session, Source};
 use machine::Event;
+use script::read_script;
 use std::alloc::{AllocError, Global};
 use std::test::Fail;
 
-/// Two stores of a thread, of which none has run.
+/// Two stores of a thread, and a schedule that makes both.
 const TWO_STORES: &str =
-    r#"{"entries":1,"threads":[[["store",0,"aa"],["store",1,"bb"]]],"schedule":[]}"#;
+    r#"{"entries":1,"threads":[[["store",0,"aa"],["store",1,"bb"]]],"schedule":[["step",0],["step",0]]}"#;
+
+/// A schedule whose first event is refused.
+const NO_START: &str = r#"{"entries":1,"threads":[],"schedule":[["issue",0],["tick",1]]}"#;
 
 const LINES: &str = "sync\nwhere\ngoto 1\nshow mem 0\nsync\nsync\nsync\nsync\nsync\nwhere\n";
 
@@ -70,9 +74,22 @@ fn five_answers(alloc: Global) -> Result<Answers, AllocError> {
     Ok(Answers { traces })
 }
 
-// Serves a new session some lines.
-fn serve_anew<S: Source>(alloc: Global, lines: &[u8], source: &mut S) -> Result<Served, RunFault> {
-    let mut session = session_of(alloc, TWO_STORES)?;
+// The live session of a script, which runs none of its schedule.
+fn live_session_of(alloc: Global, text: &str) -> Result<Session, RunFault> {
+    match read_script(alloc, text.as_bytes()) {
+        Ok(script) => Session::live(alloc, &script),
+        Err(fault) => Err(RunFault::Script(fault)),
+    }
+}
+
+// Serves a new live session some lines.
+fn serve_anew<S: Source>(
+    alloc: Global,
+    script: &str,
+    lines: &[u8],
+    source: &mut S,
+) -> Result<Served, RunFault> {
+    let mut session = live_session_of(alloc, script)?;
     let served = serve_slowly(alloc, &mut session, lines, (SOUND, SOUND), source);
     Ok(served)
 }
@@ -84,7 +101,7 @@ fn has(served: &Served, fault: Option<ServeFault>, written: &str) -> bool {
 #[test]
 fn syncs_with_a_list_of_answers(rt: HostRuntime) -> Result<(), Fail> {
     let mut source = five_answers(rt.alloc())?;
-    let served = serve_anew(rt.alloc(), LINES.as_bytes(), &mut source)?;
+    let served = serve_anew(rt.alloc(), TWO_STORES, LINES.as_bytes(), &mut source)?;
     check(&rt, has(&served, None, REPLIES));
     Ok(())
 }
@@ -92,7 +109,7 @@ fn syncs_with_a_list_of_answers(rt: HostRuntime) -> Result<(), Fail> {
 // What was asked for before is answered, and nothing behind it.
 #[test]
 fn a_source_without_memory_closes_the_session(rt: HostRuntime) -> Result<(), Fail> {
-    let served = serve_anew(rt.alloc(), b"where\nsync\nwhere\n", &mut Starved)?;
+    let served = serve_anew(rt.alloc(), NO_START, b"where\nsync\nwhere\n", &mut Starved)?;
     check(&rt, has(&served, Some(ServeFault::Memory), "at 0 of 0\n"));
     Ok(())
 }

@@ -1,7 +1,7 @@
 use Rattle.std.proofs.Common.{◌≡◌, ℕ, ◌+◌, ◌<◌, length, slice_index_or, vec_len}
 use Rattle.std.specs.Vec.Iter.{into_iter_items}
 use Rattle.live_runner.specs.History.{WorkInOrder}
-use Rattle.live_runner.proofs.running.take_turns.Given as goal
+use Rattle.live_runner.proofs.running.join_all.Given as goal
 
 abbrev pub invariant-loop-handle : goal.invariant-loop-handle
 invariant-loop-handle g l =

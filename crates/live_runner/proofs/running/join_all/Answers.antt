@@ -1,7 +1,7 @@
 use Rattle.std.proofs.Common.{rules, ◌≡◌, ◌+◌, ◌++◌, ◌∷◌, [], length, vec_len}
 use Rattle.live_runner.specs.History.{Labour}
 use Rattle.live_runner.proofs.Numbering.{numbered_push}
-use Rattle.live_runner.proofs.running.take_turns.Goals as goal
+use Rattle.live_runner.proofs.running.join_all.Goals as goal
 
 pub loop-handle-preserved : goal.loop-handle-preserved
 loop-handle-preserved g c =

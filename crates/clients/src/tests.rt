@@ -1,0 +1,146 @@
+//! Clients over loopback, both ends in one process.
+ghost use Rattle.std.specs.Prelude.{◌≡◌};
+ghost use Rattle.live_runner.specs.Actors.{actors};
+
+use crate::serve_clients;
+use live_runner::{Live, Seat, actors};
+use machine::Event;
+use script::{Script, read_script};
+use std::alloc::Global;
+use std::io::{Read, Write};
+use std::marker::Brand;
+use std::net::{Net, SocketAddr, TcpListener, TcpStream};
+use std::process::Abort;
+use std::sync::ledger::{Blank, Ledger};
+use std::sync::{Mutex, Wait};
+use std::thread::Threads;
+use std::{io, thread};
+
+/// Two stores of a thread, and a schedule that can't run.
+const TWO_STORES: &str =
+    r#"{"entries":1,"threads":[[["store",0,"aa"],["store",1,"bb"]]],"schedule":[["issue",0],["step",0]]}"#;
+
+/// How many kernel workers the run has.
+const WORKERS: u32 = 1;
+
+// Whether the bytes that come next are these.
+fn is_next(mut stream: &TcpStream, wanted: &[u8]) -> bool {
+    for byte in wanted {
+        let mut next = [0u8];
+        if stream.read_exact(&mut next).is_err() || next[0] != *byte {
+            return false;
+        }
+    }
+    true
+}
+
+// Whether a client's lines are replied to by these.
+fn is_told(mut stream: &TcpStream, lines: &str, replies: &str) -> bool {
+    stream.write_all(lines.as_bytes()).is_ok() && is_next(stream, replies.as_bytes())
+}
+
+// Whether the thread does its next step, in one hold of the lock.
+fn steps<L: Ledger, R: Wait>(rt: &R, lock: &Mutex<Live<L>>, seats: &mut Vec<Seat<L>>) -> bool {
+    match seats.first_mut() {
+        Some(seat) => lock.lock(rt).attempt(seat, Event::Step(0)).is_ok(),
+        None => false,
+    }
+}
+
+// Two clients who stand in one run at once: the second sync of the first tells the event between, and the second
+// client, who doesn't ask, is told of none.
+fn are_told<L: Ledger, R: Wait>(
+    rt: &R,
+    first: &TcpStream,
+    second: &TcpStream,
+    lock: &Mutex<Live<L>>,
+    seats: &mut Vec<Seat<L>>,
+) -> bool {
+    is_told(first, "sync\n", "synced 0\n")
+        && is_told(second, "sync\nwhere\n", "synced 0\nat 0 of 0\n")
+        && steps(rt, lock, seats)
+        && is_told(
+            first,
+            "sync\ngoto 1\nshow mem 0\n",
+            "synced 1\nat 1 of 1\naa\n",
+        )
+        && is_told(second, "where\nquit\n", "at 0 of 0\nbye\n")
+        && is_told(first, "quit\n", "bye\n")
+}
+
+// Connects both clients.
+fn connect_two<L: Ledger, R: Net<Listener = TcpListener, Stream = TcpStream> + Wait>(
+    rt: &R,
+    address: SocketAddr,
+    lock: &Mutex<Live<L>>,
+    mut seats: Vec<Seat<L>>,
+) -> bool {
+    match (
+        TcpStream::connect(rt, address),
+        TcpStream::connect(rt, address),
+    ) {
+        (Ok(first), Ok(second)) => are_told(rt, &first, &second, lock, &mut seats),
+        _ => false,
+    }
+}
+
+// How many clients were served, and whether they were told what they should be.
+fn serve_two<
+    L: Ledger + Send + Sync,
+    R: Net<Listener = TcpListener, Stream = TcpStream> + Threads + Wait + Sync,
+>(
+    rt: &R,
+    alloc: Global,
+    blank: Blank,
+    script: &Script,
+    listener: &TcpListener,
+    address: SocketAddr,
+) -> Option<(u32, bool)>
+    requires name { blank.name ≡ L.name }
+    requires parts { blank.parts ≡ L.parts }
+    requires all { blank.parts ≡ actors script.now.setup 1 }
+{
+    let Ok((live, seats)) = Live::<L>::open(alloc, blank, script.setup(), WORKERS) else {
+        return None;
+    };
+    let lock = Mutex::new(live);
+    let (served, told) = thread::join(
+        rt,
+        || serve_clients(rt, alloc, script, listener, &lock, Some(2)),
+        || connect_two(rt, address, &lock, seats),
+    );
+    match served {
+        Ok(count) => Some((count, told)),
+        Err(_) => None,
+    }
+}
+
+// The same, over a blank.
+fn serve_both<R: Net<Listener = TcpListener, Stream = TcpStream> + Threads + Wait + Sync>(
+    rt: &R,
+    alloc: Global,
+    script: &Script,
+    listener: &TcpListener,
+    address: SocketAddr,
+) -> Option<(u32, bool)> {
+    let blank = Blank::new(actors(script.setup(), WORKERS) as u64);
+    serve_two::<Brand, R>(rt, alloc, blank, script, listener, address)
+}
+
+fn check(rt: &impl Abort, outcome: Option<(u32, bool)>) {
+    assert_eq!(rt; outcome, Some((2, true)));
+}
+
+#[test]
+fn two_clients_look_at_one_run(rt: HostRuntime) -> io::Result<()> {
+    let listener = TcpListener::bind(&rt, "127.0.0.1:0")?;
+    let address = listener.local_addr()?;
+    let Ok(script) = read_script(rt.alloc(), TWO_STORES.as_bytes()) else {
+        panic!(&rt; "the script isn't read");
+    };
+    check(
+        &rt,
+        serve_both(&rt, rt.alloc(), &script, &listener, address),
+    );
+    Ok(())
+}

@@ -1,0 +1,60 @@
+//! Clients of a run that goes on.
+ghost use Rattle.std.specs.Prelude.{◌≤◌};
+
+use crate::{SCRIPT_AND_ONE, told};
+use clients::serve_live;
+use debug_server::{Fault, RunFault, ServeFault, script_of};
+use std::net::{Ipv4Addr, Net, TcpListener, TcpStream};
+use std::rt::Files;
+use std::sync::Wait;
+use std::thread::Threads;
+use std::time::Clock;
+use whole_files::read_file;
+
+// Listens on a port of loopback.
+fn listen(
+    rt: &impl Net<Listener = TcpListener, Stream = TcpStream>,
+    port: u16,
+) -> Result<TcpListener, Fault> {
+    match TcpListener::bind(rt, (Ipv4Addr::LOCALHOST, port)) {
+        Ok(listener) => Ok(listener),
+        Err(_) => Err(Fault::Run(RunFault::Net)),
+    }
+}
+
+// Prints the port. Standard output has no buffer, so that it is there once this returns.
+fn tell_port(rt: &impl Print, port: u16) -> Result<(), Fault> {
+    match println!(rt; "port {port}") {
+        Ok(()) => Ok(()),
+        Err(_) => Err(Fault::Run(RunFault::Serve(ServeFault::Write))),
+    }
+}
+
+/// Listens on a port of loopback, prints it, and serves clients the run that threads make meanwhile over a
+/// script's setup. It ends after so many sessions, or goes on.
+pub fn serve_file<
+    R: Files
+        + Print
+        + AllocGlobal
+        + Threads
+        + Wait
+        + Clock
+        + Net<Listener = TcpListener, Stream = TcpStream>
+        + Sync,
+>(
+    rt: &R,
+    script: &str,
+    port: u16,
+    turns: u32,
+    kernel: u32,
+    clients: Option<u32>,
+) -> Result<(), Fault>
+    requires { kernel ≤ 8 }
+{
+    let text = read_file(rt, script, SCRIPT_AND_ONE).map_err(told)?;
+    let script = script_of(rt.alloc(), &text)?;
+    let listener = listen(rt, port)?;
+    tell_port(rt, port)?;
+    serve_live(rt, rt.alloc(), &script, &listener, turns, kernel, clients)?;
+    Ok(())
+}
