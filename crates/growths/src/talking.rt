@@ -5,6 +5,7 @@ use crate::fault::Fault;
 use crate::plan::{Call, Plan};
 use crate::situation::{Answer, Given, Situation};
 use debug_server::{RunFault, Session};
+use inverse_log::walker::TRACE_LIMIT;
 use machine::Event;
 use script::{Script, read_script};
 use std::alloc::Global;
@@ -99,7 +100,11 @@ pub fn session_over(alloc: Global, script: &Script, plan: Plan<'_>) -> Result<Se
 }
 
 fn session_of(alloc: Global, script: &Script, count: usize) -> Result<Session, RunFault> {
-    Session::of(alloc, script.setup(), first_events(script, count))
+    let events = first_events(script, count);
+    if events.len() > TRACE_LIMIT {
+        return Err(RunFault::Memory);
+    }
+    Session::of(alloc, script.setup(), events)
 }
 
 fn first_events(script: &Script, count: usize) -> &[Event] {
