@@ -11,7 +11,7 @@ use std::alloc::{AllocError, Global};
 
 /// What a call found or made.
 #[derive(Debug, Drop)]
-enum Found {
+pub enum Found {
     Nothing,
     Scenario(Script),
     Events(Vec<Event>),
