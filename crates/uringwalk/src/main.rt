@@ -10,6 +10,7 @@ mod living;
 mod logging;
 mod serving;
 
+use clap::error::ErrorKind;
 use debug_server::{
     Fault, Form, Job, RunFault, ServeFault, Traced, job, migrate_trace, replay, trace_script, walk,
 };
@@ -219,6 +220,7 @@ fn read_words<
 >(rt: &R, words: &[&str]) -> ExitCode {
     match job(rt.alloc(), words) {
         Ok(job) => carry_out(rt, job),
+        Err(error) if error.kind() == ErrorKind::OutOfMemory => fail_for_memory(rt),
         Err(error) => fail(rt, 2, &error),
     }
 }

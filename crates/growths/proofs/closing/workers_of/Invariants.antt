@@ -1,0 +1,11 @@
+use Rattle.std.proofs.Common.{◌≡◌, ℕ, ◌+◌, ◌<◌, length, slice_index_or, vec_len}
+use Rattle.std.specs.Vec.Iter.{into_iter_items}
+use Rattle.live_runner.specs.History.{Held, WorkInOrder}
+use Rattle.growths.proofs.closing.workers_of.Given as goal
+
+abbrev pub invariant-loop-seat : goal.invariant-loop-seat
+invariant-loop-seat g l =
+    let rest = into_iter_items l.seat-iterator in
+    ((k : ℕ) (d : Held) → k < length rest → (slice_index_or rest k d).actor ≡ vec_len l.workers + k)
+    × WorkInOrder l.workers.items
+    × (vec_len l.workers + length rest ≡ vec_len l.fn.seats)

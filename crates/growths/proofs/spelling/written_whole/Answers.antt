@@ -1,0 +1,12 @@
+use Rattle.std.proofs.Common.{arith}
+use Rattle.debug_server.proofs.Moving.{all_move}
+use Rattle.growths.proofs.spelling.written_whole.Goals as goal
+
+pub write_trace2-requires-clause-starts : goal.write_trace2-requires-clause-starts
+write_trace2-requires-clause-starts c = rw c.setup.ensures.value c.setup.ensures.kept.setup
+
+pub write_trace2-requires-clause-few : goal.write_trace2-requires-clause-few
+write_trace2-requires-clause-few c = rw c.schedule.ensures.value (omega (arith, c.schedule.ensures.kept.events))
+
+pub write_trace2-requires-clause-transfers : goal.write_trace2-requires-clause-transfers
+write_trace2-requires-clause-transfers c = rw c.schedule.ensures.value (all_move c.args.script.now.schedule c.schedule.ensures.kept.transfers)

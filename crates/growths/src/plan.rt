@@ -1,0 +1,138 @@
+//! Which call is made, and over what.
+
+/// The words that a call is asked for by.
+pub const WORDS: &str = "growths CALL SCRIPT NUMBER FROM TO [LINE..]";
+
+/// A call that can want memory, or one that takes none.
+#[derive(Clone, Copy, PartialEq, Eq)]
+pub enum Call {
+    /// `State::step`.
+    Step,
+    /// `State::new`.
+    Start,
+    /// `State::copy`.
+    Copy,
+    /// `State::value` of each place, and `State::refuses`.
+    Look,
+    /// `State::unwind`.
+    Unwind,
+    /// `Walker::extend`.
+    Extend,
+    Goto,
+    On,
+    Back,
+    Rcont,
+    Cont,
+    /// `Kept::keep`.
+    Keep,
+    /// `Watches::watch`.
+    Watch,
+    /// `Watches::break_at`.
+    Break,
+    ReadScript,
+    ReadTrace,
+    ReadTrace2,
+    WriteTrace,
+    WriteTrace2,
+    Migrate,
+    /// `Session::new`.
+    Session,
+    /// `Session::of`.
+    SessionOf,
+    /// `Session::live`.
+    SessionLive,
+    /// `Session::line`.
+    Line,
+    Serve,
+    Walk,
+    Replay,
+    /// `Live::open`.
+    Open,
+    Attempt,
+    TakeOffer,
+    /// `Live::events`.
+    Events,
+    Offer,
+    /// `Worker::new`, `finish`, and `Closed::redeem`.
+    Finish,
+}
+
+/// A call over a script: its first events lie behind, and FROM and TO say which ones, or which moments.
+#[derive(Clone, Copy)]
+pub struct Plan<'a> {
+    pub call: Call,
+    /// The path of the script.
+    pub script: &'a str,
+    /// The growth that is refused, from 1 on.
+    pub number: u32,
+    pub from: usize,
+    pub to: usize,
+    /// The line of a session, and those before it.
+    pub lines: &'a [String],
+}
+
+fn call_of(name: &str) -> Option<Call> {
+    Some(match name {
+        "step" => Call::Step,
+        "start" => Call::Start,
+        "copy" => Call::Copy,
+        "look" => Call::Look,
+        "unwind" => Call::Unwind,
+        "extend" => Call::Extend,
+        "goto" => Call::Goto,
+        "on" => Call::On,
+        "back" => Call::Back,
+        "rcont" => Call::Rcont,
+        "cont" => Call::Cont,
+        "keep" => Call::Keep,
+        "watch" => Call::Watch,
+        "break" => Call::Break,
+        _ => return call_over_bytes(name),
+    })
+}
+
+fn call_over_bytes(name: &str) -> Option<Call> {
+    Some(match name {
+        "read_script" => Call::ReadScript,
+        "read_trace" => Call::ReadTrace,
+        "read_trace2" => Call::ReadTrace2,
+        "write_trace" => Call::WriteTrace,
+        "write_trace2" => Call::WriteTrace2,
+        "migrate" => Call::Migrate,
+        "session" => Call::Session,
+        "session_of" => Call::SessionOf,
+        "session_live" => Call::SessionLive,
+        "line" => Call::Line,
+        "serve" => Call::Serve,
+        "walk" => Call::Walk,
+        "replay" => Call::Replay,
+        _ => return live_call(name),
+    })
+}
+
+fn live_call(name: &str) -> Option<Call> {
+    Some(match name {
+        "open" => Call::Open,
+        "attempt" => Call::Attempt,
+        "take_offer" => Call::TakeOffer,
+        "events" => Call::Events,
+        "offer" => Call::Offer,
+        "finish" => Call::Finish,
+        _ => return None,
+    })
+}
+
+/// Reads the program's name and the words behind it.
+pub fn plan_of(words: &[String]) -> Option<Plan<'_>> {
+    let [_, call, script, number, from, to, ..] = words else {
+        return None;
+    };
+    Some(Plan {
+        call: call_of(call.as_str())?,
+        script: script.as_str(),
+        number: number.as_str().parse::<u32>().ok()?,
+        from: from.as_str().parse::<usize>().ok()?,
+        to: to.as_str().parse::<usize>().ok()?,
+        lines: words.get(6..)?,
+    })
+}

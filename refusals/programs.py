@@ -1,0 +1,265 @@
+"""Words of the program `uringwalk`, each of whose growths, reads and writes fails in turn, and which is killed."""
+import os
+import random
+import shutil
+import tempfile
+
+from room import note_of, numbers_of, require
+
+LINES = b"where\nshow got 0\ngoto 3\nwatch cq.tail\nbreak last 0 = 1\ncont\nrcont\nshow row 0\nsync\nwhere\nquit\n"
+OLD = b"what stood there"
+# What a failing read or write is told as, behind which what was written is a beginning of all output.
+READ, WRITE, MEMORY = b"fault session 1\n", b"fault session 2\n", b"fault session 3\n"
+NO_FILE, NO_MEMORY = b"fault file\n", b"fault memory\n"
+# How often each growth of a live run is refused: which one is the Nth isn't fixed.
+LIVE_RUNS = 200
+
+
+class Job:
+    """Words of the program, in a folder of its own with the files that they name."""
+
+    def __init__(self, name, words, over="one_nop", out=None, given=b""):
+        self.name, self.words, self.over, self.out, self.given = name, words, over, out, given
+        self.serves = words[0] in ("walk", "replay")
+
+    def run(self, room, what, how, number):
+        """Runs the words under the shim. Returns what ran, the files behind it, whether the refusal was reached, and how
+        many were counted."""
+        with tempfile.TemporaryDirectory(dir=room.path) as here:
+            self.fill(room, here)
+            done, reached, count = room.ran([room.uringwalk, *self.words], what, how, number, self.given, here)
+            return done, files_of(here), reached, count
+
+    def fill(self, room, here):
+        shutil.copy(room.script(self.over), f"{here}/script")
+        for name, words in (("whole", ["trace", "script", "whole"]), ("events", ["trace", "script", "events", "--form", "1"])):
+            if name in self.words:
+                if name not in room.made:
+                    done, _, _ = room.ran([room.uringwalk, *words], "growth", "one", 0, here=here)
+                    require(done.returncode == 0, f"no trace: {done.stderr.decode()}")
+                    with open(f"{here}/{name}", "rb") as it:
+                        room.made[name] = it.read()
+                write(f"{here}/{name}", room.made[name])
+        if self.out:
+            write(f"{here}/{self.out}", OLD)
+
+
+def write(path, data):
+    with open(path, "wb") as it:
+        it.write(data)
+
+
+def files_of(here):
+    found = {}
+    for name in sorted(os.listdir(here)):
+        with open(f"{here}/{name}", "rb") as it:
+            found[name] = it.read()
+    return found
+
+
+class Expected:
+    """A run that nothing was refused."""
+
+    def __init__(self, job, room):
+        done, self.files, _, _ = job.run(room, "growth", "one", 0)
+        self.stdout, self.stderr, self.status = done.stdout, done.stderr, done.returncode
+        self.out = self.files.get(job.out)
+        self.before = {name: data for name, data in self.files.items() if name != job.out}
+        if job.out:
+            self.before[job.out] = OLD
+
+    def is_whole(self, done, files):
+        return (done.stdout, done.stderr, done.returncode, files) == (self.stdout, self.stderr, self.status, self.files)
+
+    def is_cut(self, done, files, fault, written=True):
+        """Whether a run ended by a fault, behind a beginning of its output, and left all files as they were, or as they
+        are to be."""
+        begins = self.stdout.startswith(done.stdout) if written else not done.stdout
+        return done.stderr == fault and done.returncode == 1 and begins and files in (self.before, self.files)
+
+
+def shown(done):
+    return f"status {done.returncode}, {done.stdout!r}, {done.stderr!r}"
+
+
+WALK = Job("walk", ["walk", "script"], given=LINES)
+REPLAY = Job("replay", ["replay", "whole"], given=LINES)
+LOG = Job("log", ["log", "script"], over="all_opcodes")
+LOG_TRACE = Job("log of a trace", ["log", "whole", "--from", "1"])
+TRACE = Job("trace", ["trace", "script", "out"], out="out")
+TRACE_1 = Job("trace of form 1", ["trace", "script", "out", "--form", "1"], out="out")
+MIGRATE = Job("migrate", ["migrate", "script", "events", "out"], out="out")
+HELP = Job("help", ["walk", "--help"])
+WRONG_WORDS = Job("words that aren't read", ["walk"])
+LIVE = Job("live", ["live", "script", "--turns", "6", "--kernel", "1", "--trace", "out"], out="out", given=LINES)
+
+FIXED = (WALK, REPLAY, LOG, LOG_TRACE, TRACE, TRACE_1, MIGRATE)
+
+
+# ---- memory
+
+def refuse_growths(job):
+    """Want of memory is told by its line; what was written is a beginning, and the files are as they were. Where one growth
+    alone is refused the program may go on with less."""
+    def trial(room):
+        expected = Expected(job, room)
+        _, _, _, count = job.run(room, "growth", "one", 0)
+        require(count > 0, "it met no refusal")
+        numbers, refused = numbers_of(count), 0
+        for how in ("one", "all"):
+            for number in numbers:
+                done, files, reached, _ = job.run(room, "growth", how, number)
+                require(reached, f"growth {number} of {count}, {how}, was not reached")
+                if how == "one" and expected.is_whole(done, files):
+                    continue
+                fault = MEMORY if job.serves and done.stderr == MEMORY else NO_MEMORY
+                written = fault == MEMORY or job.words[0] == "log"
+                require(expected.is_cut(done, files, fault, written) and files == expected.before,
+                        f"growth {number} of {count}, {how}: {shown(done)}, files {sorted(files)}")
+                refused += 1
+        done, files, reached, _ = job.run(room, "growth", "one", count + 1)
+        require(not reached and expected.is_whole(done, files), f"behind the last growth: {shown(done)}")
+        return 2 * len(numbers) + 1, refused, note_of(numbers, count)
+    return trial
+
+
+def is_live_run(room, done, files):
+    """Whether a live run tells want of memory and leaves the old trace, or leaves a trace that replays."""
+    if done.stderr == NO_MEMORY and not done.stdout and files.get("out") == OLD:
+        return sorted(files) == ["out", "script"]
+    if sorted(files) != ["out", "script"] or files["out"] == OLD:
+        return False
+    closed = done.stdout.splitlines()[:1]
+    count = replayed(room, files["out"])
+    if count is None or closed not in ([], [f"closed {count}".encode()]):
+        return False
+    return done.returncode == 0 or done.returncode == 1 and done.stderr in (NO_MEMORY, MEMORY)
+
+
+def replayed(room, trace):
+    """The number of events of a trace that replays."""
+    with tempfile.TemporaryDirectory(dir=room.path) as here:
+        write(f"{here}/out", trace)
+        done, _, _ = room.ran([room.uringwalk, "replay", "out"], "growth", "one", 0, b"where\n", here)
+    words = done.stdout.split()
+    if done.returncode != 0 or len(words) != 4 or words[1] != words[3]:
+        return None
+    return int(words[1])
+
+
+def refuse_growths_of_threads(room):
+    """Growths at random of a run that threads make: a turn that was refused memory changes nothing."""
+    chosen = random.Random(36)
+    met = 0
+    for _ in range(LIVE_RUNS):
+        _, _, _, count = LIVE.run(room, "growth", "one", 0)
+        number = chosen.randint(1, count)
+        done, files, reached, _ = LIVE.run(room, "growth", "one", number)
+        met += reached
+        require(is_live_run(room, done, files), f"growth {number}: {shown(done)}, files {sorted(files)}")
+    require(met > 0, "it met no refusal")
+    return LIVE_RUNS, met, ""
+
+
+# ---- reads and writes
+
+def fail_reads(job, how):
+    """A read that fails is a fault of the file, or of standard input. Files are read again where a read was interrupted."""
+    def trial(room):
+        expected = Expected(job, room)
+        number, met = 1, 0
+        while True:
+            done, files, reached, _ = job.run(room, "read", how, number)
+            if not reached:
+                break
+            in_input = job.given and expected.is_cut(done, files, READ) and files == expected.before
+            if how == "eintr":
+                right = in_input or expected.is_whole(done, files)
+            else:
+                right = in_input or expected.is_cut(done, files, NO_FILE, False) and files == expected.before
+            require(right, f"read {number}: {shown(done)}, files {sorted(files)}")
+            number, met = number + 1, met + 1
+        require(met > 0 and expected.is_whole(done, files), f"{met} reads were met, and then {shown(done)}")
+        return met + 1, met, ""
+    return trial
+
+
+def fail_writes(job, what, how):
+    """A write that fails is a fault of standard output, behind which the file is whole, or of the file, which is the old
+    one. A write that takes half of its bytes is gone on with, and one to a file that was interrupted is made again."""
+    def trial(room):
+        expected = Expected(job, room)
+        number, met = 1, 0
+        while True:
+            done, files, reached, _ = job.run(room, what, how, number)
+            if not reached:
+                break
+            to_output = expected.is_cut(done, files, WRITE) and files == expected.files
+            to_file = job.out and expected.is_cut(done, files, NO_FILE, False) and files == expected.before
+            if how == "half":
+                right = expected.is_whole(done, files)
+            elif how == "eintr" and what == "write":
+                right = to_output or expected.is_whole(done, files)
+            else:
+                right = to_output or to_file
+            require(right, f"{what} {number}: {shown(done)}, files {sorted(files)}")
+            number, met = number + 1, met + 1
+        require(met > 0 and expected.is_whole(done, files), f"{met} were met, and then {shown(done)}")
+        return met + 1, met, ""
+    return trial
+
+
+# ---- kills
+
+def is_left(files, before, whole, beginning):
+    """Whether the old file or the whole new one stands, and beside it at most a beginning of the new one, as OUT.0."""
+    rest = {name: data for name, data in files.items() if name not in ("out", "out.0")}
+    stands = files.get("out") == OLD or whole(files.get("out"))
+    return stands and rest == before and ("out.0" not in files or beginning(files["out.0"]))
+
+
+def kill(job, how):
+    """A kill at each write, sync and rename leaves the old file or the whole new one."""
+    def trial(room):
+        expected = Expected(job, room)
+        before = {name: data for name, data in expected.before.items() if name != "out"}
+        if job is LIVE:
+            def whole(data):
+                return data is not None and replayed(room, data) is not None
+
+            def beginning(data):
+                return b"URTRACE2".startswith(data[:8])
+        else:
+            def whole(data):
+                return data == expected.out
+
+            def beginning(data):
+                return expected.out.startswith(data)
+        number = 1
+        while True:
+            done, files, reached, _ = job.run(room, "write,sync,rename", how, number)
+            if not reached:
+                break
+            require(done.returncode == -9, f"at {number} it wasn't killed: {shown(done)}")
+            require(is_left(files, before, whole, beginning), f"killed at {number}: files {sorted(files)}")
+            number += 1
+        require(number > 3 and done.returncode == 0, f"{number - 1} were met, and then {shown(done)}")
+        return number, number - 1, ""
+    return trial
+
+
+def all_trials():
+    for job in FIXED + (HELP, WRONG_WORDS):
+        yield f"growths of {job.name}", refuse_growths(job)
+    yield "growths of live", refuse_growths_of_threads
+    for job in FIXED:
+        for how in ("eio", "eintr"):
+            yield f"reads of {job.name}, {how}", fail_reads(job, how)
+        for how in ("eio", "enospc", "eintr", "half"):
+            yield f"writes of {job.name}, {how}", fail_writes(job, "write", how)
+        for what in ("sync", "rename") if job.out else ():
+            for how in ("eio", "enospc"):
+                yield f"{what} of {job.name}, {how}", fail_writes(job, what, how)
+    for job in (TRACE, TRACE_1, MIGRATE, LIVE):
+        for how in ("kill", "torn"):
+            yield f"{job.name}, {how}", kill(job, how)
