@@ -4,7 +4,7 @@ use Rattle.std.specs.Io.KnownBytes.{IsAtEnd}
 use Rattle.debug_server.specs.SessionStates.{SessionState}
 use Rattle.debug_server.specs.Replies.{Answer, Reply, reply}
 use Rattle.debug_server.specs.Lines.{lines_of, ended_lines}
-use Rattle.debug_server.specs.Transcripts.{asks, answer_for, answers_left, lacks, Transcript, transcript, prepended, ended, output, Asked, Unanswered, unanswered, Streams, streams, Served, Broke}
+use Rattle.debug_server.specs.Transcripts.{asks, given_to, line_on, Transcript, transcript, prepended, ended, output, Asked, Unanswered, unanswered, Streams, streams, Served, Broke}
 use Rattle.debug_server.specs.SessionStates.{SessionValue}
 use Rattle.debug_server.specs.declared.faults.ServeFault.{ServeFault}
 use Rattle.debug_server.specs.declared.faults.RunFault.TheVariants.{Serve}
@@ -31,7 +31,7 @@ pub record Alike (t u : Transcript) : Type 0 where
 
 -- the transcript over a line and those behind it, where the source is asked for it or not
 abbrev first : Bool → SessionState → List ℕ → List (List ℕ) → List Answer → Transcript
-first q v l ls ts = cond (lacks q ts) (ended v false None) (prepended (reply v l (answer_for q ts)).text (cond (reply v l (answer_for q ts)).quits (ended (reply v l (answer_for q ts)).next true (Some (answers_left q ts))) (transcript (reply v l (answer_for q ts)).next ls (answers_left q ts))))
+first q v l ls ts = line_on v l (given_to q ts) (λ w us. transcript w ls us)
 
 -- where all of the first answers are used up
 abbrev Same : List (List ℕ) → Type 0

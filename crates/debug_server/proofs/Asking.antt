@@ -6,9 +6,9 @@ use Rattle.std.specs.Str.{bytes_eq}
 use Rattle.std.specs.Io.KnownBytes.{Appends, Consumes, Keeps, IsAtEnd}
 use Rattle.whole_files.specs.Writes.{WritesFront}
 use Rattle.debug_server.specs.SessionStates.{SessionState}
-use Rattle.debug_server.specs.Replies.{Answer, Reply, reply}
+use Rattle.debug_server.specs.Replies.{Answer, reply}
 use Rattle.debug_server.specs.Lines.{lines_of, ended_lines}
-use Rattle.debug_server.specs.Transcripts.{asks, answer_for, turn, Fits, Transcript, transcript, output, streams, Asked, Served, BrokeBy}
+use Rattle.debug_server.specs.Transcripts.{asks, given_to, Transcript, transcript, output, streams, Asked, Served, BrokeBy}
 use Rattle.debug_server.specs.declared.faults.ServeFault.{ServeFault}
 use Rattle.debug_server.specs.declared.faults.ServeFault.TheVariants.{Memory, Closed}
 use Rattle.debug_server.specs.Pending.{IsPending, grown, IsOfReplying, Gave, FillsBy, BreaksBy, EndsBy, FrontBy, ReadsBy}
@@ -50,55 +50,42 @@ module _ {S : Type 0} (gives : S → Answer → S → Type 0) where
 
   -- ---- one line
 
-  -- the reply, by what the source gave
-  given : (v : SessionState) (line : List ℕ) (s s' : S) (answer : Answer) (g : Gave gives line s answer s') → reply v line answer ≡ turn v line g.answers
-  given v line s s' answer g = ap (reply v line) g.same
-
   pub asked_none : (line : List ℕ) (s : S) → asks line ≡ false → Gave gives line s None s
   asked_none line s h = record {
     answers = [];
     asked = refl;
-    fits = let P : Bool → Type 0 = λ q. Fits q [] in subst P (sym h) tt;
-    same = ap (λ q. answer_for q []) (sym h);
+    given = ap (λ q. given_to q []) h;
   }
 
   pub asked_once : (line : List ℕ) (s s' : S) (answer : Answer) → asks line ≡ true → gives s answer s' → Gave gives line s answer s'
   asked_once line s s' answer h g = record {
     answers = answer ∷ [];
     asked = (s', g, refl);
-    fits = let P : Bool → Type 0 = λ q. Fits q (answer ∷ []) in subst P (sym h) tt;
-    same = ap (λ q. answer_for q (answer ∷ [])) (sym h);
+    given = ap (λ q. given_to q (answer ∷ [])) h;
   }
 
   -- the same answer, lent
   pub lent_gave : (line : List ℕ) (s s' : S) (t answer : Answer) → t ≡ answer → Gave gives line s answer s' → Gave gives line s t s'
-  lent_gave line s s' t answer e g = record { answers = g.answers; asked = g.asked; fits = g.fits; same = e ∙ g.same }
+  lent_gave line s s' t answer e g = let P : Answer → Type 0 = λ x. Gave gives line s x s' in subst P (sym e) g
 
   pub byte_by : (s : S) (v : SessionState) (line line' : List ℕ) (b : ℕ) (h : Option (List ℕ)) → IsPending line → (b == 10) ≡ false → line' ≡ grown line b → FillsBy gives s s v (line ++ b ∷ []) h h false v line'
   byte_by s v line line' b h p e g = record { answers = []; asked = refl; fills = byte_at v line line' b h p e g }
 
   pub ended_by : (s s' : S) (v v' : SessionState) (line text line' : List ℕ) (b : ℕ) (q : Bool) (answer : Answer) (h h' : Option (List ℕ)) → IsPending line → b ≡ 10 → text ≡ line → Gave gives text s answer s' → Appends h h' (reply v text answer).text → v' ≡ (reply v text answer).next → q ≡ (reply v text answer).quits → line' ≡ [] → FillsBy gives s s' v (line ++ b ∷ []) h h' q v' line'
-  ended_by s s' v v' line text line' b q answer h h' p e t g a n k l =
-      let same = given v text s s' answer g in
-      record {
-        answers = g.answers;
-        asked = g.asked;
-        fills = ended_at v v' line text line' g.answers b q h h' p g.fits e t
-            (subst (Appends h h') (ap (λ (r : Reply). r.text) same) a)
-            (n ∙ ap (λ (r : Reply). r.next) same)
-            (k ∙ ap (λ (r : Reply). r.quits) same) l;
-      }
+  ended_by s s' v v' line text line' b q answer h h' p e t g a n k l = record {
+    answers = g.answers;
+    asked = g.asked;
+    fills = ended_at v v' line text line' g.answers answer b q h h' p g.given e t a n k l;
+  }
 
   pub cut_by : (fails : S → S → Type 0) (s s' : S) (fault : ServeFault) (v : SessionState) (line text : List ℕ) (b : ℕ) (answer : Answer) (h h' : Option (List ℕ)) → IsPending line → b ≡ 10 → text ≡ line → Gave gives text s answer s' → WritesFront h h' (reply v text answer).text → BreaksBy gives fails s s' fault v (line ++ b ∷ []) h h'
-  cut_by fails s s' fault v line text b answer h h' p e t g f =
-      let P : List ℕ → Type 0 = λ x. WritesFront h h' x in
-      record {
-        answers = g.answers;
-        mid = s';
-        asked = g.asked;
-        no_more = inl refl;
-        breaks = cut_at v line text g.answers b h h' p g.fits e t (subst P (ap (λ (r : Reply). r.text) (given v text s s' answer g)) f);
-      }
+  cut_by fails s s' fault v line text b answer h h' p e t g f = record {
+    answers = g.answers;
+    mid = s';
+    asked = g.asked;
+    no_more = inl refl;
+    breaks = cut_at v line text g.answers answer b h h' p g.given e t f;
+  }
 
   -- the source gave nothing, so nothing was written
   pub unasked_by : (fails : S → S → Type 0) (s s' : S) (fault : ServeFault) (v : SessionState) (line text : List ℕ) (b : ℕ) (h : Option (List ℕ)) → IsPending line → b ≡ 10 → text ≡ line → fault ≡ Memory → asks text ≡ true → fails s s' → BreaksBy gives fails s s' fault v (line ++ b ∷ []) h h
@@ -149,35 +136,24 @@ module _ {S : Type 0} (gives : S → Answer → S → Type 0) where
   ends_none s v line h e = record { answers = []; asked = refl; ends = ends_empty v line h e }
 
   pub ends_by : (s s' : S) (v v' : SessionState) (line : List ℕ) (q : Bool) (answer : Answer) (h h' : Option (List ℕ)) → IsPending line → 0 < length line → Gave gives line s answer s' → Appends h h' (reply v line answer).text → v' ≡ (reply v line answer).next → q ≡ (reply v line answer).quits → EndsBy gives s s' v line h h' q v'
-  ends_by s s' v v' line q answer h h' p some g a n k =
-      let same = given v line s s' answer g in
-      record {
-        answers = g.answers;
-        asked = g.asked;
-        ends = ends_line v v' line g.answers h h' q p some g.fits
-            (subst (Appends h h') (ap (λ (r : Reply). r.text) same) a)
-            (n ∙ ap (λ (r : Reply). r.next) same)
-            (k ∙ ap (λ (r : Reply). r.quits) same);
-      }
+  ends_by s s' v v' line q answer h h' p some g a n k = record {
+    answers = g.answers;
+    asked = g.asked;
+    ends = ends_line v v' line g.answers answer h h' q p some g.given a n k;
+  }
 
   pub front_by : (fails : S → S → Type 0) (s s' : S) (fault : ServeFault) (v : SessionState) (line : List ℕ) (answer : Answer) (h h' : Option (List ℕ)) → IsPending line → 0 < length line → Gave gives line s answer s' → WritesFront h h' (reply v line answer).text → FrontBy gives fails s s' fault v line h h'
-  front_by fails s s' fault v line answer h h' p some g f =
-      let P : List ℕ → Type 0 = λ x. WritesFront h h' x in
-      record {
-        answers = g.answers;
-        mid = s';
-        asked = g.asked;
-        no_more = inl refl;
-        used = last_used v line g.answers p some g.fits;
-        front = front_line v line g.answers h h' p some g.fits (subst P (ap (λ (r : Reply). r.text) (given v line s s' answer g)) f);
-      }
+  front_by fails s s' fault v line answer h h' p some g f = record {
+    answers = g.answers;
+    gave = record { last = s'; asked = g.asked; no_more = inl refl };
+    used = last_used v line g.answers answer p some g.given;
+    front = front_line v line g.answers answer h h' p some g.given f;
+  }
 
   pub front_none : (fails : S → S → Type 0) (s s' : S) (fault : ServeFault) (v : SessionState) (line : List ℕ) (h : Option (List ℕ)) → IsPending line → 0 < length line → fault ≡ Memory → asks line ≡ true → fails s s' → FrontBy gives fails s s' fault v line h h
   front_none fails s s' fault v line h p some m a k = record {
     answers = [];
-    mid = s;
-    asked = refl;
-    no_more = inr (m, last_lacking v line p some a, k);
+    gave = record { last = s; asked = refl; no_more = inr (m, last_lacking v line p some a, k) };
     used = alone_asked (lines_of line) v;
     front = record { front = []; rest = output v (lines_of line) []; whole = refl; appended = Appends-nil h };
   }
@@ -220,10 +196,8 @@ module _ {S : Type 0} (gives : S → Answer → S → Type 0) where
   pub broke_by : (fails : S → S → Type 0) (s m : S) (fault : ServeFault) (w v : SessionState) (r r' r'' h h' : Option (List ℕ)) (line : List ℕ) → ReadsBy gives s m w r r' h h' v line → Keeps r' r'' → IsPending line → BrokeBy gives fails s m fault w (streams r h) (streams r'' h')
   broke_by fails s m fault w v r r' r'' h h' line f k p = record {
     answers = f.answers;
-    last = m;
-    given = f.asked;
     broke = broke_read w v r r' r'' h h' f.answers line fault f.reads k p;
-    no_more = inl refl;
+    gave = record { last = m; asked = f.asked; no_more = inl refl };
   }
 
   pub broke_end_by : (fails : S → S → Type 0) (s m s' : S) (fault : ServeFault) (w v : SessionState) (r r' r'' h h' h'' : Option (List ℕ)) (line text : List ℕ) → ReadsBy gives s m w r r' h h' v line → Consumes r' r'' [] → IsAtEnd r'' → text ≡ line → IsOfReplying fault → FrontBy gives fails m s' fault v text h' h'' → BrokeBy gives fails s s' fault w (streams r h) (streams r'' h'')
@@ -231,19 +205,23 @@ module _ {S : Type 0} (gives : S → Answer → S → Type 0) where
       let g = front_at fails m s' fault v line text h' h'' t k in
       record {
         answers = f.answers ++ g.answers;
-        last = g.mid;
-        given = asked_trans s m g.mid f.answers g.answers f.asked g.asked;
         broke = broke_end w v r r' r'' h h' h'' f.answers g.answers line fault f.reads c e o g.front g.used;
-        no_more = elim g.no_more [ inl e ↦ inl e | inr n ↦ inr (n.0, ap (λ (x : Transcript). x.left) (ended_later w v r r' h h' f.answers g.answers line f.reads) ∙ n.1, n.2) ];
+        gave = record {
+          last = g.gave.last;
+          asked = asked_trans s m g.gave.last f.answers g.answers f.asked g.gave.asked;
+          no_more = elim g.gave.no_more [ inl e ↦ inl e | inr n ↦ inr (n.0, ap (λ (x : Transcript). x.left) (ended_later w v r r' h h' f.answers g.answers line f.reads) ∙ n.1, n.2) ];
+        };
       }
 
   pub broke_feed_by : (fails : S → S → Type 0) (s m s' : S) (fault : ServeFault) (w v : SessionState) (r r' r'' h h' h'' : Option (List ℕ)) (line bytes : List ℕ) → ReadsBy gives s m w r r' h h' v line → Consumes r' r'' bytes → IsOfReplying fault → BreaksBy gives fails m s' fault v (line ++ bytes) h' h'' → BrokeBy gives fails s s' fault w (streams r h) (streams r'' h'')
   broke_feed_by fails s m s' fault w v r r' r'' h h' h'' line bytes f c o g = record {
     answers = f.answers ++ g.answers;
-    last = g.mid;
-    given = asked_trans s m g.mid f.answers g.answers f.asked g.asked;
     broke = broke_feed w v r r' r'' h h' h'' f.answers g.answers line bytes fault f.reads c o g.breaks;
-    no_more = elim g.no_more [ inl e ↦ inl e | inr n ↦ inr (n.0, ap (λ (x : Transcript). x.left) (fed_later w v r r' h h' f.answers g.answers line bytes f.reads) ∙ n.1 [], n.2) ];
+    gave = record {
+      last = g.mid;
+      asked = asked_trans s m g.mid f.answers g.answers f.asked g.asked;
+      no_more = elim g.no_more [ inl e ↦ inl e | inr n ↦ inr (n.0, ap (λ (x : Transcript). x.left) (fed_later w v r r' h h' f.answers g.answers line bytes f.reads) ∙ n.1 [], n.2) ];
+    };
   }
 
 pub with_replying : {X : Type 0} (P : ServeFault → Type 0) (r : Result X ServeFault) → IfErr r P → IfErr r IsOfReplying → IfErr r (λ e. P e × IsOfReplying e)

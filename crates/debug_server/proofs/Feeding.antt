@@ -5,12 +5,12 @@ use Rattle.std.proofs.KnownBytes.{Appends-nil, Appends-trans}
 use Rattle.std.specs.Io.KnownBytes.{Appends}
 use Rattle.whole_files.specs.Writes.{WritesFront}
 use Rattle.debug_server.specs.SessionStates.{SessionState}
-use Rattle.debug_server.specs.Replies.{Answer}
+use Rattle.debug_server.specs.Replies.{Answer, reply}
 use Rattle.debug_server.specs.Lines.{lines_by, ended_lines}
-use Rattle.debug_server.specs.Transcripts.{asks, Fits, turn, Transcript, transcript, prepended, output, AllAsked}
+use Rattle.debug_server.specs.Transcripts.{asks, Transcript, transcript, prepended, output}
 use Rattle.debug_server.specs.Pending.{IsPending, grown, rest_of, Fed, Fills, Breaks}
 use Rattle.debug_server.proofs.Bytes.{lines_by-ended}
-use Rattle.debug_server.proofs.Turns.{transcript_line, prepended_prepended, grown_alike, rest_asked}
+use Rattle.debug_server.proofs.Turns.{Takes, NoneOver, transcript_line, prepended_prepended, grown_alike, rest_asked}
 
 pub fed_start : (w : SessionState) (line : List ℕ) → Fed w line [] [] false w line
 fed_start w line = record { law = λ last more others. refl }
@@ -22,15 +22,15 @@ fed_byte w w' bytes ts written line b f p e = record {
 }
 
 -- a newline
-pub fed_ended : (w w' : SessionState) (bytes : List ℕ) (ts given : List Answer) (written line : List ℕ) → Fed w bytes ts written false w' line → IsPending line → Fits (asks line) given → Fed w (bytes ++ 10 ∷ []) (ts ++ given) (written ++ (turn w' line given).text) (turn w' line given).quits (turn w' line given).next []
-fed_ended w w' bytes ts given written line f p fits = record {
+pub fed_ended : (w w' : SessionState) (bytes : List ℕ) (ts given : List Answer) (answer : Answer) (written line : List ℕ) → Fed w bytes ts written false w' line → IsPending line → Takes (asks line) given answer → Fed w (bytes ++ 10 ∷ []) (ts ++ given) (written ++ (reply w' line answer).text) (reply w' line answer).quits (reply w' line answer).next []
+fed_ended w w' bytes ts given answer written line f p fits = record {
   law = λ last more others.
       ap (λ l. transcript w (lines_by last l) ((ts ++ given) ++ others)) (append_assoc bytes (10 ∷ []) more)
       ∙ ap (λ l. transcript w (lines_by last (bytes ++ 10 ∷ more)) l) (append_assoc ts given others)
       ∙ f.law last (10 ∷ more) (given ++ others)
       ∙ ap (λ ls. prepended written (transcript w' ls (given ++ others))) (lines_by-ended last line more p.plain)
-      ∙ ap (prepended written) (transcript_line w' line (lines_by last more) given others fits)
-      ∙ prepended_prepended written (turn w' line given).text (rest_of last (turn w' line given).quits (turn w' line given).next more others);
+      ∙ ap (prepended written) (transcript_line w' line (lines_by last more) given others answer fits)
+      ∙ prepended_prepended written (reply w' line answer).text (rest_of last (reply w' line answer).quits (reply w' line answer).next more others);
 }
 
 -- bytes behind a line that quits
@@ -67,8 +67,8 @@ fills_start w line h = record { written = []; appended = Appends-nil h; fed = fe
 pub fills_byte : (w : SessionState) (line : List ℕ) (b : ℕ) (h : Option (List ℕ)) → IsPending line → (b == 10) ≡ false → Fills w (line ++ b ∷ []) [] h h false w (grown line b)
 fills_byte w line b h p e = record { written = []; appended = Appends-nil h; fed = fed_byte w w line [] [] line b (fed_start w line) p e }
 
-pub fills_ended : (w : SessionState) (line : List ℕ) (given : List Answer) (h h' : Option (List ℕ)) → IsPending line → Fits (asks line) given → Appends h h' (turn w line given).text → Fills w (line ++ 10 ∷ []) given h h' (turn w line given).quits (turn w line given).next []
-fills_ended w line given h h' p fits a = record { written = (turn w line given).text; appended = a; fed = fed_ended w w line [] given [] line (fed_start w line) p fits }
+pub fills_ended : (w : SessionState) (line : List ℕ) (given : List Answer) (answer : Answer) (h h' : Option (List ℕ)) → IsPending line → Takes (asks line) given answer → Appends h h' (reply w line answer).text → Fills w (line ++ 10 ∷ []) given h h' (reply w line answer).quits (reply w line answer).next []
+fills_ended w line given answer h h' p fits a = record { written = (reply w line answer).text; appended = a; fed = fed_ended w w line [] given answer [] line (fed_start w line) p fits }
 
 pub fills_trans : (w v u : SessionState) (bytes line bytes' line' : List ℕ) (ts ts' : List Answer) (h h' h'' : Option (List ℕ)) (q : Bool) → Fills w bytes ts h h' false v line → Fills v (line ++ bytes') ts' h' h'' q u line' → Fills w (bytes ++ bytes') (ts ++ ts') h h'' q u line'
 fills_trans w v u bytes line bytes' line' ts ts' h h' h'' q f g = record {
@@ -81,18 +81,18 @@ pub fills_past : (w w' : SessionState) (bytes rest : List ℕ) (ts : List Answer
 fills_past w w' bytes rest ts line line' h h' f = record { written = f.written; appended = f.appended; fed = fed_past w w' bytes rest ts f.written line line' f.fed }
 
 -- the reply to the line was cut short
-pub breaks_ended : (w : SessionState) (line : List ℕ) (given : List Answer) (h h' : Option (List ℕ)) → IsPending line → Fits (asks line) given → WritesFront h h' (turn w line given).text → Breaks w (line ++ 10 ∷ []) given h h'
-breaks_ended w line given h h' p fits f = record {
+pub breaks_ended : (w : SessionState) (line : List ℕ) (given : List Answer) (answer : Answer) (h h' : Option (List ℕ)) → IsPending line → Takes (asks line) given answer → WritesFront h h' (reply w line answer).text → Breaks w (line ++ 10 ∷ []) given h h'
+breaks_ended w line given answer h h' p fits f = record {
   front = f.front;
   appended = f.appended;
-  begins = λ more others. let t = (fed_ended w w line [] given [] line (fed_start w line) p fits).law false more others in (
-    f.rest ++ (rest_of false (turn w line given).quits (turn w line given).next more others).text,
-    ap (λ (x : Transcript). x.text) t ∙ ap (λ l. l ++ (rest_of false (turn w line given).quits (turn w line given).next more others).text) f.whole ∙ append_assoc f.front f.rest (rest_of false (turn w line given).quits (turn w line given).next more others).text,
+  begins = λ more others. let t = (fed_ended w w line [] given answer [] line (fed_start w line) p fits).law false more others in (
+    f.rest ++ (rest_of false (reply w line answer).quits (reply w line answer).next more others).text,
+    ap (λ (x : Transcript). x.text) t ∙ ap (λ l. l ++ (rest_of false (reply w line answer).quits (reply w line answer).next more others).text) f.whole ∙ append_assoc f.front f.rest (rest_of false (reply w line answer).quits (reply w line answer).next more others).text,
   );
   asked = λ more.
-      let t = ap (transcript w (ended_lines ((line ++ 10 ∷ []) ++ more))) (sym (append-nil given)) ∙ (fed_ended w w line [] given [] line (fed_start w line) p fits).law false more [] in
-      let P : Transcript → Type 0 = λ x. AllAsked x.left in
-      subst P (sym t) (rest_asked false (turn w line given).quits (turn w line given).next more);
+      let t = ap (transcript w (ended_lines ((line ++ 10 ∷ []) ++ more))) (sym (append-nil given)) ∙ (fed_ended w w line [] given answer [] line (fed_start w line) p fits).law false more [] in
+      let P : Transcript → Type 0 = λ x. NoneOver x.left in
+      subst P (sym t) (rest_asked false (reply w line answer).quits (reply w line answer).next more);
 }
 
 pub breaks_more : (w : SessionState) (bytes rest : List ℕ) (ts : List Answer) (h h' : Option (List ℕ)) → Breaks w bytes ts h h' → Breaks w (bytes ++ rest) ts h h'
@@ -100,7 +100,7 @@ breaks_more w bytes rest ts h h' b = record {
   front = b.front;
   appended = b.appended;
   begins = λ more others. ((b.begins (rest ++ more) others).0, ap (λ l. output w (ended_lines l) (ts ++ others)) (append_assoc bytes rest more) ∙ (b.begins (rest ++ more) others).1);
-  asked = λ more. let P : List ℕ → Type 0 = λ l. AllAsked (transcript w (ended_lines l) ts).left in subst P (sym (append_assoc bytes rest more)) (b.asked (rest ++ more));
+  asked = λ more. let P : List ℕ → Type 0 = λ l. NoneOver (transcript w (ended_lines l) ts).left in subst P (sym (append_assoc bytes rest more)) (b.asked (rest ++ more));
 }
 
 -- the transcript goes on from where what was fed led
@@ -123,7 +123,7 @@ breaks_later w v bytes line bytes' ts ts' h h' h'' f b = record {
         ∙ ap (λ l. f.written ++ l) (b.begins more others).1
         ∙ sym (append_assoc f.written b.front (b.begins more others).0),
   );
-  asked = λ more. let P : Transcript → Type 0 = λ x. AllAsked x.left in subst P (sym (transcript_later w v bytes line bytes' ts ts' h h' f more)) (b.asked more);
+  asked = λ more. let P : Transcript → Type 0 = λ x. NoneOver x.left in subst P (sym (transcript_later w v bytes line bytes' ts ts' h h' f more)) (b.asked more);
 }
 
 -- ---- as the code has them
@@ -131,23 +131,23 @@ breaks_later w v bytes line bytes' ts ts' h h' h'' f b = record {
 pub byte_at : (w : SessionState) (line line' : List ℕ) (b : ℕ) (h : Option (List ℕ)) → IsPending line → (b == 10) ≡ false → line' ≡ grown line b → Fills w (line ++ b ∷ []) [] h h false w line'
 byte_at w line line' b h p e g = let P : List ℕ → Type 0 = λ l. Fills w (line ++ b ∷ []) [] h h false w l in subst P (sym g) (fills_byte w line b h p e)
 
-pub ended_at : (w w' : SessionState) (line text line' : List ℕ) (given : List Answer) (b : ℕ) (q : Bool) (h h' : Option (List ℕ)) → IsPending line → Fits (asks text) given → b ≡ 10 → text ≡ line → Appends h h' (turn w text given).text → w' ≡ (turn w text given).next → q ≡ (turn w text given).quits → line' ≡ [] → Fills w (line ++ b ∷ []) given h h' q w' line'
-ended_at w w' line text line' given b q h h' p fits e t a n s l =
-    let here : Fills w (text ++ 10 ∷ []) given h h' (turn w text given).quits (turn w text given).next [] =
-    let P : List ℕ → Type 0 = λ x. IsPending x in fills_ended w text given h h' (subst P (sym t) p) fits a in
-    let P1 : List ℕ → Type 0 = λ x. Fills w (x ++ 10 ∷ []) given h h' (turn w text given).quits (turn w text given).next [] in
-    let P2 : ℕ → Type 0 = λ x. Fills w (line ++ x ∷ []) given h h' (turn w text given).quits (turn w text given).next [] in
-    let P3 : Bool → Type 0 = λ x. Fills w (line ++ b ∷ []) given h h' x (turn w text given).next [] in
+pub ended_at : (w w' : SessionState) (line text line' : List ℕ) (given : List Answer) (answer : Answer) (b : ℕ) (q : Bool) (h h' : Option (List ℕ)) → IsPending line → Takes (asks text) given answer → b ≡ 10 → text ≡ line → Appends h h' (reply w text answer).text → w' ≡ (reply w text answer).next → q ≡ (reply w text answer).quits → line' ≡ [] → Fills w (line ++ b ∷ []) given h h' q w' line'
+ended_at w w' line text line' given answer b q h h' p fits e t a n s l =
+    let here : Fills w (text ++ 10 ∷ []) given h h' (reply w text answer).quits (reply w text answer).next [] =
+    let P : List ℕ → Type 0 = λ x. IsPending x in fills_ended w text given answer h h' (subst P (sym t) p) fits a in
+    let P1 : List ℕ → Type 0 = λ x. Fills w (x ++ 10 ∷ []) given h h' (reply w text answer).quits (reply w text answer).next [] in
+    let P2 : ℕ → Type 0 = λ x. Fills w (line ++ x ∷ []) given h h' (reply w text answer).quits (reply w text answer).next [] in
+    let P3 : Bool → Type 0 = λ x. Fills w (line ++ b ∷ []) given h h' x (reply w text answer).next [] in
     let P4 : SessionState → Type 0 = λ x. Fills w (line ++ b ∷ []) given h h' q x [] in
     let P5 : List ℕ → Type 0 = λ x. Fills w (line ++ b ∷ []) given h h' q w' x in
     subst P5 (sym l) (subst P4 (sym n) (subst P3 (sym s) (subst P2 (sym e) (subst P1 t here))))
 
-pub cut_at : (w : SessionState) (line text : List ℕ) (given : List Answer) (b : ℕ) (h h' : Option (List ℕ)) → IsPending line → Fits (asks text) given → b ≡ 10 → text ≡ line → WritesFront h h' (turn w text given).text → Breaks w (line ++ b ∷ []) given h h'
-cut_at w line text given b h h' p fits e t f =
+pub cut_at : (w : SessionState) (line text : List ℕ) (given : List Answer) (answer : Answer) (b : ℕ) (h h' : Option (List ℕ)) → IsPending line → Takes (asks text) given answer → b ≡ 10 → text ≡ line → WritesFront h h' (reply w text answer).text → Breaks w (line ++ b ∷ []) given h h'
+cut_at w line text given answer b h h' p fits e t f =
     let P : ℕ → Type 0 = λ x. Breaks w (line ++ x ∷ []) given h h' in
-    let Q : List ℕ → Type 0 = λ x. WritesFront h h' (turn w x given).text in
-    let F : List ℕ → Type 0 = λ x. Fits (asks x) given in
-    subst P (sym e) (breaks_ended w line given h h' p (subst F t fits) (subst Q t f))
+    let Q : List ℕ → Type 0 = λ x. WritesFront h h' (reply w x answer).text in
+    let F : List ℕ → Type 0 = λ x. Takes (asks x) given answer in
+    subst P (sym e) (breaks_ended w line given answer h h' p (subst F t fits) (subst Q t f))
 
 -- one more byte of a slice, and the bytes behind it
 seam : (line bytes : List ℕ) (i : ℕ) → i < length bytes → (line ++ take i bytes) ++ get_or bytes i 0 ∷ [] ≡ line ++ take (i + 1) bytes

@@ -4,14 +4,14 @@ use Rattle.std.proofs.KnownBytes.{Appends-nil, Appends-trans, Consumes-nil, Cons
 use Rattle.std.specs.Io.KnownBytes.{Appends, Consumes, Keeps, IsAtEnd}
 use Rattle.whole_files.specs.Writes.{WritesFront}
 use Rattle.debug_server.specs.SessionStates.{SessionState}
-use Rattle.debug_server.specs.Replies.{Answer, Reply}
+use Rattle.debug_server.specs.Replies.{Answer, Reply, reply}
 use Rattle.debug_server.specs.Lines.{lines_of, ended_lines}
-use Rattle.debug_server.specs.Transcripts.{asks, Fits, turn, Transcript, transcript, prepended, ended, output, streams, Served, AllAsked, Broke}
+use Rattle.debug_server.specs.Transcripts.{asks, Transcript, transcript, prepended, ended, output, streams, Served, Broke}
 use Rattle.debug_server.specs.declared.faults.ServeFault.{ServeFault}
 use Rattle.debug_server.specs.declared.faults.ServeFault.TheVariants.{Read}
 use Rattle.debug_server.specs.Pending.{IsPending, Fills, Breaks, IsOfReplying, Ends, Reads}
 use Rattle.debug_server.proofs.Bytes.{lines_of-last, ended_lines-plain}
-use Rattle.debug_server.proofs.Turns.{transcript_line, lacking}
+use Rattle.debug_server.proofs.Turns.{Takes, NoneOver, over_nil, transcript_line, lacking}
 use Rattle.debug_server.proofs.Feeding.{fills_start, fills_trans, breaks_later, transcript_later, fed_whole}
 
 after_quit : (q : Bool) (r : Reply) → prepended r.text (cond q (ended r.next true (Some [])) (ended r.next false (Some []))) ≡ record { text = r.text; next = r.next; quits = q; left = Some [] }
@@ -19,30 +19,30 @@ after_quit true r = ap (λ (x : List ℕ). let u : Transcript = record { text = 
 after_quit false r = ap (λ (x : List ℕ). let u : Transcript = record { text = x; next = r.next; quits = false; left = Some [] } in u) (append-nil r.text)
 
 -- a last line alone
-pub last_line : (w : SessionState) (line : List ℕ) (given : List Answer) → IsPending line → 0 < length line → Fits (asks line) given → transcript w (lines_of line) given ≡ record { text = (turn w line given).text; next = (turn w line given).next; quits = (turn w line given).quits; left = Some [] }
-last_line w line given p some fits =
+pub last_line : (w : SessionState) (line : List ℕ) (given : List Answer) (answer : Answer) → IsPending line → 0 < length line → Takes (asks line) given answer → transcript w (lines_of line) given ≡ record { text = (reply w line answer).text; next = (reply w line answer).next; quits = (reply w line answer).quits; left = Some [] }
+last_line w line given answer p some fits =
     ap (λ ls. transcript w ls given) (lines_of-last line p.plain some)
     ∙ ap (transcript w (line ∷ [])) (sym (append-nil given))
-    ∙ transcript_line w line [] given [] fits
-    ∙ after_quit (turn w line given).quits (turn w line given)
+    ∙ transcript_line w line [] given [] answer fits
+    ∙ after_quit (reply w line answer).quits (reply w line answer)
 
-pub ends_line : (w w' : SessionState) (line : List ℕ) (given : List Answer) (h h' : Option (List ℕ)) (q : Bool) → IsPending line → 0 < length line → Fits (asks line) given → Appends h h' (turn w line given).text → w' ≡ (turn w line given).next → q ≡ (turn w line given).quits → Ends w line given h h' q w'
-ends_line w w' line given h h' q p some fits a n s = record {
-  text = (turn w line given).text;
+pub ends_line : (w w' : SessionState) (line : List ℕ) (given : List Answer) (answer : Answer) (h h' : Option (List ℕ)) (q : Bool) → IsPending line → 0 < length line → Takes (asks line) given answer → Appends h h' (reply w line answer).text → w' ≡ (reply w line answer).next → q ≡ (reply w line answer).quits → Ends w line given h h' q w'
+ends_line w w' line given answer h h' q p some fits a n s = record {
+  text = (reply w line answer).text;
   written = a;
-  whole = last_line w line given p some fits
-      ∙ ap (λ (v : SessionState). let u : Transcript = record { text = (turn w line given).text; next = v; quits = (turn w line given).quits; left = Some [] } in u) (sym n)
-      ∙ ap (λ (z : Bool). let u : Transcript = record { text = (turn w line given).text; next = w'; quits = z; left = Some [] } in u) (sym s);
+  whole = last_line w line given answer p some fits
+      ∙ ap (λ (v : SessionState). let u : Transcript = record { text = (reply w line answer).text; next = v; quits = (reply w line answer).quits; left = Some [] } in u) (sym n)
+      ∙ ap (λ (z : Bool). let u : Transcript = record { text = (reply w line answer).text; next = w'; quits = z; left = Some [] } in u) (sym s);
 }
 
 -- an empty line
 pub ends_empty : (w : SessionState) (line : List ℕ) (h : Option (List ℕ)) → line ≡ [] → Ends w line [] h h false w
 ends_empty w line h e = record { text = []; written = Appends-nil h; whole = ap (λ l. transcript w (lines_of l) []) e }
 
-pub front_line : (w : SessionState) (line : List ℕ) (given : List Answer) (h h' : Option (List ℕ)) → IsPending line → 0 < length line → Fits (asks line) given → WritesFront h h' (turn w line given).text → WritesFront h h' (output w (lines_of line) given)
-front_line w line given h h' p some fits f =
+pub front_line : (w : SessionState) (line : List ℕ) (given : List Answer) (answer : Answer) (h h' : Option (List ℕ)) → IsPending line → 0 < length line → Takes (asks line) given answer → WritesFront h h' (reply w line answer).text → WritesFront h h' (output w (lines_of line) given)
+front_line w line given answer h h' p some fits f =
     let P : List ℕ → Type 0 = λ t. WritesFront h h' t in
-    subst P (sym (ap (λ (x : Transcript). x.text) (last_line w line given p some fits))) f
+    subst P (sym (ap (λ (x : Transcript). x.text) (last_line w line given answer p some fits))) f
 
 -- ---- reads
 
@@ -108,7 +108,7 @@ broke_read w v r r' r'' h h' ts line fault f k p =
       rest = [];
       begins = text ∙ sym (append-nil f.fills.written);
       written = f.fills.appended;
-      asked = let P : Transcript → Type 0 = λ x. AllAsked x.left in subst P (sym all) tt;
+      asked = let P : Transcript → Type 0 = λ x. NoneOver x.left in subst P (sym all) over_nil;
       whole = λ _. record { text = sym text; open_yet = ap (λ (x : Transcript). x.quits) all; asked = ap (λ (x : Transcript). x.left) all };
     }
 
@@ -124,15 +124,15 @@ pub last_lacking : (v : SessionState) (line : List ℕ) → IsPending line → 0
 last_lacking v line p some h = ap (λ ls. (transcript v ls []).left) (lines_of-last line p.plain some) ∙ lacking v line [] h
 
 -- no answer is left over behind the last line
-pub last_used : (v : SessionState) (line : List ℕ) (given : List Answer) → IsPending line → 0 < length line → Fits (asks line) given → AllAsked (transcript v (lines_of line) given).left
-last_used v line given p some fits = let P : Transcript → Type 0 = λ x. AllAsked x.left in subst P (sym (last_line v line given p some fits)) tt
+pub last_used : (v : SessionState) (line : List ℕ) (given : List Answer) (answer : Answer) → IsPending line → 0 < length line → Takes (asks line) given answer → NoneOver (transcript v (lines_of line) given).left
+last_used v line given answer p some fits = let P : Transcript → Type 0 = λ x. NoneOver x.left in subst P (sym (last_line v line given answer p some fits)) over_nil
 
 -- a fault of replying is none of reading
 pub not_reading : {X : Type 0} → (fault : ServeFault) → IsOfReplying fault → fault ≡ Read → X
 not_reading fault h e = absurd (let P : ServeFault → Type 0 = λ x. IsOfReplying x in subst P e h)
 
 -- the last line was answered in part
-abbrev pub broke_end : (w v : SessionState) (r r' r'' h h' h'' : Option (List ℕ)) (ts ts' : List Answer) (line : List ℕ) (fault : ServeFault) (f : Reads w r r' h h' ts v line) → Consumes r' r'' [] → IsAtEnd r'' → IsOfReplying fault → WritesFront h' h'' (output v (lines_of line) ts') → AllAsked (transcript v (lines_of line) ts').left → Broke w (streams r h) (streams r'' h'') (ts ++ ts') fault
+abbrev pub broke_end : (w v : SessionState) (r r' r'' h h' h'' : Option (List ℕ)) (ts ts' : List Answer) (line : List ℕ) (fault : ServeFault) (f : Reads w r r' h h' ts v line) → Consumes r' r'' [] → IsAtEnd r'' → IsOfReplying fault → WritesFront h' h'' (output v (lines_of line) ts') → NoneOver (transcript v (lines_of line) ts').left → Broke w (streams r h) (streams r'' h'') (ts ++ ts') fault
 broke_end w v r r' r'' h h' h'' ts ts' line fault f c e k g u = record {
   taken = f.taken ++ [];
   read = Consumes-trans r r' r'' f.taken [] f.read c;
@@ -142,7 +142,7 @@ broke_end w v r r' r'' h h' h'' ts ts' line fault f c e k g u = record {
   rest = g.rest;
   begins = ap (λ (x : Transcript). x.text) (ended_later w v r r' h h' ts ts' line f) ∙ ap (λ l. f.fills.written ++ l) g.whole ∙ sym (append_assoc f.fills.written g.front g.rest);
   written = Appends-trans h h' h'' f.fills.written g.front f.fills.appended g.appended;
-  asked = let P : Transcript → Type 0 = λ x. AllAsked x.left in subst P (sym (ended_later w v r r' h h' ts ts' line f)) u;
+  asked = let P : Transcript → Type 0 = λ x. NoneOver x.left in subst P (sym (ended_later w v r r' h h' ts ts' line f)) u;
   whole = not_reading fault k;
 }
 
@@ -159,7 +159,7 @@ broke_feed w v r r' r'' h h' h'' ts ts' line bytes fault f c k g =
       rest = (all.begins [] []).0;
       begins = ap (λ l. output w (ended_lines l) (ts ++ ts')) (sym (append-nil (f.taken ++ bytes))) ∙ ap (output w (ended_lines ((f.taken ++ bytes) ++ []))) (sym (append-nil (ts ++ ts'))) ∙ (all.begins [] []).1;
       written = all.appended;
-      asked = let P : Transcript → Type 0 = λ x. AllAsked x.left in subst P (sym (fed_later w v r r' h h' ts ts' line bytes f)) (g.asked []);
+      asked = let P : Transcript → Type 0 = λ x. NoneOver x.left in subst P (sym (fed_later w v r r' h h' ts ts' line bytes f)) (g.asked []);
       whole = not_reading fault k;
     }
 

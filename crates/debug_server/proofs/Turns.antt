@@ -1,5 +1,5 @@
 -- One line of a transcript.
-use Rattle.std.proofs.Common.{◌≡◌, ◌⊎◌, inl, inr, ℕ, ◌==◌, ◌<◌, ◌≤◌, List, [], ◌∷◌, ◌++◌, length, nat_lt, Bool, true, false, cond, Some, None, refl, sym, ap, ◌∙◌, subst, arith, codes, rules, append_assoc, length-append}
+use Rattle.std.proofs.Common.{◌≡◌, ◌⊎◌, inl, inr, ℕ, ◌==◌, ◌<◌, ◌≤◌, List, [], ◌∷◌, ◌++◌, length, nat_lt, Bool, true, false, cond, Option, Some, None, refl, sym, ap, ◌∙◌, arith, codes, rules, append_assoc, length-append}
 use Rattle.std.proofs.lemmas.Bool.Decides.{nat_tests}
 use Rattle.std.specs.Cmp.Lexicographic.{bytes_decides}
 use Rattle.std.specs.Str.{bytes_eq}
@@ -7,7 +7,7 @@ use Rattle.debug_server.specs.SessionStates.{SessionState}
 use Rattle.debug_server.specs.Commands.{command_of}
 use Rattle.debug_server.specs.Replies.{Answer, Reply, reply}
 use Rattle.debug_server.specs.Lines.{onto_line, lines_by}
-use Rattle.debug_server.specs.Transcripts.{asks, answer_for, answers_left, lacks, Fits, turn, Transcript, transcript, prepended, ended, AllAsked}
+use Rattle.debug_server.specs.Transcripts.{asks, Given, given_to, line_on, Transcript, transcript, prepended, ended}
 use Rattle.debug_server.specs.Pending.{IsPending, grown, rest_of}
 use Rattle.debug_server.proofs.Bytes.{onto_lines, onto_lines-cons, onto_lines-nil, lines_by-plain, grown_room, grown_full}
 
@@ -20,52 +20,60 @@ asks_short line h = by (bytes_eq line (codes "sync")) refl
     by true e = absurd (let n : length line ≡ 4 = ap length ((bytes_decides line (codes "sync")).0 e) in omega arith)
     by false e = e
 
-lacks_fits : (q : Bool) (given others : List Answer) → Fits q given → lacks q (given ++ others) ≡ false
-lacks_fits false [] others h = refl
-lacks_fits false (a ∷ ts) others h = absurd h
-lacks_fits true [] others h = absurd h
-lacks_fits true (a ∷ ts) others h = refl
+-- a line takes just these answers, and gets this one
+abbrev pub Takes : Bool → List Answer → Answer → Type 0
+Takes q ts answer = given_to q ts ≡ Some (record { answer = answer; left = [] })
 
-answer_for_fits : (q : Bool) (given others : List Answer) → Fits q given → answer_for q (given ++ others) ≡ answer_for q given
-answer_for_fits false [] others h = refl
-answer_for_fits false (a ∷ ts) others h = absurd h
-answer_for_fits true [] others h = absurd h
-answer_for_fits true (a ∷ ts) others h = refl
-
-answers_left_fits : (q : Bool) (given others : List Answer) → Fits q given → answers_left q (given ++ others) ≡ others
-answers_left_fits false [] others h = refl
-answers_left_fits false (a ∷ ts) others h = absurd h
-answers_left_fits true [] others h = absurd h
-answers_left_fits true (a ∷ []) others h = refl
-answers_left_fits true (a ∷ b ∷ ts) others h = absurd h
+-- the answers behind those that it takes are left
+given_behind : (q : Bool) (ts others : List Answer) (g : Given) → given_to q ts ≡ Some g → given_to q (ts ++ others) ≡ Some (record { answer = g.answer; left = g.left ++ others })
+given_behind false ts others g h =
+    let was : Given = record { answer = None; left = ts } in
+    let same : was ≡ g = cc in
+    ap (λ (x : Given). let y : Given = record { answer = x.answer; left = x.left ++ others } in Some y) same
+given_behind true [] others g h = absurd (cc)
+given_behind true (a ∷ ts) others g h =
+    let was : Given = record { answer = a; left = ts } in
+    let same : was ≡ g = cc in
+    ap (λ (x : Given). let y : Given = record { answer = x.answer; left = x.left ++ others } in Some y) same
 
 -- what is said after a reply
 abbrev pub then_prepended : Reply → List (List ℕ) → List Answer → Transcript
 then_prepended r ls ts = prepended r.text (cond r.quits (ended r.next true (Some ts)) (transcript r.next ls ts))
 
-pub transcript_line : (w : SessionState) (l : List ℕ) (ls : List (List ℕ)) (given others : List Answer) → Fits (asks l) given → transcript w (l ∷ ls) (given ++ others) ≡ then_prepended (turn w l given) ls others
-transcript_line w l ls given others h = rw (lacks_fits (asks l) given others h, answer_for_fits (asks l) given others h, answers_left_fits (asks l) given others h) refl
+pub transcript_line : (w : SessionState) (l : List ℕ) (ls : List (List ℕ)) (given others : List Answer) (answer : Answer) → Takes (asks l) given answer → transcript w (l ∷ ls) (given ++ others) ≡ then_prepended (reply w l answer) ls others
+transcript_line w l ls given others answer h =
+    ap (λ (o : Option Given). line_on w l o (λ v us. transcript v ls us)) (given_behind (asks l) given others (record { answer = answer; left = [] }) h)
+
+-- no answer is left over
+abbrev pub NoneOver : Option (List Answer) → Type 0
+NoneOver left = (ts : List Answer) → left ≡ Some ts → ts ≡ []
+
+pub over_none : NoneOver None
+over_none ts e = absurd (cc)
+
+pub over_nil : NoneOver (Some [])
+over_nil ts e = cc
 
 -- where the transcript over later lines leaves no answer, so does a reply before it
 abbrev AskedLater : List (List ℕ) → Type 0
-AskedLater ls = (v : SessionState) → AllAsked (transcript v ls []).left
+AskedLater ls = (v : SessionState) → NoneOver (transcript v ls []).left
 
-asked_behind : (ls : List (List ℕ)) (r : Reply) (q : Bool) → AskedLater ls → AllAsked (prepended r.text (cond q (ended r.next true (Some [])) (transcript r.next ls []))).left
-asked_behind ls r true f = tt
+asked_behind : (ls : List (List ℕ)) (r : Reply) (q : Bool) → AskedLater ls → NoneOver (prepended r.text (cond q (ended r.next true (Some [])) (transcript r.next ls []))).left
+asked_behind ls r true f = over_nil
 asked_behind ls r false f = f r.next
 
-asked_line : (q : Bool) (v : SessionState) (l : List ℕ) (ls : List (List ℕ)) → AskedLater ls → AllAsked (cond (lacks q []) (ended v false None) (prepended (reply v l (answer_for q [])).text (cond (reply v l (answer_for q [])).quits (ended (reply v l (answer_for q [])).next true (Some (answers_left q []))) (transcript (reply v l (answer_for q [])).next ls (answers_left q []))))).left
-asked_line true v l ls f = tt
+asked_line : (q : Bool) (v : SessionState) (l : List ℕ) (ls : List (List ℕ)) → AskedLater ls → NoneOver (line_on v l (given_to q []) (λ w us. transcript w ls us)).left
+asked_line true v l ls f = over_none
 asked_line false v l ls f = asked_behind ls (reply v l None) (reply v l None).quits f
 
 -- without an answer a transcript goes up to the first line that asks
-pub alone_asked : (ls : List (List ℕ)) (v : SessionState) → AllAsked (transcript v ls []).left
-alone_asked [] v = tt
+pub alone_asked : (ls : List (List ℕ)) (v : SessionState) → NoneOver (transcript v ls []).left
+alone_asked [] v = over_nil
 alone_asked (l ∷ ls) v = asked_line (asks l) v l ls (λ w. alone_asked ls w)
 
 -- what is left to say without an answer
-pub rest_asked : (last q : Bool) (v : SessionState) (line : List ℕ) → AllAsked (rest_of last q v line []).left
-rest_asked last true v line = tt
+pub rest_asked : (last q : Bool) (v : SessionState) (line : List ℕ) → NoneOver (rest_of last q v line []).left
+rest_asked last true v line = over_nil
 rest_asked last false v line = alone_asked (lines_by last line) v
 
 -- a line that asks, and no answer
@@ -83,15 +91,15 @@ reply_long w a b t p q =
     let y : nat_lt 256 (length b) ≡ true = search (rules, nat_tests) in
     rw (x, y)
 
-fits_short : (line : List ℕ) → 256 < length line → Fits (asks line) []
-fits_short line h = let P : Bool → Type 0 = λ q. Fits q [] in subst P (sym (asks_short line h)) tt
+takes_short : (line : List ℕ) → 256 < length line → Takes (asks line) [] None
+takes_short line h = ap (λ q. given_to q []) (asks_short line h)
 
 -- a transcript goes by the first line's reply
 transcript_first : (w : SessionState) (a b : List ℕ) (ls : List (List ℕ)) (ts : List Answer) → 256 < length a → 256 < length b → transcript w (a ∷ ls) ts ≡ transcript w (b ∷ ls) ts
 transcript_first w a b ls ts p q =
-    transcript_line w a ls [] ts (fits_short a p)
-    ∙ ap (λ r. then_prepended r ls ts) (ap (reply w a) (ap (λ z. answer_for z []) (asks_short a p)) ∙ reply_long w a b None p q ∙ ap (reply w b) (ap (λ z. answer_for z []) (sym (asks_short b q))))
-    ∙ sym (transcript_line w b ls [] ts (fits_short b q))
+    transcript_line w a ls [] ts None (takes_short a p)
+    ∙ ap (λ r. then_prepended r ls ts) (reply_long w a b None p q)
+    ∙ sym (transcript_line w b ls [] ts None (takes_short b q))
 
 -- one byte more or less of a line past the limit
 long_byte : (last : Bool) (w : SessionState) (line : List ℕ) (b : ℕ) (ls : List (List ℕ)) (ts : List Answer) → length line ≡ 257 → transcript w (onto_lines last line (onto_line last b ls)) ts ≡ transcript w (onto_lines last line ls) ts
@@ -121,11 +129,20 @@ grown_alike last w line b more ts p e =
 
 -- ---- lines behind one that quits
 
-quit_behind : (lack quit : Bool) (v next : SessionState) (text : List ℕ) (ts : List Answer) (ls more : List (List ℕ)) → ((w : SessionState) (us : List Answer) → (transcript w ls us).quits ≡ true → transcript w (ls ++ more) us ≡ transcript w ls us) → (cond lack (ended v false None) (prepended text (cond quit (ended next true (Some ts)) (transcript next ls ts)))).quits ≡ true → cond lack (ended v false None) (prepended text (cond quit (ended next true (Some ts)) (transcript next (ls ++ more) ts))) ≡ cond lack (ended v false None) (prepended text (cond quit (ended next true (Some ts)) (transcript next ls ts)))
-quit_behind true quit v next text ts ls more f h = absurd (cc)
-quit_behind false true v next text ts ls more f h = refl
-quit_behind false false v next text ts ls more f h = ap (prepended text) (f next ts h)
+-- lines behind these change nothing where one of these quits
+abbrev QuitLater : List (List ℕ) → List (List ℕ) → Type 0
+QuitLater ls more = (w : SessionState) (us : List Answer) → (transcript w ls us).quits ≡ true → transcript w (ls ++ more) us ≡ transcript w ls us
+
+quit_reply : (quit : Bool) (next : SessionState) (text : List ℕ) (ts : List Answer) (ls more : List (List ℕ)) → QuitLater ls more → (prepended text (cond quit (ended next true (Some ts)) (transcript next ls ts))).quits ≡ true
+    → prepended text (cond quit (ended next true (Some ts)) (transcript next (ls ++ more) ts)) ≡ prepended text (cond quit (ended next true (Some ts)) (transcript next ls ts))
+quit_reply true next text ts ls more f h = refl
+quit_reply false next text ts ls more f h = ap (prepended text) (f next ts h)
+
+quit_behind : (v : SessionState) (l : List ℕ) (o : Option Given) (ls more : List (List ℕ)) → QuitLater ls more → (line_on v l o (λ w us. transcript w ls us)).quits ≡ true
+    → line_on v l o (λ w us. transcript w (ls ++ more) us) ≡ line_on v l o (λ w us. transcript w ls us)
+quit_behind v l None ls more f h = absurd (cc)
+quit_behind v l (Some g) ls more f h = quit_reply (reply v l g.answer).quits (reply v l g.answer).next (reply v l g.answer).text g.left ls more f h
 
 pub transcript_quit : (ls more : List (List ℕ)) (v : SessionState) (ts : List Answer) → (transcript v ls ts).quits ≡ true → transcript v (ls ++ more) ts ≡ transcript v ls ts
 transcript_quit [] more v ts h = absurd (cc)
-transcript_quit (l ∷ ls) more v ts h = quit_behind (lacks (asks l) ts) (turn v l ts).quits v (turn v l ts).next (turn v l ts).text (answers_left (asks l) ts) ls more (λ w us k. transcript_quit ls more w us k) h
+transcript_quit (l ∷ ls) more v ts h = quit_behind v l (given_to (asks l) ts) ls more (λ w us k. transcript_quit ls more w us k) h

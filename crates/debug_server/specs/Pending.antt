@@ -6,7 +6,7 @@ use Rattle.whole_files.specs.Writes.{WritesFront}
 use Rattle.debug_server.specs.SessionStates.{SessionState}
 use Rattle.debug_server.specs.Replies.{Answer}
 use Rattle.debug_server.specs.Lines.{lines_by, lines_of, ended_lines}
-use Rattle.debug_server.specs.Transcripts.{asks, answer_for, Fits, Transcript, transcript, prepended, ended, output, Asked, AllAsked, AskedNoMore}
+use Rattle.debug_server.specs.Transcripts.{asks, given_to, Transcript, transcript, prepended, ended, output, Asked, SourceGave}
 use Rattle.debug_server.specs.declared.faults.ServeFault.{ServeFault}
 use Rattle.debug_server.specs.declared.faults.ServeFault.TheVariants.{Read, Write, Memory, Closed}
 
@@ -38,7 +38,7 @@ pub record Breaks (v : SessionState) (bytes : List ℕ) (answers : List Answer) 
   pub front : List ℕ
   pub appended : Appends held held' front
   pub begins : (more : List ℕ) (others : List Answer) → (rest : List ℕ) × (output v (ended_lines (bytes ++ more)) (answers ++ others) ≡ front ++ rest)
-  pub asked : (more : List ℕ) → AllAsked (transcript v (ended_lines (bytes ++ more)) answers).left
+  pub asked : (more : List ℕ) (ts : List Answer) → (transcript v (ended_lines (bytes ++ more)) answers).left ≡ Some ts → ts ≡ []
 
 -- a fault of replying: of writing, or of memory
 abbrev pub IsOfReplying : ServeFault → Type 0
@@ -61,12 +61,11 @@ pub record Reads (v : SessionState) (unread unread' held held' : Option (List �
 
 -- ---- the same with a source, and what it answered
 
--- The source was asked just what a line asks.
+-- The source was asked just what a line asks, and gave this answer.
 pub record Gave {S : Type 0} (gives : S → Answer → S → Type 0) (line : List ℕ) (before : S) (answer : Answer) (after : S) : Type 0 where
   pub answers : List Answer
   pub asked : Asked gives before answers after
-  pub fits : Fits (asks line) answers
-  pub same : answer ≡ answer_for (asks line) answers
+  pub given : given_to (asks line) answers ≡ Some (record { answer = answer; left = [] })
 
 pub record FillsBy {S : Type 0} (gives : S → Answer → S → Type 0) (before after : S) (v : SessionState) (bytes : List ℕ) (held held' : Option (List ℕ)) (q : Bool) (v' : SessionState) (line : List ℕ) : Type 0 where
   pub answers : List Answer
@@ -88,10 +87,8 @@ pub record EndsBy {S : Type 0} (gives : S → Answer → S → Type 0) (before a
 -- A beginning of the replies to the line that the input ends in was written.
 pub record FrontBy {S : Type 0} (gives : S → Answer → S → Type 0) (fails : S → S → Type 0) (before after : S) (fault : ServeFault) (v : SessionState) (line : List ℕ) (held held' : Option (List ℕ)) : Type 0 where
   pub answers : List Answer
-  pub mid : S
-  pub asked : Asked gives before answers mid
-  pub no_more : AskedNoMore fails mid after fault (transcript v (lines_of line) answers).left
-  pub used : AllAsked (transcript v (lines_of line) answers).left
+  pub gave : SourceGave gives fails before after answers (transcript v (lines_of line) answers).left fault
+  pub used : (ts : List Answer) → (transcript v (lines_of line) answers).left ≡ Some ts → ts ≡ []
   pub front : WritesFront held held' (output v (lines_of line) answers)
 
 pub record ReadsBy {S : Type 0} (gives : S → Answer → S → Type 0) (before after : S) (v : SessionState) (unread unread' held held' : Option (List ℕ)) (v' : SessionState) (line : List ℕ) : Type 0 where

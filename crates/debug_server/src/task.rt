@@ -23,6 +23,12 @@ pub enum Job<'a> {
         from: u32,
         to: Option<u32>,
     },
+    /// What the run of the script or trace in this file shows: its findings, or those of one kind alone.
+    Explain {
+        run: &'a str,
+        kind: Option<&'a str>,
+        json: bool,
+    },
     /// A session over what threads made together from the setup of the script in this file: a thread for each
     /// of its threads, the poller if there is one, and so many kernel workers, each of which made so many turns.
     /// If there is an `out`, the run's trace is written there first.

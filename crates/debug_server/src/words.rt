@@ -21,6 +21,28 @@ const MIGRATED: &str =
 const LOGGED: &str =
     "One line an event, as its number and its words in a schedule, and below it a line for each place that it changed, as PLACE OLD -> NEW. Example:\n  uringwalk log examples/one_nop.json --from 3 --to 4";
 
+const EXPLAINED: &str =
+    "A headline for each finding, its kind and the moment to go to, and a sentence or two; then how many are faults, and how many notes. The status is 3 where some are faults. docs/USE.md has the kinds. Example:\n  uringwalk explain examples/severed_link/script.json";
+
+/// The kinds of findings.
+const KINDS: &[&str] = &[
+    "failed",
+    "short",
+    "severed",
+    "canceled",
+    "timed-out",
+    "expired",
+    "not-found",
+    "too-late",
+    "overflow",
+    "busy",
+    "waits",
+    "lost-wake-up",
+    "not-taken",
+    "not-reaped",
+    "unfinished",
+];
+
 const LIVE: &str =
     "A thread runs each thread of the script, the poller if there is one, and each kernel worker, all side by side; the script's schedule isn't run. It prints how many events there were, as closed E, and then answers commands as walk does. Another run may go another way: OUT keeps this one, for replay. Example:\n  uringwalk live examples/words_in_a_pipe/script.json --trace words.trace <examples/words_in_a_pipe/stdin\n  echo where | uringwalk replay words.trace";
 
@@ -139,6 +161,30 @@ fn log_words<'a>(alloc: Global) -> Result<Command<'a>, AllocError> {
         ))
 }
 
+fn explain_words<'a>(alloc: Global) -> Result<Command<'a>, AllocError> {
+    Command::new(alloc, "explain")
+        .about("Run a script's schedule or a trace's events, and tell what went wrong, and when")
+        .after_help(EXPLAINED)
+        .arg(file(
+            alloc,
+            "RUN",
+            "A trace of form 2 where its first byte is a U, or else a script",
+        ))?
+        .arg(
+            Arg::new(alloc, "KIND")
+                .long("kind")
+                .help("The findings of this kind alone")
+                .value_parser(KINDS)
+                .action(ArgAction::Set),
+        )?
+        .arg(
+            Arg::new(alloc, "json")
+                .long("json")
+                .help("Write them as JSON")
+                .action(ArgAction::SetTrue),
+        )
+}
+
 // A word with a file behind it.
 fn file_option<'a>(alloc: Global, name: &'a str, word: &'a str, help: &'a str) -> Arg<'a> {
     Arg::new(alloc, name)
@@ -243,6 +289,11 @@ fn job_of<'a>(name: &str, matches: &ArgMatches<'a>) -> Job<'a> {
             from: matches.get_one::<u32>("M").unwrap_or(0),
             to: matches.get_one::<u32>("N"),
         },
+        "explain" => Job::Explain {
+            run: text_of(matches, "RUN"),
+            kind: matches.get_str("KIND"),
+            json: matches.get_flag("json"),
+        },
         "replay" => Job::Replay(text_of(matches, "TRACE")),
         "live" => Job::Live {
             script,
@@ -276,6 +327,7 @@ fn loses_script(job: Job<'_>) -> bool
         Job::Walk(_)
         | Job::Replay(_)
         | Job::Log { .. }
+        | Job::Explain { .. }
         | Job::Live { out: None, .. }
         | Job::Serve { .. } => false,
     }
@@ -346,6 +398,7 @@ fn program<'a>(alloc: Global) -> Result<Command<'a>, AllocError> {
     let command = with(command, migrate_words(alloc))?;
     let command = with(command, replay_words(alloc))?;
     let command = with(command, log_words(alloc))?;
+    let command = with(command, explain_words(alloc))?;
     let command = with(command, live_words(alloc))?;
     with(command, serve_words(alloc))
 }

@@ -6,10 +6,27 @@ use Rattle.live_runner.specs.Passing.{IsNextRow}
 
 -- ---- the least number that passes
 
+or_none : (o : Option ℕ) → or_else o None ≡ o
+or_none None = refl
+or_none (Some n) = refl
+
+least_skip : (f : ℕ → Bool) (n d m : ℕ) → m ≡ d + n → ((k : ℕ) → n ≤ k → k < m → f k ≡ false) → least f m ≡ least f n
+least_skip f n zero m is none = let e : m ≡ n = omega (arith, is) in ap (λ k. least f k) e
+least_skip f n (suc d) m is none =
+    let e : m ≡ suc (d + n) = omega (arith, is) in
+    ap (λ k. least f k) e ∙ ap (λ (b : Bool). or_else (least f (d + n)) (if b then Some (d + n) else None)) (none (d + n) (omega arith) (omega (arith, e)))
+    ∙ or_none (least f (d + n)) ∙ least_skip f n d (d + n) refl (λ k low high. none k low (omega (arith, high, e)))
+
+-- numbers that don't pass are passed over
+pub least_same : (f : ℕ → Bool) (n m : ℕ) → n ≤ m → ((k : ℕ) → n ≤ k → k < m → f k ≡ false) → least f m ≡ least f n
+least_same f n m h none = least_skip f n (m - n) m (omega arith) none
+
+-- the least so far, or the next that may pass
+pub least_next : (f : ℕ → Bool) (from r : ℕ) → from ≤ r → ((k : ℕ) → from ≤ k → k < r → f k ≡ false) → least f (r + 1) ≡ or_else (least f from) (if f r then Some r else None)
+least_next f from r h none = ap (λ k. least f k) (add-one r) ∙ ap (λ o. or_else o (if f r then Some r else None)) (least_same f from r h none)
+
 pub least_none : (f : ℕ → Bool) (n : ℕ) → ((k : ℕ) → k < n → f k ≡ false) → least f n ≡ None
-least_none f zero h = refl
-least_none f (suc n) h =
-    ap (λ o. or_else o (if f n then Some n else None)) (least_none f n (λ k l. h k (omega arith))) ∙ ap (λ (b : Bool). if b then Some n else None) (h n (omega arith))
+least_none f n h = least_same f 0 n (omega arith) (λ k low high. h k high)
 
 -- what is found below a number is found below each greater one
 least_more : (f : ℕ → Bool) (n d r : ℕ) → least f n ≡ Some r → (m : ℕ) → m ≡ d + n → least f m ≡ Some r

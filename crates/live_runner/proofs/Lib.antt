@@ -5,3 +5,5 @@ pub mod Leasts
 pub mod Rows
 pub mod Rising
 pub mod OfferLemmas
+pub mod Ends
+pub mod EndedRows

@@ -19,10 +19,9 @@ use Rattle.timeouts_cancel.specs.Timers.{is_due}
 use Rattle.machine.specs.declared.whole.Machine.{Machine}
 use Rattle.machine.specs.Deadlines.{issued_deadline, deadline_at}
 use Rattle.machine.specs.Steps.{issue_refusal, finish_refusal, expire_refusal, phase_refusal, choice_refusal}
-use Rattle.live_runner.specs.declared.offering.Deed.{Deed}
 use Rattle.live_runner.specs.declared.offering.Deed.TheVariants.{Issuing, Finishing, Expiring}
 use Rattle.live_runner.specs.Offers.{may_do}
-use Rattle.live_runner.specs.Passing.{IsNextRow, IsNextFor, NoneFor}
+use Rattle.live_runner.specs.Passing.{IsNextRow}
 
 -- ---- what keeps a row from it
 
@@ -32,7 +31,7 @@ unissued_phase rows r row Issued e h = rw e refl
 unissued_phase rows r row (Ended res) e h = rw e refl
 
 -- a row that isn't queued isn't issued
-unissued : (rows : List Row) (r : ℕ) (o : Option Row) → ((row : Row) → o ≡ Some row → is_queued row.phase ≡ false) → is_none (issue_refusal rows r o) ≡ false
+pub unissued : (rows : List Row) (r : ℕ) (o : Option Row) → ((row : Row) → o ≡ Some row → is_queued row.phase ≡ false) → is_none (issue_refusal rows r o) ≡ false
 unissued rows r None h = refl
 unissued rows r (Some row) h = unissued_phase rows r row row.phase refl (h row refl)
 
@@ -46,7 +45,7 @@ unfinished held w row true e h = rw e refl
 unfinished held w row false e h = rw e (by_phase row.phase (choice_refusal held w row Full) h)
 
 -- one that isn't issued doesn't end
-not_finished : (held : ℕ → Bool) (w : WorldState) (o : Option Row) → ((row : Row) → o ≡ Some row → is_issued row.phase ≡ false) → is_none (finish_refusal held w o Full) ≡ false
+pub not_finished : (held : ℕ → Bool) (w : WorldState) (o : Option Row) → ((row : Row) → o ≡ Some row → is_issued row.phase ≡ false) → is_none (finish_refusal held w o Full) ≡ false
 not_finished held w None h = refl
 not_finished held w (Some row) h = unfinished held w row (is_timer row.entry.opcode) refl (h row refl)
 
@@ -54,55 +53,45 @@ unexpired : (now : ℕ) (row : Row) (b : Bool) → is_timer row.entry.opcode ≡
 unexpired now row true e h = rw e (by_phase row.phase (if is_due now row then None else Some NotDue) h)
 unexpired now row false e h = rw e refl
 
-not_expired : (now : ℕ) (o : Option Row) → ((row : Row) → o ≡ Some row → is_issued row.phase ≡ false) → is_none (expire_refusal now o) ≡ false
+pub not_expired : (now : ℕ) (o : Option Row) → ((row : Row) → o ≡ Some row → is_issued row.phase ≡ false) → is_none (expire_refusal now o) ≡ false
 not_expired now None h = refl
 not_expired now (Some row) h = unexpired now row (is_timer row.entry.opcode) refl (h row refl)
 
 -- ---- the next row
 
-none_to_issue : (m : Machine) (from : ℕ) → NoneQueuedFrom m.table from → (k : ℕ) → from ≤ k → may_do m Issuing k ≡ false
+pub none_to_issue : (m : Machine) (from : ℕ) → NoneQueuedFrom m.table from → (k : ℕ) → from ≤ k → may_do m Issuing k ≡ false
 none_to_issue m from none k low = unissued m.table k (slice_get m.table k) (λ row e. none k row low e)
 
-none_to_finish : (m : Machine) (from : ℕ) → NoneIssuedFrom m.table from → (k : ℕ) → from ≤ k → may_do m Finishing k ≡ false
+pub none_to_finish : (m : Machine) (from : ℕ) → NoneIssuedFrom m.table from → (k : ℕ) → from ≤ k → may_do m Finishing k ≡ false
 none_to_finish m from none k low = not_finished (is_held_by m.table) m.world (slice_get m.table k) (λ row e. none k row low e)
 
-none_to_expire : (m : Machine) (from : ℕ) → NoneIssuedFrom m.table from → (k : ℕ) → from ≤ k → may_do m Expiring k ≡ false
+pub none_to_expire : (m : Machine) (from : ℕ) → NoneIssuedFrom m.table from → (k : ℕ) → from ≤ k → may_do m Expiring k ≡ false
 none_to_expire m from none k low = not_expired m.clock (slice_get m.table k) (λ row e. none k row low e)
 
-next_to_issue : (m : Machine) (from r : ℕ) → IsNextQueued m.table from r → IsNextRow (may_do m Issuing) (length m.table) from r
+pub next_to_issue : (m : Machine) (from r : ℕ) → IsNextQueued m.table from r → IsNextRow (may_do m Issuing) (length m.table) from r
 next_to_issue m from r next = record {
   after = next.after;
   within = slice_get_within m.table r next.row next.there;
   least = λ k low high. unissued m.table k (slice_get m.table k) (λ row e. next.least k row low high e);
 }
 
-next_to_finish : (m : Machine) (from r : ℕ) → IsNextIssued m.table from r → IsNextRow (may_do m Finishing) (length m.table) from r
+pub next_to_finish : (m : Machine) (from r : ℕ) → IsNextIssued m.table from r → IsNextRow (may_do m Finishing) (length m.table) from r
 next_to_finish m from r next = record {
   after = next.after;
   within = slice_get_within m.table r next.row next.there;
   least = λ k low high. not_finished (is_held_by m.table) m.world (slice_get m.table k) (λ row e. next.least k row low high e);
 }
 
-next_to_expire : (m : Machine) (from r : ℕ) → IsNextIssued m.table from r → IsNextRow (may_do m Expiring) (length m.table) from r
+pub next_to_expire : (m : Machine) (from r : ℕ) → IsNextIssued m.table from r → IsNextRow (may_do m Expiring) (length m.table) from r
 next_to_expire m from r next = record {
   after = next.after;
   within = slice_get_within m.table r next.row next.there;
   least = λ k low high. not_expired m.clock (slice_get m.table k) (λ row e. next.least k row low high e);
 }
 
-pub next_for : (m : Machine) (deed : Deed) (from r : ℕ) → IsNextFor deed m.table from r → IsNextRow (may_do m deed) (length m.table) from r
-next_for m Issuing from r next = next_to_issue m from r next
-next_for m Finishing from r next = next_to_finish m from r next
-next_for m Expiring from r next = next_to_expire m from r next
-
-pub none_for : (m : Machine) (deed : Deed) (from : ℕ) → NoneFor deed m.table from → (k : ℕ) → from ≤ k → may_do m deed k ≡ false
-none_for m Issuing from none = none_to_issue m from none
-none_for m Finishing from none = none_to_finish m from none
-none_for m Expiring from none = none_to_expire m from none
-
 -- ---- deadlines
 
-no_deadline : (o : Option Row) → ((row : Row) → o ≡ Some row → is_issued row.phase ≡ false) → option_map_or issued_deadline o None ≡ None
+pub no_deadline : (o : Option Row) → ((row : Row) → o ≡ Some row → is_issued row.phase ≡ false) → option_map_or issued_deadline o None ≡ None
 no_deadline None h = refl
 no_deadline (Some row) h = rw (h row refl) refl
 

@@ -1,10 +1,8 @@
--- Rows that pass a test, and the least deadline.
-use Rattle.std.specs.Prelude.{◌≡◌, ℕ, ◌<◌, ◌≤◌, Bool, false, Some, List}
+-- Rows that pass a test, and deadlines.
+use Rattle.std.specs.Prelude.{◌≡◌, ℕ, ◌<◌, ◌≤◌, Bool, true, false, nat_le, Option, Some, List, slice_get}
+use Rattle.std.specs.Option.{option_map_or}
 use Rattle.entries.specs.declared.row.Row.{Row}
-use Rattle.links_drains.specs.Queued.{IsNextQueued, NoneQueuedFrom}
-use Rattle.links_drains.specs.Units.{IsNextIssued, NoneIssuedFrom}
-use Rattle.live_runner.specs.declared.offering.Deed.{Deed}
-use Rattle.live_runner.specs.declared.offering.Deed.TheVariants.{Issuing, Finishing, Expiring}
+use Rattle.links_drains.specs.Phases.{is_ended}
 use Rattle.machine.specs.Deadlines.{deadline_at}
 
 -- r is a row from a number on, and none before it passes.
@@ -19,13 +17,10 @@ pub record IsLeastDeadline (rows : List Row) (d : ℕ) : Type 0 where
   pub due : deadline_at rows row ≡ Some d
   pub least : (k e : ℕ) → deadline_at rows k ≡ Some e → d ≤ e
 
--- Only a queued row is issued, and only an issued one ends: r is the least such row from a number on.
-abbrev pub IsNextFor : Deed → List Row → ℕ → ℕ → Type 0
-IsNextFor Issuing rows from r = IsNextQueued rows from r
-IsNextFor Finishing rows from r = IsNextIssued rows from r
-IsNextFor Expiring rows from r = IsNextIssued rows from r
+-- whether the clock has come to a deadline, if there is one
+abbrev pub has_come : ℕ → Option ℕ → Bool
+has_come clock deadline = option_map_or (λ d. nat_le d clock) deadline false
 
-abbrev pub NoneFor : Deed → List Row → ℕ → Type 0
-NoneFor Issuing rows from = NoneQueuedFrom rows from
-NoneFor Finishing rows from = NoneIssuedFrom rows from
-NoneFor Expiring rows from = NoneIssuedFrom rows from
+-- Each row before one of a number is there, and has ended.
+pub record EndedBelow (rows : List Row) (first : ℕ) : Type 0 where
+  pub each : (r : ℕ) → r < first → (row : Row) × (slice_get rows r ≡ Some row) × (is_ended row.phase ≡ true)

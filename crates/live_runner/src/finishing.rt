@@ -55,6 +55,7 @@ fn end<'g, L: Ledger, G: Gate>(live: Live<L>, workers: Vec<Worker<'g, L, G>>) ->
         owners,
         records: _,
         state,
+        first: _,
         mut book,
         rest: mut share,
         room: mut lists,

@@ -13,7 +13,7 @@ ghost use Rattle.live_runner.specs.Offers.{offer};
 ghost use Rattle.live_runner.specs.Told.{receipt};
 
 use crate::kinds::{actors, is_own};
-use crate::offering::offer;
+use crate::offering::{first_open, offer};
 use crate::receipt::Receipt;
 use crate::seat::Seat;
 use machine::State;
@@ -37,6 +37,8 @@ pub struct Live<L: Ledger> {
     pub(crate) owners: Vec<u32>,
     pub(crate) records: Vec<Record>,
     pub(crate) state: State,
+    /// Each row before this one has ended.
+    pub(crate) first: u32,
     pub(crate) book: Book<L>,
     /// No part of the ledger. The shares come together in it.
     pub(crate) rest: Share<L>,
@@ -47,13 +49,14 @@ pub struct Live<L: Ledger> {
 impl<L: Ledger> Model for Live<L> {
     ghost use Rattle.std.specs.Prelude.{◌≡◌, ◌≤◌, vec_len, vec_capacity};
     ghost use Rattle.live_runner.specs.History.{History, Replays};
+    ghost use Rattle.live_runner.specs.Passing.{EndedBelow};
 
     ghost Value = { History };
 
     ghost view = { λ l. record { setup = l.setup; actors = l.actors; events = l.events.items; owners = l.owners.items; state = l.state; total = l.book.total } };
 
     ghost invariant = { λ l. Replays (record { setup = l.setup; actors = l.actors; events = l.events.items; owners = l.owners.items; state = l.state; total = l.book.total }) l.records.items
-        × (l.rest.parts ≡ 0) × (l.rest.amount ≡ 0) × (vec_len l.room ≡ 0) × (l.actors ≤ vec_capacity l.room) };
+        × (l.rest.parts ≡ 0) × (l.rest.amount ≡ 0) × (vec_len l.room ≡ 0) × (l.actors ≤ vec_capacity l.room) × EndedBelow l.state.table l.first };
 }
 
 /// Why an actor's event was not done.
@@ -121,6 +124,7 @@ impl<L: Ledger> Live<L> {
             owners: _,
             records: _,
             state: _,
+            first: _,
             book: _,
             rest: _,
             room: _,
@@ -187,6 +191,7 @@ impl<L: Ledger> Live<L> {
         }
         let actor = seat.actor;
         let past = self.state.step(event)?;
+        self.first = first_open(&self.state, self.first);
         let receipt = Receipt {
             actor,
             moment,
@@ -200,11 +205,12 @@ impl<L: Ledger> Live<L> {
         Ok(receipt)
     }
 
-    /// What an actor does next, if anything. It takes no memory, and looks at no row that ended.
+    /// What an actor does next, if anything. It takes no memory. It looks at each queued and each issued row once at
+    /// most, and at none that ended; those that ended before all others cost it nothing.
     pub fn offer(&self, actor: u32) -> Option<Event>
         ensures { result ≡ offer self.now.setup self.now.actors self.now.state actor }
     {
-        offer(&self.setup, self.actors, &self.state, actor)
+        offer(&self.setup, self.actors, &self.state, self.first, actor)
     }
 
     /// Attempts what the seat's actor does next, if anything.
@@ -275,6 +281,7 @@ fn open_for<L: Ledger>(
         owners: Vec::new(alloc),
         records: Vec::new(alloc),
         state,
+        first: 0,
         book,
         rest,
         room,

@@ -1,8 +1,11 @@
 //! What actors do next.
-ghost use Rattle.std.specs.Prelude.{◌≡◌, ◌<◌, IfSome, IfNone};
-ghost use Rattle.live_runner.specs.Least.{lesser};
-ghost use Rattle.live_runner.specs.Offers.{submits, polls, works, on_row, least_row, least_deadline, may_do, event_on, ticks, offer};
-ghost use Rattle.live_runner.specs.Passing.{IsNextFor, NoneFor};
+ghost use Rattle.std.specs.Prelude.{◌≡◌, Some, None, if◌then◌else◌};
+ghost use Rattle.machine.specs.Deadlines.{deadline_at};
+ghost use Rattle.machine.specs.Whole.{WellFormed};
+ghost use Rattle.live_runner.specs.Least.{or_else, lesser};
+ghost use Rattle.live_runner.specs.Offers.{submits, polls, works, ends, on_row, least_row, may_do, event_on, ticks_to, offer};
+ghost use Rattle.live_runner.specs.Passing.{EndedBelow, has_come};
+ghost use Rattle.live_runner.specs.declared.offering.Deed.TheVariants.{Issuing, Finishing, Expiring};
 
 use crate::kinds::{is_poller, is_submitter};
 use machine::State;
@@ -18,8 +21,15 @@ pub enum Deed {
     Expiring,
 }
 
-/// What an actor of so many does next, if anything. It takes no memory.
-pub(crate) fn offer(setup: &Setup, count: u32, state: &State, actor: u32) -> Option<Event>
+/// What an actor of so many does next, if anything, where each row before the first has ended. It takes no memory.
+pub(crate) fn offer(
+    setup: &Setup,
+    count: u32,
+    state: &State,
+    first: u32,
+    actor: u32,
+) -> Option<Event>
+    requires ended { EndedBelow state.now.table first }
     ensures { result ≡ offer setup.now count state.now actor }
 {
     if actor >= count {
@@ -30,7 +40,20 @@ pub(crate) fn offer(setup: &Setup, count: u32, state: &State, actor: u32) -> Opt
     } else if is_poller(setup, actor) {
         polls(state)
     } else {
-        works(state)
+        works(state, first)
+    }
+}
+
+/// The least row from one on that hasn't ended, where all before have; where all have, that one.
+pub(crate) fn first_open(state: &State, from: u32) -> u32
+    requires { EndedBelow state.now.table from }
+    ensures { EndedBelow state.now.table result }
+{
+    match (state.next_queued(from), state.next_issued(from)) {
+        (Some(queued), Some(issued)) => queued.min(issued),
+        (Some(queued), None) => queued,
+        (None, Some(issued)) => issued,
+        (None, None) => from,
     }
 }
 
@@ -53,27 +76,13 @@ fn polls(state: &State) -> Option<Event>
     }
 }
 
-fn works(state: &State) -> Option<Event>
+fn works(state: &State, first: u32) -> Option<Event>
+    requires ended { EndedBelow state.now.table first }
     ensures { result ≡ works state.now }
 {
-    if let Some(event) = deed_on_row(state, Deed::Issuing) {
-        return Some(event);
-    }
-    if let Some(event) = deed_on_row(state, Deed::Finishing) {
-        return Some(event);
-    }
-    if let Some(event) = deed_on_row(state, Deed::Expiring) {
-        return Some(event);
-    }
-    ticks(state)
-}
-
-fn deed_on_row(state: &State, deed: Deed) -> Option<Event>
-    ensures { result ≡ on_row deed (least_row state.now deed) }
-{
-    match least_row(state, deed) {
-        Some(r) => Some(event_on(deed, r)),
-        None => None,
+    match least_to_issue(state, first) {
+        Some(r) => Some(event_on(Deed::Issuing, r)),
+        None => ends(state, first),
     }
 }
 
@@ -87,13 +96,14 @@ fn event_on(deed: Deed, r: u32) -> Event
     }
 }
 
-// The least row to which something may be done.
-fn least_row(state: &State, deed: Deed) -> Option<u32>
-    ensures { result ≡ least_row state.now deed }
+// The least row that may be issued.
+fn least_to_issue(state: &State, first: u32) -> Option<u32>
+    requires ended { EndedBelow state.now.table first }
+    ensures { result ≡ least_row state.now Issuing }
 {
-    let mut from = 0;
-    'rows: while let Some(r) = next_row(state, deed, from) {
-        if may_do(state, deed, r) {
+    let mut from = first;
+    'rows: while let Some(r) = state.next_queued(from) {
+        if may_do(state, Deed::Issuing, r) {
             return Some(r);
         }
         from = r + 1;
@@ -107,31 +117,30 @@ fn may_do(state: &State, deed: Deed, r: u32) -> bool
     state.refuses(event_on(deed, r)).is_none()
 }
 
-// The next row from a number on to which it may be done.
-fn next_row(state: &State, deed: Deed, from: u32) -> Option<u32>
-    ensures some { IfSome result (λ r. IsNextFor deed state.now.table from r) }
-    ensures none { IfNone result (NoneFor deed state.now.table from) }
-    ensures few { IfSome result (λ r. r < 65536) }
+// What there is to do where no row may be issued. It looks at each issued row once.
+fn ends(state: &State, first: u32) -> Option<Event>
+    requires ended { EndedBelow state.now.table first }
+    ensures { result ≡ ends state.now }
 {
-    match deed {
-        Deed::Issuing => state.next_queued(from),
-        Deed::Finishing | Deed::Expiring => state.next_issued(from),
+    let clock = clock(state);
+    let mut due = None;
+    let mut least = None;
+    let mut from = first;
+    'rows: while let Some(r) = state.next_issued(from) {
+        let deadline = state.deadline(r);
+        if may_finish(state, r, deadline) {
+            return Some(event_on(Deed::Finishing, r));
+        }
+        due = first_due(clock, due, r, deadline);
+        least = lesser(least, deadline);
+        from = r + 1;
     }
-}
-
-// The clock goes on to the least deadline.
-fn ticks(state: &State) -> Option<Event>
-    ensures { result ≡ ticks state.now }
-{
-    let deadline = least_deadline(state)?;
-    if deadline > u64::MAX as u128 {
-        return None;
-    }
-    Some(Event::Tick((deadline as u64).saturating_sub(clock(state))))
+    expires_or_ticks(clock, due, least)
 }
 
 fn clock(state: &State) -> u64
-    ensures { result ≡ state.now.clock }
+    ensures value { result ≡ state.now.clock }
+    ensures formed { WellFormed state.now }
 {
     match state.value(Place::Clock) {
         Some(Value::Number(clock)) => clock,
@@ -139,16 +148,55 @@ fn clock(state: &State) -> u64
     }
 }
 
-fn least_deadline(state: &State) -> Option<u128>
-    ensures { result ≡ least_deadline state.now }
+// Whether a row may end in full. One that has a deadline is a TIMEOUT or a LINK_TIMEOUT, which may not.
+fn may_finish(state: &State, r: u32, deadline: Option<u128>) -> bool
+    requires formed { WellFormed state.now }
+    requires deadline { deadline ≡ deadline_at state.now.table r }
+    ensures { result ≡ may_do state.now Finishing r }
 {
-    let mut least = None;
-    let mut from = 0;
-    'rows: while let Some(r) = state.next_issued(from) {
-        least = lesser(least, state.deadline(r));
-        from = r + 1;
+    match deadline {
+        Some(_) => false,
+        None => may_do(state, Deed::Finishing, r),
     }
-    least
+}
+
+// The row that is due so far, or the next one if it is.
+fn first_due(clock: u64, due: Option<u32>, r: u32, deadline: Option<u128>) -> Option<u32>
+    ensures { result ≡ or_else due (if has_come clock deadline then Some r else None) }
+{
+    match due {
+        Some(first) => Some(first),
+        None => has_come(clock, deadline).then_some(r),
+    }
+}
+
+fn has_come(clock: u64, deadline: Option<u128>) -> bool
+    ensures { result ≡ has_come clock deadline }
+{
+    match deadline {
+        Some(deadline) => deadline <= clock as u128,
+        None => false,
+    }
+}
+
+fn expires_or_ticks(clock: u64, due: Option<u32>, least: Option<u128>) -> Option<Event>
+    ensures { result ≡ or_else (on_row Expiring due) (ticks_to clock least) }
+{
+    match due {
+        Some(r) => Some(event_on(Deed::Expiring, r)),
+        None => ticks_to(clock, least),
+    }
+}
+
+// The clock goes on to the least deadline.
+fn ticks_to(clock: u64, least: Option<u128>) -> Option<Event>
+    ensures { result ≡ ticks_to clock least }
+{
+    let deadline = least?;
+    if deadline > u64::MAX as u128 {
+        return None;
+    }
+    Some(Event::Tick((deadline as u64).saturating_sub(clock)))
 }
 
 fn lesser(a: Option<u128>, b: Option<u128>) -> Option<u128>

@@ -10,7 +10,7 @@ use Rattle.places.specs.declared.value.Value.TheVariants.{Number, Signed, Reques
 use Rattle.places.specs.declared.value.Change.{Change}
 use Rattle.places.specs.Places.{same_place}
 use Rattle.places.specs.View.{View, named, undo, put_at, LeadsBack, Exact}
-use Rattle.places.proofs.SamePlace.{same_place_is, same_place_self}
+use Rattle.places.proofs.SamePlace.{same_place_is}
 use Rattle.places.proofs.ListLemmas.{same_list}
 use Rattle.links_drains.specs.Rows.{fixed_of}
 use Rattle.links_drains.proofs.Counting.{counted-le-length, ended-le-length}
@@ -44,10 +44,6 @@ undo-cons v w c cs n h p = ap (unwrap_or (named cs p)) (h p) ∙ by (same_place 
     by : (b : Bool) → same_place c.place p ≡ b → unwrap_or (named cs p) (cond b c.old (v p)) ≡ unwrap_or (cond b (Some c.old) (named cs p)) (v p)
     by true e = ap (λ a. unwrap_or a c.old) (sym (ap (named cs) (same_place_is c.place p e)) ∙ n)
     by false e = refl
-
-pub undo-cons_at : (v : View) (c : Change) (cs : List Change) → undo v (c ∷ cs) c.place ≡ c.old
-unfolding named
-undo-cons_at v c cs = ap (λ b. unwrap_or (cond b (Some c.old) (named cs c.place)) (v c.place)) (same_place_self c.place)
 
 same_count : (s m : Machine) → OneSetup s m → length s.threads ≡ length m.threads
 same_count s m h = simp length-map at (ap length h.programs)

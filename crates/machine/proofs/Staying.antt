@@ -1,26 +1,35 @@
 -- How many rows, and items of the backlog, stay when a record is put back.
-use Rattle.std.proofs.Common.{◌≡◌, ℕ, sym, subst, ◌∙◌, List, length, take}
+use Rattle.std.proofs.Common.{◌≡◌, ℕ, sym, subst, ◌∙◌, List, length, take, map}
 use Rattle.std.proofs.lemmas.List.{length-take-le}
 use Rattle.places.specs.declared.listed.Listed.TheVariants.{Requests, Overflowed}
 use Rattle.places.specs.declared.place.Place.{Place}
 use Rattle.places.specs.declared.place.Place.TheVariants.{Request, Backlog}
 use Rattle.places.specs.declared.value.Value.TheVariants.{Completed, Requested}
 use Rattle.places.specs.declared.value.Change.{Change}
-use Rattle.places.specs.View.{undo}
+use Rattle.places.specs.View.{undo, LeadsBack}
 use Rattle.places.specs.Notes.{IsLeft}
 use Rattle.places.proofs.Restored.{left_all, left_back}
+use Rattle.links_drains.specs.Rows.{fixed_of}
 use Rattle.links_drains.proofs.Remaining.{stay_cut}
-use Rattle.machine.specs.Whole.{view, GoesBack, Overwrites}
+use Rattle.machine.specs.Whole.{view, GoesBack, OneSetup, WellFormed}
 use Rattle.machine.specs.declared.whole.Machine.{Machine}
 
 -- the machine with so many of its rows and of its backlog's items
 abbrev pub cut : ℕ → ℕ → Machine → Machine
 cut rows items m = record m { table = take rows m.table; backlog = record m.backlog { items = take items m.backlog.items } }
 
--- once those are gone that are named as absent, the rest is written over
-pub overwrites : (s m : Machine) (cs : List Change) (few some rows items : ℕ) → few ≡ length m.table → some ≡ length m.backlog.items → IsLeft Requests cs few rows → IsLeft Overflowed cs some items
-    → GoesBack s m cs → Overwrites s (cut rows items m) cs
-overwrites s m cs few some left kept e f fewer less g = record {
+-- Changes lead back to a machine with as many rows and items.
+pub record Remains (s m : Machine) (cs : List Change) : Type 0 where
+  pub formed : WellFormed s
+  pub setup : OneSetup s m
+  pub rows : map fixed_of s.table ≡ map fixed_of m.table
+  pub backlog : length s.backlog.items ≡ length m.backlog.items
+  pub back : LeadsBack (view s) (view m) cs
+
+-- so they do once those are gone that are named as absent
+pub remains : (s m : Machine) (cs : List Change) (few some rows items : ℕ) → few ≡ length m.table → some ≡ length m.backlog.items → IsLeft Requests cs few rows → IsLeft Overflowed cs some items
+    → GoesBack s m cs → Remains s (cut rows items m) cs
+remains s m cs few some left kept e f fewer less g = record {
   formed = g.formed;
   setup = record { array = g.grows.setup.array; slots = g.grows.setup.slots; completions = g.grows.setup.completions; world = g.grows.setup.world; programs = g.grows.setup.programs; poller = g.grows.setup.poller; submit_all = g.grows.setup.submit_all };
   rows = stay_cut s.table m.table left rows g.grows.stay;

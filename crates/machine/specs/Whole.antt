@@ -8,7 +8,7 @@ use Rattle.places.specs.declared.value.Value.{Value}
 use Rattle.places.specs.declared.value.Value.TheVariants.{Number, Awake as IsAwake}
 use Rattle.places.specs.declared.value.Stage.TheVariants.{Waiting}
 use Rattle.places.specs.declared.value.Change.{Change}
-use Rattle.places.specs.View.{View, LeadsBack}
+use Rattle.places.specs.View.{View, named, undo, LeadsBack}
 use Rattle.ring_words.specs.Rings.{SubWords, ComWords, waiting, sub_seen, sub_can_put, SubFormed, com_seen, com_can_put, ComFormed}
 use Rattle.links_drains.specs.Counts.{is_met}
 use Rattle.links_drains.specs.Links.{is_guard, Chained}
@@ -229,10 +229,17 @@ pub record GoesBack (s m : Machine) (cs : List Change) : Type 0 where
   pub grows : Grows s m
   pub back : LeadsBack (view s) (view m) cs
 
--- The same where no row and no item has to go.
+-- The first machine is well formed, the second has its setup and as many rows and items of the backlog, and each change tells what stands in the first.
 pub record Overwrites (s m : Machine) (cs : List Change) : Type 0 where
   pub formed : WellFormed s
   pub setup : OneSetup s m
   pub rows : map fixed_of s.table ≡ map fixed_of m.table
   pub backlog : length s.backlog.items ≡ length m.backlog.items
-  pub back : LeadsBack (view s) (view m) cs
+  pub stood : (p : Place) (x : Option Value) → named cs p ≡ Some x → x ≡ view s p
+
+-- The second machine is the first with changes undone, and has as many rows and items of the backlog.
+pub record Overwritten (m n : Machine) (cs : List Change) : Type 0 where
+  pub setup : OneSetup m n
+  pub rows : map fixed_of m.table ≡ map fixed_of n.table
+  pub backlog : length m.backlog.items ≡ length n.backlog.items
+  pub undone : (p : Place) → view n p ≡ undo (view m) cs p

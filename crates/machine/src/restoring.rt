@@ -2,11 +2,11 @@
 ghost use Rattle.std.specs.Prelude.{◌≡◌};
 ghost use Rattle.places.specs.View.{undo, NamesOnce};
 ghost use Rattle.places.specs.declared.place.Place.{Place};
-ghost use Rattle.machine.specs.Whole.{view, OneSetup, GoesBack, Overwrites};
+ghost use Rattle.machine.specs.Whole.{view, GoesBack, Overwrites, Overwritten};
 ghost use Rattle.machine.specs.declared.whole.Machine.{Machine};
 
 use crate::whole::Machine;
-use places::{Changes, Part, Record};
+use places::{Changes, Part, Record, Stretches};
 
 impl Machine {
     /// Puts back what stood in the places that a record names. It takes no memory.
@@ -15,24 +15,35 @@ impl Machine {
         ensures undone { (p : Place) → view self.new p ≡ undo (view self.old) past.now p }
         ensures back { (s : Machine) → GoesBack s self.old past.now → self.new ≡ s }
     {
-        let mut rest = past.changes();
+        let (mut kinds, mut stretches, mut others) = past.parts();
         self.table.truncate(past.rows_left(self.table.len()));
         self.backlog.truncate(past.backlog_left(self.backlog.len()));
-        self.overwrite(&mut rest);
+        self.overwrite(&mut kinds);
+        self.overwrite_bytes(&mut stretches);
+        self.overwrite(&mut others);
     }
 
     // Puts back what stood in places, where no row and no item of the backlog has to go.
     fn overwrite(&mut self, rest: &mut Changes<'_>)
-        requires back { (s : Machine) × Overwrites s self.old rest.old }
+        requires stood { (s : Machine) × Overwrites s self.old rest.old }
         requires once { NamesOnce rest.old }
-        ensures undone { (p : Place) → view self.new p ≡ undo (view self.old) rest.old p }
-        ensures setup { OneSetup self.old self.new }
-        ensures back { (s : Machine) → Overwrites s self.old rest.old → self.new ≡ s }
+        ensures { Overwritten self.old self.new rest.old }
     {
         while let Some(change) = rest.next() {
             if change.old.is_some() {
                 self.put(change.place, change.old);
             }
+        }
+    }
+
+    // The same of bytes, a stretch at a time.
+    fn overwrite_bytes(&mut self, rest: &mut Stretches<'_>)
+        requires stood { (s : Machine) × Overwrites s self.old rest.old.left }
+        requires once { NamesOnce rest.old.left }
+        ensures { Overwritten self.old self.new rest.old.left }
+    {
+        while let Some(stretch) = rest.next() {
+            self.world.put_back(stretch);
         }
     }
 }

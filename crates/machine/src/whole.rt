@@ -12,7 +12,7 @@ use crate::threads::Threads;
 use links_drains::Table;
 use model_files::World;
 use overflow::Backlog;
-use places::{At, Part, Place, Value};
+use places::{At, Part, Place, Region, Value};
 use ring_words::{ComRing, SubRing};
 use sqpoll::Poller;
 
@@ -71,6 +71,10 @@ impl At for Machine {
             Place::Clock => Some(Value::Number(self.clock)),
             Place::Counted => Some(Value::Number(self.counted as u64)),
         }
+    }
+
+    fn bytes_in(&self, region: Region) -> Option<&[u8]> {
+        self.world.bytes_in(region)
     }
 }
 

@@ -14,3 +14,5 @@ pub mod Describing
 pub mod Forming
 pub mod Fixing
 pub mod Restoring
+pub mod PuttingOver
+pub mod PuttingBack

@@ -21,7 +21,7 @@ byte_within xs i h = by (slice_get xs i) refl h
     by (Some x) e k = slice_get_within xs i x e
 
 -- places of one object
-same_object : (o x y : ℕ) → (o == x) ≡ true → (o == y) ≡ true → (x == y) ≡ true
+pub same_object : (o x y : ℕ) → (o == x) ≡ true → (o == y) ≡ true → (x == y) ≡ true
 same_object o x y h k = eq-eqb x y (sym (eqb-true o x h) ∙ eqb-true o y k)
 
 number_here : (s : Bool) (a b : Option Value) → s ≡ true → a ≡ cond (s && true) a b

@@ -4,13 +4,14 @@ ghost use Rattle.places.specs.View.{Keeps, named};
 ghost use Rattle.places.specs.declared.place.Place.{Place};
 ghost use Rattle.places.specs.declared.place.Place.TheVariants.{FileByte, DurableByte, PipeByte};
 ghost use Rattle.model_files.specs.Pipes.{put_in, taken_out, GivesOut, TakesIn};
-ghost use Rattle.model_files.specs.Objects.{CanPut, PutsIn, object_owns};
+ghost use Rattle.places.specs.Masked.{masked, BytesStand};
+ghost use Rattle.model_files.specs.Objects.{CanPut, PutsIn, PutsBack, object_owns};
 ghost use Rattle.model_files.specs.Files.{synced, written, FileFormed};
 
 use crate::file::RegularFile;
 use crate::pipe::PipeBuffer;
 use crate::stock::Stock;
-use places::{At, Place, Recorder, Value};
+use places::{At, Place, Recorder, Region, Stretch, Value};
 use std::alloc::{AllocError, Global};
 
 /// What an object holds.
@@ -36,6 +37,14 @@ impl At for Body {
                 Place::EventCount(_) => Some(Value::Number(*counter)),
                 _ => None,
             },
+        }
+    }
+
+    fn bytes_in(&self, region: Region) -> Option<&[u8]> {
+        match self {
+            Body::File(file) => file.bytes_in(region),
+            Body::Pipe(pipe) => pipe.bytes_in(region),
+            Body::EventFd(_) => None,
         }
     }
 }
@@ -79,6 +88,20 @@ impl Body {
                 (Place::EventCount(_), Value::Number(n)) => *counter = n,
                 _ => unreachable!(),
             },
+        }
+    }
+
+    /// Puts back the bytes of a stretch.
+    pub(crate) fn put_back(&mut self, stretch: Stretch<'_>)
+        requires paired { length stretch.kept.now ≡ length stretch.olds.now }
+        requires stand { BytesStand (body_seen self.old) stretch.region stretch.start (masked stretch.olds.now stretch.kept.now) }
+        ensures put { PutsBack (body_seen self.old) (body_seen self.new) stretch.entry.region stretch.entry.start (masked stretch.entry.olds.now stretch.entry.kept.now) }
+        ensures kind { kind_of_body self.new ≡ kind_of_body self.old }
+    {
+        match self {
+            Body::File(file) => file.put_back(stretch),
+            Body::Pipe(pipe) => pipe.put_back(stretch),
+            Body::EventFd(_) => {}
         }
     }
 

@@ -1,5 +1,6 @@
 //! Bytes in bulk.
-ghost use Rattle.std.specs.Prelude.{◌≡◌, ◌+◌, ◌-◌, ◌≤◌, ◌++◌, length, IfOk};
+ghost use Rattle.std.specs.Prelude.{◌≡◌, ◌+◌, ◌-◌, ◌≤◌, ◌++◌, length, unwrap_or, IfOk};
+ghost use Rattle.places.specs.Masked.{masked, kept_byte, PutOver};
 ghost use Rattle.model_files.specs.Files.{overwritten, padded, zeros};
 
 use std::alloc::{AllocError, Global};
@@ -15,6 +16,36 @@ pub fn overwrite(bytes: &mut Vec<u8>, at: usize, others: &[u8])
 {
     let end = at + others.len();
     bytes[at..end].copy_from_slice(others);
+}
+
+/// Writes those bytes over others, from an index on, that are kept, as far as the others reach.
+pub fn put_over(bytes: &mut Vec<u8>, start: u32, olds: &[u8], kept: &[bool])
+    requires { length kept.now ≡ length olds.now }
+    ensures over { PutOver bytes.old.items start (masked olds.now kept.now) bytes.new.items }
+    ensures len { length bytes.new.items ≡ length bytes.old.items }
+{
+    put_over_slice(bytes, start as usize, olds, kept);
+}
+
+fn put_over_slice(bytes: &mut [u8], start: usize, olds: &[u8], kept: &[bool])
+    requires { length kept.now ≡ length olds.now }
+    ensures over { PutOver bytes.old start (masked olds.now kept.now) bytes.new }
+    ensures len { length bytes.new ≡ length bytes.old }
+{
+    let from = start.min(bytes.len());
+    let most = bytes.len() - from;
+    let n = olds.len().min(most);
+    for i in 0..n {
+        let at = from + i;
+        bytes[at] = chosen(kept[i], olds[i], bytes[at]);
+    }
+}
+
+// An old byte, if it is kept, and else what stands there.
+fn chosen(is_kept: bool, old: u8, now: u8) -> u8
+    ensures { result ≡ unwrap_or (kept_byte is_kept old) now }
+{
+    if is_kept { old } else { now }
 }
 
 /// The bytes, and zeros behind them up to the most.

@@ -1,11 +1,12 @@
 //! Regular files.
 ghost use Rattle.std.specs.Prelude.{◌≡◌, ◌+◌, ◌*◌, ◌≤◌, ◌<◌, ℕ, false, slice_get, IfOk, length};
-ghost use Rattle.model_files.specs.Objects.{CanPut, PutsIn};
+ghost use Rattle.places.specs.Masked.{masked, BytesStand};
+ghost use Rattle.model_files.specs.Objects.{CanPut, PutsIn, PutsBack};
 ghost use Rattle.model_files.specs.Files.{file_seen, file_start, synced, written, FileFormed, FileSized};
 
-use crate::bytes::{overwrite, pad};
+use crate::bytes::{overwrite, pad, put_over};
 use crate::pages::Pages;
-use places::{At, Place, Value};
+use places::{At, Place, Region, Stretch, Value};
 use std::alloc::{AllocError, Global};
 use std::marker::Model;
 
@@ -46,6 +47,14 @@ impl At for RegularFile {
             },
             Place::FileLength(_) => Some(Value::Number(self.len as u64)),
             Place::DurableLength(_) => Some(Value::Number(self.durable_len as u64)),
+            _ => None,
+        }
+    }
+
+    fn bytes_in(&self, region: Region) -> Option<&[u8]> {
+        match region {
+            Region::File(_) => Some(&self.bytes),
+            Region::Durable(_) => Some(&self.durable),
             _ => None,
         }
     }
@@ -138,6 +147,33 @@ impl RegularFile {
             (Place::FileLength(_), Value::Number(n)) => self.len = n as u32,
             (Place::DurableLength(_), Value::Number(n)) => self.durable_len = n as u32,
             _ => unreachable!(),
+        }
+    }
+
+    /// Puts back the bytes of a stretch.
+    pub(crate) fn put_back(&mut self, stretch: Stretch<'_>)
+        requires paired { length stretch.kept.now ≡ length stretch.olds.now }
+        requires stand { BytesStand (file_seen self.old) stretch.region stretch.start (masked stretch.olds.now stretch.kept.now) }
+        ensures put { PutsBack (file_seen self.old) (file_seen self.new) stretch.entry.region stretch.entry.start (masked stretch.entry.olds.now stretch.entry.kept.now) }
+        ensures bytes { length self.new.bytes ≡ length self.old.bytes }
+        ensures durable { length self.new.durable ≡ length self.old.durable }
+    {
+        let Stretch {
+            region,
+            start,
+            olds,
+            kept,
+        } = stretch;
+        match region {
+            Region::File(_) => {
+                self.dirty.mark_within(start as usize, olds.len());
+                put_over(&mut self.bytes, start, olds, kept);
+            }
+            Region::Durable(_) => {
+                self.dirty.mark_within(start as usize, olds.len());
+                put_over(&mut self.durable, start, olds, kept);
+            }
+            Region::Memory | Region::Pipe(_) => {}
         }
     }
 

@@ -2,7 +2,7 @@
 ghost use Rattle.std.specs.Prelude.{◌≡◌, ◌+◌, ◌*◌, ◌<◌, ◌≤◌, ◌⊎◌, ℕ, Some, false, length, replicate, slice_get};
 ghost use Rattle.model_files.specs.Pages.{Agree};
 
-use crate::bytes::overwrite;
+use crate::bytes::{MOST_BYTES, overwrite};
 
 /// How many bytes a page has.
 pub(crate) const PAGE: usize = 4096;
@@ -41,6 +41,19 @@ impl Pages {
     {
         for page in at / PAGE..(at + count - 1) / PAGE + 1 {
             self.marks[page] = true;
+        }
+    }
+
+    /// Marks the pages that some bytes are in, as far as a file can reach.
+    pub(crate) fn mark_within(&mut self, at: usize, count: usize)
+        ensures kept { (page : ℕ) → slice_get self.new.marks page ≡ Some false → slice_get self.old.marks page ≡ Some false }
+        ensures apart { (page i : ℕ) → slice_get self.new.marks page ≡ Some false → page * 4096 ≤ i → i < page * 4096 + 4096 → i < 65536 → (i < at) ⊎ (at + count ≤ i) }
+    {
+        let from = at.min(MOST_BYTES);
+        let most = MOST_BYTES - from;
+        let within = count.min(most);
+        if within > 0 {
+            self.mark(from, within);
         }
     }
 

@@ -1,11 +1,12 @@
 //! Pipes.
 ghost use Rattle.std.specs.Prelude.{◌≡◌, ◌+◌, ◌-◌, ◌%◌, ◌<◌, ◌≤◌, ◌^◌, ◌++◌, min, IfOk, Some, length, take, drop};
 ghost use Rattle.model_files.specs.Files.{overwritten, part};
-ghost use Rattle.model_files.specs.Objects.{CanPut, PutsIn};
+ghost use Rattle.places.specs.Masked.{masked, BytesStand};
+ghost use Rattle.model_files.specs.Objects.{CanPut, PutsIn, PutsBack};
 ghost use Rattle.model_files.specs.Pipes.{pipe_seen, pipe_start, bytes_from, filled, room_in, put_in, taken_out, GivesOut};
 
-use crate::bytes::overwrite;
-use places::{At, Place, Value};
+use crate::bytes::{overwrite, put_over};
+use places::{At, Place, Region, Stretch, Value};
 use std::alloc::{AllocError, Global};
 use std::marker::Model;
 
@@ -39,6 +40,13 @@ impl At for PipeBuffer {
             },
             Place::PutCount(_) => Some(Value::Number(self.put)),
             Place::TakenCount(_) => Some(Value::Number(self.taken)),
+            _ => None,
+        }
+    }
+
+    fn bytes_in(&self, region: Region) -> Option<&[u8]> {
+        match region {
+            Region::Pipe(_) => Some(&self.slots),
             _ => None,
         }
     }
@@ -134,6 +142,25 @@ impl PipeBuffer {
         overwrite(&mut self.slots, at, first);
         overwrite(&mut self.slots, 0, second);
         self.put += others.len() as u64;
+    }
+
+    /// Puts back the bytes of a stretch.
+    pub(crate) fn put_back(&mut self, stretch: Stretch<'_>)
+        requires paired { length stretch.kept.now ≡ length stretch.olds.now }
+        requires stand { BytesStand (pipe_seen self.old) stretch.region stretch.start (masked stretch.olds.now stretch.kept.now) }
+        ensures put { PutsBack (pipe_seen self.old) (pipe_seen self.new) stretch.entry.region stretch.entry.start (masked stretch.entry.olds.now stretch.entry.kept.now) }
+        ensures size { length self.new.slots ≡ length self.old.slots }
+    {
+        let Stretch {
+            region,
+            start,
+            olds,
+            kept,
+        } = stretch;
+        match region {
+            Region::Pipe(_) => put_over(&mut self.slots, start, olds, kept),
+            Region::Memory | Region::File(_) | Region::Durable(_) => {}
+        }
     }
 
     /// Sets what stands in one of its places.

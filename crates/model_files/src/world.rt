@@ -1,6 +1,8 @@
 //! Memory, objects and descriptors together.
 ghost use Rattle.std.specs.Prelude.{◌≡◌, ◌+◌, ◌<◌, ◌≤◌, ◌^◌, ℕ, IsSome, IfOk, IfSome, IsSomeAnd, None, OnErr, OnOk, IsOk, Some, length, option_map, slice_get};
-ghost use Rattle.places.specs.View.{Keeps, named, put_at};
+ghost use Rattle.places.specs.View.{Keeps, named, put_at, undo};
+ghost use Rattle.places.specs.Runs.{place_in, old_bytes};
+ghost use Rattle.places.specs.Masked.{masked, BytesStand};
 ghost use Rattle.places.specs.declared.place.Place.{Place};
 ghost use Rattle.places.specs.declared.place.Place.TheVariants.{MemoryByte, FileByte, DurableByte, PipeByte, Position};
 ghost use Rattle.places.specs.declared.notes.runs.Region.TheVariants.{Memory};
@@ -13,12 +15,12 @@ ghost use Rattle.model_files.specs.Pipes.{GivesOut, TakesIn};
 ghost use Rattle.model_files.specs.Worlds.{world_owns, world_seen, world_can_put, descriptor_of, descriptor_at, file_of, mark_of, world_read, world_written, world_synced, world_at, world_closed, world_stored, world_taken, world_put, world_added, world_cleared, world_start, oldest, number_at, pipe_of, counter_of, stock_of, StockFits, ContentsFit, OneSetup};
 
 use crate::body::Body;
-use crate::bytes::{overwrite, pad};
+use crate::bytes::{overwrite, pad, put_over};
 use crate::descriptor::DescriptorState;
 use crate::differing::note_differing;
 use crate::start::{copy_objects, start_descriptors, start_objects};
 use crate::stock::Stock;
-use places::{At, Descriptor, Object, Part, Place, Recorder, Region, Value};
+use places::{At, Descriptor, Object, Part, Place, Recorder, Region, Stretch, Value};
 use std::alloc::{AllocError, Global};
 use std::marker::Model;
 
@@ -74,6 +76,18 @@ impl At for World {
                 None => None,
             },
             _ => None,
+        }
+    }
+
+    fn bytes_in(&self, region: Region) -> Option<&[u8]> {
+        match region {
+            Region::Memory => Some(&self.memory),
+            Region::File(object) | Region::Durable(object) | Region::Pipe(object) => {
+                match self.objects.get(object as usize) {
+                    Some(body) => body.bytes_in(region),
+                    None => None,
+                }
+            }
         }
     }
 }
@@ -134,6 +148,34 @@ impl World {
             objects: copy_objects(alloc, &self.objects)?,
             descriptors: Vec::from_slice(alloc, &self.descriptors)?,
         })
+    }
+
+    /// Puts back the bytes of a stretch that are kept. It takes no memory.
+    pub fn put_back(&mut self, stretch: Stretch<'_>)
+        requires paired { length stretch.kept.now ≡ length stretch.olds.now }
+        requires stand { BytesStand (world_seen self.old) stretch.region stretch.start (masked stretch.olds.now stretch.kept.now) }
+        ensures put { (q : Place) → world_seen self.new q ≡ undo (world_seen self.old) (old_bytes stretch.entry.region stretch.entry.start (masked stretch.entry.olds.now stretch.entry.kept.now)) q }
+        ensures setup { OneSetup self.old self.new }
+    {
+        if let Some(object) = object_in(stretch.region.place(stretch.start)) {
+            self.put_object_back(object, stretch);
+            return;
+        }
+        put_over(&mut self.memory, stretch.start, stretch.olds, stretch.kept);
+    }
+
+    // Puts back the bytes of a stretch of an object, if it is there.
+    fn put_object_back(&mut self, object: u32, stretch: Stretch<'_>)
+        requires its { object_in (place_in stretch.region stretch.start) ≡ Some object }
+        requires paired { length stretch.kept.now ≡ length stretch.olds.now }
+        requires stand { BytesStand (world_seen self.old) stretch.region stretch.start (masked stretch.olds.now stretch.kept.now) }
+        ensures put { (q : Place) → world_seen self.new q ≡ undo (world_seen self.old) (old_bytes stretch.entry.region stretch.entry.start (masked stretch.entry.olds.now stretch.entry.kept.now)) q }
+        ensures setup { OneSetup self.old self.new }
+    {
+        let index = object as usize;
+        if index < self.objects.len() {
+            self.objects[index].put_back(stretch);
+        }
     }
 
     /// The descriptor of a number, open or closed.

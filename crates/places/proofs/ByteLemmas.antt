@@ -46,7 +46,7 @@ and_true true = refl
 and_true false = refl
 
 -- a byte's place is told by its region and its index there
-same_in : (g : Region) (s : ℕ) (p : Place) → same_place (place_in g s) p ≡ (is_in g p && (s == offset_in g p))
+pub same_in : (g : Region) (s : ℕ) (p : Place) → same_place (place_in g s) p ≡ (is_in g p && (s == offset_in g p))
 unfolding same_place
 same_in Memory s p = by (9 == kind_of p) refl
   where
@@ -57,13 +57,13 @@ same_in (File o) s p = and_assoc (10 == kind_of p) (o == index_of p) (s == secon
 same_in (Durable o) s p = and_assoc (11 == kind_of p) (o == index_of p) (s == second_of p)
 same_in (Pipe o) s p = and_assoc (16 == kind_of p) (o == index_of p) (s == second_of p)
 
-offset_again : (g : Region) (s : ℕ) → offset_in g (place_in g s) ≡ s
+pub offset_again : (g : Region) (s : ℕ) → offset_in g (place_in g s) ≡ s
 offset_again Memory s = refl
 offset_again (File o) s = refl
 offset_again (Durable o) s = refl
 offset_again (Pipe o) s = refl
 
-tests : (a s : Bool) (x f : Option (Option Value)) → cond (a && s) x (cond a f None) ≡ cond a (cond s x f) None
+pub tests : (a s : Bool) (x f : Option (Option Value)) → cond (a && s) x (cond a f None) ≡ cond a (cond s x f) None
 tests true s x f = refl
 tests false s x f = refl
 

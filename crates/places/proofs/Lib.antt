@@ -12,3 +12,6 @@ pub mod Sound
 pub mod Left
 pub mod Restored
 pub mod SameValue
+pub mod MaskedLemmas
+pub mod Undoing
+pub mod KeptAt

@@ -7,6 +7,7 @@ pub mod Marks
 pub mod Closed
 pub mod Slots
 pub mod Runs
+pub mod Masked
 pub mod Turns
 pub mod RestList
 pub mod RestOf

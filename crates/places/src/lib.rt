@@ -15,6 +15,7 @@ pub mod value;
 pub use items::Items;
 pub use listed::Listed;
 pub use notes::runs::Region;
+pub use notes::telling::{Stretch, Stretches};
 pub use object::{Contents, Descriptor, End, Object};
 pub use part::{At, Part};
 pub use place::Place;

@@ -1,9 +1,12 @@
 //! Parts of a state.
-ghost use Rattle.std.specs.Prelude.{◌≡◌, Bool, Option};
+ghost use Rattle.std.specs.Prelude.{◌≡◌, ℕ, Bool, Option, IfSome, option_map, slice_get};
 ghost use Rattle.places.specs.declared.place.Place.{Place};
 ghost use Rattle.places.specs.declared.value.Value.{Value};
+ghost use Rattle.places.specs.declared.value.Value.TheVariants.{Byte};
+ghost use Rattle.places.specs.Runs.{place_in};
 ghost use Rattle.places.specs.View.{View, put_at};
 
+use crate::notes::runs::Region;
 use crate::place::Place;
 use crate::value::Value;
 
@@ -14,6 +17,13 @@ pub trait At {
 
     fn at(&self, place: Place) -> Option<Value>
         ensures { result ≡ seen self.now place };
+
+    /// The bytes of a region, from its first on, where they stand in a row.
+    fn bytes_in(&self, _region: Region) -> Option<&[u8]>
+        ensures { IfSome result (λ bytes. (i : ℕ) → seen self.now (place_in _region i) ≡ option_map Byte (slice_get bytes.now i)) }
+    {
+        None
+    }
 }
 
 /// A part of a state, whose places can be set one at a time, without memory.

@@ -1,6 +1,6 @@
 //! Records: the places that differ, with what stood there.
-ghost use Rattle.std.specs.Prelude.{◌≡◌, ◌∷◌, [], map, MatchOption, None};
-ghost use Rattle.places.specs.View.{NamesOnce};
+ghost use Rattle.std.specs.Prelude.{◌≡◌, ◌∷◌, ◌++◌, [], map, is_some, MatchOption, None};
+ghost use Rattle.places.specs.View.{named, NamesOnce};
 ghost use Rattle.places.specs.declared.listed.Listed.TheVariants.{Requests, Overflowed};
 ghost use Rattle.places.specs.Notes.{IsLeft, left, after_change, number_in};
 ghost use Rattle.places.specs.Slots.{row_change};
@@ -11,8 +11,8 @@ use crate::notes::completions::CompletionNote;
 use crate::notes::numbers::NumberNote;
 use crate::notes::rest::Rest;
 use crate::notes::rows::RowNote;
-use crate::notes::slots::Slotted;
-use crate::notes::telling::ByteChanges;
+use crate::notes::slots::{Slotted, either, names_place};
+use crate::notes::telling::{ByteChanges, Stretches};
 use crate::place::Place;
 use crate::value::Change;
 use std::marker::Model;
@@ -120,6 +120,44 @@ impl Record {
             bytes: self.rest.bytes(),
             odd: self.rest.odd(),
         }
+    }
+
+    /// The changes in three parts: those of numbers, completions and rows, those of bytes a run at a time,
+    /// and the others.
+    pub fn parts(&self) -> (Changes<'_>, Stretches<'_>, Changes<'_>)
+        ensures value { self.now ≡ result.0 ++ (result.1.left ++ result.2) }
+        ensures once { NamesOnce self.now }
+    {
+        let kinds = Changes {
+            numbers: &self.numbers,
+            completions: &self.completions,
+            rows: &self.rows,
+            bytes: ByteChanges::of(&[], &[], &[]),
+            odd: &[],
+        };
+        let others = Changes {
+            numbers: &[],
+            completions: &[],
+            rows: &[],
+            bytes: ByteChanges::of(&[], &[], &[]),
+            odd: self.rest.odd(),
+        };
+        (kinds, self.rest.stretches(), others)
+    }
+
+    /// Whether a place is named.
+    pub fn names(&self, place: Place) -> bool
+        ensures { result ≡ is_some (named self.now place) }
+    {
+        let by_slot = either(
+            names_place(&self.completions, place),
+            names_place(&self.rows, place),
+        );
+        let by_kind = either(
+            self.rest.names_byte(place),
+            either(names_place(&self.numbers, place), by_slot),
+        );
+        either(self.rest.names(place), by_kind)
     }
 
     /// Lets the record go.

@@ -1,5 +1,5 @@
 //! Notes of old values, made while a state changes.
-ghost use Rattle.std.specs.Prelude.{◌≡◌, ◌+◌, ◌<◌, ◌≤◌, ◌^◌, ◌++◌, [], ℕ, length, None, Some, IsOk, OnOk, OnErr, option_map, true, is_some, ◌||◌};
+ghost use Rattle.std.specs.Prelude.{◌≡◌, ◌+◌, ◌<◌, ◌≤◌, ◌^◌, ◌++◌, [], ℕ, length, None, Some, IsOk, OnOk, OnErr, option_map, true, is_some};
 ghost use Rattle.places.specs.Places.{is_number, is_other, InLimits};
 ghost use Rattle.places.specs.Slots.{value_of};
 ghost use Rattle.places.specs.View.{Noted, Exact, named, undo};
@@ -14,7 +14,7 @@ use crate::notes::rest::Rest;
 use crate::notes::room::Room;
 use crate::notes::rows::{RowNote, Small};
 use crate::notes::runs::Region;
-use crate::notes::slots::Slots;
+use crate::notes::slots::{Slots, either};
 use crate::part::At;
 use crate::place::Place;
 use crate::record::Record;
@@ -361,10 +361,4 @@ impl Recorder {
         };
         (record, marks)
     }
-}
-
-fn either(a: bool, b: bool) -> bool
-    ensures { result ≡ (a || b) }
-{
-    a || b
 }

@@ -5,6 +5,7 @@ ghost use Rattle.std.specs.Prelude.{◌≡◌, IfOk};
 ghost use Rattle.debug_server.specs.Jobs.{IsInRange};
 ghost use Rattle.uringwalk.specs.Files.{told_as};
 
+mod explaining;
 mod living;
 mod logging;
 mod serving;
@@ -13,6 +14,7 @@ use clap::error::ErrorKind;
 use debug_server::{
     Fault, Form, Job, RunFault, ServeFault, Traced, job, migrate_trace, replay, trace_script, walk,
 };
+use explaining::explain_file;
 use living::live_file;
 use logging::log_file;
 use run_log::EventRange;
@@ -119,29 +121,31 @@ fn run<
         + Clock
         + Net<Listener = TcpListener, Stream = TcpStream>
         + Sync,
->(rt: &R, job: Job<'_>) -> Result<(), Fault>
+>(rt: &R, job: Job<'_>) -> Result<ExitCode, Fault>
     requires { IsInRange job }
 {
     match job {
-        Job::Walk(script) => answer_over(rt, Over::Script, script),
-        Job::Replay(trace) => answer_over(rt, Over::Trace, trace),
-        Job::Log { run, from, to } => log_file(rt, run, EventRange { from, to }),
+        Job::Walk(script) => answer_over(rt, Over::Script, script)?,
+        Job::Replay(trace) => answer_over(rt, Over::Trace, trace)?,
+        Job::Log { run, from, to } => log_file(rt, run, EventRange { from, to })?,
+        Job::Explain { run, kind, json } => return explain_file(rt, run, kind, json),
         Job::Live {
             script,
             turns,
             kernel,
             out,
-        } => live_file(rt, script, turns, kernel, out),
+        } => live_file(rt, script, turns, kernel, out)?,
         Job::Serve {
             script,
             port,
             turns,
             kernel,
             clients,
-        } => serve_file(rt, script, port, turns, kernel, clients),
-        Job::Trace { script, out, form } => trace_file(rt, script, out, form),
-        Job::Migrate { script, trace, out } => migrate_file(rt, script, trace, out),
+        } => serve_file(rt, script, port, turns, kernel, clients)?,
+        Job::Trace { script, out, form } => trace_file(rt, script, out, form)?,
+        Job::Migrate { script, trace, out } => migrate_file(rt, script, trace, out)?,
     }
+    Ok(ExitCode::SUCCESS)
 }
 
 // Whether a trace would take the place of its script, which another path names.
@@ -158,6 +162,7 @@ fn loses_script(rt: &(impl Files + AllocGlobal), job: Job<'_>) -> Result<bool, F
         Job::Walk(_)
         | Job::Replay(_)
         | Job::Log { .. }
+        | Job::Explain { .. }
         | Job::Live { out: None, .. }
         | Job::Serve { .. } => Ok(false),
     }
@@ -192,7 +197,7 @@ fn carry_out<
 {
     match loses_script(rt, job) {
         Ok(false) => match run(rt, job) {
-            Ok(()) => ExitCode::SUCCESS,
+            Ok(status) => status,
             Err(fault) => fail(rt, 1, &fault),
         },
         Ok(true) => fail(rt, 2, &ONTO_SCRIPT),

@@ -6,7 +6,6 @@ use Rattle.std.proofs.lemmas.List.{take_more}
 use Rattle.places.specs.declared.place.Place.{Place}
 use Rattle.places.specs.declared.value.Value.{Value}
 use Rattle.places.specs.declared.value.Change.{Change}
-use Rattle.places.specs.Places.{same_place}
 use Rattle.places.specs.View.{View, Exact, named}
 use Rattle.machine.specs.declared.whole.Machine.{Machine}
 use Rattle.scenario.specs.declared.event.Event.{Event}
@@ -16,20 +15,6 @@ use Rattle.machine.specs.Runs.{run}
 use Rattle.inverse_log.specs.Tracks.{Recorded}
 use Rattle.watches.specs.declared.watched.Break.{Break}
 use Rattle.watches.specs.Stops.{names, Stays, NoneMet}
-
--- ---- the changes of a record, one after the other
-
-pub named_first : (c : Change) (cs : List Change) (p : Place) → same_place c.place p ≡ true → names (c ∷ cs) p ≡ true
-unfolding named
-named_first c cs p h = rw (h) refl
-
-pub named_later : (c : Change) (cs : List Change) (p : Place) → same_place c.place p ≡ false → names (c ∷ cs) p ≡ names cs p
-unfolding named
-named_later c cs p h = rw (h) refl
-
-pub named_none : (p : Place) → names [] p ≡ false
-unfolding named
-named_none p = refl
 
 -- ---- records of a run
 

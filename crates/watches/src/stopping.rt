@@ -135,13 +135,7 @@ fn names_any(past: &Record, places: &[Place]) -> bool
 fn names_place(past: &Record, place: Place) -> bool
     ensures { result ≡ names past.now place }
 {
-    let mut changes = past.changes();
-    while let Some(change) = changes.next() {
-        if change.place.is(&place) {
-            return true;
-        }
-    }
-    false
+    past.names(place)
 }
 
 // Whether the event of a record brought a place to the value of one of the breaks.

@@ -96,10 +96,10 @@ fn take_place(rt: &(impl Files + AllocGlobal), made: &str, path: &str) -> io::Re
     }
 }
 
-// Whether something else than a file or a link stands at a path: a folder, a device, a pipe.
+// Whether something else than a file stands where a path leads to, by links among them: a folder, a device, a pipe.
 fn is_other(rt: &(impl Files + AllocGlobal), path: &str) -> io::Result<bool> {
-    match fs::symlink_metadata(rt, path) {
-        Ok(found) => Ok(!found.is_file() && !found.is_symlink()),
+    match fs::metadata(rt, path) {
+        Ok(found) => Ok(!found.is_file()),
         Err(error) if error.kind() == ErrorKind::NotFound => Ok(false),
         Err(error) => Err(error),
     }
@@ -119,7 +119,8 @@ fn replace(rt: &(impl Files + AllocGlobal), path: &str, bytes: &[u8]) -> io::Res
 }
 
 /// Writes a file whole: it is made beside its place, and renamed. At a fault the old one stands, and
-/// nothing else is left. A device, a pipe or a folder that stands there is a fault.
+/// nothing else is left. A device, a pipe or a folder that stands there is a fault, and so is a link to one; a link
+/// to a file, or to nothing, is replaced.
 pub fn write_file(
     rt: &(impl Files + AllocGlobal),
     path: &str,

@@ -2,7 +2,8 @@
 
 use crate::tests::{check, check_none};
 use debug_server::{Fault, RunFault, ServeFault};
-use machine::Refusal;
+use live_runner::LiveFault;
+use machine::{Refusal, SetupRefusal};
 use script::{Key, Path, ScriptFault, TraceFault};
 use std::alloc::Global;
 
@@ -69,8 +70,16 @@ fn wrong_line(alloc: Global) -> Option<usize> {
     None
 }
 
+// Whether a live run that isn't closed prints a line.
+fn is_live_line(alloc: Global, fault: LiveFault, line: &str) -> bool {
+    is_line(alloc, Fault::Live(fault), line)
+}
+
 #[test]
 fn texts_of_faults(rt: HostRuntime) {
+    let memory = LiveFault::Setup(SetupRefusal::Memory);
     check(&rt, is_line(rt.alloc(), Fault::File, "fault file"));
+    check(&rt, is_live_line(rt.alloc(), memory, "fault memory"));
+    check(&rt, is_live_line(rt.alloc(), LiveFault::Torn(3), "fault torn"));
     check_none(&rt, wrong_line(rt.alloc()));
 }

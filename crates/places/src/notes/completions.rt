@@ -28,9 +28,13 @@ impl Slotted for CompletionNote {
         self.slot as usize
     }
 
+    fn place(&self) -> Place {
+        Place::Completion(self.slot)
+    }
+
     fn change(&self) -> Change {
         Change {
-            place: Place::Completion(self.slot),
+            place: self.place(),
             old: Some(Value::Completed(self.old)),
         }
     }

@@ -28,32 +28,32 @@ impl NumberNote {
             old,
         }
     }
+}
 
-    #[tactic(auto, unfolding(crate::specs::Slots::number_place))]
-    fn place(&self) -> Place
-        ensures { result ≡ number_place self.now.kind self.now.index }
-    {
-        let i = self.index;
-        match self.kind {
-            0 => Place::SubmissionHead,
-            1 => Place::SubmissionTail,
-            2 => Place::SubmissionFlags,
-            3 => Place::SubmissionDropped,
-            4 => Place::CompletionHead,
-            5 => Place::CompletionTail,
-            6 => Place::Array(i),
-            12 => Place::FileLength(i),
-            13 => Place::DurableLength(i),
-            14 => Place::Position(i),
-            15 => Place::OpenMark(i),
-            17 => Place::PutCount(i),
-            18 => Place::TakenCount(i),
-            19 => Place::EventCount(i),
-            22 => Place::BacklogFront,
-            23 => Place::Clock,
-            24 => Place::Counted,
-            _ => Place::ProgramCounter(i),
-        }
+/// The place of a number by its kind and its index.
+#[tactic(auto, unfolding(crate::specs::Slots::number_place))]
+fn place_of_number(kind: u8, index: u32) -> Place
+    ensures { result ≡ number_place kind index }
+{
+    match kind {
+        0 => Place::SubmissionHead,
+        1 => Place::SubmissionTail,
+        2 => Place::SubmissionFlags,
+        3 => Place::SubmissionDropped,
+        4 => Place::CompletionHead,
+        5 => Place::CompletionTail,
+        6 => Place::Array(index),
+        12 => Place::FileLength(index),
+        13 => Place::DurableLength(index),
+        14 => Place::Position(index),
+        15 => Place::OpenMark(index),
+        17 => Place::PutCount(index),
+        18 => Place::TakenCount(index),
+        19 => Place::EventCount(index),
+        22 => Place::BacklogFront,
+        23 => Place::Clock,
+        24 => Place::Counted,
+        _ => Place::ProgramCounter(index),
     }
 }
 
@@ -85,6 +85,10 @@ impl Slotted for NumberNote {
 
     fn slot(&self) -> usize {
         slot_of(self.place())
+    }
+
+    fn place(&self) -> Place {
+        place_of_number(self.kind, self.index)
     }
 
     fn change(&self) -> Change {

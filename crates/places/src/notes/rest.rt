@@ -6,7 +6,7 @@ ghost use Rattle.places.specs.Runs.{place_in, run_changes, NotedBytes, AllKept};
 
 use crate::notes::odd::Odd;
 use crate::notes::runs::{ByteNotes, Region};
-use crate::notes::telling::ByteChanges;
+use crate::notes::telling::{ByteChanges, Stretches};
 use crate::part::At;
 use crate::place::Place;
 use crate::value::{Change, Value};
@@ -132,6 +132,14 @@ impl Rest {
         }
     }
 
+    /// Whether a byte that is kept is of a place.
+    pub fn names_byte(&self, place: Place) -> bool
+        ensures { result ≡ is_some (named (run_changes self.now.runs self.now.olds) place) }
+    {
+        let mut stretches = self.stretches();
+        stretches.names(place)
+    }
+
     /// Drops the notes whose place has its old value.
     pub fn close<A: At>(&mut self, whole: &A)
         ensures bytes { KeptOf (A.seen whole.now) (run_changes self.old.runs self.old.olds) (run_changes self.new.runs self.new.olds) }
@@ -153,8 +161,18 @@ impl Rest {
         ensures { result.left ≡ run_changes self.now.runs self.now.olds }
     {
         match &self.inner {
-            None => ByteChanges::of(&[], &[]),
+            None => ByteChanges::of(&[], &[], &[]),
             Some(inner) => inner.bytes.changes(),
+        }
+    }
+
+    /// The runs, one after the other.
+    pub fn stretches(&self) -> Stretches<'_>
+        ensures { result.left ≡ run_changes self.now.runs self.now.olds }
+    {
+        match &self.inner {
+            None => Stretches::of(&[], &[], &[]),
+            Some(inner) => inner.bytes.stretches(),
         }
     }
 

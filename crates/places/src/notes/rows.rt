@@ -99,15 +99,6 @@ impl RowNote {
             _ => left,
         }
     }
-
-    fn place(&self) -> Place
-        ensures { result ≡ (row_change self.now).place }
-    {
-        match self {
-            RowNote::Absent(row) | RowNote::Was(row, _) => Place::Request(*row),
-            RowNote::Other(kind, index, _) => place_of_other(*kind, *index),
-        }
-    }
 }
 
 #[tactic(auto, unfolding(crate::specs::Slots::other_place))]
@@ -162,6 +153,13 @@ impl Slotted for RowNote {
 
     fn slot(&self) -> usize {
         slot_of(self.place())
+    }
+
+    fn place(&self) -> Place {
+        match self {
+            RowNote::Absent(row) | RowNote::Was(row, _) => Place::Request(*row),
+            RowNote::Other(kind, index, _) => place_of_other(*kind, *index),
+        }
     }
 
     fn change(&self) -> Change {

@@ -1,12 +1,13 @@
 //! Notes of bytes, a slice at a time.
-ghost use Rattle.std.specs.Prelude.{◌≡◌, ◌≢◌, ◌+◌, ◌<◌, ◌≤◌, ◌^◌, ◌∷◌, ◌++◌, [], ℕ, length, map, Some, None, OnOk, OnErr, MatchBool, is_some};
+ghost use Rattle.std.specs.Prelude.{◌≡◌, ◌≢◌, ◌+◌, ◌<◌, ◌≤◌, ◌^◌, ◌∷◌, ◌++◌, [], ℕ, length, map, Some, None, OnOk, OnErr, MatchBool, is_some, replicate, true};
 ghost use Rattle.std.specs.List.{list_any};
 ghost use Rattle.places.specs.View.{View, named, NamesOnce};
 ghost use Rattle.places.specs.Closed.{KeptOf};
 ghost use Rattle.places.specs.Runs.{place_in, is_in, offset_in, covers, run_changes, run_total, RunsFit, RunsOnce, NotedBytes, AllKept};
+ghost use Rattle.places.specs.Masked.{masked, MaskedOnce};
 
 use crate::notes::clearing::clear_runs;
-use crate::notes::telling::ByteChanges;
+use crate::notes::telling::{ByteChanges, Stretches};
 use crate::part::At;
 use crate::place::Place;
 use std::alloc::{AllocError, Global};
@@ -35,7 +36,7 @@ impl Region {
         }
     }
 
-    fn has(&self, place: Place) -> bool
+    pub(crate) fn has(&self, place: Place) -> bool
         ensures { result ≡ is_in self.now place }
     {
         let kind = place.kind();
@@ -48,7 +49,7 @@ impl Region {
         }
     }
 
-    fn offset(&self, place: Place) -> u32
+    pub(crate) fn offset(&self, place: Place) -> u32
         ensures { result ≡ offset_in self.now place }
     {
         match self {
@@ -66,22 +67,24 @@ pub struct Run {
     pub len: usize,
 }
 
-/// Runs, and their old bytes in a row. A byte that has its old value again as the notes are closed is
-/// let go.
+/// Runs, their old bytes in a row, and marks of those that are kept. A byte that has its old value again
+/// as the notes are closed is let go.
 #[derive(Drop)]
 pub struct ByteNotes {
     runs: Vec<Run>,
-    olds: Vec<Option<u8>>,
+    olds: Vec<u8>,
+    kept: Vec<bool>,
 }
 
 impl Model for ByteNotes {
-    ghost use Rattle.places.specs.Runs.{ByteList, RunsOnce};
+    ghost use Rattle.places.specs.Runs.{ByteList};
+    ghost use Rattle.places.specs.Masked.{masked, MaskedOnce};
 
     ghost Value = { ByteList };
 
-    ghost view = { λ a. record { runs = a.runs.items; olds = a.olds.items } };
+    ghost view = { λ a. record { runs = a.runs.items; olds = masked a.olds.items a.kept.items } };
 
-    ghost invariant = { λ a. RunsOnce a.runs.items a.olds.items };
+    ghost invariant = { λ a. MaskedOnce a.runs.items a.olds.items a.kept.items };
 }
 
 impl ByteNotes {
@@ -93,6 +96,7 @@ impl ByteNotes {
         ByteNotes {
             runs: Vec::new(alloc),
             olds: Vec::new(alloc),
+            kept: Vec::new(alloc),
         }
     }
 
@@ -106,7 +110,7 @@ impl ByteNotes {
     {
         let len = old.len();
         self.runs.reserve(1)?;
-        append(&mut self.olds, old)?;
+        append(&mut self.olds, &mut self.kept, old)?;
         match self.runs.push(Run { region, start, len }) {
             Ok(()) => {}
             Err(_) => unreachable!(),
@@ -126,9 +130,10 @@ impl ByteNotes {
         ensures kept { KeptOf (A.seen whole.now) (run_changes self.old.runs self.old.olds) (run_changes self.new.runs self.new.olds) }
         ensures once { NamesOnce (run_changes self.old.runs self.old.olds) }
     {
-        close_runs(&mut self.runs, &mut self.olds, whole);
+        close_runs(&mut self.runs, &mut self.olds, &mut self.kept, whole);
         self.runs.shrink_to_fit();
         self.olds.shrink_to_fit();
+        self.kept.shrink_to_fit();
     }
 
     /// Whether there is no run.
@@ -143,45 +148,55 @@ impl ByteNotes {
         ensures value { result.left ≡ run_changes self.now.runs self.now.olds }
         ensures once { NamesOnce (run_changes self.now.runs self.now.olds) }
     {
-        ByteChanges::of(&self.runs, &self.olds)
+        ByteChanges::of(&self.runs, &self.olds, &self.kept)
+    }
+
+    /// The runs, one after the other.
+    pub fn stretches(&self) -> Stretches<'_>
+        ensures { result.left ≡ run_changes self.now.runs self.now.olds }
+    {
+        Stretches::of(&self.runs, &self.olds, &self.kept)
     }
 
     /// What the notes keep in memory besides themselves, in bytes.
     pub fn kept_bytes(&self) -> usize {
         size_of::<Run>()
             .saturating_mul(self.runs.capacity())
-            .saturating_add(size_of::<Option<u8>>().saturating_mul(self.olds.capacity()))
+            .saturating_add(self.olds.capacity())
+            .saturating_add(self.kept.capacity())
     }
 }
 
-/// Lets the old bytes of runs go that stand there now.
-fn clear_olds<A: At>(runs: &[Run], olds: &mut Vec<Option<u8>>, whole: &A)
-    requires fits { run_total runs.now ≡ length olds.old.items }
-    requires within { RunsFit runs.now }
-    ensures len { length olds.new.items ≡ length olds.old.items }
-    ensures kept { KeptOf (A.seen whole.now) (run_changes runs.now olds.old.items) (run_changes runs.now olds.new.items) }
+/// Lets the old bytes of runs go that stand there now, and the runs once no old byte is left.
+fn close_runs<A: At>(runs: &mut Vec<Run>, olds: &mut Vec<u8>, kept: &mut Vec<bool>, whole: &A)
+    requires { MaskedOnce runs.old.items olds.old.items kept.old.items }
+    ensures once { MaskedOnce runs.new.items olds.new.items kept.new.items }
+    ensures kept { KeptOf (A.seen whole.now) (run_changes runs.old.items (masked olds.old.items kept.old.items)) (run_changes runs.new.items (masked olds.new.items kept.new.items)) }
 {
-    clear_runs(runs, olds, whole);
-}
-
-/// The same, and lets the runs go once no old byte is left.
-fn close_runs<A: At>(runs: &mut Vec<Run>, olds: &mut Vec<Option<u8>>, whole: &A)
-    requires { RunsOnce runs.old.items olds.old.items }
-    ensures once { RunsOnce runs.new.items olds.new.items }
-    ensures kept { KeptOf (A.seen whole.now) (run_changes runs.old.items olds.old.items) (run_changes runs.new.items olds.new.items) }
-{
-    clear_olds(runs, olds, whole);
-    if is_any_kept(olds) {
+    clear_marks(runs, olds, kept, whole);
+    if is_any_kept(kept) {
         return;
     }
     runs.clear();
     olds.clear();
+    kept.clear();
 }
 
-fn is_any_kept(olds: &[Option<u8>]) -> bool
-    ensures { result ≡ list_any (λ o. is_some o) olds.now }
+/// Takes the marks from the old bytes that stand there now.
+fn clear_marks<A: At>(runs: &[Run], olds: &[u8], kept: &mut Vec<bool>, whole: &A)
+    requires paired { length kept.old.items ≡ length olds.now }
+    requires fits { run_total runs.now ≡ length olds.now }
+    requires within { RunsFit runs.now }
+    ensures len { length kept.new.items ≡ length kept.old.items }
+    ensures kept { KeptOf (A.seen whole.now) (run_changes runs.now (masked olds.now kept.old.items)) (run_changes runs.now (masked olds.now kept.new.items)) }
 {
-    olds.iter().any(|old| old.is_some())
+    clear_runs(runs, olds, kept, whole);
+}
+
+fn is_any_kept(kept: &[bool]) -> bool
+    ensures { result ≡ list_any (λ k. k) kept.now }
+{
+    kept.iter().any(|is_kept| *is_kept)
 }
 
 fn is_covered(runs: &[Run], place: Place) -> bool
@@ -198,21 +213,21 @@ fn covers_place(run: Run, place: Place) -> bool
     run.region.has(place) && (start <= offset && offset - start < run.len)
 }
 
-/// Appends bytes.
-fn append(olds: &mut Vec<Option<u8>>, bytes: &[u8]) -> Result<(), AllocError>
-    ensures ok { OnOk result (olds.new.items ≡ olds.old.items ++ map Some bytes.now) }
+/// Appends bytes, each with its mark.
+fn append(olds: &mut Vec<u8>, kept: &mut Vec<bool>, bytes: &[u8]) -> Result<(), AllocError>
+    requires { length kept.old.items ≡ length olds.old.items }
+    ensures olds { OnOk result (olds.new.items ≡ olds.old.items ++ bytes.now) }
+    ensures kept { OnOk result (kept.new.items ≡ kept.old.items ++ replicate (length bytes.now) true) }
     ensures err { OnErr result (olds.new.items ≡ olds.old.items) }
+    ensures err_kept { OnErr result (kept.new.items ≡ kept.old.items) }
 {
     olds.reserve(bytes.len())?;
-    let before = olds.len();
-    for byte in bytes {
-        match olds.push(Some(*byte)) {
-            Ok(()) => {}
-            Err(_) => {
-                olds.truncate(before);
-                return Err(AllocError);
-            }
-        }
+    let Some(len) = kept.len().checked_add(bytes.len()) else {
+        return Err(AllocError);
+    };
+    kept.resize(len, true)?;
+    match olds.extend_from_slice(bytes) {
+        Ok(()) => Ok(()),
+        Err(_) => unreachable!(),
     }
-    Ok(())
 }

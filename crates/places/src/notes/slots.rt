@@ -1,5 +1,5 @@
 //! Notes of places that have slots, each place once, in constant time.
-ghost use Rattle.std.specs.Prelude.{◌≡◌, ◌≢◌, ◌+◌, ◌-◌, ◌<◌, ◌≤◌, ◌∷◌, ◌++◌, [], ℕ, length, map, slice_get, IsOk, OnOk, OnErr, MatchBool, is_some, vec_len, vec_capacity};
+ghost use Rattle.std.specs.Prelude.{◌≡◌, ◌≢◌, ◌+◌, ◌-◌, ◌<◌, ◌≤◌, ◌∷◌, ◌++◌, [], ℕ, length, map, slice_get, IsOk, OnOk, OnErr, MatchBool, is_some, ◌||◌, vec_len, vec_capacity};
 ghost use Rattle.places.specs.declared.value.Change.{Change};
 ghost use Rattle.std.specs.List.{list_any};
 ghost use Rattle.places.specs.Places.{same_place};
@@ -23,6 +23,9 @@ pub trait Slotted {
 
     fn slot(&self) -> usize
         ensures { result ≡ slot self.now };
+
+    fn place(&self) -> Place
+        ensures { result ≡ (change self.now).place };
 
     fn change(&self) -> Change
         ensures { result ≡ change self.now };
@@ -124,7 +127,21 @@ impl<N: Slotted + Copy> Slots<N> {
 fn has_note<N: Slotted>(notes: &[N], place: Place) -> bool
     ensures { result ≡ list_any (λ n. same_place (N.change n).place place) notes.now }
 {
-    notes.iter().any(|n| is_same_place(n.change().place, place))
+    notes.iter().any(|n| is_same_place(n.place(), place))
+}
+
+/// Whether one of the notes names a place.
+pub fn names_place<N: Slotted>(notes: &[N], place: Place) -> bool
+    ensures { result ≡ is_some (named (map N.change notes.now) place) }
+{
+    has_note(notes, place)
+}
+
+/// Whether one of two tests holds.
+pub fn either(a: bool, b: bool) -> bool
+    ensures { result ≡ (a || b) }
+{
+    a || b
 }
 
 /// Whether two places are one and the same.

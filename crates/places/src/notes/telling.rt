@@ -1,9 +1,12 @@
 //! The old bytes of runs, told one after the other.
-ghost use Rattle.std.specs.Prelude.{◌≡◌, ◌<◌, ◌∷◌, ◌⊎◌, [], length, MatchOption};
-ghost use Rattle.places.specs.Runs.{run_changes, run_total, RunsFit};
+ghost use Rattle.std.specs.Prelude.{◌≡◌, ◌<◌, ◌∷◌, ◌++◌, ◌⊎◌, [], None, is_some, false, ◌&&◌, unwrap_or, length, MatchOption, IfSome};
+ghost use Rattle.places.specs.Runs.{is_in, offset_in, old_bytes, run_changes, run_total, RunsFit};
+ghost use Rattle.places.specs.Masked.{masked, mark_at};
+ghost use Rattle.places.specs.View.{named};
 ghost use Rattle.places.specs.Turns.{MatchTurn};
 
 use crate::notes::runs::{Region, Run};
+use crate::place::Place;
 use crate::value::{Change, Value};
 use std::marker::Model;
 
@@ -16,7 +19,8 @@ pub struct ByteChanges<'a> {
     /// How many bytes of that run are left.
     left: usize,
     runs: &'a [Run],
-    olds: &'a [Option<u8>],
+    olds: &'a [u8],
+    kept: &'a [bool],
 }
 
 impl<'a> Model for ByteChanges<'a> {
@@ -25,9 +29,113 @@ impl<'a> Model for ByteChanges<'a> {
 
     ghost Value = { ByteRest };
 
-    ghost view = { λ a. record { left = old_bytes a.region a.from (take a.left a.olds.now) ++ run_changes a.runs.now (drop a.left a.olds.now); work = length a.runs.now + length a.olds.now } };
+    ghost use Rattle.places.specs.Masked.{masked};
 
-    ghost invariant = { λ a. (a.from + a.left ≤ 2 ^ 32) × (a.left + run_total a.runs.now ≡ length a.olds.now) × RunsFit a.runs.now };
+    ghost view = { λ a. record { left = old_bytes a.region a.from (take a.left (masked a.olds.now a.kept.now)) ++ run_changes a.runs.now (drop a.left (masked a.olds.now a.kept.now)); work = length a.runs.now + length a.olds.now } };
+
+    ghost invariant = { λ a. (a.from + a.left ≤ 2 ^ 32) × (a.left + run_total a.runs.now ≡ length a.olds.now) × RunsFit a.runs.now × (length a.kept.now ≡ length a.olds.now) };
+}
+
+/// Old bytes of a region from an index on, and marks of those that are kept.
+#[derive(Clone, Copy, Debug)]
+pub struct Stretch<'a> {
+    pub region: Region,
+    pub start: u32,
+    pub olds: &'a [u8],
+    pub kept: &'a [bool],
+}
+
+impl<'a> Stretch<'a> {
+    /// Whether a place is of a byte that is kept.
+    pub fn names(&self, place: Place) -> bool
+        requires { length self.now.kept.now ≡ length self.now.olds.now }
+        ensures { result ≡ is_some (named (old_bytes self.now.region self.now.start (masked self.now.olds.now self.now.kept.now)) place) }
+    {
+        self.has_mark(place)
+    }
+
+    fn has_mark(&self, place: Place) -> bool
+        ensures { result ≡ (is_in self.now.region place && unwrap_or (mark_at self.now.start self.now.kept.now (offset_in self.now.region place)) false) }
+    {
+        let offset = self.region.offset(place);
+        let is_kept = mark_at(self.kept, self.start, offset).unwrap_or(false);
+        self.region.has(place) && is_kept
+    }
+}
+
+fn mark_at(kept: &[bool], start: u32, offset: u32) -> Option<bool>
+    ensures { result ≡ mark_at start kept.now offset }
+{
+    if offset < start {
+        return None;
+    }
+    kept.get((offset - start) as usize).copied()
+}
+
+/// Runs that are left to tell, each at once.
+#[derive(Drop)]
+pub struct Stretches<'a> {
+    runs: &'a [Run],
+    olds: &'a [u8],
+    kept: &'a [bool],
+}
+
+impl<'a> Model for Stretches<'a> {
+    ghost use Rattle.std.specs.Prelude.{◌≡◌, length};
+    ghost use Rattle.places.specs.Masked.{masked};
+    ghost use Rattle.places.specs.Runs.{ByteRest, run_changes, run_total, RunsFit};
+
+    ghost Value = { ByteRest };
+
+    ghost view = { λ a. record { left = run_changes a.runs.now (masked a.olds.now a.kept.now); work = length a.runs.now } };
+
+    ghost invariant = { λ a. (run_total a.runs.now ≡ length a.olds.now) × RunsFit a.runs.now × (length a.kept.now ≡ length a.olds.now) };
+}
+
+impl<'a> Stretches<'a> {
+    /// All runs.
+    pub fn of(runs: &'a [Run], olds: &'a [u8], kept: &'a [bool]) -> Stretches<'a>
+        requires paired { length kept.now ≡ length olds.now }
+        requires fits { run_total runs.now ≡ length olds.now }
+        requires within { RunsFit runs.now }
+        ensures { result.left ≡ run_changes runs.now (masked olds.now kept.now) }
+    {
+        Stretches { runs, olds, kept }
+    }
+
+    /// The next run, if one is left.
+    pub fn next(&mut self) -> Option<Stretch<'a>>
+        ensures told { MatchOption result (self.old.left ≡ []) (λ s. self.old.left ≡ old_bytes s.region s.start (masked s.olds.now s.kept.now) ++ self.new.left) }
+        ensures paired { IfSome result (λ s. length s.kept.now ≡ length s.olds.now) }
+        ensures less { (result ≡ None) ⊎ (self.new.work < self.old.work) }
+    {
+        let [run, rest @ ..] = self.runs else {
+            return None;
+        };
+        let (olds, olds_left) = self.olds.split_at(run.len);
+        let (kept, kept_left) = self.kept.split_at(run.len);
+        self.runs = rest;
+        self.olds = olds_left;
+        self.kept = kept_left;
+        Some(Stretch {
+            region: run.region,
+            start: run.start,
+            olds,
+            kept,
+        })
+    }
+
+    /// Whether one of the runs that are left names a place.
+    pub fn names(&mut self, place: Place) -> bool
+        ensures { result ≡ is_some (named self.old.left place) }
+    {
+        while let Some(stretch) = self.next() {
+            if stretch.names(place) {
+                return true;
+            }
+        }
+        false
+    }
 }
 
 /// What a turn found.
@@ -40,10 +148,11 @@ pub enum Turn {
 
 impl<'a> ByteChanges<'a> {
     /// All old bytes of runs.
-    pub fn of(runs: &'a [Run], olds: &'a [Option<u8>]) -> ByteChanges<'a>
+    pub fn of(runs: &'a [Run], olds: &'a [u8], kept: &'a [bool]) -> ByteChanges<'a>
+        requires paired { length kept.now ≡ length olds.now }
         requires fits { run_total runs.now ≡ length olds.now }
         requires within { RunsFit runs.now }
-        ensures { result.left ≡ run_changes runs.now olds.now }
+        ensures { result.left ≡ run_changes runs.now (masked olds.now kept.now) }
     {
         ByteChanges {
             region: Region::Memory,
@@ -51,6 +160,7 @@ impl<'a> ByteChanges<'a> {
             left: 0,
             runs,
             olds,
+            kept,
         }
     }
 
@@ -83,21 +193,23 @@ impl<'a> ByteChanges<'a> {
                 }
             };
         }
-        match self.olds {
-            [] => Turn::End,
-            [old, rest @ ..] => {
-                let place = self.region.place(self.from as u32);
-                self.from += 1;
-                self.left -= 1;
-                self.olds = rest;
-                match old {
-                    None => Turn::Nothing,
-                    Some(byte) => Turn::Found(Change {
-                        place,
-                        old: Some(Value::Byte(*byte)),
-                    }),
-                }
-            }
+        let [old, olds @ ..] = self.olds else {
+            return Turn::End;
+        };
+        let [is_kept, kept @ ..] = self.kept else {
+            return Turn::End;
+        };
+        let place = self.region.place(self.from as u32);
+        self.from += 1;
+        self.left -= 1;
+        self.olds = olds;
+        self.kept = kept;
+        if !*is_kept {
+            return Turn::Nothing;
         }
+        Turn::Found(Change {
+            place,
+            old: Some(Value::Byte(*old)),
+        })
     }
 }

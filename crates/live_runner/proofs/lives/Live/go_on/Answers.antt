@@ -5,6 +5,7 @@ use Rattle.inverse_log.proofs.Runs.{why_refused}
 use Rattle.machine.specs.Runs.{Link}
 use Rattle.machine.specs.Steps.{refusal}
 use Rattle.live_runner.specs.History.{History}
+use Rattle.live_runner.proofs.EndedRows.{below_after}
 use Rattle.live_runner.proofs.Going.{goes_on, counted_more}
 use Rattle.live_runner.proofs.lives.Live.go_on.Goals as goal
 
@@ -42,7 +43,11 @@ invariant_of-self-2 g c =
       c.self.invariant.2,
       c.self.invariant.3,
       c.self.invariant.4,
+      c.first_open-self-inside.ensures,
     )
+
+pub first_open-self-inside-requires : goal.first_open-self-inside-requires
+first_open-self-inside-requires g c = below_after c.self.inside.state c.step.new.self c.args.event c.self.inside.first c.in_ok-past.ensures.next.accepted c.in_ok-past.ensures.next.changed c.self.invariant.5
 
 pub invariant_of-seat-2 : goal.invariant_of-seat-2
 invariant_of-seat-2 g c =

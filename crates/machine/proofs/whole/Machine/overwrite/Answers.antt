@@ -1,5 +1,5 @@
 use Rattle.std.proofs.Common.{sym, subst, ◌∙◌, rules}
-use Rattle.machine.proofs.Restored.{Restored, restored_from, next_can_put, restored_on, restored_skip, restored_all, went_back, some_of, none_of}
+use Rattle.machine.proofs.Restored.{Restored, restored_from, next_can_put, restored_on, restored_skip, restored_all, some_of, none_of}
 use Rattle.machine.proofs.whole.Machine.overwrite.Goals as goal
 
 pub loop-change-init : goal.loop-change-init
@@ -9,7 +9,7 @@ pub put-requires : goal.put-requires
 put-requires c =
     let at = subst (Restored c.args.self.now c.args.rest.now c.loop-change.self) c.in-Some.ensures.told c.loop-change.invariant in
     let k = some_of _ (sym c.is_some.ensures ∙ c.if-is_some.true) in
-    next_can_put c.requires.back.0 _ _ _ _ _ k.0 k.1 c.requires.back.1 at
+    next_can_put c.requires.stood.0 _ _ _ _ _ k.0 k.1 c.requires.stood.1 at
 
 pub loop-change-preserved-then-is_some : goal.loop-change-preserved-then-is_some
 loop-change-preserved-then-is_some c =
@@ -22,10 +22,7 @@ loop-change-preserved-then-is_some c =
 pub loop-change-preserved : goal.loop-change-preserved
 loop-change-preserved c =
     let at = subst (Restored c.args.self.now c.args.rest.now c.loop-change.self) c.in-Some.ensures.told c.loop-change.invariant in
-    restored_skip c.requires.back.0 _ _ _ _ _ (none_of _ (sym c.is_some.ensures ∙ c.if-is_some.false)) c.requires.back.1 at
+    restored_skip c.requires.stood.0 _ _ _ _ _ (none_of _ (sym c.is_some.ensures ∙ c.if-is_some.false)) c.requires.stood.1 at
 
-pub returns-clause-undone : goal.returns-clause-undone
-returns-clause-undone c = restored_all _ _ _ _ (search rules) c.loop-change.invariant
-
-pub returns-clause-back : goal.returns-clause-back
-returns-clause-back c s g = went_back _ _ _ _ g c.loop-change.invariant.setup (restored_all _ _ _ _ (search rules) c.loop-change.invariant)
+pub returns : goal.returns
+returns c = restored_all _ _ _ _ (search rules) c.loop-change.invariant

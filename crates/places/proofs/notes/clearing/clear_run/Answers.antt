@@ -1,9 +1,7 @@
-use Rattle.std.proofs.Common.{◌<◌, length, arith}
-use Rattle.std.proofs.lemmas.Option.{slice_get_within}
-use Rattle.places.proofs.Kept.{kept_bytes}
+use Rattle.places.proofs.MaskedLemmas.{marks_left}
+use Rattle.std.proofs.Common.{rules}
 use Rattle.places.proofs.notes.clearing.clear_run.Goals as goal
 
-pub returns-clause-kept : goal.returns-clause-kept
-returns-clause-kept g c =
-    kept_bytes _ _ _ _ _ c.loop-i.invariant.len
-    (λ k o p e f. c.loop-i.invariant.done k o p (let w : k < length c.args.olds.now = slice_get_within _ _ _ e in let t = c.loop-i-test.false in omega arith) e f)
+pub returns-in-Some-clause-kept : goal.returns-in-Some-clause-kept
+returns-in-Some-clause-kept g c =
+    marks_left _ c.args.region c.args.start c.args.olds.now c.in-Some.now.now c.args.kept.now c.clear_alike.new.kept c.requires.paired c.clear_alike.ensures.len (search rules) c.clear_alike.ensures.marks

@@ -1,0 +1,218 @@
+-- Conditions that hold on, and from when on.
+use Rattle.std.proofs.Common.{◌≡◌, ◌⊎◌, inl, inr, ℕ, zero, suc, ◌+◌, ◌-◌, ◌<◌, ◌≤◌, Bool, true, false, cond, List, [], ◌∷◌, ◌++◌, length, take, drop, get_or, set, map, refl, sym, ap, ◌∙◌, subst, arith}
+use Rattle.std.proofs.lemmas.Bool.{cases_lt, cases_order, and_parts, ltb-true, eqb-true}
+use Rattle.std.proofs.lemmas.List.Elements.{All-nil, All-cons, All-append}
+use Rattle.std.specs.Prelude.{Option, Some, None, ◌&&◌, ◌==◌, nat_lt}
+use Rattle.std.specs.List.{All, Contains, flat_map}
+use Rattle.scenario.specs.declared.event.Event.{Event}
+use Rattle.scenario.specs.declared.setup.Setup.{Setup}
+use Rattle.machine.specs.declared.whole.Machine.{Machine}
+use Rattle.machine.specs.Runs.{start, moment as machine_at}
+use Rattle.findings.specs.declared.finding.Finding.{Finding}
+use Rattle.findings.specs.declared.kind.Kind.{Kind}
+use Rattle.findings.specs.declared.kind.Kind.TheVariants.{Failed, Short, Severed, Canceled, TimedOut, Expired, NotFound, TooLate, Overflow, Busy, Waits, LostWakeUp, NotTaken, NotReaped, Unfinished}
+use Rattle.findings.specs.declared.watching.Watch.{Watch}
+use Rattle.findings.specs.Conditions.{stands, Began}
+use Rattle.findings.specs.Findings.{stands_at}
+use Rattle.findings.specs.Records.{IsLasting}
+use Rattle.findings.specs.Watched.{continued, advanced, fresh, numbers_below, of_rings, watched, of_watch, of_lasting}
+use Rattle.findings.proofs.Members.{Has, has_left, has_right, has_flat_map, has_contains}
+
+false_true : false ≡ true → ⊥
+false_true e = cc
+
+-- ---- since when a condition holds
+
+unfoldable pub since_of : (ℕ → Bool) → ℕ → Option ℕ
+since_of holds zero = continued (holds zero) None zero
+since_of holds (suc n) = continued (holds (suc n)) (since_of holds n) (suc n)
+
+-- it doesn't hold at a moment, or has held from one on
+abbrev IsSince : (ℕ → Bool) → ℕ → Option ℕ → Type 0
+IsSince holds n None = holds n ≡ false
+IsSince holds n (Some i) = Began holds n i
+
+begins_first : (holds : ℕ → Bool) → holds zero ≡ true → Began holds zero zero
+begins_first holds h = record {
+  within = omega arith;
+  lasts = λ k l m. let same : zero ≡ k = omega arith in subst (λ (x : ℕ). holds x ≡ true) same h;
+  first = λ k e. absurd (omega arith);
+}
+
+begins_here : (holds : ℕ → Bool) (n : ℕ) → holds n ≡ false → holds (suc n) ≡ true → Began holds (suc n) (suc n)
+begins_here holds n before h = record {
+  within = omega arith;
+  lasts = λ k l m. let same : suc n ≡ k = omega arith in subst (λ (x : ℕ). holds x ≡ true) same h;
+  first = λ k e. let same : n ≡ k = omega arith in subst (λ (x : ℕ). holds x ≡ false) same before;
+}
+
+holds_on : (holds : ℕ → Bool) (n i : ℕ) → Began holds n i → holds (suc n) ≡ true → Began holds (suc n) i
+holds_on holds n i b h = record {
+  within = let l : i ≤ n = b.within in omega arith;
+  lasts = λ k l m.
+      elim (cases_lt n k) [
+        | inl past ↦ let same : suc n ≡ k = omega arith in subst (λ (x : ℕ). holds x ≡ true) same h
+        | inr up ↦ b.lasts k l up
+      ];
+  first = b.first;
+}
+
+since_more : (holds : ℕ → Bool) (n : ℕ) (o : Option ℕ) → IsSince holds n o → (b : Bool) → holds (suc n) ≡ b → IsSince holds (suc n) (continued b o (suc n))
+since_more holds n o h false e = e
+since_more holds n None h true e = begins_here holds n h e
+since_more holds n (Some i) h true e = holds_on holds n i h e
+
+since_first : (holds : ℕ → Bool) (b : Bool) → holds zero ≡ b → IsSince holds zero (continued b None zero)
+since_first holds false e = e
+since_first holds true e = begins_first holds e
+
+since_is : (holds : ℕ → Bool) (n : ℕ) → IsSince holds n (since_of holds n)
+unfolding since_of
+since_is holds zero = since_first holds (holds zero) refl
+since_is holds (suc n) = since_more holds n (since_of holds n) (since_is holds n) (holds (suc n)) refl
+
+-- a condition began at the moment that is told
+since_begins : (holds : ℕ → Bool) (n i : ℕ) → since_of holds n ≡ Some i → Began holds n i
+since_begins holds n i e = subst (IsSince holds n) e (since_is holds n)
+
+both : (a : Bool) → a ≡ true → a ≡ false → ⊥
+both a h k = false_true (sym k ∙ h)
+
+-- it began at one moment alone
+one_beginning : (holds : ℕ → Bool) (n i j : ℕ) → Began holds n i → Began holds n j → i < j → ⊥
+one_beginning holds n i j b d l =
+    let up : j ≤ n = d.within in
+    both (holds (j - 1)) (b.lasts (j - 1) (omega arith) (omega arith)) (d.first (j - 1) (omega arith))
+
+begins_since : (holds : ℕ → Bool) (n i : ℕ) → Began holds n i → since_of holds n ≡ Some i
+begins_since holds n i b = by (since_of holds n) (since_is holds n)
+  where
+    by : (o : Option ℕ) → IsSince holds n o → o ≡ Some i
+    by None h = absurd (both (holds n) (b.lasts n b.within (omega arith)) h)
+    by (Some j) h =
+        elim (cases_order i j) [
+          | inl e ↦ ap Some (sym e)
+          | inr (inl l) ↦ absurd (one_beginning holds n i j b h l)
+          | inr (inr l) ↦ absurd (one_beginning holds n j i h b l)
+        ]
+
+-- ---- what is watched
+
+-- a condition that is watched, at a moment of a run
+abbrev pub watch_at : Setup → List Event → ℕ → Watch → Watch
+watch_at s es n w = record w { since = since_of (stands_at s es w.kind w.subject) n }
+
+threads_first : (s : Setup) (es : List Event) (ns : List ℕ) → map (advanced s (start s) zero) (map (fresh Waits) ns) ≡ map (watch_at s es zero) (map (fresh Waits) ns)
+unfolding since_of
+threads_first s es [] = refl
+threads_first s es (n ∷ ns) = ap (λ (ws : List Watch). watch_at s es zero (fresh Waits n) ∷ ws) (threads_first s es ns)
+
+-- at the start
+pub watched_first : (s : Setup) (es : List Event) → map (advanced s (start s) zero) (watched s) ≡ map (watch_at s es zero) (watched s)
+unfolding since_of
+watched_first s es =
+    ap (λ (ws : List Watch). watch_at s es zero (fresh LostWakeUp zero) ∷ watch_at s es zero (fresh NotTaken zero) ∷ watch_at s es zero (fresh NotReaped zero) ∷ ws) (threads_first s es (numbers_below (length s.threads)))
+
+advanced_next : (s : Setup) (es : List Event) (i : ℕ) (ws : List Watch) → map (advanced s (machine_at s es (suc i)) (suc i)) (map (watch_at s es i) ws) ≡ map (watch_at s es (suc i)) ws
+unfolding since_of
+advanced_next s es i [] = refl
+advanced_next s es i (w ∷ ws) = ap (λ (xs : List Watch). watch_at s es (suc i) w ∷ xs) (advanced_next s es i ws)
+
+-- behind one more event
+pub advanced_more : (s : Setup) (es : List Event) (i k : ℕ) (m : Machine) (ws : List Watch) → k ≡ suc i → m ≡ machine_at s es k → map (advanced s m k) (map (watch_at s es i) ws) ≡ map (watch_at s es k) ws
+advanced_more s es i k m ws e h =
+    ap (λ (x : Machine). map (advanced s x k) (map (watch_at s es i) ws)) h
+    ∙ subst (λ (j : ℕ). map (advanced s (machine_at s es j) j) (map (watch_at s es i) ws) ≡ map (watch_at s es j) ws) (sym e) (advanced_next s es i ws)
+
+-- ---- one after the other
+
+-- a list of which the first are mapped, with one more
+pub mapped_more : {X : Type 0} (f : X → X) (xs : List X) (i : ℕ) (d : X) → i < length xs → set (map f (take i xs) ++ drop i xs) i (f (get_or xs i d)) ≡ map f (take (suc i) xs) ++ drop (suc i) xs
+mapped_more f [] i d h = absurd (omega arith)
+mapped_more f (x ∷ xs) zero d h = refl
+mapped_more f (x ∷ xs) (suc i) d h = ap (λ ys. f x ∷ ys) (mapped_more f xs i d (omega arith))
+
+-- the first that isn't
+pub mapped_read : {X : Type 0} (f : X → X) (xs : List X) (i : ℕ) (d : X) → i < length xs → get_or (map f (take i xs) ++ drop i xs) i d ≡ get_or xs i d
+mapped_read f [] i d h = absurd (omega arith)
+mapped_read f (x ∷ xs) zero d h = refl
+mapped_read f (x ∷ xs) (suc i) d h = mapped_read f xs i d (omega arith)
+
+pub mapped_whole : {X : Type 0} (f : X → X) (xs : List X) (i : ℕ) → length xs ≤ i → map f (take i xs) ++ drop i xs ≡ map f xs
+mapped_whole f [] zero h = refl
+mapped_whole f [] (suc i) h = refl
+mapped_whole f (x ∷ xs) zero h = absurd (omega arith)
+mapped_whole f (x ∷ xs) (suc i) h = ap (λ ys. f x ∷ ys) (mapped_whole f xs i (omega arith))
+
+pub mapped_step : {X : Type 0} (f : X → X) (xs ys : List X) (i : ℕ) (d r : X) → i < length xs → ys ≡ map f (take i xs) ++ drop i xs → r ≡ f (get_or ys i d) → set ys i r ≡ map f (take (i + 1) xs) ++ drop (i + 1) xs
+mapped_step f xs ys i d r l h e =
+    let up : suc i ≡ i + 1 = omega arith in
+    let read : r ≡ f (get_or xs i d) = e ∙ ap (λ zs. f (get_or zs i d)) h ∙ ap f (mapped_read f xs i d l) in
+    ap (λ zs. set zs i r) h ∙ ap (λ z. set (map f (take i xs) ++ drop i xs) i z) read ∙ mapped_more f xs i d l ∙ ap (λ (k : ℕ). map f (take k xs) ++ drop k xs) up
+
+-- ---- what is told of them
+
+abbrev IsOn : Setup → List Event → ℕ → Finding → Type 0
+IsOn s es n f = Began (stands_at s es f.kind f.subject) n f.moment
+
+watch_on : (s : Setup) (es : List Event) (n : ℕ) (w : Watch) → All (IsOn s es n) (of_lasting (watch_at s es n w))
+watch_on s es n w = by (since_of (stands_at s es w.kind w.subject) n) refl
+  where
+    by : (o : Option ℕ) → since_of (stands_at s es w.kind w.subject) n ≡ o → All (IsOn s es n) (of_watch w.kind w.subject o)
+    by None e = All-nil (IsOn s es n)
+    by (Some i) e = All-cons (IsOn s es n) (record { moment = i; kind = w.kind; subject = w.subject }) [] (since_begins (stands_at s es w.kind w.subject) n i e) (All-nil (IsOn s es n))
+
+watches_on : (s : Setup) (es : List Event) (n : ℕ) (ws : List Watch) → All (IsOn s es n) (flat_map of_lasting (map (watch_at s es n) ws))
+watches_on s es n [] = All-nil (IsOn s es n)
+watches_on s es n (w ∷ ws) =
+    All-append (IsOn s es n) (of_lasting (watch_at s es n w)) (flat_map of_lasting (map (watch_at s es n) ws)) (watch_on s es n w) (watches_on s es n ws)
+
+has_map : {X Y : Type 0} (f : X → Y) (xs : List X) (x : X) → Has xs x → Has (map f xs) (f x)
+has_map f [] x h = absurd h
+has_map f (y ∷ ys) x (inl e) = inl (ap f e)
+has_map f (y ∷ ys) x (inr h) = inr (has_map f ys x h)
+
+below_there : (n m : ℕ) → n < m → Has (numbers_below m) n
+below_there n zero l = absurd (omega arith)
+below_there n (suc m) l =
+    elim (cases_lt n m) [
+      | inl below ↦ has_left (numbers_below m) (m ∷ []) n (below_there n m below)
+      | inr up ↦ let same : m ≡ n = omega arith in has_right (numbers_below m) (m ∷ []) n (inl same)
+    ]
+
+-- each condition that can stand is watched
+watched_has : (s : Setup) (kind : Kind) (m : Machine) (n : ℕ) → stands s kind m n ≡ true → Has (watched s) (fresh kind n)
+watched_has s LostWakeUp m n h = let e : n ≡ zero = eqb-true n zero (and_parts _ _ h).0 in inl (ap (fresh LostWakeUp) (sym e))
+watched_has s NotTaken m n h = let e : n ≡ zero = eqb-true n zero (and_parts _ _ h).0 in inr (inl (ap (fresh NotTaken) (sym e)))
+watched_has s NotReaped m n h = let e : n ≡ zero = eqb-true n zero (and_parts _ _ h).0 in inr (inr (inl (ap (fresh NotReaped) (sym e))))
+watched_has s Waits m n h =
+    let l : n < length s.threads = ltb-true n (length s.threads) (and_parts _ _ h).0 in
+    inr (inr (inr (has_map (fresh Waits) (numbers_below (length s.threads)) n (below_there n (length s.threads) l))))
+watched_has s Failed m n h = absurd (false_true h)
+watched_has s Short m n h = absurd (false_true h)
+watched_has s Severed m n h = absurd (false_true h)
+watched_has s Canceled m n h = absurd (false_true h)
+watched_has s TimedOut m n h = absurd (false_true h)
+watched_has s Expired m n h = absurd (false_true h)
+watched_has s NotFound m n h = absurd (false_true h)
+watched_has s TooLate m n h = absurd (false_true h)
+watched_has s Overflow m n h = absurd (false_true h)
+watched_has s Busy m n h = absurd (false_true h)
+watched_has s Unfinished m n h = absurd (false_true h)
+
+watch_told : (s : Setup) (es : List Event) (n : ℕ) (f : Finding) → IsOn s es n f → Has (flat_map of_lasting (map (watch_at s es n) (watched s))) f
+watch_told s es n f h =
+    let stands_now : stands s f.kind (machine_at s es n) f.subject ≡ true = h.lasts n h.within (omega arith) in
+    let there = has_map (watch_at s es n) (watched s) (fresh f.kind f.subject) (watched_has s f.kind (machine_at s es n) f.subject stands_now) in
+    let since : since_of (stands_at s es f.kind f.subject) n ≡ Some f.moment = begins_since (stands_at s es f.kind f.subject) n f.moment h in
+    let told : Has (of_lasting (watch_at s es n (fresh f.kind f.subject))) f =
+    subst (λ (o : Option ℕ). Has (of_watch f.kind f.subject o) f) (sym since) (inl refl)
+    in
+    has_flat_map of_lasting (map (watch_at s es n) (watched s)) (watch_at s es n (fresh f.kind f.subject)) f there told
+
+-- the conditions that hold at the end
+pub lasting_told : (s : Setup) (es : List Event) (ws : List Watch) → ws ≡ map (watch_at s es (length es)) (watched s) → IsLasting s es (flat_map of_lasting ws)
+lasting_told s es ws e = subst (λ (xs : List Watch). IsLasting s es (flat_map of_lasting xs)) (sym e) (record {
+  only = watches_on s es (length es) (watched s);
+  whole = λ f h. has_contains _ f (watch_told s es (length es) f h);
+})

@@ -1,0 +1,9 @@
+pub mod Longer
+pub mod Members
+pub mod Notes
+pub mod Shown
+pub mod Ranks
+pub mod Distinct
+pub mod Lasting
+pub mod Left
+pub mod Followed

@@ -1,0 +1,90 @@
+-- A rank is that of one finding alone.
+use Rattle.std.proofs.Common.{◌≡◌, ℕ, ◌+◌, ◌*◌, ◌^◌, ◌<◌, lit<, refl, sym, ap, ◌∙◌, arith}
+use Rattle.std.specs.Prelude.{◌==◌, if◌then◌else◌}
+use Rattle.findings.specs.declared.finding.Finding.{Finding}
+use Rattle.findings.specs.declared.kind.Kind.{Kind}
+use Rattle.findings.specs.declared.kind.Kind.TheVariants.{Failed, Short, Severed, Canceled, TimedOut, Expired, NotFound, TooLate, Overflow, Busy, Waits, LostWakeUp, NotTaken, NotReaped, Unfinished}
+use Rattle.findings.specs.Findings.{number_of, rank}
+use Rattle.findings.specs.Records.{IsSmall}
+
+number_small : (kind : Kind) → number_of kind < 32
+number_small Failed = lit< tt
+number_small Short = lit< tt
+number_small Severed = lit< tt
+number_small Canceled = lit< tt
+number_small TimedOut = lit< tt
+number_small Expired = lit< tt
+number_small NotFound = lit< tt
+number_small TooLate = lit< tt
+number_small Overflow = lit< tt
+number_small Busy = lit< tt
+number_small Waits = lit< tt
+number_small LostWakeUp = lit< tt
+number_small NotTaken = lit< tt
+number_small NotReaped = lit< tt
+number_small Unfinished = lit< tt
+
+kind_of : ℕ → Kind
+kind_of n =
+    if n == 0 then Failed
+    else if n == 1 then Short
+    else if n == 2 then Severed
+    else if n == 3 then Canceled
+    else if n == 4 then TimedOut
+    else if n == 5 then Expired
+    else if n == 6 then NotFound
+    else if n == 7 then TooLate
+    else if n == 8 then Overflow
+    else if n == 9 then Busy
+    else if n == 10 then Waits
+    else if n == 11 then LostWakeUp
+    else if n == 12 then NotTaken
+    else if n == 13 then NotReaped
+    else Unfinished
+
+kind_back : (kind : Kind) → kind_of (number_of kind) ≡ kind
+unfolding kind_of
+kind_back Failed = refl
+kind_back Short = refl
+kind_back Severed = refl
+kind_back Canceled = refl
+kind_back TimedOut = refl
+kind_back Expired = refl
+kind_back NotFound = refl
+kind_back TooLate = refl
+kind_back Overflow = refl
+kind_back Busy = refl
+kind_back Waits = refl
+kind_back LostWakeUp = refl
+kind_back NotTaken = refl
+kind_back NotReaped = refl
+kind_back Unfinished = refl
+
+same_kind : (a b : Kind) → number_of a ≡ number_of b → a ≡ b
+same_kind a b e = sym (kind_back a) ∙ ap kind_of e ∙ kind_back b
+
+upper : (a b s t : ℕ) → s < 4294967296 → t < 4294967296 → a * 4294967296 + s ≡ b * 4294967296 + t → a ≡ b
+upper a b s t h k e = omega arith
+
+lower : (a b s t : ℕ) → a ≡ b → a * 4294967296 + s ≡ b * 4294967296 + t → s ≡ t
+lower a b s t h e = omega arith
+
+first : (a b s t : ℕ) → s < 32 → t < 32 → a * 32 + s ≡ b * 32 + t → a ≡ b
+first a b s t h k e = omega arith
+
+second : (a b s t : ℕ) → a ≡ b → a * 32 + s ≡ b * 32 + t → s ≡ t
+second a b s t h e = omega arith
+
+abbrev the_finding : ℕ → Kind → ℕ → Finding
+the_finding i kind r = record { moment = i; kind = kind; subject = r }
+
+pub rank_injective : (f g : Finding) → IsSmall f → IsSmall g → rank f ≡ rank g → f ≡ g
+rank_injective f g h k e =
+    let high : f.moment * 32 + number_of f.kind ≡ g.moment * 32 + number_of g.kind = upper _ _ f.subject g.subject h.1 k.1 e in
+    let low : f.subject ≡ g.subject = lower _ _ f.subject g.subject high e in
+    let moment : f.moment ≡ g.moment = first f.moment g.moment _ _ (number_small f.kind) (number_small g.kind) high in
+    let kind : f.kind ≡ g.kind = same_kind f.kind g.kind (second f.moment g.moment _ _ moment high) in
+    let step : the_finding f.moment f.kind f.subject ≡ the_finding g.moment g.kind g.subject =
+    ap (λ (i : ℕ). the_finding i f.kind f.subject) moment ∙ ap (λ (x : Kind). the_finding g.moment x f.subject) kind ∙ ap (the_finding g.moment g.kind) low
+    in
+    step

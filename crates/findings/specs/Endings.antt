@@ -1,0 +1,73 @@
+-- What the end of a request is a finding of.
+use Rattle.std.specs.Prelude.{ℕ, ℤ, pos, negsuc, ◌==◌, Bool, true, false, not, ◌&&◌, ◌||◌, nat_lt, unsigned_abs, if◌then◌else◌, Option, Some, None, List, [], ◌∷◌}
+use Rattle.std.specs.Option.{option_map_or}
+use Rattle.entries.specs.declared.row.Phase.{Phase}
+use Rattle.entries.specs.declared.row.Phase.TheVariants.{Queued, Issued, Ended}
+use Rattle.entries.specs.declared.row.Row.{Row}
+use Rattle.opcodes.specs.Opcodes.{is_cancel, is_timer}
+use Rattle.links_drains.specs.Links.{is_guard, is_soft_linked}
+use Rattle.links_drains.specs.Phases.{is_ended, is_issued}
+use Rattle.timeouts_cancel.specs.Falls.{is_bad, is_negative, is_transfer}
+use Rattle.findings.specs.declared.kind.Kind.{Kind}
+use Rattle.findings.specs.declared.kind.Kind.TheVariants.{Failed, Short, Severed, Canceled, TimedOut, Expired, NotFound, TooLate}
+
+-- ---- ends
+
+-- whether a row had ended before an event; one that the event brings hadn't
+abbrev pub had_ended : Option Row → Bool
+had_ended None = false
+had_ended (Some row) = is_ended row.phase
+
+-- whether a row was issued before it, and hadn't ended
+abbrev pub was_issued : Option Row → Bool
+was_issued None = false
+was_issued (Some row) = is_issued row.phase
+
+abbrev pub result_in : Phase → Option ℤ
+result_in Queued = None
+result_in Issued = None
+result_in (Ended res) = Some res
+
+-- the result with which a row ends by an event, as it was before it and is behind it
+abbrev pub ending_of : Option Row → Row → Option ℤ
+ending_of before row = if had_ended before then None else result_in row.phase
+
+-- ---- results
+
+-- whether a result is the error of a number (errno(3))
+abbrev pub is_error : ℕ → ℤ → Bool
+is_error errno res = is_negative res && (unsigned_abs res == errno)
+
+-- whether a result is a whole number below another
+abbrev pub is_less : ℤ → ℕ → Bool
+is_less (pos n) m = nat_lt n m
+is_less (negsuc n) m = false
+
+-- whether another kind tells of an error: ECANCELED, ETIME of a timer, ENOENT and EALREADY of a cancel or a removal
+abbrev pub is_told_apart : Row → ℤ → Bool
+is_told_apart row res =
+    is_error 125 res || ((is_timer row.entry.opcode && is_error 62 res) || (is_cancel row.entry.opcode && (is_error 2 res || is_error 114 res)))
+
+-- ---- kinds
+
+-- Whether a row that ends with a result is a finding of a kind (io_uring_enter(2)):
+--   Failed: with an error that no other kind tells of;
+--   Short: a READ or a WRITE with fewer bytes than asked for;
+--   Severed: a soft-linked row badly, of itself: it isn't one that ends with its chain, which is queued, and ends with ECANCELED;
+--   Canceled: with ECANCELED;
+--   TimedOut, Expired: a LINK_TIMEOUT, a TIMEOUT with ETIME;
+--   NotFound, TooLate: a cancel or a removal with ENOENT, with EALREADY.
+abbrev pub is_of : Kind → Option Row → Row → ℤ → Bool
+is_of Failed before row res = is_negative res && not (is_told_apart row res)
+is_of Short before row res = is_transfer row.entry.opcode && is_less res row.entry.len
+is_of Severed before row res = is_soft_linked row && (is_bad row res && (was_issued before || not (is_error 125 res)))
+is_of Canceled before row res = is_error 125 res
+is_of TimedOut before row res = is_guard row && is_error 62 res
+is_of Expired before row res = (row.entry.opcode == 11) && is_error 62 res
+is_of NotFound before row res = is_cancel row.entry.opcode && is_error 2 res
+is_of TooLate before row res = is_cancel row.entry.opcode && is_error 114 res
+is_of _ before row res = false
+
+-- whether a row, as it was before an event and is behind it, ends by it, and that is a finding of a kind
+abbrev pub row_test : Kind → Option Row → Row → Bool
+row_test kind before row = option_map_or (is_of kind before row) (ending_of before row) false

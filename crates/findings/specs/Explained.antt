@@ -1,0 +1,56 @@
+-- What is told of a script's run, or a trace's.
+use Rattle.std.specs.Prelude.{◌≡◌, ◌==◌, Bool, true, false, ◌&&◌, Option, Some, None, Ok, List, ℕ}
+use Rattle.std.specs.List.{list_any}
+use Rattle.scenario.specs.declared.event.Event.{Event}
+use Rattle.scenario.specs.declared.setup.Setup.{Setup}
+use Rattle.script.specs.Scripts.{Scenario, Reads}
+use Rattle.traces.specs.Setups.{IsTrace2}
+use Rattle.findings.specs.declared.finding.Finding.{Finding}
+use Rattle.findings.specs.declared.kind.Kind.{Kind}
+use Rattle.findings.specs.declared.kind.Kind.TheVariants.{Failed, Short, Severed, Canceled, TimedOut, Expired, NotFound, TooLate, Overflow, Busy, Waits, LostWakeUp, NotTaken, NotReaped, Unfinished}
+use Rattle.findings.specs.Findings.{number_of, IsToldOf}
+
+-- whether a kind is a fault, and no note
+abbrev pub is_fault : Kind → Bool
+is_fault Failed = true
+is_fault Short = true
+is_fault Severed = true
+is_fault Canceled = false
+is_fault TimedOut = true
+is_fault Expired = false
+is_fault NotFound = true
+is_fault TooLate = true
+is_fault Overflow = true
+is_fault Busy = true
+is_fault Waits = true
+is_fault LostWakeUp = true
+is_fault NotTaken = true
+is_fault NotReaped = false
+is_fault Unfinished = true
+
+-- whether a kind is asked for: one alone, or each
+abbrev pub is_asked : Option Kind → Kind → Bool
+is_asked None kind = true
+is_asked (Some only) kind = number_of only == number_of kind
+
+-- whether a finding is a fault of a kind that is asked for
+abbrev pub counts : Option Kind → Finding → Bool
+counts asked f = is_asked asked f.kind && is_fault f.kind
+
+-- Whether some finding of a run is a fault of a kind that is asked for.
+pub record Explains (s : Setup) (es : List Event) (asked : Option Kind) (some : Bool) : Type 0 where
+  pub found : List Finding
+  pub told : IsToldOf s es found
+  pub faults : some ≡ list_any (counts asked) found
+
+-- the same of the schedule of a script, and of a trace
+abbrev pub ExplainsScript : List ℕ → Option Kind → Bool → Type 0
+ExplainsScript text asked some = (p : Scenario) × Reads text (Ok p) × Explains p.setup p.schedule asked some
+
+abbrev pub ExplainsTrace : List ℕ → Option Kind → Bool → Type 0
+ExplainsTrace trace asked some = (s : Setup) × (es : List Event) × IsTrace2 s es trace × Explains s es asked some
+
+-- bytes are a trace, or else a script
+abbrev pub ExplainsRun : Bool → List ℕ → Option Kind → Bool → Type 0
+ExplainsRun true bytes asked some = ExplainsTrace bytes asked some
+ExplainsRun false bytes asked some = ExplainsScript bytes asked some

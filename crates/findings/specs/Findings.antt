@@ -1,0 +1,80 @@
+-- Findings of runs, by the machines before and behind each event.
+use Rattle.std.specs.Prelude.{◌≡◌, ℕ, ◌+◌, ◌*◌, ◌^◌, ◌≤◌, ◌<◌, ◌==◌, Bool, true, false, not, ◌&&◌, ◌||◌, ◌⊎◌, length, Option, List, [], ◌∷◌, slice_get}
+use Rattle.std.specs.Option.{option_map_or}
+use Rattle.std.specs.List.{All, Contains}
+use Rattle.scenario.specs.declared.event.Event.{Event}
+use Rattle.scenario.specs.declared.setup.Setup.{Setup}
+use Rattle.machine.specs.declared.whole.Machine.{Machine}
+use Rattle.machine.specs.Steps.{after}
+use Rattle.machine.specs.Runs.{moment as machine_at}
+use Rattle.findings.specs.declared.kind.Kind.{Kind}
+use Rattle.findings.specs.declared.kind.Kind.TheVariants.{Failed, Short, Severed, Canceled, TimedOut, Expired, NotFound, TooLate, Overflow, Busy, Waits, LostWakeUp, NotTaken, NotReaped, Unfinished}
+use Rattle.findings.specs.declared.finding.Finding.{Finding}
+use Rattle.findings.specs.Endings.{row_test}
+use Rattle.findings.specs.Conditions.{overflows, enters, has_busy_answer, is_step_of, stands, is_left, Began}
+
+-- ---- order
+
+-- the number of a kind, by which findings of one moment are ordered
+abbrev pub number_of : Kind → ℕ
+number_of Failed = 0
+number_of Short = 1
+number_of Severed = 2
+number_of Canceled = 3
+number_of TimedOut = 4
+number_of Expired = 5
+number_of NotFound = 6
+number_of TooLate = 7
+number_of Overflow = 8
+number_of Busy = 9
+number_of Waits = 10
+number_of LostWakeUp = 11
+number_of NotTaken = 12
+number_of NotReaped = 13
+number_of Unfinished = 14
+
+-- where a finding stands among all: by its moment, its kind, and the number of what it is about
+abbrev pub rank : Finding → ℕ
+rank f = (f.moment * 32 + number_of f.kind) * 2 ^ 32 + f.subject
+
+-- findings from a rank on, each above the one before
+abbrev pub Rises : ℕ → List Finding → Type 0
+Rises least [] = Unit {0}
+Rises least (f ∷ fs) = (least ≤ rank f) × Rises (rank f + 1) fs
+
+-- ---- what is found
+
+-- whether the row of a number ends by an event that leads from one machine to another, and that is a finding of a kind
+abbrev pub ends : Kind → Machine → Machine → ℕ → Bool
+ends kind before behind r = option_map_or (row_test kind (slice_get before.table r)) (slice_get behind.table r) false
+
+-- Whether the event is a finding about the rings, with 0, or about a thread:
+--   Overflow: completions are kept, and none was before it;
+--   Busy: an Enter of the thread is answered EBUSY.
+abbrev pub shows : Setup → Kind → Machine → Event → Machine → ℕ → Bool
+shows s Overflow before e behind n = (n == 0) && (not (overflows before) && overflows behind)
+shows s Busy before e behind t = is_step_of t e && (enters s before e && has_busy_answer behind t)
+shows s kind before e behind n = false
+
+-- whether the event at a moment of a run is a finding of a kind
+abbrev pub occurs_at : Setup → List Event → ℕ → Kind → ℕ → Bool
+occurs_at s es i kind n =
+    option_map_or (λ e. ends kind (machine_at s es i) (after (machine_at s es i) e) n || shows s kind (machine_at s es i) e (after (machine_at s es i) e) n) (slice_get es i) false
+
+-- whether a condition stands at a moment of a run
+abbrev pub stands_at : Setup → List Event → Kind → ℕ → ℕ → Bool
+stands_at s es kind n i = stands s kind (machine_at s es i) n
+
+-- a row that is unfinished at the end
+abbrev pub IsLeft : Setup → List Event → Finding → Type 0
+IsLeft s es f = (f.moment ≡ length es) × (is_left f.kind (machine_at s es (length es)) f.subject ≡ true)
+
+-- A finding: the event at its moment is one; or a condition holds from its moment on up to the end, and not before; or its moment is the end, where a row is unfinished.
+abbrev pub IsFinding : Setup → List Event → Finding → Type 0
+IsFinding s es f = (occurs_at s es f.moment f.kind f.subject ≡ true) ⊎ (Began (stands_at s es f.kind f.subject) (length es) f.moment ⊎ IsLeft s es f)
+
+-- Just the findings of a run: nothing else, nothing left out, each once, in order.
+pub record IsToldOf (s : Setup) (es : List Event) (fs : List Finding) : Type 0 where
+  pub only : All (IsFinding s es) fs
+  pub whole : (f : Finding) → IsFinding s es f → Contains fs f
+  pub order : Rises 0 fs

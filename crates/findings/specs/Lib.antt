@@ -1,0 +1,6 @@
+pub mod Endings
+pub mod Conditions
+pub mod Watched
+pub mod Findings
+pub mod Records
+pub mod Explained

@@ -1,0 +1,119 @@
+//! Kinds of findings.
+ghost use Rattle.std.specs.Prelude.{◌≡◌, ◌<◌};
+ghost use Rattle.findings.specs.Explained.{is_fault};
+ghost use Rattle.findings.specs.Findings.{number_of};
+
+/// What a finding is of. Those of one moment are told in this order.
+#[derive(Clone, Copy, Debug, PartialEq, Eq)]
+pub enum Kind {
+    /// A request ended with an error that no other kind tells of.
+    Failed = 0,
+    /// A READ or a WRITE ended with fewer bytes than it asked for.
+    Short = 1,
+    /// A bad end broke a soft link.
+    Severed = 2,
+    /// A request ended with ECANCELED.
+    Canceled = 3,
+    /// A LINK_TIMEOUT expired.
+    TimedOut = 4,
+    /// A TIMEOUT expired.
+    Expired = 5,
+    /// A cancel or a removal found no request.
+    NotFound = 6,
+    /// A cancel or a removal found one that was running.
+    TooLate = 7,
+    /// Completions began to be kept in the backlog.
+    Overflow = 8,
+    /// An Enter was answered EBUSY.
+    Busy = 9,
+    /// A thread waits in its Enter at the end.
+    Waits = 10,
+    /// At the end the poller is asleep, and entries wait for it.
+    LostWakeUp = 11,
+    /// At the end entries wait that nothing has taken.
+    NotTaken = 12,
+    /// At the end completions wait, or are kept.
+    NotReaped = 13,
+    /// A request hasn't ended at the end.
+    Unfinished = 14,
+}
+
+/// All kinds, with their words.
+const WORDS: [(Kind, &str); 15] = [
+    (Kind::Failed, "failed"),
+    (Kind::Short, "short"),
+    (Kind::Severed, "severed"),
+    (Kind::Canceled, "canceled"),
+    (Kind::TimedOut, "timed-out"),
+    (Kind::Expired, "expired"),
+    (Kind::NotFound, "not-found"),
+    (Kind::TooLate, "too-late"),
+    (Kind::Overflow, "overflow"),
+    (Kind::Busy, "busy"),
+    (Kind::Waits, "waits"),
+    (Kind::LostWakeUp, "lost-wake-up"),
+    (Kind::NotTaken, "not-taken"),
+    (Kind::NotReaped, "not-reaped"),
+    (Kind::Unfinished, "unfinished"),
+];
+
+impl Kind {
+    /// The kind of a word, if there is one.
+    pub fn of_word(word: &str) -> Option<Kind> {
+        for (kind, name) in &WORDS {
+            if *name == word {
+                return Some(*kind);
+            }
+        }
+        None
+    }
+
+    /// The word that names it.
+    pub fn word(self) -> &'static str {
+        match self {
+            Kind::Failed => "failed",
+            Kind::Short => "short",
+            Kind::Severed => "severed",
+            Kind::Canceled => "canceled",
+            Kind::TimedOut => "timed-out",
+            Kind::Expired => "expired",
+            Kind::NotFound => "not-found",
+            Kind::TooLate => "too-late",
+            Kind::Overflow => "overflow",
+            Kind::Busy => "busy",
+            Kind::Waits => "waits",
+            Kind::LostWakeUp => "lost-wake-up",
+            Kind::NotTaken => "not-taken",
+            Kind::NotReaped => "not-reaped",
+            Kind::Unfinished => "unfinished",
+        }
+    }
+
+    /// Whether it is a fault, and no note.
+    pub fn is_fault(self) -> bool
+        ensures { result ≡ is_fault self }
+    {
+        !matches!(self, Kind::Canceled | Kind::Expired | Kind::NotReaped)
+    }
+
+    /// Whether it is about a thread.
+    pub(crate) fn is_of_thread(self) -> bool {
+        matches!(self, Kind::Busy | Kind::Waits)
+    }
+
+    /// Whether it is about a row.
+    pub(crate) fn is_of_row(self) -> bool {
+        !self.is_of_thread()
+            && !matches!(
+                self,
+                Kind::Overflow | Kind::LostWakeUp | Kind::NotTaken | Kind::NotReaped
+            )
+    }
+
+    pub(crate) fn number(self) -> u32
+        ensures value { result ≡ number_of self }
+        ensures within { result < 32 }
+    {
+        self as u32
+    }
+}

@@ -1,0 +1,56 @@
+//! Rows that are unfinished at the end of a run.
+ghost use Rattle.std.specs.Prelude.{◌≡◌, ◌++◌, ◌≤◌, OnOk, length, slice_get};
+ghost use Rattle.findings.specs.Records.{of_left, all_left};
+
+use crate::finding::Finding;
+use crate::kind::Kind;
+use crate::record::add_if;
+use entries::Row;
+use links_drains::is_unfinished;
+use machine::State;
+use places::{Place, Value};
+use std::alloc::AllocError;
+
+/// The most rows of a run.
+const MOST_ROWS: u32 = 65536;
+
+// A row, if it is there.
+fn row_at(state: &State, number: u32) -> Option<Row>
+    ensures row { result ≡ slice_get state.now.table number }
+    ensures few { length state.now.table ≤ 65536 }
+{
+    match state.value(Place::Request(number)) {
+        Some(Value::Requested(row)) => Some(row),
+        _ => None,
+    }
+}
+
+// Adds a row that hasn't ended.
+fn add_left(found: &mut Vec<Finding>, moment: u32, number: u32, row: &Row) -> Result<(), AllocError>
+    ensures { OnOk result (found.new.items ≡ found.old.items ++ of_left moment (number, row.now)) }
+{
+    let finding = Finding {
+        moment,
+        kind: Kind::Unfinished,
+        subject: number,
+    };
+    add_if(found, is_unfinished(row), finding)
+}
+
+/// Adds all rows that haven't ended.
+pub(crate) fn add_all_left(
+    found: &mut Vec<Finding>,
+    moment: u32,
+    state: &State,
+) -> Result<(), AllocError>
+    ensures { OnOk result (found.new.items ≡ found.old.items ++ all_left moment state.now.table) }
+{
+    let _first = row_at(state, 0);
+    for number in 0..MOST_ROWS {
+        match row_at(state, number) {
+            Some(row) => add_left(found, moment, number, &row)?,
+            None => return Ok(()),
+        }
+    }
+    Ok(())
+}

@@ -1,0 +1,23 @@
+//! What a run shows: findings, kind by kind, each proved to be just what its definition says, and told in sentences.
+#![tactic(auto)]
+
+mod conditions;
+mod ends;
+mod explaining;
+mod finding;
+mod json;
+mod kind;
+mod leftover;
+mod names;
+mod ordering;
+mod record;
+mod run;
+mod searching;
+mod sentences;
+mod times;
+mod watching;
+
+pub use explaining::{Asked, explain_run};
+pub use finding::Finding;
+pub use kind::Kind;
+pub use searching::findings_of;

@@ -1,0 +1,97 @@
+//! The names of what sentences speak of.
+
+use entries::Row;
+use opcodes::Op;
+use std::fmt;
+
+/// The name of an opcode (io_uring_enter(2)).
+#[derive(Clone, Copy)]
+struct OpcodeName(u8);
+
+fn opcode_word(op: Op) -> &'static str {
+    match op {
+        Op::Nop => "NOP",
+        Op::Fsync => "FSYNC",
+        Op::PollAdd => "POLL_ADD",
+        Op::PollRemove => "POLL_REMOVE",
+        Op::Timeout => "TIMEOUT",
+        Op::TimeoutRemove => "TIMEOUT_REMOVE",
+        Op::AsyncCancel => "ASYNC_CANCEL",
+        Op::LinkTimeout => "LINK_TIMEOUT",
+        Op::Read => "READ",
+        Op::Write => "WRITE",
+    }
+}
+
+impl fmt::Display for OpcodeName {
+    fn fmt<W: fmt::Write>(&self, f: &mut fmt::Formatter<W>) -> fmt::Result {
+        let OpcodeName(opcode) = self;
+        match Op::of(*opcode) {
+            Some(op) => f.write_str(opcode_word(op)),
+            None => write!(f, "opcode {opcode}"),
+        }
+    }
+}
+
+/// A row by its number, its operation and its user_data.
+#[derive(Clone, Copy)]
+pub(crate) struct RowName {
+    number: u32,
+    opcode: u8,
+    user_data: u64,
+}
+
+impl RowName {
+    pub fn of(number: u32, row: &Row) -> RowName {
+        RowName {
+            number,
+            opcode: row.entry.opcode,
+            user_data: row.entry.user_data,
+        }
+    }
+}
+
+impl fmt::Display for RowName {
+    fn fmt<W: fmt::Write>(&self, f: &mut fmt::Formatter<W>) -> fmt::Result {
+        let RowName {
+            number,
+            opcode,
+            user_data,
+        } = self;
+        let operation = OpcodeName(*opcode);
+        write!(f, "{number} ({operation}, user_data {user_data})")
+    }
+}
+
+/// A result; of an error also its name (errno(3)).
+#[derive(Clone, Copy)]
+pub(crate) struct ResultName(pub i32);
+
+fn error_word(errno: u32) -> &'static str {
+    match errno {
+        2 => " (ENOENT)",
+        5 => " (EIO)",
+        9 => " (EBADF)",
+        14 => " (EFAULT)",
+        16 => " (EBUSY)",
+        22 => " (EINVAL)",
+        27 => " (EFBIG)",
+        32 => " (EPIPE)",
+        62 => " (ETIME)",
+        114 => " (EALREADY)",
+        125 => " (ECANCELED)",
+        _ => "",
+    }
+}
+
+impl fmt::Display for ResultName {
+    fn fmt<W: fmt::Write>(&self, f: &mut fmt::Formatter<W>) -> fmt::Result {
+        let ResultName(res) = self;
+        let word = if *res < 0 {
+            error_word(res.unsigned_abs())
+        } else {
+            ""
+        };
+        write!(f, "{res}{word}")
+    }
+}

@@ -1,0 +1,109 @@
+//! A run that has ended, as sentences look at it.
+
+use crate::finding::Finding;
+use crate::kind::Kind;
+use crate::names::RowName;
+use crate::times::Times;
+use entries::{Phase, Row};
+use machine::{Event, State};
+use places::{Place, Value};
+
+/// A run, with what it shows.
+#[derive(Clone, Copy)]
+pub(crate) struct Run<'a> {
+    /// Its end.
+    pub state: &'a State,
+    pub events: &'a [Event],
+    /// Of each row.
+    pub times: &'a [Times],
+    pub found: &'a [Finding],
+}
+
+impl Run<'_> {
+    /// A row as it is at the end, if it is there.
+    pub fn row(&self, number: u32) -> Option<Row> {
+        match self.state.value(Place::Request(number)) {
+            Some(Value::Requested(row)) => Some(row),
+            _ => None,
+        }
+    }
+
+    pub fn name(&self, number: u32) -> Option<RowName> {
+        let row = self.row(number)?;
+        Some(RowName::of(number, &row))
+    }
+
+    /// The result of a row that has ended.
+    pub fn result(&self, number: u32) -> Option<i32> {
+        match self.row(number)?.phase {
+            Phase::Ended(res) => Some(res),
+            Phase::Queued | Phase::Issued => None,
+        }
+    }
+
+    pub fn times_of(&self, number: u32) -> Option<Times> {
+        self.times.get(number as usize).copied()
+    }
+
+    pub fn event(&self, moment: u32) -> Option<Event> {
+        self.events.get(moment as usize).copied()
+    }
+
+    /// Whether a row ended by the event at a moment.
+    pub fn ends_at(&self, number: u32, moment: u32) -> bool {
+        match self.times_of(number) {
+            Some(times) => times.ended == Some(moment),
+            None => false,
+        }
+    }
+
+    fn unit(&self, number: u32) -> Option<u32> {
+        Some(self.row(number)?.unit)
+    }
+
+    /// Whether two rows are of one chain.
+    pub fn are_of_one_chain(&self, first: u32, second: u32) -> bool {
+        match (self.unit(first), self.unit(second)) {
+            (Some(one), Some(other)) => one == other,
+            _ => false,
+        }
+    }
+
+    /// Whether a finding is that a later row of a row's chain was cancelled at a moment.
+    fn is_cut(&self, finding: &Finding, number: u32, moment: u32) -> bool {
+        finding.moment == moment
+            && matches!(finding.kind, Kind::Canceled)
+            && number < finding.subject
+            && self.are_of_one_chain(number, finding.subject)
+    }
+
+    /// The next row behind one, in a list of findings, that ended with a row's chain at a moment.
+    pub fn next_cut(&self, from: usize, number: u32, moment: u32) -> Option<usize> {
+        for index in from..self.found.len() {
+            let finding = &self.found[index];
+            if finding.moment != moment {
+                return None;
+            }
+            if self.is_cut(finding, number, moment) {
+                return Some(index);
+            }
+        }
+        None
+    }
+
+    /// The row that broke the chain of another at a moment: it is told before it in the list.
+    pub fn severing(&self, index: usize, number: u32, moment: u32) -> Option<u32> {
+        for finding in self.found[..index.min(self.found.len())].iter().rev() {
+            if finding.moment != moment {
+                return None;
+            }
+            if matches!(finding.kind, Kind::Severed)
+                && finding.subject < number
+                && self.are_of_one_chain(finding.subject, number)
+            {
+                return Some(finding.subject);
+            }
+        }
+        None
+    }
+}

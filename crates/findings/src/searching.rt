@@ -1,0 +1,187 @@
+//! Looking for what a run shows, event by event.
+ghost use Rattle.std.specs.Prelude.{◌≡◌, ◌≤◌, ◌++◌, [], None, Err, length, map, IfOk, OnOk, IfErr, OnErr};
+ghost use Rattle.std.specs.List.{flat_map};
+ghost use Rattle.places.specs.View.{NamesOnce};
+ghost use Rattle.scenario.specs.Setups.{setup_refusal};
+ghost use Rattle.machine.specs.Steps.{Next};
+ghost use Rattle.machine.specs.Runs.{start};
+ghost use Rattle.machine.specs.Whole.{view};
+ghost use Rattle.run_log.specs.Logs.{fault_by};
+ghost use Rattle.findings.specs.Findings.{IsToldOf, Rises};
+ghost use Rattle.findings.specs.Conditions.{overflows};
+ghost use Rattle.findings.specs.Records.{of_change, of_overflow, of_answer, Adds, FoundBefore, IsLasting, AreLeft, all_left, IsAll, SameFindings, HaltsAt, Halted};
+ghost use Rattle.findings.specs.Watched.{advanced, watched, of_lasting};
+
+use crate::conditions::Before;
+use crate::finding::Finding;
+use crate::leftover::add_all_left;
+use crate::ordering::in_order;
+use crate::record::{add_of_event, add_of_record};
+use crate::times::{Times, note_times};
+use crate::watching::{Watch, add_all_lasting, advance, watches_of};
+use machine::{Event, Refusal, Setup, State};
+use places::Record;
+use run_log::LogFault;
+use std::alloc::{AllocError, Global};
+
+// What an event that is refused ends a search by.
+fn fault_by(index: u32, refusal: Refusal) -> LogFault
+    ensures { result ≡ fault_by index refusal }
+{
+    match refusal {
+        Refusal::Memory => LogFault::Memory,
+        refusal => LogFault::Schedule(index, refusal),
+    }
+}
+
+// Adds what an event shows, and notes when its rows came and ended.
+fn look(
+    state: &State,
+    moment: u32,
+    event: Event,
+    before: Before,
+    past: &Record,
+    found: &mut Vec<Finding>,
+    times: &mut Vec<Times>,
+) -> Result<(), AllocError>
+    ensures added { OnOk result (found.new.items ≡ (found.old.items ++ flat_map (of_change moment (view state.now)) past.now) ++
+        (of_overflow moment before.overflows (overflows state.now) ++ of_answer moment before.enters event state.now)) }
+    ensures once { OnOk result (NamesOnce past.now) }
+{
+    note_times(times, moment, past, state)?;
+    add_of_record(found, moment, past, state)?;
+    add_of_event(found, moment, before, event, state)
+}
+
+// Does an event, and adds what it shows.
+fn find_at(
+    state: &mut State,
+    setup: &Setup,
+    moment: u32,
+    event: Event,
+    found: &mut Vec<Finding>,
+    times: &mut Vec<Times>,
+) -> Result<(), LogFault>
+    ensures next { OnOk result (Next state.old event state.new) }
+    ensures added { OnOk result (Adds setup.now moment state.old event state.new found.old.items found.new.items) }
+    ensures err { IfErr result (HaltsAt moment state.old event) }
+{
+    let before = Before::of(setup, state, event);
+    let past = match state.step(event) {
+        Ok(past) => past,
+        Err(refusal) => return Err(fault_by(moment, refusal)),
+    };
+    match look(state, moment, event, before, &past, found, times) {
+        Ok(()) => Ok(()),
+        Err(_) => Err(LogFault::Memory),
+    }
+}
+
+// Does some events from the start, adds what they show, and looks at the conditions behind each.
+fn find_all(
+    state: &mut State,
+    setup: &Setup,
+    events: &[Event],
+    found: &mut Vec<Finding>,
+    watches: &mut [Watch],
+    times: &mut Vec<Times>,
+) -> Result<(), LogFault>
+    requires starts { state.old ≡ start setup.now }
+    requires most { length events.now ≤ 1048576 }
+    requires none { found.old.items ≡ [] }
+    requires watched { watches.old ≡ map (advanced setup.now state.old 0) (watched setup.now) }
+    ensures found { OnOk result (FoundBefore setup.now events.now (length events.now) found.new.items) }
+    ensures lasting { OnOk result (IsLasting setup.now events.now (flat_map of_lasting watches.new)) }
+    ensures left { OnOk result (AreLeft setup.now events.now (all_left (length events.now) state.new.table)) }
+    ensures err { IfErr result (Halted setup.now events.now) }
+{
+    for i in 0..events.len() {
+        find_at(state, setup, i as u32, events[i], found, times)?;
+        advance(setup, state, i as u32 + 1, watches);
+    }
+    Ok(())
+}
+
+// Findings in order, one of each.
+fn ordered(alloc: Global, found: Vec<Finding>) -> Result<Vec<Finding>, LogFault>
+    ensures rises { IfOk result (λ list. Rises 0 list.items) }
+    ensures same { IfOk result (λ list. SameFindings found.items list.items) }
+    ensures err { OnErr result (result ≡ Err LogFault.Memory) }
+{
+    match in_order(alloc, found) {
+        Ok(list) => Ok(list),
+        Err(_) => Err(LogFault::Memory),
+    }
+}
+
+// Adds what is found at the end: the conditions that hold, and the rows that are unfinished.
+fn add_end(
+    found: &mut Vec<Finding>,
+    watches: &[Watch],
+    moment: u32,
+    state: &State,
+) -> Result<(), AllocError>
+    ensures { OnOk result (found.new.items ≡
+        (found.old.items ++ flat_map of_lasting watches.now) ++ all_left moment state.now.table) }
+{
+    add_all_lasting(found, watches)?;
+    add_all_left(found, moment, state)
+}
+
+// Does some events from the start, and tells what they show and what is found at their end, in whatever order.
+fn find(
+    alloc: Global,
+    state: &mut State,
+    setup: &Setup,
+    events: &[Event],
+    watches: &mut [Watch],
+    times: &mut Vec<Times>,
+) -> Result<Vec<Finding>, LogFault>
+    requires starts { state.old ≡ start setup.now }
+    requires most { length events.now ≤ 1048576 }
+    requires watched { watches.old ≡ watched setup.now }
+    ensures ok { IfOk result (λ list. IsAll setup.now events.now list.items) }
+    ensures err { IfErr result (Halted setup.now events.now) }
+{
+    advance(setup, state, 0, watches);
+    let mut found = Vec::new(alloc);
+    find_all(state, setup, events, &mut found, watches, times)?;
+    match add_end(&mut found, watches, events.len() as u32, state) {
+        Ok(()) => Ok(found),
+        Err(_) => Err(LogFault::Memory),
+    }
+}
+
+/// Runs some events from the start, and tells what they show, and when their rows came and ended.
+pub(crate) fn search(
+    alloc: Global,
+    state: &mut State,
+    setup: &Setup,
+    events: &[Event],
+    times: &mut Vec<Times>,
+) -> Result<Vec<Finding>, LogFault>
+    requires starts { state.old ≡ start setup.now }
+    requires most { length events.now ≤ 1048576 }
+    ensures ok { IfOk result (λ list. IsToldOf setup.now events.now list.items) }
+    ensures err { IfErr result (Halted setup.now events.now) }
+{
+    let Ok(mut watches) = watches_of(alloc, setup) else {
+        return Err(LogFault::Memory);
+    };
+    let found = find(alloc, state, setup, events, &mut watches, times)?;
+    ordered(alloc, found)
+}
+
+/// Runs some events from a setup, and tells what they show.
+pub fn findings_of(alloc: Global, setup: &Setup, events: &[Event]) -> Result<Vec<Finding>, LogFault>
+    requires starts { setup_refusal setup.now ≡ None }
+    requires most { length events.now ≤ 1048576 }
+    ensures ok { IfOk result (λ list. IsToldOf setup.now events.now list.items) }
+    ensures err { IfErr result (Halted setup.now events.now) }
+{
+    let Ok(mut state) = State::new(alloc, setup) else {
+        return Err(LogFault::Memory);
+    };
+    let mut times = Vec::new(alloc);
+    search(alloc, &mut state, setup, events, &mut times)
+}

@@ -1,0 +1,126 @@
+//! Findings as sentences.
+
+mod cancels;
+mod chains;
+mod errors;
+mod left;
+mod rings;
+
+use crate::finding::Finding;
+use crate::kind::Kind;
+use crate::names::RowName;
+use crate::run::Run;
+use entries::Row;
+use std::alloc::{AllocError, Global};
+
+const READ_RULE: &str = "A READ or WRITE may move fewer bytes than it asks for (read(2), write(2))";
+
+const TIMEOUT_RULE: &str = "(io_uring_enter(2), IORING_OP_TIMEOUT)";
+
+const LINK_TIMEOUT_RULE: &str = "(io_uring_enter(2), IORING_OP_LINK_TIMEOUT)";
+
+// A finding about a row: its number, the row at the end of the run, and the event's moment.
+#[derive(Clone, Copy)]
+pub(crate) struct About {
+    pub number: u32,
+    pub row: Row,
+    pub moment: u32,
+    /// Where it stands among all findings.
+    pub index: usize,
+}
+
+impl About {
+    pub fn name(&self) -> RowName {
+        RowName::of(self.number, &self.row)
+    }
+
+    /// The result with which the row ended; every row of a finding has one.
+    pub fn result(&self, run: &Run<'_>) -> i32 {
+        run.result(self.number).unwrap_or(0)
+    }
+}
+
+fn short(alloc: Global, run: &Run<'_>, about: &About) -> Result<String, AllocError> {
+    let name = about.name();
+    let res = about.result(run);
+    let len = about.row.entry.len;
+    let reason = errors::reason_of_short(run, about);
+    format!(in alloc; "Row {name} ended with {res} of {len} bytes: {reason}. {READ_RULE}.")
+}
+
+fn expired(alloc: Global, about: &About) -> Result<String, AllocError> {
+    let name = about.name();
+    format!(in alloc; "Row {name} ended with -62 (ETIME): its time was up {TIMEOUT_RULE}.")
+}
+
+// What became of the target of a LINK_TIMEOUT that expired.
+fn timed_out(alloc: Global, run: &Run<'_>, about: &About) -> Result<String, AllocError> {
+    let name = about.name();
+    let target = about.row.target.unwrap_or(0);
+    let Some(of) = run.name(target) else {
+        return format!(in alloc; "Row {name} expired {LINK_TIMEOUT_RULE}.");
+    };
+    if run.ends_at(target, about.moment) {
+        return format!(in alloc;
+            "Row {name} expired and ended its target, row {of}, with -125 (ECANCELED). That tells nothing of what the target waited for, which may be there by now {LINK_TIMEOUT_RULE}."
+        );
+    }
+    format!(in alloc;
+        "Row {name} expired, but its target, row {of}, was running, and goes on {LINK_TIMEOUT_RULE}."
+    )
+}
+
+fn row_sentence(
+    alloc: Global,
+    run: &Run<'_>,
+    kind: Kind,
+    about: &About,
+) -> Result<String, AllocError> {
+    match kind {
+        Kind::Failed => errors::failed(alloc, run, about),
+        Kind::Short => short(alloc, run, about),
+        Kind::Severed => chains::severed(alloc, run, about),
+        Kind::Canceled => chains::canceled(alloc, run, about),
+        Kind::TimedOut => timed_out(alloc, run, about),
+        Kind::Expired => expired(alloc, about),
+        Kind::NotFound => cancels::not_found(alloc, run, about),
+        Kind::TooLate => cancels::too_late(alloc, run, about),
+        _ => Ok(String::new(alloc)),
+    }
+}
+
+// The sentence of a finding about a row.
+fn sentence_of_row(
+    alloc: Global,
+    run: &Run<'_>,
+    finding: Finding,
+    index: usize,
+) -> Result<String, AllocError> {
+    let Some(row) = run.row(finding.subject) else {
+        return Ok(String::new(alloc));
+    };
+    let about = About {
+        number: finding.subject,
+        row,
+        moment: finding.moment,
+        index,
+    };
+    row_sentence(alloc, run, finding.kind, &about)
+}
+
+/// The sentence of a finding, by its place in the list.
+pub(crate) fn sentence(alloc: Global, run: &Run<'_>, index: usize) -> Result<String, AllocError> {
+    let Some(finding) = run.found.get(index) else {
+        return Ok(String::new(alloc));
+    };
+    match finding.kind {
+        Kind::Overflow => rings::overflow(alloc, run),
+        Kind::Busy => rings::busy(alloc, finding.subject),
+        Kind::Waits => rings::waits(alloc, run, finding.subject),
+        Kind::LostWakeUp => rings::lost_wake_up(alloc, run),
+        Kind::NotTaken => rings::not_taken(alloc, run),
+        Kind::NotReaped => rings::not_reaped(alloc, run),
+        Kind::Unfinished => left::unfinished(alloc, run, finding.subject),
+        _ => sentence_of_row(alloc, run, *finding, index),
+    }
+}

@@ -1,0 +1,175 @@
+//! Sentences about cancels and removals that ended nothing.
+
+use super::About;
+use crate::names::{ResultName, RowName};
+use crate::run::Run;
+use entries::{Row, Sqe};
+use opcodes::Op;
+use std::alloc::{AllocError, Global};
+
+const CANCEL_RULE: &str = "(io_uring_enter(2), IORING_OP_ASYNC_CANCEL)";
+
+const POLL_RULE: &str = "(io_uring_enter(2), IORING_OP_POLL_REMOVE)";
+
+const TIMEOUT_RULE: &str = "(io_uring_enter(2), IORING_OP_TIMEOUT_REMOVE)";
+
+/// IORING_ASYNC_CANCEL_FD.
+const BY_DESCRIPTOR: u32 = 2;
+
+fn is_by_descriptor(entry: &Sqe) -> bool {
+    entry.opcode == Op::AsyncCancel as u8 && entry.operation_flags & BY_DESCRIPTOR != 0
+}
+
+fn rule_of(entry: &Sqe) -> &'static str {
+    if entry.opcode == Op::PollRemove as u8 {
+        return POLL_RULE;
+    }
+    if entry.opcode == Op::TimeoutRemove as u8 {
+        return TIMEOUT_RULE;
+    }
+    CANCEL_RULE
+}
+
+// Whether a row is of an opcode that an entry can cancel or remove.
+fn fits_opcode(entry: &Sqe, row: &Row) -> bool {
+    if entry.opcode == Op::PollRemove as u8 {
+        return row.entry.opcode == Op::PollAdd as u8;
+    }
+    if entry.opcode == Op::TimeoutRemove as u8 {
+        return row.entry.opcode == Op::Timeout as u8;
+    }
+    row.entry.opcode != Op::LinkTimeout as u8
+}
+
+// Whether a row that had come by a moment has the user_data that an entry looks for.
+fn is_candidate(run: &Run<'_>, about: &About, number: u32, row: &Row) -> bool {
+    let came = match run.times_of(number) {
+        Some(times) => times.came < about.moment,
+        None => false,
+    };
+    came && number != about.number && row.entry.user_data == about.row.entry.addr
+}
+
+// The first row from a number on that is one.
+fn next_candidate(run: &Run<'_>, about: &About, from: u32) -> Option<u32> {
+    for number in from..run.times.len().min(65536) as u32 {
+        if let Some(row) = run.row(number) {
+            if is_candidate(run, about, number, &row) {
+                return Some(number);
+            }
+        }
+    }
+    None
+}
+
+// Why a cancel found no row of a number.
+fn reason_of(
+    alloc: Global,
+    run: &Run<'_>,
+    about: &About,
+    number: u32,
+    row: &Row,
+) -> Result<String, AllocError> {
+    let name = RowName::of(number, row);
+    if !fits_opcode(&about.row.entry, row) {
+        return format!(in alloc; "row {name} is of an opcode that it does not look for");
+    }
+    let ended = match run.times_of(number) {
+        Some(times) => times.ended,
+        None => None,
+    };
+    match ended {
+        Some(moment) if moment < about.moment => {
+            format!(in alloc; "row {name} had ended at {moment}")
+        }
+        _ => {
+            format!(in alloc;
+                "row {name} was queued still, and a cancel finds issued requests alone"
+            )
+        }
+    }
+}
+
+fn reason_by_user_data(alloc: Global, run: &Run<'_>, about: &About) -> Result<String, AllocError> {
+    let sought = about.row.entry.addr;
+    let Some(number) = next_candidate(run, about, 0) else {
+        if about.row.entry.user_data == sought {
+            return format!(in alloc; "of user_data {sought} there is it alone");
+        }
+        return format!(in alloc; "no request had user_data {sought}");
+    };
+    match run.row(number) {
+        Some(row) => reason_of(alloc, run, about, number, &row),
+        None => format!(in alloc; "no request had user_data {sought}"),
+    }
+}
+
+/// A cancel or a removal that found nothing.
+pub(crate) fn not_found(alloc: Global, run: &Run<'_>, about: &About) -> Result<String, AllocError> {
+    let name = about.name();
+    let rule = rule_of(&about.row.entry);
+    if is_by_descriptor(&about.row.entry) {
+        let fd = about.row.entry.fd;
+        return format!(in alloc;
+            "Row {name} ended with -2 (ENOENT): no issued request held descriptor {fd} {rule}."
+        );
+    }
+    let reason = reason_by_user_data(alloc, run, about)?;
+    format!(in alloc; "Row {name} ended with -2 (ENOENT): {reason} {rule}.")
+}
+
+// The row that was running, by the cancel's user_data or descriptor.
+fn found_running(run: &Run<'_>, about: &About) -> Option<u32> {
+    for number in 0..run.times.len().min(65536) as u32 {
+        if let Some(row) = run.row(number) {
+            if is_found(run, about, number, &row) {
+                return Some(number);
+            }
+        }
+    }
+    None
+}
+
+fn is_found(run: &Run<'_>, about: &About, number: u32, row: &Row) -> bool {
+    let issued = match run.times_of(number) {
+        Some(times) => times.is_issued_at(about.moment),
+        None => false,
+    };
+    let fits = if is_by_descriptor(&about.row.entry) {
+        row.entry.fd == about.row.entry.fd
+    } else {
+        row.entry.user_data == about.row.entry.addr
+    };
+    issued && number != about.number && fits && fits_opcode(&about.row.entry, row)
+}
+
+// What became of a row that was running.
+fn became(alloc: Global, run: &Run<'_>, number: u32) -> Result<String, AllocError> {
+    let ended = match run.times_of(number) {
+        Some(times) => times.ended,
+        None => None,
+    };
+    match (ended, run.result(number)) {
+        (Some(moment), Some(res)) => {
+            let told = ResultName(res);
+            format!(in alloc; "it ended at {moment} with {told}")
+        }
+        _ => String::from_str(alloc, "it has not ended"),
+    }
+}
+
+/// A cancel that found a request that was running.
+pub(crate) fn too_late(alloc: Global, run: &Run<'_>, about: &About) -> Result<String, AllocError> {
+    let name = about.name();
+    let rule = rule_of(&about.row.entry);
+    let Some(number) = found_running(run, about) else {
+        return format!(in alloc; "Row {name} ended with -114 (EALREADY) {rule}.");
+    };
+    let Some(of) = run.name(number) else {
+        return format!(in alloc; "Row {name} ended with -114 (EALREADY) {rule}.");
+    };
+    let became = became(alloc, run, number)?;
+    format!(in alloc;
+        "Row {name} ended with -114 (EALREADY): row {of} was running, and goes on; {became}. Until its own completion its buffer is the kernel's {rule}."
+    )
+}

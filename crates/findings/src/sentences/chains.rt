@@ -1,0 +1,136 @@
+//! Sentences about chains that were severed, and rows that were cancelled.
+
+use super::About;
+use crate::names::ResultName;
+use crate::run::Run;
+use machine::Event;
+use std::alloc::{AllocError, Global};
+
+const RULE: &str = "(io_uring_enter(2), IOSQE_IO_LINK)";
+
+/// How many rows that ended with a chain are named one by one.
+const NAMED: u32 = 8;
+
+// Names the rows that ended with a chain, the first of them and how many there were.
+fn cut_rows(alloc: Global, run: &Run<'_>, about: &About) -> Result<String, AllocError> {
+    let mut text = String::new(alloc);
+    let mut count: u32 = 0;
+    let mut from = about.index;
+    for _index in 0..run.found.len() {
+        let Some(at) = run.next_cut(from, about.number, about.moment) else {
+            break;
+        };
+        count = count.saturating_add(1);
+        if count <= NAMED {
+            add_name(alloc, &mut text, run, at)?;
+        }
+        from = at.saturating_add(1);
+    }
+    if count > NAMED {
+        let more = count - NAMED;
+        text.push_str(format!(in alloc; " and {more} more")?.as_str())?;
+    }
+    Ok(text)
+}
+
+// Adds the name of the row that a finding is about, behind a comma where another stands before it.
+fn add_name(alloc: Global, text: &mut String, run: &Run<'_>, at: usize) -> Result<(), AllocError> {
+    let Some(finding) = run.found.get(at) else {
+        return Ok(());
+    };
+    let Some(name) = run.name(finding.subject) else {
+        return Ok(());
+    };
+    if !text.is_empty() {
+        text.push_str(", ")?;
+    }
+    text.push_str(format!(in alloc; "row {name}")?.as_str())
+}
+
+/// A soft link that broke, and the rows that ended with it.
+pub(crate) fn severed(alloc: Global, run: &Run<'_>, about: &About) -> Result<String, AllocError> {
+    let name = about.name();
+    let told = ResultName(about.result(run));
+    let rows = cut_rows(alloc, run, about)?;
+    if rows.is_empty() {
+        return format!(in alloc;
+            "Row {name} ended with {told}, which breaks its soft link; no row of its chain was left to end with it {RULE}."
+        );
+    }
+    format!(in alloc;
+        "Row {name} ended with {told}, which breaks its soft link. With it ended, with -125 (ECANCELED): {rows} {RULE}."
+    )
+}
+
+// Why a row was cancelled.
+#[derive(Clone, Copy)]
+enum Cause {
+    /// This row broke its chain.
+    Chain(u32),
+    /// It guards this row, which ended.
+    Target(u32),
+    /// This row cancelled it.
+    Cancel(u32),
+    /// This LINK_TIMEOUT, whose target it is, expired.
+    Guard(u32),
+    /// An entry of its chain failed as it was submitted.
+    Submission,
+    None,
+}
+
+// Why a row was cancelled, as the event says.
+fn cause_in_event(run: &Run<'_>, about: &About) -> Cause {
+    match run.event(about.moment) {
+        Some(Event::Finish(by, _)) if by != about.number => Cause::Cancel(by),
+        Some(Event::Expire(by)) if by != about.number => Cause::Guard(by),
+        Some(Event::Step(_) | Event::Take(_)) => Cause::Submission,
+        _ => Cause::None,
+    }
+}
+
+fn cause_of(run: &Run<'_>, about: &About) -> Cause {
+    if let Some(by) = run.severing(about.index, about.number, about.moment) {
+        return Cause::Chain(by);
+    }
+    match about.row.target {
+        Some(target) if run.ends_at(target, about.moment) => Cause::Target(target),
+        _ => cause_in_event(run, about),
+    }
+}
+
+// The row that a cause names.
+fn row_of(cause: Cause) -> Option<u32> {
+    match cause {
+        Cause::Chain(by) | Cause::Target(by) | Cause::Cancel(by) | Cause::Guard(by) => Some(by),
+        Cause::Submission | Cause::None => None,
+    }
+}
+
+// What it did, and the rule.
+fn deed_of(cause: Cause) -> &'static str {
+    match cause {
+        Cause::Chain(_) => " broke its chain (io_uring_enter(2), IOSQE_IO_LINK)",
+        Cause::Target(_) => ", its target, ended first (io_uring_enter(2), IORING_OP_LINK_TIMEOUT)",
+        Cause::Cancel(_) => " cancelled it (io_uring_enter(2), IORING_OP_ASYNC_CANCEL)",
+        Cause::Guard(_) => " expired (io_uring_enter(2), IORING_OP_LINK_TIMEOUT)",
+        Cause::Submission => {
+            "an entry of its chain failed as it was submitted (io_uring_enter(2), IOSQE_IO_LINK)"
+        }
+        Cause::None => "it was cancelled (io_uring_enter(2), CQE ERRORS)",
+    }
+}
+
+/// A request that was cancelled.
+pub(crate) fn canceled(alloc: Global, run: &Run<'_>, about: &About) -> Result<String, AllocError> {
+    let name = about.name();
+    let cause = cause_of(run, about);
+    let deed = deed_of(cause);
+    let by = match row_of(cause) {
+        Some(number) => run.name(number),
+        None => None,
+    };
+    match by {
+        Some(by) => format!(in alloc; "Row {name} ended with -125 (ECANCELED): row {by}{deed}."),
+        None => format!(in alloc; "Row {name} ended with -125 (ECANCELED): {deed}."),
+    }
+}

@@ -1,0 +1,100 @@
+//! Sentences about requests that ended with an error, or short.
+
+use super::About;
+use crate::names::ResultName;
+use crate::run::Run;
+use entries::Row;
+use machine::Event;
+use opcodes::{Choice, Op};
+use std::alloc::{AllocError, Global};
+
+const RULE: &str = "(io_uring_enter(2), CQE ERRORS)";
+
+/// IO_DRAIN, IO_LINK, IO_HARDLINK and ASYNC.
+const KNOWN_FLAGS: u8 = 30;
+
+/// EBADF, EFAULT, EINVAL, EFBIG and EPIPE, negated.
+const BAD_DESCRIPTOR: i32 = -9;
+
+const BAD_ADDRESS: i32 = -14;
+
+const INVALID: i32 = -22;
+
+const TOO_LARGE: i32 = -27;
+
+const BROKEN_PIPE: i32 = -32;
+
+// What a submission has against an entry.
+fn reason_of_entry(row: &Row, res: i32) -> &'static str {
+    if Op::of(row.entry.opcode).is_none() {
+        return "its opcode is none that is modelled here";
+    }
+    if row.entry.flags & !KNOWN_FLAGS != 0 {
+        return "its flags have a bit other than IO_DRAIN (2), IO_LINK (4), IO_HARDLINK (8) and ASYNC (16)";
+    }
+    if res == BAD_ADDRESS {
+        return "its time leaves memory";
+    }
+    "a field of its entry has a value that its opcode refuses, or it guards no row"
+}
+
+// What a request met as it was carried out.
+fn reason_of_end(res: i32) -> &'static str {
+    if res == BAD_DESCRIPTOR {
+        return "its descriptor is not open, or is the other end of a pipe";
+    }
+    if res == BAD_ADDRESS {
+        return "its buffer leaves memory";
+    }
+    if res == INVALID {
+        return "its object refuses such a request, its offset or its length";
+    }
+    if res == TOO_LARGE {
+        return "a file cannot grow so far";
+    }
+    if res == BROKEN_PIPE {
+        return "no descriptor of the pipe's read end is left";
+    }
+    "it could not be carried out"
+}
+
+fn reason(run: &Run<'_>, about: &About, res: i32) -> &'static str {
+    match run.event(about.moment) {
+        Some(Event::Step(_) | Event::Take(_)) => reason_of_entry(&about.row, res),
+        Some(Event::Finish(_, Choice::Eio)) => "the device failed",
+        _ => reason_of_end(res),
+    }
+}
+
+// When in its life it ended.
+fn stage(run: &Run<'_>, moment: u32) -> &'static str {
+    match run.event(moment) {
+        Some(Event::Step(_) | Event::Take(_)) => " as it was submitted",
+        Some(Event::Issue(_)) => " as it was issued",
+        _ => "",
+    }
+}
+
+/// A request that ended with an error.
+pub(crate) fn failed(alloc: Global, run: &Run<'_>, about: &About) -> Result<String, AllocError> {
+    let name = about.name();
+    let res = about.result(run);
+    let told = ResultName(res);
+    let stage = stage(run, about.moment);
+    let reason = reason(run, about, res);
+    format!(in alloc; "Row {name} ended with {told}{stage}: {reason} {RULE}.")
+}
+
+/// Why a transfer moved fewer bytes than it asked for.
+pub(crate) fn reason_of_short(run: &Run<'_>, about: &About) -> &'static str {
+    match run.event(about.moment) {
+        Some(Event::Finish(_, Choice::Short(_))) => "the schedule ends it short",
+        _ => {
+            if about.row.entry.opcode == Op::Read as u8 {
+                "no more could be read"
+            } else {
+                "no more could be written"
+            }
+        }
+    }
+}

@@ -1,0 +1,144 @@
+//! Sentences about requests that haven't ended at the end.
+
+use crate::names::RowName;
+use crate::run::Run;
+use entries::{Phase, Row};
+use links_drains::{is_guard, is_unfinished};
+use machine::{Event, Refusal};
+use opcodes::{Choice, Op, is_timer};
+use std::alloc::{AllocError, Global};
+
+const LINK_RULE: &str = "(io_uring_enter(2), IOSQE_IO_LINK)";
+
+const DRAIN_RULE: &str = "(io_uring_enter(2), IOSQE_IO_DRAIN)";
+
+const GUARD_RULE: &str = "(io_uring_enter(2), IORING_OP_LINK_TIMEOUT)";
+
+const WAIT_RULE: &str = "(pipe(7), eventfd(2), poll(2))";
+
+const TIMEOUT_RULE: &str = "(io_uring_enter(2), IORING_OP_TIMEOUT)";
+
+// Whether a row of a number is unfinished, no guard, and before another in its chain.
+fn is_before_in_chain(run: &Run<'_>, number: u32, unit: u32) -> bool {
+    match run.row(number) {
+        Some(row) => row.unit == unit && is_unfinished(&row) && !is_guard(&row),
+        None => false,
+    }
+}
+
+// Whether it is unfinished, and of an earlier chain.
+fn is_before_chain(run: &Run<'_>, number: u32, unit: u32) -> bool {
+    match run.row(number) {
+        Some(row) => row.unit < unit && is_unfinished(&row),
+        None => false,
+    }
+}
+
+// The row of its chain that a row waits for, if it does for one.
+fn held_by_link(run: &Run<'_>, number: u32, row: &Row) -> Option<u32> {
+    for before in row.unit..number {
+        if is_before_in_chain(run, before, row.unit) {
+            return Some(before);
+        }
+    }
+    None
+}
+
+// The first row that a drain has it wait for.
+fn held_by_drain(run: &Run<'_>, row: &Row) -> Option<u32> {
+    for before in 0..row.unit {
+        if is_before_chain(run, before, row.unit) {
+            return Some(before);
+        }
+    }
+    None
+}
+
+// Which row holds a queued one back, and by what rule.
+fn held_back(alloc: Global, run: &Run<'_>, number: u32, row: &Row) -> Result<String, AllocError> {
+    let (by, rule) = match held_by_link(run, number, row) {
+        Some(by) => (Some(by), LINK_RULE),
+        None => (held_by_drain(run, row), DRAIN_RULE),
+    };
+    let name = match by {
+        Some(by) => run.name(by),
+        None => None,
+    };
+    match name {
+        Some(name) => {
+            format!(in alloc;
+                "It is queued, and waits behind row {name}, which has not ended {rule}."
+            )
+        }
+        None => String::from_str(alloc, "It is queued."),
+    }
+}
+
+// A queued LINK_TIMEOUT.
+fn queued_guard(alloc: Global, run: &Run<'_>, row: &Row) -> Result<String, AllocError> {
+    match run.name(row.target.unwrap_or(0)) {
+        Some(name) => {
+            format!(in alloc; "It is queued, and starts with its target, row {name} {GUARD_RULE}.")
+        }
+        None => String::from_str(alloc, "It is queued."),
+    }
+}
+
+fn queued(alloc: Global, run: &Run<'_>, number: u32, row: &Row) -> Result<String, AllocError> {
+    if is_guard(row) {
+        return queued_guard(alloc, run, row);
+    }
+    match run.state.refuses(Event::Issue(number)) {
+        Some(_) => held_back(alloc, run, number, row),
+        None => String::from_str(
+            alloc,
+            "It is queued, and nothing holds it back: the schedule just ends.",
+        ),
+    }
+}
+
+// What an issued row that isn't ready waits for.
+fn wanted(row: &Row) -> &'static str {
+    if row.entry.opcode == Op::Read as u8 {
+        return "for bytes, or for a counter above 0";
+    }
+    if row.entry.opcode == Op::Write as u8 {
+        return "for room";
+    }
+    "for what it polls"
+}
+
+fn waits(alloc: Global, row: &Row) -> Result<String, AllocError> {
+    let wanted = wanted(row);
+    let fd = row.entry.fd;
+    format!(in alloc; "It is issued, and waits at descriptor {fd} {wanted} {WAIT_RULE}.")
+}
+
+fn issued(alloc: Global, run: &Run<'_>, number: u32, row: &Row) -> Result<String, AllocError> {
+    if is_timer(row.entry.opcode) {
+        return match run.state.refuses(Event::Expire(number)) {
+            Some(_) => format!(in alloc; "It is issued, and its time is not up {TIMEOUT_RULE}."),
+            None => String::from_str(alloc, "It is issued and due: the schedule just ends."),
+        };
+    }
+    match run.state.refuses(Event::Finish(number, Choice::Full)) {
+        Some(Refusal::NotReady) => waits(alloc, row),
+        _ => String::from_str(
+            alloc,
+            "It is issued, and nothing keeps it from ending: the schedule just ends.",
+        ),
+    }
+}
+
+/// A request that hasn't ended.
+pub(crate) fn unfinished(alloc: Global, run: &Run<'_>, number: u32) -> Result<String, AllocError> {
+    let Some(row) = run.row(number) else {
+        return Ok(String::new(alloc));
+    };
+    let name = RowName::of(number, &row);
+    let reason = match row.phase {
+        Phase::Queued => queued(alloc, run, number, &row)?,
+        Phase::Issued | Phase::Ended(_) => issued(alloc, run, number, &row)?,
+    };
+    format!(in alloc; "Row {name} has not ended. {reason}")
+}

@@ -1,0 +1,97 @@
+//! Sentences about rings, and threads at them.
+
+use crate::run::Run;
+use places::{Place, Stage, Value};
+use std::alloc::{AllocError, Global};
+
+const BACKLOG_RULE: &str = "(io_uring_setup(2), IORING_FEAT_NODROP)";
+
+const WAIT_RULE: &str = "(io_uring_enter(2), IORING_ENTER_GETEVENTS)";
+
+const POLLER_RULE: &str = "(io_uring_setup(2), IORING_SETUP_SQPOLL)";
+
+// A ring word, a counter or a flag word at the end.
+fn number(run: &Run<'_>, place: Place) -> u64 {
+    match run.state.value(place) {
+        Some(Value::Number(number)) => number,
+        _ => 0,
+    }
+}
+
+// How many wait between a head and a tail, which are free-running words of 32 bits.
+fn waiting(run: &Run<'_>, head: Place, tail: Place) -> u64 {
+    number(run, tail).wrapping_sub(number(run, head)) & 0xffff_ffff
+}
+
+fn entries(run: &Run<'_>) -> u64 {
+    waiting(run, Place::SubmissionHead, Place::SubmissionTail)
+}
+
+fn completions(run: &Run<'_>) -> u64 {
+    waiting(run, Place::CompletionHead, Place::CompletionTail)
+}
+
+fn is_overflowing(run: &Run<'_>) -> bool {
+    number(run, Place::SubmissionFlags) & 2 != 0
+}
+
+/// Completions that began to be kept.
+pub(crate) fn overflow(alloc: Global, run: &Run<'_>) -> Result<String, AllocError> {
+    let outlook = if is_overflowing(run) {
+        "Some are kept at the end"
+    } else {
+        "None is kept at the end"
+    };
+    format!(in alloc;
+        "The completion ring was full, and a completion was put into the backlog, with CQ_OVERFLOW in sq.flags. Reap, and enter with IORING_ENTER_GETEVENTS to have it moved into the ring. {outlook} {BACKLOG_RULE}."
+    )
+}
+
+/// An Enter that was answered EBUSY.
+pub(crate) fn busy(alloc: Global, thread: u32) -> Result<String, AllocError> {
+    format!(in alloc;
+        "The enter of thread {thread} was answered -16 (EBUSY), and took no entry: completions are kept, and the ring has no room for all of them. Reap, then enter again {BACKLOG_RULE}."
+    )
+}
+
+/// A thread that waits.
+pub(crate) fn waits(alloc: Global, run: &Run<'_>, thread: u32) -> Result<String, AllocError> {
+    let counter = number(run, Place::ProgramCounter(thread));
+    let ready = completions(run);
+    let wanted = match run.state.value(Place::ThreadStage(thread)) {
+        Some(Value::Staged(Stage::Waiting(_, wanted))) => wanted,
+        _ => 0,
+    };
+    format!(in alloc;
+        "Thread {thread} waits in its enter, instruction {counter}, to the end. It wants completions: {wanted}; in the ring: {ready} {WAIT_RULE}."
+    )
+}
+
+/// A poller that sleeps while entries wait.
+pub(crate) fn lost_wake_up(alloc: Global, run: &Run<'_>) -> Result<String, AllocError> {
+    let entries = entries(run);
+    format!(in alloc;
+        "The poller sleeps to the end, with NEED_WAKEUP in sq.flags, while entries wait for it: {entries}. Look at sq.flags once the tail is written, and enter with IORING_ENTER_SQ_WAKEUP {POLLER_RULE}."
+    )
+}
+
+/// Entries that nothing took.
+pub(crate) fn not_taken(alloc: Global, run: &Run<'_>) -> Result<String, AllocError> {
+    let entries = entries(run);
+    format!(in alloc;
+        "Entries wait in the submission ring to the end, and nothing takes them: {entries} (io_uring_enter(2), to_submit)."
+    )
+}
+
+/// Completions that nobody reaped.
+pub(crate) fn not_reaped(alloc: Global, run: &Run<'_>) -> Result<String, AllocError> {
+    let completions = completions(run);
+    let kept = if is_overflowing(run) {
+        ", and others are kept in the backlog"
+    } else {
+        ""
+    };
+    format!(in alloc;
+        "Completions wait in the ring to the end, and nobody reaps them: {completions}{kept} (io_uring(7))."
+    )
+}

@@ -1,0 +1,116 @@
+//! Conditions that are watched, so that those that hold on to the end are told from where they began.
+ghost use Rattle.std.specs.Prelude.{◌≡◌, ◌++◌, map, IfOk, OnOk};
+ghost use Rattle.std.specs.List.{flat_map};
+ghost use Rattle.findings.specs.Watched.{continued, advanced, of_rings, watched, fresh, of_lasting};
+
+use crate::conditions::stands;
+use crate::finding::Finding;
+use crate::kind::Kind;
+use machine::{Setup, State};
+use std::alloc::{AllocError, Global};
+
+/// A condition, and the moment from which on it holds, if it does.
+#[derive(Clone, Copy, Debug)]
+pub struct Watch {
+    pub kind: Kind,
+    /// The thread that it is about, or 0.
+    pub subject: u32,
+    pub since: Option<u32>,
+}
+
+fn continued(holds: bool, since: Option<u32>, moment: u32) -> Option<u32>
+    ensures { result ≡ continued holds since moment }
+{
+    if !holds {
+        return None;
+    }
+    match since {
+        Some(began) => Some(began),
+        None => Some(moment),
+    }
+}
+
+// A condition once another moment has come.
+fn advanced(setup: &Setup, state: &State, moment: u32, watch: Watch) -> Watch
+    ensures { result ≡ advanced setup.now state.now moment watch }
+{
+    Watch {
+        kind: watch.kind,
+        subject: watch.subject,
+        since: continued(
+            stands(setup, watch.kind, state, watch.subject),
+            watch.since,
+            moment,
+        ),
+    }
+}
+
+/// All conditions once another moment has come.
+pub(crate) fn advance(setup: &Setup, state: &State, moment: u32, watches: &mut [Watch])
+    ensures { watches.new ≡ map (advanced setup.now state.now moment) watches.old }
+{
+    for watch in watches.iter_mut() {
+        *watch = advanced(setup, state, moment, *watch);
+    }
+}
+
+fn fresh(kind: Kind, subject: u32) -> Watch
+    ensures { result ≡ fresh kind subject }
+{
+    Watch {
+        kind,
+        subject,
+        since: None,
+    }
+}
+
+fn watches_of_rings(alloc: Global) -> Result<Vec<Watch>, AllocError>
+    ensures { IfOk result (λ list. list.items ≡ of_rings) }
+{
+    let mut list = Vec::new(alloc);
+    list.push(fresh(Kind::LostWakeUp, 0))?;
+    list.push(fresh(Kind::NotTaken, 0))?;
+    list.push(fresh(Kind::NotReaped, 0))?;
+    Ok(list)
+}
+
+/// The conditions of a setup's rings and threads.
+pub(crate) fn watches_of(alloc: Global, setup: &Setup) -> Result<Vec<Watch>, AllocError>
+    ensures { IfOk result (λ list. list.items ≡ watched setup.now) }
+{
+    let Ok(threads) = u32::try_from(setup.threads.as_slice().len()) else {
+        return Err(AllocError);
+    };
+    let mut list = watches_of_rings(alloc)?;
+    for thread in 0..threads {
+        list.push(fresh(Kind::Waits, thread))?;
+    }
+    Ok(list)
+}
+
+// Adds a condition that holds.
+fn add_lasting(found: &mut Vec<Finding>, watch: &Watch) -> Result<(), AllocError>
+    ensures { OnOk result (found.new.items ≡ found.old.items ++ of_lasting watch.now) }
+{
+    match watch.since {
+        Some(moment) => {
+            found.push(Finding {
+                moment,
+                kind: watch.kind,
+                subject: watch.subject,
+            })?;
+            Ok(())
+        }
+        None => Ok(()),
+    }
+}
+
+/// Adds the conditions that hold.
+pub(crate) fn add_all_lasting(found: &mut Vec<Finding>, watches: &[Watch]) -> Result<(), AllocError>
+    ensures { OnOk result (found.new.items ≡ found.old.items ++ flat_map of_lasting watches.now) }
+{
+    for watch in watches {
+        add_lasting(found, watch)?;
+    }
+    Ok(())
+}

@@ -1,0 +1,124 @@
+-- Kept bytes are written over others.
+use Rattle.std.proofs.Common.{◌≡◌, ◌≢◌, ℕ, ◌<◌, ◌≤◌, ◌+◌, ◌-◌, ◌*◌, min, Bool, true, false, cond, refl, sym, ◌∙◌, ap, subst, List, length, arith, inl, inr}
+use Rattle.std.specs.Prelude.{Option, Some, None, option_map, slice_get, slice_set, unwrap_or, ◌==◌, ◌⊎◌}
+use Rattle.std.proofs.lemmas.Bool.{eqb-true, eqb-false, ne_eqb}
+use Rattle.std.proofs.lemmas.List.{length-set}
+use Rattle.std.proofs.lemmas.Option.{slice_get_past}
+use Rattle.places.proofs.ListLemmas.{slice_get-set}
+use Rattle.places.specs.Masked.{masked, kept_byte, kept_at, PutOver}
+use Rattle.places.proofs.MaskedLemmas.{masked_here}
+use Rattle.places.proofs.KeptAt.{kept_before, kept_here, kept_past}
+use Rattle.model_files.specs.Files.{FileState, FileSized}
+use Rattle.model_files.specs.Pages.{Agree, FileTracked}
+use Rattle.model_files.proofs.Noting.{below_or_not}
+
+over_none : (x : Option ℕ) → option_map (unwrap_or None) x ≡ x
+over_none None = refl
+over_none (Some y) = refl
+
+-- a byte over which none is written
+pub stays : (s : ℕ) (os : List (Option ℕ)) (i : ℕ) (x : Option ℕ) → kept_at s os i ≡ None → option_map (unwrap_or (kept_at s os i)) x ≡ x
+stays s os i x e = ap (λ k. option_map (unwrap_or k) x) e ∙ over_none x
+
+-- ---- the loop
+
+-- The bytes up to one were written over, and those from it on are as they were.
+pub record PuttingOver (before now : List ℕ) (s : ℕ) (os : List (Option ℕ)) (next : ℕ) : Type 0 where
+  pub len : length now ≡ length before
+  pub done : (j : ℕ) → j < next → slice_get now j ≡ option_map (unwrap_or (kept_at s os j)) (slice_get before j)
+  pub rest : (j : ℕ) → next ≤ j → slice_get now j ≡ slice_get before j
+
+pub putting_from : (before : List ℕ) (s : ℕ) (os : List (Option ℕ)) (next : ℕ) → next ≤ s → PuttingOver before before s os next
+putting_from before s os next h = record {
+  len = refl;
+  done = λ j l. sym (stays s os j (slice_get before j) (kept_before s os j (omega arith)));
+  rest = λ j l. refl;
+}
+
+putting_one : (before now : List ℕ) (s : ℕ) (os : List (Option ℕ)) (next : ℕ) (o : Option ℕ) (y : ℕ) → PuttingOver before now s os next → next < length now → kept_at s os next ≡ o → slice_get now next ≡ Some y → PuttingOver before (slice_set now next (unwrap_or o y)) s os (next + 1)
+putting_one before now s os next o y p w k h = record {
+  len = length-set now next (unwrap_or o y) ∙ p.len;
+  done = λ j l. slice_get-set now next j (unwrap_or o y) w ∙ at j l (next == j) refl;
+  rest = λ j l. slice_get-set now next j (unwrap_or o y) w ∙ ap (λ t. cond t (Some (unwrap_or o y)) (slice_get now j)) (ne_eqb next j (λ e. absurd (omega arith))) ∙ p.rest j (omega arith);
+}
+  where
+    there : slice_get before next ≡ Some y
+    there = sym (p.rest next (omega arith)) ∙ h
+
+    here : Some (unwrap_or o y) ≡ option_map (unwrap_or (kept_at s os next)) (slice_get before next)
+    here = sym (ap (λ (x : Option ℕ). option_map (unwrap_or (kept_at s os next)) x) there ∙ ap (λ (q : Option ℕ). Some (unwrap_or q y)) k)
+
+    at : (j : ℕ) → j < next + 1 → (t : Bool) → (next == j) ≡ t → cond t (Some (unwrap_or o y)) (slice_get now j) ≡ option_map (unwrap_or (kept_at s os j)) (slice_get before j)
+    at j l true e = subst (λ i. Some (unwrap_or o y) ≡ option_map (unwrap_or (kept_at s os i)) (slice_get before i)) (eqb-true next j e) here
+    at j l false e = p.done j (let n : next ≢ j = eqb-false next j e in omega arith)
+
+-- one byte more, by its mark
+pub putting_on : (before now olds : List ℕ) (kept : List Bool) (s from i b y : ℕ) (k : Bool) → PuttingOver before now s (masked olds kept) (from + i) → from ≡ s → from + i < length now
+    → slice_get olds i ≡ Some b → slice_get kept i ≡ Some k → slice_get now (from + i) ≡ Some y → PuttingOver before (slice_set now (from + i) (unwrap_or (kept_byte k b) y)) s (masked olds kept) (from + (i + 1))
+putting_on before now olds kept s from i b y k p e w f g h =
+    let a : kept_at s (masked olds kept) (from + i) ≡ kept_byte k b = ap (λ z. kept_at s (masked olds kept) (z + i)) e ∙ kept_here s (masked olds kept) i (kept_byte k b) (masked_here olds kept i b k f g) in
+    let n : (from + i) + 1 ≡ from + (i + 1) = omega arith in
+    subst (PuttingOver before (slice_set now (from + i) (unwrap_or (kept_byte k b) y)) s (masked olds kept)) n (putting_one before now s (masked olds kept) (from + i) (kept_byte k b) y p w a h)
+
+-- once no byte is left, or no kept one
+pub putting_all : (before now : List ℕ) (s : ℕ) (os : List (Option ℕ)) (next : ℕ) → PuttingOver before now s os next → (length before ≤ next) ⊎ (s + length os ≤ next) → PutOver before s os now
+putting_all before now s os next p end i = by (below_or_not i next) end
+  where
+    by : (i < next) ⊎ (next ≤ i) → (length before ≤ next) ⊎ (s + length os ≤ next) → slice_get now i ≡ option_map (unwrap_or (kept_at s os i)) (slice_get before i)
+    by (inl l) e = p.done i l
+    by (inr l) (inl m) =
+        let none : slice_get before i ≡ None = slice_get_past before i (omega arith) in
+        p.rest i l ∙ none ∙ sym (ap (λ (x : Option ℕ). option_map (unwrap_or (kept_at s os i)) x) none)
+    by (inr l) (inr m) = p.rest i l ∙ sym (stays s os i (slice_get before i) (kept_past s os i (omega arith)))
+
+-- as far as the loop goes
+pub far_enough : (len start many from n i : ℕ) → from ≡ min start len → n ≡ min many (len - from) → n ≤ i → (len ≤ from + i) ⊎ (start + many ≤ from + i)
+far_enough len start many from n i e f l = by (below_or_not (from + i) len)
+  where
+    by : (from + i < len) ⊎ (len ≤ from + i) → (len ≤ from + i) ⊎ (start + many ≤ from + i)
+    by (inl a) = inr (omega arith)
+    by (inr a) = inl a
+
+-- ---- the pages of a file
+
+-- a page that is not marked has none of the bytes, as far as they were cut to those that a file can have
+pub cut_apart : (page i at count from within : ℕ) → from ≡ min at 65536 → within ≡ min count (65536 - from) → (page * 4096 + 4096 ≤ from) ⊎ (from + within ≤ page * 4096) → page * 4096 ≤ i → i < page * 4096 + 4096 → i < 65536 → (i < at) ⊎ (at + count ≤ i)
+cut_apart page i at count from within e f (inl l) lo hi m = inl (omega arith)
+cut_apart page i at count from within e f (inr l) lo hi m = inr (omega arith)
+
+pub cut_nothing : (i at count from within : ℕ) → from ≡ min at 65536 → within ≡ min count (65536 - from) → within ≤ 0 → i < 65536 → (i < at) ⊎ (at + count ≤ i)
+cut_nothing i at count from within e f n m = by (below_or_not i at)
+  where
+    by : (i < at) ⊎ (at ≤ i) → (i < at) ⊎ (at + count ≤ i)
+    by (inl l) = inl l
+    by (inr l) = inr (omega arith)
+
+-- a byte of a page that is not marked stays as it was
+unmarked : (before after : List ℕ) (s : ℕ) (os : List (Option ℕ)) (n i : ℕ) → length before ≡ 65536 → PutOver before s os after → length os ≤ n → (i < 65536 → (i < s) ⊎ (s + n ≤ i)) → slice_get after i ≡ slice_get before i
+unmarked before after s os n i len over few apart = over i ∙ by (below_or_not i 65536)
+  where
+    at : (i < s) ⊎ (s + n ≤ i) → option_map (unwrap_or (kept_at s os i)) (slice_get before i) ≡ slice_get before i
+    at (inl l) = stays s os i (slice_get before i) (kept_before s os i l)
+    at (inr l) = stays s os i (slice_get before i) (kept_past s os i (omega arith))
+
+    by : (i < 65536) ⊎ (65536 ≤ i) → option_map (unwrap_or (kept_at s os i)) (slice_get before i) ≡ slice_get before i
+    by (inl l) = at (apart l)
+    by (inr l) =
+        let none : slice_get before i ≡ None = slice_get_past before i (omega arith) in
+        ap (λ (x : Option ℕ). option_map (unwrap_or (kept_at s os i)) x) none ∙ sym none
+
+-- the pages of bytes that were written over a file's are marked
+pub tracked_bytes : (f : FileState) (before marks : List Bool) (s : ℕ) (os : List (Option ℕ)) (n : ℕ) (after : List ℕ) → FileTracked f before → PutOver f.bytes s os after → length after ≡ length f.bytes → length os ≤ n
+    → ((page : ℕ) → slice_get marks page ≡ Some false → slice_get before page ≡ Some false) → ((page i : ℕ) → slice_get marks page ≡ Some false → page * 4096 ≤ i → i < page * 4096 + 4096 → i < 65536 → (i < s) ⊎ (s + n ≤ i)) → FileTracked (record f { bytes = after }) marks
+tracked_bytes f before marks s os n after t over len few kept apart = record {
+  sized = record { bytes = len ∙ t.sized.bytes; len = t.sized.len; durable = t.sized.durable; durable_len = t.sized.durable_len };
+  clean = λ page i e lo hi. unmarked f.bytes after s os n i t.sized.bytes over few (apart page i e lo hi) ∙ t.clean page i (kept page e) lo hi;
+}
+
+-- and of those that were written over its durable ones
+pub tracked_durable : (f : FileState) (before marks : List Bool) (s : ℕ) (os : List (Option ℕ)) (n : ℕ) (after : List ℕ) → FileTracked f before → PutOver f.durable s os after → length after ≡ length f.durable → length os ≤ n
+    → ((page : ℕ) → slice_get marks page ≡ Some false → slice_get before page ≡ Some false) → ((page i : ℕ) → slice_get marks page ≡ Some false → page * 4096 ≤ i → i < page * 4096 + 4096 → i < 65536 → (i < s) ⊎ (s + n ≤ i)) → FileTracked (record f { durable = after }) marks
+tracked_durable f before marks s os n after t over len few kept apart = record {
+  sized = record { bytes = t.sized.bytes; len = t.sized.len; durable = len ∙ t.sized.durable; durable_len = t.sized.durable_len };
+  clean = λ page i e lo hi. t.clean page i (kept page e) lo hi ∙ sym (unmarked f.durable after s os n i t.sized.durable over few (apart page i e lo hi));
+}

@@ -1,0 +1,10 @@
+use Rattle.model_files.proofs.PuttingBack.{put_pipe_bytes, put_no_pipe_bytes}
+use Rattle.model_files.proofs.pipe.PipeBuffer.put_back.Goals as goal
+
+pub returns-in-Pipe-clause-put : goal.returns-in-Pipe-clause-put
+returns-in-Pipe-clause-put c =
+    let stand = rw (← c.self.view_is, c.in-Pipe.is) at c.requires.stand in
+    rw (← c.self.view_is, c.in-Pipe.is) (put_pipe_bytes _ _ _ _ _ c.put_over.ensures.over stand)
+
+pub returns-in-Memory-clause-put : goal.returns-in-Memory-clause-put
+returns-in-Memory-clause-put c = put_no_pipe_bytes _ _ _ _ c.in-Memory.is c.requires.stand

@@ -1,0 +1,17 @@
+use Rattle.std.proofs.Common.{◌≡◌, sym, ◌∙◌, ap}
+use Rattle.std.specs.Prelude.{Some, None}
+use Rattle.places.specs.Masked.{masked}
+use Rattle.places.specs.Runs.{place_in}
+use Rattle.places.specs.declared.notes.runs.Region.TheVariants.{Memory}
+use Rattle.model_files.specs.Objects.{object_in}
+use Rattle.model_files.specs.Worlds.{WorldState}
+use Rattle.model_files.proofs.PuttingBack.{is_memory, put_memory_bytes}
+use Rattle.model_files.proofs.world.World.put_back.Goals as goal
+
+pub returns-clause-put : goal.returns-clause-put
+returns-clause-put c =
+    let w : WorldState = record { memory = c.self.inside.memory.items; objects = c.self.inside.objects.items; descriptors = c.self.inside.descriptors.items } in
+    let none : object_in (place_in c.args.stretch.region c.args.stretch.start) ≡ None = ap object_in (sym c.place.ensures) ∙ sym c.object_in.ensures ∙ c.in_default.is in
+    let m : c.args.stretch.region ≡ Memory = is_memory c.args.stretch.region c.args.stretch.start none in
+    let stand = rw (← c.self.view_is, m) at c.requires.stand in
+    rw (← c.self.view_is, m) (put_memory_bytes w c.args.stretch.start (masked c.args.stretch.olds.now c.args.stretch.kept.now) _ c.put_over.ensures.over stand)

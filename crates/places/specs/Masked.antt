@@ -1,0 +1,42 @@
+-- Old bytes beside marks that say which of them are kept.
+use Rattle.std.specs.Prelude.{◌≡◌, ◌≢◌, ℕ, ◌+◌, ◌-◌, nat_lt, Bool, true, false, List, [], ◌∷◌, Option, Some, None, IsSome, ◌⊎◌, length, option_map, slice_get, unwrap_or, if◌then◌else◌}
+use Rattle.std.specs.Option.{option_flatten}
+use Rattle.places.specs.declared.notes.runs.Region.{Region}
+use Rattle.places.specs.declared.notes.runs.Run.{Run}
+use Rattle.places.specs.Runs.{place_in, RunsOnce}
+use Rattle.places.specs.View.{View}
+
+abbrev pub kept_byte : Bool → ℕ → Option ℕ
+kept_byte true b = Some b
+kept_byte false b = None
+
+-- the bytes whose mark is set
+abbrev pub masked : List ℕ → List Bool → List (Option ℕ)
+masked [] ks = []
+masked (b ∷ bs) [] = []
+masked (b ∷ bs) (k ∷ ks) = kept_byte k b ∷ masked bs ks
+
+-- A mark goes where the old byte stands now, and else it stays.
+abbrev pub LeftMark : Option ℕ → ℕ → Bool → Bool → Type 0
+LeftMark x b k l = ((l ≡ k) × (x ≢ Some b)) ⊎ ((l ≡ false) × (x ≡ Some b))
+
+-- each byte has a mark, and no place is named twice
+pub record MaskedOnce (rs : List Run) (bs : List ℕ) (ks : List Bool) : Type 0 where
+  pub once : RunsOnce rs (masked bs ks)
+  pub paired : length ks ≡ length bs
+
+-- what is kept of the byte of an index, of bytes that stand from s on
+abbrev pub kept_at : ℕ → List (Option ℕ) → ℕ → Option ℕ
+kept_at s os i = if nat_lt i s then None else option_flatten (slice_get os (i - s))
+
+-- the mark of the byte of an index, where one of the marks from s on is its
+abbrev pub mark_at : ℕ → List Bool → ℕ → Option Bool
+mark_at s ks i = if nat_lt i s then None else slice_get ks (i - s)
+
+-- Of bytes that stand from s on, those that are kept were written over others, as far as these reach.
+abbrev pub PutOver : List ℕ → ℕ → List (Option ℕ) → List ℕ → Type 0
+PutOver before s os after = (i : ℕ) → slice_get after i ≡ option_map (unwrap_or (kept_at s os i)) (slice_get before i)
+
+-- Something stands where a byte of a region is kept, of bytes that stand from s on.
+abbrev pub BytesStand : View → Region → ℕ → List (Option ℕ) → Type 0
+BytesStand v g s os = (i b : ℕ) → slice_get os i ≡ Some (Some b) → IsSome (v (place_in g (s + i)))

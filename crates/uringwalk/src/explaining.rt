@@ -1,0 +1,33 @@
+//! What the run shows that a file holds.
+
+use crate::logging::fault_of_log;
+use crate::{WHOLE_TRACE_AND_ONE, told};
+use debug_server::Fault;
+use findings::{Asked, Kind, explain_run};
+use std::io;
+use std::process::ExitCode;
+use std::rt::Files;
+use whole_files::read_file;
+
+/// The status where some finding is a fault.
+const SOME_FAULTS: u8 = 3;
+
+/// Writes what the run shows of the script or the trace in a file, of one kind alone or of all, to standard
+/// output. The status is 3 where some of it is a fault, and else 0.
+pub fn explain_file(
+    rt: &(impl Files + Print + AllocGlobal),
+    path: &str,
+    kind: Option<&str>,
+    json: bool,
+) -> Result<ExitCode, Fault> {
+    let bytes = read_file(rt, path, WHOLE_TRACE_AND_ONE).map_err(told)?;
+    let kind = match kind {
+        Some(word) => Kind::of_word(word),
+        None => None,
+    };
+    match explain_run(rt.alloc(), &bytes, Asked { kind, json }, &mut io::writer(rt)) {
+        Ok(true) => Ok(ExitCode::from(SOME_FAULTS)),
+        Ok(false) => Ok(ExitCode::SUCCESS),
+        Err(fault) => Err(fault_of_log(fault)),
+    }
+}
