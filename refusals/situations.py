@@ -182,7 +182,6 @@ def calls_of_states():
 
 def calls_of_walkers():
     yield Situation("extend", "twelve_ticks", 2, 1, refused=None, rising=True)
-    yield Situation("extend", "all_opcodes", 2, 1, refused=None, rising=True)
     yield Situation("goto", "ticks", 9, 5, refused=((2, 0),))
     yield Situation("goto", "ticks", 10, 9, quiet=True)
     yield Situation("back", "ticks", 10, quiet=True)
