@@ -1,6 +1,8 @@
 -- How many rows there are, and items of the backlog.
-use Rattle.std.proofs.Common.{◌≡◌, ℕ, ◌<◌, ◌≤◌, zero, suc, true, false, ap, List, [], ◌∷◌, length, arith}
+use Rattle.std.proofs.Common.{◌≡◌, ℕ, ◌+◌, ◌∙◌, sym, ◌<◌, ◌≤◌, zero, suc, true, false, ap, List, [], ◌∷◌, ◌++◌, length, take, get_or, arith}
 use Rattle.std.specs.Prelude.{Option, Some, None, is_some, option_map, slice_get}
+use Rattle.std.proofs.lemmas.List.{take_more}
+use Rattle.std.proofs.lemmas.Option.{slice_get_within, slice_get-get_or}
 use Rattle.std.proofs.lemmas.List.Sums.{length-filter, count_by-le-length}
 use Rattle.entries.specs.declared.row.Row.{Row}
 use Rattle.links_drains.specs.Phases.{is_ended}
@@ -33,3 +35,13 @@ few_kept m f =
 pub requested_is : (o : Option Row) (row : Row) → option_map Requested o ≡ Some (Requested row) → o ≡ Some row
 requested_is None row h = absurd cc
 requested_is (Some x) row h = let e : x ≡ row = cc in ap Some e
+
+some_is : {X : Type 0} (y z : X) → Some y ≡ Some z → y ≡ z
+some_is y z e = cc
+
+-- the elements before an index and the one there
+pub take_next : {X : Type 0} (xs : List X) (i : ℕ) (x : X) → slice_get xs i ≡ Some x → take (i + 1) xs ≡ take i xs ++ x ∷ []
+take_next xs i x h =
+    let l = slice_get_within xs i x h in
+    let e : get_or xs i x ≡ x = some_is _ _ (sym (slice_get-get_or xs i x l) ∙ h) in
+    take_more xs i x l ∙ ap (λ y. take i xs ++ y ∷ []) e

@@ -2,4 +2,4 @@ pub mod Counting
 pub mod Noting
 pub mod Running
 pub mod Moments
-pub mod Following
+pub mod GoingOn

@@ -1,14 +1,18 @@
 -- What a run comes to, by its moments.
-use Rattle.std.specs.Prelude.{◌≡◌, ℕ, ◌+◌, ◌<◌, ◌≤◌, List, length, slice_get, take, Bool, true, false, Option, Some, None}
+use Rattle.std.specs.Prelude.{◌≡◌, ◌≢◌, ℕ, ◌+◌, ◌<◌, ◌≤◌, List, length, slice_get, take, Bool, true, false, Option, Some, None}
 use Rattle.std.specs.Option.{option_map_or}
 use Rattle.entries.specs.declared.row.Phase.{Phase}
 use Rattle.links_drains.specs.Phases.{is_issued, is_ended}
 use Rattle.scenario.specs.declared.event.Event.{Event}
+use Rattle.scenario.specs.declared.event.Refusal.TheVariants.{Memory}
 use Rattle.scenario.specs.declared.setup.Setup.{Setup}
 use Rattle.machine.specs.declared.whole.Machine.{Machine}
-use Rattle.machine.specs.Runs.{start, moment, Accepts}
+use Rattle.machine.specs.Steps.{refusal}
+use Rattle.machine.specs.Runs.{start, moment, Accepts, IsRefused}
 use Rattle.courses.specs.declared.course.Course.{Course}
 use Rattle.courses.specs.declared.filling.Filling.{Filling}
+use Rattle.courses.specs.declared.following.Followed.{Followed}
+use Rattle.courses.specs.declared.following.Stop.{Stop}
 use Rattle.courses.specs.declared.stamps.Stamps.{Stamps}
 use Rattle.courses.specs.Fillings.{filling_of}
 
@@ -51,3 +55,17 @@ pub record IsCourse (s : Setup) (es : List Event) (n : ℕ) (c : Course) : Type 
   pub runs : Accepts (start s) (take n es)
   pub fillings : AreFilled s es n c.fillings.items
   pub stamps : AreStamped s es n c.stamps.items
+
+-- What a whole run comes to, and its rows at the end.
+pub record IsFollowed (s : Setup) (es : List Event) (f : Followed) : Type 0 where
+  pub course : IsCourse s es (length es) f.course
+  pub rows : f.rows.items ≡ (moment s es (length es)).table
+
+-- Why an event isn't followed by another: it is refused, or memory is.
+pub record Halts (i : ℕ) (m : Machine) (e : Event) (x : Stop) : Type 0 where
+  pub at : x.refusal ≢ Memory → x.index ≡ i
+  pub refused : x.refusal ≢ Memory → refusal m e ≡ Some x.refusal
+
+-- Why a run isn't followed to its end: the first event that is refused, or memory.
+abbrev pub Stops : Setup → List Event → Stop → Type 0
+Stops s es x = x.refusal ≢ Memory → IsRefused s es x.index x.refusal

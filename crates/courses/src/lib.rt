@@ -3,8 +3,12 @@
 
 mod course;
 mod filling;
+mod following;
 mod stamps;
+mod standing;
 
 pub use course::Course;
 pub use filling::Filling;
+pub use following::{Followed, Stop, follow};
 pub use stamps::Stamps;
+pub use standing::Standing;

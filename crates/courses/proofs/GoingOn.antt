@@ -1,20 +1,26 @@
 -- A run that is noted, one event further.
 use Rattle.std.proofs.Common.{◌≡◌, ℕ, zero, suc, ◌+◌, ◌<◌, ◌≤◌, Bool, true, false, refl, sym, ap, ◌∙◌, subst, List, [], ◌∷◌, ◌++◌, length, take, get_or, arith, eq-eqb, le_refl}
-use Rattle.std.specs.Prelude.{None, slice_get, Some, ◌==◌}
+use Rattle.std.specs.Prelude.{Option, None, slice_get, Some, ◌==◌, ◌≢◌}
+use Rattle.std.proofs.lemmas.Option.{slice_get-get_or}
 use Rattle.std.proofs.lemmas.Bool.{eqb-true}
 use Rattle.places.specs.declared.value.Change.{Change}
 use Rattle.places.specs.View.{Exact}
 use Rattle.scenario.specs.declared.event.Event.{Event}
+use Rattle.scenario.specs.declared.event.Refusal.{Refusal}
+use Rattle.scenario.specs.declared.event.Refusal.TheVariants.{Memory}
 use Rattle.scenario.specs.declared.setup.Setup.{Setup}
 use Rattle.machine.specs.declared.whole.Machine.{Machine}
-use Rattle.machine.specs.Whole.{view}
+use Rattle.machine.specs.Whole.{view, WellFormed, Grows}
+use Rattle.machine.proofs.Growing.{grows_after}
 use Rattle.machine.specs.Steps.{after, refusal, Next}
-use Rattle.machine.specs.Runs.{start, moment, Accepts}
+use Rattle.machine.specs.Runs.{start, moment, Accepts, IsRefused}
+use Rattle.courses.specs.declared.course.Course.{Course}
+use Rattle.courses.specs.declared.following.Stop.{Stop}
 use Rattle.courses.specs.declared.filling.Filling.{Filling}
 use Rattle.courses.specs.declared.stamps.Stamps.{Stamps}
 use Rattle.courses.specs.Fillings.{filling_of}
 use Rattle.courses.specs.Stamping.{stamps_behind}
-use Rattle.courses.specs.Courses.{AreStamped, AreFilled}
+use Rattle.courses.specs.Courses.{AreStamped, AreFilled, IsCourse, Halts, Stops}
 use Rattle.courses.proofs.Running.{accepts_more, moment_more}
 use Rattle.courses.proofs.Moments.{Growing, are_stamped_more, are_filled_more}
 
@@ -75,3 +81,28 @@ following_more s es i m n e d fs fs' xs xs' k k' h l g next grows f t o =
             let apart : j ≡ i + 1 → ⊥ = λ (v : j ≡ i + 1). let t = eq-eqb j (i + 1) v in absurd cc in
             let before = l.growing j (omega (arith, b, apart)) in
             omega (arith, before, grown)
+
+-- ---- one event
+
+-- an accepted event takes no row and no item of the backlog away
+pub grown : (m n : Machine) (e : Event) → WellFormed m → Next m e n → Grows m n
+grown m n e f next = subst (Grows m) (sym next.changed) (grows_after m e f next.accepted)
+
+-- ---- runs that stop
+
+-- an event that isn't accepted is refused for the reason that is told, if that isn't memory
+pub told_refusal : (m : Machine) (e : Event) (n : Refusal) → ((k : Refusal) → refusal m e ≡ Some k → n ≡ k) → (refusal m e ≡ None → n ≡ Memory) → n ≢ Memory → refusal m e ≡ Some n
+told_refusal m e n refused memory other = by (refusal m e) refl
+  where
+    by : (x : Option Refusal) → refusal m e ≡ x → refusal m e ≡ Some n
+    by None p = absurd (other (memory p))
+    by (Some k) p = p ∙ ap Some (sym (refused k p))
+
+pub following_stops : (s : Setup) (es : List Event) (i : ℕ) (m : Machine) (e d : Event) (fs : List Filling) (xs : List Stamps) (k : ℕ) (x : Stop) → i < length es → Following s es i m fs xs k → e ≡ get_or es i d → Halts i m e x → Stops s es x
+following_stops s es i m e d fs xs k x h l g stop = λ other.
+    let there : slice_get es i ≡ Some e = slice_get-get_or es i d h ∙ ap Some (sym g) in
+    let refused : IsRefused s es i x.refusal = record { runs = l.runs; event = e; there = there; refused = ap (λ y. refusal y e) (sym l.here) ∙ stop.refused other } in
+    subst (λ q. IsRefused s es q x.refusal) (sym (stop.at other)) refused
+
+pub course_of : (s : Setup) (es : List Event) (m : Machine) (c : Course) → Following s es (length es) m c.fillings.items c.stamps.items c.overflowed → IsCourse s es (length es) c
+course_of s es m c l = record { runs = l.runs; fillings = l.filled; stamps = l.stamped }
