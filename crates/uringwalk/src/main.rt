@@ -5,12 +5,14 @@ ghost use Rattle.std.specs.Prelude.{◌≡◌, IfOk};
 ghost use Rattle.debug_server.specs.Jobs.{IsInRange};
 ghost use Rattle.uringwalk.specs.Files.{told_as};
 
+mod drawing;
 mod living;
 mod logging;
 
 use debug_server::{
     Fault, Form, Job, RunFault, ServeFault, Traced, job, migrate_trace, replay, trace_script, walk,
 };
+use drawing::draw_file;
 use living::live_file;
 use logging::log_file;
 use run_log::EventRange;
@@ -20,6 +22,7 @@ use std::sync::Wait;
 use std::thread::Threads;
 use std::time::Clock;
 use std::{env, fmt, io};
+use timeline::Window;
 use whole_files::{FileFault, lead_to_one_file, read_file, write_file};
 
 /// One byte more than a script may have: what lies behind it is not read.
@@ -105,16 +108,20 @@ fn migrate_file(
     keep(rt, out, &migrate_trace(rt.alloc(), &text, &bytes)?)
 }
 
-fn run<R: Files + Input + Print + AllocGlobal + Threads + Wait + Clock + Sync>(
+// Does a job, and gives the status that the program ends with.
+fn run<R: Files + Input + Print + Eprint + AllocGlobal + Threads + Wait + Clock + Sync>(
     rt: &R,
     job: Job<'_>,
-) -> Result<(), Fault>
+) -> Result<u8, Fault>
     requires { IsInRange job }
 {
-    match job {
+    let done = match job {
         Job::Walk(script) => answer_over(rt, Over::Script, script),
         Job::Replay(trace) => answer_over(rt, Over::Trace, trace),
         Job::Log { run, from, to } => log_file(rt, run, EventRange { from, to }),
+        Job::Timeline { run, out, from, to } => {
+            return draw_file(rt, run, out, Window { from, to });
+        }
         Job::Live {
             script,
             turns,
@@ -123,6 +130,10 @@ fn run<R: Files + Input + Print + AllocGlobal + Threads + Wait + Clock + Sync>(
         } => live_file(rt, script, turns, kernel, out),
         Job::Trace { script, out, form } => trace_file(rt, script, out, form),
         Job::Migrate { script, trace, out } => migrate_file(rt, script, trace, out),
+    };
+    match done {
+        Ok(()) => Ok(0),
+        Err(fault) => Err(fault),
     }
 }
 
@@ -137,7 +148,11 @@ fn loses_script(rt: &(impl Files + AllocGlobal), job: Job<'_>) -> Result<bool, F
             out: Some(out),
             ..
         } => lead_to_one_file(rt, script, out).map_err(told),
-        Job::Walk(_) | Job::Replay(_) | Job::Log { .. } | Job::Live { out: None, .. } => Ok(false),
+        Job::Walk(_)
+        | Job::Replay(_)
+        | Job::Log { .. }
+        | Job::Timeline { .. }
+        | Job::Live { out: None, .. } => Ok(false),
     }
 }
 
@@ -162,7 +177,7 @@ fn carry_out<R: Files + Input + Print + Eprint + AllocGlobal + Threads + Wait + 
 {
     match loses_script(rt, job) {
         Ok(false) => match run(rt, job) {
-            Ok(()) => ExitCode::SUCCESS,
+            Ok(status) => ExitCode::from(status),
             Err(fault) => fail(rt, 1, &fault),
         },
         Ok(true) => fail(rt, 2, &ONTO_SCRIPT),
