@@ -29,6 +29,13 @@ pub enum Job<'a> {
         kind: Option<&'a str>,
         json: bool,
     },
+    /// A picture of the events of the script or trace in this file: those from a number on, and below another.
+    Timeline {
+        run: &'a str,
+        out: &'a str,
+        from: Option<u32>,
+        to: Option<u32>,
+    },
     /// A session over what threads made together from the setup of the script in this file: a thread for each
     /// of its threads, the poller if there is one, and so many kernel workers, each of which made so many turns.
     /// If there is an `out`, the run's trace is written there first.

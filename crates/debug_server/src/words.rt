@@ -43,6 +43,9 @@ const KINDS: &[&str] = &[
     "unfinished",
 ];
 
+const DRAWN: &str =
+    "OUT ends in .html: a page that a browser shows, with no network; or in .json: trace events, which Perfetto and chrome://tracing open. It is made, or takes the place of a file of its name; it can't be RUN's own file. Of more than 5000 events those from M to below N alone are drawn. Example:\n  uringwalk timeline examples/severed_link/script.json severed_link.html";
+
 const LIVE: &str =
     "A thread runs each thread of the script, the poller if there is one, and each kernel worker, all side by side; the script's schedule isn't run. It prints how many events there were, as closed E, and then answers commands as walk does. Another run may go another way: OUT keeps this one, for replay. Example:\n  uringwalk live examples/words_in_a_pipe/script.json --trace words.trace <examples/words_in_a_pipe/stdin\n  echo where | uringwalk replay words.trace";
 
@@ -185,6 +188,34 @@ fn explain_words<'a>(alloc: Global) -> Result<Command<'a>, AllocError> {
         )
 }
 
+fn timeline_words<'a>(alloc: Global) -> Result<Command<'a>, AllocError> {
+    Command::new(alloc, "timeline")
+        .about("Draw what a script's schedule or a trace's events did, moment by moment")
+        .after_help(DRAWN)
+        .arg(file(
+            alloc,
+            "RUN",
+            "A trace of form 2 where its first byte is a U, or else a script",
+        ))?
+        .arg(file(
+            alloc,
+            "OUT",
+            "Where the picture is written to: a name that ends in .html or .json",
+        ))?
+        .arg(number(
+            alloc,
+            "M",
+            "from",
+            "The first event to draw; where left out, that is event 0",
+        ))?
+        .arg(number(
+            alloc,
+            "N",
+            "to",
+            "The event to end before; where left out, all the rest are drawn",
+        ))
+}
+
 // A word with a file behind it.
 fn file_option<'a>(alloc: Global, name: &'a str, word: &'a str, help: &'a str) -> Arg<'a> {
     Arg::new(alloc, name)
@@ -294,6 +325,12 @@ fn job_of<'a>(name: &str, matches: &ArgMatches<'a>) -> Job<'a> {
             kind: matches.get_str("KIND"),
             json: matches.get_flag("json"),
         },
+        "timeline" => Job::Timeline {
+            run: text_of(matches, "RUN"),
+            out: text_of(matches, "OUT"),
+            from: matches.get_one::<u32>("M"),
+            to: matches.get_one::<u32>("N"),
+        },
         "replay" => Job::Replay(text_of(matches, "TRACE")),
         "live" => Job::Live {
             script,
@@ -328,6 +365,7 @@ fn loses_script(job: Job<'_>) -> bool
         | Job::Replay(_)
         | Job::Log { .. }
         | Job::Explain { .. }
+        | Job::Timeline { .. }
         | Job::Live { out: None, .. }
         | Job::Serve { .. } => false,
     }
@@ -399,6 +437,7 @@ fn program<'a>(alloc: Global) -> Result<Command<'a>, AllocError> {
     let command = with(command, replay_words(alloc))?;
     let command = with(command, log_words(alloc))?;
     let command = with(command, explain_words(alloc))?;
+    let command = with(command, timeline_words(alloc))?;
     let command = with(command, live_words(alloc))?;
     with(command, serve_words(alloc))
 }

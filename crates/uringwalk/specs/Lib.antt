@@ -1,2 +1,3 @@
 pub mod Files
 pub mod Logging
+pub mod Drawing

@@ -25,7 +25,12 @@ pub fn explain_file(
         Some(word) => Kind::of_word(word),
         None => None,
     };
-    match explain_run(rt.alloc(), &bytes, Asked { kind, json }, &mut io::writer(rt)) {
+    match explain_run(
+        rt.alloc(),
+        &bytes,
+        Asked { kind, json },
+        &mut io::writer(rt),
+    ) {
         Ok(true) => Ok(ExitCode::from(SOME_FAULTS)),
         Ok(false) => Ok(ExitCode::SUCCESS),
         Err(fault) => Err(fault_of_log(fault)),

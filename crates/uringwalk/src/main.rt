@@ -5,6 +5,7 @@ ghost use Rattle.std.specs.Prelude.{◌≡◌, IfOk};
 ghost use Rattle.debug_server.specs.Jobs.{IsInRange};
 ghost use Rattle.uringwalk.specs.Files.{told_as};
 
+mod drawing;
 mod explaining;
 mod living;
 mod logging;
@@ -14,6 +15,7 @@ use clap::error::ErrorKind;
 use debug_server::{
     Fault, Form, Job, RunFault, ServeFault, Traced, job, migrate_trace, replay, trace_script, walk,
 };
+use drawing::draw_file;
 use explaining::explain_file;
 use living::live_file;
 use logging::log_file;
@@ -26,6 +28,7 @@ use std::sync::Wait;
 use std::thread::Threads;
 use std::time::Clock;
 use std::{env, fmt, io};
+use timeline::Window;
 use whole_files::{FileFault, lead_to_one_file, read_file, write_file};
 
 /// One byte more than a script may have: what lies behind it is not read.
@@ -111,10 +114,12 @@ fn migrate_file(
     keep(rt, out, &migrate_trace(rt.alloc(), &text, &bytes)?)
 }
 
+// Does a job, and gives the status that the program ends with.
 fn run<
     R: Files
         + Input
         + Print
+        + Eprint
         + AllocGlobal
         + Threads
         + Wait
@@ -129,6 +134,9 @@ fn run<
         Job::Replay(trace) => answer_over(rt, Over::Trace, trace)?,
         Job::Log { run, from, to } => log_file(rt, run, EventRange { from, to })?,
         Job::Explain { run, kind, json } => return explain_file(rt, run, kind, json),
+        Job::Timeline { run, out, from, to } => {
+            return draw_file(rt, run, out, Window { from, to });
+        }
         Job::Live {
             script,
             turns,
@@ -163,6 +171,7 @@ fn loses_script(rt: &(impl Files + AllocGlobal), job: Job<'_>) -> Result<bool, F
         | Job::Replay(_)
         | Job::Log { .. }
         | Job::Explain { .. }
+        | Job::Timeline { .. }
         | Job::Live { out: None, .. }
         | Job::Serve { .. } => Ok(false),
     }

@@ -1,0 +1,47 @@
+-- How many rows there are, and items of the backlog.
+use Rattle.std.proofs.Common.{◌≡◌, ℕ, ◌+◌, ◌∙◌, sym, ◌<◌, ◌≤◌, zero, suc, true, false, ap, List, [], ◌∷◌, ◌++◌, length, take, get_or, arith}
+use Rattle.std.specs.Prelude.{Option, Some, None, is_some, option_map, slice_get}
+use Rattle.std.proofs.lemmas.List.{take_more}
+use Rattle.std.proofs.lemmas.Option.{slice_get_within, slice_get-get_or}
+use Rattle.std.proofs.lemmas.List.Sums.{length-filter, count_by-le-length}
+use Rattle.entries.specs.declared.row.Row.{Row}
+use Rattle.links_drains.specs.Phases.{is_ended}
+use Rattle.places.specs.declared.value.Value.{Value}
+use Rattle.places.specs.declared.value.Value.TheVariants.{Requested}
+use Rattle.machine.specs.declared.whole.Machine.{Machine}
+use Rattle.machine.specs.Whole.{WellFormed}
+
+-- what stands at an index stands within the list
+pub stands_within : {X : Type 0} (f : X → Value) (xs : List X) (i : ℕ) (o : Option Value) → o ≡ option_map f (slice_get xs i) → is_some o ≡ true → i < length xs
+stands_within f [] i o e h = let k = ap is_some e in absurd cc
+stands_within f (x ∷ xs) zero o e h = omega arith
+stands_within f (x ∷ xs) (suc i) o e h = let l = stands_within f xs i o e h in omega (arith, l)
+
+-- and where nothing stands the list has ended
+pub stands_beyond : {X : Type 0} (f : X → Value) (xs : List X) (i : ℕ) (o : Option Value) → o ≡ option_map f (slice_get xs i) → is_some o ≡ false → length xs ≤ i
+stands_beyond f [] i o e h = omega arith
+stands_beyond f (x ∷ xs) zero o e h = let k = ap is_some e in absurd cc
+stands_beyond f (x ∷ xs) (suc i) o e h = let l = stands_beyond f xs i o e h in omega (arith, l)
+
+-- a run has at most 65,536 rows, each of which overflows once at most
+pub few_kept : (m : Machine) → WellFormed m → length m.backlog.items ≤ 65536
+few_kept m f =
+    let kept = f.mostly.kept.overflowed in
+    let rows = f.mostly.table.few in
+    let some = length-filter (λ (row : Row). is_ended row.phase) m.table in
+    let most = count_by-le-length (λ (row : Row). is_ended row.phase) m.table in
+    omega (arith, kept, rows, some, most)
+
+pub requested_is : (o : Option Row) (row : Row) → option_map Requested o ≡ Some (Requested row) → o ≡ Some row
+requested_is None row h = absurd cc
+requested_is (Some x) row h = let e : x ≡ row = cc in ap Some e
+
+some_is : {X : Type 0} (y z : X) → Some y ≡ Some z → y ≡ z
+some_is y z e = cc
+
+-- the elements before an index and the one there
+pub take_next : {X : Type 0} (xs : List X) (i : ℕ) (x : X) → slice_get xs i ≡ Some x → take (i + 1) xs ≡ take i xs ++ x ∷ []
+take_next xs i x h =
+    let l = slice_get_within xs i x h in
+    let e : get_or xs i x ≡ x = some_is _ _ (sym (slice_get-get_or xs i x l) ∙ h) in
+    take_more xs i x l ∙ ap (λ y. take i xs ++ y ∷ []) e

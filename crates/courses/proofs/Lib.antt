@@ -1,0 +1,5 @@
+pub mod Counting
+pub mod Noting
+pub mod Running
+pub mod Moments
+pub mod GoingOn

@@ -1,0 +1,55 @@
+//! What a run came to, moment by moment and row by row.
+ghost use Rattle.std.specs.Prelude.{◌≡◌, ◌≤◌, ◌++◌, ◌∷◌, ◌-◌, ◌<◌, ◌^◌, [], length, IfOk, OnOk};
+ghost use Rattle.machine.specs.Whole.{WellFormed};
+ghost use Rattle.courses.specs.Fillings.{filling_of as filling_at};
+ghost use Rattle.courses.specs.Stamping.{stamps_behind};
+
+use crate::filling::{Filling, count_overflowed, filling_of};
+use crate::stamps::{Stamps, add_rows, stamp_changes};
+use machine::State;
+use places::Record;
+use std::alloc::{AllocError, Global};
+
+/// What a run came to.
+#[derive(Debug, Drop)]
+pub struct Course {
+    /// How full it was at each moment, from moment 0 on.
+    pub fillings: Vec<Filling>,
+    /// When each row was queued, issued and ended.
+    pub stamps: Vec<Stamps>,
+    /// How many completions went into the backlog.
+    pub overflowed: u32,
+}
+
+impl Course {
+    /// At the start of a run.
+    pub fn new(alloc: Global, state: &State) -> Result<Course, AllocError>
+        requires none_kept { state.now.backlog.items ≡ [] }
+        ensures fillings { IfOk result (λ c. c.fillings.items ≡ filling_at state.now ∷ []) }
+        ensures stamps { IfOk result (λ c. c.stamps.items ≡ []) }
+        ensures overflowed { IfOk result (λ c. c.overflowed ≡ 0) }
+    {
+        let mut fillings = Vec::new(alloc);
+        fillings.push(filling_of(state, 0))?;
+        Ok(Course {
+            fillings,
+            stamps: Vec::new(alloc),
+            overflowed: 0,
+        })
+    }
+
+    /// Notes the moment behind a step, by the step's record.
+    pub fn note(&mut self, past: &Record, state: &State, moment: u32) -> Result<(), AllocError>
+        requires rows { length self.old.stamps.items ≤ length state.now.table }
+        requires kept { self.old.overflowed ≤ length state.now.backlog.items }
+        ensures fillings { OnOk result (self.new.fillings.items ≡ self.old.fillings.items ++ filling_at state.now ∷ []) }
+        ensures stamps { OnOk result (self.new.stamps.items ≡ stamps_behind state.now.table moment past.now self.old.stamps.items) }
+        ensures overflowed { OnOk result (self.new.overflowed ≡ length state.now.backlog.items) }
+    {
+        self.overflowed = count_overflowed(state, self.overflowed);
+        self.fillings.push(filling_of(state, self.overflowed))?;
+        add_rows(&mut self.stamps, state, moment)?;
+        stamp_changes(&mut self.stamps, past, state, moment);
+        Ok(())
+    }
+}

@@ -1,0 +1,97 @@
+//! When rows were queued, issued and ended.
+ghost use Rattle.std.specs.Prelude.{◌≡◌, ◌≤◌, ◌-◌, ◌++◌, length, replicate, OnOk};
+ghost use Rattle.machine.specs.Whole.{WellFormed};
+ghost use Rattle.courses.specs.Stamping.{first_moment, new_stamps, stamped, stamp_row, stamp_changes};
+
+use entries::Phase;
+use machine::State;
+use places::{Place, Record, Value};
+use std::alloc::AllocError;
+
+/// How many rows a run can have.
+const MOST_ROWS: usize = 65536;
+
+/// The first moments at which a row was there, was issued, and had ended.
+#[derive(Clone, Copy, Debug, PartialEq, Eq)]
+pub struct Stamps {
+    pub queued: u32,
+    pub issued: Option<u32>,
+    pub ended: Option<u32>,
+}
+
+// The first of two moments, if there is one.
+fn first_of(first: Option<u32>, moment: u32) -> Option<u32>
+    ensures { result ≡ first_moment first moment }
+{
+    match first {
+        Some(first) => Some(first),
+        None => Some(moment),
+    }
+}
+
+// The moments of a row that is in a phase at one.
+fn stamped(before: Stamps, phase: Phase, moment: u32) -> Stamps
+    ensures { result ≡ stamped before phase moment }
+{
+    match phase {
+        Phase::Queued => before,
+        Phase::Issued => Stamps {
+            queued: before.queued,
+            issued: first_of(before.issued, moment),
+            ended: before.ended,
+        },
+        Phase::Ended(_) => Stamps {
+            queued: before.queued,
+            issued: before.issued,
+            ended: first_of(before.ended, moment),
+        },
+    }
+}
+
+/// Adds the rows that came by a moment.
+pub(crate) fn add_rows(
+    stamps: &mut Vec<Stamps>,
+    state: &State,
+    moment: u32,
+) -> Result<(), AllocError>
+    requires rows { length stamps.old.items ≤ length state.now.table }
+    requires formed { WellFormed state.now }
+    ensures ok { OnOk result (stamps.new.items ≡ stamps.old.items ++ replicate (length state.now.table - length stamps.old.items) (new_stamps moment)) }
+{
+    for row in stamps.len()..MOST_ROWS {
+        if state.value(Place::Request(row as u32)).is_none() {
+            return Ok(());
+        }
+        stamps.push(Stamps {
+            queued: moment,
+            issued: None,
+            ended: None,
+        })?;
+    }
+    Ok(())
+}
+
+// Notes the moment of a row.
+fn stamp_row(stamps: &mut Vec<Stamps>, state: &State, row: u32, moment: u32)
+    requires { length stamps.old.items ≡ length state.now.table }
+    ensures value { stamps.new.items ≡ stamp_row state.now.table moment stamps.old.items row }
+    ensures len { length stamps.new.items ≡ length stamps.old.items }
+{
+    if let Some(Value::Requested(found)) = state.value(Place::Request(row)) {
+        let before = stamps[row as usize];
+        stamps[row as usize] = stamped(before, found.phase, moment);
+    }
+}
+
+/// Notes the moment behind a step, of all rows that its record names.
+pub(crate) fn stamp_changes(stamps: &mut Vec<Stamps>, past: &Record, state: &State, moment: u32)
+    requires { length stamps.old.items ≡ length state.now.table }
+    ensures { stamps.new.items ≡ stamp_changes state.now.table moment past.now stamps.old.items }
+{
+    let mut rest = past.changes();
+    while let Some(change) = rest.next() {
+        if let Place::Request(row) = change.place {
+            stamp_row(stamps, state, row, moment);
+        }
+    }
+}

@@ -1,0 +1,15 @@
+//! A run as a picture: a page for a browser, or trace events, which Perfetto and chrome://tracing open.
+#![tactic(auto)]
+
+mod drawing;
+mod fault;
+mod page;
+mod parts;
+mod picture_parts;
+mod row_parts;
+mod telling;
+mod trace_events;
+mod writing;
+
+pub use drawing::{Picture, Window, draw_run, picture_of};
+pub use fault::TimelineFault;

@@ -1,0 +1,71 @@
+//! What a page is told, as JSON. Numbers that may pass 2^53 are texts: a browser reads the others as they are.
+
+use courses::Filling;
+use serde::Serialize;
+use std::alloc::{AllocError, Global};
+
+/// An event in the words of a schedule, and the lines of what it changed, as `log` tells them.
+#[derive(Drop, Serialize)]
+pub struct StepPart {
+    pub event: String,
+    pub changes: Vec<String>,
+}
+
+/// A row: what it asks for, when it was queued, issued and ended, and with which result.
+#[derive(Drop, Serialize)]
+pub struct RowPart {
+    pub row: u32,
+    pub name: &'static str,
+    pub op: u8,
+    pub flags: u8,
+    pub fd: i32,
+    pub off: String,
+    pub addr: String,
+    pub len: u32,
+    pub user: String,
+    /// The first row of its chain.
+    pub unit: u32,
+    /// The row that it guards.
+    pub target: Option<u32>,
+    pub queued: u32,
+    pub issued: Option<u32>,
+    pub ended: Option<u32>,
+    pub result: Option<i32>,
+}
+
+/// How full the two rings and the backlog are, and the clock.
+#[derive(Drop, Serialize)]
+pub struct FillingPart(pub u32, pub u32, pub u32, pub String);
+
+/// All that a page shows.
+#[derive(Drop, Serialize)]
+pub struct PagePart<'a> {
+    pub run: &'a str,
+    /// The first event that is shown.
+    pub from: u32,
+    /// Behind the last one.
+    pub to: u32,
+    pub events: u32,
+    /// The sizes of the rings.
+    pub entries: u32,
+    pub completions: u32,
+    /// What each thread does at the first event.
+    pub stages: Vec<String>,
+    pub poller: Option<String>,
+    /// Each thread's instructions.
+    pub programs: Vec<Vec<String>>,
+    pub steps: Vec<StepPart>,
+    /// From the moment before the first event to that behind the last.
+    pub fillings: Vec<FillingPart>,
+    pub rows: Vec<RowPart>,
+}
+
+pub(crate) fn filling_part(alloc: Global, filling: Filling) -> Result<FillingPart, AllocError> {
+    let clock = filling.clock;
+    Ok(FillingPart(
+        filling.submissions,
+        filling.completions,
+        filling.kept,
+        format!(in alloc; "{clock}")?,
+    ))
+}

@@ -1,0 +1,265 @@
+//! What a followed run gives its pictures.
+
+use crate::parts::{FillingPart, PagePart, RowPart, StepPart, filling_part};
+use crate::row_parts::{program_part, row_part};
+use crate::telling::steps_of;
+use crate::trace_events::{Slice, add_filling, add_link, add_row, add_slice, begin, end};
+use courses::{Course, Filling, Followed, Standing};
+use entries::Row;
+use machine::{Setup, ring_size};
+use places::Value;
+use run_log::EventRange;
+use scenario::completion_entries;
+use std::alloc::{AllocError, Global};
+
+// The end of a range of so many events.
+fn end_of(range: EventRange, count: usize) -> u32 {
+    match range.to {
+        Some(to) => to,
+        None => count.min(u32::MAX as usize) as u32,
+    }
+}
+
+// Whether a row stands between two moments.
+fn is_within(part: &RowPart, from: u32, to: u32) -> bool {
+    part.queued <= to
+        && match part.ended {
+            Some(ended) => from <= ended,
+            None => true,
+        }
+}
+
+// The rows that stand between two moments.
+fn row_parts(
+    alloc: Global,
+    rows: &[Row],
+    course: &Course,
+    from: u32,
+    to: u32,
+) -> Result<Vec<RowPart>, AllocError> {
+    let mut parts = Vec::new(alloc);
+    for (number, (row, stamps)) in rows.iter().zip(course.stamps.iter()).enumerate() {
+        let part = row_part(alloc, number.min(65535) as u32, row, *stamps)?;
+        if is_within(&part, from, to) {
+            parts.push(part)?;
+        }
+    }
+    Ok(parts)
+}
+
+// How full it is at the moments of a range.
+fn fillings_in(course: &Course, from: u32, to: u32) -> &[Filling] {
+    let fillings = course.fillings.as_slice();
+    let end = fillings.len().min(to as usize + 1);
+    let begin = end.min(from as usize);
+    &fillings[begin..end]
+}
+
+fn filling_parts(alloc: Global, fillings: &[Filling]) -> Result<Vec<FillingPart>, AllocError> {
+    let mut parts = Vec::new(alloc);
+    for filling in fillings {
+        parts.push(filling_part(alloc, *filling)?)?;
+    }
+    Ok(parts)
+}
+
+fn programs(alloc: Global, setup: &Setup) -> Result<Vec<Vec<String>>, AllocError> {
+    let mut texts = Vec::new(alloc);
+    for program in setup.threads.as_slice() {
+        texts.push(program_part(alloc, program.as_slice())?)?;
+    }
+    Ok(texts)
+}
+
+// What a thread does next, as `show` tells it.
+fn stage_texts(alloc: Global, standing: &Standing) -> Result<Vec<String>, AllocError> {
+    let mut texts = Vec::new(alloc);
+    for stage in &standing.stages {
+        let text = Value::Staged(*stage).text(alloc)?;
+        texts.push(String::from_utf8_lossy(alloc, text.as_slice())?)?;
+    }
+    Ok(texts)
+}
+
+// Whether the poller is awake, if there is one.
+fn poller_text(alloc: Global, standing: &Standing) -> Result<Option<String>, AllocError> {
+    match standing.awake {
+        Some(awake) => {
+            let text = Value::Awake(awake).text(alloc)?;
+            Ok(Some(String::from_utf8_lossy(alloc, text.as_slice())?))
+        }
+        None => Ok(None),
+    }
+}
+
+/// All that the page of a run shows.
+pub(crate) fn page_part<'a>(
+    alloc: Global,
+    run: &'a str,
+    setup: &Setup,
+    range: EventRange,
+    followed: &Followed,
+    log: &[u8],
+) -> Result<PagePart<'a>, AllocError> {
+    let course = &followed.course;
+    let count = course.fillings.len().saturating_sub(1);
+    let from = range.from;
+    let to = end_of(range, count);
+    let standing = &followed.standing;
+    Ok(PagePart {
+        run,
+        from,
+        to,
+        events: count.min(u32::MAX as usize) as u32,
+        entries: ring_size(setup.entries),
+        completions: ring_size(completion_entries(setup.entries, setup.cq)),
+        stages: stage_texts(alloc, standing)?,
+        poller: poller_text(alloc, standing)?,
+        programs: programs(alloc, setup)?,
+        steps: steps_of(alloc, log)?,
+        fillings: filling_parts(alloc, fillings_in(course, from, to))?,
+        rows: row_parts(alloc, &followed.rows, course, from, to)?,
+    })
+}
+
+// The event that led to a moment, if it is among those whose tracks are given.
+fn slice_before(tracks: &[u32], from: u32, moment: Option<u32>) -> Option<Slice> {
+    let event = moment?.checked_sub(1)?;
+    let index = event.checked_sub(from)? as usize;
+    match tracks.get(index) {
+        Some(track) => Some(Slice {
+            track: *track,
+            moment: event,
+        }),
+        None => None,
+    }
+}
+
+// Which of the rows before one is linked to it: guards stand between.
+fn linked_before(parts: &[RowPart], index: usize) -> Option<usize> {
+    let part = parts.get(index)?;
+    let before = index.checked_sub(1)?;
+    let other = parts.get(before)?;
+    if part.target.is_some() || other.unit != part.unit {
+        return None;
+    }
+    match other.target {
+        Some(_) => before.checked_sub(1),
+        None => Some(before),
+    }
+}
+
+// Adds the link of a row to the one before it.
+fn add_link_to(
+    alloc: Global,
+    out: &mut Vec<u8>,
+    before: &RowPart,
+    part: &RowPart,
+    tracks: &[u32],
+    from: u32,
+) -> Result<(), AllocError> {
+    let ended = slice_before(tracks, from, before.ended);
+    let went_on = slice_before(tracks, from, part.issued.or(part.ended));
+    match (ended, went_on) {
+        (Some(ended), Some(went_on)) => add_link(alloc, out, before.row, ended, went_on),
+        _ => Ok(()),
+    }
+}
+
+// Adds the links between rows.
+fn add_links(
+    alloc: Global,
+    out: &mut Vec<u8>,
+    parts: &[RowPart],
+    tracks: &[u32],
+    from: u32,
+) -> Result<(), AllocError> {
+    for (index, part) in parts.iter().enumerate() {
+        if let Some(before) = linked_before(parts, index) {
+            if let Some(other) = parts.get(before) {
+                add_link_to(alloc, out, other, part, tracks, from)?;
+            }
+        }
+    }
+    Ok(())
+}
+
+// The clock at a moment of a range.
+fn clock_at(fillings: &[Filling], index: usize) -> u64 {
+    match fillings.get(index) {
+        Some(filling) => filling.clock,
+        None => 0,
+    }
+}
+
+// Adds the events of a run as slices, and gives their tracks.
+fn add_slices(
+    alloc: Global,
+    out: &mut Vec<u8>,
+    steps: &[StepPart],
+    fillings: &[Filling],
+    from: u32,
+) -> Result<Vec<u32>, AllocError> {
+    let mut tracks = Vec::new(alloc);
+    let mut moment = from;
+    for (index, step) in steps.iter().enumerate() {
+        let track = add_slice(alloc, out, moment, step, clock_at(fillings, index))?;
+        tracks.push(track)?;
+        moment = moment.saturating_add(1);
+    }
+    Ok(tracks)
+}
+
+// Adds how full it is at the moments of a range.
+fn add_fillings(
+    alloc: Global,
+    out: &mut Vec<u8>,
+    fillings: &[Filling],
+    from: u32,
+) -> Result<(), AllocError> {
+    let mut moment = from;
+    for filling in fillings {
+        add_filling(alloc, out, moment, *filling)?;
+        moment = moment.saturating_add(1);
+    }
+    Ok(())
+}
+
+// Adds rows up to a moment.
+fn add_rows(
+    alloc: Global,
+    out: &mut Vec<u8>,
+    parts: &[RowPart],
+    last: u32,
+) -> Result<(), AllocError> {
+    for part in parts {
+        add_row(alloc, out, part, last)?;
+    }
+    Ok(())
+}
+
+/// The trace events of a run.
+pub(crate) fn trace_file(
+    alloc: Global,
+    run: &str,
+    setup: &Setup,
+    range: EventRange,
+    followed: &Followed,
+    log: &[u8],
+) -> Result<Vec<u8>, AllocError> {
+    let course = &followed.course;
+    let from = range.from;
+    let to = end_of(range, course.fillings.len());
+    let fillings = fillings_in(course, from, to);
+    let steps = steps_of(alloc, log)?;
+    let parts = row_parts(alloc, &followed.rows, course, from, to)?;
+    let mut out = Vec::new(alloc);
+    let has_poller = followed.standing.awake.is_some();
+    begin(alloc, &mut out, run, setup.threads.len(), has_poller)?;
+    let tracks = add_slices(alloc, &mut out, &steps, fillings, from)?;
+    add_fillings(alloc, &mut out, fillings, from)?;
+    add_rows(alloc, &mut out, &parts, to)?;
+    add_links(alloc, &mut out, &parts, &tracks, from)?;
+    end(&mut out)?;
+    Ok(out)
+}

@@ -1,0 +1,100 @@
+//! Rows and programs, as a page is told them.
+
+use crate::parts::RowPart;
+use courses::Stamps;
+use entries::{Phase, Row, Sqe};
+use machine::Instruction;
+use opcodes::Op;
+use std::alloc::{AllocError, Global};
+
+/// The name of an opcode (io_uring_enter(2)).
+pub(crate) fn name_of(opcode: u8) -> &'static str {
+    match Op::of(opcode) {
+        Some(Op::Nop) => "NOP",
+        Some(Op::Fsync) => "FSYNC",
+        Some(Op::PollAdd) => "POLL_ADD",
+        Some(Op::PollRemove) => "POLL_REMOVE",
+        Some(Op::Timeout) => "TIMEOUT",
+        Some(Op::TimeoutRemove) => "TIMEOUT_REMOVE",
+        Some(Op::AsyncCancel) => "ASYNC_CANCEL",
+        Some(Op::LinkTimeout) => "LINK_TIMEOUT",
+        Some(Op::Read) => "READ",
+        Some(Op::Write) => "WRITE",
+        None => "unknown",
+    }
+}
+
+/// The result of a row that has ended.
+pub(crate) fn result_of(phase: Phase) -> Option<i32> {
+    match phase {
+        Phase::Ended(result) => Some(result),
+        Phase::Queued | Phase::Issued => None,
+    }
+}
+
+fn text(alloc: Global, number: u64) -> Result<String, AllocError> {
+    format!(in alloc; "{number}")
+}
+
+/// A row with its number and its moments.
+pub(crate) fn row_part(
+    alloc: Global,
+    number: u32,
+    row: &Row,
+    stamps: Stamps,
+) -> Result<RowPart, AllocError> {
+    Ok(RowPart {
+        row: number,
+        name: name_of(row.entry.opcode),
+        op: row.entry.opcode,
+        flags: row.entry.flags,
+        fd: row.entry.fd,
+        off: text(alloc, row.entry.off)?,
+        addr: text(alloc, row.entry.addr)?,
+        len: row.entry.len,
+        user: text(alloc, row.entry.user_data)?,
+        unit: row.unit,
+        target: row.target,
+        queued: stamps.queued,
+        issued: stamps.issued,
+        ended: stamps.ended,
+        result: result_of(row.phase),
+    })
+}
+
+fn put_text(alloc: Global, slot: u32, entry: &Sqe) -> Result<String, AllocError> {
+    let name = name_of(entry.opcode);
+    let user = entry.user_data;
+    format!(in alloc; "put {slot} {name} user_data {user}")
+}
+
+// An instruction in the words of a script, without bytes.
+fn instruction_text(alloc: Global, instruction: &Instruction) -> Result<String, AllocError> {
+    match instruction {
+        Instruction::Put(slot, entry) => put_text(alloc, *slot, entry),
+        Instruction::Push(slot) => format!(in alloc; "push {slot}"),
+        Instruction::Store(address, bytes) => {
+            let count = bytes.len();
+            format!(in alloc; "store {address} ({count} bytes)")
+        }
+        Instruction::Enter {
+            to_submit,
+            min_complete,
+            flags,
+        } => format!(in alloc; "enter {to_submit} {min_complete} {flags}"),
+        Instruction::Reap => format!(in alloc; "reap"),
+        Instruction::Close(fd) => format!(in alloc; "close {fd}"),
+    }
+}
+
+/// A thread's program.
+pub(crate) fn program_part(
+    alloc: Global,
+    program: &[Instruction],
+) -> Result<Vec<String>, AllocError> {
+    let mut texts = Vec::new(alloc);
+    for instruction in program {
+        texts.push(instruction_text(alloc, instruction)?)?;
+    }
+    Ok(texts)
+}

@@ -1,0 +1,250 @@
+//! The trace event format, which Perfetto and chrome://tracing open. A moment is a microsecond.
+
+use crate::parts::{RowPart, StepPart};
+use courses::Filling;
+use serde::Serialize;
+use std::alloc::{AllocError, Global};
+
+/// The track of the poller. Threads have those from 1 on.
+const POLLER: u32 = 17;
+
+/// The track of what the kernel does to rows.
+const KERNEL: u32 = 18;
+
+/// The track of the clock.
+const CLOCK: u32 = 19;
+
+/// A place in the run: a track, and a moment.
+#[derive(Clone, Copy)]
+pub(crate) struct Slice {
+    pub track: u32,
+    pub moment: u32,
+}
+
+type Added = Result<(), AllocError>;
+
+// A value as JSON.
+fn json<T: Serialize>(alloc: Global, value: &T) -> Result<String, AllocError> {
+    match serde_json::to_string(alloc, value) {
+        Ok(text) => Ok(text),
+        Err(_) => Err(AllocError),
+    }
+}
+
+// Adds an event of the format behind others, by its members.
+fn add(out: &mut Vec<u8>, members: &str) -> Added {
+    out.extend_from_slice(b",\n{\"pid\":1,")?;
+    out.extend_from_slice(members.as_bytes())?;
+    out.extend_from_slice(b"}")
+}
+
+// Adds the name of a track.
+fn add_track(alloc: Global, out: &mut Vec<u8>, track: u32, name: &str) -> Added {
+    let members = format!(in alloc;
+        "\"ph\":\"M\",\"name\":\"thread_name\",\"tid\":{track},\"args\":{{\"name\":\"{name}\"}}"
+    )?;
+    add(out, members.as_str())
+}
+
+fn add_thread(alloc: Global, out: &mut Vec<u8>, thread: u32) -> Added {
+    let name = format!(in alloc; "thread {thread}")?;
+    add_track(alloc, out, thread.saturating_add(1), name.as_str())
+}
+
+/// Begins a file: the name of the run, and of the tracks of its threads and of the poller if it has one.
+pub(crate) fn begin(
+    alloc: Global,
+    out: &mut Vec<u8>,
+    run: &str,
+    threads: usize,
+    has_poller: bool,
+) -> Added {
+    let run = json(alloc, &run)?;
+    out.extend_from_slice(b"{\"displayTimeUnit\":\"ns\",\"traceEvents\":[\n")?;
+    out.extend_from_slice(
+        b"{\"pid\":1,\"ph\":\"M\",\"name\":\"process_name\",\"args\":{\"name\":",
+    )?;
+    out.extend_from_slice(run.as_bytes())?;
+    out.extend_from_slice(b"}}")?;
+    for thread in 0..threads.min(16) as u32 {
+        add_thread(alloc, out, thread)?;
+    }
+    if has_poller {
+        add_track(alloc, out, POLLER, "poller")?;
+    }
+    add_track(alloc, out, KERNEL, "kernel")?;
+    add_track(alloc, out, CLOCK, "clock")
+}
+
+/// Ends a file.
+pub(crate) fn end(out: &mut Vec<u8>) -> Added {
+    out.extend_from_slice(b"\n]}\n")
+}
+
+// The track of a thread, by its number in an event.
+fn track_of_thread(number: &str) -> u32 {
+    match number.parse::<u32>() {
+        Ok(thread) => thread.min(15) + 1,
+        Err(_) => KERNEL,
+    }
+}
+
+// The track of an event, by its words.
+fn track_of(words: &str) -> u32 {
+    let Some((word, number)) = words.split_once(' ') else {
+        return POLLER;
+    };
+    match word {
+        "step" => track_of_thread(number),
+        "take" => POLLER,
+        "tick" => CLOCK,
+        _ => KERNEL,
+    }
+}
+
+/// Adds an event of the run, as a slice from its moment to the next, and says on which track.
+pub(crate) fn add_slice(
+    alloc: Global,
+    out: &mut Vec<u8>,
+    index: u32,
+    step: &StepPart,
+    clock: u64,
+) -> Result<u32, AllocError> {
+    let track = track_of(step.event.as_str());
+    let name = json(alloc, &step.event)?;
+    let changes = json(alloc, &step.changes)?;
+    let members = format!(in alloc;
+        "\"ph\":\"X\",\"name\":{name},\"cat\":\"event\",\"tid\":{track},\"ts\":{index},\"dur\":1,\"args\":{{\"event\":{index},\"clock\":{clock},\"changes\":{changes}}}"
+    )?;
+    add(out, members.as_str())?;
+    Ok(track)
+}
+
+// Adds how many of some things wait at a moment, as a counter.
+fn add_counter(alloc: Global, out: &mut Vec<u8>, name: &str, moment: u32, waiting: u32) -> Added {
+    let members = format!(in alloc;
+        "\"ph\":\"C\",\"name\":\"{name}\",\"ts\":{moment},\"args\":{{\"waiting\":{waiting}}}"
+    )?;
+    add(out, members.as_str())
+}
+
+/// Adds how full the rings and the backlog are at a moment.
+pub(crate) fn add_filling(
+    alloc: Global,
+    out: &mut Vec<u8>,
+    moment: u32,
+    filling: Filling,
+) -> Added {
+    add_counter(alloc, out, "submission ring", moment, filling.submissions)?;
+    add_counter(alloc, out, "completion ring", moment, filling.completions)?;
+    add_counter(alloc, out, "backlog", moment, filling.kept)
+}
+
+// Adds an end of an asynchronous slice of a row, with its arguments.
+fn add_end(
+    alloc: Global,
+    out: &mut Vec<u8>,
+    kind: &str,
+    name: &str,
+    row: u32,
+    moment: u32,
+    arguments: &str,
+) -> Added {
+    let members = format!(in alloc;
+        "\"ph\":\"{kind}\",\"cat\":\"row\",\"id\":{row},\"tid\":18,\"ts\":{moment},\"name\":\"{name}\",\"args\":{{{arguments}}}"
+    )?;
+    add(out, members.as_str())
+}
+
+// Adds how long a row was in a phase, which has ended by another moment if there is one.
+fn add_phase(
+    alloc: Global,
+    out: &mut Vec<u8>,
+    phase: &str,
+    row: u32,
+    from: u32,
+    to: Option<u32>,
+) -> Added {
+    add_end(alloc, out, "b", phase, row, from, "")?;
+    match to {
+        Some(to) => add_end(alloc, out, "e", phase, row, to, ""),
+        None => Ok(()),
+    }
+}
+
+// What a row asks for.
+fn asked(alloc: Global, part: &RowPart) -> Result<String, AllocError> {
+    let user = part.user.as_str();
+    let unit = part.unit;
+    let fd = part.fd;
+    let off = part.off.as_str();
+    let addr = part.addr.as_str();
+    let len = part.len;
+    let flags = part.flags;
+    format!(in alloc;
+        "\"user_data\":\"{user}\",\"unit\":{unit},\"fd\":{fd},\"off\":\"{off}\",\"addr\":\"{addr}\",\"len\":{len},\"flags\":{flags}"
+    )
+}
+
+// A moment, if it isn't behind another.
+fn up_to(last: u32, moment: Option<u32>) -> Option<u32> {
+    match moment {
+        Some(moment) if moment <= last => Some(moment),
+        _ => None,
+    }
+}
+
+// Adds the end of a row.
+fn add_row_end(alloc: Global, out: &mut Vec<u8>, part: &RowPart, name: &str, moment: u32) -> Added {
+    let result = part.result.unwrap_or(0);
+    let arguments = format!(in alloc; "\"result\":{result}")?;
+    add_end(alloc, out, "e", name, part.row, moment, arguments.as_str())
+}
+
+/// Adds a row as an asynchronous slice, and within it how long it was queued and issued. What comes behind the
+/// last moment is left out.
+pub(crate) fn add_row(alloc: Global, out: &mut Vec<u8>, part: &RowPart, last: u32) -> Added {
+    let row = part.row;
+    let operation = part.name;
+    let name = format!(in alloc; "row {row} {operation}")?;
+    let arguments = asked(alloc, part)?;
+    let issued = up_to(last, part.issued);
+    let ended = up_to(last, part.ended);
+    add_end(
+        alloc,
+        out,
+        "b",
+        name.as_str(),
+        row,
+        part.queued,
+        arguments.as_str(),
+    )?;
+    add_phase(alloc, out, "queued", row, part.queued, issued.or(ended))?;
+    if let Some(issued) = issued {
+        add_phase(alloc, out, "issued", row, issued, ended)?;
+    }
+    match ended {
+        Some(ended) => add_row_end(alloc, out, part, name.as_str(), ended),
+        None => Ok(()),
+    }
+}
+
+/// Adds the flow from the event that ended a row to the one by which the next of its chain went on.
+pub(crate) fn add_link(
+    alloc: Global,
+    out: &mut Vec<u8>,
+    row: u32,
+    ended: Slice,
+    went_on: Slice,
+) -> Added {
+    let Slice { track, moment } = ended;
+    let from = format!(in alloc;
+        "\"ph\":\"s\",\"cat\":\"link\",\"name\":\"link\",\"id\":{row},\"tid\":{track},\"ts\":{moment}"
+    )?;
+    add(out, from.as_str())?;
+    let Slice { track, moment } = went_on;
+    let to = format!(in alloc;
+        "\"ph\":\"f\",\"bp\":\"e\",\"cat\":\"link\",\"name\":\"link\",\"id\":{row},\"tid\":{track},\"ts\":{moment}"
+    )?;
+    add(out, to.as_str())
+}

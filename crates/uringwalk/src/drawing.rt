@@ -1,0 +1,64 @@
+//! A picture of the run that a file holds, in a file.
+ghost use Rattle.std.specs.Prelude.{◌≡◌};
+ghost use Rattle.uringwalk.specs.Drawing.{told_as};
+
+use crate::{WHOLE_TRACE_AND_ONE, fail, told};
+use debug_server::{Fault, RunFault};
+use std::process::ExitCode;
+use std::rt::Files;
+use timeline::{TimelineFault, Window, draw_run, picture_of};
+use whole_files::{lead_to_one_file, read_file, write_file};
+
+/// The status of words that can't be followed.
+const WORDS: u8 = 2;
+
+/// What is told where OUT is another path of the run's file.
+const ONTO_RUN: &str = "error: OUT leads to RUN's own file: the picture would take the run's place";
+
+const NO_PICTURE: &str = "error: OUT ends in .html or .json";
+
+/// What a run that isn't drawn is told as; one of too many events, which words can mend, is told by them.
+pub fn fault_of_drawing(fault: TimelineFault) -> Fault
+    ensures { result ≡ told_as fault }
+{
+    Fault::Run(match fault {
+        TimelineFault::Script(fault) => RunFault::Script(fault),
+        TimelineFault::Trace(fault) => RunFault::Trace(fault),
+        TimelineFault::Schedule(index, refusal) => RunFault::Schedule(index, refusal),
+        TimelineFault::Long(_) | TimelineFault::Memory => RunFault::Memory,
+    })
+}
+
+// Tells that a run has too many events.
+fn refuse_long(rt: &impl Eprint, events: u32) -> ExitCode {
+    match eprintln!(rt;
+        "error: RUN has {events} events: more than 5000 are drawn with both --from and --to"
+    ) {
+        Ok(()) | Err(_) => ExitCode::from(WORDS),
+    }
+}
+
+/// Draws the events in the window, of the script or the trace in a file, and writes the picture to another. It
+/// gives the status that the program ends with.
+pub fn draw_file(
+    rt: &(impl Files + Eprint + AllocGlobal),
+    run: &str,
+    out: &str,
+    window: Window,
+) -> Result<ExitCode, Fault> {
+    let Some(picture) = picture_of(out) else {
+        return Ok(fail(rt, WORDS, &NO_PICTURE));
+    };
+    if lead_to_one_file(rt, run, out).map_err(told)? {
+        return Ok(fail(rt, WORDS, &ONTO_RUN));
+    }
+    let bytes = read_file(rt, run, WHOLE_TRACE_AND_ONE).map_err(told)?;
+    match draw_run(rt.alloc(), run, &bytes, window, picture) {
+        Ok(page) => {
+            write_file(rt, out, &page).map_err(told)?;
+            Ok(ExitCode::SUCCESS)
+        }
+        Err(TimelineFault::Long(events)) => Ok(refuse_long(rt, events)),
+        Err(fault) => Err(fault_of_drawing(fault)),
+    }
+}
