@@ -38,17 +38,18 @@ refused_from i m (e ∷ es) = if is_some (refusal m e) then Some i else refused_
 
 -- ---- what is said by it
 
--- The event at k is the first that doesn't stand in the other trace at its place: those before it do, and there stands another, or none.
-pub record IsTorn (es fs : List Event) (k : ℕ) : Type 0 where
+-- The event at an index is the first that doesn't stand in the other trace at its place: those before it do, and there
+-- stands another, or none.
+pub record IsTorn (events others : List Event) (index : ℕ) : Type 0 where
   pub event : Event
-  pub there : slice_get es k ≡ Some event
-  pub same : (i : ℕ) → i < k → slice_get es i ≡ slice_get fs i
-  pub differs : slice_get fs k ≢ Some event
+  pub there : slice_get events index ≡ Some event
+  pub same : (i : ℕ) → i < index → slice_get events i ≡ slice_get others i
+  pub differs : slice_get others index ≢ Some event
 
--- The event at k is the first that is refused in its turn: those before it run.
-pub record IsFirstRefused (m : Machine) (es : List Event) (k : ℕ) : Type 0 where
+-- The event at an index is the first that is refused in its turn: those before it run.
+pub record IsFirstRefused (start : Machine) (events : List Event) (index : ℕ) : Type 0 where
   pub event : Event
-  pub there : slice_get es k ≡ Some event
-  pub runs : Accepts m (take k es)
+  pub there : slice_get events index ≡ Some event
+  pub runs : Accepts start (take index events)
   pub reason : Refusal
-  pub refused : refusal (run m (take k es)) event ≡ Some reason
+  pub refused : refusal (run start (take index events)) event ≡ Some reason

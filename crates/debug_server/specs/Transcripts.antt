@@ -19,9 +19,9 @@ pub record Given : Type 0 where
 
 -- A line that asks takes the next one, if one is left. Any other line takes none.
 abbrev pub given_to : Bool → List Answer → Option Given
-given_to false ts = Some (record { answer = None; left = ts })
+given_to false answers = Some (record { answer = None; left = answers })
 given_to true [] = None
-given_to true (a ∷ ts) = Some (record { answer = a; left = ts })
+given_to true (answer ∷ answers) = Some (record { answer = answer; left = answers })
 
 -- What lines come to: the replies in a row, the session's state after them, whether one of them quit, and the answers that
 -- are left over, unless a line asked where none was left.
@@ -37,38 +37,38 @@ prepended text t = record { text = text ++ t.text; next = t.next; quits = t.quit
 
 -- nothing more is said
 abbrev pub ended : SessionState → Bool → Option (List Answer) → Transcript
-ended v q left = record { text = []; next = v; quits = q; left = left }
+ended state quits left = record { text = []; next = state; quits = quits; left = left }
 
 -- From a line on, with what it takes: its reply, and then what later lines come to, unless it quits. Nothing is said to a
 -- line that asks where no answer is left.
 abbrev pub line_on : SessionState → List ℕ → Option Given → (SessionState → List Answer → Transcript) → Transcript
-line_on v l None later = ended v false None
-line_on v l (Some g) later =
-    let r : Reply = reply v l g.answer in
-    prepended r.text (if r.quits then ended r.next true (Some g.left) else later r.next g.left)
+line_on state line None later = ended state false None
+line_on state line (Some given) later =
+    let r : Reply = reply state line given.answer in
+    prepended r.text (if r.quits then ended r.next true (Some given.left) else later r.next given.left)
 
 -- The transcript over some lines, up to one that quits, or to one that asks the source where no answer is left.
 abbrev pub transcript : SessionState → List (List ℕ) → List Answer → Transcript
-transcript v [] ts = ended v false (Some ts)
-transcript v (l ∷ ls) ts = line_on v l (given_to (asks l) ts) (λ w us. transcript w ls us)
+transcript state [] answers = ended state false (Some answers)
+transcript state (line ∷ lines) answers = line_on state line (given_to (asks line) answers) (λ next left. transcript next lines left)
 
 -- the replies in a row
 abbrev pub output : SessionState → List (List ℕ) → List Answer → List ℕ
-output v ls ts = (transcript v ls ts).text
+output state lines answers = (transcript state lines answers).text
 
 -- The source gave just these answers, in order.
 abbrev pub Asked : {S : Type 0} → (S → Answer → S → Type 0) → S → List Answer → S → Type 0
 Asked gives before [] after = after ≡ before
-Asked {S} gives before (a ∷ ts) after = (mid : S) × gives before a mid × Asked gives mid ts after
+Asked {S} gives before (answer ∷ answers) after = (next : S) × gives before answer next × Asked gives next answers after
 
 -- Each answer is that there is no source.
 abbrev pub Unanswered : List Answer → Type 0
 Unanswered [] = Unit {0}
-Unanswered (a ∷ ts) = (a ≡ None) × Unanswered ts
+Unanswered (answer ∷ answers) = (answer ≡ None) × Unanswered answers
 
 -- no source, whichever of the lines asks
 abbrev pub unanswered : List (List ℕ) → List Answer
-unanswered ls = map (λ l. None) ls
+unanswered lines = map (λ line. None) lines
 
 -- What is known of a session's reader and of its writer: the bytes that the one has left, and those that the other holds.
 pub record Streams : Type 0 where

@@ -11,21 +11,21 @@ use Rattle.debug_server.specs.declared.faults.RunFault.{RunFault}
 use Rattle.debug_server.specs.declared.faults.RunFault.TheVariants.{Serve}
 use Rattle.debug_server.specs.declared.faults.ServeFault.{ServeFault}
 
--- A session replied to what was read.
-pub record Replied (v : SessionState) (before after : Streams) : Type 0 where
+-- A session without a source replied to what was read.
+pub record Replied (start : SessionState) (before after : Streams) : Type 0 where
   pub answers : List Answer
   pub unanswered : Unanswered answers
   pub next : SessionState
   pub quits : Bool
-  pub served : Served v before after answers next quits
+  pub served : Served start before after answers next quits
 
--- A fault of serving broke its replies off.
-pub record BrokenBy (v : SessionState) (before after : Streams) (e : RunFault) : Type 0 where
+-- A fault of serving broke its replies off, and is told as a run's.
+pub record BrokenBy (start : SessionState) (before after : Streams) (run_fault : RunFault) : Type 0 where
   pub fault : ServeFault
-  pub told : e ≡ Serve fault
+  pub told : run_fault ≡ Serve fault
   pub answers : List Answer
   pub unanswered : Unanswered answers
-  pub broke : Broke v before after answers fault
+  pub broke : Broke start before after answers fault
 
 -- The events run from the setup, and the session that stands at their end replied to what was read.
 pub record Walked (setup : Setup) (events : List Event) (before after : Streams) : Type 0 where

@@ -4,7 +4,7 @@ use Rattle.findings.proofs.leftover.add_all_left.Goals as goal
 
 pub loop-number-preserved : goal.loop-number-preserved
 loop-number-preserved c =
-    left_more _ c.loop-number.number _ _ _ c.loop-number.found.items c.add_left.new.found.items (sym c.in-Some.ensures.row) c.in_ok-add_left.ensures c.loop-number.invariant
+    left_more _ c.loop-number.number _ _ _ c.loop-number.found.items c.add_left.new.found.items (sym c.in-Some.ensures.row) c.in_ok-add_left-in-Some.ensures c.loop-number.invariant
 
 pub returns-in-None : goal.returns-in-None
 returns-in-None c = left_whole _ c.loop-number.number _ _ c.loop-number.found.items (none_behind _ c.loop-number.number (sym c.in-None.ensures.row)) c.loop-number.invariant
