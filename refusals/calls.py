@@ -18,11 +18,17 @@ def answers(done):
     return tuple(told[0:2]), tuple(told[2:4]), tuple(told[4:6]), tuple(told[6:8]), tuple(told[8:10])
 
 
+def order_of(answer):
+    """By which the answers to growths that are refused one after the other rise: a run that can't be served (4) comes before one
+    that ends as it is (3), and an event before those behind it."""
+    return -answer[0], answer[1]
+
+
 def check_refused(situation, done, before):
     """Looks at a call that met a refusal. Returns its answer."""
     answer, again, first, stood, left = answers(done)
     if situation.rising:
-        require(answer >= before, f"answer {answer} comes behind {before}")
+        require(before is None or order_of(answer) >= order_of(before), f"answer {answer} comes behind {before}")
     if situation.refused is None:
         require(answer[0] == 2, f"answer {answer}")
     else:
@@ -68,7 +74,7 @@ def try_situation(room, situation):
     require(count > 0, "it met no refusal")
     numbers, refusals = numbers_of(count), 0
     for how in ("one", "all"):
-        before = (0, 0)
+        before = None
         for number in numbers:
             try:
                 done, reached, _ = room.ran(situation_words(room, situation, number), "growth", how, None, given)
