@@ -7,6 +7,8 @@ from room import Wrong, note_of, numbers_of, require
 
 # Less than this was not compared of a state.
 LEAST_PLACES = 65536
+# Up to here a growth is refused with all later ones too.
+MOST_OF_ALL = 100
 ANSWERS = re.compile(r"answer (\d+) (\d+), again (\d+) (\d+), first (\d+) (\d+)\ndiffer (\d+) of (\d+), then (\d+) of (\d+)\n$")
 
 
@@ -72,10 +74,11 @@ def try_situation(room, situation):
     done, reached, count = room.ran(situation_words(room, situation, 0), "growth", "one", None, given)
     check_unrefused(situation, done)
     require(count > 0, "it met no refusal")
-    numbers, refusals = numbers_of(count), 0
-    for how in ("one", "all"):
+    numbers, runs, refusals = numbers_of(count), 2, 0
+    for how, most in (("one", count), ("all", MOST_OF_ALL)):
         before = None
-        for number in numbers:
+        for number in (each for each in numbers if each <= most):
+            runs += 1
             try:
                 done, reached, _ = room.ran(situation_words(room, situation, number), "growth", how, None, given)
                 require(reached, "it was not reached")
@@ -89,4 +92,4 @@ def try_situation(room, situation):
     done, reached, _ = room.ran(situation_words(room, situation, count + 1), "growth", "one", None, given)
     require(not reached, f"behind growth {count} there is another")
     check_unrefused(situation, done)
-    return 2 * len(numbers) + 2, refusals, note_of(numbers, count)
+    return runs, refusals, note_of(numbers, count)
