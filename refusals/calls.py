@@ -7,6 +7,8 @@ from room import Wrong, note_of, numbers_of, require
 
 # Less than this was not compared of a state.
 LEAST_PLACES = 65536
+# Up to here a growth is refused with all later ones too.
+MOST_OF_ALL = 100
 ANSWERS = re.compile(r"answer (\d+) (\d+), again (\d+) (\d+), first (\d+) (\d+)\ndiffer (\d+) of (\d+), then (\d+) of (\d+)\n$")
 
 
@@ -18,11 +20,17 @@ def answers(done):
     return tuple(told[0:2]), tuple(told[2:4]), tuple(told[4:6]), tuple(told[6:8]), tuple(told[8:10])
 
 
+def order_of(answer):
+    """By which the answers to growths that are refused one after the other rise: a run that can't be served (4) comes before one
+    that ends as it is (3), and an event before those behind it."""
+    return -answer[0], answer[1]
+
+
 def check_refused(situation, done, before):
     """Looks at a call that met a refusal. Returns its answer."""
     answer, again, first, stood, left = answers(done)
     if situation.rising:
-        require(answer >= before, f"answer {answer} comes behind {before}")
+        require(before is None or order_of(answer) >= order_of(before), f"answer {answer} comes behind {before}")
     if situation.refused is None:
         require(answer[0] == 2, f"answer {answer}")
     else:
@@ -66,10 +74,11 @@ def try_situation(room, situation):
     done, reached, count = room.ran(situation_words(room, situation, 0), "growth", "one", None, given)
     check_unrefused(situation, done)
     require(count > 0, "it met no refusal")
-    numbers, refusals = numbers_of(count), 0
-    for how in ("one", "all"):
-        before = (0, 0)
-        for number in numbers:
+    numbers, runs, refusals = numbers_of(count), 2, 0
+    for how, most in (("one", count), ("all", MOST_OF_ALL)):
+        before = None
+        for number in (each for each in numbers if each <= most):
+            runs += 1
             try:
                 done, reached, _ = room.ran(situation_words(room, situation, number), "growth", how, None, given)
                 require(reached, "it was not reached")
@@ -83,4 +92,4 @@ def try_situation(room, situation):
     done, reached, _ = room.ran(situation_words(room, situation, count + 1), "growth", "one", None, given)
     require(not reached, f"behind growth {count} there is another")
     check_unrefused(situation, done)
-    return 2 * len(numbers) + 2, refusals, note_of(numbers, count)
+    return runs, refusals, note_of(numbers, count)
