@@ -80,6 +80,9 @@ fn texts_of_faults(rt: HostRuntime) {
     let memory = LiveFault::Setup(SetupRefusal::Memory);
     check(&rt, is_line(rt.alloc(), Fault::File, "fault file"));
     check(&rt, is_live_line(rt.alloc(), memory, "fault memory"));
-    check(&rt, is_live_line(rt.alloc(), LiveFault::Torn(3), "fault torn"));
+    check(
+        &rt,
+        is_live_line(rt.alloc(), LiveFault::Torn(3), "fault torn"),
+    );
     check_none(&rt, wrong_line(rt.alloc()));
 }
