@@ -33,7 +33,7 @@ pub fn serve_clients<L: Ledger + Send + Sync, R: Threads + Wait + Sync>(
     lock: &Mutex<Live<L>>,
     sessions: Option<u32>,
 ) -> Result<u32, RunFault>
-    ensures count { IfOk result (λ n. (most : _) → sessions ≡ Some most → n ≡ most) }
+    ensures count { IfOk result (λ n. sessions ≡ Some n) }
     ensures other { IfErr result (IsOf (OfMemory ∷ OfListening ∷ [])) }
 {
     let Ok((permits, pass)) = Permits::new(rt, alloc, MOST_CLIENTS) else {
@@ -45,7 +45,7 @@ pub fn serve_clients<L: Ledger + Send + Sync, R: Threads + Wait + Sync>(
         rt,
         |scope| -> Result<u32, RunFault>
             requires { IsSeatAt (sends_on permits.now.sender) pass }
-            ensures { IfOk result (λ n. (most : _) → sessions ≡ Some most → n ≡ most)
+            ensures { IfOk result (λ n. sessions ≡ Some n)
                 × IfErr result (IsOf (OfMemory ∷ OfListening ∷ [])) }
         {
             accept_all(
@@ -68,7 +68,7 @@ fn accept_all<'s, E, L: Ledger + Send + Sync + 's, R: Wait + Sync + 's>(
     sessions: Option<u32>,
 ) -> Result<u32, RunFault>
     requires { IsSeatAt (sends_on permits.now.sender) pass }
-    ensures count { IfOk result (λ n. (most : _) → sessions ≡ Some most → n ≡ most) }
+    ensures count { IfOk result (λ n. sessions ≡ Some n) }
     ensures other { IfErr result (IsOf (OfMemory ∷ OfListening ∷ [])) }
 {
     let mut begun: u32 = 0;

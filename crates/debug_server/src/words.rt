@@ -47,7 +47,7 @@ const LIVE: &str =
     "A thread runs each thread of the script, the poller if there is one, and each kernel worker, all side by side; the script's schedule isn't run. It prints how many events there were, as closed E, and then answers commands as walk does. Another run may go another way: OUT keeps this one, for replay. Example:\n  uringwalk live examples/words_in_a_pipe/script.json --trace words.trace <examples/words_in_a_pipe/stdin\n  echo where | uringwalk replay words.trace";
 
 const SERVE: &str =
-    "The script's threads, the poller if there is one, and the kernel workers run as live runs them. It listens on 127.0.0.1 alone, prints port P, and answers each client's commands over a session of the client's own, which begins without events: sync takes over what the run has got meanwhile. Up to 16 clients are served at once, and more wait. Example:\n  uringwalk serve examples/words_in_a_pipe/script.json --port 7001 --clients 2 &\n  printf 'sync\\nwhere\\nquit\\n' | nc 127.0.0.1 7001";
+    "The script's threads, the poller if there is one, and the kernel workers run as live runs them. It listens on 127.0.0.1 alone, prints port P, and answers each client's commands over a session of the client's own, which begins without events: sync takes over what the run has got meanwhile. Up to 16 clients are served at once, and more wait. Example:\n  uringwalk serve examples/words_in_a_pipe/script.json --port 7001 --clients 1 &\n  sleep 1\n  printf 'sync\\nwhere\\nquit\\n' | nc 127.0.0.1 7001";
 
 const ONTO_SCRIPT: &str = "OUT is SCRIPT's own file: the trace would take the script's place";
 
