@@ -26,16 +26,17 @@ def order_of(answer):
     return -answer[0], answer[1]
 
 
+def is_one(answer, refused):
+    """Whether an answer is this one: its number, and what it tells where that is fixed."""
+    return answer[0] == refused[0] and refused[1] in (None, answer[1])
+
+
 def check_refused(situation, done, before):
     """Looks at a call that met a refusal. Returns its answer."""
     answer, again, first, stood, left = answers(done)
     if situation.rising:
         require(before is None or order_of(answer) >= order_of(before), f"answer {answer} comes behind {before}")
-    if situation.refused is None:
-        require(answer[0] == 2, f"answer {answer}")
-    else:
-        wanted = [(number, answer[1] if more is None else more) for number, more in situation.refused]
-        require(answer in wanted, f"answer {answer}, and not {situation.refused}")
+    require(any(is_one(answer, each) for each in situation.refused), f"answer {answer}, and not {situation.refused}")
     require(stood[0] == 0 and (stood[1] > 0 or situation.call == "open"), f"behind the refusal {stood[0]} of {stood[1]} differ")
     require(left[0] == 0 and left[1] > 0, f"at the end {left[0]} of {left[1]} differ")
     if situation.closes:
@@ -74,7 +75,7 @@ def try_situation(room, situation):
     done, reached, count = room.ran(situation_words(room, situation, 0), "growth", "one", None, given)
     check_unrefused(situation, done)
     require(count > 0, "it met no refusal")
-    numbers, runs, refusals = numbers_of(count), 2, 0
+    numbers, runs, met = numbers_of(count), 2, []
     for how, most in (("one", count), ("all", MOST_OF_ALL)):
         before = None
         for number in (each for each in numbers if each <= most):
@@ -86,10 +87,12 @@ def try_situation(room, situation):
                     check_unrefused(situation, done)
                 else:
                     before = check_refused(situation, done, before)
-                    refusals += 1
+                    met.append(before)
             except Wrong as wrong:
                 raise Wrong(f"growth {number} of {count}, {how}: {wrong}") from wrong
     done, reached, _ = room.ran(situation_words(room, situation, count + 1), "growth", "one", None, given)
     require(not reached, f"behind growth {count} there is another")
     check_unrefused(situation, done)
-    return runs, refusals, note_of(numbers, count)
+    for refused in situation.refused:
+        require(any(is_one(answer, refused) for answer in met), f"no answer was {refused}")
+    return runs, len(met), note_of(numbers, count)

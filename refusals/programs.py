@@ -164,48 +164,57 @@ def refuse_growths_of_threads(room):
 # ---- reads and writes
 
 def fail_reads(job, how):
-    """A read that fails is a fault of the file, or of standard input. Files are read again where a read was interrupted."""
+    """A read that fails is a fault of a file, or behind all of these of standard input. Files are read again where a read was
+    interrupted."""
     def trial(room):
         expected = Expected(job, room)
-        number, met = 1, 0
+        number, of_files, of_input = 1, 0, 0
         while True:
             done, files, reached, _ = job.run(room, "read", how, number)
             if not reached:
                 break
-            in_input = job.given and expected.is_cut(done, files, READ) and files == expected.before
-            if how == "eintr":
-                right = in_input or expected.is_whole(done, files)
+            if job.given and expected.is_cut(done, files, READ) and files == expected.before:
+                of_input += 1
             else:
-                right = in_input or expected.is_cut(done, files, NO_FILE, False) and files == expected.before
-            require(right, f"read {number}: {shown(done)}, files {sorted(files)}")
-            number, met = number + 1, met + 1
-        require(met > 0 and expected.is_whole(done, files), f"{met} reads were met, and then {shown(done)}")
-        return met + 1, met, ""
+                of_files += 1
+                right = (expected.is_whole(done, files) if how == "eintr"
+                         else expected.is_cut(done, files, NO_FILE, False) and files == expected.before)
+                require(right and not of_input, f"read {number}: {shown(done)}, files {sorted(files)}")
+            number += 1
+        require(expected.is_whole(done, files), f"behind {number - 1} reads: {shown(done)}")
+        require(of_files > 0 and (of_input > 0) == bool(job.given), f"{of_files} reads of files and {of_input} of input were met")
+        return number, number - 1, ""
     return trial
 
 
 def fail_writes(job, what, how):
-    """A write that fails is a fault of standard output, behind which the file is whole, or of the file, which is the old
-    one. A write that takes half of its bytes is gone on with, and one to a file that was interrupted is made again."""
+    """A write that fails is a fault of the file, and the old one stands, or behind all of these of standard output, and the file
+    is whole. A write that takes half of its bytes is gone on with. One that was interrupted is made again where it goes to a
+    file, or is that of the line `events E`; elsewhere it is a fault."""
     def trial(room):
         expected = Expected(job, room)
-        number, met = 1, 0
+        number, of_file, of_output = 1, 0, 0
         while True:
             done, files, reached, _ = job.run(room, what, how, number)
             if not reached:
                 break
-            to_output = expected.is_cut(done, files, WRITE) and files == expected.files
-            to_file = job.out and expected.is_cut(done, files, NO_FILE, False) and files == expected.before
             if how == "half":
                 right = expected.is_whole(done, files)
-            elif how == "eintr" and what == "write":
-                right = to_output or expected.is_whole(done, files)
+            elif what == "write" and expected.is_cut(done, files, WRITE) and files == expected.files:
+                of_output, right = of_output + 1, True
             else:
-                right = to_output or to_file
+                of_file += 1
+                right = job.out and not of_output and (
+                    expected.is_whole(done, files) if how == "eintr"
+                    else expected.is_cut(done, files, NO_FILE, False) and files == expected.before)
             require(right, f"{what} {number}: {shown(done)}, files {sorted(files)}")
-            number, met = number + 1, met + 1
-        require(met > 0 and expected.is_whole(done, files), f"{met} were met, and then {shown(done)}")
-        return met + 1, met, ""
+            number += 1
+        require(number > 1 and expected.is_whole(done, files), f"{number - 1} were met, and then {shown(done)}")
+        if how != "half":
+            told = what == "write" and not (job.out and how == "eintr")
+            require((of_file > 0) == bool(job.out) and (of_output > 0) == told,
+                    f"{of_file} of the file and {of_output} of the output were met")
+        return number, number - 1, ""
     return trial
 
 

@@ -106,12 +106,24 @@ def all_opcodes():
                   memory=[[0, "6162636465666768"], FIVE_SECONDS, [200, "0100000000000000"]])
 
 
+def polled():
+    """The poller sleeps, is woken by an Enter, and takes an entry."""
+    program = [["put", 0, entry(NOP, ud=1)], ["push", 0], ["enter", 1, 0, 2]]
+    return script(1, [program], [["sleep"]] + [STEP] * 3 + [["take", 1]], sqpoll=True)
+
+
 def two_stores():
     return script(1, [[["store", 0, "aa"], ["store", 1, "bb"]]], [STEP] * 2)
 
 
+def one_step_too_many():
+    """An event that can't happen comes behind those of `two_stores`."""
+    return script(1, two_stores()["threads"], [STEP] * 3)
+
+
 SCRIPTS = {each.__name__: each for each in (one_nop, expired_guard, met_counts, full_backlog, written_page, canceled_rows,
-                                            ticks, twelve_ticks, counter, all_opcodes, two_stores)}
+                                            ticks, twelve_ticks, counter, all_opcodes, polled, two_stores,
+                                            one_step_too_many)}
 
 
 def rounded(entries):
@@ -141,7 +153,8 @@ def shown_places(run, memory=65536):
 
 
 class Situation:
-    """A call of `growths` over a script: which numbers a refusal of memory may have, and what is looked at of all of them."""
+    """A call of `growths` over a script: the answers to refused growths, each of which is to be met (None stands for whatever
+    is told), and what is looked at of all of them."""
 
     def __init__(self, call, over, start=0, goal=0, lines=(), refused=((1, 0),), asked=None, quiet=False, rising=False,
                  closes=False):
@@ -166,6 +179,8 @@ def calls_of_states():
         yield Situation("step", name, last(name), refused=((17, 0),))
     for at in range(last("all_opcodes") + 1):
         yield Situation("step", "all_opcodes", at, refused=((17, 0),))
+    for at in (0, 3, 4):
+        yield Situation("step", "polled", at, refused=((17, 0),))
     for name in ("one_nop", "all_opcodes"):
         whole = last(name) + 1
         yield Situation("start", name, refused=((3, 0),))
@@ -181,7 +196,7 @@ def calls_of_states():
 
 
 def calls_of_walkers():
-    yield Situation("extend", "twelve_ticks", 2, 1, refused=None, rising=True)
+    yield Situation("extend", "twelve_ticks", 2, 1, refused=[(2, event) for event in range(10)], rising=True)
     yield Situation("goto", "ticks", 9, 5, refused=((2, 0),))
     yield Situation("goto", "ticks", 10, 9, quiet=True)
     yield Situation("back", "ticks", 10, quiet=True)
@@ -205,6 +220,8 @@ def calls_of_sessions():
     yield Situation("line", "counter", 49, lines=["unwatch", "watch clock"], asked="counter")
     yield Situation("line", "two_stores", 1, 2, lines=["sync"], asked="two_stores")
     yield Situation("line", "two_stores", 0, 2, lines=["sync"], asked="two_stores")
+    yield Situation("line", "two_stores", 2, 1, lines=["sync"], asked="two_stores")
+    yield Situation("line", "one_step_too_many", 0, 3, lines=["sync"], asked="two_stores")
     served = "where\nshow got 0\ngoto 3\nwatch cq.tail\nbreak last 0 = 1\ncont\nrcont\nshow row 0\nwhere\n"
     yield Situation("serve", "one_nop", 6, lines=[""], asked=served, refused=((3, None),), closes=True)
     for call in ("walk", "replay"):
