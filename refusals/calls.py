@@ -8,7 +8,7 @@ from room import Wrong, note_of, numbers_of, require
 # Less than this was not compared of a state.
 LEAST_PLACES = 65536
 # Up to here a growth is refused with all later ones too.
-MOST_OF_ALL = 100
+MOST_OF_ALL = 10
 ANSWERS = re.compile(r"answer (\d+) (\d+), again (\d+) (\d+), first (\d+) (\d+)\ndiffer (\d+) of (\d+), then (\d+) of (\d+)\n$")
 
 
