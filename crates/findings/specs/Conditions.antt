@@ -49,17 +49,17 @@ abbrev pub enters : Setup → Machine → Event → Bool
 enters s m (Step t) = is_enter (next_in s m t)
 enters s m e = false
 
--- whether a thread's answer is EBUSY
+abbrev pub is_held_up : Stage → Bool
+is_held_up Ready = false
+is_held_up (Waiting submitted wanted) = true
+
+-- whether a thread has an answer, which is EBUSY: what one that waits in its Enter has is the answer of an earlier one
 abbrev pub has_busy_answer : Machine → ℕ → Bool
-has_busy_answer m t = option_map_or (λ (x : ThreadState). is_error 16 x.last) (slice_get m.threads t) false
+has_busy_answer m t = option_map_or (λ (x : ThreadState). not (is_held_up x.stage) && is_error 16 x.last) (slice_get m.threads t) false
 
 abbrev pub is_step_of : ℕ → Event → Bool
 is_step_of n (Step t) = t == n
 is_step_of n e = false
-
-abbrev pub is_held_up : Stage → Bool
-is_held_up Ready = false
-is_held_up (Waiting submitted wanted) = true
 
 -- whether a setup's thread waits in its Enter
 abbrev pub waits : Setup → Machine → ℕ → Bool

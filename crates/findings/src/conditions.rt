@@ -127,12 +127,16 @@ fn is_busy(answer: i64) -> bool
     answer < 0 && answer.unsigned_abs() == EBUSY as u64
 }
 
-/// Whether a thread's answer is EBUSY.
+/// Whether a thread has an answer, which is EBUSY. What one that waits in its Enter has is the answer of an
+/// earlier one.
 pub(crate) fn has_busy_answer(state: &State, thread: u32) -> bool
     ensures { result ≡ has_busy_answer state.now thread }
 {
-    match state.value(Place::Last(thread)) {
-        Some(Value::Signed(answer)) => is_busy(answer),
+    match (
+        state.value(Place::ThreadStage(thread)),
+        state.value(Place::Last(thread)),
+    ) {
+        (Some(Value::Staged(Stage::Ready)), Some(Value::Signed(answer))) => is_busy(answer),
         _ => false,
     }
 }

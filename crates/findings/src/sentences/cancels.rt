@@ -4,7 +4,7 @@ use super::About;
 use crate::names::{ResultName, RowName};
 use crate::run::Run;
 use entries::{Row, Sqe};
-use opcodes::Op;
+use opcodes::{Op, uses_descriptor};
 use std::alloc::{AllocError, Global};
 
 const CANCEL_RULE: &str = "(io_uring_enter(2), IORING_OP_ASYNC_CANCEL)";
@@ -20,7 +20,8 @@ fn is_by_descriptor(entry: &Sqe) -> bool {
     entry.opcode == Op::AsyncCancel as u8 && entry.operation_flags & BY_DESCRIPTOR != 0
 }
 
-fn rule_of(entry: &Sqe) -> &'static str {
+/// The rule of a cancel or a removal.
+pub(super) fn rule_of(entry: &Sqe) -> &'static str {
     if entry.opcode == Op::PollRemove as u8 {
         return POLL_RULE;
     }
@@ -94,7 +95,7 @@ fn reason_by_user_data(alloc: Global, run: &Run<'_>, about: &About) -> Result<St
     let sought = about.row.entry.addr;
     let Some(number) = next_candidate(run, about, 0) else {
         if about.row.entry.user_data == sought {
-            return format!(in alloc; "of user_data {sought} there is it alone");
+            return format!(in alloc; "no other request had user_data {sought}");
         }
         return format!(in alloc; "no request had user_data {sought}");
     };
@@ -136,7 +137,7 @@ fn is_found(run: &Run<'_>, about: &About, number: u32, row: &Row) -> bool {
         None => false,
     };
     let fits = if is_by_descriptor(&about.row.entry) {
-        row.entry.fd == about.row.entry.fd
+        uses_descriptor(row.entry.opcode) && row.entry.fd == about.row.entry.fd
     } else {
         row.entry.user_data == about.row.entry.addr
     };
@@ -158,6 +159,16 @@ fn became(alloc: Global, run: &Run<'_>, number: u32) -> Result<String, AllocErro
     }
 }
 
+// What to mind until a row's own completion.
+fn advice_of(run: &Run<'_>, number: u32) -> &'static str {
+    match run.row(number) {
+        Some(row) if row.entry.opcode == Op::Read as u8 || row.entry.opcode == Op::Write as u8 => {
+            ". Until its own completion its buffer is the kernel's"
+        }
+        _ => "",
+    }
+}
+
 /// A cancel that found a request that was running.
 pub(crate) fn too_late(alloc: Global, run: &Run<'_>, about: &About) -> Result<String, AllocError> {
     let name = about.name();
@@ -169,7 +180,8 @@ pub(crate) fn too_late(alloc: Global, run: &Run<'_>, about: &About) -> Result<St
         return format!(in alloc; "Row {name} ended with -114 (EALREADY) {rule}.");
     };
     let became = became(alloc, run, number)?;
+    let advice = advice_of(run, number);
     format!(in alloc;
-        "Row {name} ended with -114 (EALREADY): row {of} was running, and goes on; {became}. Until its own completion its buffer is the kernel's {rule}."
+        "Row {name} ended with -114 (EALREADY): row {of} was running, and goes on; {became}{advice} {rule}."
     )
 }

@@ -1,12 +1,17 @@
 //! Sentences about chains that were severed, and rows that were cancelled.
 
 use super::About;
+use super::cancels::rule_of;
 use crate::names::ResultName;
 use crate::run::Run;
 use machine::Event;
 use std::alloc::{AllocError, Global};
 
 const RULE: &str = "(io_uring_enter(2), IOSQE_IO_LINK)";
+
+const GUARD_RULE: &str = "(io_uring_enter(2), IORING_OP_LINK_TIMEOUT)";
+
+const ERROR_RULE: &str = "(io_uring_enter(2), CQE ERRORS)";
 
 /// How many rows that ended with a chain are named one by one.
 const NAMED: u32 = 8;
@@ -54,7 +59,7 @@ pub(crate) fn severed(alloc: Global, run: &Run<'_>, about: &About) -> Result<Str
     let rows = cut_rows(alloc, run, about)?;
     if rows.is_empty() {
         return format!(in alloc;
-            "Row {name} ended with {told}, which breaks its soft link; no row of its chain was left to end with it {RULE}."
+            "Row {name} ended with {told}, which breaks its soft link; no later row of its chain was left to end with it {RULE}."
         );
     }
     format!(in alloc;
@@ -106,17 +111,28 @@ fn row_of(cause: Cause) -> Option<u32> {
     }
 }
 
-// What it did, and the rule.
+// What it did.
 fn deed_of(cause: Cause) -> &'static str {
     match cause {
-        Cause::Chain(_) => " broke its chain (io_uring_enter(2), IOSQE_IO_LINK)",
-        Cause::Target(_) => ", its target, ended first (io_uring_enter(2), IORING_OP_LINK_TIMEOUT)",
-        Cause::Cancel(_) => " cancelled it (io_uring_enter(2), IORING_OP_ASYNC_CANCEL)",
-        Cause::Guard(_) => " expired (io_uring_enter(2), IORING_OP_LINK_TIMEOUT)",
-        Cause::Submission => {
-            "an entry of its chain failed as it was submitted (io_uring_enter(2), IOSQE_IO_LINK)"
-        }
-        Cause::None => "it was cancelled (io_uring_enter(2), CQE ERRORS)",
+        Cause::Chain(_) => " broke its chain",
+        Cause::Target(_) => ", its target, ended first",
+        Cause::Cancel(_) => " cancelled it",
+        Cause::Guard(_) => " expired",
+        Cause::Submission => "an entry of its chain failed as it was submitted",
+        Cause::None => "it was cancelled",
+    }
+}
+
+// The rule that it did it by.
+fn rule_of_cause(run: &Run<'_>, cause: Cause) -> &'static str {
+    match cause {
+        Cause::Chain(_) | Cause::Submission => RULE,
+        Cause::Target(_) | Cause::Guard(_) => GUARD_RULE,
+        Cause::Cancel(by) => match run.row(by) {
+            Some(row) => rule_of(&row.entry),
+            None => ERROR_RULE,
+        },
+        Cause::None => ERROR_RULE,
     }
 }
 
@@ -125,12 +141,15 @@ pub(crate) fn canceled(alloc: Global, run: &Run<'_>, about: &About) -> Result<St
     let name = about.name();
     let cause = cause_of(run, about);
     let deed = deed_of(cause);
+    let rule = rule_of_cause(run, cause);
     let by = match row_of(cause) {
         Some(number) => run.name(number),
         None => None,
     };
     match by {
-        Some(by) => format!(in alloc; "Row {name} ended with -125 (ECANCELED): row {by}{deed}."),
-        None => format!(in alloc; "Row {name} ended with -125 (ECANCELED): {deed}."),
+        Some(by) => format!(in alloc;
+            "Row {name} ended with -125 (ECANCELED): row {by}{deed} {rule}."
+        ),
+        None => format!(in alloc; "Row {name} ended with -125 (ECANCELED): {deed} {rule}."),
     }
 }

@@ -35,7 +35,7 @@ fn reason_of_entry(row: &Row, res: i32) -> &'static str {
     if res == BAD_ADDRESS {
         return "its time leaves memory";
     }
-    "a field of its entry has a value that its opcode refuses, or it guards no row"
+    "a field of its entry has a value that its opcode refuses, its time is negative, or it guards no row"
 }
 
 // What a request met as it was carried out.

@@ -16,6 +16,12 @@ const GUARD_RULE: &str = "(io_uring_enter(2), IORING_OP_LINK_TIMEOUT)";
 
 const WAIT_RULE: &str = "(pipe(7), eventfd(2), poll(2))";
 
+/// IOSQE_IO_DRAIN.
+const IO_DRAIN: u8 = 2;
+
+/// The most rows of a run.
+const MOST_ROWS: u32 = 65536;
+
 const TIMEOUT_RULE: &str = "(io_uring_enter(2), IORING_OP_TIMEOUT)";
 
 // Whether a row of a number is unfinished, no guard, and before another in its chain.
@@ -26,10 +32,25 @@ fn is_before_in_chain(run: &Run<'_>, number: u32, unit: u32) -> bool {
     }
 }
 
-// Whether it is unfinished, and of an earlier chain.
-fn is_before_chain(run: &Run<'_>, number: u32, unit: u32) -> bool {
+// Whether some row of a chain has IO_DRAIN, one that has ended too.
+fn drains(run: &Run<'_>, unit: u32) -> bool {
+    for number in unit..MOST_ROWS {
+        match run.row(number) {
+            Some(row) if row.unit == unit => {
+                if row.entry.flags & IO_DRAIN != 0 {
+                    return true;
+                }
+            }
+            _ => return false,
+        }
+    }
+    false
+}
+
+// Whether a row of a number is unfinished, and of an earlier chain, and one of the two chains drains.
+fn is_before_drain(run: &Run<'_>, number: u32, unit: u32, own: bool) -> bool {
     match run.row(number) {
-        Some(row) => row.unit < unit && is_unfinished(&row),
+        Some(row) => row.unit < unit && is_unfinished(&row) && (own || drains(run, row.unit)),
         None => false,
     }
 }
@@ -46,8 +67,9 @@ fn held_by_link(run: &Run<'_>, number: u32, row: &Row) -> Option<u32> {
 
 // The first row that a drain has it wait for.
 fn held_by_drain(run: &Run<'_>, row: &Row) -> Option<u32> {
+    let own = drains(run, row.unit);
     for before in 0..row.unit {
-        if is_before_chain(run, before, row.unit) {
+        if is_before_drain(run, before, row.unit, own) {
             return Some(before);
         }
     }
@@ -116,8 +138,13 @@ fn waits(alloc: Global, row: &Row) -> Result<String, AllocError> {
 
 fn issued(alloc: Global, run: &Run<'_>, number: u32, row: &Row) -> Result<String, AllocError> {
     if is_timer(row.entry.opcode) {
+        let rule = if is_guard(row) {
+            GUARD_RULE
+        } else {
+            TIMEOUT_RULE
+        };
         return match run.state.refuses(Event::Expire(number)) {
-            Some(_) => format!(in alloc; "It is issued, and its time is not up {TIMEOUT_RULE}."),
+            Some(_) => format!(in alloc; "It is issued, and its time is not up {rule}."),
             None => String::from_str(alloc, "It is issued and due: the schedule just ends."),
         };
     }

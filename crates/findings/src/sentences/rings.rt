@@ -8,6 +8,8 @@ const BACKLOG_RULE: &str = "(io_uring_setup(2), IORING_FEAT_NODROP)";
 
 const WAIT_RULE: &str = "(io_uring_enter(2), IORING_ENTER_GETEVENTS)";
 
+const SUBMIT_RULE: &str = "(io_uring_enter(2), to_submit)";
+
 const POLLER_RULE: &str = "(io_uring_setup(2), IORING_SETUP_SQPOLL)";
 
 // A ring word, a counter or a flag word at the end.
@@ -38,9 +40,9 @@ fn is_overflowing(run: &Run<'_>) -> bool {
 /// Completions that began to be kept.
 pub(crate) fn overflow(alloc: Global, run: &Run<'_>) -> Result<String, AllocError> {
     let outlook = if is_overflowing(run) {
-        "Some are kept at the end"
+        "At the end of the run some are kept"
     } else {
-        "None is kept at the end"
+        "At the end of the run none is kept"
     };
     format!(in alloc;
         "The completion ring was full, and a completion was put into the backlog, with CQ_OVERFLOW in sq.flags. Reap, and enter with IORING_ENTER_GETEVENTS to have it moved into the ring. {outlook} {BACKLOG_RULE}."
@@ -78,14 +80,24 @@ pub(crate) fn lost_wake_up(alloc: Global, run: &Run<'_>) -> Result<String, Alloc
 /// Entries that nothing took.
 pub(crate) fn not_taken(alloc: Global, run: &Run<'_>) -> Result<String, AllocError> {
     let entries = entries(run);
+    let rule = if run.state.value(Place::PollerStage).is_some() {
+        POLLER_RULE
+    } else {
+        SUBMIT_RULE
+    };
     format!(in alloc;
-        "Entries wait in the submission ring to the end, and nothing takes them: {entries} (io_uring_enter(2), to_submit)."
+        "Entries wait in the submission ring to the end, and nothing takes them: {entries} {rule}."
     )
 }
 
 /// Completions that nobody reaped.
 pub(crate) fn not_reaped(alloc: Global, run: &Run<'_>) -> Result<String, AllocError> {
     let completions = completions(run);
+    if completions == 0 {
+        return format!(in alloc;
+            "Completions are kept in the backlog to the end, and none waits in the ring: enter with IORING_ENTER_GETEVENTS to have them moved there {BACKLOG_RULE}."
+        );
+    }
     let kept = if is_overflowing(run) {
         ", and others are kept in the backlog"
     } else {
