@@ -59,6 +59,10 @@ impl At for Table {
             _ => None,
         }
     }
+
+    fn row_at(&self, row: u32) -> Option<&Row> {
+        self.rows.get(row as usize)
+    }
 }
 
 impl Part for Table {

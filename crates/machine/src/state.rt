@@ -3,17 +3,16 @@
 mod rows;
 
 use crate::whole::Machine;
-use places::{At, Marks, Place, Record, Recorder, Value};
+use places::{At, Place, Record, Recorder, Value};
 use scenario::{Event, Refusal, Setup, SetupRefusal, setup_refusal};
 use std::alloc::{AllocError, Global};
 use std::marker::Model;
-use std::mem;
 
 /// A state.
 pub struct State {
     machine: Machine,
-    marks: Marks,
-    alloc: Global,
+    /// None between steps. What its notes take stays for the next step's.
+    notes: Recorder,
 }
 
 // By hand, so that letting a state go is one step of a proof.
@@ -21,8 +20,7 @@ impl Drop for State {
     fn drop(self) {
         let State {
             machine: _,
-            marks: _,
-            alloc: _,
+            notes: _,
         } = self;
     }
 }
@@ -30,12 +28,13 @@ impl Drop for State {
 impl Model for State {
     ghost use Rattle.machine.specs.declared.whole.Machine.{Machine};
     ghost use Rattle.machine.specs.Whole.{WellFormed};
+    ghost use Rattle.std.specs.Prelude.{◌≡◌, []};
 
     ghost Value = { Machine };
 
     ghost view = { λ a. a.machine };
 
-    ghost invariant = { λ a. WellFormed a.machine };
+    ghost invariant = { λ a. WellFormed a.machine × (a.notes.made ≡ []) };
 }
 
 impl State {
@@ -66,8 +65,7 @@ impl State {
         match Machine::new(alloc, setup) {
             Ok(machine) => Ok(State {
                 machine,
-                marks: Marks::new(alloc),
-                alloc,
+                notes: Recorder::new(alloc),
             }),
             Err(_) => Err(SetupRefusal::Memory),
         }
@@ -79,8 +77,7 @@ impl State {
     {
         Ok(State {
             machine: self.machine.copy(alloc)?,
-            marks: Marks::new(alloc),
-            alloc,
+            notes: Recorder::new(alloc),
         })
     }
 
@@ -114,11 +111,8 @@ impl State {
         if let Some(n) = self.machine.refuses(event) {
             return Err(n);
         }
-        let marks = mem::replace(&mut self.marks, Marks::new(self.alloc));
-        let mut notes = Recorder::over(self.alloc, marks);
-        let done = self.machine.perform(event, &mut notes);
-        let (past, marks) = notes.close_with_marks(&self.machine);
-        self.marks = marks;
+        let done = self.machine.perform(event, &mut self.notes);
+        let past = self.notes.finish(&self.machine);
         match done {
             Ok(()) => Ok(past),
             Err(_) => {

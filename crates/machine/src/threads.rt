@@ -118,6 +118,16 @@ impl At for Threads {
             _ => None,
         }
     }
+
+    fn number_at(&self, place: Place) -> Option<u64> {
+        match place {
+            Place::ProgramCounter(t) => match self.threads.get(t as usize) {
+                Some(thread) => Some(thread.counter as u64),
+                None => None,
+            },
+            _ => None,
+        }
+    }
 }
 
 impl Part for Threads {

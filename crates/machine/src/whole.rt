@@ -9,6 +9,7 @@ ghost use Rattle.places.specs.View.{put_at};
 ghost use Rattle.places.specs.declared.place.Place.{Place};
 
 use crate::threads::Threads;
+use entries::{Cqe, Row};
 use links_drains::Table;
 use model_files::World;
 use overflow::Backlog;
@@ -75,6 +76,30 @@ impl At for Machine {
 
     fn bytes_in(&self, region: Region) -> Option<&[u8]> {
         self.world.bytes_in(region)
+    }
+
+    fn number_at(&self, place: Place) -> Option<u64> {
+        match place {
+            Place::SubmissionHead
+            | Place::SubmissionTail
+            | Place::SubmissionFlags
+            | Place::SubmissionDropped
+            | Place::Array(_) => self.submissions.number_at(place),
+            Place::CompletionHead | Place::CompletionTail => self.completions.number_at(place),
+            Place::BacklogFront => self.backlog.number_at(place),
+            Place::ProgramCounter(_) => self.threads.number_at(place),
+            Place::Clock => Some(self.clock),
+            Place::Counted => Some(self.counted as u64),
+            _ => None,
+        }
+    }
+
+    fn completion_at(&self, slot: u32) -> Option<&Cqe> {
+        self.completions.completion_at(slot)
+    }
+
+    fn row_at(&self, row: u32) -> Option<&Row> {
+        self.table.row_at(row)
     }
 }
 

@@ -41,6 +41,13 @@ impl At for Backlog {
             _ => None,
         }
     }
+
+    fn number_at(&self, place: Place) -> Option<u64> {
+        match place {
+            Place::BacklogFront => Some(self.front as u64),
+            _ => None,
+        }
+    }
 }
 
 impl Part for Backlog {

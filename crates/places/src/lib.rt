@@ -20,5 +20,5 @@ pub use object::{Contents, Descriptor, End, Object};
 pub use part::{At, Part};
 pub use place::Place;
 pub use record::{Changes, Record};
-pub use recorder::{Marks, Recorder};
+pub use recorder::Recorder;
 pub use value::{Change, Stage, Value};

@@ -30,28 +30,7 @@ const COMPLETION_SLOTS: usize = 8192;
 
 const ROW_SLOTS: usize = 262144;
 
-/// What a recorder leaves for the next one: with it the next one notes places in constant time from
-/// the start.
-#[derive(Drop)]
-pub struct Marks {
-    numbers: Vec<usize>,
-    completions: Vec<usize>,
-    rows: Vec<usize>,
-}
-
-impl Marks {
-    /// None are left. It takes no memory.
-    pub fn new(alloc: Global) -> Marks {
-        Marks {
-            numbers: Vec::new(alloc),
-            completions: Vec::new(alloc),
-            rows: Vec::new(alloc),
-        }
-    }
-}
-
 /// Notes of what stood in places before they were changed.
-#[derive(Drop)]
 pub struct Recorder {
     numbers: Slots<NumberNote>,
     completions: Slots<CompletionNote>,
@@ -59,6 +38,20 @@ pub struct Recorder {
     rest: Rest,
     room: Room,
     alloc: Global,
+}
+
+// By hand, so that letting a recorder go is one step of a proof.
+impl Drop for Recorder {
+    fn drop(self) {
+        let Recorder {
+            numbers: _,
+            completions: _,
+            rows: _,
+            rest: _,
+            room: _,
+            alloc: _,
+        } = self;
+    }
 }
 
 impl Model for Recorder {
@@ -77,17 +70,10 @@ impl Recorder {
     pub fn new(alloc: Global) -> Recorder
         ensures { result.made ≡ [] }
     {
-        Recorder::over(alloc, Marks::new(alloc))
-    }
-
-    /// No notes, over what an earlier recorder left. It takes no memory.
-    pub fn over(alloc: Global, marks: Marks) -> Recorder
-        ensures { result.made ≡ [] }
-    {
         Recorder {
-            numbers: Slots::over(alloc, marks.numbers),
-            completions: Slots::over(alloc, marks.completions),
-            rows: Slots::over(alloc, marks.rows),
+            numbers: Slots::new(alloc),
+            completions: Slots::new(alloc),
+            rows: Slots::new(alloc),
             rest: Rest::new(),
             room: Room::new(),
             alloc,
@@ -334,31 +320,21 @@ impl Recorder {
     pub fn close<A: At>(self, whole: &A) -> Record
         ensures { Exact (undo (A.seen whole.now) self.made) (A.seen whole.now) result }
     {
-        self.close_with_marks(whole).0
+        let mut notes = self;
+        notes.finish(whole)
     }
 
-    /// The same, with what the next recorder can use again.
-    pub fn close_with_marks<A: At>(self, whole: &A) -> (Record, Marks)
-        ensures { Exact (undo (A.seen whole.now) self.made) (A.seen whole.now) result.0 }
+    /// The same, but that the next notes are made here: they take the memory that these had, and note
+    /// places in constant time from the start.
+    pub fn finish<A: At>(&mut self, whole: &A) -> Record
+        ensures exact { Exact (undo (A.seen whole.now) self.old.made) (A.seen whole.now) result }
+        ensures none { self.new.made ≡ [] }
     {
-        let Recorder {
-            numbers,
-            completions,
-            rows,
-            mut rest,
-            room: _,
-            alloc: _,
-        } = self;
-        let (numbers, number_marks) = numbers.close(whole);
-        let (completions, completion_marks) = completions.close(whole);
-        let (rows, row_marks) = rows.close(whole);
-        rest.close(whole);
-        let record = Record::of(numbers, completions, rows, rest);
-        let marks = Marks {
-            numbers: number_marks,
-            completions: completion_marks,
-            rows: row_marks,
-        };
-        (record, marks)
+        let numbers = self.numbers.close(whole);
+        let completions = self.completions.close(whole);
+        let rows = self.rows.close(whole);
+        let rest = self.rest.close(whole);
+        self.room = Room::new();
+        Record::of(numbers, completions, rows, rest)
     }
 }

@@ -45,6 +45,18 @@ impl At for ComRing {
             _ => None,
         }
     }
+
+    fn number_at(&self, place: Place) -> Option<u64> {
+        match place {
+            Place::CompletionHead => Some(self.head as u64),
+            Place::CompletionTail => Some(self.tail as u64),
+            _ => None,
+        }
+    }
+
+    fn completion_at(&self, slot: u32) -> Option<&Cqe> {
+        self.slots.get(slot as usize)
+    }
 }
 
 impl Part for ComRing {

@@ -58,6 +58,20 @@ impl At for SubRing {
             _ => None,
         }
     }
+
+    fn number_at(&self, place: Place) -> Option<u64> {
+        match place {
+            Place::SubmissionHead => Some(self.head as u64),
+            Place::SubmissionTail => Some(self.tail as u64),
+            Place::SubmissionFlags => Some(self.flags as u64),
+            Place::SubmissionDropped => Some(self.dropped as u64),
+            Place::Array(i) => match self.array.get(i as usize) {
+                Some(index) => Some(*index as u64),
+                None => None,
+            },
+            _ => None,
+        }
+    }
 }
 
 impl Part for SubRing {

@@ -31,7 +31,7 @@ fn clear_alike(olds: &[u8], kept: &mut [bool], start: usize, now: &[u8])
     let there = &now[from..];
     let n = olds.len().min(there.len());
     for i in 0..n {
-        kept[i] = kept[i] && olds[i] != there[i];
+        kept[i] &= olds[i] != there[i];
     }
 }
 

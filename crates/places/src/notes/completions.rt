@@ -1,6 +1,7 @@
 //! Notes of completions in the ring.
 
-use crate::notes::slots::Slotted;
+use crate::notes::slots::{Slotted, differs};
+use crate::part::At;
 use crate::place::Place;
 use crate::value::{Change, Value};
 use entries::Cqe;
@@ -36,6 +37,13 @@ impl Slotted for CompletionNote {
         Change {
             place: self.place(),
             old: Some(Value::Completed(self.old)),
+        }
+    }
+
+    fn differs<A: At>(&self, whole: &A) -> bool {
+        match whole.completion_at(self.slot) {
+            Some(now) => !now.is(&self.old),
+            None => differs(self.change(), whole),
         }
     }
 }

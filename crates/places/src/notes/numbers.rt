@@ -4,7 +4,8 @@ ghost use Rattle.places.specs.declared.value.Value.TheVariants.{Number};
 ghost use Rattle.places.specs.Places.{is_number};
 ghost use Rattle.places.specs.Slots.{number_place, number_slot, number_change};
 
-use crate::notes::slots::Slotted;
+use crate::notes::slots::{Slotted, differs};
+use crate::part::At;
 use crate::place::Place;
 use crate::value::{Change, Value};
 
@@ -95,6 +96,13 @@ impl Slotted for NumberNote {
         Change {
             place: self.place(),
             old: Some(Value::Number(self.old)),
+        }
+    }
+
+    fn differs<A: At>(&self, whole: &A) -> bool {
+        match whole.number_at(self.place()) {
+            Some(now) => now != self.old,
+            None => differs(self.change(), whole),
         }
     }
 }

@@ -78,6 +78,13 @@ impl Odd {
         drop_same(&mut self.notes, whole);
     }
 
+    /// Lets the memory go that no note takes.
+    pub fn shrink(&mut self)
+        ensures { self.new.notes ≡ self.old.notes }
+    {
+        self.notes.shrink_to_fit();
+    }
+
     /// Whether there are none.
     pub fn is_empty(&self) -> bool
         ensures { MatchBool result (self.now.notes ≡ []) (self.now.notes ≢ []) }

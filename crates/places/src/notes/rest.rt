@@ -12,6 +12,7 @@ use crate::place::Place;
 use crate::value::{Change, Value};
 use std::alloc::{AllocError, Global};
 use std::marker::Model;
+use std::mem;
 
 /// Notes of bytes, and of places one at a time.
 #[derive(Drop)]
@@ -140,20 +141,28 @@ impl Rest {
         stretches.names(place)
     }
 
-    /// Drops the notes whose place has its old value.
-    pub fn close<A: At>(&mut self, whole: &A)
-        ensures bytes { KeptOf (A.seen whole.now) (run_changes self.old.runs self.old.olds) (run_changes self.new.runs self.new.olds) }
-        ensures odd { KeptOf (A.seen whole.now) self.old.odd self.new.odd }
+    /// Takes out the notes whose place has another value now. None stay here, but their memory does where
+    /// none was taken.
+    pub fn close<A: At>(&mut self, whole: &A) -> Rest
+        ensures bytes { KeptOf (A.seen whole.now) (run_changes self.old.runs self.old.olds) (run_changes result.runs result.olds) }
+        ensures odd { KeptOf (A.seen whole.now) self.old.odd result.odd }
         ensures bytes_once { NamesOnce (run_changes self.old.runs self.old.olds) }
         ensures odd_once { NamesOnce self.old.odd }
+        ensures no_runs { self.new.runs ≡ [] }
+        ensures no_olds { self.new.olds ≡ [] }
+        ensures no_odd { self.new.odd ≡ [] }
     {
         if let Some(inner) = &mut self.inner {
             inner.bytes.close(whole);
             inner.odd.close(whole);
             if inner.bytes.is_empty() && inner.odd.is_empty() {
-                self.inner = None;
+                inner.bytes.clear();
+                return Rest::new();
             }
+            inner.bytes.shrink();
+            inner.odd.shrink();
         }
+        mem::replace(self, Rest::new())
     }
 
     /// The old bytes, one after the other.

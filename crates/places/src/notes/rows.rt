@@ -8,7 +8,8 @@ ghost use Rattle.places.specs.Places.{is_other};
 ghost use Rattle.places.specs.Notes.{after_change};
 
 use crate::listed::Listed;
-use crate::notes::slots::Slotted;
+use crate::notes::slots::{Slotted, differs};
+use crate::part::At;
 use crate::place::Place;
 use crate::value::{Change, Stage, Value};
 use entries::{Cqe, Row, Sqe};
@@ -176,6 +177,17 @@ impl Slotted for RowNote {
                 place: place_of_other(*kind, *index),
                 old: small_value(*old),
             },
+        }
+    }
+
+    fn differs<A: At>(&self, whole: &A) -> bool {
+        match self {
+            RowNote::Absent(row) => whole.row_at(*row).is_some() || differs(self.change(), whole),
+            RowNote::Was(row, old) => match whole.row_at(*row) {
+                Some(now) => !now.is(old),
+                None => differs(self.change(), whole),
+            },
+            RowNote::Other(_, _, _) => differs(self.change(), whole),
         }
     }
 }

@@ -131,9 +131,25 @@ impl ByteNotes {
         ensures once { NamesOnce (run_changes self.old.runs self.old.olds) }
     {
         close_runs(&mut self.runs, &mut self.olds, &mut self.kept, whole);
+    }
+
+    /// Lets the memory go that no note takes.
+    pub fn shrink(&mut self)
+        ensures { self.new ≡ self.old }
+    {
         self.runs.shrink_to_fit();
         self.olds.shrink_to_fit();
         self.kept.shrink_to_fit();
+    }
+
+    /// Lets all notes go. Their memory stays.
+    pub fn clear(&mut self)
+        ensures runs { self.new.runs ≡ [] }
+        ensures olds { self.new.olds ≡ [] }
+    {
+        self.runs.clear();
+        self.olds.clear();
+        self.kept.clear();
     }
 
     /// Whether there is no run.

@@ -12,6 +12,13 @@ use crate::place::Place;
 use crate::value::{Change, is_same};
 use std::alloc::{AllocError, Global};
 use std::marker::Model;
+use std::mem;
+
+/// For how many notes there is room once there is one.
+const FIRST_NOTES: usize = 4;
+
+/// How many notes are taken out as a copy at most.
+const FEW_NOTES: usize = 64;
 
 /// A note of a place that has a slot: a number that no other place has.
 pub trait Slotted {
@@ -30,6 +37,10 @@ pub trait Slotted {
     fn change(&self) -> Change
         ensures { result ≡ change self.now };
 
+    /// Whether another value stands in its place now.
+    fn differs<A: At>(&self, whole: &A) -> bool
+        ensures { MatchBool result ((change self.now).old ≢ A.seen whole.now (change self.now).place) ((change self.now).old ≡ A.seen whole.now (change self.now).place) };
+
     /// A slot is of one place.
     ghost one_place: { (x y : Self) → slot x ≡ slot y → (change x).place ≡ (change y).place };
 
@@ -38,7 +49,7 @@ pub trait Slotted {
 }
 
 /// Notes, and for each slot where its note stands, if it has one. A mark is right only where it leads
-/// to a note of its slot, so marks of earlier notes may stay.
+/// to a note of its slot, so marks of earlier notes may stay, and so may the memory of these.
 #[derive(Drop)]
 pub struct Slots<N: Slotted> {
     notes: Vec<N>,
@@ -57,13 +68,13 @@ impl<N: Slotted> Model for Slots<N> {
 }
 
 impl<N: Slotted + Copy> Slots<N> {
-    /// No notes, with the marks that earlier notes left. It takes no memory.
-    pub fn over(alloc: Global, marks: Vec<usize>) -> Slots<N>
+    /// No notes. It takes no memory.
+    pub fn new(alloc: Global) -> Slots<N>
         ensures { result.notes ≡ [] }
     {
         Slots {
             notes: Vec::new(alloc),
-            marks,
+            marks: Vec::new(alloc),
         }
     }
 
@@ -113,14 +124,14 @@ impl<N: Slotted + Copy> Slots<N> {
         has_note(&self.notes, place)
     }
 
-    /// The notes whose place has another value now, and the marks.
-    pub fn close<A: At>(self, whole: &A) -> (Vec<N>, Vec<usize>)
-        ensures kept { KeptOf (A.seen whole.now) (map N.change self.notes) (map N.change result.0.items) }
-        ensures once { NamesOnce (map N.change self.notes) }
+    /// The notes whose place has another value now. None stay here.
+    pub fn close<A: At>(&mut self, whole: &A) -> Vec<N>
+        ensures kept { KeptOf (A.seen whole.now) (map N.change self.old.notes) (map N.change result.items) }
+        ensures once { NamesOnce (map N.change self.old.notes) }
+        ensures none { self.new.notes ≡ [] }
     {
-        let Slots { mut notes, marks } = self;
-        drop_same_notes(&mut notes, whole);
-        (notes, marks)
+        drop_same_notes(&mut self.notes, whole);
+        take_notes(&mut self.notes)
     }
 }
 
@@ -157,9 +168,33 @@ fn drop_same_notes<N: Slotted + Copy, A: At>(notes: &mut Vec<N>, whole: &A)
     notes.retain(
         |n: &N| -> bool
             ensures { MatchBool result ((N.change n.now).old ≢ A.seen whole.entry.now (N.change n.now).place) ((N.change n.now).old ≡ A.seen whole.entry.now (N.change n.now).place) }
-        { differs(n.change(), whole) },
+        { n.differs(whole) },
     );
-    notes.shrink_to_fit();
+}
+
+/// Takes the notes out. A few of them leave their memory to later notes.
+fn take_notes<N: Slotted + Copy>(notes: &mut Vec<N>) -> Vec<N>
+    ensures taken { result.items ≡ notes.old.items }
+    ensures none { notes.new.items ≡ [] }
+{
+    if notes.len() <= FEW_NOTES {
+        if let Ok(taken) = Vec::from_slice(*notes.allocator(), notes) {
+            notes.clear();
+            return taken;
+        }
+    }
+    take_all(notes)
+}
+
+/// Takes the notes out, with their memory.
+fn take_all<N: Slotted + Copy>(notes: &mut Vec<N>) -> Vec<N>
+    ensures taken { result.items ≡ notes.old.items }
+    ensures none { notes.new.items ≡ [] }
+{
+    let none = Vec::new(*notes.allocator());
+    let mut taken = mem::replace(notes, none);
+    taken.shrink_to_fit();
+    taken
 }
 
 /// Drops the notes whose place has its old value.
@@ -172,16 +207,16 @@ pub fn drop_same<A: At>(notes: &mut Vec<Change>, whole: &A)
             ensures { MatchBool result (c.now.old ≢ A.seen whole.entry.now c.now.place) (c.now.old ≡ A.seen whole.entry.now c.now.place) }
         { differs(*c, whole) },
     );
-    notes.shrink_to_fit();
 }
 
-fn differs<A: At>(change: Change, whole: &A) -> bool
+/// Whether what a change says stood in its place isn't there now.
+pub fn differs<A: At>(change: Change, whole: &A) -> bool
     ensures { MatchBool result (change.old ≢ A.seen whole.now change.place) (change.old ≡ A.seen whole.now change.place) }
 {
     !is_same(change.old, whole.at(change.place))
 }
 
-/// Makes room for one more, and for as many more as there are once it is full.
+/// Makes room for one more, and for as many more as there are once it is full, a few at least.
 fn grow<N>(notes: &mut Vec<N>) -> Result<(), AllocError>
     ensures items { notes.new.items ≡ notes.old.items }
     ensures len { vec_len notes.new ≡ vec_len notes.old }
@@ -190,7 +225,7 @@ fn grow<N>(notes: &mut Vec<N>) -> Result<(), AllocError>
     ensures there { vec_len notes.old < vec_capacity notes.old → IsOk result }
 {
     if notes.len() == notes.capacity() {
-        notes.reserve_exact(notes.len().max(1))?;
+        notes.reserve_exact(notes.len().max(FIRST_NOTES))?;
     }
     Ok(())
 }

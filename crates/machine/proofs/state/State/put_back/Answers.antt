@@ -11,7 +11,7 @@ pub invariant_of-self : goal.invariant_of-self
 invariant_of-self c =
     let g = goes_back _ _ _ _ c.requires.2 in
     let back = rw c.self.view_is at c.restore.ensures.back in
-    subst WellFormed (sym (back c.requires.0 g)) g.formed
+    (subst WellFormed (sym (back c.requires.0 g)) g.formed, c.self.invariant.1)
 
 pub returns-clause-back : goal.returns-clause-back
 returns-clause-back c s e h =
