@@ -2,3 +2,4 @@ pub mod Runs
 pub mod Keeping
 pub mod Pushing
 pub mod Copying
+pub mod Jumping
