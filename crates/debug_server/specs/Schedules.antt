@@ -7,14 +7,14 @@ use Rattle.scenario.specs.declared.event.Refusal.TheVariants as refusal
 use Rattle.machine.specs.Runs.{IsRefused}
 use Rattle.inverse_log.specs.declared.refusal.ExtendRefusal.{ExtendRefusal}
 use Rattle.inverse_log.specs.declared.refusal.ExtendRefusal.TheVariants.{TraceFull, Refused}
-use Rattle.inverse_log.specs.Walks.{Walk, fresh, extended, jumped}
+use Rattle.inverse_log.specs.Walks.{Walk, fresh, moved, extended}
 use Rattle.debug_server.specs.SessionStates.{SessionState, without_stops}
 use Rattle.debug_server.specs.declared.faults.RunFault.{RunFault}
 use Rattle.debug_server.specs.declared.faults.RunFault.TheVariants.{Script, Schedule, Serve, Memory, Net, Trace}
 
 -- the walk over some events, at their end
 abbrev pub walk_over : Setup → List Event → Walk
-walk_over setup es = jumped (extended (fresh setup) es) (length es)
+walk_over setup es = moved (extended (fresh setup) es) (length es)
 
 -- the session's state there, without watches and breaks
 abbrev pub state_over : Setup → List Event → SessionState

@@ -1,10 +1,10 @@
 //! Sessions.
-ghost use Rattle.std.specs.Prelude.{◌≡◌, ◌≤◌, ℕ, length, false, option_map, IfOk, IfErr, OnOk, OnErr, ◌∷◌, []};
+ghost use Rattle.std.specs.Prelude.{◌≡◌, ◌+◌, ◌≤◌, ℕ, length, false, option_map, IfOk, IfErr, OnOk, OnErr, ◌∷◌, []};
 ghost use Rattle.machine.specs.Runs.{start, Accepts, IsRefused};
 ghost use Rattle.scenario.specs.declared.event.Refusal.{Refusal};
 ghost use Rattle.scenario.specs.Setups.{setup_refusal};
 ghost use Rattle.scenario.specs.declared.setup.Setup.{Setup};
-ghost use Rattle.inverse_log.specs.Walks.{ending, fresh, jumped, extended};
+ghost use Rattle.inverse_log.specs.Walks.{ending, fresh, moved, extended};
 ghost use Rattle.debug_server.specs.Kinds.{IsOf, OfSchedule, OfMemory};
 ghost use Rattle.debug_server.specs.Replies.{reply};
 ghost use Rattle.debug_server.specs.Schedules.{state_over, StopsBy, fault_of};
@@ -140,17 +140,15 @@ fn over_walk(alloc: Global, walker: Walker) -> Session
     }
 }
 
-// Adds some events to a walk, and goes so many on.
+// Adds some events at the end of a walk, and stays there.
 fn run_through(walker: &mut Walker, events: &[Event]) -> Result<(), RunFault>
-    ensures ok { OnOk result (walker.new ≡ jumped (extended walker.old events.now) (length events.now)) }
+    requires { walker.old.at ≡ length walker.old.events }
+    ensures ok { OnOk result (walker.new ≡ moved (extended walker.old events.now) (length walker.old.events + length events.now)) }
     ensures accepts { OnOk result (Accepts (ending walker.old) events.now) }
     ensures stops { IfErr result (λ e. (setup : Setup) → walker.old ≡ fresh setup → StopsBy setup events.now e) }
 {
-    if let Err(refusal) = walker.extend(events) {
-        return Err(fault_of(refusal));
+    match walker.run_on(events) {
+        Ok(()) => Ok(()),
+        Err(refusal) => Err(fault_of(refusal)),
     }
-    if walker.goto(events.len()).is_err() {
-        return Err(RunFault::Memory);
-    }
-    Ok(())
 }

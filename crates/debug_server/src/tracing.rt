@@ -1,5 +1,5 @@
 //! Traces of scripts.
-ghost use Rattle.std.specs.Prelude.{◌≡◌, ◌⊎◌, ◌≤◌, ℕ, List, Ok, Err, length, IfOk, IfErr, IsTrue, ◌∷◌, []};
+ghost use Rattle.std.specs.Prelude.{◌≡◌, ◌≤◌, ℕ, List, Ok, Err, length, IfOk, IfErr, IsTrue, ◌∷◌, []};
 ghost use Rattle.std.specs.List.{list_all};
 ghost use Rattle.machine.specs.Runs.{start, Accepts, IsRefused};
 ghost use Rattle.scenario.specs.declared.event.Event.{Event};
@@ -15,9 +15,10 @@ ghost use Rattle.debug_server.specs.Tracing.{IsSpelling, IsTraceOf};
 
 use crate::faults::RunFault;
 use crate::running::run_schedule;
+use crate::scripts::script_of;
 use crate::task::Form;
 use scenario::Event;
-use script::{Script, ScriptFault, read_script};
+use script::Script;
 use std::alloc::{AllocError, Global};
 use traces::{TraceFault, read_trace, write_trace, write_trace2};
 
@@ -87,17 +88,6 @@ fn migrate_with(alloc: Global, script: &Script, trace: &[u8]) -> Result<Traced, 
             bytes,
         }),
         Err(_) => Err(RunFault::Memory),
-    }
-}
-
-fn script_of(alloc: Global, text: &[u8]) -> Result<Script, RunFault>
-    ensures ok { IfOk result (λ s. Reads text.now (Ok s)) }
-    ensures script { IfErr result (λ e. (e ≡ RunFault.Memory) ⊎ ((f : ScriptFault) × (e ≡ RunFault.Script f) × Reads text.now (Err f))) }
-{
-    match read_script(alloc, text) {
-        Ok(script) => Ok(script),
-        Err(ScriptFault::Memory) => Err(RunFault::Memory),
-        Err(fault) => Err(RunFault::Script(fault)),
     }
 }
 

@@ -1,5 +1,5 @@
 //! A walker through a run.
-ghost use Rattle.std.specs.Prelude.{◌≡◌, ℕ, ◌-◌, ◌+◌, ◌^◌, ◌<◌, ◌≤◌, ◌↔◌, ◌⊎◌, ◌∷◌, [], Some, None, length, min, nat_lt, IsOk, OnOk, OnErr, IfErr, IfOk};
+ghost use Rattle.std.specs.Prelude.{◌≡◌, ℕ, ◌-◌, ◌+◌, ◌^◌, ◌<◌, ◌≤◌, ◌↔◌, ◌⊎◌, ◌∷◌, [], Some, None, length, min, nat_lt, IsOk, OnOk, OnErr, IfErr, IfOk, MatchBool};
 ghost use Rattle.scenario.specs.declared.event.Refusal.{Refusal};
 ghost use Rattle.scenario.specs.declared.setup.SetupRefusal.{SetupRefusal};
 ghost use Rattle.machine.specs.Runs.{start, Accepts, Linked, setup_refusal};
@@ -153,19 +153,54 @@ impl Walker {
         ensures none { events.now ≡ [] → IsOk result }
         ensures err { OnErr result (self.new ≡ self.old) }
     {
-        let len = self.len();
-        if events.len() > TRACE_LIMIT - len {
+        if self.has_no_room_for(events) {
             return Err(ExtendRefusal::TraceFull);
         }
         if events.is_empty() {
             return Ok(());
         }
+        let len = self.len();
         let copies = self.trail.extend(events, self.kept.every())?;
         if self.kept.keep(copies).is_err() {
             self.trail.cut(len);
             return Err(ExtendRefusal::Refused(events.len() as u32 - 1, Refusal::Memory));
         }
         Ok(())
+    }
+
+    /// The same from the end of the trace, but it stays at the end: each event is one step.
+    pub fn run_on(&mut self, events: &[Event]) -> Result<(), ExtendRefusal>
+        requires { self.old.at ≡ length self.old.events }
+        ensures ok { OnOk result (self.new ≡ moved (extended self.old events.now) (length self.old.events + length events.now)) }
+        ensures accepts { OnOk result (Accepts (ending self.old) events.now) }
+        ensures full { (result ≡ Err ExtendRefusal.TraceFull) ↔ (1048576 < length self.old.events + length events.now) }
+        ensures refused { (i : ℕ) (n : Refusal) → result ≡ Err (ExtendRefusal.Refused i n) → RefusedAt (ending self.old) events.now i n }
+        ensures none { events.now ≡ [] → IsOk result }
+        ensures err { OnErr result (self.new ≡ self.old) }
+    {
+        if self.has_no_room_for(events) {
+            return Err(ExtendRefusal::TraceFull);
+        }
+        if events.is_empty() {
+            return Ok(());
+        }
+        let len = self.len();
+        let copies = self.trail.run_on(events, self.kept.every())?;
+        if self.kept.keep(copies).is_err() {
+            self.trail.back_to(len, Tally::Free);
+            self.trail.cut(len);
+            return Err(ExtendRefusal::Refused(events.len() as u32 - 1, Refusal::Memory));
+        }
+        Ok(())
+    }
+
+    // Whether a trace can't have so many events more.
+    fn has_no_room_for(&self, events: &[Event]) -> bool
+        ensures full { MatchBool result (1048576 < length self.now.events + length events.now)
+            (length self.now.events + length events.now ≤ 1048576) }
+        ensures most { length self.now.events ≤ 1048576 }
+    {
+        events.len() > TRACE_LIMIT - self.len()
     }
 
     /// Goes one event back. False at the start.
