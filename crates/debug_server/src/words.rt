@@ -41,6 +41,15 @@ const KINDS: &[&str] = &[
     "not-taken",
     "not-reaped",
     "unfinished",
+    "buffer-in-use",
+    "unordered",
+    "shared-position",
+    "fsync-early",
+    "taken-short",
+    "no-such-slot",
+    "cut-off",
+    "went-on",
+    "no-effect",
 ];
 
 const DRAWN: &str =

@@ -1,13 +1,12 @@
 -- Searches that go on by an event, or end at one.
-use Rattle.std.proofs.Common.{◌≡◌, ◌⊎◌, inl, inr, ℕ, zero, suc, ◌+◌, ◌<◌, List, [], ◌∷◌, ◌++◌, length, take, map, get_or, slice_get, Bool, true, false, Option, Some, None, refl, sym, ap, ◌∙◌, subst, arith}
+use Rattle.std.proofs.Common.{◌≡◌, inl, inr, ℕ, zero, suc, ◌+◌, ◌<◌, List, [], ◌++◌, length, take, map, get_or, slice_get, Bool, true, false, Option, Some, None, sym, ap, ◌∙◌, subst, arith}
 use Rattle.std.proofs.lemmas.Bool.{cases_lt, cases_order, or_cases}
 use Rattle.std.proofs.lemmas.List.Elements.{All-nil, All-append, All-weaker, All-contains, Contains-append_left, Contains-append_right, Contains-get_or}
 use Rattle.std.proofs.lemmas.Option.{slice_get-get_or, slice_get_past}
-use Rattle.std.specs.Prelude.{◌||◌, Result, Ok, Err, IfOk}
+use Rattle.std.specs.Prelude.{Result, Ok, Err, IfOk}
 use Rattle.std.specs.Option.{option_map_or}
 use Rattle.std.specs.List.{All, Contains, flat_map}
 use Rattle.scenario.specs.declared.event.Event.{Event}
-use Rattle.scenario.specs.declared.event.Refusal.{Refusal}
 use Rattle.scenario.specs.declared.setup.Setup.{Setup}
 use Rattle.places.specs.declared.value.Change.{Change}
 use Rattle.machine.specs.declared.whole.Machine.{Machine}
@@ -19,21 +18,25 @@ use Rattle.run_log.specs.declared.fault.LogFault.TheVariants.{Script, Trace, Sch
 use Rattle.findings.proofs.Longer.{accepts_more, moment_more}
 use Rattle.findings.specs.declared.finding.Finding.{Finding}
 use Rattle.findings.specs.declared.kind.Kind.{Kind}
-use Rattle.findings.specs.Findings.{ends, shows, occurs_at, stands_at, IsLeft, IsFinding, IsToldOf, Rises}
-use Rattle.findings.specs.Records.{of_change, of_event, Adds, FoundBefore, IsLasting, AreLeft, IsAll, all_left, SameFindings, HaltsAt, Halted}
+use Rattle.findings.specs.Conflicts.{done_at}
+use Rattle.findings.specs.Findings.{occurs, occurs_at, stands_at, IsLeft, IsFinding, IsToldOf, Rises}
+use Rattle.findings.specs.Records.{of_change, of_event, of_deed, Covers, Adds, FoundBefore, IsLasting, AreLeft, IsAll, all_left, SameFindings, HaltsAt, Halted}
 use Rattle.findings.specs.Conditions.{Began}
 use Rattle.findings.specs.declared.watching.Watch.{Watch}
 use Rattle.findings.specs.Watched.{advanced, watched, of_lasting}
 use Rattle.findings.proofs.Lasting.{watch_at, watched_first, advanced_more, lasting_told}
 use Rattle.findings.proofs.Left.{rows_left}
+use Rattle.findings.proofs.Beside.{IsDone, deed_done, deed_there}
+use Rattle.findings.proofs.Candidates.{covers_more, covers_none}
 use Rattle.findings.proofs.Members.{Has, has_left, has_right, has_contains}
-use Rattle.findings.proofs.Shown.{IsShown, IsRung, record_shown, shown_there, event_rung, rung_there}
+use Rattle.findings.proofs.Shown.{IsShown, IsRung, or_first, or_second, record_shown, shown_there, event_rung, rung_there}
 
 -- the findings before a moment were found, and the next event finds their machine
-pub record Finds (s : Setup) (es : List Event) (i : ℕ) (m : Machine) (fs : List Finding) (ws : List Watch) : Type 0 where
+pub record Finds (s : Setup) (es : List Event) (i : ℕ) (m : Machine) (fs : List Finding) (numbers : List ℕ) (ws : List Watch) : Type 0 where
   pub here : m ≡ machine_at s es i
   pub runs : Accepts (start s) (take i es)
   pub found : FoundBefore s es i fs
+  pub covered : Covers m.table numbers
   pub watching : ws ≡ map (watch_at s es i) (watched s)
 
 -- what was shown before a moment
@@ -43,25 +46,18 @@ IsEarly s es n f = (f.moment < n) × (occurs_at s es f.moment f.kind f.subject �
 found_none : (s : Setup) (es : List Event) → FoundBefore s es zero []
 found_none s es = record { only = All-nil (IsEarly s es zero); whole = λ f l h. absurd (omega arith) }
 
-pub finds_none : (s : Setup) (es : List Event) (m : Machine) (fs : List Finding) (ws : List Watch) → m ≡ start s → fs ≡ [] → ws ≡ map (advanced s m zero) (watched s) → Finds s es zero m fs ws
-finds_none s es m fs ws e h w = record {
+pub finds_none : (s : Setup) (es : List Event) (m : Machine) (fs : List Finding) (numbers : List ℕ) (ws : List Watch) → m ≡ start s → fs ≡ [] → ws ≡ map (advanced s m zero) (watched s) → Finds s es zero m fs numbers ws
+finds_none s es m fs numbers ws e h w = record {
   here = e;
   runs = tt;
   found = subst (FoundBefore s es zero) (sym h) (found_none s es);
+  covered = subst (λ (x : Machine). Covers x.table numbers) (sym e) (covers_none numbers);
   watching = w ∙ ap (λ (x : Machine). map (advanced s x zero) (watched s)) e ∙ watched_first s es;
 }
 
-or_first : (a b : Bool) → a ≡ true → (a || b) ≡ true
-or_first true b h = refl
-or_first false b h = cc
-
-or_second : (a b : Bool) → b ≡ true → (a || b) ≡ true
-or_second true b h = refl
-or_second false b h = h
-
 -- what an event shows
 abbrev is_shown : Setup → Machine → Event → Kind → ℕ → Bool
-is_shown s m e kind n = ends kind m (after m e) n || shows s kind m e (after m e) n
+is_shown s m e kind n = occurs s kind m e (after m e) n
 
 -- what is shown at a moment
 at_moment : (s : Setup) (es : List Event) (i : ℕ) (e : Event) (kind : Kind) (r : ℕ) → slice_get es i ≡ Some e → occurs_at s es i kind r ≡ is_shown s (machine_at s es i) e kind r
@@ -71,12 +67,20 @@ at_moment s es i e kind r h = ap (λ (o : Option Event). option_map_or (λ (x : 
 moved : (s : Setup) (es : List Event) (i : ℕ) (f : Finding) → f.moment ≡ i → occurs_at s es f.moment f.kind f.subject ≡ occurs_at s es i f.kind f.subject
 moved s es i f h = ap (λ (k : ℕ). occurs_at s es k f.kind f.subject) h
 
-found_more : (s : Setup) (es : List Event) (i : ℕ) (e : Event) (fs gs : List Finding) → slice_get es i ≡ Some e → FoundBefore s es i fs → Adds s i (machine_at s es i) e (after (machine_at s es i) e) fs gs
-    → FoundBefore s es (i + 1) gs
-found_more s es i e fs gs there h adds = record {
+-- what an event adds: of rows, of rings and threads, and beside requests that haven't ended
+abbrev of_rows : ℕ → Machine → List Change → List Finding
+of_rows i behind cs = flat_map (of_change i (view behind)) cs
+
+abbrev of_deeds : Setup → ℕ → Machine → Event → Machine → List ℕ → List Finding
+of_deeds s i before e behind numbers = of_deed i s behind.table (done_at s before e behind) numbers
+
+found_more : (s : Setup) (es : List Event) (i : ℕ) (e : Event) (fs gs : List Finding) (numbers now : List ℕ) → slice_get es i ≡ Some e → FoundBefore s es i fs → Covers (after (machine_at s es i) e).table now
+    → Adds s i (machine_at s es i) e (after (machine_at s es i) e) fs gs numbers now → FoundBefore s es (i + 1) gs
+found_more s es i e fs gs numbers now there h covered adds = record {
   only = subst (All (IsEarly s es (i + 1))) (sym adds.added)
-      (All-append (IsEarly s es (i + 1)) (fs ++ flat_map (of_change i (view (after (machine_at s es i) e))) adds.past) (of_event s i (machine_at s es i) e (after (machine_at s es i) e))
-      (All-append (IsEarly s es (i + 1)) fs (flat_map (of_change i (view (after (machine_at s es i) e))) adds.past) earlier of_rows) of_rings);
+      (All-append (IsEarly s es (i + 1)) ((fs ++ of_rows i (after (machine_at s es i) e) adds.past) ++ of_event s i (machine_at s es i) e (after (machine_at s es i) e)) (of_deeds s i (machine_at s es i) e (after (machine_at s es i) e) now)
+      (All-append (IsEarly s es (i + 1)) (fs ++ of_rows i (after (machine_at s es i) e) adds.past) (of_event s i (machine_at s es i) e (after (machine_at s es i) e))
+      (All-append (IsEarly s es (i + 1)) fs (of_rows i (after (machine_at s es i) e) adds.past) earlier rows_told) rings_told) deeds_told);
   whole = λ f l k. subst (λ (xs : List Finding). Contains xs f) (sym adds.added) (member f l k);
 }
   where
@@ -86,69 +90,82 @@ found_more s es i e fs gs there h adds = record {
     told : (f : Finding) → f.moment ≡ i → is_shown s (machine_at s es i) e f.kind f.subject ≡ true → IsEarly s es (i + 1) f
     told f same k = (omega arith, moved s es i f same ∙ at_moment s es i e f.kind f.subject there ∙ k)
 
-    of_rows : All (IsEarly s es (i + 1)) (flat_map (of_change i (view (after (machine_at s es i) e))) adds.past)
-    of_rows =
-        All-weaker (IsShown i (machine_at s es i) (after (machine_at s es i) e)) (IsEarly s es (i + 1)) (λ f p. told f p.0 (or_first _ _ p.1)) _
+    rows_told : All (IsEarly s es (i + 1)) (of_rows i (after (machine_at s es i) e) adds.past)
+    rows_told =
+        All-weaker (IsShown i (machine_at s es i) (after (machine_at s es i) e)) (IsEarly s es (i + 1)) (λ f p. told f p.0 (or_first _ _ (or_first _ _ p.1))) _
         (record_shown i (machine_at s es i) (after (machine_at s es i) e) adds.past adds.exact adds.once)
 
-    of_rings : All (IsEarly s es (i + 1)) (of_event s i (machine_at s es i) e (after (machine_at s es i) e))
-    of_rings =
-        All-weaker (IsRung s i (machine_at s es i) e (after (machine_at s es i) e)) (IsEarly s es (i + 1)) (λ f p. told f p.0 (or_second _ _ p.1)) _
+    rings_told : All (IsEarly s es (i + 1)) (of_event s i (machine_at s es i) e (after (machine_at s es i) e))
+    rings_told =
+        All-weaker (IsRung s i (machine_at s es i) e (after (machine_at s es i) e)) (IsEarly s es (i + 1)) (λ f p. told f p.0 (or_first _ _ (or_second _ _ p.1))) _
         (event_rung s i (machine_at s es i) e (after (machine_at s es i) e))
+
+    deeds_told : All (IsEarly s es (i + 1)) (of_deeds s i (machine_at s es i) e (after (machine_at s es i) e) now)
+    deeds_told =
+        All-weaker (IsDone i s (after (machine_at s es i) e).table (done_at s (machine_at s es i) e (after (machine_at s es i) e))) (IsEarly s es (i + 1)) (λ f p. told f p.0 (or_second _ _ p.1)) _
+        (deed_done i s (after (machine_at s es i) e).table (done_at s (machine_at s es i) e (after (machine_at s es i) e)) now)
 
     back : (f : Finding) → f.moment ≡ i → (xs : List Finding) → Has xs (record { moment = i; kind = f.kind; subject = f.subject }) → Has xs f
     back f same xs has = subst (λ (k : ℕ). Has xs (record { moment = k; kind = f.kind; subject = f.subject })) (sym same) has
 
-    now : (f : Finding) → f.moment ≡ i → occurs_at s es f.moment f.kind f.subject ≡ true
-        → Has ((fs ++ flat_map (of_change i (view (after (machine_at s es i) e))) adds.past) ++ of_event s i (machine_at s es i) e (after (machine_at s es i) e)) f
-    now f same k =
+    now_told : (f : Finding) → f.moment ≡ i → occurs_at s es f.moment f.kind f.subject ≡ true
+        → Has (((fs ++ of_rows i (after (machine_at s es i) e) adds.past) ++ of_event s i (machine_at s es i) e (after (machine_at s es i) e)) ++ of_deeds s i (machine_at s es i) e (after (machine_at s es i) e) now) f
+    now_told f same k =
         let shown : is_shown s (machine_at s es i) e f.kind f.subject ≡ true = sym (at_moment s es i e f.kind f.subject there) ∙ sym (moved s es i f same) ∙ k in
         elim (or_cases _ _ shown) [
-          | inl row ↦ has_left (fs ++ flat_map (of_change i (view (after (machine_at s es i) e))) adds.past) (of_event s i (machine_at s es i) e (after (machine_at s es i) e)) f
-              (has_right fs (flat_map (of_change i (view (after (machine_at s es i) e))) adds.past) f
-              (back f same _ (shown_there i (machine_at s es i) (after (machine_at s es i) e) adds.past f.kind f.subject adds.exact row)))
-          | inr ring ↦ has_right (fs ++ flat_map (of_change i (view (after (machine_at s es i) e))) adds.past) (of_event s i (machine_at s es i) e (after (machine_at s es i) e)) f
-              (back f same _ (rung_there s i (machine_at s es i) e (after (machine_at s es i) e) f.kind f.subject ring))
+          | inl early ↦ has_left _ (of_deeds s i (machine_at s es i) e (after (machine_at s es i) e) now) f
+              (elim (or_cases _ _ early) [
+                | inl row ↦ has_left (fs ++ of_rows i (after (machine_at s es i) e) adds.past) (of_event s i (machine_at s es i) e (after (machine_at s es i) e)) f
+                    (has_right fs (of_rows i (after (machine_at s es i) e) adds.past) f
+                    (back f same _ (shown_there i (machine_at s es i) (after (machine_at s es i) e) adds.past f.kind f.subject adds.exact row)))
+                | inr ring ↦ has_right (fs ++ of_rows i (after (machine_at s es i) e) adds.past) (of_event s i (machine_at s es i) e (after (machine_at s es i) e)) f
+                    (back f same _ (rung_there s i (machine_at s es i) e (after (machine_at s es i) e) f.kind f.subject ring))
+              ])
+          | inr beside ↦ has_right ((fs ++ of_rows i (after (machine_at s es i) e) adds.past) ++ of_event s i (machine_at s es i) e (after (machine_at s es i) e)) (of_deeds s i (machine_at s es i) e (after (machine_at s es i) e) now) f
+              (back f same _ (deed_there i s (after (machine_at s es i) e).table (done_at s (machine_at s es i) e (after (machine_at s es i) e)) now f.kind f.subject covered beside))
         ]
 
     member : (f : Finding) → f.moment < i + 1 → occurs_at s es f.moment f.kind f.subject ≡ true
-        → Contains ((fs ++ flat_map (of_change i (view (after (machine_at s es i) e))) adds.past) ++ of_event s i (machine_at s es i) e (after (machine_at s es i) e)) f
+        → Contains (((fs ++ of_rows i (after (machine_at s es i) e) adds.past) ++ of_event s i (machine_at s es i) e (after (machine_at s es i) e)) ++ of_deeds s i (machine_at s es i) e (after (machine_at s es i) e) now) f
     member f l k =
         elim (cases_order f.moment i) [
-          | inl same ↦ has_contains _ f (now f same k)
-          | inr (inl before) ↦ Contains-append_left (fs ++ flat_map (of_change i (view (after (machine_at s es i) e))) adds.past) _ f (Contains-append_left fs _ f (h.whole f before k))
+          | inl same ↦ has_contains _ f (now_told f same k)
+          | inr (inl before) ↦ Contains-append_left ((fs ++ of_rows i (after (machine_at s es i) e) adds.past) ++ of_event s i (machine_at s es i) e (after (machine_at s es i) e)) _ f
+              (Contains-append_left (fs ++ of_rows i (after (machine_at s es i) e) adds.past) _ f (Contains-append_left fs _ f (h.whole f before k)))
           | inr (inr past) ↦ absurd (omega arith)
         ]
 
-pub finds_more : (s : Setup) (es : List Event) (i k : ℕ) (m n : Machine) (e d : Event) (fs gs : List Finding) (ws xs : List Watch) → i < length es → k ≡ i + 1 → Finds s es i m fs ws → e ≡ get_or es i d → Next m e n → Adds s i m e n fs gs
-    → xs ≡ map (advanced s n k) ws → Finds s es (i + 1) n gs xs
-finds_more s es i k m n e d fs gs ws xs l up h g next adds w =
+pub finds_more : (s : Setup) (es : List Event) (i k : ℕ) (m n : Machine) (e d : Event) (fs gs : List Finding) (numbers now : List ℕ) (ws xs : List Watch) → i < length es → k ≡ i + 1 → Finds s es i m fs numbers ws → e ≡ get_or es i d → Next m e n
+    → Adds s i m e n fs gs numbers now → xs ≡ map (advanced s n k) ws → Finds s es (i + 1) n gs now xs
+finds_more s es i k m n e d fs gs numbers now ws xs l up h g next adds w =
     let there : slice_get es i ≡ Some e = slice_get-get_or es i d l ∙ ap Some (sym g) in
     let accepted : refusal (machine_at s es i) e ≡ None = ap (λ (x : Machine). refusal x e) (sym h.here) ∙ next.accepted in
     let behind : n ≡ after (machine_at s es i) e = next.changed ∙ ap (λ (x : Machine). after x e) h.here in
-    let told : Adds s i (machine_at s es i) e (after (machine_at s es i) e) fs gs =
-    subst (λ (x : Machine). Adds s i x e (after (machine_at s es i) e) fs gs) h.here (subst (λ (x : Machine). Adds s i m e x fs gs) behind adds)
+    let told : Adds s i (machine_at s es i) e (after (machine_at s es i) e) fs gs numbers now =
+    subst (λ (x : Machine). Adds s i x e (after (machine_at s es i) e) fs gs numbers now) h.here (subst (λ (x : Machine). Adds s i m e x fs gs numbers now) behind adds)
     in
+    let covered : Covers n.table now = covers_more m n adds.past numbers now h.covered adds.exact adds.further in
     let here : n ≡ machine_at s es (i + 1) = behind ∙ sym (moment_more s es i e d l g) in
     let one : k ≡ suc i = omega arith in
     let here_too : n ≡ machine_at s es k = here ∙ ap (machine_at s es) (sym up) in
     record {
       here = here;
       runs = accepts_more (start s) es i e d l g h.runs accepted;
-      found = found_more s es i e fs gs there h.found told;
+      found = found_more s es i e fs gs numbers now there h.found (subst (λ (x : Machine). Covers x.table now) behind covered) told;
+      covered = covered;
       watching =
           w ∙ ap (λ (ys : List Watch). map (advanced s n k) ys) h.watching ∙ advanced_more s es i k n (watched s) one here_too ∙ ap (λ (j : ℕ). map (watch_at s es j) (watched s)) up;
     }
 
-pub finds_stops : (s : Setup) (es : List Event) (i : ℕ) (m : Machine) (e d : Event) (fs : List Finding) (ws : List Watch) (f : LogFault) → i < length es → Finds s es i m fs ws → e ≡ get_or es i d → HaltsAt i m e f → Halted s es f
-finds_stops s es i m e d fs ws (Schedule j n) l h g stop =
+pub finds_stops : (s : Setup) (es : List Event) (i : ℕ) (m : Machine) (e d : Event) (fs : List Finding) (numbers : List ℕ) (ws : List Watch) (f : LogFault) → i < length es → Finds s es i m fs numbers ws → e ≡ get_or es i d → HaltsAt i m e f → Halted s es f
+finds_stops s es i m e d fs numbers ws (Schedule j n) l h g stop =
     let there : slice_get es i ≡ Some e = slice_get-get_or es i d l ∙ ap Some (sym g) in
     let refused : IsRefused s es i n = record { runs = h.runs; event = e; there = there; refused = ap (λ (x : Machine). refusal x e) (sym h.here) ∙ stop.1 } in
     subst (λ (k : ℕ). IsRefused s es k n) (sym stop.0) refused
-finds_stops s es i m e d fs ws Memory l h g stop = tt
-finds_stops s es i m e d fs ws Write l h g stop = absurd stop
-finds_stops s es i m e d fs ws (Script x) l h g stop = absurd stop
-finds_stops s es i m e d fs ws (Trace x) l h g stop = absurd stop
+finds_stops s es i m e d fs numbers ws Memory l h g stop = tt
+finds_stops s es i m e d fs numbers ws Write l h g stop = absurd stop
+finds_stops s es i m e d fs numbers ws (Script x) l h g stop = absurd stop
+finds_stops s es i m e d fs numbers ws (Trace x) l h g stop = absurd stop
 
 false_true : false ≡ true → ⊥
 false_true e = cc
@@ -182,11 +199,11 @@ all_found s es fs ls us gs h lasting left e = subst (IsAll s es) (sym e) (record
 })
 
 -- at the end
-pub finds_lasting : (s : Setup) (es : List Event) (i : ℕ) (m : Machine) (fs : List Finding) (ws : List Watch) → i ≡ length es → Finds s es i m fs ws → IsLasting s es (flat_map of_lasting ws)
-finds_lasting s es i m fs ws e h = lasting_told s es ws (h.watching ∙ ap (λ (n : ℕ). map (watch_at s es n) (watched s)) e)
+pub finds_lasting : (s : Setup) (es : List Event) (i : ℕ) (m : Machine) (fs : List Finding) (numbers : List ℕ) (ws : List Watch) → i ≡ length es → Finds s es i m fs numbers ws → IsLasting s es (flat_map of_lasting ws)
+finds_lasting s es i m fs numbers ws e h = lasting_told s es ws (h.watching ∙ ap (λ (n : ℕ). map (watch_at s es n) (watched s)) e)
 
-pub finds_left : (s : Setup) (es : List Event) (i : ℕ) (m : Machine) (fs : List Finding) (ws : List Watch) → i ≡ length es → Finds s es i m fs ws → AreLeft s es (all_left (length es) m.table)
-finds_left s es i m fs ws e h = rows_left s es m (h.here ∙ ap (machine_at s es) e)
+pub finds_left : (s : Setup) (es : List Event) (i : ℕ) (m : Machine) (fs : List Finding) (numbers : List ℕ) (ws : List Watch) → i ≡ length es → Finds s es i m fs numbers ws → AreLeft s es (all_left (length es) m.table)
+finds_left s es i m fs numbers ws e h = rows_left s es m (h.here ∙ ap (machine_at s es) e)
 
 -- all findings, put in order
 pub told_of : (s : Setup) (es : List Event) (fs gs : List Finding) → IsAll s es fs → SameFindings fs gs → Rises zero gs → IsToldOf s es gs

@@ -1,21 +1,21 @@
 -- Conditions that hold on, and from when on.
-use Rattle.std.proofs.Common.{◌≡◌, ◌⊎◌, inl, inr, ℕ, zero, suc, ◌+◌, ◌-◌, ◌<◌, ◌≤◌, Bool, true, false, cond, List, [], ◌∷◌, ◌++◌, length, take, drop, get_or, set, map, refl, sym, ap, ◌∙◌, subst, arith}
+use Rattle.std.proofs.Common.{◌≡◌, inl, inr, ℕ, zero, suc, ◌+◌, ◌-◌, ◌<◌, ◌≤◌, Bool, true, false, List, [], ◌∷◌, ◌++◌, length, take, drop, get_or, set, map, refl, sym, ap, ◌∙◌, subst, arith}
 use Rattle.std.proofs.lemmas.Bool.{cases_lt, cases_order, and_parts, ltb-true, eqb-true}
 use Rattle.std.proofs.lemmas.List.Elements.{All-nil, All-cons, All-append}
-use Rattle.std.specs.Prelude.{Option, Some, None, ◌&&◌, ◌==◌, nat_lt}
-use Rattle.std.specs.List.{All, Contains, flat_map}
+use Rattle.std.specs.Prelude.{Option, Some, None}
+use Rattle.std.specs.List.{All, flat_map}
 use Rattle.scenario.specs.declared.event.Event.{Event}
 use Rattle.scenario.specs.declared.setup.Setup.{Setup}
 use Rattle.machine.specs.declared.whole.Machine.{Machine}
 use Rattle.machine.specs.Runs.{start, moment as machine_at}
 use Rattle.findings.specs.declared.finding.Finding.{Finding}
 use Rattle.findings.specs.declared.kind.Kind.{Kind}
-use Rattle.findings.specs.declared.kind.Kind.TheVariants.{Failed, Short, Severed, Canceled, TimedOut, Expired, NotFound, TooLate, Overflow, Busy, Waits, LostWakeUp, NotTaken, NotReaped, Unfinished}
+use Rattle.findings.specs.declared.kind.Kind.TheVariants.{Waits, LostWakeUp, NotTaken, NotReaped}
 use Rattle.findings.specs.declared.watching.Watch.{Watch}
 use Rattle.findings.specs.Conditions.{stands, Began}
 use Rattle.findings.specs.Findings.{stands_at}
 use Rattle.findings.specs.Records.{IsLasting}
-use Rattle.findings.specs.Watched.{continued, advanced, fresh, numbers_below, of_rings, watched, of_watch, of_lasting}
+use Rattle.findings.specs.Watched.{continued, advanced, fresh, numbers_below, watched, of_watch, of_lasting}
 use Rattle.findings.proofs.Members.{Has, has_left, has_right, has_flat_map, has_contains}
 
 false_true : false ≡ true → ⊥
@@ -188,17 +188,7 @@ watched_has s NotReaped m n h = let e : n ≡ zero = eqb-true n zero (and_parts 
 watched_has s Waits m n h =
     let l : n < length s.threads = ltb-true n (length s.threads) (and_parts _ _ h).0 in
     inr (inr (inr (has_map (fresh Waits) (numbers_below (length s.threads)) n (below_there n (length s.threads) l))))
-watched_has s Failed m n h = absurd (false_true h)
-watched_has s Short m n h = absurd (false_true h)
-watched_has s Severed m n h = absurd (false_true h)
-watched_has s Canceled m n h = absurd (false_true h)
-watched_has s TimedOut m n h = absurd (false_true h)
-watched_has s Expired m n h = absurd (false_true h)
-watched_has s NotFound m n h = absurd (false_true h)
-watched_has s TooLate m n h = absurd (false_true h)
-watched_has s Overflow m n h = absurd (false_true h)
-watched_has s Busy m n h = absurd (false_true h)
-watched_has s Unfinished m n h = absurd (false_true h)
+watched_has s _ m n h = absurd (false_true h)
 
 watch_told : (s : Setup) (es : List Event) (n : ℕ) (f : Finding) → IsOn s es n f → Has (flat_map of_lasting (map (watch_at s es n) (watched s))) f
 watch_told s es n f h =

@@ -1,5 +1,5 @@
 -- Rows that are unfinished at the end.
-use Rattle.std.proofs.Common.{◌≡◌, ◌⊎◌, inl, inr, ℕ, zero, suc, ◌+◌, ◌<◌, ◌≤◌, Bool, true, false, List, [], ◌∷◌, ◌++◌, length, drop, refl, sym, ap, ◌∙◌, subst, arith, append_assoc, append-nil}
+use Rattle.std.proofs.Common.{◌≡◌, inl, inr, ℕ, zero, suc, ◌+◌, ◌≤◌, Bool, true, false, List, [], ◌∷◌, ◌++◌, length, drop, refl, sym, ap, ◌∙◌, subst, arith, append_assoc, append-nil}
 use Rattle.std.proofs.lemmas.List.{drop_all}
 use Rattle.std.proofs.lemmas.List.Elements.{All-nil, All-cons, All-append}
 use Rattle.std.specs.Prelude.{Option, Some, None, slice_get}
@@ -13,7 +13,7 @@ use Rattle.machine.specs.declared.whole.Machine.{Machine}
 use Rattle.machine.specs.Runs.{moment as machine_at}
 use Rattle.findings.specs.declared.finding.Finding.{Finding}
 use Rattle.findings.specs.declared.kind.Kind.{Kind}
-use Rattle.findings.specs.declared.kind.Kind.TheVariants.{Failed, Short, Severed, Canceled, TimedOut, Expired, NotFound, TooLate, Overflow, Busy, Waits, LostWakeUp, NotTaken, NotReaped, Unfinished}
+use Rattle.findings.specs.declared.kind.Kind.TheVariants.{Unfinished}
 use Rattle.findings.specs.Conditions.{is_left}
 use Rattle.findings.specs.Findings.{IsLeft}
 use Rattle.findings.specs.Records.{given, of_left, all_left, AreLeft}
@@ -76,20 +76,7 @@ false_true e = cc
 
 left_is_open : (kind : Kind) (m : Machine) (r : ℕ) → is_left kind m r ≡ true → (Unfinished ≡ kind) × (option_map_or is_open (slice_get m.table r) false ≡ true)
 left_is_open Unfinished m r h = (refl, h)
-left_is_open Failed m r h = absurd (false_true h)
-left_is_open Short m r h = absurd (false_true h)
-left_is_open Severed m r h = absurd (false_true h)
-left_is_open Canceled m r h = absurd (false_true h)
-left_is_open TimedOut m r h = absurd (false_true h)
-left_is_open Expired m r h = absurd (false_true h)
-left_is_open NotFound m r h = absurd (false_true h)
-left_is_open TooLate m r h = absurd (false_true h)
-left_is_open Overflow m r h = absurd (false_true h)
-left_is_open Busy m r h = absurd (false_true h)
-left_is_open Waits m r h = absurd (false_true h)
-left_is_open LostWakeUp m r h = absurd (false_true h)
-left_is_open NotTaken m r h = absurd (false_true h)
-left_is_open NotReaped m r h = absurd (false_true h)
+left_is_open _ m r h = absurd (false_true h)
 
 only_left : (s : Setup) (es : List Event) (fs : List Finding) → All (IsOpen (length es) (machine_at s es (length es)).table) fs → All (IsLeft s es) fs
 only_left s es fs a = λ k d l. let p = a k d l in (p.0, open_is_left _ (machine_at s es (length es)) _ p.1.0 p.1.1)
@@ -126,8 +113,3 @@ left_more n k rows row start found now e w before =
 
 pub left_whole : (n k : ℕ) (rows : List Row) (start found : List Finding) → length rows ≤ k → found ++ flat_map (of_left n) (enumerate_from k (drop k rows)) ≡ start ++ all_left n rows → found ≡ start ++ all_left n rows
 left_whole n k rows start found l h = sym (append-nil found) ∙ ap (λ (rest : List Row). found ++ flat_map (of_left n) (enumerate_from k rest)) (sym (drop_all k rows l)) ∙ h
-
-pub none_behind : (rows : List Row) (k : ℕ) → slice_get rows k ≡ None → length rows ≤ k
-none_behind [] k e = omega arith
-none_behind (row ∷ rows) zero e = cc
-none_behind (row ∷ rows) (suc k) e = let l : length rows ≤ k = none_behind rows k e in omega arith

@@ -2,6 +2,9 @@ pub mod Longer
 pub mod Members
 pub mod Notes
 pub mod Shown
+pub mod Candidates
+pub mod Beside
+pub mod Draining
 pub mod Ranks
 pub mod Distinct
 pub mod Lasting

@@ -1,5 +1,6 @@
 -- Members of lists, by recursion.
-use Rattle.std.proofs.Common.{◌≡◌, ◌⊎◌, inl, inr, ℕ, zero, suc, ◌<◌, List, [], ◌∷◌, ◌++◌, length, get_or, refl, sym, ap, subst, arith}
+use Rattle.std.proofs.Common.{◌≡◌, ◌⊎◌, inl, inr, ℕ, zero, suc, ◌<◌, ◌≤◌, List, [], ◌∷◌, ◌++◌, length, get_or, sym, subst, arith}
+use Rattle.std.specs.Prelude.{None, slice_get}
 use Rattle.std.specs.List.{Contains, flat_map}
 
 -- a list has a member
@@ -36,3 +37,9 @@ has_contains (y ∷ ys) x (inr h) =
     let c = has_contains ys x h in
     let l : c.0 < length ys = c.1 in
     (suc c.0, omega arith, c.2)
+
+-- where a list has no element it has ended
+pub none_behind : {X : Type 0} (xs : List X) (k : ℕ) → slice_get xs k ≡ None → length xs ≤ k
+none_behind [] k e = omega arith
+none_behind (x ∷ xs) zero e = cc
+none_behind (x ∷ xs) (suc k) e = let l : length xs ≤ k = none_behind xs k e in omega arith

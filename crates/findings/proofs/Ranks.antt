@@ -1,9 +1,9 @@
 -- A rank is that of one finding alone.
-use Rattle.std.proofs.Common.{◌≡◌, ℕ, ◌+◌, ◌*◌, ◌^◌, ◌<◌, lit<, refl, sym, ap, ◌∙◌, arith}
+use Rattle.std.proofs.Common.{◌≡◌, ℕ, ◌+◌, ◌*◌, ◌<◌, lit<, refl, sym, ap, ◌∙◌, arith}
 use Rattle.std.specs.Prelude.{◌==◌, if◌then◌else◌}
 use Rattle.findings.specs.declared.finding.Finding.{Finding}
 use Rattle.findings.specs.declared.kind.Kind.{Kind}
-use Rattle.findings.specs.declared.kind.Kind.TheVariants.{Failed, Short, Severed, Canceled, TimedOut, Expired, NotFound, TooLate, Overflow, Busy, Waits, LostWakeUp, NotTaken, NotReaped, Unfinished}
+use Rattle.findings.specs.declared.kind.Kind.TheVariants.{Failed, Short, Severed, Canceled, TimedOut, Expired, NotFound, TooLate, Overflow, Busy, Waits, LostWakeUp, NotTaken, NotReaped, Unfinished, BufferInUse, Unordered, SharedPosition, FsyncEarly, TakenShort, NoSuchSlot, CutOff, WentOn, NoEffect}
 use Rattle.findings.specs.Findings.{number_of, rank}
 use Rattle.findings.specs.Records.{IsSmall}
 
@@ -23,6 +23,15 @@ number_small LostWakeUp = lit< tt
 number_small NotTaken = lit< tt
 number_small NotReaped = lit< tt
 number_small Unfinished = lit< tt
+number_small BufferInUse = lit< tt
+number_small Unordered = lit< tt
+number_small SharedPosition = lit< tt
+number_small FsyncEarly = lit< tt
+number_small TakenShort = lit< tt
+number_small NoSuchSlot = lit< tt
+number_small CutOff = lit< tt
+number_small WentOn = lit< tt
+number_small NoEffect = lit< tt
 
 kind_of : ℕ → Kind
 kind_of n =
@@ -40,7 +49,16 @@ kind_of n =
     else if n == 11 then LostWakeUp
     else if n == 12 then NotTaken
     else if n == 13 then NotReaped
-    else Unfinished
+    else if n == 14 then Unfinished
+    else if n == 15 then BufferInUse
+    else if n == 16 then Unordered
+    else if n == 17 then SharedPosition
+    else if n == 18 then FsyncEarly
+    else if n == 19 then TakenShort
+    else if n == 20 then NoSuchSlot
+    else if n == 21 then CutOff
+    else if n == 22 then WentOn
+    else NoEffect
 
 kind_back : (kind : Kind) → kind_of (number_of kind) ≡ kind
 unfolding kind_of
@@ -59,6 +77,15 @@ kind_back LostWakeUp = refl
 kind_back NotTaken = refl
 kind_back NotReaped = refl
 kind_back Unfinished = refl
+kind_back BufferInUse = refl
+kind_back Unordered = refl
+kind_back SharedPosition = refl
+kind_back FsyncEarly = refl
+kind_back TakenShort = refl
+kind_back NoSuchSlot = refl
+kind_back CutOff = refl
+kind_back WentOn = refl
+kind_back NoEffect = refl
 
 same_kind : (a b : Kind) → number_of a ≡ number_of b → a ≡ b
 same_kind a b e = sym (kind_back a) ∙ ap kind_of e ∙ kind_back b

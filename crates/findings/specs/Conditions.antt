@@ -1,20 +1,20 @@
 -- What rings and threads show: by an event, and where it holds on to the end of a run.
-use Rattle.std.specs.Prelude.{◌≡◌, ℕ, ◌+◌, ◌≤◌, ◌==◌, Bool, true, false, not, ◌&&◌, ◌||◌, nat_lt, Option, Some, None, slice_get, List, length}
+use Rattle.std.specs.Prelude.{◌≡◌, ℕ, ℤ, ◌+◌, ◌≤◌, ◌==◌, Bool, true, false, not, ◌&&◌, ◌||◌, nat_lt, if◌then◌else◌, Option, Some, None, is_none, option_map, slice_get, length}
 use Rattle.std.specs.Option.{option_map_or, option_and_then}
 use Rattle.places.specs.declared.value.Stage.{Stage}
 use Rattle.places.specs.declared.value.Stage.TheVariants.{Ready, Waiting}
 use Rattle.scenario.specs.declared.event.Event.{Event}
 use Rattle.scenario.specs.declared.event.Event.TheVariants.{Step}
 use Rattle.scenario.specs.declared.setup.Instruction.{Instruction}
-use Rattle.scenario.specs.declared.setup.Instruction.TheVariants.{Enter}
+use Rattle.scenario.specs.declared.setup.Instruction.TheVariants.{Push, Enter}
 use Rattle.scenario.specs.declared.setup.Setup.{Setup}
 use Rattle.links_drains.specs.Links.{has_flag}
 use Rattle.links_drains.specs.Units.{is_open}
 use Rattle.machine.specs.declared.whole.Machine.{Machine}
 use Rattle.machine.specs.Threads.{ThreadState}
 use Rattle.findings.specs.declared.kind.Kind.{Kind}
-use Rattle.findings.specs.declared.kind.Kind.TheVariants.{Waits, Unfinished, LostWakeUp, NotTaken, NotReaped}
-use Rattle.findings.specs.Endings.{is_error}
+use Rattle.findings.specs.declared.kind.Kind.TheVariants.{Busy, Waits, LostWakeUp, NotTaken, NotReaped, Unfinished, TakenShort, NoSuchSlot}
+use Rattle.findings.specs.Endings.{is_error, is_less}
 
 -- ---- rings (io_uring_setup(2), io_uring(7))
 
@@ -36,30 +36,51 @@ has_completions m = not (m.completions.head == m.completions.tail)
 
 -- ---- threads
 
-abbrev pub is_enter : Option Instruction → Bool
-is_enter (Some (Enter to_submit min_complete flags)) = true
-is_enter _ = false
+-- where a thread's program stands as an event is a step of it
+abbrev pub counter_of : Machine → Event → Option ℕ
+counter_of m (Step t) = option_map (λ (x : ThreadState). x.counter) (slice_get m.threads t)
+counter_of m e = None
 
--- the next instruction of a setup's thread, as its counter stands
-abbrev pub next_in : Setup → Machine → ℕ → Option Instruction
-next_in s m t = option_and_then (λ (x : ThreadState). option_and_then (λ program. slice_get program x.counter) (slice_get s.threads t)) (slice_get m.threads t)
+-- the instruction of a setup's program, at a place of it
+abbrev pub instruction_at : Setup → Event → Option ℕ → Option Instruction
+instruction_at s (Step t) (Some counter) = option_and_then (λ program. slice_get program counter) (slice_get s.threads t)
+instruction_at s e _ = None
 
--- whether the event is a step of a thread that stands at an Enter
-abbrev pub enters : Setup → Machine → Event → Bool
-enters s m (Step t) = is_enter (next_in s m t)
-enters s m e = false
+-- the instruction that a thread stands at as an event is a step of it
+abbrev pub done_by : Setup → Machine → Event → Option Instruction
+done_by s m e = instruction_at s e (counter_of m e)
 
 abbrev pub is_held_up : Stage → Bool
 is_held_up Ready = false
 is_held_up (Waiting submitted wanted) = true
 
--- whether a thread has an answer, which is EBUSY: what one that waits in its Enter has is the answer of an earlier one
-abbrev pub has_busy_answer : Machine → ℕ → Bool
-has_busy_answer m t = option_map_or (λ (x : ThreadState). not (is_held_up x.stage) && is_error 16 x.last) (slice_get m.threads t) false
+-- what a thread's last Enter or Close answered: what one that waits in its Enter has is the answer of an earlier one
+abbrev pub answer_of : Machine → ℕ → Option ℤ
+answer_of m t = option_and_then (λ (x : ThreadState). if is_held_up x.stage then None else Some x.last) (slice_get m.threads t)
 
 abbrev pub is_step_of : ℕ → Event → Bool
 is_step_of n (Step t) = t == n
 is_step_of n e = false
+
+-- Whether an Enter that is to submit a number of entries, and was just answered or waits, is a finding about its thread (io_uring_enter(2)):
+--   Busy: it is answered EBUSY;
+--   TakenShort: it took fewer entries than it was to submit.
+abbrev pub is_of_enter : Kind → ℕ → Machine → ℕ → Bool
+is_of_enter Busy to_submit m t = option_map_or (is_error 16) (answer_of m t) false
+is_of_enter TakenShort to_submit m t = option_map_or (λ n. is_less n to_submit) (answer_of m t) false
+is_of_enter kind to_submit m t = false
+
+-- Whether a Push of an index is a finding (io_uring(7)):
+--   NoSuchSlot: it names no slot.
+abbrev pub is_of_push : Kind → ℕ → Machine → Bool
+is_of_push NoSuchSlot index m = is_none (slice_get m.submissions.slots index)
+is_of_push kind index m = false
+
+-- whether a step of a thread is a finding about it, by the instruction that it did and the machine behind it
+abbrev pub is_of_step : Kind → Instruction → Machine → ℕ → Bool
+is_of_step kind (Enter to_submit min_complete flags) m t = is_of_enter kind to_submit m t
+is_of_step kind (Push index) m t = is_of_push kind index m
+is_of_step kind x m t = false
 
 -- whether a setup's thread waits in its Enter
 abbrev pub waits : Setup → Machine → ℕ → Bool

@@ -1,15 +1,16 @@
 -- What the end of a request is a finding of.
-use Rattle.std.specs.Prelude.{ℕ, ℤ, pos, negsuc, ◌==◌, Bool, true, false, not, ◌&&◌, ◌||◌, nat_lt, unsigned_abs, if◌then◌else◌, Option, Some, None, List, [], ◌∷◌}
+use Rattle.std.specs.Prelude.{ℕ, ℤ, pos, negsuc, ◌==◌, Bool, false, not, ◌&&◌, ◌||◌, nat_lt, unsigned_abs, if◌then◌else◌, Option, Some, None, is_some, is_none}
 use Rattle.std.specs.Option.{option_map_or}
+use Rattle.entries.specs.declared.entry.Sqe.{Sqe}
 use Rattle.entries.specs.declared.row.Phase.{Phase}
 use Rattle.entries.specs.declared.row.Phase.TheVariants.{Queued, Issued, Ended}
 use Rattle.entries.specs.declared.row.Row.{Row}
 use Rattle.opcodes.specs.Opcodes.{is_cancel, is_timer}
-use Rattle.links_drains.specs.Links.{is_guard, is_soft_linked}
+use Rattle.links_drains.specs.Links.{has_flag, is_guard, is_linked, is_soft_linked}
 use Rattle.links_drains.specs.Phases.{is_ended, is_issued}
 use Rattle.timeouts_cancel.specs.Falls.{is_bad, is_negative, is_transfer}
 use Rattle.findings.specs.declared.kind.Kind.{Kind}
-use Rattle.findings.specs.declared.kind.Kind.TheVariants.{Failed, Short, Severed, Canceled, TimedOut, Expired, NotFound, TooLate}
+use Rattle.findings.specs.declared.kind.Kind.TheVariants.{Failed, Short, Severed, Canceled, TimedOut, Expired, NotFound, TooLate, WentOn, CutOff, NoEffect}
 
 -- ---- ends
 
@@ -50,24 +51,48 @@ is_told_apart row res =
 
 -- ---- kinds
 
+-- whether another row stands behind it in its chain
+abbrev pub has_next : Row → Option Row → Bool
+has_next row next = option_map_or (λ (other : Row). other.unit == row.unit) next false
+
+-- whether a row with a hard link ends badly, and its chain goes on: one that fails as it is submitted ends its chain, and so does one that an earlier soft link ends
+abbrev pub leaves_chain : Option Row → Row → ℤ → Bool
+leaves_chain before row res = has_flag row.entry.flags 8 && (is_bad row res && (was_issued before || (is_some before && not (is_error 125 res))))
+
 -- Whether a row that ends with a result is a finding of a kind (io_uring_enter(2)):
 --   Failed: with an error that no other kind tells of;
 --   Short: a READ or a WRITE with fewer bytes than asked for;
 --   Severed: a soft-linked row badly, of itself: it isn't one that ends with its chain, which is queued, and ends with ECANCELED;
 --   Canceled: with ECANCELED;
 --   TimedOut, Expired: a LINK_TIMEOUT, a TIMEOUT with ETIME;
---   NotFound, TooLate: a cancel or a removal with ENOENT, with EALREADY.
-abbrev pub is_of : Kind → Option Row → Row → ℤ → Bool
-is_of Failed before row res = is_negative res && not (is_told_apart row res)
-is_of Short before row res = is_transfer row.entry.opcode && is_less res row.entry.len
-is_of Severed before row res = is_soft_linked row && (is_bad row res && (was_issued before || not (is_error 125 res)))
-is_of Canceled before row res = is_error 125 res
-is_of TimedOut before row res = is_guard row && is_error 62 res
-is_of Expired before row res = (row.entry.opcode == 11) && is_error 62 res
-is_of NotFound before row res = is_cancel row.entry.opcode && is_error 2 res
-is_of TooLate before row res = is_cancel row.entry.opcode && is_error 114 res
-is_of _ before row res = false
+--   NotFound, TooLate: a cancel or a removal with ENOENT, with EALREADY;
+--   WentOn: a hard-linked row badly, and another stands behind it.
+abbrev pub is_of : Kind → Option Row → Row → Option Row → ℤ → Bool
+is_of Failed before row next res = is_negative res && not (is_told_apart row res)
+is_of Short before row next res = is_transfer row.entry.opcode && is_less res row.entry.len
+is_of Severed before row next res = is_soft_linked row && (is_bad row res && (was_issued before || not (is_error 125 res)))
+is_of Canceled before row next res = is_error 125 res
+is_of TimedOut before row next res = is_guard row && is_error 62 res
+is_of Expired before row next res = (row.entry.opcode == 11) && is_error 62 res
+is_of NotFound before row next res = is_cancel row.entry.opcode && is_error 2 res
+is_of TooLate before row next res = is_cancel row.entry.opcode && is_error 114 res
+is_of WentOn before row next res = leaves_chain before row res && has_next row next
+is_of _ before row next res = false
 
--- whether a row, as it was before an event and is behind it, ends by it, and that is a finding of a kind
-abbrev pub row_test : Kind → Option Row → Row → Bool
-row_test kind before row = option_map_or (is_of kind before row) (ending_of before row) false
+-- ---- rows that come
+
+-- whether a field of an entry that nothing looks at isn't 0
+abbrev pub has_idle_field : Sqe → Bool
+has_idle_field entry = not (entry.ioprio == 0) || (not (entry.buf_index == 0) || (not (entry.personality == 0) || not (unsigned_abs entry.splice_fd_in == 0)))
+
+-- Whether a row that comes by an event, with the one behind it if there is one, is a finding of a kind (io_uring_enter(2)):
+--   CutOff: it is linked to an entry that didn't become a row with it;
+--   NoEffect: a field of its entry has no effect.
+abbrev pub comes_as : Kind → Row → Option Row → Bool
+comes_as CutOff row next = is_linked row.entry && is_none next
+comes_as NoEffect row next = has_idle_field row.entry
+comes_as kind row next = false
+
+-- whether a row, as it was before an event and is behind it, ends by it, and that is a finding of a kind; or it comes by it, and that is
+abbrev pub row_test : Kind → Option Row → Row → Option Row → Bool
+row_test kind before row next = option_map_or (is_of kind before row next) (ending_of before row) false || (is_none before && comes_as kind row next)

@@ -7,7 +7,7 @@ use Rattle.script.specs.Scripts.{Scenario, Reads}
 use Rattle.traces.specs.Setups.{IsTrace2}
 use Rattle.findings.specs.declared.finding.Finding.{Finding}
 use Rattle.findings.specs.declared.kind.Kind.{Kind}
-use Rattle.findings.specs.declared.kind.Kind.TheVariants.{Failed, Short, Severed, Canceled, TimedOut, Expired, NotFound, TooLate, Overflow, Busy, Waits, LostWakeUp, NotTaken, NotReaped, Unfinished}
+use Rattle.findings.specs.declared.kind.Kind.TheVariants.{Failed, Short, Severed, Canceled, TimedOut, Expired, NotFound, TooLate, Overflow, Busy, Waits, LostWakeUp, NotTaken, NotReaped, Unfinished, BufferInUse, Unordered, SharedPosition, FsyncEarly, TakenShort, NoSuchSlot, CutOff, WentOn, NoEffect}
 use Rattle.findings.specs.Findings.{number_of, IsToldOf}
 
 -- whether a kind is a fault, and no note
@@ -27,6 +27,15 @@ is_fault LostWakeUp = true
 is_fault NotTaken = true
 is_fault NotReaped = false
 is_fault Unfinished = true
+is_fault BufferInUse = true
+is_fault Unordered = true
+is_fault SharedPosition = true
+is_fault FsyncEarly = true
+is_fault TakenShort = true
+is_fault NoSuchSlot = true
+is_fault CutOff = true
+is_fault WentOn = false
+is_fault NoEffect = false
 
 -- whether a kind is asked for: one alone, or each
 abbrev pub is_asked : Option Kind → Kind → Bool

@@ -1,5 +1,5 @@
 -- Findings of runs, by the machines before and behind each event.
-use Rattle.std.specs.Prelude.{◌≡◌, ℕ, ◌+◌, ◌*◌, ◌^◌, ◌≤◌, ◌<◌, ◌==◌, Bool, true, false, not, ◌&&◌, ◌||◌, ◌⊎◌, length, Option, List, [], ◌∷◌, slice_get}
+use Rattle.std.specs.Prelude.{◌≡◌, ℕ, ◌+◌, ◌*◌, ◌^◌, ◌≤◌, ◌==◌, Bool, true, false, not, ◌&&◌, ◌||◌, ◌⊎◌, length, List, [], ◌∷◌, slice_get}
 use Rattle.std.specs.Option.{option_map_or}
 use Rattle.std.specs.List.{All, Contains}
 use Rattle.scenario.specs.declared.event.Event.{Event}
@@ -8,10 +8,11 @@ use Rattle.machine.specs.declared.whole.Machine.{Machine}
 use Rattle.machine.specs.Steps.{after}
 use Rattle.machine.specs.Runs.{moment as machine_at}
 use Rattle.findings.specs.declared.kind.Kind.{Kind}
-use Rattle.findings.specs.declared.kind.Kind.TheVariants.{Failed, Short, Severed, Canceled, TimedOut, Expired, NotFound, TooLate, Overflow, Busy, Waits, LostWakeUp, NotTaken, NotReaped, Unfinished}
+use Rattle.findings.specs.declared.kind.Kind.TheVariants.{Failed, Short, Severed, Canceled, TimedOut, Expired, NotFound, TooLate, Overflow, Busy, Waits, LostWakeUp, NotTaken, NotReaped, Unfinished, BufferInUse, Unordered, SharedPosition, FsyncEarly, TakenShort, NoSuchSlot, CutOff, WentOn, NoEffect}
 use Rattle.findings.specs.declared.finding.Finding.{Finding}
 use Rattle.findings.specs.Endings.{row_test}
-use Rattle.findings.specs.Conditions.{overflows, enters, has_busy_answer, is_step_of, stands, is_left, Began}
+use Rattle.findings.specs.Conditions.{overflows, done_by, is_of_step, is_step_of, stands, is_left, Began}
+use Rattle.findings.specs.Conflicts.{clashes}
 
 -- ---- order
 
@@ -32,6 +33,15 @@ number_of LostWakeUp = 11
 number_of NotTaken = 12
 number_of NotReaped = 13
 number_of Unfinished = 14
+number_of BufferInUse = 15
+number_of Unordered = 16
+number_of SharedPosition = 17
+number_of FsyncEarly = 18
+number_of TakenShort = 19
+number_of NoSuchSlot = 20
+number_of CutOff = 21
+number_of WentOn = 22
+number_of NoEffect = 23
 
 -- where a finding stands among all: by its moment, its kind, and the number of what it is about
 abbrev pub rank : Finding → ℕ
@@ -44,22 +54,31 @@ Rises least (f ∷ fs) = (least ≤ rank f) × Rises (rank f + 1) fs
 
 -- ---- what is found
 
--- whether the row of a number ends by an event that leads from one machine to another, and that is a finding of a kind
+-- whether the row of a number ends by an event that leads from one machine to another, or comes by it, and that is a finding of a kind
 abbrev pub ends : Kind → Machine → Machine → ℕ → Bool
-ends kind before behind r = option_map_or (row_test kind (slice_get before.table r)) (slice_get behind.table r) false
+ends kind before behind r = option_map_or (λ row. row_test kind (slice_get before.table r) row (slice_get behind.table (r + 1))) (slice_get behind.table r) false
 
--- Whether the event is a finding about the rings, with 0, or about a thread:
---   Overflow: completions are kept, and none was before it;
---   Busy: an Enter of the thread is answered EBUSY.
+-- Whether an event is a finding about the rings, with 0:
+--   Overflow: completions are kept, and none was before it.
+abbrev pub ring_shows : Kind → Machine → Machine → ℕ → Bool
+ring_shows Overflow before behind n = (n == 0) && (not (overflows before) && overflows behind)
+ring_shows kind before behind n = false
+
+-- whether an event is a finding about the thread whose step it is
+abbrev pub step_shows : Setup → Kind → Machine → Event → Machine → ℕ → Bool
+step_shows s kind before e behind t = is_step_of t e && option_map_or (λ x. is_of_step kind x behind t) (done_by s before e) false
+
 abbrev pub shows : Setup → Kind → Machine → Event → Machine → ℕ → Bool
-shows s Overflow before e behind n = (n == 0) && (not (overflows before) && overflows behind)
-shows s Busy before e behind t = is_step_of t e && (enters s before e && has_busy_answer behind t)
-shows s kind before e behind n = false
+shows s kind before e behind n = ring_shows kind before behind n || step_shows s kind before e behind n
+
+-- whether an event that leads from one machine to another is a finding of a kind
+abbrev pub occurs : Setup → Kind → Machine → Event → Machine → ℕ → Bool
+occurs s kind before e behind n = (ends kind before behind n || shows s kind before e behind n) || clashes s kind before e behind n
 
 -- whether the event at a moment of a run is a finding of a kind
 abbrev pub occurs_at : Setup → List Event → ℕ → Kind → ℕ → Bool
 occurs_at s es i kind n =
-    option_map_or (λ e. ends kind (machine_at s es i) (after (machine_at s es i) e) n || shows s kind (machine_at s es i) e (after (machine_at s es i) e) n) (slice_get es i) false
+    option_map_or (λ e. occurs s kind (machine_at s es i) e (after (machine_at s es i) e) n) (slice_get es i) false
 
 -- whether a condition stands at a moment of a run
 abbrev pub stands_at : Setup → List Event → Kind → ℕ → ℕ → Bool

@@ -1,5 +1,6 @@
 pub mod Endings
 pub mod Conditions
+pub mod Conflicts
 pub mod Watched
 pub mod Findings
 pub mod Records

@@ -1,7 +1,7 @@
 -- Findings by the record of an event, as they are looked for.
-use Rattle.std.specs.Prelude.{◌≡◌, ℕ, ◌+◌, ◌^◌, ◌<◌, nat_le, Bool, true, not, ◌&&◌, ◌++◌, if◌then◌else◌, Option, Some, None, List, [], ◌∷◌, length}
+use Rattle.std.specs.Prelude.{◌≡◌, ℕ, ◌+◌, ◌^◌, ◌<◌, ◌==◌, nat_le, Bool, true, false, not, ◌&&◌, ◌++◌, if◌then◌else◌, Option, Some, None, List, [], ◌∷◌, length, slice_get}
 use Rattle.std.specs.Option.{option_map_or}
-use Rattle.std.specs.List.{All, flat_map, enumerate_from, Contains}
+use Rattle.std.specs.List.{All, filter, flat_map, enumerate_from, Contains}
 use Rattle.links_drains.specs.Units.{is_open}
 use Rattle.entries.specs.declared.row.Row.{Row}
 use Rattle.places.specs.declared.place.Place.{Place}
@@ -10,9 +10,9 @@ use Rattle.places.specs.declared.value.Change.{Change}
 use Rattle.places.specs.declared.value.Value.{Value}
 use Rattle.places.specs.declared.value.Value.TheVariants.{Requested}
 use Rattle.places.specs.View.{View, Exact, NamesOnce}
-use Rattle.scenario.specs.declared.event.Refusal.{Refusal}
 use Rattle.scenario.specs.declared.event.Event.{Event}
 use Rattle.scenario.specs.declared.event.Event.TheVariants.{Step}
+use Rattle.scenario.specs.declared.setup.Instruction.{Instruction}
 use Rattle.scenario.specs.declared.setup.Setup.{Setup}
 use Rattle.machine.specs.declared.whole.Machine.{Machine}
 use Rattle.machine.specs.Runs.{IsRefused}
@@ -21,10 +21,13 @@ use Rattle.machine.specs.Whole.{view}
 use Rattle.run_log.specs.declared.fault.LogFault.{LogFault}
 use Rattle.run_log.specs.declared.fault.LogFault.TheVariants.{Script, Trace, Schedule, Write, Memory}
 use Rattle.findings.specs.declared.kind.Kind.{Kind}
-use Rattle.findings.specs.declared.kind.Kind.TheVariants.{Failed, Short, Severed, Canceled, TimedOut, Expired, NotFound, TooLate, Overflow, Busy, Unfinished}
+use Rattle.findings.specs.declared.kind.Kind.TheVariants.{Failed, Short, Severed, Canceled, TimedOut, Expired, NotFound, TooLate, Overflow, Busy, Unfinished, BufferInUse, Unordered, SharedPosition, FsyncEarly, TakenShort, NoSuchSlot, CutOff, WentOn, NoEffect}
+use Rattle.findings.specs.declared.deed.Deed.{Deed}
+use Rattle.findings.specs.declared.deed.Deed.TheVariants.{Nothing}
 use Rattle.findings.specs.declared.finding.Finding.{Finding}
 use Rattle.findings.specs.Endings.{row_test}
-use Rattle.findings.specs.Conditions.{overflows, enters, has_busy_answer, Began}
+use Rattle.findings.specs.Conditions.{overflows, done_by, is_of_step, Began}
+use Rattle.findings.specs.Conflicts.{done_at, is_candidate, conflicts}
 use Rattle.findings.specs.Findings.{rank, occurs_at, stands_at, IsLeft, IsFinding}
 
 -- ---- one record
@@ -33,12 +36,12 @@ use Rattle.findings.specs.Findings.{rank, occurs_at, stands_at, IsLeft, IsFindin
 abbrev pub given : Bool → Finding → List Finding
 given test f = if test then f ∷ [] else []
 
--- the kinds that are about rows
+-- the kinds that are about rows which come or end
 abbrev pub row_kinds : List Kind
-row_kinds = Failed ∷ Short ∷ Severed ∷ Canceled ∷ TimedOut ∷ Expired ∷ NotFound ∷ TooLate ∷ []
+row_kinds = Failed ∷ Short ∷ Severed ∷ Canceled ∷ TimedOut ∷ Expired ∷ NotFound ∷ TooLate ∷ CutOff ∷ WentOn ∷ NoEffect ∷ []
 
-abbrev pub of_row : ℕ → ℕ → Option Row → Row → List Kind → List Finding
-of_row i r before row kinds = flat_map (λ (kind : Kind). given (row_test kind before row) (record { moment = i; kind = kind; subject = r })) kinds
+abbrev pub of_row : ℕ → ℕ → Option Row → Row → Option Row → List Kind → List Finding
+of_row i r before row next kinds = flat_map (λ (kind : Kind). given (row_test kind before row next) (record { moment = i; kind = kind; subject = r })) kinds
 
 -- the row that a value is, if it is one
 abbrev pub row_in : Option Value → Option Row
@@ -47,7 +50,7 @@ row_in _ = None
 
 -- the findings of what a record names
 abbrev pub of_place : ℕ → View → Option Value → Place → List Finding
-of_place i behind before (Request r) = option_map_or (λ (row : Row). of_row i r (row_in before) row row_kinds) (row_in (behind (Request r))) []
+of_place i behind before (Request r) = option_map_or (λ (row : Row). of_row i r (row_in before) row (row_in (behind (Request (r + 1)))) row_kinds) (row_in (behind (Request r))) []
 of_place i behind before _ = []
 
 abbrev pub of_change : ℕ → View → Change → List Finding
@@ -59,21 +62,73 @@ of_change i behind c = of_place i behind c.old c.place
 abbrev pub of_overflow : ℕ → Bool → Bool → List Finding
 of_overflow i before behind = given (not before && behind) (record { moment = i; kind = Overflow; subject = 0 })
 
--- that a thread that stood at an Enter has an answer
-abbrev pub of_answer : ℕ → Bool → Event → Machine → List Finding
-of_answer i entered (Step t) behind = given (entered && has_busy_answer behind t) (record { moment = i; kind = Busy; subject = t })
-of_answer i entered e behind = []
+-- the kinds that are about steps of threads
+abbrev pub step_kinds : List Kind
+step_kinds = Busy ∷ TakenShort ∷ NoSuchSlot ∷ []
+
+-- what an instruction that a thread did shows
+abbrev pub of_instruction : ℕ → Instruction → Machine → ℕ → List Kind → List Finding
+of_instruction i x behind t kinds = flat_map (λ (kind : Kind). given (is_of_step kind x behind t) (record { moment = i; kind = kind; subject = t })) kinds
+
+abbrev pub of_step : ℕ → Option Instruction → Event → Machine → List Finding
+of_step i (Some x) (Step t) behind = of_instruction i x behind t step_kinds
+of_step i x e behind = []
 
 -- what an event shows of rings and threads
 abbrev pub of_event : Setup → ℕ → Machine → Event → Machine → List Finding
-of_event s i before e behind = of_overflow i (overflows before) (overflows behind) ++ of_answer i (enters s before e) e behind
+of_event s i before e behind = of_overflow i (overflows before) (overflows behind) ++ of_step i (done_by s before e) e behind
 
--- The findings of an event were added to others, those of its rows by a record that leads from one machine to another.
-pub record Adds (s : Setup) (i : ℕ) (before : Machine) (e : Event) (behind : Machine) (fs gs : List Finding) : Type 0 where
+-- ---- requests beside others
+
+-- the kinds that are about a READ or a WRITE which hasn't ended, beside what an event does
+abbrev pub conflict_kinds : List Kind
+conflict_kinds = BufferInUse ∷ Unordered ∷ SharedPosition ∷ FsyncEarly ∷ []
+
+abbrev pub of_candidate : ℕ → Setup → List Row → Deed → ℕ → Row → List Kind → List Finding
+of_candidate i s rows deed q row kinds = flat_map (λ (kind : Kind). given (conflicts kind s rows deed q row) (record { moment = i; kind = kind; subject = q })) kinds
+
+abbrev pub of_number : ℕ → Setup → List Row → Deed → ℕ → List Finding
+of_number i s rows deed q = option_map_or (λ (row : Row). of_candidate i s rows deed q row conflict_kinds) (slice_get rows q) []
+
+-- what an event does, beside the rows of some numbers
+abbrev pub of_deed : ℕ → Setup → List Row → Deed → List ℕ → List Finding
+of_deed i s rows Nothing numbers = []
+of_deed i s rows deed numbers = flat_map (of_number i s rows deed) numbers
+
+-- ---- which rows these are
+
+abbrev pub is_candidate_in : Option Value → Bool
+is_candidate_in v = option_map_or is_candidate (row_in v) false
+
+-- numbers once a row is a candidate or isn't, which it was or wasn't
+abbrev pub followed : List ℕ → ℕ → Bool → Bool → List ℕ
+followed numbers q true true = numbers
+followed numbers q false true = numbers ++ q ∷ []
+followed numbers q true false = filter (λ k. not (k == q)) numbers
+followed numbers q false false = numbers
+
+abbrev pub after_note : View → List ℕ → Option Value → Place → List ℕ
+after_note behind numbers old (Request q) = followed numbers q (is_candidate_in old) (is_candidate_in (behind (Request q)))
+after_note behind numbers old _ = numbers
+
+-- and once a record has been looked at
+abbrev pub after_notes : View → List ℕ → List Change → List ℕ
+after_notes behind numbers [] = numbers
+after_notes behind numbers (c ∷ cs) = after_notes behind (after_note behind numbers c.old c.place) cs
+
+-- Each READ and WRITE that hasn't ended is one of some numbers.
+abbrev pub Covers : List Row → List ℕ → Type 0
+Covers rows numbers = (q : ℕ) → option_map_or is_candidate (slice_get rows q) false ≡ true → Contains numbers q
+
+-- ---- one event, in all
+
+-- The findings of an event were added to others, those of its rows by a record that leads from one machine to another; and the numbers that were followed are so further.
+pub record Adds (s : Setup) (i : ℕ) (before : Machine) (e : Event) (behind : Machine) (fs gs : List Finding) (numbers now : List ℕ) : Type 0 where
   pub past : List Change
   pub exact : Exact (view before) (view behind) past
   pub once : NamesOnce past
-  pub added : gs ≡ (fs ++ flat_map (of_change i (view behind)) past) ++ of_event s i before e behind
+  pub added : gs ≡ ((fs ++ flat_map (of_change i (view behind)) past) ++ of_event s i before e behind) ++ of_deed i s behind.table (done_at s before e behind) now
+  pub further : now ≡ after_notes (view behind) numbers past
 
 -- The findings of the first n events.
 pub record FoundBefore (s : Setup) (es : List Event) (n : ℕ) (fs : List Finding) : Type 0 where

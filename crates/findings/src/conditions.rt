@@ -1,13 +1,14 @@
 //! What rings and threads show.
-ghost use Rattle.std.specs.Prelude.{◌≡◌, slice_get};
+ghost use Rattle.std.specs.Prelude.{◌≡◌};
+ghost use Rattle.std.specs.Option.{option_copied};
 ghost use Rattle.links_drains.specs.Links.{has_flag};
-ghost use Rattle.findings.specs.Conditions.{needs_wake_up, overflows, has_entries, has_completions, is_enter, next_in, enters, has_busy_answer, waits, stands};
-ghost use Rattle.findings.specs.Endings.{is_error};
+ghost use Rattle.findings.specs.Conditions.{needs_wake_up, overflows, has_entries, has_completions, counter_of, instruction_at, answer_of, is_of_enter, is_of_push, is_of_step, waits, stands};
+ghost use Rattle.findings.specs.Endings.{is_error, is_less};
 
 use crate::kind::Kind;
 use machine::{Event, Instruction, Setup, State};
 use opcodes::EBUSY;
-use places::{Items, Place, Stage, Value};
+use places::{Place, Stage, Value};
 
 /// IORING_SQ_NEED_WAKEUP.
 const NEED_WAKEUP: u64 = 1;
@@ -20,18 +21,18 @@ const CQ_OVERFLOW: u64 = 2;
 pub(crate) struct Before {
     /// Completions are kept.
     pub overflows: bool,
-    /// The event is a step of a thread that stands at an Enter.
-    pub enters: bool,
+    /// Where the thread's program stands whose step the event is.
+    pub counter: Option<u64>,
 }
 
 impl Before {
-    pub fn of(setup: &Setup, state: &State, event: Event) -> Before
+    pub fn of(state: &State, event: Event) -> Before
         ensures overflows { result.overflows ≡ overflows state.now }
-        ensures enters { result.enters ≡ enters setup.now state.now event }
+        ensures counter { result.counter ≡ counter_of state.now event }
     {
         Before {
             overflows: overflows(state),
-            enters: enters(setup, state, event),
+            counter: counter_of(state, event),
         }
     }
 }
@@ -88,36 +89,46 @@ fn has_completions(state: &State) -> bool
     !(head == tail)
 }
 
-// Whether an Enter stands at a place of a program.
-fn is_enter_at(program: &Items<Instruction>, counter: u64) -> bool
-    ensures { result ≡ is_enter (slice_get program.now counter) }
+fn counter_of(state: &State, event: Event) -> Option<u64>
+    ensures { result ≡ counter_of state.now event }
 {
-    match program.as_slice().get(counter as usize) {
-        Some(Instruction::Enter { .. }) => true,
-        _ => false,
+    let Event::Step(thread) = event else {
+        return None;
+    };
+    match state.value(Place::ProgramCounter(thread)) {
+        Some(Value::Number(counter)) => Some(counter),
+        _ => None,
     }
 }
 
-// Whether a thread stands at an Enter.
-fn stands_at_enter(setup: &Setup, state: &State, thread: u32) -> bool
-    ensures { result ≡ is_enter (next_in setup.now state.now thread) }
+/// The instruction of a thread whose step an event is, at a place of its program.
+pub(crate) fn instruction_at(
+    setup: &Setup,
+    event: Event,
+    counter: Option<u64>,
+) -> Option<&Instruction>
+    ensures { option_copied result ≡ instruction_at setup.now event counter }
 {
-    let Some(Value::Number(counter)) = state.value(Place::ProgramCounter(thread)) else {
-        return false;
+    let (Event::Step(thread), Some(counter)) = (event, counter) else {
+        return None;
     };
     match setup.threads.as_slice().get(thread as usize) {
-        Some(program) => is_enter_at(program, counter),
-        None => false,
+        Some(program) => program.as_slice().get(counter as usize),
+        None => None,
     }
 }
 
-/// Whether an event is a step of a thread that stands at an Enter.
-pub(crate) fn enters(setup: &Setup, state: &State, event: Event) -> bool
-    ensures { result ≡ enters setup.now state.now event }
+// What a thread's last Enter or Close answered. What one that waits in its Enter has is the answer of an
+// earlier one.
+fn answer(state: &State, thread: u32) -> Option<i64>
+    ensures { result ≡ answer_of state.now thread }
 {
-    match event {
-        Event::Step(thread) => stands_at_enter(setup, state, thread),
-        _ => false,
+    match (
+        state.value(Place::ThreadStage(thread)),
+        state.value(Place::Last(thread)),
+    ) {
+        (Some(Value::Staged(Stage::Ready)), Some(Value::Signed(answer))) => Some(answer),
+        _ => None,
     }
 }
 
@@ -127,16 +138,42 @@ fn is_busy(answer: i64) -> bool
     answer < 0 && answer.unsigned_abs() == EBUSY as u64
 }
 
-/// Whether a thread has an answer, which is EBUSY. What one that waits in its Enter has is the answer of an
-/// earlier one.
-pub(crate) fn has_busy_answer(state: &State, thread: u32) -> bool
-    ensures { result ≡ has_busy_answer state.now thread }
+fn is_less(answer: i64, number: u32) -> bool
+    ensures { result ≡ is_less answer number }
 {
-    match (
-        state.value(Place::ThreadStage(thread)),
-        state.value(Place::Last(thread)),
-    ) {
-        (Some(Value::Staged(Stage::Ready)), Some(Value::Signed(answer))) => is_busy(answer),
+    answer >= 0 && (answer as u64) < number as u64
+}
+
+// Whether an Enter that is to submit a number of entries is a finding about its thread.
+fn is_of_enter(kind: Kind, to_submit: u32, state: &State, thread: u32) -> bool
+    ensures { result ≡ is_of_enter kind to_submit state.now thread }
+{
+    let Some(answer) = answer(state, thread) else {
+        return false;
+    };
+    match kind {
+        Kind::Busy => is_busy(answer),
+        Kind::TakenShort => is_less(answer, to_submit),
+        _ => false,
+    }
+}
+
+fn is_of_push(kind: Kind, index: u32, state: &State) -> bool
+    ensures { result ≡ is_of_push kind index state.now }
+{
+    match kind {
+        Kind::NoSuchSlot => state.value(Place::Slot(index)).is_none(),
+        _ => false,
+    }
+}
+
+/// Whether a step of a thread is a finding about it, by the instruction that it did.
+pub(crate) fn is_of_step(kind: Kind, instruction: &Instruction, state: &State, thread: u32) -> bool
+    ensures { result ≡ is_of_step kind instruction.now state.now thread }
+{
+    match instruction {
+        Instruction::Enter { to_submit, .. } => is_of_enter(kind, *to_submit, state, thread),
+        Instruction::Push(index) => is_of_push(kind, *index, state),
         _ => false,
     }
 }

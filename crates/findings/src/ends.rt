@@ -1,12 +1,20 @@
 //! What the end of a request is a finding of (io_uring_enter(2)).
-ghost use Rattle.std.specs.Prelude.{◌≡◌, ◌&&◌};
+ghost use Rattle.std.specs.Prelude.{◌≡◌, ◌&&◌, None, false};
 ghost use Rattle.timeouts_cancel.specs.Falls.{is_bad, is_transfer};
-ghost use Rattle.findings.specs.Endings.{had_ended, was_issued, ending_of, is_error, is_less, is_told_apart, is_of, row_test};
+ghost use Rattle.std.specs.Option.{option_map_or};
+ghost use Rattle.links_drains.specs.Links.{has_flag, is_linked};
+ghost use Rattle.findings.specs.Endings.{had_ended, was_issued, ending_of, is_error, is_less, is_told_apart, has_next, leaves_chain, is_of, has_idle_field, comes_as, row_test};
 
 use crate::kind::Kind;
-use entries::{Phase, Row};
+use entries::{Phase, Row, Sqe};
 use links_drains::{is_guard, is_soft_linked};
 use opcodes::{EALREADY, ECANCELED, ENOENT, ETIME, Op, is_cancel, is_timer};
+
+/// IOSQE_IO_LINK.
+const IO_LINK: u8 = 4;
+
+/// IOSQE_IO_HARDLINK.
+const IO_HARDLINK: u8 = 8;
 
 fn had_ended(before: &Option<Row>) -> bool
     ensures { result ≡ had_ended before.now }
@@ -102,14 +110,38 @@ fn is_told_apart(row: &Row, res: i32) -> bool
 
 // Whether a row breaks its soft link, and isn't ended by another that does.
 fn severs(before: &Option<Row>, row: &Row, res: i32) -> bool
-    ensures { result ≡ is_of Kind.Severed before.now row.now res }
+    ensures { result ≡ is_of Kind.Severed before.now row.now None res }
 {
     is_soft_linked(row) && (is_bad(row, res) && (was_issued(before) || !is_canceled(res)))
 }
 
+// Whether another row stands behind a row in its chain.
+fn has_next(row: &Row, next: &Option<Row>) -> bool
+    ensures { result ≡ has_next row.now next.now }
+{
+    match next {
+        Some(other) => other.unit == row.unit,
+        None => false,
+    }
+}
+
+fn is_hard_linked(row: &Row) -> bool
+    ensures { result ≡ has_flag row.now.entry.flags 8 }
+{
+    row.entry.flags & IO_HARDLINK != 0
+}
+
+// Whether a row with a hard link ends badly, and its chain goes on.
+fn leaves_chain(before: &Option<Row>, row: &Row, res: i32) -> bool
+    ensures { result ≡ leaves_chain before.now row.now res }
+{
+    is_hard_linked(row)
+        && (is_bad(row, res) && (was_issued(before) || (before.is_some() && !is_canceled(res))))
+}
+
 // Whether a row that ends with a result is a finding of a kind.
-fn is_of(kind: Kind, before: &Option<Row>, row: &Row, res: i32) -> bool
-    ensures { result ≡ is_of kind before.now row.now res }
+fn is_of(kind: Kind, before: &Option<Row>, row: &Row, next: &Option<Row>, res: i32) -> bool
+    ensures { result ≡ is_of kind before.now row.now next.now res }
 {
     match kind {
         Kind::Failed => res < 0 && !is_told_apart(row, res),
@@ -120,22 +152,50 @@ fn is_of(kind: Kind, before: &Option<Row>, row: &Row, res: i32) -> bool
         Kind::Expired => row.entry.opcode == Op::Timeout as u8 && is_out_of_time(res),
         Kind::NotFound => is_cancel(row.entry.opcode) && is_not_there(res),
         Kind::TooLate => is_cancel(row.entry.opcode) && is_under_way(res),
-        Kind::Overflow
-        | Kind::Busy
-        | Kind::Waits
-        | Kind::LostWakeUp
-        | Kind::NotTaken
-        | Kind::NotReaped
-        | Kind::Unfinished => false,
+        Kind::WentOn => leaves_chain(before, row, res) && has_next(row, next),
+        _ => false,
     }
 }
 
-/// Whether a row, as it was before an event and is behind it, ends by it, and that is a finding of a kind.
-pub(crate) fn row_test(kind: Kind, before: &Option<Row>, row: &Row) -> bool
-    ensures { result ≡ row_test kind before.now row.now }
+// Whether a field that nothing looks at isn't 0.
+fn has_idle_field(entry: &Sqe) -> bool
+    ensures { result ≡ has_idle_field entry.now }
+{
+    entry.ioprio != 0
+        || (entry.buf_index != 0
+            || (entry.personality != 0 || entry.splice_fd_in.unsigned_abs() != 0))
+}
+
+fn is_linked(entry: &Sqe) -> bool
+    ensures { result ≡ is_linked entry.now }
+{
+    entry.flags & IO_LINK != 0 || entry.flags & IO_HARDLINK != 0
+}
+
+// Whether a row that comes, with the one behind it, is a finding of a kind.
+fn comes_as(kind: Kind, row: &Row, next: &Option<Row>) -> bool
+    ensures { result ≡ comes_as kind row.now next.now }
+{
+    match kind {
+        Kind::CutOff => is_linked(&row.entry) && next.is_none(),
+        Kind::NoEffect => has_idle_field(&row.entry),
+        _ => false,
+    }
+}
+
+fn ends_as(kind: Kind, before: &Option<Row>, row: &Row, next: &Option<Row>) -> bool
+    ensures { result ≡ option_map_or (is_of kind before.now row.now next.now) (ending_of before.now row.now) false }
 {
     match ending_of(before, row) {
-        Some(res) => is_of(kind, before, row, res),
+        Some(res) => is_of(kind, before, row, next, res),
         None => false,
     }
+}
+
+/// Whether a row, as it was before an event and is behind it, ends by it, and that is a finding of a kind; or
+/// it comes by it, and that is.
+pub(crate) fn row_test(kind: Kind, before: &Option<Row>, row: &Row, next: &Option<Row>) -> bool
+    ensures { result ≡ row_test kind before.now row.now next.now }
+{
+    ends_as(kind, before, row, next) || (before.is_none() && comes_as(kind, row, next))
 }

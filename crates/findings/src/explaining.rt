@@ -11,7 +11,7 @@ use crate::kind::Kind;
 use crate::run::Run;
 use crate::searching::search;
 use crate::sentences::sentence;
-use crate::times::Times;
+use crate::times::History;
 use machine::{Event, Setup, State};
 use run_log::LogFault;
 use script::{Script, ScriptFault, read_script};
@@ -166,25 +166,30 @@ fn explain_events<W: Write>(
     let Ok(mut state) = State::new(alloc, setup) else {
         return Err(LogFault::Memory);
     };
-    let mut times = Vec::new(alloc);
-    let found = search(alloc, &mut state, setup, events, &mut times)?;
-    tell_found(alloc, &state, events, &times, &found, asked, writer)?;
+    let mut history = History::new(alloc);
+    let found = search(alloc, &mut state, setup, events, &mut history)?;
+    tell_found(
+        alloc, setup, &state, events, &history, &found, asked, writer,
+    )?;
     Ok(has_fault(asked.kind, &found))
 }
 
 fn tell_found<W: Write>(
     alloc: Global,
+    setup: &Setup,
     state: &State,
     events: &[Event],
-    times: &[Times],
+    history: &History,
     found: &[Finding],
     asked: Asked,
     writer: &mut W,
 ) -> Result<(), LogFault> {
     let run = Run {
+        setup,
         state,
         events,
-        times,
+        times: &history.rows,
+        counters: &history.counters,
         found,
     };
     tell(alloc, &run, asked, writer)

@@ -36,33 +36,60 @@ pub enum Kind {
     NotReaped = 13,
     /// A request hasn't ended at the end.
     Unfinished = 14,
+    /// Bytes were written into the buffer of a READ or a WRITE that hasn't ended.
+    BufferInUse = 15,
+    /// Bytes of a file were moved that another asks for in no order with it, and one of both is a WRITE.
+    Unordered = 16,
+    /// Bytes were moved at a position at which another begins in no order with it.
+    SharedPosition = 17,
+    /// An FSYNC ended, and an earlier WRITE of its file hadn't.
+    FsyncEarly = 18,
+    /// An Enter took fewer entries than it was to submit.
+    TakenShort = 19,
+    /// A Push of an index that names no slot.
+    NoSuchSlot = 20,
+    /// A linked entry is the last of its submission.
+    CutOff = 21,
+    /// A hard chain went on behind a bad end.
+    WentOn = 22,
+    /// A field of an entry has no effect.
+    NoEffect = 23,
 }
 
-/// All kinds, with their words.
-const WORDS: [(Kind, &str); 15] = [
-    (Kind::Failed, "failed"),
-    (Kind::Short, "short"),
-    (Kind::Severed, "severed"),
-    (Kind::Canceled, "canceled"),
-    (Kind::TimedOut, "timed-out"),
-    (Kind::Expired, "expired"),
-    (Kind::NotFound, "not-found"),
-    (Kind::TooLate, "too-late"),
-    (Kind::Overflow, "overflow"),
-    (Kind::Busy, "busy"),
-    (Kind::Waits, "waits"),
-    (Kind::LostWakeUp, "lost-wake-up"),
-    (Kind::NotTaken, "not-taken"),
-    (Kind::NotReaped, "not-reaped"),
-    (Kind::Unfinished, "unfinished"),
+/// All kinds.
+const KINDS: [Kind; 24] = [
+    Kind::Failed,
+    Kind::Short,
+    Kind::Severed,
+    Kind::Canceled,
+    Kind::TimedOut,
+    Kind::Expired,
+    Kind::NotFound,
+    Kind::TooLate,
+    Kind::Overflow,
+    Kind::Busy,
+    Kind::Waits,
+    Kind::LostWakeUp,
+    Kind::NotTaken,
+    Kind::NotReaped,
+    Kind::Unfinished,
+    Kind::BufferInUse,
+    Kind::Unordered,
+    Kind::SharedPosition,
+    Kind::FsyncEarly,
+    Kind::TakenShort,
+    Kind::NoSuchSlot,
+    Kind::CutOff,
+    Kind::WentOn,
+    Kind::NoEffect,
 ];
 
 impl Kind {
     /// The kind of a word, if there is one.
     pub fn of_word(word: &str) -> Option<Kind> {
-        for (kind, name) in &WORDS {
-            if *name == word {
-                return Some(*kind);
+        for kind in KINDS {
+            if kind.word() == word {
+                return Some(kind);
             }
         }
         None
@@ -86,6 +113,15 @@ impl Kind {
             Kind::NotTaken => "not-taken",
             Kind::NotReaped => "not-reaped",
             Kind::Unfinished => "unfinished",
+            Kind::BufferInUse => "buffer-in-use",
+            Kind::Unordered => "unordered",
+            Kind::SharedPosition => "shared-position",
+            Kind::FsyncEarly => "fsync-early",
+            Kind::TakenShort => "taken-short",
+            Kind::NoSuchSlot => "no-such-slot",
+            Kind::CutOff => "cut-off",
+            Kind::WentOn => "went-on",
+            Kind::NoEffect => "no-effect",
         }
     }
 
@@ -93,12 +129,18 @@ impl Kind {
     pub fn is_fault(self) -> bool
         ensures { result ≡ is_fault self }
     {
-        !matches!(self, Kind::Canceled | Kind::Expired | Kind::NotReaped)
+        !matches!(
+            self,
+            Kind::Canceled | Kind::Expired | Kind::NotReaped | Kind::WentOn | Kind::NoEffect
+        )
     }
 
     /// Whether it is about a thread.
     pub(crate) fn is_of_thread(self) -> bool {
-        matches!(self, Kind::Busy | Kind::Waits)
+        matches!(
+            self,
+            Kind::Busy | Kind::Waits | Kind::TakenShort | Kind::NoSuchSlot
+        )
     }
 
     /// Whether it is about a row.

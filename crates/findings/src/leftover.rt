@@ -1,5 +1,6 @@
 //! Rows that are unfinished at the end of a run.
-ghost use Rattle.std.specs.Prelude.{◌≡◌, ◌++◌, ◌≤◌, OnOk, length, slice_get};
+ghost use Rattle.std.specs.Prelude.{◌≡◌, ◌++◌, ◌<◌, ◌≤◌, OnOk, IfSome, length, slice_get};
+ghost use Rattle.machine.specs.Whole.{WellFormed};
 ghost use Rattle.findings.specs.Records.{of_left, all_left};
 
 use crate::finding::Finding;
@@ -12,12 +13,14 @@ use places::{Place, Value};
 use std::alloc::AllocError;
 
 /// The most rows of a run.
-const MOST_ROWS: u32 = 65536;
+pub(crate) const MOST_ROWS: u32 = 65536;
 
-// A row, if it is there.
-fn row_at(state: &State, number: u32) -> Option<Row>
+/// A row, if it is there.
+pub(crate) fn row_at(state: &State, number: u32) -> Option<Row>
     ensures row { result ≡ slice_get state.now.table number }
+    ensures formed { WellFormed state.now }
     ensures few { length state.now.table ≤ 65536 }
+    ensures below { IfSome result (λ row. number < 65536) }
 {
     match state.value(Place::Request(number)) {
         Some(Value::Requested(row)) => Some(row),

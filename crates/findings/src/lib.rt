@@ -2,9 +2,13 @@
 #![tactic(auto)]
 
 mod conditions;
+mod conflicts;
+mod deed;
 mod ends;
 mod explaining;
+mod files;
 mod finding;
+mod following;
 mod json;
 mod kind;
 mod leftover;

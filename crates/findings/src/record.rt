@@ -1,23 +1,27 @@
 //! Findings by the record of an event.
 ghost use Rattle.std.specs.Prelude.{◌≡◌, ◌++◌, length, OnOk};
 ghost use Rattle.std.specs.List.{flat_map};
+ghost use Rattle.std.specs.Option.{option_copied};
 ghost use Rattle.machine.specs.Whole.{view};
 ghost use Rattle.places.specs.View.{NamesOnce};
 ghost use Rattle.findings.specs.Endings.{row_test};
-ghost use Rattle.findings.specs.Conditions.{overflows};
-ghost use Rattle.findings.specs.Records.{given, row_kinds, of_row, row_in, of_change, of_overflow, of_answer};
+ghost use Rattle.findings.specs.Conditions.{overflows, instruction_at};
+ghost use Rattle.findings.specs.Records.{given, row_kinds, of_row, row_in, of_change, of_overflow, of_instruction, of_step, of_candidate, of_number, of_deed};
 
-use crate::conditions::{Before, has_busy_answer, overflows};
+use crate::conditions::{Before, instruction_at, is_of_step, overflows};
+use crate::conflicts::conflicts;
+use crate::deed::Deed;
 use crate::ends::row_test;
 use crate::finding::Finding;
 use crate::kind::Kind;
+use crate::leftover::row_at;
 use entries::Row;
-use machine::{Event, State};
+use machine::{Event, Instruction, Setup, State};
 use places::{Change, Place, Record, Value};
 use std::alloc::AllocError;
 
-/// The kinds that are about rows.
-const ROW_KINDS: [Kind; 8] = [
+/// The kinds that are about rows which come or end.
+const ROW_KINDS: [Kind; 11] = [
     Kind::Failed,
     Kind::Short,
     Kind::Severed,
@@ -26,6 +30,20 @@ const ROW_KINDS: [Kind; 8] = [
     Kind::Expired,
     Kind::NotFound,
     Kind::TooLate,
+    Kind::CutOff,
+    Kind::WentOn,
+    Kind::NoEffect,
+];
+
+/// The kinds that are about steps of threads.
+const STEP_KINDS: [Kind; 3] = [Kind::Busy, Kind::TakenShort, Kind::NoSuchSlot];
+
+/// The kinds that are about a READ or a WRITE which hasn't ended, beside what an event does.
+const CONFLICT_KINDS: [Kind; 4] = [
+    Kind::BufferInUse,
+    Kind::Unordered,
+    Kind::SharedPosition,
+    Kind::FsyncEarly,
 ];
 
 // Adds a finding where a test passes.
@@ -49,9 +67,11 @@ fn add_of_row(
     number: u32,
     before: &Option<Row>,
     row: &Row,
+    next: &Option<Row>,
     kinds: &[Kind],
 ) -> Result<(), AllocError>
-    ensures { OnOk result (found.new.items ≡ found.old.items ++ of_row moment number before.now row.now kinds.now) }
+    ensures { OnOk result (found.new.items ≡
+        found.old.items ++ of_row moment number before.now row.now next.now kinds.now) }
 {
     for kind in kinds {
         let finding = Finding {
@@ -59,7 +79,7 @@ fn add_of_row(
             kind: *kind,
             subject: number,
         };
-        add_if(found, row_test(*kind, before, row), finding)?;
+        add_if(found, row_test(*kind, before, row, next), finding)?;
     }
     Ok(())
 }
@@ -71,13 +91,16 @@ fn add_of_any_kind(
     number: u32,
     before: &Option<Row>,
     row: &Row,
+    next: &Option<Row>,
 ) -> Result<(), AllocError>
-    ensures { OnOk result (found.new.items ≡ found.old.items ++ of_row moment number before.now row.now row_kinds) }
+    ensures { OnOk result (found.new.items ≡
+        found.old.items ++ of_row moment number before.now row.now next.now row_kinds) }
 {
-    add_of_row(found, moment, number, before, row, &ROW_KINDS)
+    add_of_row(found, moment, number, before, row, next, &ROW_KINDS)
 }
 
-fn row_in(value: Option<Value>) -> Option<Row>
+/// The row that a value is, if it is one.
+pub(crate) fn row_in(value: Option<Value>) -> Option<Row>
     ensures { result ≡ row_in value }
 {
     match value {
@@ -98,8 +121,11 @@ fn add_of_change(
     let Place::Request(number) = change.place else {
         return Ok(());
     };
-    match row_in(state.value(Place::Request(number))) {
-        Some(row) => add_of_any_kind(found, moment, number, &row_in(change.old), &row),
+    match row_at(state, number) {
+        Some(row) => {
+            let next = row_at(state, number + 1);
+            add_of_any_kind(found, moment, number, &row_in(change.old), &row, &next)
+        }
         None => Ok(()),
     }
 }
@@ -121,40 +147,155 @@ fn add_overflow(
     add_if(found, !before && behind, finding)
 }
 
-// Adds that a thread that stood at an Enter was answered EBUSY.
-fn add_answer(
+// Adds what an instruction that a thread did shows.
+fn add_of_instruction(
     found: &mut Vec<Finding>,
     moment: u32,
-    entered: bool,
+    instruction: &Instruction,
+    state: &State,
+    thread: u32,
+    kinds: &[Kind],
+) -> Result<(), AllocError>
+    ensures { OnOk result (found.new.items ≡
+        found.old.items ++ of_instruction moment instruction.now state.now thread kinds.now) }
+{
+    for kind in kinds {
+        let finding = Finding {
+            moment,
+            kind: *kind,
+            subject: thread,
+        };
+        add_if(
+            found,
+            is_of_step(*kind, instruction, state, thread),
+            finding,
+        )?;
+    }
+    Ok(())
+}
+
+// Adds what a step of a thread shows.
+fn add_of_step(
+    found: &mut Vec<Finding>,
+    moment: u32,
+    instruction: Option<&Instruction>,
     event: Event,
     state: &State,
 ) -> Result<(), AllocError>
-    ensures { OnOk result (found.new.items ≡ found.old.items ++ of_answer moment entered event state.now) }
+    ensures { OnOk result (found.new.items ≡
+        found.old.items ++ of_step moment (option_copied instruction.entry) event state.now) }
 {
-    let Event::Step(thread) = event else {
-        return Ok(());
-    };
-    let finding = Finding {
-        moment,
-        kind: Kind::Busy,
-        subject: thread,
-    };
-    add_if(found, entered && has_busy_answer(state, thread), finding)
+    match (instruction, event) {
+        (Some(instruction), Event::Step(thread)) => {
+            add_of_instruction(found, moment, instruction, state, thread, &STEP_KINDS)
+        }
+        _ => Ok(()),
+    }
 }
 
 /// Adds what an event shows of rings and threads, by the state behind it.
 pub(crate) fn add_of_event(
     found: &mut Vec<Finding>,
+    setup: &Setup,
     moment: u32,
     before: Before,
     event: Event,
     state: &State,
 ) -> Result<(), AllocError>
     ensures { OnOk result (found.new.items ≡ found.old.items ++
-        (of_overflow moment before.overflows (overflows state.now) ++ of_answer moment before.enters event state.now)) }
+        (of_overflow moment before.overflows (overflows state.now)
+        ++ of_step moment (instruction_at setup.now event before.counter) event state.now)) }
 {
     add_overflow(found, moment, before.overflows, overflows(state))?;
-    add_answer(found, moment, before.enters, event, state)
+    let instruction = instruction_at(setup, event, before.counter);
+    add_of_step(found, moment, instruction, event, state)
+}
+
+// Adds what a deed shows beside a READ or a WRITE.
+fn add_of_candidate(
+    found: &mut Vec<Finding>,
+    moment: u32,
+    setup: &Setup,
+    state: &State,
+    deed: &Deed,
+    number: u32,
+    row: &Row,
+    kinds: &[Kind],
+) -> Result<(), AllocError>
+    ensures { OnOk result (found.new.items ≡ found.old.items
+        ++ of_candidate moment setup.now state.now.table deed.now number row.now kinds.now) }
+{
+    for kind in kinds {
+        let finding = Finding {
+            moment,
+            kind: *kind,
+            subject: number,
+        };
+        let test = conflicts(*kind, setup, state, deed, number, row);
+        add_if(found, test, finding)?;
+    }
+    Ok(())
+}
+
+fn add_of_number(
+    found: &mut Vec<Finding>,
+    moment: u32,
+    setup: &Setup,
+    state: &State,
+    deed: &Deed,
+    number: u32,
+) -> Result<(), AllocError>
+    ensures { OnOk result (found.new.items ≡
+        found.old.items ++ of_number moment setup.now state.now.table deed.now number) }
+{
+    match row_at(state, number) {
+        Some(row) => add_of_candidate(
+            found,
+            moment,
+            setup,
+            state,
+            deed,
+            number,
+            &row,
+            &CONFLICT_KINDS,
+        ),
+        None => Ok(()),
+    }
+}
+
+fn add_of_numbers(
+    found: &mut Vec<Finding>,
+    moment: u32,
+    setup: &Setup,
+    state: &State,
+    deed: &Deed,
+    numbers: &[u32],
+) -> Result<(), AllocError>
+    ensures { OnOk result (found.new.items ≡ found.old.items
+        ++ flat_map (of_number moment setup.now state.now.table deed.now) numbers.now) }
+{
+    for number in numbers {
+        add_of_number(found, moment, setup, state, deed, *number)?;
+    }
+    Ok(())
+}
+
+/// Adds what an event does beside the READs and WRITEs that haven't ended, by the state behind it.
+pub(crate) fn add_of_deed(
+    found: &mut Vec<Finding>,
+    moment: u32,
+    setup: &Setup,
+    state: &State,
+    deed: &Deed,
+    numbers: &[u32],
+) -> Result<(), AllocError>
+    ensures { OnOk result (found.new.items ≡
+        found.old.items ++ of_deed moment setup.now state.now.table deed.now numbers.now) }
+{
+    match deed {
+        Deed::Nothing => Ok(()),
+        _ => add_of_numbers(found, moment, setup, state, deed, numbers),
+    }
 }
 
 /// Adds what an event shows of rows, by its record and the state behind it.

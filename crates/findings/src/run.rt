@@ -1,21 +1,25 @@
 //! A run that has ended, as sentences look at it.
 
+use crate::conditions::instruction_at;
 use crate::finding::Finding;
 use crate::kind::Kind;
 use crate::names::RowName;
 use crate::times::Times;
 use entries::{Phase, Row};
-use machine::{Event, State};
+use machine::{Event, Instruction, Setup, State};
 use places::{Place, Value};
 
 /// A run, with what it shows.
 #[derive(Clone, Copy)]
 pub(crate) struct Run<'a> {
+    pub setup: &'a Setup,
     /// Its end.
     pub state: &'a State,
     pub events: &'a [Event],
     /// Of each row.
     pub times: &'a [Times],
+    /// Of each event, where the program of the thread stood that did it.
+    pub counters: &'a [Option<u32>],
     pub found: &'a [Finding],
 }
 
@@ -47,6 +51,17 @@ impl Run<'_> {
 
     pub fn event(&self, moment: u32) -> Option<Event> {
         self.events.get(moment as usize).copied()
+    }
+
+    /// Where the program of the thread stood that did the event at a moment, if one did.
+    pub fn counter(&self, moment: u32) -> Option<u32> {
+        self.counters.get(moment as usize).copied()?
+    }
+
+    /// The instruction that a thread did at a moment, if one did.
+    pub fn instruction(&self, moment: u32) -> Option<&Instruction> {
+        let counter = self.counter(moment)?;
+        instruction_at(self.setup, self.event(moment)?, Some(u64::from(counter)))
     }
 
     /// Whether a row ended by the event at a moment.

@@ -8,16 +8,19 @@ ghost use Rattle.machine.specs.Runs.{start};
 ghost use Rattle.machine.specs.Whole.{view};
 ghost use Rattle.run_log.specs.Logs.{fault_by};
 ghost use Rattle.findings.specs.Findings.{IsToldOf, Rises};
-ghost use Rattle.findings.specs.Conditions.{overflows};
-ghost use Rattle.findings.specs.Records.{of_change, of_overflow, of_answer, Adds, FoundBefore, IsLasting, AreLeft, all_left, IsAll, SameFindings, HaltsAt, Halted};
+ghost use Rattle.findings.specs.Conditions.{overflows, instruction_at};
+ghost use Rattle.findings.specs.Conflicts.{done_as};
+ghost use Rattle.findings.specs.Records.{of_change, of_overflow, of_step, of_deed, after_notes, Adds, FoundBefore, IsLasting, AreLeft, all_left, IsAll, SameFindings, HaltsAt, Halted};
 ghost use Rattle.findings.specs.Watched.{advanced, watched, of_lasting};
 
 use crate::conditions::Before;
+use crate::deed::done_as;
 use crate::finding::Finding;
+use crate::following::follow_record;
 use crate::leftover::add_all_left;
 use crate::ordering::in_order;
-use crate::record::{add_of_event, add_of_record};
-use crate::times::{Times, note_times};
+use crate::record::{add_of_deed, add_of_event, add_of_record};
+use crate::times::{History, note_times};
 use crate::watching::{Watch, add_all_lasting, advance, watches_of};
 use machine::{Event, Refusal, Setup, State};
 use places::Record;
@@ -34,23 +37,50 @@ fn fault_by(index: u32, refusal: Refusal) -> LogFault
     }
 }
 
-// Adds what an event shows, and notes when its rows came and ended.
-fn look(
+// Adds what an event shows beside the READs and WRITEs that haven't ended, and follows which these are.
+fn look_beside(
+    setup: &Setup,
     state: &State,
     moment: u32,
     event: Event,
     before: Before,
     past: &Record,
     found: &mut Vec<Finding>,
-    times: &mut Vec<Times>,
+    numbers: &mut Vec<u32>,
 ) -> Result<(), AllocError>
-    ensures added { OnOk result (found.new.items ≡ (found.old.items ++ flat_map (of_change moment (view state.now)) past.now) ++
-        (of_overflow moment before.overflows (overflows state.now) ++ of_answer moment before.enters event state.now)) }
-    ensures once { OnOk result (NamesOnce past.now) }
+    ensures added { OnOk result (found.new.items ≡ found.old.items ++ of_deed moment setup.now state.now.table
+        (done_as event (instruction_at setup.now event before.counter) state.now) numbers.new.items) }
+    ensures further { OnOk result (numbers.new.items ≡ after_notes (view state.now) numbers.old.items past.now) }
 {
-    note_times(times, moment, past, state)?;
+    follow_record(numbers, past, state)?;
+    let deed = done_as(setup, before, event, state);
+    add_of_deed(found, moment, setup, state, &deed, numbers)
+}
+
+// Adds what an event shows, and notes when its rows came and ended.
+fn look(
+    setup: &Setup,
+    state: &State,
+    moment: u32,
+    event: Event,
+    before: Before,
+    past: &Record,
+    found: &mut Vec<Finding>,
+    numbers: &mut Vec<u32>,
+    history: &mut History,
+) -> Result<(), AllocError>
+    ensures added { OnOk result (found.new.items ≡ ((found.old.items ++ flat_map (of_change moment (view state.now)) past.now)
+        ++ (of_overflow moment before.overflows (overflows state.now)
+        ++ of_step moment (instruction_at setup.now event before.counter) event state.now))
+        ++ of_deed moment setup.now state.now.table
+        (done_as event (instruction_at setup.now event before.counter) state.now) numbers.new.items) }
+    ensures once { OnOk result (NamesOnce past.now) }
+    ensures further { OnOk result (numbers.new.items ≡ after_notes (view state.now) numbers.old.items past.now) }
+{
+    note_times(history, moment, past, state)?;
     add_of_record(found, moment, past, state)?;
-    add_of_event(found, moment, before, event, state)
+    add_of_event(found, setup, moment, before, event, state)?;
+    look_beside(setup, state, moment, event, before, past, found, numbers)
 }
 
 // Does an event, and adds what it shows.
@@ -60,18 +90,22 @@ fn find_at(
     moment: u32,
     event: Event,
     found: &mut Vec<Finding>,
-    times: &mut Vec<Times>,
+    numbers: &mut Vec<u32>,
+    history: &mut History,
 ) -> Result<(), LogFault>
     ensures next { OnOk result (Next state.old event state.new) }
-    ensures added { OnOk result (Adds setup.now moment state.old event state.new found.old.items found.new.items) }
+    ensures added { OnOk result (Adds setup.now moment state.old event state.new
+        found.old.items found.new.items numbers.old.items numbers.new.items) }
     ensures err { IfErr result (HaltsAt moment state.old event) }
 {
-    let before = Before::of(setup, state, event);
+    let before = Before::of(state, event);
     let past = match state.step(event) {
         Ok(past) => past,
         Err(refusal) => return Err(fault_by(moment, refusal)),
     };
-    match look(state, moment, event, before, &past, found, times) {
+    match look(
+        setup, state, moment, event, before, &past, found, numbers, history,
+    ) {
         Ok(()) => Ok(()),
         Err(_) => Err(LogFault::Memory),
     }
@@ -83,8 +117,9 @@ fn find_all(
     setup: &Setup,
     events: &[Event],
     found: &mut Vec<Finding>,
+    numbers: &mut Vec<u32>,
     watches: &mut [Watch],
-    times: &mut Vec<Times>,
+    history: &mut History,
 ) -> Result<(), LogFault>
     requires starts { state.old ≡ start setup.now }
     requires most { length events.now ≤ 1048576 }
@@ -96,7 +131,7 @@ fn find_all(
     ensures err { IfErr result (Halted setup.now events.now) }
 {
     for i in 0..events.len() {
-        find_at(state, setup, i as u32, events[i], found, times)?;
+        find_at(state, setup, i as u32, events[i], found, numbers, history)?;
         advance(setup, state, i as u32 + 1, watches);
     }
     Ok(())
@@ -135,7 +170,7 @@ fn find(
     setup: &Setup,
     events: &[Event],
     watches: &mut [Watch],
-    times: &mut Vec<Times>,
+    history: &mut History,
 ) -> Result<Vec<Finding>, LogFault>
     requires starts { state.old ≡ start setup.now }
     requires most { length events.now ≤ 1048576 }
@@ -145,7 +180,16 @@ fn find(
 {
     advance(setup, state, 0, watches);
     let mut found = Vec::new(alloc);
-    find_all(state, setup, events, &mut found, watches, times)?;
+    let mut numbers = Vec::new(alloc);
+    find_all(
+        state,
+        setup,
+        events,
+        &mut found,
+        &mut numbers,
+        watches,
+        history,
+    )?;
     match add_end(&mut found, watches, events.len() as u32, state) {
         Ok(()) => Ok(found),
         Err(_) => Err(LogFault::Memory),
@@ -158,7 +202,7 @@ pub(crate) fn search(
     state: &mut State,
     setup: &Setup,
     events: &[Event],
-    times: &mut Vec<Times>,
+    history: &mut History,
 ) -> Result<Vec<Finding>, LogFault>
     requires starts { state.old ≡ start setup.now }
     requires most { length events.now ≤ 1048576 }
@@ -168,7 +212,7 @@ pub(crate) fn search(
     let Ok(mut watches) = watches_of(alloc, setup) else {
         return Err(LogFault::Memory);
     };
-    let found = find(alloc, state, setup, events, &mut watches, times)?;
+    let found = find(alloc, state, setup, events, &mut watches, history)?;
     ordered(alloc, found)
 }
 
@@ -182,6 +226,6 @@ pub fn findings_of(alloc: Global, setup: &Setup, events: &[Event]) -> Result<Vec
     let Ok(mut state) = State::new(alloc, setup) else {
         return Err(LogFault::Memory);
     };
-    let mut times = Vec::new(alloc);
-    search(alloc, &mut state, setup, events, &mut times)
+    let mut history = History::new(alloc);
+    search(alloc, &mut state, setup, events, &mut history)
 }

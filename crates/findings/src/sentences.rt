@@ -2,6 +2,7 @@
 
 mod cancels;
 mod chains;
+mod conflicts;
 mod errors;
 mod left;
 mod rings;
@@ -85,6 +86,25 @@ fn row_sentence(
         Kind::Expired => expired(alloc, about),
         Kind::NotFound => cancels::not_found(alloc, run, about),
         Kind::TooLate => cancels::too_late(alloc, run, about),
+        Kind::CutOff => chains::cut_off(alloc, run, about),
+        Kind::WentOn => chains::went_on(alloc, run, about),
+        Kind::NoEffect => errors::no_effect(alloc, about),
+        _ => beside_sentence(alloc, run, kind, about),
+    }
+}
+
+// Of a finding about a row that hadn't ended.
+fn beside_sentence(
+    alloc: Global,
+    run: &Run<'_>,
+    kind: Kind,
+    about: &About,
+) -> Result<String, AllocError> {
+    match kind {
+        Kind::BufferInUse => conflicts::buffer_in_use(alloc, run, about),
+        Kind::Unordered => conflicts::unordered(alloc, run, about),
+        Kind::SharedPosition => conflicts::shared_position(alloc, run, about),
+        Kind::FsyncEarly => conflicts::fsync_early(alloc, run, about),
         _ => Ok(String::new(alloc)),
     }
 }
@@ -116,6 +136,8 @@ pub(crate) fn sentence(alloc: Global, run: &Run<'_>, index: usize) -> Result<Str
     match finding.kind {
         Kind::Overflow => rings::overflow(alloc, run),
         Kind::Busy => rings::busy(alloc, finding.subject),
+        Kind::TakenShort => rings::taken_short(alloc, run, finding.subject, finding.moment),
+        Kind::NoSuchSlot => rings::no_such_slot(alloc, run, finding.subject, finding.moment),
         Kind::Waits => rings::waits(alloc, run, finding.subject),
         Kind::LostWakeUp => rings::lost_wake_up(alloc, run),
         Kind::NotTaken => rings::not_taken(alloc, run),

@@ -1,9 +1,9 @@
-//! When rows came, were issued and ended.
+//! When rows came, were issued and ended, and where threads stood.
 
 use entries::Phase;
 use machine::State;
 use places::{Change, Place, Record, Value};
-use std::alloc::AllocError;
+use std::alloc::{AllocError, Global};
 
 /// The moments before the events by which a row came, was issued and ended.
 #[derive(Clone, Copy, Debug)]
@@ -36,6 +36,32 @@ impl Times {
             Phase::Queued => {}
             Phase::Issued => self.issued = Some(moment),
             Phase::Ended(_) => self.ended = Some(moment),
+        }
+    }
+}
+
+/// What sentences look back at.
+pub(crate) struct History {
+    /// Of each row.
+    pub rows: Vec<Times>,
+    /// Of each event the place in its program of the instruction that a thread did by it, if one did.
+    pub counters: Vec<Option<u32>>,
+}
+
+impl Drop for History {
+    fn drop(self) {
+        let History {
+            rows: _,
+            counters: _,
+        } = self;
+    }
+}
+
+impl History {
+    pub fn new(alloc: Global) -> History {
+        History {
+            rows: Vec::new(alloc),
+            counters: Vec::new(alloc),
         }
     }
 }
@@ -74,16 +100,27 @@ fn note_change(
     }
 }
 
-/// Notes what an event made of rows, by its record and the state behind it.
+// Where the program of a thread stood, if a change says it.
+fn counter_in(change: Change) -> Option<u32> {
+    match (change.place, change.old) {
+        (Place::ProgramCounter(_), Some(Value::Number(counter))) => u32::try_from(counter).ok(),
+        _ => None,
+    }
+}
+
+/// Notes what an event did, by its record and the state behind it.
 pub(crate) fn note_times(
-    times: &mut Vec<Times>,
+    history: &mut History,
     moment: u32,
     past: &Record,
     state: &State,
 ) -> Result<(), AllocError> {
+    let mut counter = None;
     let mut rest = past.changes();
     while let Some(change) = rest.next() {
-        note_change(times, moment, change, state)?;
+        note_change(&mut history.rows, moment, change, state)?;
+        counter = counter.or(counter_in(change));
     }
+    history.counters.push(counter)?;
     Ok(())
 }

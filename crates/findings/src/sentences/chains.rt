@@ -7,6 +7,8 @@ use crate::run::Run;
 use machine::Event;
 use std::alloc::{AllocError, Global};
 
+const HARD_RULE: &str = "(io_uring_enter(2), IOSQE_IO_HARDLINK)";
+
 const RULE: &str = "(io_uring_enter(2), IOSQE_IO_LINK)";
 
 const GUARD_RULE: &str = "(io_uring_enter(2), IORING_OP_LINK_TIMEOUT)";
@@ -152,4 +154,30 @@ pub(crate) fn canceled(alloc: Global, run: &Run<'_>, about: &About) -> Result<St
         ),
         None => format!(in alloc; "Row {name} ended with -125 (ECANCELED): {deed} {rule}."),
     }
+}
+
+/// A hard link that held behind a bad end.
+pub(crate) fn went_on(alloc: Global, run: &Run<'_>, about: &About) -> Result<String, AllocError> {
+    let name = about.name();
+    let told = ResultName(about.result(run));
+    let next = about.number.saturating_add(1);
+    match run.name(next) {
+        Some(next) => format!(in alloc;
+            "Row {name} ended with {told}, and its chain goes on with row {next}: its link is a hard one {HARD_RULE}."
+        ),
+        None => Ok(String::new(alloc)),
+    }
+}
+
+/// A link to an entry that didn't come with it.
+pub(crate) fn cut_off(alloc: Global, run: &Run<'_>, about: &About) -> Result<String, AllocError> {
+    let name = about.name();
+    let reason = if !run.setup.submit_all && run.ends_at(about.number, about.moment) {
+        "it failed, and the submission halted there"
+    } else {
+        "no further entry was taken with it"
+    };
+    format!(in alloc;
+        "Row {name} is linked to the next entry, but is the last of its submission: {reason}. A chain ends with its submission, so what is taken later does not wait for it {RULE}."
+    )
 }

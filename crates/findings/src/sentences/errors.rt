@@ -3,7 +3,7 @@
 use super::About;
 use crate::names::ResultName;
 use crate::run::Run;
-use entries::Row;
+use entries::{Row, Sqe};
 use machine::Event;
 use opcodes::{Choice, Op};
 use std::alloc::{AllocError, Global};
@@ -97,4 +97,27 @@ pub(crate) fn reason_of_short(run: &Run<'_>, about: &About) -> &'static str {
             }
         }
     }
+}
+
+// The first field that nothing looks at and that isn't 0, with its value.
+fn idle_field(entry: &Sqe) -> (&'static str, i64) {
+    if entry.ioprio != 0 {
+        return ("ioprio", i64::from(entry.ioprio));
+    }
+    if entry.buf_index != 0 {
+        return ("buf_index", i64::from(entry.buf_index));
+    }
+    if entry.personality != 0 {
+        return ("personality", i64::from(entry.personality));
+    }
+    ("splice_fd_in", i64::from(entry.splice_fd_in))
+}
+
+/// A field that has no effect.
+pub(crate) fn no_effect(alloc: Global, about: &About) -> Result<String, AllocError> {
+    let name = about.name();
+    let (field, value) = idle_field(&about.row.entry);
+    format!(in alloc;
+        "Row {name} has {field} {value}, which has no effect here: no request of this profile looks at it (io_uring_enter(2))."
+    )
 }

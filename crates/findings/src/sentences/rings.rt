@@ -1,6 +1,7 @@
 //! Sentences about rings, and threads at them.
 
 use crate::run::Run;
+use machine::Instruction;
 use places::{Place, Stage, Value};
 use std::alloc::{AllocError, Global};
 
@@ -53,6 +54,57 @@ pub(crate) fn overflow(alloc: Global, run: &Run<'_>) -> Result<String, AllocErro
 pub(crate) fn busy(alloc: Global, thread: u32) -> Result<String, AllocError> {
     format!(in alloc;
         "The enter of thread {thread} was answered -16 (EBUSY), and took no entry: completions are kept, and the ring has no room for all of them. Reap, then enter again {BACKLOG_RULE}."
+    )
+}
+
+// How many rows came by the event at a moment, and whether one of them failed by it.
+fn came_at(run: &Run<'_>, moment: u32) -> (usize, bool) {
+    let came = run
+        .times
+        .iter()
+        .filter(|times| times.came == moment)
+        .count();
+    let failed = run.times.iter().any(|times| times.came == moment && times.ended == Some(moment));
+    (came, failed)
+}
+
+/// An Enter that took fewer entries than it was to submit.
+pub(crate) fn taken_short(
+    alloc: Global,
+    run: &Run<'_>,
+    thread: u32,
+    moment: u32,
+) -> Result<String, AllocError> {
+    let wanted = match run.instruction(moment) {
+        Some(Instruction::Enter { to_submit, .. }) => *to_submit,
+        _ => 0,
+    };
+    let counter = run.counter(moment).unwrap_or(0);
+    let (came, failed) = came_at(run, moment);
+    let reason = if failed && !run.setup.submit_all {
+        "an entry failed, and the submission halted behind it"
+    } else {
+        "no more that name a slot waited in the ring"
+    };
+    format!(in alloc;
+        "The enter of thread {thread}, instruction {counter}, was to submit {wanted} entries, and took {came}: {reason} {SUBMIT_RULE}."
+    )
+}
+
+/// A Push of an index that names no slot.
+pub(crate) fn no_such_slot(
+    alloc: Global,
+    run: &Run<'_>,
+    thread: u32,
+    moment: u32,
+) -> Result<String, AllocError> {
+    let index = match run.instruction(moment) {
+        Some(Instruction::Push(index)) => *index,
+        _ => 0,
+    };
+    let counter = run.counter(moment).unwrap_or(0);
+    format!(in alloc;
+        "The push of thread {thread}, instruction {counter}, is of index {index}, which names no slot of the ring: it will be dropped, and counted in sq.dropped (io_uring(7))."
     )
 }
 

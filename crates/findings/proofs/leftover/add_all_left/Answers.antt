@@ -1,5 +1,6 @@
 use Rattle.std.proofs.Common.{◌≤◌, length, sym, arith}
-use Rattle.findings.proofs.Left.{left_more, left_whole, none_behind}
+use Rattle.findings.proofs.Left.{left_more, left_whole}
+use Rattle.findings.proofs.Members.{none_behind}
 use Rattle.findings.proofs.leftover.add_all_left.Goals as goal
 
 pub loop-number-preserved : goal.loop-number-preserved

@@ -1,4 +1,3 @@
-use Rattle.std.proofs.Common.{rules}
 use Rattle.findings.proofs.Followed.{all_found}
 use Rattle.findings.proofs.searching.find.Goals as goal
 

@@ -1,0 +1,107 @@
+-- What an event does, beside the rows of some numbers.
+use Rattle.std.proofs.Common.{◌≡◌, inl, inr, ℕ, Bool, true, false, List, [], ◌∷◌, refl, sym, ap, ◌∙◌, subst}
+use Rattle.std.proofs.lemmas.List.Elements.{All-nil, All-cons, All-append}
+use Rattle.std.proofs.lemmas.Bool.{and_parts}
+use Rattle.std.specs.Prelude.{Option, Some, None, slice_get, not}
+use Rattle.std.specs.Option.{option_map_or}
+use Rattle.std.specs.List.{All, flat_map}
+use Rattle.entries.specs.declared.row.Row.{Row}
+use Rattle.scenario.specs.declared.setup.Setup.{Setup}
+use Rattle.findings.specs.declared.deed.Deed.{Deed}
+use Rattle.findings.specs.declared.deed.Deed.TheVariants.{Nothing, Stored, Finished}
+use Rattle.findings.specs.declared.finding.Finding.{Finding}
+use Rattle.findings.specs.declared.kind.Kind.{Kind}
+use Rattle.findings.specs.declared.kind.Kind.TheVariants.{BufferInUse, Unordered, SharedPosition, FsyncEarly}
+use Rattle.findings.specs.Conflicts.{is_behind, is_candidate, is_beside, is_stored_over, is_conflict, conflicts}
+use Rattle.findings.specs.Records.{given, conflict_kinds, of_candidate, of_number, of_deed, Covers}
+use Rattle.findings.proofs.Members.{Has, has_flat_map, contains_has}
+
+false_true : false ≡ true → ⊥
+false_true e = cc
+
+-- whether a deed is a finding about the row of a number
+abbrev pub is_done : Setup → List Row → Deed → Kind → ℕ → Bool
+is_done s rows d kind q = option_map_or (conflicts kind s rows d q) (slice_get rows q) false
+
+abbrev pub IsDone : ℕ → Setup → List Row → Deed → Finding → Type 0
+IsDone i s rows d f = (f.moment ≡ i) × (is_done s rows d f.kind f.subject ≡ true)
+
+-- ---- nothing else
+
+given_done : (i : ℕ) (s : Setup) (rows : List Row) (d : Deed) (q : ℕ) (row : Row) (kind : Kind) → slice_get rows q ≡ Some row → All (IsDone i s rows d) (given (conflicts kind s rows d q row) (record { moment = i; kind = kind; subject = q }))
+given_done i s rows d q row kind e = by (conflicts kind s rows d q row) refl
+  where
+    by : (b : Bool) → conflicts kind s rows d q row ≡ b → All (IsDone i s rows d) (given b (record { moment = i; kind = kind; subject = q }))
+    by true t = All-cons (IsDone i s rows d) (record { moment = i; kind = kind; subject = q }) [] (refl, ap (λ (o : Option Row). option_map_or (conflicts kind s rows d q) o false) e ∙ t) (All-nil (IsDone i s rows d))
+    by false t = All-nil (IsDone i s rows d)
+
+kinds_done : (i : ℕ) (s : Setup) (rows : List Row) (d : Deed) (q : ℕ) (row : Row) (kinds : List Kind) → slice_get rows q ≡ Some row → All (IsDone i s rows d) (of_candidate i s rows d q row kinds)
+kinds_done i s rows d q row [] e = All-nil (IsDone i s rows d)
+kinds_done i s rows d q row (kind ∷ kinds) e =
+    All-append (IsDone i s rows d) (given (conflicts kind s rows d q row) (record { moment = i; kind = kind; subject = q })) (of_candidate i s rows d q row kinds) (given_done i s rows d q row kind e) (kinds_done i s rows d q row kinds e)
+
+number_done : (i : ℕ) (s : Setup) (rows : List Row) (d : Deed) (q : ℕ) → All (IsDone i s rows d) (of_number i s rows d q)
+number_done i s rows d q = by (slice_get rows q) refl
+  where
+    by : (o : Option Row) → slice_get rows q ≡ o → All (IsDone i s rows d) (option_map_or (λ (row : Row). of_candidate i s rows d q row conflict_kinds) o [])
+    by None e = All-nil (IsDone i s rows d)
+    by (Some row) e = kinds_done i s rows d q row conflict_kinds e
+
+numbers_done : (i : ℕ) (s : Setup) (rows : List Row) (d : Deed) (numbers : List ℕ) → All (IsDone i s rows d) (flat_map (of_number i s rows d) numbers)
+numbers_done i s rows d [] = All-nil (IsDone i s rows d)
+numbers_done i s rows d (q ∷ numbers) = All-append (IsDone i s rows d) (of_number i s rows d q) (flat_map (of_number i s rows d) numbers) (number_done i s rows d q) (numbers_done i s rows d numbers)
+
+pub deed_done : (i : ℕ) (s : Setup) (rows : List Row) (d : Deed) (numbers : List ℕ) → All (IsDone i s rows d) (of_deed i s rows d numbers)
+deed_done i s rows Nothing numbers = All-nil (IsDone i s rows Nothing)
+deed_done i s rows (Stored address n) numbers = numbers_done i s rows (Stored address n) numbers
+deed_done i s rows (Finished r row) numbers = numbers_done i s rows (Finished r row) numbers
+
+-- ---- nothing left out
+
+beside_kind : (kind : Kind) (s : Setup) (r : ℕ) (done : Row) (q : ℕ) (row : Row) → is_beside kind s r done q row ≡ true → Has conflict_kinds kind
+beside_kind BufferInUse s r done q row h = inl refl
+beside_kind Unordered s r done q row h = inr (inl refl)
+beside_kind SharedPosition s r done q row h = inr (inr (inl refl))
+beside_kind FsyncEarly s r done q row h = inr (inr (inr (inl refl)))
+beside_kind _ s r done q row h = absurd (false_true h)
+
+stored_kind : (kind : Kind) (address n : ℕ) (row : Row) → is_stored_over kind address n row ≡ true → Has conflict_kinds kind
+stored_kind BufferInUse address n row h = inl refl
+stored_kind _ address n row h = absurd (false_true h)
+
+conflict_kind : (kind : Kind) (s : Setup) (rows : List Row) (d : Deed) (q : ℕ) (row : Row) → is_conflict kind s rows d q row ≡ true → Has conflict_kinds kind
+conflict_kind kind s rows Nothing q row h = absurd (false_true h)
+conflict_kind kind s rows (Stored address n) q row h = stored_kind kind address n row h
+conflict_kind kind s rows (Finished r done) q row h = beside_kind kind s r done q row (and_parts (is_beside kind s r done q row) (not (is_behind rows q row r done)) h).0
+
+given_there : (b : Bool) (f : Finding) → b ≡ true → Has (given b f) f
+given_there true f e = inl refl
+given_there false f e = cc
+
+number_there : (i : ℕ) (s : Setup) (rows : List Row) (d : Deed) (numbers : List ℕ) (kind : Kind) (q : ℕ) → Covers rows numbers → is_done s rows d kind q ≡ true → Has (flat_map (of_number i s rows d) numbers) (record { moment = i; kind = kind; subject = q })
+number_there i s rows d numbers kind q covers h = by (slice_get rows q) refl h
+  where
+    by : (o : Option Row) → slice_get rows q ≡ o → option_map_or (conflicts kind s rows d q) o false ≡ true → Has (flat_map (of_number i s rows d) numbers) (record { moment = i; kind = kind; subject = q })
+    by None e t = absurd (false_true t)
+    by (Some row) e t =
+        let parts = and_parts (is_candidate row) (is_conflict kind s rows d q row) t in
+        let candidate : option_map_or is_candidate (slice_get rows q) false ≡ true = ap (λ (o : Option Row). option_map_or is_candidate o false) e ∙ parts.0 in
+        let told : Has (of_candidate i s rows d q row conflict_kinds) (record { moment = i; kind = kind; subject = q }) =
+        has_flat_map (λ (k : Kind). given (conflicts k s rows d q row) (record { moment = i; kind = k; subject = q })) conflict_kinds kind (record { moment = i; kind = kind; subject = q }) (conflict_kind kind s rows d q row parts.1) (given_there (conflicts kind s rows d q row) (record { moment = i; kind = kind; subject = q }) t)
+        in
+        let there : Has (of_number i s rows d q) (record { moment = i; kind = kind; subject = q }) =
+        subst (λ (o : Option Row). Has (option_map_or (λ (y : Row). of_candidate i s rows d q y conflict_kinds) o []) (record { moment = i; kind = kind; subject = q })) (sym e) told
+        in
+        has_flat_map (of_number i s rows d) numbers q (record { moment = i; kind = kind; subject = q }) (contains_has numbers q (covers q candidate)) there
+
+nothing_done : (s : Setup) (rows : List Row) (kind : Kind) (q : ℕ) → is_done s rows Nothing kind q ≡ true → ⊥
+nothing_done s rows kind q h = by (slice_get rows q) h
+  where
+    by : (o : Option Row) → option_map_or (conflicts kind s rows Nothing q) o false ≡ true → ⊥
+    by None t = false_true t
+    by (Some row) t = false_true (and_parts (is_candidate row) false t).1
+
+pub deed_there : (i : ℕ) (s : Setup) (rows : List Row) (d : Deed) (numbers : List ℕ) (kind : Kind) (q : ℕ) → Covers rows numbers → is_done s rows d kind q ≡ true → Has (of_deed i s rows d numbers) (record { moment = i; kind = kind; subject = q })
+deed_there i s rows Nothing numbers kind q covers h = absurd (nothing_done s rows kind q h)
+deed_there i s rows (Stored address n) numbers kind q covers h = number_there i s rows (Stored address n) numbers kind q covers h
+deed_there i s rows (Finished r row) numbers kind q covers h = number_there i s rows (Finished r row) numbers kind q covers h

@@ -1,0 +1,66 @@
+-- Chains that drain, found row by row.
+use Rattle.std.proofs.Common.{◌≡◌, inl, inr, ℕ, ◌+◌, ◌<◌, ◌≤◌, Bool, true, false, List, length, refl, sym, ap, ◌∙◌, arith}
+use Rattle.std.proofs.lemmas.Option.{none-some, same_Some, slice_get_past}
+use Rattle.std.proofs.lemmas.Bool.{cases_lt, and_parts, and_from, eqb-true, eq-eqb}
+use Rattle.std.specs.Prelude.{Some, slice_get, ◌==◌, ◌&&◌}
+use Rattle.entries.specs.declared.row.Row.{Row}
+use Rattle.links_drains.specs.Eligible.{drains}
+use Rattle.links_drains.specs.Links.{asks_to_drain, Chained}
+use Rattle.links_drains.proofs.Units.{any_true, any_false}
+
+abbrev pub is_draining : ℕ → Row → Bool
+is_draining unit row = (row.unit == unit) && asks_to_drain row
+
+-- none of the rows of a chain before a number drains
+abbrev pub NoneDrains : List Row → ℕ → ℕ → Type 0
+NoneDrains rows unit k = (j : ℕ) (row : Row) → unit ≤ j → j < k → slice_get rows j ≡ Some row → is_draining unit row ≡ false
+
+pub drains_found : (rows : List Row) (k unit : ℕ) (row : Row) → slice_get rows k ≡ Some row → row.unit ≡ unit → asks_to_drain row ≡ true → drains rows unit ≡ true
+drains_found rows k unit row e u a = any_true (is_draining unit) rows k row e (and_from (row.unit == unit) (asks_to_drain row) (eq-eqb row.unit unit u) a)
+
+by_bool : (b : Bool) → (b ≡ true → ⊥) → b ≡ false
+by_bool true h = absurd (h refl)
+by_bool false h = refl
+
+not_draining : (unit : ℕ) (row : Row) → (row.unit ≡ unit → ⊥) → is_draining unit row ≡ false
+not_draining unit row g = by_bool (is_draining unit row) (λ t. g (eqb-true row.unit unit (and_parts (row.unit == unit) (asks_to_drain row) t).0))
+
+-- a row before the first of a chain is of another
+earlier : (rows : List Row) (unit j : ℕ) (row : Row) → Chained rows → slice_get rows j ≡ Some row → j < unit → is_draining unit row ≡ false
+earlier rows unit j row c e l = not_draining unit row (λ same. let low : row.unit ≤ j = c.back j row e in absurd (omega (arith, same)))
+
+none_past : (rows : List Row) (k j : ℕ) (row : Row) → length rows ≤ k → k ≤ j → slice_get rows j ≡ Some row → ⊥
+none_past rows k j row l up e = none-some row (sym (slice_get_past rows j (omega arith)) ∙ e)
+
+-- where the table ends
+pub drains_end : (rows : List Row) (unit k : ℕ) → Chained rows → NoneDrains rows unit k → length rows ≤ k → drains rows unit ≡ false
+drains_end rows unit k c none l = any_false (is_draining unit) rows (λ j row e.
+    elim (cases_lt j unit) [
+      | inl before ↦ earlier rows unit j row c e before
+      | inr behind ↦ elim (cases_lt j k) [
+        | inl below ↦ none j row behind below e
+        | inr past ↦ absurd (none_past rows k j row l past e)
+      ]
+    ])
+
+-- where another chain begins
+pub drains_other : (rows : List Row) (unit k : ℕ) (y : Row) → Chained rows → NoneDrains rows unit k → unit ≤ k → slice_get rows k ≡ Some y → (y.unit ≡ unit → ⊥) → drains rows unit ≡ false
+drains_other rows unit k y c none u there other = any_false (is_draining unit) rows (λ j row e.
+    elim (cases_lt j unit) [
+      | inl before ↦ earlier rows unit j row c e before
+      | inr behind ↦ elim (cases_lt j k) [
+        | inl below ↦ none j row behind below e
+        | inr past ↦ not_draining unit row (λ same. other (c.run k j y row there e past (omega (arith, same, u)) ∙ same))
+      ]
+    ])
+
+-- one row more
+pub drains_more : (rows : List Row) (unit k : ℕ) (row : Row) → NoneDrains rows unit k → slice_get rows k ≡ Some row → is_draining unit row ≡ false → NoneDrains rows unit (k + 1)
+drains_more rows unit k row none there h = λ j x low high e.
+    elim (cases_lt j k) [
+      | inl below ↦ none j x low below e
+      | inr past ↦
+          let same : k ≡ j = omega arith in
+          let one : row ≡ x = same_Some row x (sym there ∙ ap (slice_get rows) same ∙ e) in
+          ap (is_draining unit) (sym one) ∙ h
+    ]

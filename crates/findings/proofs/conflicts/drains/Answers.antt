@@ -1,0 +1,21 @@
+use Rattle.std.proofs.Common.{◌≤◌, length, sym, ◌∙◌, arith}
+use Rattle.findings.proofs.Draining.{drains_found, drains_end, drains_other}
+use Rattle.findings.proofs.Members.{none_behind}
+use Rattle.findings.proofs.conflicts.drains.Goals as goal
+
+pub returns-then-asks_to_drain : goal.returns-then-asks_to_drain
+returns-then-asks_to_drain c =
+    sym (drains_found _ c.loop-number.number c.args.unit c.in-Some.row (sym c.in-Some.ensures.row) c.if-row-unit.true (sym c.asks_to_drain.ensures ∙ c.if-asks_to_drain.true))
+
+pub returns-in_default : goal.returns-in_default
+returns-in_default c =
+    sym (drains_other _ c.args.unit c.loop-number.number c.in-Some.row c.row_at-first.ensures.formed.mostly.table.chained c.loop-number.invariant c.loop-number.auto.number (sym c.in-Some.ensures.row) c.if-row-unit.false)
+
+pub returns-in_default-2 : goal.returns-in_default-2
+returns-in_default-2 c =
+    sym (drains_end _ c.args.unit c.loop-number.number c.row_at-first.ensures.formed.mostly.table.chained c.loop-number.invariant (none_behind _ c.loop-number.number (sym c.in_default.ensures.row)))
+
+pub returns : goal.returns
+returns c =
+    let l : length c.args.state.now.table ≤ c.loop-number.number = omega (arith, c.row_at-first.ensures.few) in
+    sym (drains_end _ c.args.unit c.loop-number.number c.row_at-first.ensures.formed.mostly.table.chained c.loop-number.invariant l)

@@ -1,0 +1,7 @@
+use Rattle.std.proofs.Common.{◌≡◌, ◌++◌, take}
+use Rattle.std.specs.List.{flat_map}
+use Rattle.findings.specs.Records.{of_number}
+use Rattle.findings.proofs.record.add_of_numbers.Given as goal
+
+abbrev pub invariant-loop-number : goal.invariant-loop-number
+invariant-loop-number l = l.found.items ≡ l.fn.found.items ++ flat_map (of_number l.moment l.setup l.state.table l.deed) (take l.number-index l.numbers)

@@ -1,0 +1,149 @@
+-- What an event does beside requests that are under way: over bytes of memory that are theirs, or of a file in no order.
+use Rattle.std.specs.Prelude.{ℕ, ℤ, pos, ◌+◌, ◌-◌, ◌==◌, Bool, true, false, not, ◌&&◌, ◌||◌, nat_lt, min, max, if◌then◌else◌, Option, Some, None, slice_get, List, length}
+use Rattle.std.specs.Option.{option_map_or, option_and_then}
+use Rattle.entries.specs.declared.entry.Sqe.{Sqe}
+use Rattle.entries.specs.declared.row.Phase.{Phase}
+use Rattle.entries.specs.declared.row.Phase.TheVariants.{Ended}
+use Rattle.entries.specs.declared.row.Row.{Row}
+use Rattle.places.specs.declared.object.Contents.{Contents}
+use Rattle.places.specs.declared.object.Contents.TheVariants.{File}
+use Rattle.places.specs.declared.object.Descriptor.{Descriptor}
+use Rattle.places.specs.declared.object.Object.{Object}
+use Rattle.scenario.specs.declared.event.Event.{Event}
+use Rattle.scenario.specs.declared.event.Event.TheVariants.{Finish}
+use Rattle.scenario.specs.declared.setup.Instruction.{Instruction}
+use Rattle.scenario.specs.declared.setup.Instruction.TheVariants.{Store}
+use Rattle.scenario.specs.declared.setup.Setup.{Setup}
+use Rattle.opcodes.specs.Outcomes.{is_at_position}
+use Rattle.links_drains.specs.Eligible.{is_before_in_unit, is_before_in_drain}
+use Rattle.links_drains.specs.Units.{is_open}
+use Rattle.timeouts_cancel.specs.Falls.{is_transfer}
+use Rattle.machine.specs.Steps.{number_in}
+use Rattle.machine.specs.declared.whole.Machine.{Machine}
+use Rattle.findings.specs.declared.deed.Deed.{Deed}
+use Rattle.findings.specs.declared.deed.Deed.TheVariants.{Nothing, Stored, Finished}
+use Rattle.findings.specs.declared.kind.Kind.{Kind}
+use Rattle.findings.specs.declared.kind.Kind.TheVariants.{BufferInUse, Unordered, SharedPosition, FsyncEarly}
+use Rattle.findings.specs.Conditions.{done_by}
+
+-- ---- what an event does
+
+-- what an instruction does: a Store writes bytes of memory
+abbrev pub deed_of : Option Instruction → Deed
+deed_of (Some (Store address bytes)) = Stored address (length bytes)
+deed_of _ = Nothing
+
+-- what the end of a request may do to others: a READ, a WRITE or an FSYNC
+abbrev pub finish_of : ℕ → Row → Deed
+finish_of r row = if is_transfer row.entry.opcode || (row.entry.opcode == 3) then Finished r row else Nothing
+
+abbrev pub finished_in : Machine → ℕ → Deed
+finished_in m r = option_map_or (finish_of r) (slice_get m.table r) Nothing
+
+-- what an event does, by the instruction if it is one, and the machine behind it
+abbrev pub done_as : Event → Option Instruction → Machine → Deed
+done_as (Finish r c) x behind = finished_in behind r
+done_as e x behind = deed_of x
+
+-- what an event does, that leads from one machine to another
+abbrev pub done_at : Setup → Machine → Event → Machine → Deed
+done_at s before e behind = done_as e (done_by s before e) behind
+
+-- ---- ranges
+
+-- whether two ranges have a number in common, each told by its first number and how many it has
+abbrev pub meet : ℕ → ℕ → ℕ → ℕ → Bool
+meet a n b m = nat_lt (max a b) (min (a + n) (b + m))
+
+-- how many bytes a request moved
+abbrev pub moved : Phase → ℕ
+moved (Ended (pos n)) = n
+moved _ = 0
+
+abbrev pub is_good : Phase → Bool
+is_good (Ended (pos n)) = true
+is_good _ = false
+
+-- whether bytes of memory are in a row's buffer (read(2), write(2))
+abbrev pub is_in_buffer : ℕ → ℕ → Row → Bool
+is_in_buffer address n row = meet address n row.entry.addr row.entry.len
+
+-- ---- files
+
+abbrev pub file_number : ℕ → Contents → Option ℕ
+file_number o (File bytes) = Some o
+file_number o _ = None
+
+-- the number of a descriptor's object, if that is a file
+abbrev pub file_behind : Setup → Descriptor → Option ℕ
+file_behind s d = option_and_then (λ (o : Object). file_number d.object o.contents) (slice_get s.objects d.object)
+
+-- descriptors are numbered from 3 (stdin(3))
+abbrev pub file_numbered : Setup → ℕ → Option ℕ
+file_numbered s fd = if nat_lt fd 3 then None else option_and_then (file_behind s) (slice_get s.fds (fd - 3))
+
+abbrev pub file_of : Setup → ℤ → Option ℕ
+file_of s fd = option_and_then (file_numbered s) (number_in fd)
+
+abbrev pub are_one : Option ℕ → Option ℕ → Bool
+are_one (Some a) (Some b) = a == b
+are_one _ _ = false
+
+-- whether two entries name the same file, by whatever descriptors
+abbrev pub is_same_file : Setup → Sqe → Sqe → Bool
+is_same_file s a b = are_one (file_of s a.fd) (file_of s b.fd)
+
+-- whether one of two entries is a WRITE
+abbrev pub is_one_write : Sqe → Sqe → Bool
+is_one_write a b = (a.opcode == 23) || (b.opcode == 23)
+
+-- whether bytes that a request moved are among those that another asks for, both at offsets of their own (pread(2), pwrite(2))
+abbrev pub is_over : ℕ → Sqe → Sqe → Bool
+is_over n done entry = not (is_at_position done) && (not (is_at_position entry) && meet done.off n entry.off entry.len)
+
+-- whether two entries go by one position: of one descriptor of a file (lseek(2))
+abbrev pub is_by_position : Setup → Sqe → Sqe → Bool
+is_by_position s a b = is_at_position a && (is_at_position b && (are_one (number_in a.fd) (number_in b.fd) && is_same_file s a b))
+
+-- ---- order
+
+-- whether a row is ordered behind another: by their chain, or by a drain (io_uring_enter(2), IOSQE_IO_LINK and IOSQE_IO_DRAIN)
+abbrev pub is_behind : List Row → ℕ → Row → ℕ → Row → Bool
+is_behind rows q row r other = is_before_in_unit q row r other || is_before_in_drain rows row other
+
+-- ---- kinds
+
+-- whether a READ or a WRITE hasn't ended
+abbrev pub is_candidate : Row → Bool
+is_candidate row = is_transfer row.entry.opcode && is_open row
+
+-- Whether the end of row r, as it is then, is a finding about another READ or WRITE that hasn't ended:
+--   BufferInUse: a READ moved bytes into its buffer;
+--   Unordered: bytes of a file were moved that it asks for, and one of both is a WRITE;
+--   SharedPosition: bytes were moved at the position at which it begins;
+--   FsyncEarly: an FSYNC of its file ended well, and it is an earlier WRITE.
+abbrev pub is_beside : Kind → Setup → ℕ → Row → ℕ → Row → Bool
+is_beside BufferInUse s r done q row = (done.entry.opcode == 22) && is_in_buffer done.entry.addr (moved done.phase) row
+is_beside Unordered s r done q row = is_one_write done.entry row.entry && (is_over (moved done.phase) done.entry row.entry && is_same_file s done.entry row.entry)
+is_beside SharedPosition s r done q row = nat_lt 0 (moved done.phase) && is_by_position s done.entry row.entry
+is_beside FsyncEarly s r done q row = (done.entry.opcode == 3) && (is_good done.phase && (nat_lt q r && ((row.entry.opcode == 23) && is_same_file s done.entry row.entry)))
+is_beside kind s r done q row = false
+
+-- Whether bytes that a Store writes are a finding about a READ or a WRITE that hasn't ended:
+--   BufferInUse: they are in its buffer.
+abbrev pub is_stored_over : Kind → ℕ → ℕ → Row → Bool
+is_stored_over BufferInUse address n row = is_in_buffer address n row
+is_stored_over kind address n row = false
+
+-- whether what an event does is a finding about such a row, which is in no order with it
+abbrev pub is_conflict : Kind → Setup → List Row → Deed → ℕ → Row → Bool
+is_conflict kind s rows Nothing q row = false
+is_conflict kind s rows (Stored address n) q row = is_stored_over kind address n row
+is_conflict kind s rows (Finished r done) q row = is_beside kind s r done q row && not (is_behind rows q row r done)
+
+abbrev pub conflicts : Kind → Setup → List Row → Deed → ℕ → Row → Bool
+conflicts kind s rows deed q row = is_candidate row && is_conflict kind s rows deed q row
+
+-- whether an event that leads from one machine to another is a finding about the row of a number
+abbrev pub clashes : Setup → Kind → Machine → Event → Machine → ℕ → Bool
+clashes s kind before e behind q = option_map_or (conflicts kind s behind.table (done_at s before e behind) q) (slice_get behind.table q) false

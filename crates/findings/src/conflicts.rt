@@ -1,0 +1,212 @@
+//! Requests that haven't ended, beside what an event does.
+ghost use Rattle.std.specs.Prelude.{◌≡◌, ◌==◌};
+ghost use Rattle.opcodes.specs.Outcomes.{is_at_position};
+ghost use Rattle.links_drains.specs.Links.{asks_to_drain};
+ghost use Rattle.links_drains.specs.Eligible.{drains, is_before_in_unit, is_before_in_drain};
+ghost use Rattle.findings.specs.Conflicts.{meet, moved, is_good, is_in_buffer, is_same_file, is_one_write, is_over, is_by_position, is_behind, is_candidate, is_beside, is_stored_over, is_conflict, conflicts};
+
+use crate::deed::{Deed, is_transfer};
+use crate::files::{is_same_descriptor, is_same_file};
+use crate::kind::Kind;
+use crate::leftover::{MOST_ROWS, row_at};
+use entries::{Phase, Row, Sqe};
+use links_drains::{is_guard, is_unfinished};
+use machine::{Setup, State};
+use opcodes::Op;
+
+/// IOSQE_IO_DRAIN.
+const IO_DRAIN: u8 = 2;
+
+/// The offset that stands for the position.
+const AT_POSITION: u64 = 18446744073709551615;
+
+// Whether two ranges have a number in common, each told by its first number and how many it has.
+fn meet(first: u64, count: u64, other: u64, others: u64) -> bool
+    ensures { result ≡ meet first count other others }
+{
+    let start = u128::from(first.max(other));
+    let end = (u128::from(first) + u128::from(count)).min(u128::from(other) + u128::from(others));
+    start < end
+}
+
+// How many bytes a request moved.
+fn moved(phase: Phase) -> u64
+    ensures { result ≡ moved phase }
+{
+    match phase {
+        Phase::Ended(res) if res >= 0 => res as u64,
+        _ => 0,
+    }
+}
+
+fn is_good(phase: Phase) -> bool
+    ensures { result ≡ is_good phase }
+{
+    match phase {
+        Phase::Ended(res) => res >= 0,
+        _ => false,
+    }
+}
+
+fn is_in_buffer(address: u64, count: u64, row: &Row) -> bool
+    ensures { result ≡ is_in_buffer address count row.now }
+{
+    meet(address, count, row.entry.addr, row.entry.len as u64)
+}
+
+fn is_write(entry: &Sqe) -> bool
+    ensures { result ≡ (entry.now.opcode == 23) }
+{
+    entry.opcode == Op::Write as u8
+}
+
+fn is_at_position(entry: &Sqe) -> bool
+    ensures { result ≡ is_at_position entry.now }
+{
+    entry.off == AT_POSITION
+}
+
+// Whether bytes that a request moved are among those that another asks for.
+fn is_over(count: u64, done: &Sqe, entry: &Sqe) -> bool
+    ensures { result ≡ is_over count done.now entry.now }
+{
+    !is_at_position(done)
+        && (!is_at_position(entry) && meet(done.off, count, entry.off, entry.len as u64))
+}
+
+// Whether two entries go by one position.
+fn is_by_position(setup: &Setup, first: &Sqe, second: &Sqe) -> bool
+    ensures { result ≡ is_by_position setup.now first.now second.now }
+{
+    is_at_position(first)
+        && (is_at_position(second)
+            && (is_same_descriptor(first, second) && is_same_file(setup, first, second)))
+}
+
+// ---- order
+
+fn asks_to_drain(row: &Row) -> bool
+    ensures { result ≡ asks_to_drain row.now }
+{
+    row.entry.flags & IO_DRAIN != 0
+}
+
+// Whether a chain drains. Its rows stand one behind the other.
+fn drains(state: &State, unit: u32) -> bool
+    ensures { result ≡ drains state.now.table unit }
+{
+    let _first = row_at(state, unit);
+    for number in unit..MOST_ROWS {
+        match row_at(state, number) {
+            Some(row) if row.unit == unit => {
+                if asks_to_drain(&row) {
+                    return true;
+                }
+            }
+            _ => return false,
+        }
+    }
+    false
+}
+
+fn is_before_in_unit(number: u32, row: &Row, other: u32, before: &Row) -> bool
+    ensures { result ≡ is_before_in_unit number row.now other before.now }
+{
+    before.unit == row.unit && (other < number && !is_guard(before))
+}
+
+fn is_before_in_drain(state: &State, row: &Row, before: &Row) -> bool
+    ensures { result ≡ is_before_in_drain state.now.table row.now before.now }
+{
+    before.unit < row.unit && (drains(state, before.unit) || drains(state, row.unit))
+}
+
+// Whether a row is ordered behind another.
+fn is_behind(state: &State, number: u32, row: &Row, other: u32, before: &Row) -> bool
+    ensures { result ≡ is_behind state.now.table number row.now other before.now }
+{
+    is_before_in_unit(number, row, other, before) || is_before_in_drain(state, row, before)
+}
+
+// ---- kinds
+
+/// Whether a READ or a WRITE hasn't ended.
+pub(crate) fn is_candidate(row: &Row) -> bool
+    ensures { result ≡ is_candidate row.now }
+{
+    is_transfer(row) && is_unfinished(row)
+}
+
+// An FSYNC that ended well, and an earlier WRITE of its file.
+fn is_synced_early(setup: &Setup, number: u32, done: &Row, other: u32, row: &Row) -> bool
+    ensures { result ≡ is_beside Kind.FsyncEarly setup.now number done.now other row.now }
+{
+    done.entry.opcode == Op::Fsync as u8
+        && (is_good(done.phase)
+            && (other < number
+                && (is_write(&row.entry) && is_same_file(setup, &done.entry, &row.entry))))
+}
+
+// Whether the end of a row is a finding about another.
+fn is_beside(kind: Kind, setup: &Setup, number: u32, done: &Row, other: u32, row: &Row) -> bool
+    ensures { result ≡ is_beside kind setup.now number done.now other row.now }
+{
+    let count = moved(done.phase);
+    match kind {
+        Kind::BufferInUse => {
+            done.entry.opcode == Op::Read as u8 && is_in_buffer(done.entry.addr, count, row)
+        }
+        Kind::Unordered => {
+            (is_write(&done.entry) || is_write(&row.entry))
+                && (is_over(count, &done.entry, &row.entry)
+                    && is_same_file(setup, &done.entry, &row.entry))
+        }
+        Kind::SharedPosition => 0 < count && is_by_position(setup, &done.entry, &row.entry),
+        Kind::FsyncEarly => is_synced_early(setup, number, done, other, row),
+        _ => false,
+    }
+}
+
+// Whether bytes that a Store writes are a finding about a row.
+fn is_stored_over(kind: Kind, address: u64, count: u64, row: &Row) -> bool
+    ensures { result ≡ is_stored_over kind address count row.now }
+{
+    match kind {
+        Kind::BufferInUse => is_in_buffer(address, count, row),
+        _ => false,
+    }
+}
+
+fn is_conflict(
+    kind: Kind,
+    setup: &Setup,
+    state: &State,
+    deed: &Deed,
+    number: u32,
+    row: &Row,
+) -> bool
+    ensures { result ≡ is_conflict kind setup.now state.now.table deed.now number row.now }
+{
+    match deed {
+        Deed::Nothing => false,
+        Deed::Stored(address, count) => is_stored_over(kind, *address, *count, row),
+        Deed::Finished(by, done) => {
+            is_beside(kind, setup, *by, done, number, row)
+                && !is_behind(state, number, row, *by, done)
+        }
+    }
+}
+
+/// Whether what an event does is a finding of a kind about a READ or a WRITE that hasn't ended.
+pub(crate) fn conflicts(
+    kind: Kind,
+    setup: &Setup,
+    state: &State,
+    deed: &Deed,
+    number: u32,
+    row: &Row,
+) -> bool
+    ensures { result ≡ conflicts kind setup.now state.now.table deed.now number row.now }
+{
+    is_candidate(row) && is_conflict(kind, setup, state, deed, number, row)
+}

@@ -1,0 +1,69 @@
+//! What events do that may concern requests beside them.
+ghost use Rattle.std.specs.Prelude.{◌≡◌};
+ghost use Rattle.std.specs.Option.{option_copied};
+ghost use Rattle.timeouts_cancel.specs.Falls.{is_transfer};
+ghost use Rattle.findings.specs.Conditions.{instruction_at};
+ghost use Rattle.findings.specs.Conflicts.{deed_of, finish_of, finished_in, done_as};
+
+use crate::conditions::{Before, instruction_at};
+use crate::leftover::row_at;
+use entries::Row;
+use machine::{Event, Instruction, Setup, State};
+use opcodes::Op;
+
+/// What an event does.
+#[derive(Clone, Copy, Debug)]
+pub enum Deed {
+    Nothing,
+    /// It writes bytes of memory: the first address, and how many.
+    Stored(u64, u64),
+    /// It ends a READ, a WRITE or an FSYNC: its number, and the row as it is then.
+    Finished(u32, Row),
+}
+
+fn deed_of(instruction: Option<&Instruction>) -> Deed
+    ensures { result ≡ deed_of (option_copied instruction.entry) }
+{
+    match instruction {
+        Some(Instruction::Store(address, bytes)) => {
+            Deed::Stored(*address as u64, bytes.len() as u64)
+        }
+        _ => Deed::Nothing,
+    }
+}
+
+/// Whether a row is a READ or a WRITE.
+pub(crate) fn is_transfer(row: &Row) -> bool
+    ensures { result ≡ is_transfer row.now.entry.opcode }
+{
+    row.entry.opcode == Op::Read as u8 || row.entry.opcode == Op::Write as u8
+}
+
+fn finish_of(number: u32, row: Row) -> Deed
+    ensures { result ≡ finish_of number row }
+{
+    if is_transfer(&row) || row.entry.opcode == Op::Fsync as u8 {
+        Deed::Finished(number, row)
+    } else {
+        Deed::Nothing
+    }
+}
+
+fn finished_in(state: &State, number: u32) -> Deed
+    ensures { result ≡ finished_in state.now number }
+{
+    match row_at(state, number) {
+        Some(row) => finish_of(number, row),
+        None => Deed::Nothing,
+    }
+}
+
+/// What an event does, by the state behind it.
+pub(crate) fn done_as(setup: &Setup, before: Before, event: Event, state: &State) -> Deed
+    ensures { result ≡ done_as event (instruction_at setup.now event before.counter) state.now }
+{
+    match event {
+        Event::Finish(number, _) => finished_in(state, number),
+        _ => deed_of(instruction_at(setup, event, before.counter)),
+    }
+}

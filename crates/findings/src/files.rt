@@ -1,0 +1,84 @@
+//! Which files entries name.
+ghost use Rattle.std.specs.Prelude.{◌≡◌};
+ghost use Rattle.machine.specs.Steps.{number_in};
+ghost use Rattle.findings.specs.Conflicts.{file_number, file_behind, file_numbered, file_of, are_one, is_same_file};
+
+use entries::Sqe;
+use machine::Setup;
+use places::{Contents, Descriptor};
+
+/// The number of the first descriptor.
+const FIRST: u32 = 3;
+
+fn number_in(fd: i32) -> Option<u32>
+    ensures { result ≡ number_in fd }
+{
+    if fd < 0 {
+        return None;
+    }
+    Some(fd as u32)
+}
+
+fn file_number(object: u32, contents: &Contents) -> Option<u32>
+    ensures { result ≡ file_number object contents.now }
+{
+    match contents {
+        Contents::File(_) => Some(object),
+        _ => None,
+    }
+}
+
+// The number of a descriptor's object, if that is a file.
+fn file_behind(setup: &Setup, descriptor: Descriptor) -> Option<u32>
+    ensures { result ≡ file_behind setup.now descriptor }
+{
+    match setup.objects.as_slice().get(descriptor.object as usize) {
+        Some(object) => file_number(descriptor.object, &object.contents),
+        None => None,
+    }
+}
+
+fn file_numbered(setup: &Setup, fd: u32) -> Option<u32>
+    ensures { result ≡ file_numbered setup.now fd }
+{
+    if fd < FIRST {
+        return None;
+    }
+    match setup.fds.as_slice().get((fd - FIRST) as usize) {
+        Some(descriptor) => file_behind(setup, *descriptor),
+        None => None,
+    }
+}
+
+/// The number of the file that a descriptor's number names, if it names one.
+pub(crate) fn file_of(setup: &Setup, fd: i32) -> Option<u32>
+    ensures { result ≡ file_of setup.now fd }
+{
+    match number_in(fd) {
+        Some(number) => file_numbered(setup, number),
+        None => None,
+    }
+}
+
+fn are_one(first: Option<u32>, second: Option<u32>) -> bool
+    ensures { result ≡ are_one first second }
+{
+    match (first, second) {
+        (Some(one), Some(other)) => one == other,
+        _ => false,
+    }
+}
+
+/// Whether two entries name the same descriptor.
+pub(crate) fn is_same_descriptor(first: &Sqe, second: &Sqe) -> bool
+    ensures { result ≡ are_one (number_in first.now.fd) (number_in second.now.fd) }
+{
+    are_one(number_in(first.fd), number_in(second.fd))
+}
+
+/// Whether two entries name the same file, by whatever descriptors.
+pub(crate) fn is_same_file(setup: &Setup, first: &Sqe, second: &Sqe) -> bool
+    ensures { result ≡ is_same_file setup.now first.now second.now }
+{
+    are_one(file_of(setup, first.fd), file_of(setup, second.fd))
+}
