@@ -24,4 +24,6 @@ mod watching;
 pub use explaining::{Asked, explain_run};
 pub use finding::Finding;
 pub use kind::Kind;
+pub use names::RowName;
 pub use searching::findings_of;
+pub use sentences::why_unfinished;

@@ -35,13 +35,14 @@ impl fmt::Display for OpcodeName {
 
 /// A row by its number, its operation and its user_data.
 #[derive(Clone, Copy)]
-pub(crate) struct RowName {
+pub struct RowName {
     number: u32,
     opcode: u8,
     user_data: u64,
 }
 
 impl RowName {
+    /// The name of a row of a number.
     pub fn of(number: u32, row: &Row) -> RowName {
         RowName {
             number,

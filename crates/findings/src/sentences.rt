@@ -7,6 +7,8 @@ mod errors;
 mod left;
 mod rings;
 
+pub use left::why_unfinished;
+
 use crate::finding::Finding;
 use crate::kind::Kind;
 use crate::names::RowName;

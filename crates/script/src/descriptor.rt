@@ -55,7 +55,8 @@ fn descriptor_named(objects: &NamedObjects<'_>, text: &str) -> Option<Descriptor
     }
 }
 
-fn read_descriptor(
+/// A descriptor of the list.
+pub fn read_descriptor(
     objects: &NamedObjects<'_>,
     index: u32,
     value: &Value,

@@ -131,7 +131,8 @@ fn event_in_range(form: &EventForm) -> Option<Event>
     }
 }
 
-fn read_event(index: u32, value: &Value) -> Result<Event, ScriptFault>
+/// An event of the schedule.
+pub fn read_event(index: u32, value: &Value) -> Result<Event, ScriptFault>
     ensures { result ≡ event_at index (view value.now) }
 {
     let path = item_path(Key::Schedule, index);

@@ -12,6 +12,7 @@ ghost use Rattle.script.specs.Scripts.{is_script_key};
 use crate::fault::{Key, Path, ScriptFault};
 use serde_json::{Map, Value};
 
+/// A key by itself.
 pub fn key_path(key: Key) -> Path
     ensures { result ≡ at_key key }
 {
@@ -22,6 +23,7 @@ pub fn key_path(key: Key) -> Path
     }
 }
 
+/// An item at a key.
 pub fn item_path(key: Key, item: u32) -> Path
     ensures { result ≡ at_item key item }
 {
@@ -32,6 +34,7 @@ pub fn item_path(key: Key, item: u32) -> Path
     }
 }
 
+/// An item of an item at a key.
 pub fn inner_path(key: Key, item: u32, inner: u32) -> Path
     ensures { result ≡ at_inner key item inner }
 {
@@ -62,7 +65,8 @@ pub fn items_at<'a>(key: Key, found: Option<&'a Value>) -> Result<&'a [Value], S
     }
 }
 
-fn is_script_key(key: &str) -> bool
+/// Whether a key is one of a script.
+pub fn is_script_key(key: &str) -> bool
     ensures { result ≡ is_script_key key.now }
 {
     matches!(
@@ -80,7 +84,8 @@ fn is_script_key(key: &str) -> bool
     )
 }
 
-fn is_entry_key(key: &str) -> bool
+/// Whether a key is one of an entry.
+pub fn is_entry_key(key: &str) -> bool
     ensures { result ≡ is_entry_key key.now }
 {
     matches!(
@@ -101,7 +106,8 @@ fn has_entry_keys(members: &Map<String, Value>) -> bool
     members.keys().all(|key| is_entry_key(key))
 }
 
-fn is_object_key(key: &str) -> bool
+/// Whether a key is one of an object of a setup.
+pub fn is_object_key(key: &str) -> bool
     ensures { result ≡ is_object_key key.now }
 {
     matches!(key, "name" | "file" | "pipe" | "eventfd")

@@ -6,6 +6,7 @@ mod entry;
 mod event;
 mod fault;
 mod instruction;
+pub mod items;
 mod keys;
 pub mod laws;
 mod memory;

@@ -84,8 +84,8 @@ fn overwrite(bytes: &mut Vec<u8>, at: usize, others: &[u8])
     bytes[at..end].copy_from_slice(others);
 }
 
-// Writes an item over the memory.
-fn write_piece(
+/// Writes an item over the memory.
+pub fn write_piece(
     alloc: Global,
     memory: &mut Vec<u8>,
     index: usize,
@@ -111,8 +111,9 @@ fn write_piece(
     Ok(())
 }
 
+/// So many zeros.
 #[tactic(auto, unfolding(crate::specs::Memory::zeros))]
-fn make_zeros(alloc: Global, size: usize) -> Result<Vec<u8>, AllocError>
+pub fn make_zeros(alloc: Global, size: usize) -> Result<Vec<u8>, AllocError>
     ensures ok { IfOk result (λ v. v.items ≡ zeros size) }
     ensures len { IfOk result (λ v. length v.items ≡ size) }
 {

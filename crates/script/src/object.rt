@@ -120,8 +120,8 @@ fn is_new_name(before: &NamedObjects<'_>, name: &str) -> bool
     is_name(name.as_bytes()) && !before.has(name)
 }
 
-// The objects before, and then an item.
-fn with_object<'a>(
+/// The objects before, and then an item.
+pub fn with_object<'a>(
     alloc: Global,
     before: NamedObjects<'a>,
     index: u32,

@@ -24,7 +24,8 @@ use std::alloc::Global;
 
 const LIMIT: usize = 8388608;
 
-fn read_entries(found: Option<&Value>) -> Result<u32, ScriptFault>
+/// The places of the submission ring.
+pub fn read_entries(found: Option<&Value>) -> Result<u32, ScriptFault>
     ensures { result ≡ entries_of (option_map (λ v. view v.now) found.entry) }
 {
     let path = key_path(Key::Entries);
@@ -35,7 +36,8 @@ fn read_entries(found: Option<&Value>) -> Result<u32, ScriptFault>
     Ok(n as u32)
 }
 
-fn read_cq(entries: u32, found: Option<&Value>) -> Result<Option<u32>, ScriptFault>
+/// The places of the completion ring, if the key is there.
+pub fn read_cq(entries: u32, found: Option<&Value>) -> Result<Option<u32>, ScriptFault>
     ensures { result ≡ cq_of entries (option_map (λ v. view v.now) found.entry) }
 {
     let path = key_path(Key::Cq);
@@ -50,7 +52,8 @@ fn read_cq(entries: u32, found: Option<&Value>) -> Result<Option<u32>, ScriptFau
     }
 }
 
-fn read_flag(key: Key, found: Option<&Value>) -> Result<bool, ScriptFault>
+/// A key that is true or false.
+pub fn read_flag(key: Key, found: Option<&Value>) -> Result<bool, ScriptFault>
     ensures { result ≡ flag_of key (option_map (λ v. view v.now) found.entry) }
 {
     let Some(value) = found else {
@@ -59,7 +62,8 @@ fn read_flag(key: Key, found: Option<&Value>) -> Result<bool, ScriptFault>
     value.as_bool().ok_or(ScriptFault::Shape(key_path(key)))
 }
 
-fn read_base(found: Option<&Value>) -> Result<u32, ScriptFault>
+/// Where the ring words start.
+pub fn read_base(found: Option<&Value>) -> Result<u32, ScriptFault>
     ensures { result ≡ base_of (option_map (λ v. view v.now) found.entry) }
 {
     let Some(value) = found else {

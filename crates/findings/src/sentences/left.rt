@@ -4,7 +4,7 @@ use crate::names::RowName;
 use crate::run::Run;
 use entries::{Phase, Row};
 use links_drains::{is_guard, is_unfinished};
-use machine::{Event, Refusal};
+use machine::{Event, Refusal, State};
 use opcodes::{Choice, Op, is_timer};
 use std::alloc::{AllocError, Global};
 
@@ -157,15 +157,34 @@ fn issued(alloc: Global, run: &Run<'_>, number: u32, row: &Row) -> Result<String
     }
 }
 
+// Why a row hasn't ended.
+fn reason(alloc: Global, run: &Run<'_>, number: u32, row: &Row) -> Result<String, AllocError> {
+    match row.phase {
+        Phase::Queued => queued(alloc, run, number, row),
+        Phase::Issued | Phase::Ended(_) => issued(alloc, run, number, row),
+    }
+}
+
 /// A request that hasn't ended.
 pub(crate) fn unfinished(alloc: Global, run: &Run<'_>, number: u32) -> Result<String, AllocError> {
     let Some(row) = run.row(number) else {
         return Ok(String::new(alloc));
     };
     let name = RowName::of(number, &row);
-    let reason = match row.phase {
-        Phase::Queued => queued(alloc, run, number, &row)?,
-        Phase::Issued | Phase::Ended(_) => issued(alloc, run, number, &row)?,
-    };
+    let reason = reason(alloc, run, number, &row)?;
     format!(in alloc; "Row {name} has not ended. {reason}")
+}
+
+/// Why a row of a state hasn't ended, as a sentence: what holds it back, or what it waits for.
+pub fn why_unfinished(alloc: Global, state: &State, number: u32) -> Result<String, AllocError> {
+    let run = Run {
+        state,
+        events: &[],
+        times: &[],
+        found: &[],
+    };
+    match run.row(number) {
+        Some(row) => reason(alloc, &run, number, &row),
+        None => Ok(String::new(alloc)),
+    }
 }

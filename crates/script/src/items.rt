@@ -1,0 +1,13 @@
+//! Readers of single keys and items, for those who look behind a script's first fault.
+
+pub use crate::descriptor::read_descriptor;
+pub use crate::event::read_event;
+pub use crate::instruction::read_instruction;
+pub use crate::keys::{
+    is_entry_key, is_object_key, is_script_key, item_path, items_at, items_of, key_path,
+    script_object,
+};
+pub use crate::memory::{make_zeros, write_piece};
+pub use crate::names::NamedObjects;
+pub use crate::object::with_object;
+pub use crate::reading::{read_base, read_cq, read_entries, read_flag};

@@ -1,0 +1,20 @@
+-- What is told of a schedule is told of its script.
+use Rattle.std.proofs.Common.{ℕ, List, Ok}
+use Rattle.script.specs.Scripts.{Scenario, Reads}
+use Rattle.run_log.specs.declared.fault.LogFault.{LogFault}
+use Rattle.run_log.specs.declared.fault.LogFault.TheVariants as log
+use Rattle.script_check.specs.declared.verdict.Verdict.{Verdict}
+use Rattle.script_check.specs.declared.verdict.Verdict.TheVariants.{Fine, Faulty, Refused}
+use Rattle.script_check.specs.Verdicts.{Ends, IsVerdict, IsOfOutput, IsUntold}
+
+pub told_of_plan : (text : List ℕ) (p : Scenario) (v : Verdict) → Reads text (Ok p) → Ends p.setup p.schedule v → IsVerdict text v
+told_of_plan text p Fine r e = (p, r, e)
+told_of_plan text p (Refused i n) r e = (p, r, e)
+told_of_plan text p (Faulty f) r e = absurd e
+
+pub untold : (text : List ℕ) (f : LogFault) → IsOfOutput f → IsUntold text f
+untold text (log.Script f) h = absurd h
+untold text (log.Trace f) h = h
+untold text (log.Schedule i n) h = h
+untold text log.Write h = h
+untold text log.Memory h = h

@@ -1,0 +1,39 @@
+-- What is told of a script.
+use Rattle.std.specs.Prelude.{◌≢◌, ℕ, List, Ok, Err}
+use Rattle.scenario.specs.declared.event.Event.{Event}
+use Rattle.scenario.specs.declared.event.Refusal.{Refusal}
+use Rattle.scenario.specs.declared.event.Refusal.TheVariants as refused
+use Rattle.scenario.specs.declared.setup.Setup.{Setup}
+use Rattle.machine.specs.Runs.{start, Accepts, IsRefused}
+use Rattle.script.specs.Scripts.{Scenario, Reads}
+use Rattle.run_log.specs.declared.fault.LogFault.{LogFault}
+use Rattle.run_log.specs.declared.fault.LogFault.TheVariants.{Script, Write, Memory}
+use Rattle.script_check.specs.declared.verdict.Verdict.{Verdict}
+use Rattle.script_check.specs.declared.verdict.Verdict.TheVariants.{Fine, Faulty, Refused}
+
+-- Where a schedule stops: at the first event that is refused, unless memory was.
+abbrev pub Stops : Setup → List Event → ℕ → Refusal → Type 0
+Stops s es i n = n ≢ refused.Memory → IsRefused s es i n
+
+-- Of a script that is read: the whole schedule runs, or this event is the first that is refused.
+abbrev pub Ends : Setup → List Event → Verdict → Type 0
+Ends s es Fine = Accepts (start s) es
+Ends s es (Refused i n) = IsRefused s es i n
+Ends s es (Faulty f) = ⊥
+
+-- what is told of a text: its first fault, or what its schedule comes to
+abbrev pub IsVerdict : List ℕ → Verdict → Type 0
+IsVerdict text (Faulty f) = Reads text (Err f)
+IsVerdict text Fine = (p : Scenario) × Reads text (Ok p) × Ends p.setup p.schedule Fine
+IsVerdict text (Refused i n) = (p : Scenario) × Reads text (Ok p) × Ends p.setup p.schedule (Refused i n)
+
+-- a fault of writing, or want of memory
+abbrev pub IsOfOutput : LogFault → Type 0
+IsOfOutput Write = Unit {0}
+IsOfOutput Memory = Unit {0}
+IsOfOutput f = ⊥
+
+-- why nothing is told, or a beginning: a fault of the script is its first
+abbrev pub IsUntold : List ℕ → LogFault → Type 0
+IsUntold text (Script f) = Reads text (Err f)
+IsUntold text f = IsOfOutput f

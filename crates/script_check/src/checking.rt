@@ -1,0 +1,128 @@
+//! Checking a script.
+ghost use Rattle.std.specs.Prelude.{◌≡◌, ◌≤◌, None, length, IfOk, IfErr};
+ghost use Rattle.scenario.specs.Setups.{setup_refusal};
+ghost use Rattle.script_check.specs.Verdicts.{Ends, IsVerdict, IsOfOutput, IsUntold};
+
+use crate::refusals::sentence;
+use crate::report::{Source, event_text, faults_text};
+use crate::running::{Stop, run_all};
+use crate::verdict::Verdict;
+use machine::{Event, Refusal, Setup, State};
+use run_log::LogFault;
+use script::{Key, Script, ScriptFault, read_script};
+use std::alloc::{AllocError, Global};
+use std::io::Write;
+use whole_files::write_out;
+
+// Writes what is told.
+fn tell<W: Write>(told: Result<String, AllocError>, writer: &mut W) -> Result<(), LogFault>
+    ensures { IfErr result IsOfOutput }
+{
+    let Ok(text) = told else {
+        return Err(LogFault::Memory);
+    };
+    match write_out(writer, text.as_str().as_bytes()) {
+        Ok(()) => Ok(()),
+        Err(_) => Err(LogFault::Write),
+    }
+}
+
+// The line of an event that is refused in a state.
+fn refusal_text(
+    alloc: Global,
+    source: Source<'_>,
+    state: &State,
+    setup: &Setup,
+    events: &[Event],
+    stop: Stop,
+) -> Result<String, AllocError> {
+    let Some(event) = events.get(stop.index as usize) else {
+        return Ok(String::new(alloc));
+    };
+    let told = sentence(alloc, state, setup, *event, stop.refusal)?;
+    event_text(alloc, source, stop.index, told.as_str())
+}
+
+// Runs some events from a setup, and tells how that ends.
+fn check_events<W: Write>(
+    alloc: Global,
+    source: Source<'_>,
+    setup: &Setup,
+    events: &[Event],
+    writer: &mut W,
+) -> Result<Verdict, LogFault>
+    requires starts { setup_refusal setup.now ≡ None }
+    requires most { length events.now ≤ 1048576 }
+    ensures ok { IfOk result (Ends setup.now events.now) }
+    ensures err { IfErr result IsOfOutput }
+{
+    let Ok(mut state) = State::new(alloc, setup) else {
+        return Err(LogFault::Memory);
+    };
+    match run_all(&mut state, setup, events) {
+        Ok(()) => {
+            tell(String::from_str(alloc, "ok\n"), writer)?;
+            Ok(Verdict::Fine)
+        }
+        Err(stop) => {
+            if let Refusal::Memory = stop.refusal {
+                return Err(LogFault::Memory);
+            }
+            tell(
+                refusal_text(alloc, source, &state, setup, events, stop),
+                writer,
+            )?;
+            Ok(Verdict::Refused(stop.index, stop.refusal))
+        }
+    }
+}
+
+// The same of a script's schedule.
+fn check_plan<W: Write>(
+    alloc: Global,
+    source: Source<'_>,
+    script: &Script,
+    writer: &mut W,
+) -> Result<Verdict, LogFault>
+    ensures ok { IfOk result (Ends script.now.setup script.now.schedule) }
+    ensures err { IfErr result IsOfOutput }
+{
+    check_events(alloc, source, script.setup(), script.schedule(), writer)
+}
+
+// Whether a text has more bytes than a script may have. Nothing of such a one is read.
+fn is_too_long(fault: ScriptFault) -> bool {
+    match fault {
+        ScriptFault::Limit(path) => path.key == Key::Document,
+        _ => false,
+    }
+}
+
+/// Tells what is wrong with a script, in a line each: the first fault of the text and some more behind it, or of
+/// one that is read the first event of its schedule that is refused; or `ok`. The lines begin with the name.
+#[tactic(auto, using(crate::proofs::Telling::told_of_plan, crate::proofs::Telling::untold))]
+pub fn check_script<W: Write>(
+    alloc: Global,
+    name: &str,
+    text: &[u8],
+    writer: &mut W,
+) -> Result<Verdict, LogFault>
+    ensures ok { IfOk result (IsVerdict text.now) }
+    ensures err { IfErr result (IsUntold text.now) }
+{
+    let source = Source { name, text };
+    match read_script(alloc, text) {
+        Ok(script) => {
+            let verdict = check_plan(alloc, source, &script, writer)?;
+            Ok(verdict)
+        }
+        Err(ScriptFault::Memory) => Err(LogFault::Memory),
+        Err(fault) => {
+            if is_too_long(fault) {
+                return Err(LogFault::Script(fault));
+            }
+            tell(faults_text(alloc, source, fault), writer)?;
+            Ok(Verdict::Faulty(fault))
+        }
+    }
+}

@@ -1,0 +1,44 @@
+//! What stands at a path of a script.
+
+use crate::locating::key_word;
+use script::{Key, Path};
+use serde_json::Value;
+use std::alloc::{AllocError, Global};
+
+/// How many characters of a value are told.
+const MOST_CHARACTERS: usize = 60;
+
+/// What stands at a path, if anything does.
+pub(crate) fn value_at(document: &Value, path: Path) -> Option<&Value> {
+    if let Key::Document = path.key {
+        return Some(document);
+    }
+    let value = document.get(key_word(path.key))?;
+    let Some(item) = path.item else {
+        return Some(value);
+    };
+    let outer = value.get(item as usize)?;
+    match path.inner {
+        Some(inner) => outer.get(inner as usize),
+        None => Some(outer),
+    }
+}
+
+/// The beginning of a text.
+pub(crate) fn cut(alloc: Global, text: &str) -> Result<String, AllocError> {
+    let mut out = String::new(alloc);
+    for (i, character) in text.chars().enumerate() {
+        if i == MOST_CHARACTERS {
+            out.push_str(" ..")?;
+            return Ok(out);
+        }
+        out.push(character)?;
+    }
+    Ok(out)
+}
+
+/// A value as JSON, in one line; of a long one the beginning.
+pub(crate) fn shown(alloc: Global, value: &Value) -> Result<String, AllocError> {
+    let text = value.to_string(alloc)?;
+    cut(alloc, text.as_str())
+}

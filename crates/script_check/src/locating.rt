@@ -1,0 +1,164 @@
+//! Where something stands in a JSON text: lines and columns.
+
+use crate::walk::{Begins, Walk, string_length};
+use script::{Key, Path};
+use serde_json::Value;
+use std::alloc::{AllocError, Global};
+
+/// A line and a column, both from 1 on. A column counts bytes, as `serde_json` does.
+#[derive(Clone, Copy)]
+pub(crate) struct Position {
+    pub line: usize,
+    pub column: usize,
+}
+
+/// Where the byte at an offset stands.
+pub(crate) fn position_of(text: &[u8], offset: usize) -> Position {
+    let mut line = 1usize;
+    let mut column = 1usize;
+    for byte in &text[..offset.min(text.len())] {
+        if *byte == b'\n' {
+            line = line.saturating_add(1);
+            column = 1;
+        } else {
+            column = column.saturating_add(1);
+        }
+    }
+    Position { line, column }
+}
+
+/// The word of a key.
+pub(crate) fn key_word(key: Key) -> &'static str {
+    match key {
+        Key::Document => "document",
+        Key::Entries => "entries",
+        Key::Cq => "cq",
+        Key::Sqpoll => "sqpoll",
+        Key::SubmitAll => "submit_all",
+        Key::Base => "base",
+        Key::Memory => "memory",
+        Key::Objects => "objects",
+        Key::Fds => "fds",
+        Key::Threads => "threads",
+        Key::Schedule => "schedule",
+    }
+}
+
+// Where the text's value begins.
+fn document_at(text: &[u8]) -> usize {
+    for (at, byte) in text.iter().enumerate() {
+        if !byte.is_ascii_whitespace() {
+            return at;
+        }
+    }
+    0
+}
+
+// Where an item of a list begins.
+fn item_at(text: &[u8], list: usize, number: u32) -> Option<usize> {
+    let mut walk = Walk::new();
+    let mut left = number;
+    for at in list.saturating_add(1)..text.len() {
+        match walk.read(text[at]) {
+            Begins::Nothing => {}
+            Begins::Part => {
+                if left == 0 {
+                    return Some(at);
+                }
+                left -= 1;
+            }
+            Begins::End => return None,
+        }
+    }
+    None
+}
+
+// The key that begins at an offset.
+fn key_at(alloc: Global, text: &[u8], at: usize) -> Result<Value, AllocError> {
+    let rest = &text[at.min(text.len())..];
+    match Value::from_slice(alloc, &rest[..string_length(rest)]) {
+        Ok(key) => Ok(key),
+        Err(e) => {
+            if e.is_memory() {
+                return Err(AllocError);
+            }
+            Ok(Value::Null)
+        }
+    }
+}
+
+/// A member of the document, and where its key and its value begin.
+#[derive(Drop)]
+pub(crate) struct Member {
+    pub key: Value,
+    pub at: usize,
+    pub value: usize,
+}
+
+impl Member {
+    /// Whether it has a key.
+    pub fn has(&self, word: &str) -> bool {
+        match self.key.as_str() {
+            Some(key) => key == word,
+            None => false,
+        }
+    }
+}
+
+/// The members of the object that a text is, in their order.
+pub(crate) fn members_of(alloc: Global, text: &[u8]) -> Result<Vec<Member>, AllocError> {
+    let mut members: Vec<Member> = Vec::new(alloc);
+    let mut walk = Walk::new();
+    let mut behind_key = false;
+    for at in document_at(text).saturating_add(1)..text.len() {
+        match walk.read(text[at]) {
+            Begins::Nothing => {}
+            Begins::Part => {
+                if behind_key {
+                    set_value(&mut members, at);
+                } else {
+                    let key = key_at(alloc, text, at)?;
+                    members.push(Member { key, at, value: at })?;
+                }
+                behind_key = !behind_key;
+            }
+            Begins::End => return Ok(members),
+        }
+    }
+    Ok(members)
+}
+
+// Says where the value of the last member begins.
+fn set_value(members: &mut Vec<Member>, at: usize) {
+    if let Some(member) = members.last_mut() {
+        member.value = at;
+    }
+}
+
+// Where the value of a key begins: that of its last member, which counts.
+fn value_of(members: &[Member], word: &str) -> Option<usize> {
+    let mut found = None;
+    for member in members {
+        if member.has(word) {
+            found = Some(member.value);
+        }
+    }
+    found
+}
+
+/// Where what a path names begins in the text of a script; where it isn't there, what it would stand in.
+pub(crate) fn offset_of(text: &[u8], members: &[Member], path: Path) -> usize {
+    let Some(value) = value_of(members, key_word(path.key)) else {
+        return document_at(text);
+    };
+    let Some(item) = path.item else {
+        return value;
+    };
+    let Some(outer) = item_at(text, value, item) else {
+        return value;
+    };
+    match path.inner {
+        Some(inner) => item_at(text, outer, inner).unwrap_or(outer),
+        None => outer,
+    }
+}

@@ -1,0 +1,191 @@
+//! Sentences about numbers that are out of their range, and names that aren't there.
+
+use crate::document::{shown, value_at};
+use crate::sentences::{form_of_key, word_of};
+use scenario::{is_name, ring_size};
+use script::{Key, Path};
+use serde_json::Value;
+use std::alloc::{AllocError, Global};
+
+/// The most places that a submission ring has.
+const MOST_ENTRIES: u32 = 4096;
+
+/// The numbers of descriptors, those that name none among them.
+const DESCRIPTORS: &str = "-2147483648 to 2147483647";
+
+/// The greatest number of an eventfd.
+const LARGEST_COUNTER: u64 = 18446744073709551614;
+
+/// The keys of an entry with their greatest number, but for fd, which is signed.
+const ENTRY_KEYS: [(&str, u64); 8] = [
+    ("op", 255),
+    ("flags", 255),
+    ("ioprio", 65535),
+    ("off", u64::MAX),
+    ("addr", u64::MAX),
+    ("len", 4294967295),
+    ("opflags", 4294967295),
+    ("ud", u64::MAX),
+];
+
+// A number of a script that stands in its range.
+fn number_within(value: Option<&Value>, low: u64, high: u64) -> Option<u64> {
+    let number = value?.as_u64()?;
+    if low <= number && number <= high {
+        Some(number)
+    } else {
+        None
+    }
+}
+
+// What a script says of entries, if that is right.
+fn entries_of(document: &Value) -> Option<u32> {
+    let entries = number_within(document.get("entries"), 1, 4096)?;
+    u32::try_from(entries).ok()
+}
+
+fn completion_ring(alloc: Global, document: &Value, cq: &Value) -> Result<String, AllocError> {
+    let stands = shown(alloc, cq)?;
+    match (number_within(Some(cq), 1, 8192), entries_of(document)) {
+        (Some(_), Some(entries)) => {
+            let size = ring_size(entries);
+            format!(in alloc;
+                "{stands}, but the completion ring has no fewer places than the submission ring, which has {size} (entries {entries})"
+            )
+        }
+        _ => {
+            let form = form_of_key(Key::Cq);
+            format!(in alloc; "{stands}, but {form}")
+        }
+    }
+}
+
+// What is wrong with an object's name, if its number is right.
+fn name(alloc: Global, object: &Value) -> Result<String, AllocError> {
+    let Some(name) = object.get("name") else {
+        return String::from_str(alloc, "it has no name");
+    };
+    let stands = shown(alloc, name)?;
+    if is_name(name.as_str().unwrap_or("").as_bytes()) {
+        format!(in alloc; "name {stands}, but an object before it has that name")
+    } else {
+        format!(in alloc; "name {stands}, but a name is 1 to 16 of a to z, 0 to 9 and _")
+    }
+}
+
+// What is wrong with an object: its number, or its name.
+fn object(alloc: Global, object: &Value) -> Result<String, AllocError> {
+    if let Some(capacity) = object.get("pipe") {
+        if number_within(Some(capacity), 1, 65536).is_none() {
+            let stands = shown(alloc, capacity)?;
+            return format!(in alloc; "pipe {stands}, but a pipe's capacity is 1 to 65536");
+        }
+    }
+    if let Some(number) = object.get("eventfd") {
+        if number_within(Some(number), 0, LARGEST_COUNTER).is_none() {
+            let stands = shown(alloc, number)?;
+            return format!(in alloc;
+                "eventfd {stands}, but an eventfd's number is 0 to {LARGEST_COUNTER}"
+            );
+        }
+    }
+    name(alloc, object)
+}
+
+// What is wrong with an entry's numbers.
+fn entry(alloc: Global, entry: &Value) -> Result<String, AllocError> {
+    for (key, most) in ENTRY_KEYS {
+        if let Some(number) = entry.get(key) {
+            if number_within(Some(number), 0, most).is_none() {
+                let stands = shown(alloc, number)?;
+                return format!(in alloc; "{key} {stands}, but an entry's {key} is 0 to {most}");
+            }
+        }
+    }
+    match entry.get("fd") {
+        Some(fd) => {
+            let stands = shown(alloc, fd)?;
+            format!(in alloc; "fd {stands}, but an entry's fd is {DESCRIPTORS}")
+        }
+        None => String::from_str(alloc, "a number of the entry is out of its range"),
+    }
+}
+
+// What is wrong with a put: its slot, or its entry.
+fn put(
+    alloc: Global,
+    document: &Value,
+    slot: &Value,
+    written: &Value,
+) -> Result<String, AllocError> {
+    let entries = entries_of(document);
+    let size = ring_size(entries.unwrap_or(MOST_ENTRIES));
+    if slot.as_u64().unwrap_or(u64::MAX) < u64::from(size) {
+        return entry(alloc, written);
+    }
+    let stands = shown(alloc, slot)?;
+    match entries {
+        Some(entries) => format!(in alloc;
+            "slot {stands}, but the ring has {size} slots (entries {entries})"
+        ),
+        None => format!(in alloc; "slot {stands}, but a ring has at most {size} slots"),
+    }
+}
+
+// What the numbers of an instruction or of an event with this word are.
+fn range_of_word(word: &str) -> &'static str {
+    match word {
+        "store" => "its bytes lie within addresses 0 to 65535",
+        "close" => "a descriptor is -2147483648 to 2147483647",
+        "tick" => "nanoseconds are 0 to 18446744073709551615",
+        "finish" => "a row is 0 to 4294967295, and a short end moves 1 to 4294967295 bytes",
+        _ => "its numbers are 0 to 4294967295",
+    }
+}
+
+// What is wrong with an instruction or an event.
+fn words(alloc: Global, document: &Value, value: &Value) -> Result<String, AllocError> {
+    let word = word_of(value);
+    if word == "put" {
+        if let (Some(slot), Some(written)) = (value.get(1), value.get(2)) {
+            return put(alloc, document, slot, written);
+        }
+    }
+    let stands = shown(alloc, value)?;
+    let wanted = range_of_word(word);
+    format!(in alloc; "{stands}, but {wanted}")
+}
+
+// The sentence of a key that has a number.
+fn number(alloc: Global, key: Key, value: &Value) -> Result<String, AllocError> {
+    let stands = shown(alloc, value)?;
+    let form = form_of_key(key);
+    format!(in alloc; "{stands}, but {form}")
+}
+
+fn piece(alloc: Global, value: &Value) -> Result<String, AllocError> {
+    let stands = shown(alloc, value)?;
+    format!(in alloc; "{stands}, but its bytes lie within addresses 0 to 65535")
+}
+
+fn descriptor(alloc: Global, value: &Value) -> Result<String, AllocError> {
+    let stands = shown(alloc, value)?;
+    format!(in alloc;
+        "{stands}, but no object has such an end: a file or an eventfd is named by its name, the ends of a pipe p by p:r and p:w"
+    )
+}
+
+/// What is told of a fault of a range at a path.
+pub(crate) fn range(alloc: Global, document: &Value, path: Path) -> Result<String, AllocError> {
+    let Some(value) = value_at(document, path) else {
+        return String::from_str(alloc, "it is missing");
+    };
+    match path.key {
+        Key::Cq => completion_ring(alloc, document, value),
+        Key::Memory => piece(alloc, value),
+        Key::Objects => object(alloc, value),
+        Key::Fds => descriptor(alloc, value),
+        Key::Threads | Key::Schedule => words(alloc, document, value),
+        key => number(alloc, key, value),
+    }
+}

@@ -1,0 +1,230 @@
+//! Sentences about events that are refused: why, and what would let them happen.
+
+use entries::{Phase, Row};
+use findings::{RowName, why_unfinished};
+use links_drains::is_guard;
+use machine::{Event, Refusal, Setup, State, ring_size};
+use opcodes::{Choice, is_timer};
+use places::{Place, Stage, Value};
+use run_log::EventText;
+use std::alloc::{AllocError, Global};
+
+/// The most rows of a run.
+const MOST_ROWS: u32 = 65536;
+
+/// The bits of a ring's word.
+const WORD: u64 = 0xffff_ffff;
+
+type Told = Result<String, AllocError>;
+
+// A row, if it is there.
+fn row_at(state: &State, number: u32) -> Option<Row> {
+    match state.value(Place::Request(number)) {
+        Some(Value::Requested(row)) => Some(row),
+        _ => None,
+    }
+}
+
+// The number that stands in a place, 0 where none does.
+fn number_at(state: &State, place: Place) -> u64 {
+    match state.value(place) {
+        Some(Value::Number(number)) => number,
+        _ => 0,
+    }
+}
+
+// How many rows there are.
+fn row_count(state: &State) -> u32 {
+    for number in 0..MOST_ROWS {
+        if row_at(state, number).is_none() {
+            return number;
+        }
+    }
+    MOST_ROWS
+}
+
+// How many wait between the two words of a ring (io_uring(7)).
+fn waiting(state: &State, head: Place, tail: Place) -> u64 {
+    number_at(state, tail).wrapping_sub(number_at(state, head)) & WORD
+}
+
+fn completions_waiting(state: &State) -> u64 {
+    waiting(state, Place::CompletionHead, Place::CompletionTail)
+}
+
+fn no_such_thread(alloc: Global, setup: &Setup) -> Told {
+    let count = setup.threads.len();
+    format!(in alloc;
+        "there is no such thread: threads are numbered from 0, and the script has {count}"
+    )
+}
+
+fn full_ring(alloc: Global, setup: &Setup) -> Told {
+    let size = ring_size(setup.entries);
+    format!(in alloc;
+        "all {size} places of the submission ring wait to be taken: an enter, or the poller's take, must come first"
+    )
+}
+
+fn still_waiting(alloc: Global, state: &State, thread: u32) -> Told {
+    let wanted = match state.value(Place::ThreadStage(thread)) {
+        Some(Value::Staged(Stage::Waiting(_, wanted))) => wanted,
+        _ => 0,
+    };
+    let there = completions_waiting(state);
+    format!(in alloc;
+        "the thread waits in its enter: of {wanted} completions that it waits for, the ring has {there}: requests must end first"
+    )
+}
+
+// A step that is refused.
+fn step(alloc: Global, state: &State, setup: &Setup, thread: u32, refusal: Refusal) -> Told {
+    match refusal {
+        Refusal::NoSuchThread => no_such_thread(alloc, setup),
+        Refusal::ThreadDone => {
+            String::from_str(alloc, "the thread has done its last instruction")
+        }
+        Refusal::SqFull => full_ring(alloc, setup),
+        Refusal::StillWaiting => still_waiting(alloc, state, thread),
+        Refusal::NothingToReap => String::from_str(
+            alloc,
+            "the thread would reap, and the completion ring is empty: a request must end first",
+        ),
+        _ => too_many(alloc),
+    }
+}
+
+fn too_many(alloc: Global) -> Told {
+    format!(in alloc; "a run has at most {MOST_ROWS} rows, and it would have more")
+}
+
+fn no_such_row(alloc: Global, state: &State) -> Told {
+    let count = row_count(state);
+    format!(in alloc;
+        "there is no such row: rows are numbered from 0 as entries are taken, and so far {count} were"
+    )
+}
+
+// Why a row isn't where an event wants it: it isn't of the kind, or it has come too far, or not far enough.
+fn wrong_phase(alloc: Global, name: RowName, row: &Row, event: Event) -> Told {
+    match (event, row.phase) {
+        (Event::Finish(_, _), _) if is_timer(row.entry.opcode) => {
+            format!(in alloc; "row {name} ends by expire")
+        }
+        (Event::Expire(_), _) if !is_timer(row.entry.opcode) => {
+            format!(in alloc; "row {name} ends by finish")
+        }
+        (_, Phase::Ended(res)) => format!(in alloc; "row {name} has ended, with {res}"),
+        (_, Phase::Issued) => format!(in alloc; "row {name} was issued already"),
+        (_, Phase::Queued) if is_guard(row) => {
+            format!(in alloc; "row {name} is queued: it is issued with its target")
+        }
+        (_, Phase::Queued) => format!(in alloc; "row {name} is queued: issue it first"),
+    }
+}
+
+fn not_eligible(alloc: Global, state: &State, number: u32, row: &Row) -> Told {
+    let name = RowName::of(number, row);
+    let reason = why_unfinished(alloc, state, number)?;
+    let remedy = if is_guard(row) {
+        "Issue that row."
+    } else {
+        "That row must end first."
+    };
+    format!(in alloc; "row {name} can't be issued. {reason} {remedy}")
+}
+
+fn not_ready(alloc: Global, state: &State, number: u32, row: &Row) -> Told {
+    let name = RowName::of(number, row);
+    let reason = why_unfinished(alloc, state, number)?;
+    format!(in alloc; "row {name} can't end. {reason} That must come first.")
+}
+
+fn not_due(alloc: Global, state: &State, name: RowName, row: &Row) -> Told {
+    let clock = number_at(state, Place::Clock);
+    match row.deadline {
+        Some(deadline) => {
+            let left = deadline.saturating_sub(u128::from(clock));
+            format!(in alloc;
+                "row {name} is due at {deadline}, and the clock is at {clock}: tick {left} first"
+            )
+        }
+        None => format!(in alloc; "row {name} is never due"),
+    }
+}
+
+fn bad_choice(alloc: Global, name: RowName, choice: Choice) -> Told {
+    match choice {
+        Choice::Full => format!(in alloc; "row {name} can't end"),
+        Choice::Short(bytes) => format!(in alloc;
+            "row {name} can't end with {bytes} bytes: only a READ or a WRITE of a file can end short, with fewer bytes than it would move"
+        ),
+        Choice::Eio => format!(in alloc;
+            "row {name} can't end in EIO: only a READ, a WRITE or an FSYNC of a file can, where nothing else is wrong with it"
+        ),
+    }
+}
+
+// An event of a row that is refused.
+fn of_row(alloc: Global, state: &State, number: u32, event: Event, refusal: Refusal) -> Told {
+    let Some(row) = row_at(state, number) else {
+        return no_such_row(alloc, state);
+    };
+    let name = RowName::of(number, &row);
+    match (refusal, event) {
+        (Refusal::NotEligible, _) => not_eligible(alloc, state, number, &row),
+        (Refusal::NotReady, _) => not_ready(alloc, state, number, &row),
+        (Refusal::NotDue, _) => not_due(alloc, state, name, &row),
+        (Refusal::BadChoice, Event::Finish(_, choice)) => bad_choice(alloc, name, choice),
+        _ => wrong_phase(alloc, name, &row, event),
+    }
+}
+
+// A take or a sleep that is refused.
+fn of_poller(alloc: Global, state: &State, refusal: Refusal) -> Told {
+    match refusal {
+        Refusal::NoPoller => {
+            String::from_str(alloc, "there is no poller: \"sqpoll\": true makes one")
+        }
+        Refusal::Asleep => String::from_str(
+            alloc,
+            "the poller is asleep: an enter with SQ_WAKEUP (flags 2) wakes it",
+        ),
+        Refusal::NotIdle => {
+            let waiting = waiting(state, Place::SubmissionHead, Place::SubmissionTail);
+            format!(in alloc; "{waiting} entries wait in the submission ring: take them first")
+        }
+        _ => too_many(alloc),
+    }
+}
+
+fn late_tick(alloc: Global, state: &State) -> Told {
+    let clock = number_at(state, Place::Clock);
+    let end = u64::MAX;
+    format!(in alloc; "the clock is at {clock}, and would pass its end, {end}")
+}
+
+fn reason(alloc: Global, state: &State, setup: &Setup, event: Event, refusal: Refusal) -> Told {
+    match event {
+        Event::Step(thread) => step(alloc, state, setup, thread, refusal),
+        Event::Take(_) | Event::Sleep => of_poller(alloc, state, refusal),
+        Event::Issue(row) | Event::Finish(row, _) | Event::Expire(row) => {
+            of_row(alloc, state, row, event, refusal)
+        }
+        Event::Tick(_) => late_tick(alloc, state),
+    }
+}
+
+/// What is told of an event that is refused in a state.
+pub(crate) fn sentence(
+    alloc: Global,
+    state: &State,
+    setup: &Setup,
+    event: Event,
+    refusal: Refusal,
+) -> Result<String, AllocError> {
+    let words = EventText(event);
+    let number = refusal as u32;
+    let reason = reason(alloc, state, setup, event, refusal)?;
+    format!(in alloc; "{words} can't happen here (reason {number}): {reason}")
+}

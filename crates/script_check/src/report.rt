@@ -1,0 +1,175 @@
+//! The lines that tell of a script.
+
+use crate::further::{MOST_FAULTS, faults_of};
+use crate::locating::{Member, key_word, members_of, offset_of, position_of};
+use crate::sentences::{is_unknown, sentence, unknown_key};
+use script::items::{item_path, key_path};
+use script::{Key, Path, ScriptFault};
+use serde_json::{Error, Value};
+use std::alloc::{AllocError, Global};
+
+/// A script's text, and the name of its file.
+#[derive(Clone, Copy)]
+pub(crate) struct Source<'a> {
+    pub name: &'a str,
+    pub text: &'a [u8],
+}
+
+// Lines, and how many they are.
+#[derive(Drop)]
+struct Lines {
+    alloc: Global,
+    out: String,
+    count: usize,
+}
+
+// A path as it is told: its key, and its indexes.
+fn path_text(alloc: Global, path: Path) -> Result<String, AllocError> {
+    let word = key_word(path.key);
+    match (path.item, path.inner) {
+        (Some(item), Some(inner)) => format!(in alloc; "{word} {item} {inner}"),
+        (Some(item), None) => format!(in alloc; "{word} {item}"),
+        (None, _) => String::from_str(alloc, word),
+    }
+}
+
+impl Lines {
+    fn new(alloc: Global) -> Lines {
+        Lines {
+            alloc,
+            out: String::new(alloc),
+            count: 0,
+        }
+    }
+
+    // Adds what is told of a path, and of what begins at an offset, unless there are enough lines.
+    fn add(
+        &mut self,
+        source: Source<'_>,
+        offset: usize,
+        path: Path,
+        sentence: &str,
+    ) -> Result<(), AllocError> {
+        if self.count >= MOST_FAULTS {
+            return Ok(());
+        }
+        self.count = self.count.saturating_add(1);
+        let name = source.name;
+        let position = position_of(source.text, offset);
+        let line = position.line;
+        let column = position.column;
+        let path = path_text(self.alloc, path)?;
+        let told = format!(in self.alloc; "{name}:{line}:{column}: {path}: {sentence}\n")?;
+        self.out.push_str(told.as_str())
+    }
+
+    // Adds a line for each key of the document that a script may not have.
+    fn add_unknown_keys(
+        &mut self,
+        source: Source<'_>,
+        members: &[Member],
+    ) -> Result<(), AllocError> {
+        for member in members {
+            if is_unknown(&member.key) {
+                let told = unknown_key(self.alloc, &member.key)?;
+                self.add(source, member.at, key_path(Key::Document), told.as_str())?;
+            }
+        }
+        Ok(())
+    }
+
+    fn add_fault(
+        &mut self,
+        source: Source<'_>,
+        members: &[Member],
+        document: &Value,
+        fault: ScriptFault,
+    ) -> Result<(), AllocError> {
+        let path = path_of(fault);
+        if document.is_object() && matches!(path.key, Key::Document) {
+            return self.add_unknown_keys(source, members);
+        }
+        let told = sentence(self.alloc, document, fault)?;
+        let offset = offset_of(source.text, members, path);
+        self.add(source, offset, path, told.as_str())
+    }
+}
+
+fn path_of(fault: ScriptFault) -> Path {
+    match fault {
+        ScriptFault::Shape(path) | ScriptFault::Range(path) | ScriptFault::Limit(path) => path,
+        ScriptFault::NotJson | ScriptFault::Memory => key_path(Key::Document),
+    }
+}
+
+// The line of a text that is no JSON value.
+fn no_json(alloc: Global, source: Source<'_>, error: &Error) -> Result<String, AllocError> {
+    let name = source.name;
+    let line = error.line();
+    let column = error.column();
+    let reason = if error.is_eof() {
+        "the text ends within its JSON value"
+    } else {
+        "no JSON value goes on like this, or it nests too deep: look at what stands here, and just before it"
+    };
+    format!(in alloc; "{name}:{line}:{column}: {reason}\n")
+}
+
+fn fault_lines(
+    alloc: Global,
+    source: Source<'_>,
+    document: &Value,
+    first: ScriptFault,
+) -> Result<String, AllocError> {
+    let members = members_of(alloc, source.text)?;
+    let mut lines = Lines::new(alloc);
+    lines.add_fault(source, &members, document, first)?;
+    for fault in &faults_of(alloc, document)? {
+        if *fault != first {
+            lines.add_fault(source, &members, document, *fault)?;
+        }
+    }
+    let Lines {
+        alloc: _,
+        out,
+        count: _,
+    } = lines;
+    Ok(out)
+}
+
+/// The lines of a script's faults, of which the first is known.
+pub(crate) fn faults_text(
+    alloc: Global,
+    source: Source<'_>,
+    first: ScriptFault,
+) -> Result<String, AllocError> {
+    match Value::from_slice(alloc, source.text) {
+        Ok(document) => fault_lines(alloc, source, &document, first),
+        Err(error) => {
+            if error.is_memory() {
+                return Err(AllocError);
+            }
+            no_json(alloc, source, &error)
+        }
+    }
+}
+
+/// The line of an event of the schedule.
+pub(crate) fn event_text(
+    alloc: Global,
+    source: Source<'_>,
+    index: u32,
+    sentence: &str,
+) -> Result<String, AllocError> {
+    let members = members_of(alloc, source.text)?;
+    let path = item_path(Key::Schedule, index);
+    let offset = offset_of(source.text, &members, path);
+    let mut lines = Lines::new(alloc);
+    lines.add(source, offset, path, sentence)?;
+    let Lines {
+        alloc: _,
+        out,
+        count: _,
+    } = lines;
+    Ok(out)
+}

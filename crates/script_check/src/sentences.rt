@@ -1,0 +1,238 @@
+//! Sentences about the faults of a script: what stands there, and what may.
+
+use crate::document::{cut, shown, value_at};
+use crate::ranges::range;
+use script::items::{is_entry_key, is_object_key, is_script_key};
+use script::{Key, Path, ScriptFault};
+use serde_json::Value;
+use std::alloc::{AllocError, Global};
+
+const INSTRUCTION: &str =
+    "an instruction is [\"put\", slot, entry], [\"push\", slot], [\"store\", address, \"hex\"], [\"enter\", to_submit, min_complete, flags], [\"reap\"] or [\"close\", fd]";
+
+const EVENT: &str =
+    "an event is [\"step\", thread], [\"take\", n], [\"sleep\"], [\"issue\", row], [\"finish\", row], [\"finish\", row, \"short\", bytes], [\"finish\", row, \"eio\"], [\"expire\", row] or [\"tick\", nanoseconds]";
+
+const OBJECT: &str =
+    "an object is {\"name\": N, \"file\": \"hex\"}, {\"name\": N, \"pipe\": capacity} or {\"name\": N, \"eventfd\": number}";
+
+const PIECE: &str = "a piece of memory is [address, \"hex\"], with two hex digits a byte";
+
+const DESCRIPTOR: &str =
+    "a descriptor is a text: an object's name, of a pipe with :r or :w behind it";
+
+// What an instruction with a word is.
+fn instruction_of_word(word: &str) -> &'static str {
+    match word {
+        "put" => {
+            "a put is [\"put\", slot, entry], where an entry is an object of whole numbers, or 128 hex digits"
+        }
+        "push" => "a push is [\"push\", slot]",
+        "store" => "a store is [\"store\", address, \"hex\"], with two hex digits a byte",
+        "enter" => "an enter is [\"enter\", to_submit, min_complete, flags]",
+        "reap" => "a reap is [\"reap\"]",
+        "close" => "a close is [\"close\", fd]",
+        _ => INSTRUCTION,
+    }
+}
+
+// What an event with a word is.
+fn event_of_word(word: &str) -> &'static str {
+    match word {
+        "step" => "a step is [\"step\", thread]",
+        "take" => "a take is [\"take\", n]",
+        "sleep" => "a sleep is [\"sleep\"]",
+        "issue" => "an issue is [\"issue\", row]",
+        "finish" => {
+            "a finish is [\"finish\", row], [\"finish\", row, \"short\", bytes] or [\"finish\", row, \"eio\"]"
+        }
+        "expire" => "an expire is [\"expire\", row]",
+        "tick" => "a tick is [\"tick\", nanoseconds]",
+        _ => EVENT,
+    }
+}
+
+/// The word with which an instruction or an event begins.
+pub(crate) fn word_of(value: &Value) -> &str {
+    match value.get(0) {
+        Some(first) => first.as_str().unwrap_or(""),
+        None => "",
+    }
+}
+
+/// What may stand at a key.
+pub(crate) fn form_of_key(key: Key) -> &'static str {
+    match key {
+        Key::Document => "a script is an object",
+        Key::Entries => "it must be a whole number from 1 to 4096",
+        Key::Cq => "it must be a whole number from 1 to 8192",
+        Key::Sqpoll | Key::SubmitAll => "it must be true or false",
+        Key::Base => "it must be a whole number from 0 to 4294967295",
+        Key::Memory => "it must be a list of pieces, [address, \"hex\"]",
+        Key::Objects => "it must be a list of objects",
+        Key::Fds => "it must be a list of names",
+        Key::Threads => "it must be a list of threads, each a list of instructions",
+        Key::Schedule => "it must be a list of events",
+    }
+}
+
+// What may stand at an item of a key.
+fn form_of_item(key: Key) -> &'static str {
+    match key {
+        Key::Memory => PIECE,
+        Key::Objects => OBJECT,
+        Key::Fds => DESCRIPTOR,
+        Key::Threads => "a thread is a list of instructions",
+        other => form_of_key(other),
+    }
+}
+
+fn form_of(path: Path, value: &Value) -> &'static str {
+    match (path.key, path.item, path.inner) {
+        (_, _, Some(_)) => instruction_of_word(word_of(value)),
+        (Key::Schedule, Some(_), None) => event_of_word(word_of(value)),
+        (key, Some(_), None) => form_of_item(key),
+        (key, None, None) => form_of_key(key),
+    }
+}
+
+// The first key of an object that fails a test of an entry's keys, or of an object's.
+fn odd_key(value: &Value, is_entry: bool) -> Option<&str> {
+    for key in value.as_object()?.keys() {
+        let known = if is_entry {
+            is_entry_key(key.as_str())
+        } else {
+            is_object_key(key.as_str())
+        };
+        if !known {
+            return Some(key.as_str());
+        }
+    }
+    None
+}
+
+// The entry of a put.
+fn entry_of(instruction: &Value) -> Option<&Value> {
+    if word_of(instruction) == "put" {
+        instruction.get(2)
+    } else {
+        None
+    }
+}
+
+// The key of an item that it may not have.
+fn odd_key_at(path: Path, value: &Value) -> Option<&str> {
+    match (path.key, path.inner) {
+        (Key::Threads, Some(_)) => odd_key(entry_of(value)?, true),
+        (Key::Objects, None) => odd_key(value, false),
+        _ => None,
+    }
+}
+
+/// Whether a key is none of a script.
+pub(crate) fn is_unknown(key: &Value) -> bool {
+    match key.as_str() {
+        Some(word) => !is_script_key(word),
+        None => false,
+    }
+}
+
+/// What is told of a key that a script may not have.
+pub(crate) fn unknown_key(alloc: Global, key: &Value) -> Result<String, AllocError> {
+    let key = shown(alloc, key)?;
+    format!(in alloc;
+        "{key} is no key of a script: its keys are entries, cq, sqpoll, submit_all, base, memory, objects, fds, threads and schedule"
+    )
+}
+
+// Of an entry's key, or of an object's.
+fn unknown_inner_key(alloc: Global, path: Path, key: &str) -> Result<String, AllocError> {
+    let key = cut(alloc, key)?;
+    match path.key {
+        Key::Threads => format!(in alloc;
+            "\"{key}\" is no key of an entry: its keys are op, flags, ioprio, fd, off, addr, len, opflags and ud"
+        ),
+        _ => format!(in alloc;
+            "\"{key}\" is no key of an object: its keys are name, and file, pipe or eventfd"
+        ),
+    }
+}
+
+fn shape(alloc: Global, path: Path, value: Option<&Value>) -> Result<String, AllocError> {
+    let Some(value) = value else {
+        let form = form_of_key(path.key);
+        return format!(in alloc; "it is missing: {form}");
+    };
+    if let Some(key) = odd_key_at(path, value) {
+        return unknown_inner_key(alloc, path, key);
+    }
+    let stands = shown(alloc, value)?;
+    let form = form_of(path, value);
+    format!(in alloc; "{stands}, but {form}")
+}
+
+// What there may be of a thing, and how much.
+fn most_of(path: Path) -> &'static str {
+    match (path.key, path.item, path.inner) {
+        (Key::Memory, _, _) => "a piece of memory has at most 65536",
+        (Key::Objects, Some(_), _) => "a file has at most 65536",
+        (Key::Objects, None, _) => "a script has at most 32",
+        (Key::Fds, _, _) => "a script has at most 64",
+        (Key::Threads, _, Some(_)) => "a store has at most 4096",
+        (Key::Threads, Some(_), None) => "a thread has at most 4096",
+        (Key::Threads, None, None) => "a script has at most 16",
+        _ => "a script has at most 65536",
+    }
+}
+
+// What there is too much of.
+fn thing_of(path: Path) -> &'static str {
+    match (path.key, path.item, path.inner) {
+        (Key::Objects, None, _) => "objects",
+        (Key::Fds, _, _) => "descriptors",
+        (Key::Threads, Some(_), None) => "instructions",
+        (Key::Threads, None, None) => "threads",
+        (Key::Schedule, _, _) => "events",
+        _ => "bytes",
+    }
+}
+
+// How many bytes a text writes in hex.
+fn bytes_of(text: Option<&Value>) -> Option<usize> {
+    Some(text?.as_str()?.len() / 2)
+}
+
+// How much of it there is.
+fn count_of(path: Path, value: &Value) -> Option<usize> {
+    match (path.key, path.item, path.inner) {
+        (Key::Memory, Some(_), _) => bytes_of(value.get(1)),
+        (Key::Objects, Some(_), _) => bytes_of(value.get("file")),
+        (Key::Threads, _, Some(_)) => bytes_of(value.get(2)),
+        _ => Some(value.as_array()?.len()),
+    }
+}
+
+fn limit(alloc: Global, path: Path, value: Option<&Value>) -> Result<String, AllocError> {
+    let count = match value {
+        Some(value) => count_of(path, value).unwrap_or(0),
+        None => 0,
+    };
+    let things = thing_of(path);
+    let most = most_of(path);
+    format!(in alloc; "{count} {things}, but {most}")
+}
+
+/// What is told of a fault of a script's JSON value.
+pub(crate) fn sentence(
+    alloc: Global,
+    document: &Value,
+    fault: ScriptFault,
+) -> Result<String, AllocError> {
+    match fault {
+        ScriptFault::Shape(path) => shape(alloc, path, value_at(document, path)),
+        ScriptFault::Range(path) => range(alloc, document, path),
+        ScriptFault::Limit(path) => limit(alloc, path, value_at(document, path)),
+        ScriptFault::NotJson => String::from_str(alloc, "it is no JSON value"),
+        ScriptFault::Memory => Err(AllocError),
+    }
+}
