@@ -14,6 +14,7 @@ mod record;
 mod run;
 mod searching;
 mod sentences;
+mod telling;
 mod times;
 mod watching;
 
@@ -21,3 +22,4 @@ pub use explaining::{Asked, explain_run};
 pub use finding::Finding;
 pub use kind::Kind;
 pub use searching::findings_of;
+pub use telling::{Told, told_of};
