@@ -19,7 +19,7 @@ LIVE_RUNS = 200
 SERVED_RUNS = 100
 # What a client asks, all that it is told where nothing is refused, and how long it waits for that, in seconds.
 ASKED = b"sync\nwhere\ngoto 0\nshow clock\nquit\n"
-ANSWERED = re.compile(rb"synced (\d+)\nat 0 of \1\nat 0 of \1\n0\nbye\n")
+ANSWERS = b"synced %s\nat 0 of %s\nat 0 of %s\n0\nbye\n"
 PATIENCE = 20
 
 
@@ -209,12 +209,10 @@ def served(room, number):
     return done, said, *told_by(report, done)
 
 
-def is_beginning(said):
-    """Whether a client was told a beginning of its answers."""
+def answers_with(said):
+    """All that a client is told that was told a number of events."""
     found = re.match(rb"synced (\d+)\n", said)
-    whole = ANSWERED.pattern.replace(rb"(\d+)", b"%s").replace(rb"\1", b"%s")
-    count = found[1] if found else b""
-    return not said or bool(found) and (whole % (count, count, count)).startswith(said)
+    return ANSWERS % ((found[1],) * 3) if found else b""
 
 
 def refuse_growths_of_serving(room):
@@ -224,14 +222,15 @@ def refuse_growths_of_serving(room):
     met = told = cut = 0
     for _ in range(SERVED_RUNS):
         done, said, _, count = served(room, 0)
-        require((done.returncode, done.stderr) == (0, b"") and ANSWERED.fullmatch(said), f"{shown(done)}, {said!r}")
+        require((done.returncode, done.stderr) == (0, b"") and said == answers_with(said) != b"", f"{shown(done)}, {said!r}")
         number = chosen.randint(1, count)
         done, said, reached, _ = served(room, number)
         met += reached
         ended = (done.returncode, done.stderr)
-        require(ended in ((0, b""), (1, NO_MEMORY)) and is_beginning(said), f"growth {number}: {shown(done)}, {said!r}")
+        whole = answers_with(said)
+        require(ended in ((0, b""), (1, NO_MEMORY)) and whole.startswith(said), f"growth {number}: {shown(done)}, {said!r}")
         told += ended == (1, NO_MEMORY)
-        cut += ended == (0, b"") and not ANSWERED.fullmatch(said)
+        cut += ended == (0, b"") and (not said or said != whole)
     require(met > 0 and told > 0, f"{met} refusals were met, and {told} told")
     return SERVED_RUNS, met, f"{told} refusals ended the program, and {cut} a client's session alone"
 
