@@ -1,18 +1,26 @@
 """Words of the program `uringwalk`, each of whose growths, reads and writes fails in turn, and which is killed."""
 import os
 import random
+import re
 import shutil
+import socket
+import subprocess
 import tempfile
 
-from room import note_of, numbers_of, require
+from room import Wrong, note_of, numbers_of, require, told_by
 
 LINES = b"where\nshow got 0\ngoto 3\nwatch cq.tail\nbreak last 0 = 1\ncont\nrcont\nshow row 0\nsync\nwhere\nquit\n"
 OLD = b"what stood there"
 # What a failing read or write is told as, behind which what was written is a beginning of all output.
 READ, WRITE, MEMORY = b"fault session 1\n", b"fault session 2\n", b"fault session 3\n"
 NO_FILE, NO_MEMORY = b"fault file\n", b"fault memory\n"
-# How often each growth of a live run is refused: which one is the Nth isn't fixed.
+# How often each growth of a live run is refused, and of one that a client looks at: which one is the Nth isn't fixed.
 LIVE_RUNS = 200
+SERVED_RUNS = 100
+# What a client asks, all that it is told where nothing is refused, and how long it waits for that, in seconds.
+ASKED = b"sync\nwhere\ngoto 0\nshow clock\nquit\n"
+ANSWERS = b"synced %s\nat 0 of %s\nat 0 of %s\n0\nbye\n"
+PATIENCE = 20
 
 
 class Job:
@@ -161,6 +169,72 @@ def refuse_growths_of_threads(room):
     return LIVE_RUNS, met, ""
 
 
+# ---- memory of a program that serves
+
+def free_port():
+    with socket.socket() as it:
+        it.bind(("127.0.0.1", 0))
+        return it.getsockname()[1]
+
+
+def answered(port):
+    """What a client is told. A connection that breaks ends it."""
+    said = b""
+    try:
+        with socket.create_connection(("127.0.0.1", port), timeout=PATIENCE) as it:
+            it.sendall(ASKED)
+            while data := it.recv(4096):
+                said += data
+    except ConnectionError:
+        pass
+    return said
+
+
+def served(room, number):
+    """Serves a run to one client. Returns what ran, what the client was told, whether the refusal was reached, and how many
+    growths were counted."""
+    port = free_port()
+    words = [room.uringwalk, "serve", room.script("one_nop"), "--port", str(port), "--turns", "6", "--clients", "1"]
+    env, report = room.refusing("growth", "one", number)
+    with subprocess.Popen(words, stdout=subprocess.PIPE, stderr=subprocess.PIPE, env=env) as it:
+        try:
+            line = it.stdout.readline()
+            said = answered(port) if line else b""
+            rest, fault = it.communicate(timeout=PATIENCE)
+        except (subprocess.TimeoutExpired, TimeoutError) as late:
+            it.kill()
+            raise Wrong(f"growth {number}: it didn't end") from late
+    done = subprocess.CompletedProcess(words, it.returncode, line + rest, fault)
+    require(done.stdout in (b"", b"port %d\n" % port), f"growth {number}: {shown(done)}")
+    return done, said, *told_by(report, done)
+
+
+def answers_with(said):
+    """All that a client is told that was told a number of events."""
+    found = re.match(rb"synced (\d+)\n", said)
+    return ANSWERS % ((found[1],) * 3) if found else b""
+
+
+def refuse_growths_of_serving(room):
+    """Growths at random of a program that serves: it tells want of memory as it ends, or a client's session ends early,
+    behind a beginning of its answers."""
+    chosen = random.Random(35)
+    met = told = cut = 0
+    for _ in range(SERVED_RUNS):
+        done, said, _, count = served(room, 0)
+        require((done.returncode, done.stderr) == (0, b"") and said == answers_with(said) != b"", f"{shown(done)}, {said!r}")
+        number = chosen.randint(1, count)
+        done, said, reached, _ = served(room, number)
+        met += reached
+        ended = (done.returncode, done.stderr)
+        whole = answers_with(said)
+        require(ended in ((0, b""), (1, NO_MEMORY)) and whole.startswith(said), f"growth {number}: {shown(done)}, {said!r}")
+        told += ended == (1, NO_MEMORY)
+        cut += ended == (0, b"") and (not said or said != whole)
+    require(met > 0 and told > 0, f"{met} refusals were met, and {told} told")
+    return SERVED_RUNS, met, f"{told} refusals ended the program, and {cut} a client's session alone"
+
+
 # ---- reads and writes
 
 def fail_reads(job, how):
@@ -261,6 +335,7 @@ def all_trials():
     for job in FIXED + (HELP, WRONG_WORDS):
         yield f"growths of {job.name}", refuse_growths(job)
     yield "growths of live", refuse_growths_of_threads
+    yield "growths of serve", refuse_growths_of_serving
     for job in FIXED:
         for how in ("eio", "eintr"):
             yield f"reads of {job.name}, {how}", fail_reads(job, how)

@@ -49,6 +49,12 @@ class Room:
         """Runs words under the shim. Without a number growths are counted between the lines of the program.
 
         Returns what ran, and whether the refusal was reached and how many were counted."""
+        env, report = self.refusing(what, how, number)
+        done = subprocess.run(words, input=given, capture_output=True, env=env, cwd=here or self.path, timeout=60, check=False)
+        return done, *told_by(report, done)
+
+    def refusing(self, what, how, number):
+        """The environment in which a program is refused, and the file in which the shim tells of it."""
         handle, report = tempfile.mkstemp(dir=self.path)
         os.close(handle)
         os.unlink(report)
@@ -56,15 +62,18 @@ class Room:
                "REFUSALS_REPORT": report}
         if number is not None:
             env["REFUSALS_N"] = str(number)
-        done = subprocess.run(words, input=given, capture_output=True, env=env, cwd=here or self.path, timeout=60, check=False)
-        told = ["missed", "0"]
-        if os.path.exists(report):
-            with open(report, encoding="ascii") as it:
-                told = it.read().split()
-            os.unlink(report)
-        else:
-            require(done.returncode < 0, "the shim told nothing")
-        return done, told[0] == "reached", int(told[1])
+        return env, report
+
+
+def told_by(report, done):
+    """Whether the refusal was reached in what ran, and how many were counted."""
+    if not os.path.exists(report):
+        require(done.returncode < 0, "the shim told nothing")
+        return False, 0
+    with open(report, encoding="ascii") as it:
+        told = it.read().split()
+    os.unlink(report)
+    return told[0] == "reached", int(told[1])
 
 
 def numbers_of(count):

@@ -5,3 +5,4 @@ pub mod Watched
 pub mod Findings
 pub mod Records
 pub mod Explained
+pub mod Tellings

@@ -18,6 +18,7 @@ mod record;
 mod run;
 mod searching;
 mod sentences;
+mod telling;
 mod times;
 mod watching;
 
@@ -25,5 +26,5 @@ pub use explaining::{Asked, explain_run};
 pub use finding::Finding;
 pub use kind::Kind;
 pub use names::RowName;
-pub use searching::findings_of;
 pub use sentences::why_unfinished;
+pub use telling::{Told, told_of};

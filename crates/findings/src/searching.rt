@@ -2,7 +2,6 @@
 ghost use Rattle.std.specs.Prelude.{◌≡◌, ◌≤◌, ◌++◌, [], None, Err, length, map, IfOk, OnOk, IfErr, OnErr};
 ghost use Rattle.std.specs.List.{flat_map};
 ghost use Rattle.places.specs.View.{NamesOnce};
-ghost use Rattle.scenario.specs.Setups.{setup_refusal};
 ghost use Rattle.machine.specs.Steps.{Next};
 ghost use Rattle.machine.specs.Runs.{start};
 ghost use Rattle.machine.specs.Whole.{view};
@@ -214,18 +213,4 @@ pub(crate) fn search(
     };
     let found = find(alloc, state, setup, events, &mut watches, history)?;
     ordered(alloc, found)
-}
-
-/// Runs some events from a setup, and tells what they show.
-pub fn findings_of(alloc: Global, setup: &Setup, events: &[Event]) -> Result<Vec<Finding>, LogFault>
-    requires starts { setup_refusal setup.now ≡ None }
-    requires most { length events.now ≤ 1048576 }
-    ensures ok { IfOk result (λ list. IsToldOf setup.now events.now list.items) }
-    ensures err { IfErr result (Halted setup.now events.now) }
-{
-    let Ok(mut state) = State::new(alloc, setup) else {
-        return Err(LogFault::Memory);
-    };
-    let mut history = History::new(alloc);
-    search(alloc, &mut state, setup, events, &mut history)
 }

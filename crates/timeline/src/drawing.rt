@@ -5,9 +5,11 @@ ghost use Rattle.scenario.specs.Setups.{setup_refusal};
 ghost use Rattle.run_log.specs.Logs.{is_trace};
 ghost use Rattle.timeline.specs.Pictures.{is_long, fault_by, picture_of, DrawsScript, DrawsTrace, DrawsRun, IsUndrawn, FailsScript, FailsTrace, FailsRun, Draws};
 
+use crate::drawn::Drawn;
 use crate::fault::TimelineFault;
 use crate::writing::{page_bytes, trace_bytes};
-use courses::{Followed, Stop, follow};
+use courses::{Stop, follow};
+use findings::{Told, told_of};
 use machine::{Event, Refusal, Setup};
 use run_log::{EventRange, log_events};
 use script::{Script, ScriptFault, read_script};
@@ -100,21 +102,29 @@ fn log_of(
     }
 }
 
+// What events show that ran before, so that nothing but memory can be wanting.
+fn shown(alloc: Global, setup: &Setup, events: &[Event]) -> Result<Vec<Told>, TimelineFault>
+    requires starts { setup_refusal setup.now ≡ None }
+    requires most { length events.now ≤ 1048576 }
+    ensures { IfErr result (λ f. f ≡ TimelineFault.Memory) }
+{
+    match told_of(alloc, setup, events) {
+        Ok(told) => Ok(told),
+        Err(_) => Err(TimelineFault::Memory),
+    }
+}
+
 // The bytes of a picture.
 fn bytes_of(
     alloc: Global,
-    name: &str,
-    setup: &Setup,
-    range: EventRange,
     picture: Picture,
-    followed: &Followed,
-    log: &[u8],
+    drawn: Drawn<'_>,
 ) -> Result<Vec<u8>, TimelineFault>
     ensures { IfErr result (λ f. f ≡ TimelineFault.Memory) }
 {
     match picture {
-        Picture::Page => page_bytes(alloc, name, setup, range, followed, log),
-        Picture::TraceEvents => trace_bytes(alloc, name, setup, range, followed, log),
+        Picture::Page => page_bytes(alloc, drawn),
+        Picture::TraceEvents => trace_bytes(alloc, drawn),
     }
 }
 
@@ -143,7 +153,16 @@ fn draw_events(
         Err(stop) => return Err(fault_by(stop)),
     };
     let log = log_of(alloc, setup, events, range)?;
-    bytes_of(alloc, name, setup, range, picture, &followed, &log)
+    let findings = shown(alloc, setup, events)?;
+    let drawn = Drawn {
+        name,
+        setup,
+        range,
+        followed: &followed,
+        log: &log,
+        findings: &findings,
+    };
+    bytes_of(alloc, picture, drawn)
 }
 
 // Runs a script's schedule, and draws it.

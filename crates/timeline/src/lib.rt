@@ -2,7 +2,9 @@
 #![tactic(auto)]
 
 mod drawing;
+mod drawn;
 mod fault;
+mod marks;
 mod page;
 mod parts;
 mod picture_parts;

@@ -68,7 +68,8 @@ svg .guard { stroke-dasharray: 2 3; }
 svg .cancel { stroke-dasharray: 6 3; }
 svg .picked { fill: var(--pick); fill-opacity: .12; stroke: var(--pick); stroke-opacity: .6; }
 svg .chosen { fill: none; stroke: var(--pick); stroke-width: 1.5; }
-svg .finding { fill: var(--bad); stroke: var(--back); }
+svg .fault { fill: var(--bad); stroke: var(--back); }
+svg .note { fill: var(--back); stroke: var(--faint); stroke-width: 1.6; }
 </style>
 </head>
 <body>
@@ -80,7 +81,7 @@ svg .finding { fill: var(--bad); stroke: var(--back); }
 <label>Moment <input id="moment" type="number" inputmode="numeric"></label>
 <button>Go</button>
 <span><button type="button" id="less" aria-label="narrower columns">&minus;</button> <button type="button" id="more" aria-label="wider columns">+</button> <button type="button" id="fit">Whole width</button></span>
-<span class="faint"><kbd>&larr;</kbd> <kbd>&rarr;</kbd> event, <kbd>&uarr;</kbd> <kbd>&darr;</kbd> lane, <kbd>p</kbd> <kbd>n</kbd> event of the lane, <kbd>Home</kbd> <kbd>End</kbd>, <kbd>+</kbd> <kbd>&minus;</kbd> <kbd>0</kbd> width</span>
+<span class="faint"><kbd>&larr;</kbd> <kbd>&rarr;</kbd> event, <kbd>&uarr;</kbd> <kbd>&darr;</kbd> lane, <kbd>p</kbd> <kbd>n</kbd> event of the lane, <kbd>f</kbd> <kbd>F</kbd> finding, <kbd>Home</kbd> <kbd>End</kbd>, <kbd>+</kbd> <kbd>&minus;</kbd> <kbd>0</kbd> width</span>
 </form>
 </header>
 <main id="view" tabindex="0" role="application" aria-label="Timeline of the run" aria-describedby="about" aria-activedescendant="picked"><div id="room"><svg id="picture" role="img" aria-label="Lanes of the run"></svg></div></main>
@@ -100,7 +101,7 @@ const view = by_id('view'), picture = by_id('picture'), room = by_id('room'), to
 // Sizes in pixels, and how many moments are ticked off apart.
 const LABELS = 196, AXIS = 40, LANE = 24, GRAPH = 40, CLOCK = 32, ROW = 22, BEHIND = 90, MOST_COLUMN = 64;
 const APART = [1, 2, 5].flatMap((n) => [1, 10, 100, 1e3, 1e4, 1e5].map((power) => n * power)).sort((a, b) => a - b);
-const from = run.from, to = run.to, findings = run.findings ?? [];
+const from = run.from, to = run.to, findings = run.findings;
 
 const ERRORS = {
   2: 'ENOENT', 4: 'EINTR', 5: 'EIO', 9: 'EBADF', 11: 'EAGAIN', 14: 'EFAULT', 16: 'EBUSY', 22: 'EINVAL', 27: 'EFBIG',
@@ -267,13 +268,22 @@ function mark(step, y) {
   }, step_title(step));
 }
 
+// Faults are drawn over notes.
+const marked = [...findings].sort((one, other) => one.fault - other.fault);
+
+// The event that a finding is told beside: that at its moment, or the last one of what holds at the end.
+const event_of = (it) => Math.min(it.moment, Math.max(from, to - 1));
+
 function axis(low, high) {
   const out = [], apart = APART.find((n) => n * column >= 54) ?? 1e6;
   for (let m = Math.ceil(low / apart) * apart; m <= high; m += apart) {
     out.push(element('line', {class: 'lane', x1: x_of(m), x2: x_of(m), y1: AXIS - 18, y2: AXIS}), small(x_of(m) + 3, AXIS - 8, m));
   }
-  for (const it of findings) {
-    out.push(element('path', {class: 'finding', d: `M${x_of(it.moment) + column / 2} 2l5 10h-10z`}, titled(`${it.moment} ${it.kind}: ${it.text}`)));
+  for (const it of marked.filter((found) => found.moment >= low && found.moment <= high)) {
+    out.push(element('path', {
+      class: it.fault ? 'fault' : 'note', role: 'img', 'aria-label': plain(`${it.kind} at ${it.moment}`), 'data-event': event_of(it),
+      d: `M${x_of(it.moment) + column / 2} 2l5 10h-10z`,
+    }, titled(`${it.kind} at ${it.moment}: ${it.text}`)));
   }
   return out.join('');
 }
@@ -443,8 +453,8 @@ function tell() {
     table(['place', 'before', 'behind'], step.changes.slice(0, 400).map((it) => [it.place, it.old, it.now])),
     step.changes.length ? '' : '<p>It changed nothing.</p>', '<h3>How full</h3>',
     table(['', 'before', 'behind'], names.map((name, k) => [name, before[k], behind[k]])));
-  for (const it of findings.filter((found) => found.moment === index)) {
-    out.push(element('h3', {}, plain(it.kind)), element('p', {}, plain(it.text)));
+  for (const it of findings.filter((found) => event_of(found) === index)) {
+    out.push(element('h3', {}, plain(`${it.kind} at ${it.moment}`)), element('p', {}, plain(it.text)));
   }
   const row = lane.row ?? rows.get(step.key.startsWith('row ') ? step.number : -1);
   if (row) out.push(`<h3>Row ${row.row}</h3>`, element('p', {}, plain(row_text(row))));
@@ -496,6 +506,13 @@ function widen(width) {
   show();
 }
 
+// Picks the event of the finding that comes next in a direction.
+function step_to_finding(direction) {
+  const all = direction < 0 ? findings.toReversed() : findings;
+  const next = all.find((it) => direction * (event_of(it) - event_picked) > 0);
+  if (next) pick(event_of(next), true);
+}
+
 const far = (e) => (e.shiftKey ? 10 : 1), page = () => Math.ceil((view.clientWidth - LABELS) / column);
 const KEYS = {
   ArrowLeft: (e) => pick(event_picked - far(e), true),
@@ -508,6 +525,8 @@ const KEYS = {
   End: () => pick(to, true),
   n: () => step_along(1),
   p: () => step_along(-1),
+  f: () => step_to_finding(1),
+  F: () => step_to_finding(-1),
   '+': () => widen(column * 1.4),
   '=': () => widen(column * 1.4),
   '-': () => widen(column / 1.4),
@@ -522,10 +541,11 @@ view.addEventListener('keydown', (e) => {
 // The event and the lane under the pointer, if there are some.
 function under(e) {
   const box = picture.getBoundingClientRect(), x = e.clientX - box.left, y = e.clientY - box.top, {pinned} = frame();
-  const event = Number(e.target.closest('[data-event]')?.dataset.event ?? from + Math.floor((x - LABELS + view.scrollLeft) / column));
+  const told_by = e.target.closest('[data-event]')?.dataset.event, is_finding = y < AXIS && told_by !== undefined;
+  const event = Number(told_by ?? from + Math.floor((x - LABELS + view.scrollLeft) / column));
   const depth = pinned && y < head_height ? y : y + view.scrollTop;
-  const lane = lanes.findIndex((it) => depth >= it.top && depth < it.top + it.height);
-  return y < AXIS || x < LABELS || lane < 0 || event < from || event >= to ? null : {event, lane};
+  const lane = is_finding ? lane_chosen : lanes.findIndex((it) => depth >= it.top && depth < it.top + it.height);
+  return (y < AXIS && !is_finding) || x < LABELS || lane < 0 || event < from || event >= to ? null : {event, lane};
 }
 function point(now) {
   if (now?.event === pointed?.event && now?.lane === pointed?.lane) return;
@@ -560,8 +580,10 @@ by_id('about').textContent = `Events ${from} to ${to} of ${run.events}, ${run.ro
   + 'Moment M stands before event M.';
 const swatch = (style, text) => element('span', {}, element('i', {style}) + text);
 const stroke = (kind, text) => element('span', {}, element('svg', {}, element('path', {class: 'link ' + kind, d: 'M1 7H29'})) + text);
+const sign = (kind) => element('span', {}, element('svg', {}, element('path', {class: kind, d: 'M12 2l5 10h-10z'})) + kind);
 by_id('legend').innerHTML = Object.entries(ENDINGS).map(([key, text]) => swatch(`background: var(--${key})`, text)).join(' ')
-  + ' ' + swatch('border: 1.6px solid var(--faint)', 'queued') + ' ' + Object.entries(TIES).map(([kind, text]) => stroke(kind, text)).join(' ');
+  + ' ' + swatch('border: 1.6px solid var(--faint)', 'queued') + ' ' + Object.entries(TIES).map(([kind, text]) => stroke(kind, text)).join(' ')
+  + (findings.length ? ' ' + sign('fault') + ' ' + sign('note') : '');
 by_id('moment').min = from;
 by_id('moment').max = Math.max(from, to - 1);
 column = within(14, whole_column(), 36);

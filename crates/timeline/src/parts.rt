@@ -37,6 +37,16 @@ pub struct RowPart {
 #[derive(Drop, Serialize)]
 pub struct FillingPart(pub u32, pub u32, pub u32, pub String);
 
+/// What the run shows at a moment.
+#[derive(Drop, Serialize)]
+pub struct FindingPart {
+    pub moment: u32,
+    pub kind: &'static str,
+    /// Whether it is a fault, and no note.
+    pub fault: bool,
+    pub text: String,
+}
+
 /// All that a page shows.
 #[derive(Drop, Serialize)]
 pub struct PagePart<'a> {
@@ -58,6 +68,7 @@ pub struct PagePart<'a> {
     /// From the moment before the first event to that behind the last.
     pub fillings: Vec<FillingPart>,
     pub rows: Vec<RowPart>,
+    pub findings: Vec<FindingPart>,
 }
 
 pub(crate) fn filling_part(alloc: Global, filling: Filling) -> Result<FillingPart, AllocError> {

@@ -1,10 +1,14 @@
 //! What a followed run gives its pictures.
 
-use crate::parts::{FillingPart, PagePart, RowPart, StepPart, filling_part};
+use crate::drawn::Drawn;
+use crate::marks::finding_parts;
+use crate::parts::{FillingPart, FindingPart, PagePart, RowPart, StepPart, filling_part};
 use crate::row_parts::{program_part, row_part};
 use crate::telling::steps_of;
-use crate::trace_events::{Slice, add_filling, add_link, add_row, add_slice, begin, end};
-use courses::{Course, Filling, Followed, Standing};
+use crate::trace_events::{
+    Slice, add_filling, add_finding, add_link, add_row, add_slice, begin, end,
+};
+use courses::{Course, Filling, Standing};
 use entries::Row;
 use machine::{Setup, ring_size};
 use places::Value;
@@ -12,12 +16,14 @@ use run_log::EventRange;
 use scenario::completion_entries;
 use std::alloc::{AllocError, Global};
 
+// How many events a run has.
+fn event_count(course: &Course) -> u32 {
+    course.fillings.len().saturating_sub(1).min(u32::MAX as usize) as u32
+}
+
 // The end of a range of so many events.
-fn end_of(range: EventRange, count: usize) -> u32 {
-    match range.to {
-        Some(to) => to,
-        None => count.min(u32::MAX as usize) as u32,
-    }
+fn end_of(range: EventRange, count: u32) -> u32 {
+    range.to.unwrap_or(count)
 }
 
 // Whether a row stands between two moments.
@@ -93,32 +99,27 @@ fn poller_text(alloc: Global, standing: &Standing) -> Result<Option<String>, All
 }
 
 /// All that the page of a run shows.
-pub(crate) fn page_part<'a>(
-    alloc: Global,
-    run: &'a str,
-    setup: &Setup,
-    range: EventRange,
-    followed: &Followed,
-    log: &[u8],
-) -> Result<PagePart<'a>, AllocError> {
-    let course = &followed.course;
-    let count = course.fillings.len().saturating_sub(1);
-    let from = range.from;
-    let to = end_of(range, count);
-    let standing = &followed.standing;
+pub(crate) fn page_part<'a>(alloc: Global, drawn: Drawn<'a>) -> Result<PagePart<'a>, AllocError> {
+    let setup = drawn.setup;
+    let course = &drawn.followed.course;
+    let count = event_count(course);
+    let from = drawn.range.from;
+    let to = end_of(drawn.range, count);
+    let standing = &drawn.followed.standing;
     Ok(PagePart {
-        run,
+        run: drawn.name,
         from,
         to,
-        events: count.min(u32::MAX as usize) as u32,
+        events: count,
         entries: ring_size(setup.entries),
         completions: ring_size(completion_entries(setup.entries, setup.cq)),
         stages: stage_texts(alloc, standing)?,
         poller: poller_text(alloc, standing)?,
         programs: programs(alloc, setup)?,
-        steps: steps_of(alloc, log)?,
+        steps: steps_of(alloc, drawn.log)?,
         fillings: filling_parts(alloc, fillings_in(course, from, to))?,
-        rows: row_parts(alloc, &followed.rows, course, from, to)?,
+        rows: row_parts(alloc, &drawn.followed.rows, course, from, to)?,
+        findings: finding_parts(alloc, drawn.findings, from, to, count)?,
     })
 }
 
@@ -225,6 +226,14 @@ fn add_fillings(
     Ok(())
 }
 
+// Adds what the run shows.
+fn add_findings(alloc: Global, out: &mut Vec<u8>, parts: &[FindingPart]) -> Result<(), AllocError> {
+    for part in parts {
+        add_finding(alloc, out, part)?;
+    }
+    Ok(())
+}
+
 // Adds rows up to a moment.
 fn add_rows(
     alloc: Global,
@@ -239,27 +248,24 @@ fn add_rows(
 }
 
 /// The trace events of a run.
-pub(crate) fn trace_file(
-    alloc: Global,
-    run: &str,
-    setup: &Setup,
-    range: EventRange,
-    followed: &Followed,
-    log: &[u8],
-) -> Result<Vec<u8>, AllocError> {
-    let course = &followed.course;
-    let from = range.from;
-    let to = end_of(range, course.fillings.len());
+pub(crate) fn trace_file(alloc: Global, drawn: Drawn<'_>) -> Result<Vec<u8>, AllocError> {
+    let course = &drawn.followed.course;
+    let count = event_count(course);
+    let from = drawn.range.from;
+    let to = end_of(drawn.range, count);
     let fillings = fillings_in(course, from, to);
-    let steps = steps_of(alloc, log)?;
-    let parts = row_parts(alloc, &followed.rows, course, from, to)?;
+    let steps = steps_of(alloc, drawn.log)?;
+    let parts = row_parts(alloc, &drawn.followed.rows, course, from, to)?;
+    let findings = finding_parts(alloc, drawn.findings, from, to, count)?;
     let mut out = Vec::new(alloc);
-    let has_poller = followed.standing.awake.is_some();
-    begin(alloc, &mut out, run, setup.threads.len(), has_poller)?;
+    let has_poller = drawn.followed.standing.awake.is_some();
+    let threads = drawn.setup.threads.len();
+    begin(alloc, &mut out, drawn.name, threads, has_poller)?;
     let tracks = add_slices(alloc, &mut out, &steps, fillings, from)?;
     add_fillings(alloc, &mut out, fillings, from)?;
     add_rows(alloc, &mut out, &parts, to)?;
     add_links(alloc, &mut out, &parts, &tracks, from)?;
+    add_findings(alloc, &mut out, &findings)?;
     end(&mut out)?;
     Ok(out)
 }

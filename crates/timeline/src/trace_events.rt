@@ -1,6 +1,6 @@
 //! The trace event format, which Perfetto and chrome://tracing open. A moment is a microsecond.
 
-use crate::parts::{RowPart, StepPart};
+use crate::parts::{FindingPart, RowPart, StepPart};
 use courses::Filling;
 use serde::Serialize;
 use std::alloc::{AllocError, Global};
@@ -13,6 +13,9 @@ const KERNEL: u32 = 18;
 
 /// The track of the clock.
 const CLOCK: u32 = 19;
+
+/// The track of what the run shows.
+const FINDINGS: u32 = 20;
 
 /// A place in the run: a track, and a moment.
 #[derive(Clone, Copy)]
@@ -73,7 +76,8 @@ pub(crate) fn begin(
         add_track(alloc, out, POLLER, "poller")?;
     }
     add_track(alloc, out, KERNEL, "kernel")?;
-    add_track(alloc, out, CLOCK, "clock")
+    add_track(alloc, out, CLOCK, "clock")?;
+    add_track(alloc, out, FINDINGS, "findings")
 }
 
 /// Ends a file.
@@ -118,6 +122,16 @@ pub(crate) fn add_slice(
     )?;
     add(out, members.as_str())?;
     Ok(track)
+}
+
+/// Adds what the run shows at a moment, as an instant.
+pub(crate) fn add_finding(alloc: Global, out: &mut Vec<u8>, part: &FindingPart) -> Added {
+    let FindingPart { moment, kind, fault, .. } = part;
+    let text = json(alloc, &part.text)?;
+    let members = format!(in alloc;
+        "\"ph\":\"i\",\"s\":\"p\",\"cat\":\"finding\",\"name\":\"{kind}\",\"tid\":{FINDINGS},\"ts\":{moment},\"args\":{{\"fault\":{fault},\"text\":{text}}}"
+    )?;
+    add(out, members.as_str())
 }
 
 // Adds how many of some things wait at a moment, as a counter.

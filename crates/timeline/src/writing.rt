@@ -1,13 +1,11 @@
 //! Pictures as bytes.
 ghost use Rattle.std.specs.Prelude.{◌≡◌, IfErr};
 
+use crate::drawn::Drawn;
 use crate::fault::TimelineFault;
 use crate::page::{HEAD, TAIL};
 use crate::parts::PagePart;
 use crate::picture_parts::{page_part, trace_file};
-use courses::Followed;
-use machine::Setup;
-use run_log::EventRange;
 use std::alloc::{AllocError, Global};
 
 // A value as JSON.
@@ -41,17 +39,10 @@ fn page_around(alloc: Global, json: &[u8]) -> Result<Vec<u8>, AllocError> {
 }
 
 /// The page of a run.
-pub(crate) fn page_bytes(
-    alloc: Global,
-    name: &str,
-    setup: &Setup,
-    range: EventRange,
-    followed: &Followed,
-    log: &[u8],
-) -> Result<Vec<u8>, TimelineFault>
+pub(crate) fn page_bytes(alloc: Global, drawn: Drawn<'_>) -> Result<Vec<u8>, TimelineFault>
     ensures { IfErr result (λ f. f ≡ TimelineFault.Memory) }
 {
-    let Ok(part) = page_part(alloc, name, setup, range, followed, log) else {
+    let Ok(part) = page_part(alloc, drawn) else {
         return Err(TimelineFault::Memory);
     };
     let json = json_of(alloc, &part)?;
@@ -62,17 +53,10 @@ pub(crate) fn page_bytes(
 }
 
 /// The trace events of a run.
-pub(crate) fn trace_bytes(
-    alloc: Global,
-    name: &str,
-    setup: &Setup,
-    range: EventRange,
-    followed: &Followed,
-    log: &[u8],
-) -> Result<Vec<u8>, TimelineFault>
+pub(crate) fn trace_bytes(alloc: Global, drawn: Drawn<'_>) -> Result<Vec<u8>, TimelineFault>
     ensures { IfErr result (λ f. f ≡ TimelineFault.Memory) }
 {
-    match trace_file(alloc, name, setup, range, followed, log) {
+    match trace_file(alloc, drawn) {
         Ok(bytes) => Ok(bytes),
         Err(_) => Err(TimelineFault::Memory),
     }

@@ -1,0 +1,18 @@
+//! What is drawn.
+
+use courses::Followed;
+use findings::Told;
+use machine::Setup;
+use run_log::EventRange;
+
+/// A run, the part of it that is drawn, and what is known of it.
+#[derive(Clone, Copy)]
+pub(crate) struct Drawn<'a> {
+    pub name: &'a str,
+    pub setup: &'a Setup,
+    pub range: EventRange,
+    pub followed: &'a Followed,
+    /// What `log` tells of the part.
+    pub log: &'a [u8],
+    pub findings: &'a [Told],
+}

@@ -1,0 +1,37 @@
+//! Findings, as a picture marks them.
+
+use crate::parts::FindingPart;
+use findings::Told;
+use std::alloc::{AllocError, Global};
+
+// Whether a finding stands in a part of a run: at one of its events, or at the end where the part ends there.
+fn is_within(moment: u32, from: u32, to: u32, count: u32) -> bool {
+    from <= moment && (moment < to || moment == to && to == count)
+}
+
+fn finding_part(told: &Told) -> Result<FindingPart, AllocError> {
+    let kind = told.finding.kind;
+    Ok(FindingPart {
+        moment: told.finding.moment,
+        kind: kind.word(),
+        fault: kind.is_fault(),
+        text: told.text.clone()?,
+    })
+}
+
+/// The findings that stand in a part of a run of so many events.
+pub(crate) fn finding_parts(
+    alloc: Global,
+    findings: &[Told],
+    from: u32,
+    to: u32,
+    count: u32,
+) -> Result<Vec<FindingPart>, AllocError> {
+    let mut parts = Vec::new(alloc);
+    for told in findings {
+        if is_within(told.finding.moment, from, to, count) {
+            parts.push(finding_part(told)?)?;
+        }
+    }
+    Ok(parts)
+}
