@@ -123,9 +123,9 @@ fn wrong_phase(alloc: Global, name: RowName, row: &Row, event: Event) -> Told {
     }
 }
 
-fn not_eligible(alloc: Global, state: &State, number: u32, row: &Row) -> Told {
+fn not_eligible(alloc: Global, state: &State, setup: &Setup, number: u32, row: &Row) -> Told {
     let name = RowName::of(number, row);
-    let reason = why_unfinished(alloc, state, number)?;
+    let reason = why_unfinished(alloc, setup, state, number)?;
     let remedy = if is_guard(row) {
         "Issue that row."
     } else {
@@ -134,9 +134,9 @@ fn not_eligible(alloc: Global, state: &State, number: u32, row: &Row) -> Told {
     format!(in alloc; "row {name} can't be issued. {reason} {remedy}")
 }
 
-fn not_ready(alloc: Global, state: &State, number: u32, row: &Row) -> Told {
+fn not_ready(alloc: Global, state: &State, setup: &Setup, number: u32, row: &Row) -> Told {
     let name = RowName::of(number, row);
-    let reason = why_unfinished(alloc, state, number)?;
+    let reason = why_unfinished(alloc, setup, state, number)?;
     format!(in alloc; "row {name} can't end. {reason} That must come first.")
 }
 
@@ -166,14 +166,21 @@ fn bad_choice(alloc: Global, name: RowName, choice: Choice) -> Told {
 }
 
 // An event of a row that is refused.
-fn of_row(alloc: Global, state: &State, number: u32, event: Event, refusal: Refusal) -> Told {
+fn of_row(
+    alloc: Global,
+    state: &State,
+    setup: &Setup,
+    number: u32,
+    event: Event,
+    refusal: Refusal,
+) -> Told {
     let Some(row) = row_at(state, number) else {
         return no_such_row(alloc, state);
     };
     let name = RowName::of(number, &row);
     match (refusal, event) {
-        (Refusal::NotEligible, _) => not_eligible(alloc, state, number, &row),
-        (Refusal::NotReady, _) => not_ready(alloc, state, number, &row),
+        (Refusal::NotEligible, _) => not_eligible(alloc, state, setup, number, &row),
+        (Refusal::NotReady, _) => not_ready(alloc, state, setup, number, &row),
         (Refusal::NotDue, _) => not_due(alloc, state, name, &row),
         (Refusal::BadChoice, Event::Finish(_, choice)) => bad_choice(alloc, name, choice),
         _ => wrong_phase(alloc, name, &row, event),
@@ -209,7 +216,7 @@ fn reason(alloc: Global, state: &State, setup: &Setup, event: Event, refusal: Re
         Event::Step(thread) => step(alloc, state, setup, thread, refusal),
         Event::Take(_) | Event::Sleep => of_poller(alloc, state, refusal),
         Event::Issue(row) | Event::Finish(row, _) | Event::Expire(row) => {
-            of_row(alloc, state, row, event, refusal)
+            of_row(alloc, state, setup, row, event, refusal)
         }
         Event::Tick(_) => late_tick(alloc, state),
     }

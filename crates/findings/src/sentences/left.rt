@@ -4,7 +4,7 @@ use crate::names::RowName;
 use crate::run::Run;
 use entries::{Phase, Row};
 use links_drains::{is_guard, is_unfinished};
-use machine::{Event, Refusal, State};
+use machine::{Event, Refusal, Setup, State};
 use opcodes::{Choice, Op, is_timer};
 use std::alloc::{AllocError, Global};
 
@@ -176,11 +176,18 @@ pub(crate) fn unfinished(alloc: Global, run: &Run<'_>, number: u32) -> Result<St
 }
 
 /// Why a row of a state hasn't ended, as a sentence: what holds it back, or what it waits for.
-pub fn why_unfinished(alloc: Global, state: &State, number: u32) -> Result<String, AllocError> {
+pub fn why_unfinished(
+    alloc: Global,
+    setup: &Setup,
+    state: &State,
+    number: u32,
+) -> Result<String, AllocError> {
     let run = Run {
+        setup,
         state,
         events: &[],
         times: &[],
+        counters: &[],
         found: &[],
     };
     match run.row(number) {
