@@ -316,7 +316,8 @@ impl Recorder {
         either(self.rest.names(place), by_kind)
     }
 
-    /// Drops the notes whose place has its old value, and keeps the others. It takes no memory.
+    /// Drops the notes whose place has its old value, and keeps the others. It can't fail: where there is
+    /// no memory for the record's own, it has that of the notes.
     pub fn close<A: At>(self, whole: &A) -> Record
         ensures { Exact (undo (A.seen whole.now) self.made) (A.seen whole.now) result }
     {
