@@ -1,10 +1,13 @@
 //! The run of one NOP through all layers.
 
+mod by_hand;
 mod devices;
 mod failing;
 mod failures;
 mod files;
+mod loopback;
 mod sessions;
+mod side_by_side;
 mod sources;
 mod texts;
 

@@ -10,6 +10,3 @@ pub use permits::{Permit, Permits};
 pub use running::serve_live;
 pub use serving::serve_clients;
 pub use source::LiveSource;
-
-#[cfg(test)]
-mod tests;

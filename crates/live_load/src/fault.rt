@@ -5,35 +5,68 @@ use opcodes::Op;
 use places::Place;
 use scenario::{Refusal, SetupRefusal};
 use std::alloc::AllocError;
-use std::io;
-use thiserror::Error;
+use std::{fmt, io};
 
-#[derive(Debug, Drop, Error)]
+#[derive(Drop)]
 pub enum Fault {
-    #[error("the run isn't closed: {0:?}")]
     Live(LiveFault),
-    #[error("the setup has no start: {0:?}")]
-    Setup(#[from] SetupRefusal),
-    #[error("the trace doesn't replay: {0:?}")]
-    Replay(#[from] Refusal),
-    #[error("{0} rows are unfinished at once")]
+    Setup(SetupRefusal),
+    Replay(Refusal),
     Unfinished(u64),
-    #[error("another value stands in {0:?}")]
     Differs(Place),
-    #[error("{0:?} isn't redeemed")]
     Receipt(Receipt),
-    #[error("{0} receipts for {1} events")]
     Receipts(usize, usize),
-    #[error("there are {0} events alone")]
     Few(usize),
-    #[error("there is no {0}")]
     Missing(&'static str),
-    #[error("no {0:?} ended well")]
     NoneWell(Op),
-    #[error("no {0:?} ended badly")]
     NoneBadly(Op),
-    #[error("memory")]
-    Memory(#[from] AllocError),
-    #[error("{0}")]
-    Io(#[from] io::Error),
+    Memory(AllocError),
+    Io(io::Error),
+}
+
+impl fmt::Display for Fault {
+    fn fmt<W: fmt::Write>(&self, f: &mut fmt::Formatter<W>) -> fmt::Result {
+        match self {
+            Fault::Live(fault) => write!(f, "the run isn't closed: {fault:?}"),
+            Fault::Setup(refusal) => write!(f, "the setup has no start: {refusal:?}"),
+            Fault::Replay(refusal) => write!(f, "the trace doesn't replay: {refusal:?}"),
+            Fault::Unfinished(count) => write!(f, "{count} rows are unfinished at once"),
+            Fault::Differs(place) => write!(f, "another value stands in {place:?}"),
+            Fault::Receipt(receipt) => write!(f, "{receipt:?} isn't redeemed"),
+            Fault::Receipts(receipts, events) => write!(
+                f,
+                "{receipts} receipts for {events} events"
+            ),
+            Fault::Few(count) => write!(f, "there are {count} events alone"),
+            Fault::Missing(name) => write!(f, "there is no {name}"),
+            Fault::NoneWell(op) => write!(f, "no {op:?} ended well"),
+            Fault::NoneBadly(op) => write!(f, "no {op:?} ended badly"),
+            Fault::Memory(_) => f.write_str("memory"),
+            Fault::Io(error) => write!(f, "{error}"),
+        }
+    }
+}
+
+impl From<SetupRefusal> for Fault {
+    fn from(refusal: SetupRefusal) -> Fault {
+        Fault::Setup(refusal)
+    }
+}
+
+impl From<Refusal> for Fault {
+    fn from(refusal: Refusal) -> Fault {
+        Fault::Replay(refusal)
+    }
+}
+
+impl From<AllocError> for Fault {
+    fn from(error: AllocError) -> Fault {
+        Fault::Memory(error)
+    }
+}
+
+impl From<io::Error> for Fault {
+    fn from(error: io::Error) -> Fault {
+        Fault::Io(error)
+    }
 }

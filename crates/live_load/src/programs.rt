@@ -166,20 +166,31 @@ fn programs(alloc: Global, way: Way) -> Result<Items<Items<Instruction>>, AllocE
     Ok(Items::of(programs))
 }
 
-fn object(alloc: Global, name: u8, contents: Contents) -> Result<Object, AllocError> {
+/// The objects' names.
+const NAMES: [u8; 5] = *b"fpesq";
+
+// What the object of a name is: a file, a pipe, an eventfd, a small pipe, or an eventfd that stays at 0.
+fn contents(alloc: Global, name: u8) -> Result<Contents, AllocError> {
+    Ok(match name {
+        b'f' => Contents::File(Items::of(vec![in alloc; 1u8; 4096]?)),
+        b'p' => Contents::Pipe(65536),
+        b's' => Contents::Pipe(64),
+        b'e' => Contents::EventFd(1),
+        _ => Contents::EventFd(0),
+    })
+}
+
+fn object(alloc: Global, name: u8) -> Result<Object, AllocError> {
+    let contents = contents(alloc, name)?;
     let name = Items::of(vec![in alloc; name; 1]?);
     Ok(Object { name, contents })
 }
 
-// A file, a pipe, an eventfd, a small pipe, and an eventfd that stays at 0.
 fn objects(alloc: Global) -> Result<Items<Object>, AllocError> {
-    let bytes = vec![in alloc; 1u8; 4096]?;
     let mut objects = Vec::new(alloc);
-    objects.push(object(alloc, b'f', Contents::File(Items::of(bytes)))?)?;
-    objects.push(object(alloc, b'p', Contents::Pipe(65536))?)?;
-    objects.push(object(alloc, b'e', Contents::EventFd(1))?)?;
-    objects.push(object(alloc, b's', Contents::Pipe(64))?)?;
-    objects.push(object(alloc, b'q', Contents::EventFd(0))?)?;
+    for name in NAMES {
+        objects.push(object(alloc, name)?)?;
+    }
     Ok(Items::of(objects))
 }
 
@@ -245,14 +256,26 @@ fn write_pushes(program: &mut Vec<Instruction>, slots: &[u32]) -> Written {
     Ok(())
 }
 
-/// Threads that push so many NOPs, and behind them so many polls that wait; and one thread more, which pushes a NOP.
-pub fn asking_setup(alloc: Global, nops: u32, polls: u32) -> Result<Setup, AllocError> {
+// The slots of so many NOPs, and behind them those of so many polls.
+fn asked_slots(alloc: Global, nops: u32, polls: u32) -> Result<Vec<u32>, AllocError> {
     let mut slots = vec![in alloc; 0u32; nops as usize]?;
     slots.resize(nops as usize + polls as usize, 1)?;
+    Ok(slots)
+}
+
+// Threads that push slots, and one thread more, which pushes a NOP.
+fn asking_programs(alloc: Global, slots: &[u32]) -> Result<Items<Items<Instruction>>, AllocError> {
     let mut programs = Vec::new(alloc);
     for batch in slots.chunks(PUSHES) {
         programs.push(pushing(alloc, batch)?)?;
     }
     programs.push(pushing(alloc, &[0])?)?;
-    setup_of(alloc, 4096, true, Items::of(programs))
+    Ok(Items::of(programs))
+}
+
+/// Threads that push so many NOPs, and behind them so many polls that wait; and one thread more, which pushes a NOP.
+pub fn asking_setup(alloc: Global, nops: u32, polls: u32) -> Result<Setup, AllocError> {
+    let slots = asked_slots(alloc, nops, polls)?;
+    let programs = asking_programs(alloc, &slots)?;
+    setup_of(alloc, 4096, true, programs)
 }

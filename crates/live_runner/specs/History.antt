@@ -1,6 +1,7 @@
 -- What lies under the lock, what a seat holds, and what a run comes to.
 use Rattle.std.specs.Prelude.{◌≡◌, ℕ, ◌+◌, ◌≤◌, ◌<◌, List, [], ◌∷◌, ◌++◌, length, All, true, slice_index_or, map, Bool, sum_by, None}
 use Rattle.places.specs.declared.value.Change.{Change}
+use Rattle.places.specs.Lists.{updated}
 use Rattle.scenario.specs.declared.setup.Setup.{Setup}
 use Rattle.scenario.specs.declared.event.Event.{Event}
 use Rattle.scenario.specs.Setups.{setup_refusal}
@@ -70,6 +71,15 @@ gone_on h actor event = record {
 -- the seat with one receipt more
 abbrev pub seat_with : Held → Receipt → Held
 seat_with s r = record { actor = s.actor; receipts = s.receipts ++ r ∷ []; parts = s.parts; amount = s.amount + 1 }
+
+-- the seat whose actor says another event of a receipt
+abbrev pub altered : Held → ℕ → Event → Held
+altered s i e = record {
+  actor = s.actor;
+  receipts = updated (λ (r : Receipt). record r { event = e }) s.receipts i;
+  parts = s.parts;
+  amount = s.amount;
+}
 
 -- a worker, as contracts see it
 pub record Labour : Type 0 where

@@ -13,7 +13,7 @@ use scenario::Event;
 use std::sync::ledger::{Ledger, Share};
 
 /// The least actor whose receipts are not just its events, with their moments, in order.
-#[derive(Clone, Copy, Debug, PartialEq, Eq)]
+#[derive(Clone, Copy)]
 pub struct Torn(pub u32);
 
 /// Closes a run whose actors have all ended. It takes no memory.

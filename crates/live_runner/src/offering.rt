@@ -14,7 +14,7 @@ use places::{Place, Value};
 use scenario::{Event, Refusal, Setup};
 
 /// What a kernel worker does to a row.
-#[derive(Clone, Copy, Debug, PartialEq, Eq)]
+#[derive(Clone, Copy)]
 pub enum Deed {
     Issuing,
     Finishing,

@@ -1,7 +1,9 @@
 //! Places at the lock.
-ghost use Rattle.std.specs.Prelude.{◌≡◌};
+ghost use Rattle.std.specs.Prelude.{◌≡◌, ◌<◌, length};
+ghost use Rattle.live_runner.specs.History.{altered};
 
 use crate::receipt::Receipt;
+use scenario::Event;
 use std::marker::Model;
 use std::sync::ledger::{Ledger, Share};
 
@@ -36,5 +38,13 @@ impl<L: Ledger> Seat<L> {
         ensures { result.now ≡ self.now.receipts }
     {
         &self.receipts
+    }
+
+    /// Has its actor say another event of a receipt: `finish` finds it out.
+    pub fn alter(&mut self, place: usize, event: Event)
+        requires { place < length self.old.receipts }
+        ensures { self.new ≡ altered self.old place event }
+    {
+        self.receipts[place].event = event;
     }
 }

@@ -1,5 +1,6 @@
 //! Workers, which take turns at the lock.
-ghost use Rattle.std.specs.Prelude.{◌≡◌, ◌≢◌, ◌↔◌, true, false};
+ghost use Rattle.std.specs.Prelude.{◌≡◌, ◌≢◌, ◌↔◌, ◌≤◌, true, false, length, vec_len, vec_capacity};
+ghost use Rattle.live_runner.specs.History.{InOrder, WorkInOrder};
 ghost use Rattle.live_runner.specs.Turns.{seat_after};
 
 use crate::lives::{Live, LiveRefusal};
@@ -17,7 +18,7 @@ pub trait Gate: Sync {
 }
 
 /// A gate at which nobody waits.
-#[derive(Clone, Copy, Debug)]
+#[derive(Clone, Copy)]
 pub struct AlwaysOpen;
 
 impl Gate for AlwaysOpen {
@@ -27,7 +28,7 @@ impl Gate for AlwaysOpen {
 }
 
 /// What a turn came to.
-#[derive(Clone, Copy, Debug, PartialEq, Eq)]
+#[derive(Clone, Copy)]
 pub enum Turn {
     Did(Receipt),
     /// The actor had nothing to do.
@@ -98,6 +99,24 @@ impl<'g, L: Ledger, G: Gate> Worker<'g, L, G> {
         } = self;
         seat
     }
+}
+
+/// A worker for each seat, in room that there is for so many. It takes no memory.
+pub fn workers_of<'g, L: Ledger, G: Gate>(
+    seats: Vec<Seat<L>>,
+    gate: &'g G,
+    mut workers: Vec<Worker<'g, L, G>>,
+) -> Vec<Worker<'g, L, G>>
+    requires order { InOrder seats.items }
+    requires none { vec_len workers ≡ 0 }
+    requires room { vec_len seats ≤ vec_capacity workers }
+    ensures count { length result.items ≡ length seats.items }
+    ensures order { WorkInOrder result.items }
+{
+    for seat in seats {
+        workers.push_reserved(Worker::new(seat, gate));
+    }
+    workers
 }
 
 // One hold of the lock.

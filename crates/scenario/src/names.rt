@@ -2,6 +2,7 @@
 ghost use Rattle.std.specs.Prelude.{◌≡◌, map, true};
 ghost use Rattle.std.specs.Char.{is_ascii_digit};
 ghost use Rattle.std.specs.List.{list_all};
+ghost use Rattle.std.specs.Str.{bytes_eq};
 ghost use Rattle.scenario.specs.Names.{is_numeral, number_of, single_named, kind_named, pair_named, byte_named, byte_place_named, place_named};
 
 use crate::numbered::{kind_of_name, member};
@@ -89,29 +90,36 @@ fn read_digits(word: &[u8]) -> Option<u32>
     }
 }
 
+/// Whether a name is a word.
+pub(crate) fn is_word(name: &[u8], word: &[u8]) -> bool
+    ensures { result ≡ bytes_eq name.now word.now }
+{
+    name == word
+}
+
 // The place that one word names.
 fn single(setup: &Setup, name: &[u8]) -> Option<Place>
     ensures { result ≡ single_named setup.now name.now }
 {
-    if name == b"sq.head".as_slice() {
+    if is_word(name, b"sq.head") {
         Some(Place::SubmissionHead)
-    } else if name == b"sq.tail".as_slice() {
+    } else if is_word(name, b"sq.tail") {
         Some(Place::SubmissionTail)
-    } else if name == b"sq.flags".as_slice() {
+    } else if is_word(name, b"sq.flags") {
         Some(Place::SubmissionFlags)
-    } else if name == b"sq.dropped".as_slice() {
+    } else if is_word(name, b"sq.dropped") {
         Some(Place::SubmissionDropped)
-    } else if name == b"cq.head".as_slice() {
+    } else if is_word(name, b"cq.head") {
         Some(Place::CompletionHead)
-    } else if name == b"cq.tail".as_slice() {
+    } else if is_word(name, b"cq.tail") {
         Some(Place::CompletionTail)
-    } else if name == b"clock".as_slice() {
+    } else if is_word(name, b"clock") {
         Some(Place::Clock)
-    } else if name == b"counted".as_slice() {
+    } else if is_word(name, b"counted") {
         Some(Place::Counted)
-    } else if name == b"bfront".as_slice() {
+    } else if is_word(name, b"bfront") {
         Some(Place::BacklogFront)
-    } else if name == b"poller".as_slice() {
+    } else if is_word(name, b"poller") {
         if setup.sqpoll {
             Some(Place::PollerStage)
         } else {

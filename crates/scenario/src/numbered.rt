@@ -3,7 +3,7 @@ ghost use Rattle.std.specs.Prelude.{◌≡◌};
 ghost use Rattle.scenario.specs.Names.{kind_named, number_of, member_of, descriptor_at, is_open_file, submission_size, completion_size};
 
 use crate::limits::{completion_entries, ring_size};
-use crate::names::{PlaceFault, read_number};
+use crate::names::{PlaceFault, is_word, read_number};
 use crate::owned::{ObjectKind, is_of};
 use crate::setup::Setup;
 use places::{Descriptor, Place};
@@ -29,29 +29,29 @@ pub enum PlaceKind {
 pub(crate) fn kind_of_name(name: &[u8]) -> Option<PlaceKind>
     ensures { result ≡ kind_named name.now }
 {
-    if name == b"array".as_slice() {
+    if is_word(name, b"array") {
         Some(PlaceKind::Array)
-    } else if name == b"slot".as_slice() {
+    } else if is_word(name, b"slot") {
         Some(PlaceKind::Slots)
-    } else if name == b"cqe".as_slice() {
+    } else if is_word(name, b"cqe") {
         Some(PlaceKind::Completions)
-    } else if name == b"mem".as_slice() {
+    } else if is_word(name, b"mem") {
         Some(PlaceKind::MemoryBytes)
-    } else if name == b"pos".as_slice() {
+    } else if is_word(name, b"pos") {
         Some(PlaceKind::Positions)
-    } else if name == b"open".as_slice() {
+    } else if is_word(name, b"open") {
         Some(PlaceKind::OpenMarks)
-    } else if name == b"row".as_slice() {
+    } else if is_word(name, b"row") {
         Some(PlaceKind::Requests)
-    } else if name == b"backlog".as_slice() {
+    } else if is_word(name, b"backlog") {
         Some(PlaceKind::Backlogs)
-    } else if name == b"pc".as_slice() {
+    } else if is_word(name, b"pc") {
         Some(PlaceKind::ProgramCounters)
-    } else if name == b"stage".as_slice() {
+    } else if is_word(name, b"stage") {
         Some(PlaceKind::Stages)
-    } else if name == b"last".as_slice() {
+    } else if is_word(name, b"last") {
         Some(PlaceKind::Lasts)
-    } else if name == b"got".as_slice() {
+    } else if is_word(name, b"got") {
         Some(PlaceKind::Gots)
     } else {
         None

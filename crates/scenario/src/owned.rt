@@ -4,7 +4,7 @@ ghost use Rattle.std.specs.List.{position};
 ghost use Rattle.scenario.specs.Names.{object_place_named, byte_place_named, is_of, is_object_of, object_named, most_bytes, bytes_of, owner_of, object_place, byte_of, byte_named, number_of};
 
 use crate::holdings::is_named;
-use crate::names::{PlaceFault, read_number};
+use crate::names::{PlaceFault, is_word, read_number};
 use crate::setup::Setup;
 use places::{Contents, Object, Place};
 
@@ -37,15 +37,15 @@ pub enum BytePlace {
 pub(crate) fn object_place_of_name(name: &[u8]) -> Option<ObjectPlace>
     ensures { result ≡ object_place_named name.now }
 {
-    if name == b"len".as_slice() {
+    if is_word(name, b"len") {
         Some(ObjectPlace::FileLength)
-    } else if name == b"dlen".as_slice() {
+    } else if is_word(name, b"dlen") {
         Some(ObjectPlace::DurableLength)
-    } else if name == b"put".as_slice() {
+    } else if is_word(name, b"put") {
         Some(ObjectPlace::PutCount)
-    } else if name == b"taken".as_slice() {
+    } else if is_word(name, b"taken") {
         Some(ObjectPlace::TakenCount)
-    } else if name == b"event".as_slice() {
+    } else if is_word(name, b"event") {
         Some(ObjectPlace::EventCount)
     } else {
         None
@@ -56,11 +56,11 @@ pub(crate) fn object_place_of_name(name: &[u8]) -> Option<ObjectPlace>
 pub(crate) fn byte_of_name(name: &[u8]) -> Option<BytePlace>
     ensures { result ≡ byte_place_named name.now }
 {
-    if name == b"file".as_slice() {
+    if is_word(name, b"file") {
         Some(BytePlace::FileByte)
-    } else if name == b"durable".as_slice() {
+    } else if is_word(name, b"durable") {
         Some(BytePlace::DurableByte)
-    } else if name == b"pipe".as_slice() {
+    } else if is_word(name, b"pipe") {
         Some(BytePlace::PipeByte)
     } else {
         None

@@ -1,7 +1,7 @@
-use Rattle.std.proofs.Common.{◌≡◌, ℕ, ◌+◌, ◌<◌, length, slice_index_or, vec_len}
+use Rattle.std.proofs.Common.{◌≡◌, ℕ, ◌+◌, ◌<◌, ◌≤◌, length, slice_index_or, vec_len, vec_capacity}
 use Rattle.std.specs.Vec.Iter.{into_iter_items}
 use Rattle.live_runner.specs.History.{Held, WorkInOrder}
-use Rattle.live_runner.proofs.tests.workers_of.Given as goal
+use Rattle.live_runner.proofs.worker.workers_of.Given as goal
 
 abbrev pub invariant-loop-seat : goal.invariant-loop-seat
 invariant-loop-seat g l =
@@ -9,3 +9,4 @@ invariant-loop-seat g l =
     ((k : ℕ) (d : Held) → k < length rest → (slice_index_or rest k d).actor ≡ vec_len l.workers + k)
     × WorkInOrder l.workers.items
     × (vec_len l.workers + length rest ≡ vec_len l.fn.seats)
+    × (vec_len l.workers + length rest ≤ vec_capacity l.workers)

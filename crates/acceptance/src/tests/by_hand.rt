@@ -1,0 +1,251 @@
+//! A live run that is driven by hand.
+ghost use Rattle.std.specs.Prelude.{◌≡◌, ◌<◌, length};
+ghost use Rattle.live_runner.specs.Actors.{actors};
+ghost use Rattle.live_runner.specs.History.{InOrder};
+
+use crate::tests::{ONE_NOP, check};
+use live_runner::{
+    AlwaysOpen, Closed, Live, LiveRefusal, Receipt, Seat, Torn, actors, finish, workers_of,
+};
+use machine::{Event, Refusal, Setup};
+use opcodes::Choice;
+use script::read_script;
+use std::alloc::Global;
+use std::marker::Brand;
+use std::sync::ledger::{Blank, Ledger};
+
+// A seat's actor attempts an event.
+fn attempt<L: Ledger>(
+    live: &mut Live<L>,
+    seats: &mut Vec<Seat<L>>,
+    actor: usize,
+    event: Event,
+) -> Result<Receipt, LiveRefusal>
+    requires there { actor < length seats.old.items }
+    requires order { InOrder seats.old.items }
+    ensures len { length seats.new.items ≡ length seats.old.items }
+    ensures actors { live.new.actors ≡ live.old.actors }
+    ensures order { InOrder seats.new.items }
+{
+    live.attempt(&mut seats[actor], event)
+}
+
+// Whether an actor is offered an event, and does it.
+fn does<L: Ledger>(live: &mut Live<L>, seats: &mut Vec<Seat<L>>, actor: usize, event: Event) -> bool
+    requires there { actor < length seats.old.items }
+    requires order { InOrder seats.old.items }
+    requires few { actor < 2 }
+    ensures len { length seats.new.items ≡ length seats.old.items }
+    ensures actors { live.new.actors ≡ live.old.actors }
+    ensures order { InOrder seats.new.items }
+{
+    live.offer(actor as u32) == Some(event) && attempt(live, seats, actor, event).is_ok()
+}
+
+// The first thread does three events, and then has nothing to reap.
+fn submits<L: Ledger>(live: &mut Live<L>, seats: &mut Vec<Seat<L>>) -> bool
+    requires there { length seats.old.items ≡ 2 }
+    requires order { InOrder seats.old.items }
+    ensures len { length seats.new.items ≡ length seats.old.items }
+    ensures actors { live.new.actors ≡ live.old.actors }
+    ensures order { InOrder seats.new.items }
+{
+    let step = Event::Step(0);
+    let refusal = Err(LiveRefusal::Step(Refusal::NothingToReap));
+    does(live, seats, 0, step)
+        && does(live, seats, 0, step)
+        && does(live, seats, 0, step)
+        && live.offer(0) == Some(step)
+        && attempt(live, seats, 0, step) == refusal
+}
+
+// What isn't an actor's is refused, and what there isn't.
+fn refuses<L: Ledger>(live: &mut Live<L>, seats: &mut Vec<Seat<L>>) -> bool
+    requires there { length seats.old.items ≡ 2 }
+    requires order { InOrder seats.old.items }
+    ensures len { length seats.new.items ≡ length seats.old.items }
+    ensures actors { live.new.actors ≡ live.old.actors }
+    ensures order { InOrder seats.new.items }
+{
+    let not_yours = Err(LiveRefusal::NotYours);
+    let absent = Err(LiveRefusal::Step(Refusal::NoSuchRequest));
+    attempt(live, seats, 0, Event::Tick(1)) == not_yours
+        && attempt(live, seats, 0, Event::Step(1)) == not_yours
+        && attempt(live, seats, 1, Event::Issue(9)) == absent
+}
+
+// The kernel worker issues the row and ends it, and the thread reaps.
+fn ends<L: Ledger>(live: &mut Live<L>, seats: &mut Vec<Seat<L>>) -> bool
+    requires there { length seats.old.items ≡ 2 }
+    requires order { InOrder seats.old.items }
+    ensures len { length seats.new.items ≡ length seats.old.items }
+    ensures actors { live.new.actors ≡ live.old.actors }
+    ensures order { InOrder seats.new.items }
+{
+    does(live, seats, 1, Event::Issue(0))
+        && does(live, seats, 1, Event::Finish(0, Choice::Full))
+        && does(live, seats, 0, Event::Step(0))
+        && live.offer(0).is_none()
+        && live.offer(1).is_none()
+}
+
+// Both do what they are offered, and nothing else.
+fn acts<L: Ledger>(live: &mut Live<L>, seats: &mut Vec<Seat<L>>) -> bool
+    requires there { length seats.old.items ≡ 2 }
+    requires order { InOrder seats.old.items }
+    ensures len { length seats.new.items ≡ length seats.old.items }
+    ensures actors { live.new.actors ≡ live.old.actors }
+    ensures order { InOrder seats.new.items }
+{
+    submits(live, seats) && refuses(live, seats) && ends(live, seats)
+}
+
+// Closes a run.
+fn closed_of<L: Ledger>(
+    alloc: Global,
+    live: Live<L>,
+    seats: Vec<Seat<L>>,
+) -> Option<Result<Closed, Torn>>
+    requires all { length seats.items ≡ L.parts }
+    requires actors { length seats.items ≡ live.actors }
+    requires order { InOrder seats.items }
+{
+    let room = Vec::with_capacity(alloc, seats.len()).ok()?;
+    Some(finish(live, workers_of(seats, &AlwaysOpen, room)))
+}
+
+// A run by hand, over whatever ledger. None where an event isn't as it should be.
+fn by_hand<L: Ledger>(alloc: Global, blank: Blank, setup: &Setup) -> Option<Closed>
+    requires name { blank.name ≡ L.name }
+    requires parts { blank.parts ≡ L.parts }
+    requires two { blank.parts ≡ 2 }
+    requires all { actors setup.now 1 ≡ 2 }
+{
+    let Ok((mut live, mut seats)) = Live::<L>::open(alloc, blank, setup, 1) else {
+        return None;
+    };
+    let acted = acts(&mut live, &mut seats);
+    match closed_of(alloc, live, seats) {
+        Some(Ok(closed)) if acted => Some(closed),
+        _ => None,
+    }
+}
+
+// The same.
+fn run_by_hand(alloc: Global, setup: &Setup) -> Option<Closed>
+    requires { actors setup.now 1 ≡ 2 }
+{
+    by_hand::<Brand>(alloc, Blank::new(2), setup)
+}
+
+fn receipt(actor: u32, moment: u32, event: Event) -> Receipt {
+    Receipt {
+        actor,
+        moment,
+        event,
+    }
+}
+
+// Whether an actor was told some receipts, each of which is redeemed.
+fn was_told(closed: &Closed, actor: u32, receipts: &[Receipt]) -> bool
+    requires { actor < closed.now.actors }
+{
+    closed.receipts(actor) == receipts
+        && receipts
+            .iter()
+            .all(|receipt| closed.redeem(receipt).is_some())
+}
+
+// What the thread and the kernel worker were told.
+fn has_receipts(closed: &Closed) -> bool
+    requires { closed.now.actors ≡ 2 }
+{
+    let step = Event::Step(0);
+    let submitted = [
+        receipt(0, 0, step),
+        receipt(0, 1, step),
+        receipt(0, 2, step),
+        receipt(0, 5, step),
+    ];
+    let ended = [
+        receipt(1, 3, Event::Issue(0)),
+        receipt(1, 4, Event::Finish(0, Choice::Full)),
+    ];
+    was_told(closed, 0, &submitted) && was_told(closed, 1, &ended)
+}
+
+// Receipts whose event or actor was altered.
+fn redeems_none(closed: &Closed) -> bool {
+    let other_event = receipt(1, 3, Event::Issue(1));
+    let other_actor = receipt(0, 3, Event::Issue(0));
+    closed.redeem(&other_event).is_none() && closed.redeem(&other_actor).is_none()
+}
+
+// Whether both actors of a setup act as they should, and are told just that.
+fn is_right(alloc: Global, setup: &Setup) -> bool {
+    if actors(setup, 1) != 2 {
+        return false;
+    }
+    match run_by_hand(alloc, setup) {
+        Some(closed) => closed.actors() == 2 && has_receipts(&closed) && redeems_none(&closed),
+        None => false,
+    }
+}
+
+#[test]
+fn actors_act_by_hand(rt: HostRuntime) {
+    let right = match read_script(rt.alloc(), ONE_NOP.as_bytes()) {
+        Ok(script) => is_right(rt.alloc(), script.setup()),
+        Err(_) => false,
+    };
+    check(&rt, right);
+}
+
+// Alters the first receipt of an actor.
+fn spoil<L: Ledger>(seats: &mut Vec<Seat<L>>, actor: usize)
+    requires there { actor < length seats.old.items }
+    requires order { InOrder seats.old.items }
+    ensures len { length seats.new.items ≡ length seats.old.items }
+    ensures order { InOrder seats.new.items }
+{
+    if !seats[actor].receipts().is_empty() {
+        seats[actor].alter(0, Event::Tick(7));
+    }
+}
+
+// The actor whose altered receipt is found as a run is closed.
+fn torn<L: Ledger>(alloc: Global, blank: Blank, setup: &Setup) -> Option<u32>
+    requires name { blank.name ≡ L.name }
+    requires parts { blank.parts ≡ L.parts }
+    requires two { blank.parts ≡ 2 }
+    requires all { actors setup.now 1 ≡ 2 }
+{
+    let Ok((mut live, mut seats)) = Live::<L>::open(alloc, blank, setup, 1) else {
+        return None;
+    };
+    let _ = does(&mut live, &mut seats, 0, Event::Step(0));
+    spoil(&mut seats, 0);
+    match closed_of(alloc, live, seats) {
+        Some(Err(Torn(actor))) => Some(actor),
+        _ => None,
+    }
+}
+
+fn torn_by_hand(alloc: Global, setup: &Setup) -> Option<u32>
+    requires { actors setup.now 1 ≡ 2 }
+{
+    torn::<Brand>(alloc, Blank::new(2), setup)
+}
+
+fn is_torn(alloc: Global, setup: &Setup) -> bool {
+    actors(setup, 1) == 2 && torn_by_hand(alloc, setup) == Some(0)
+}
+
+#[test]
+fn an_altered_receipt_is_torn(rt: HostRuntime) {
+    let torn = match read_script(rt.alloc(), ONE_NOP.as_bytes()) {
+        Ok(script) => is_torn(rt.alloc(), script.setup()),
+        Err(_) => false,
+    };
+    check(&rt, torn);
+}
