@@ -13,5 +13,5 @@ pub mod Kinds
 pub mod Schedules
 pub mod Walked
 pub mod Living
-pub mod Jobs
 pub mod Failing
+pub use Rattle.jobs.specs.Jobs

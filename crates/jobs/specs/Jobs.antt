@@ -1,7 +1,7 @@
 -- What the words ask for.
 use Rattle.std.specs.Prelude.{◌≡◌, ◌≤◌, ℕ, Option, Some, None}
-use Rattle.debug_server.specs.declared.task.Job.{Job}
-use Rattle.debug_server.specs.declared.task.Job.TheVariants.{Walk, Replay, Log, Explain, Timeline, Live, Serve, Trace, Migrate}
+use Rattle.jobs.specs.declared.task.Job.{Job}
+use Rattle.jobs.specs.declared.task.Job.TheVariants.{Walk, Replay, Log, Explain, Timeline, Live, Serve, Trace, Migrate}
 
 -- a trace is asked for under its script's name
 abbrev pub LosesScript : Job → Type 0

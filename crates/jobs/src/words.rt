@@ -1,6 +1,6 @@
 //! The program's words.
 ghost use Rattle.std.specs.Prelude.{◌↔◌, IsTrue, IfOk, IfNone};
-ghost use Rattle.debug_server.specs.Jobs.{LosesScript, IsInRange, AreInRange, AreClients};
+ghost use Rattle.jobs.specs.Jobs.{LosesScript, IsInRange, AreInRange, AreClients};
 
 use crate::task::{Form, Job};
 use clap::error::ErrorKind;

@@ -1,0 +1,8 @@
+//! What the program is asked for, by its words.
+#![tactic(auto)]
+
+mod task;
+mod words;
+
+pub use task::{Form, Job};
+pub use words::job;
