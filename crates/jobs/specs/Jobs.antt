@@ -1,13 +1,14 @@
 -- What the words ask for.
 use Rattle.std.specs.Prelude.{◌≡◌, ◌≤◌, ℕ, Option, Some, None}
 use Rattle.jobs.specs.declared.task.Job.{Job}
-use Rattle.jobs.specs.declared.task.Job.TheVariants.{Walk, Replay, Log, Explain, Timeline, Live, Serve, Trace, Migrate}
+use Rattle.jobs.specs.declared.task.Job.TheVariants.{Walk, Replay, Log, Check, Explain, Timeline, Live, Serve, Trace, Migrate}
 
 -- a trace is asked for under its script's name
 abbrev pub LosesScript : Job → Type 0
 LosesScript (Walk script) = ⊥
 LosesScript (Replay trace) = ⊥
 LosesScript (Log run from to) = ⊥
+LosesScript (Check script) = ⊥
 LosesScript (Explain run kind json) = ⊥
 LosesScript (Timeline run out from to) = ⊥
 LosesScript (Live script turns kernel None) = ⊥

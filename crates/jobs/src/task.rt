@@ -23,6 +23,8 @@ pub enum Job<'a> {
         from: u32,
         to: Option<u32>,
     },
+    /// What is wrong with the script in this file.
+    Check(&'a str),
     /// What the run of the script or trace in this file shows: its findings, or those of one kind alone.
     Explain {
         run: &'a str,

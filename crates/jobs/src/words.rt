@@ -12,6 +12,9 @@ const EXAMPLE: &str = "Example: echo where | uringwalk walk examples/one_nop.jso
 const COMMANDS: &str =
     "Commands, one a line: where, show PLACE, goto N, back N, on N, watch PLACE, break PLACE = VALUE, unwatch, cont, rcont, sync, quit. docs/USE.md tells what they do, and what faults and refusals mean.";
 
+const CHECKED: &str =
+    "A line for each fault, at most 20, as SCRIPT:LINE:COLUMN: WHERE: what stands there, and what may; of a script that is read its schedule is run, and the first event that can't happen is told so. The status is 0 where all is well, and the line ok. Example:\n  uringwalk check examples/one_nop.json";
+
 const TRACED: &str =
     "OUT is made, or takes the place of a file of its name; it can't be SCRIPT's own file. Example:\n  uringwalk trace examples/one_nop.json one_nop.trace\n  echo where | uringwalk replay one_nop.trace";
 
@@ -103,6 +106,13 @@ fn walk_words<'a>(alloc: Global) -> Result<Command<'a>, AllocError> {
     Command::new(alloc, "walk")
         .about("Run a script's schedule, and answer commands from standard input")
         .after_help(COMMANDS)
+        .arg(file(alloc, "SCRIPT", SCRIPT))
+}
+
+fn check_words<'a>(alloc: Global) -> Result<Command<'a>, AllocError> {
+    Command::new(alloc, "check")
+        .about("Tell what is wrong with a script, line by line")
+        .after_help(CHECKED)
         .arg(file(alloc, "SCRIPT", SCRIPT))
 }
 
@@ -340,6 +350,7 @@ fn job_of<'a>(name: &str, matches: &ArgMatches<'a>) -> Job<'a> {
             from: matches.get_one::<u32>("M"),
             to: matches.get_one::<u32>("N"),
         },
+        "check" => Job::Check(script),
         "replay" => Job::Replay(text_of(matches, "TRACE")),
         "live" => Job::Live {
             script,
@@ -373,6 +384,7 @@ fn loses_script(job: Job<'_>) -> bool
         Job::Walk(_)
         | Job::Replay(_)
         | Job::Log { .. }
+        | Job::Check(_)
         | Job::Explain { .. }
         | Job::Timeline { .. }
         | Job::Live { out: None, .. }
@@ -441,6 +453,7 @@ fn program<'a>(alloc: Global) -> Result<Command<'a>, AllocError> {
         .after_help(EXAMPLE)
         .subcommand_required(true);
     let command = with(command, walk_words(alloc))?;
+    let command = with(command, check_words(alloc))?;
     let command = with(command, trace_words(alloc))?;
     let command = with(command, migrate_words(alloc))?;
     let command = with(command, replay_words(alloc))?;

@@ -5,12 +5,14 @@ ghost use Rattle.std.specs.Prelude.{◌≡◌, IfOk};
 ghost use Rattle.debug_server.specs.Jobs.{IsInRange};
 ghost use Rattle.uringwalk.specs.Files.{told_as};
 
+mod checking;
 mod drawing;
 mod explaining;
 mod living;
 mod logging;
 mod serving;
 
+use checking::check_file;
 use clap::error::ErrorKind;
 use debug_server::{
     Fault, Form, Job, RunFault, ServeFault, Traced, job, migrate_trace, replay, trace_script, walk,
@@ -133,6 +135,7 @@ fn run<
         Job::Walk(script) => answer_over(rt, Over::Script, script)?,
         Job::Replay(trace) => answer_over(rt, Over::Trace, trace)?,
         Job::Log { run, from, to } => log_file(rt, run, EventRange { from, to })?,
+        Job::Check(script) => return check_file(rt, script),
         Job::Explain { run, kind, json } => return explain_file(rt, run, kind, json),
         Job::Timeline { run, out, from, to } => {
             return draw_file(rt, run, out, Window { from, to });
@@ -170,6 +173,7 @@ fn loses_script(rt: &(impl Files + AllocGlobal), job: Job<'_>) -> Result<bool, F
         Job::Walk(_)
         | Job::Replay(_)
         | Job::Log { .. }
+        | Job::Check(_)
         | Job::Explain { .. }
         | Job::Timeline { .. }
         | Job::Live { out: None, .. }
