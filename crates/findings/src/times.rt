@@ -92,10 +92,11 @@ fn note_change(
     change: Change,
     state: &State,
 ) -> Result<(), AllocError> {
-    match (change.place, state.value(change.place)) {
-        (Place::Request(number), Some(Value::Requested(row))) => {
-            note_row(times, moment, number, row.phase)
-        }
+    let Place::Request(number) = change.place else {
+        return Ok(());
+    };
+    match state.value(Place::Request(number)) {
+        Some(Value::Requested(row)) => note_row(times, moment, number, row.phase),
         _ => Ok(()),
     }
 }
