@@ -61,7 +61,8 @@ impl Kept {
 
     /// Adds the states of the next multiples, in order. Where memory is refused they are dropped.
     pub fn keep(&mut self, mut states: Vec<State>) -> Result<(), AllocError>
-        ensures ok { OnOk result (self.new ≡ record self.old { states = self.old.states ++ states.items }) }
+        ensures ok { OnOk result (self.new
+            ≡ record self.old { states = self.old.states ++ states.items }) }
         ensures none { states.items ≡ [] → IsOk result }
         ensures err { OnErr result (self.new ≡ self.old) }
     {

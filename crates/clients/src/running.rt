@@ -22,9 +22,10 @@ use std::thread;
 use std::thread::{Scope, Threads};
 use std::time::Clock;
 
-/// Runs a thread for each actor of a script's setup, each of which makes so many turns, and serves clients
-/// beside them from the start. The run is closed once so many sessions have ended; without that number it goes
-/// on. Where a thread can't be started no client is served. At a fault all threads and sessions have ended.
+/// Runs a thread for each actor of a script's setup, each of which makes so many turns, and serves
+/// clients beside them from the start. The run is closed once so many sessions have ended; without
+/// that number it goes on. Where a thread can't be started no client is served. At a fault all
+/// threads and sessions have ended.
 pub fn serve_live<R: Threads + Wait + Clock + Sync>(
     rt: &R,
     alloc: Global,
@@ -36,7 +37,8 @@ pub fn serve_live<R: Threads + Wait + Clock + Sync>(
 ) -> Result<Closed, Fault>
     requires { kernel ≤ 8 }
     ensures whole { IfOk result Whole }
-    ensures same { IfOk result (λ c. (c.setup ≡ script.now.setup) × (c.actors ≡ actors script.now.setup kernel)) }
+    ensures same { IfOk result (λ c. (c.setup ≡ script.now.setup)
+        × (c.actors ≡ actors script.now.setup kernel)) }
     ensures other { IfErr result IsOfServing }
 {
     let setup = script.setup();
@@ -123,8 +125,10 @@ fn run_beside<L: Ledger + Send + Sync, R: Threads + Wait + Clock + Sync>(
         thread::scope_env(),
         rt,
         |scope| -> (Vec<Running<L>>, Result<u32, RunFault>)
-            requires { InOrder seats.items × (vec_len handles ≡ 0) × (vec_len seats ≤ vec_capacity handles) }
-            ensures { HandlesInOrder result.0.items × IfErr result.1 (IsOf (OfMemory ∷ OfListening ∷ [])) }
+            requires { InOrder seats.items × (vec_len handles ≡ 0)
+                × (vec_len seats ≤ vec_capacity handles) }
+            ensures { HandlesInOrder result.0.items
+                × IfErr result.1 (IsOf (OfMemory ∷ OfListening ∷ [])) }
         {
             start_beside(
                 scope, rt, alloc, script, listener, lock, seats, turns, sessions, handles,

@@ -20,11 +20,12 @@ use std::thread::{Scope, Threads};
 /// How many clients are served at once.
 const MOST_CLIENTS: usize = 16;
 
-/// Serves each client that connects in a thread of its own, over a session of its own whose source is the run
-/// under the lock, at most 16 at once; more wait until one ends. Ends after so many sessions with their number,
-/// or goes on. A session ends by its client's end of input or `quit`, by a fault of reading or writing, or by
-/// want of memory or of a thread for it: that ends no other, and counts. Where no client can be accepted, those
-/// who are served are served to their end first.
+/// Serves each client that connects in a thread of its own, over a session of its own whose source
+/// is the run under the lock, at most 16 at once; more wait until one ends. Ends after so many
+/// sessions with their number, or goes on. A session ends by its client's end of input or `quit`,
+/// by a fault of reading or writing, or by want of memory or of a thread for it: that ends no
+/// other, and counts. Where no client can be accepted, those who are served are served to their end
+/// first.
 pub fn serve_clients<L: Ledger + Send + Sync, R: Threads + Wait + Sync>(
     rt: &R,
     alloc: Global,
@@ -88,7 +89,8 @@ fn accept_all<'s, E, L: Ledger + Send + Sync + 's, R: Wait + Sync + 's>(
     unreachable!()
 }
 
-// Starts a client's thread. Where none can be started its session has ended, and its permit is put back.
+// Starts a client's thread. Where none can be started its session has ended, and its permit is put
+// back.
 fn start<'s, E, L: Ledger + Send + Sync + 's, R: Wait + Sync + 's>(
     scope: &Scope<'s, E>,
     rt: &'s R,

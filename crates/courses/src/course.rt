@@ -42,8 +42,10 @@ impl Course {
     pub fn note(&mut self, past: &Record, state: &State, moment: u32) -> Result<(), AllocError>
         requires rows { length self.old.stamps.items ≤ length state.now.table }
         requires kept { self.old.overflowed ≤ length state.now.backlog.items }
-        ensures fillings { OnOk result (self.new.fillings.items ≡ self.old.fillings.items ++ filling_at state.now ∷ []) }
-        ensures stamps { OnOk result (self.new.stamps.items ≡ stamps_behind state.now.table moment past.now self.old.stamps.items) }
+        ensures fillings { OnOk result (self.new.fillings.items ≡ self.old.fillings.items
+            ++ filling_at state.now ∷ []) }
+        ensures stamps { OnOk result (self.new.stamps.items
+            ≡ stamps_behind state.now.table moment past.now self.old.stamps.items) }
         ensures overflowed { OnOk result (self.new.overflowed ≡ length state.now.backlog.items) }
     {
         self.overflowed = count_overflowed(state, self.overflowed);

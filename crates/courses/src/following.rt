@@ -27,8 +27,8 @@ pub struct Followed {
     pub standing: Standing,
 }
 
-/// Why a run isn't followed to its end: the event at this index is refused, and why; want of memory among the
-/// reasons.
+/// Why a run isn't followed to its end: the event at this index is refused, and why; want of memory
+/// among the reasons.
 #[derive(Clone, Copy, Debug, PartialEq, Eq)]
 pub struct Stop {
     pub index: u32,
@@ -45,7 +45,8 @@ fn out_of_memory(index: u32) -> Stop
     }
 }
 
-// Does an event, and notes what it comes to, and before it what the threads do, if that is asked for.
+// Does an event, and notes what it comes to, and before it what the threads do, if that is asked
+// for.
 fn follow_event(
     state: &mut State,
     index: usize,
@@ -59,8 +60,12 @@ fn follow_event(
     requires kept { course.old.overflowed ≡ length state.old.backlog.items }
     ensures next { OnOk result (Next state.old event state.new) }
     ensures grows { OnOk result (length state.old.table ≤ length state.new.table) }
-    ensures fillings { OnOk result (course.new.fillings.items ≡ course.old.fillings.items ++ filling_of state.new ∷ []) }
-    ensures stamps { OnOk result ((past : List Change) × Exact (view state.old) (view state.new) past × (course.new.stamps.items ≡ stamps_behind state.new.table (index + 1) past course.old.stamps.items)) }
+    ensures fillings { OnOk result (course.new.fillings.items ≡ course.old.fillings.items
+        ++ filling_of state.new ∷ []) }
+    ensures stamps { OnOk result ((past : List Change)
+        × Exact (view state.old) (view state.new) past
+        × (course.new.stamps.items
+        ≡ stamps_behind state.new.table (index + 1) past course.old.stamps.items)) }
     ensures overflowed { OnOk result (course.new.overflowed ≡ length state.new.backlog.items) }
     ensures err { IfErr result (Halts index state.old event) }
 {

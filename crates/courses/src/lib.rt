@@ -1,4 +1,5 @@
-//! What a run comes to: how full it is at each moment, and when its rows were queued, issued and ended.
+//! What a run comes to: how full it is at each moment, and when its rows were queued, issued and
+//! ended.
 #![tactic(auto)]
 
 mod course;

@@ -56,7 +56,8 @@ pub(crate) fn add_rows(
 ) -> Result<(), AllocError>
     requires rows { length stamps.old.items ≤ length state.now.table }
     requires formed { WellFormed state.now }
-    ensures ok { OnOk result (stamps.new.items ≡ stamps.old.items ++ replicate (length state.now.table - length stamps.old.items) (new_stamps moment)) }
+    ensures ok { OnOk result (stamps.new.items ≡ stamps.old.items
+        ++ replicate (length state.now.table - length stamps.old.items) (new_stamps moment)) }
 {
     for row in stamps.len()..MOST_ROWS {
         if state.value(Place::Request(row as u32)).is_none() {

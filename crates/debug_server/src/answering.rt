@@ -46,8 +46,10 @@ fn text_of(
     command: Result<Command, CommandFault>,
     answer: Option<&[Event]>,
 ) -> Result<Vec<u8>, AllocError>
-    ensures text { IfOk result (λ text. text.items ≡ (reply_to visitor.old command (option_map (λ es. es.now) answer.entry)).text) }
-    ensures next { OnOk result (visitor.new ≡ (reply_to visitor.old command (option_map (λ es. es.now) answer.entry)).next) }
+    ensures text { IfOk result (λ text. text.items
+        ≡ (reply_to visitor.old command (option_map (λ es. es.now) answer.entry)).text) }
+    ensures next { OnOk result (visitor.new
+        ≡ (reply_to visitor.old command (option_map (λ es. es.now) answer.entry)).next) }
     ensures err { OnErr result (visitor.new ≡ visitor.old) }
 {
     let (at, len) = (visitor.walker.at(), visitor.walker.len());
@@ -82,9 +84,12 @@ pub(crate) fn reply_to_line(
     line: &[u8],
     answer: Option<&[Event]>,
 ) -> Result<(Vec<u8>, bool), AllocError>
-    ensures text { IfOk result (λ r. r.0.items ≡ (reply visitor.old line.now (option_map (λ es. es.now) answer.entry)).text) }
-    ensures next { OnOk result (visitor.new ≡ (reply visitor.old line.now (option_map (λ es. es.now) answer.entry)).next) }
-    ensures quits { IfOk result (λ r. r.1 ≡ (reply visitor.old line.now (option_map (λ es. es.now) answer.entry)).quits) }
+    ensures text { IfOk result (λ r. r.0.items
+        ≡ (reply visitor.old line.now (option_map (λ es. es.now) answer.entry)).text) }
+    ensures next { OnOk result (visitor.new
+        ≡ (reply visitor.old line.now (option_map (λ es. es.now) answer.entry)).next) }
+    ensures quits { IfOk result (λ r. r.1
+        ≡ (reply visitor.old line.now (option_map (λ es. es.now) answer.entry)).quits) }
     ensures err { OnErr result (visitor.new ≡ visitor.old) }
     ensures runs { Runs visitor.old.walk }
 {

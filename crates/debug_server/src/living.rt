@@ -26,8 +26,8 @@ use std::thread::Threads;
 use std::time::Clock;
 use traces::write_trace2;
 
-/// Reads a script, and runs a thread for each actor of its setup, each of which makes so many turns. The
-/// schedule isn't run.
+/// Reads a script, and runs a thread for each actor of its setup, each of which makes so many
+/// turns. The schedule isn't run.
 pub fn live_script<R: Threads + Wait + Clock + Sync>(
     rt: &R,
     alloc: Global,
@@ -36,9 +36,13 @@ pub fn live_script<R: Threads + Wait + Clock + Sync>(
     kernel: u32,
 ) -> Result<Closed, Fault>
     requires { kernel ≤ 8 }
-    // The run is whole: its events run from the setup of the script to its state, and it is that setup's.
-    ensures ok { IfOk result (λ c. Whole c × ((p : Scenario) × Reads text.now (Ok p) × (c.setup ≡ p.setup) × (c.actors ≡ actors p.setup kernel))) }
-    ensures script { IfErr result (λ e. (f : ScriptFault) → e ≡ Fault.Run (RunFault.Script f) → Reads text.now (Err f)) }
+    // The run is whole: its events run from the setup of the script to its state, and it is that
+    // setup's.
+    ensures ok { IfOk result (λ c. Whole c
+        × ((p : Scenario) × Reads text.now (Ok p) × (c.setup ≡ p.setup)
+        × (c.actors ≡ actors p.setup kernel))) }
+    ensures script { IfErr result (λ e. (f : ScriptFault) → e ≡ Fault.Run (RunFault.Script f)
+        → Reads text.now (Err f)) }
     ensures other { IfErr result IsOfLive }
 {
     let script = match script_of(alloc, text) {
@@ -61,7 +65,8 @@ fn run_setup<R: Threads + Wait + Clock + Sync>(
 ) -> Result<Closed, LiveFault>
     requires { kernel ≤ 8 }
     ensures whole { IfOk result Whole }
-    ensures same { IfOk result (λ c. (c.setup ≡ script.now.setup) × (c.actors ≡ actors script.now.setup kernel)) }
+    ensures same { IfOk result (λ c. (c.setup ≡ script.now.setup)
+        × (c.actors ≡ actors script.now.setup kernel)) }
     ensures other { IfErr result IsOfRunning }
 {
     run_live(rt, alloc, script.setup(), kernel, turns, &AlwaysOpen)
@@ -76,11 +81,15 @@ pub fn answer_closed<R: Read, W: Write>(
 ) -> Result<(), RunFault>
     // What is written is the output of the session of the run's setup and events, without a source.
     ensures ok { OnOk result (Walked closed.now.setup closed.now.events
-        (streams (R.remaining reader.old) (W.contents writer.old)) (streams (R.remaining reader.new) (W.contents writer.new))) }
-    ensures memory { IfErr result (λ e. e ≡ RunFault.Memory → Keeps (W.contents writer.old) (W.contents writer.new)) }
+        (streams (R.remaining reader.old) (W.contents writer.old))
+        (streams (R.remaining reader.new) (W.contents writer.new))) }
+    ensures memory { IfErr result (λ e. e ≡ RunFault.Memory
+        → Keeps (W.contents writer.old) (W.contents writer.new)) }
     // At a fault of serving a beginning of that output was written.
-    ensures begins { IfErr result (λ e. (f : ServeFault) → e ≡ RunFault.Serve f → BrokenOff closed.now.setup closed.now.events
-        (streams (R.remaining reader.old) (W.contents writer.old)) (streams (R.remaining reader.new) (W.contents writer.new)) f) }
+    ensures begins { IfErr result (λ e. (f : ServeFault) → e ≡ RunFault.Serve f
+        → BrokenOff closed.now.setup closed.now.events
+        (streams (R.remaining reader.old) (W.contents writer.old))
+        (streams (R.remaining reader.new) (W.contents writer.new)) f) }
     ensures open { result ≢ Err (RunFault.Serve WasClosed) }
     // No event is refused.
     ensures other { IfErr result (IsOf (OfServing ∷ OfMemory ∷ [])) }
@@ -90,7 +99,9 @@ pub fn answer_closed<R: Read, W: Write>(
 
 /// The trace of a run that was closed, in the second form.
 pub fn trace_closed(alloc: Global, closed: &Closed) -> Result<Traced, AllocError>
-    ensures { IfOk result (λ t. IsTrace2 (canonical closed.now.setup) closed.now.events t.bytes.items × (t.events ≡ length closed.now.events)) }
+    ensures { IfOk result
+        (λ t. IsTrace2 (canonical closed.now.setup) closed.now.events t.bytes.items
+        × (t.events ≡ length closed.now.events)) }
 {
     let events = closed.events();
     Ok(Traced {

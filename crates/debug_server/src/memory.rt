@@ -16,11 +16,16 @@ use std::alloc::Global;
 
 /// What the session of a script replies to its input.
 pub fn replies(alloc: Global, script: &[u8], input: &[u8]) -> Result<Vec<u8>, RunFault>
-    // The schedule runs, and these are just the replies to the input's lines, up to one that quits, without a source.
-    ensures ok { IfOk result (λ out. (p : Scenario) × Reads script.now (Ok p) × Accepts (start p.setup) p.schedule
-        × (out.items ≡ output (state_over p.setup p.schedule) (lines_of input.now) (unanswered (lines_of input.now)))) }
+    // The schedule runs, and these are just the replies to the input's lines, up to one that quits,
+    // without a source.
+    ensures ok { IfOk result (λ out. (p : Scenario) × Reads script.now (Ok p)
+        × Accepts (start p.setup) p.schedule
+        × (out.items
+        ≡ output (state_over p.setup p.schedule) (lines_of input.now)
+        (unanswered (lines_of input.now)))) }
     // A fault of the script is its first one, a fault of the schedule its first refused event.
-    ensures script { IfErr result (λ e. (f : ScriptFault) → e ≡ RunFault.Script f → Reads script.now (Err f)) }
+    ensures script { IfErr result (λ e. (f : ScriptFault) → e ≡ RunFault.Script f
+        → Reads script.now (Err f)) }
     ensures schedule { IfErr result (λ e. (i : ℕ) → (n : Refusal) → e ≡ RunFault.Schedule i n
         → (p : Scenario) × Reads script.now (Ok p) × IsRefused p.setup p.schedule i n) }
     ensures other { IfErr result (IsOf (OfScript ∷ OfSchedule ∷ OfServing ∷ OfMemory ∷ [])) }

@@ -20,25 +20,34 @@ use std::alloc::Global;
 use std::io::{Read, Write};
 use traces::{TraceFault, read_trace2};
 
-/// Reads a trace of the second form, runs its events from its setup, and replies to the lines that the
-/// reader gives.
+/// Reads a trace of the second form, runs its events from its setup, and replies to the lines that
+/// the reader gives.
 pub fn replay<R: Read, W: Write>(
     alloc: Global,
     trace: &[u8],
     reader: &mut R,
     writer: &mut W,
 ) -> Result<(), RunFault>
-    // The events run, and what is written is the output of the session of the trace's setup and events, without a source.
-    ensures ok { OnOk result ((setup : Setup) × (events : List Event) × IsTrace2 setup events trace.now × Walked setup events
-        (streams (R.remaining reader.old) (W.contents writer.old)) (streams (R.remaining reader.new) (W.contents writer.new))) }
-    // A fault of the trace is its first one, a fault of its events the first refused one. Nothing was written then.
-    ensures trace { IfErr result (λ e. (f : TraceFault) → e ≡ RunFault.Trace f → IsFault2 trace.now f × Keeps (W.contents writer.old) (W.contents writer.new)) }
+    // The events run, and what is written is the output of the session of the trace's setup and
+    // events, without a source.
+    ensures ok { OnOk result ((setup : Setup) × (events : List Event)
+        × IsTrace2 setup events trace.now × Walked setup events
+        (streams (R.remaining reader.old) (W.contents writer.old))
+        (streams (R.remaining reader.new) (W.contents writer.new))) }
+    // A fault of the trace is its first one, a fault of its events the first refused one. Nothing
+    // was written then.
+    ensures trace { IfErr result (λ e. (f : TraceFault) → e ≡ RunFault.Trace f
+        → IsFault2 trace.now f × Keeps (W.contents writer.old) (W.contents writer.new)) }
     ensures schedule { IfErr result (λ e. (i : ℕ) → (n : Refusal) → e ≡ RunFault.Schedule i n
-        → (setup : Setup) × (events : List Event) × IsTrace2 setup events trace.now × IsRefused setup events i n × Keeps (W.contents writer.old) (W.contents writer.new)) }
-    ensures memory { IfErr result (λ e. e ≡ RunFault.Memory → Keeps (W.contents writer.old) (W.contents writer.new)) }
+        → (setup : Setup) × (events : List Event) × IsTrace2 setup events trace.now
+        × IsRefused setup events i n × Keeps (W.contents writer.old) (W.contents writer.new)) }
+    ensures memory { IfErr result (λ e. e ≡ RunFault.Memory
+        → Keeps (W.contents writer.old) (W.contents writer.new)) }
     // At a fault of serving a beginning of that output was written.
-    ensures begins { IfErr result (λ e. (f : ServeFault) → e ≡ RunFault.Serve f → (setup : Setup) × (events : List Event) × IsTrace2 setup events trace.now × BrokenOff setup events
-        (streams (R.remaining reader.old) (W.contents writer.old)) (streams (R.remaining reader.new) (W.contents writer.new)) f) }
+    ensures begins { IfErr result (λ e. (f : ServeFault) → e ≡ RunFault.Serve f → (setup : Setup)
+        × (events : List Event) × IsTrace2 setup events trace.now × BrokenOff setup events
+        (streams (R.remaining reader.old) (W.contents writer.old))
+        (streams (R.remaining reader.new) (W.contents writer.new)) f) }
     ensures open { result ≢ Err (RunFault.Serve Closed) }
     ensures other { IfErr result (IsOf (OfTrace ∷ OfSchedule ∷ OfServing ∷ OfMemory ∷ [])) }
 {

@@ -25,7 +25,8 @@ pub(crate) fn fault_by(index: u32, refusal: Refusal) -> RunFault
 /// Runs the schedule of a script.
 pub(crate) fn run_schedule(alloc: Global, script: &Script) -> Result<(), RunFault>
     ensures accepts { OnOk result (Accepts (start script.now.setup) script.now.schedule) }
-    ensures schedule { IfErr result (λ e. (i : ℕ) → (n : Refusal) → e ≡ RunFault.Schedule i n → IsRefused script.now.setup script.now.schedule i n) }
+    ensures schedule { IfErr result (λ e. (i : ℕ) → (n : Refusal) → e ≡ RunFault.Schedule i n
+        → IsRefused script.now.setup script.now.schedule i n) }
     ensures other { IfErr result (IsOf (OfSchedule ∷ OfMemory ∷ [])) }
 {
     run_from(alloc, script.setup(), script.schedule())
@@ -49,7 +50,8 @@ fn step_all(state: &mut State, events: &[Event]) -> Result<(), RunFault>
     requires most { length events.now ≤ 1048576 }
     ensures accepts { OnOk result (Accepts state.old events.now) }
     ensures none { events.now ≡ [] → IsOk result }
-    ensures stops { IfErr result (λ e. (setup : Setup) → state.old ≡ start setup → StopsBy setup events.now e) }
+    ensures stops { IfErr result (λ e. (setup : Setup) → state.old ≡ start setup
+        → StopsBy setup events.now e) }
 {
     for i in 0..events.len() {
         if let Err(refusal) = state.step(events[i]) {

@@ -11,7 +11,8 @@ use std::alloc::Global;
 /// Reads a script. Want of memory is told as a run's.
 pub fn script_of(alloc: Global, text: &[u8]) -> Result<Script, RunFault>
     ensures ok { IfOk result (λ s. Reads text.now (Ok s)) }
-    ensures script { IfErr result (λ e. (f : ScriptFault) → e ≡ RunFault.Script f → Reads text.now (Err f)) }
+    ensures script { IfErr result (λ e. (f : ScriptFault) → e ≡ RunFault.Script f
+        → Reads text.now (Err f)) }
     ensures other { IfErr result (IsOf (OfScript ∷ OfMemory ∷ [])) }
 {
     match read_script(alloc, text) {

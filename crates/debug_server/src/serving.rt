@@ -20,7 +20,8 @@ use std::io::{Read, Write};
 // Writes all of the bytes, and flushes them.
 fn write_out<W: Write>(writer: &mut W, bytes: &[u8]) -> Result<(), ServeFault>
     ensures ok { OnOk result (Appends (W.contents writer.old) (W.contents writer.new) bytes.now) }
-    ensures err { OnErr result (WritesFront (W.contents writer.old) (W.contents writer.new) bytes.now) }
+    ensures err { OnErr result
+        (WritesFront (W.contents writer.old) (W.contents writer.new) bytes.now) }
     ensures fault { IfErr result (λ fault. fault ≡ ServeFault.Write) }
 {
     match whole_files::write_out(writer, bytes) {
@@ -31,8 +32,10 @@ fn write_out<W: Write>(writer: &mut W, bytes: &[u8]) -> Result<(), ServeFault>
 
 // What the source has, for a line that asks it.
 fn ask<S: Source>(source: &mut S, line: &[u8]) -> Result<Option<Vec<Event>>, ServeFault>
-    ensures ok { IfOk result (λ answer. Gave S.gives line.now source.old (option_map (λ v. v.items) answer) source.new) }
-    ensures err { IfErr result (λ fault. (fault ≡ ServeFault.Memory) × (asks line.now ≡ true) × S.fails source.old source.new) }
+    ensures ok { IfOk result
+        (λ answer. Gave S.gives line.now source.old (option_map (λ v. v.items) answer) source.new) }
+    ensures err { IfErr result (λ fault. (fault ≡ ServeFault.Memory) × (asks line.now ≡ true)
+        × S.fails source.old source.new) }
     ensures fault { IfErr result IsOfReplying }
 {
     if line != b"sync".as_slice() {
@@ -61,10 +64,16 @@ fn answer_line<W: Write>(
     answer: Option<&[Event]>,
     writer: &mut W,
 ) -> Result<bool, ServeFault>
-    ensures written { OnOk result (Appends (W.contents writer.old) (W.contents writer.new) (reply visitor.old line.now (option_map (λ es. es.now) answer.entry)).text) }
-    ensures next { OnOk result (visitor.new ≡ (reply visitor.old line.now (option_map (λ es. es.now) answer.entry)).next) }
-    ensures quits { IfOk result (λ q. q ≡ (reply visitor.old line.now (option_map (λ es. es.now) answer.entry)).quits) }
-    ensures err { OnErr result (WritesFront (W.contents writer.old) (W.contents writer.new) (reply visitor.old line.now (option_map (λ es. es.now) answer.entry)).text) }
+    ensures written { OnOk result
+        (Appends (W.contents writer.old) (W.contents writer.new)
+        (reply visitor.old line.now (option_map (λ es. es.now) answer.entry)).text) }
+    ensures next { OnOk result (visitor.new
+        ≡ (reply visitor.old line.now (option_map (λ es. es.now) answer.entry)).next) }
+    ensures quits { IfOk result (λ q. q
+        ≡ (reply visitor.old line.now (option_map (λ es. es.now) answer.entry)).quits) }
+    ensures err { OnErr result
+        (WritesFront (W.contents writer.old) (W.contents writer.new)
+        (reply visitor.old line.now (option_map (λ es. es.now) answer.entry)).text) }
     ensures fault { IfErr result IsOfReplying }
 {
     let Ok((text, quits)) = reply_to_line(alloc, visitor, line, answer) else {
@@ -83,8 +92,12 @@ fn take_byte<W: Write, S: Source>(
     writer: &mut W,
     source: &mut S,
 ) -> Result<bool, ServeFault>
-    ensures ok { IfOk result (λ q. FillsBy S.gives source.old source.new visitor.old (line.old ++ byte ∷ []) (W.contents writer.old) (W.contents writer.new) q visitor.new line.new) }
-    ensures err { IfErr result (λ fault. BreaksBy S.gives S.fails source.old source.new fault visitor.old (line.old ++ byte ∷ []) (W.contents writer.old) (W.contents writer.new)) }
+    ensures ok { IfOk result
+        (λ q. FillsBy S.gives source.old source.new visitor.old (line.old ++ byte ∷ [])
+        (W.contents writer.old) (W.contents writer.new) q visitor.new line.new) }
+    ensures err { IfErr result
+        (λ fault. BreaksBy S.gives S.fails source.old source.new fault visitor.old (line.old ++ byte
+        ∷ []) (W.contents writer.old) (W.contents writer.new)) }
     ensures fault { IfErr result IsOfReplying }
 {
     if byte != b'\n' {
@@ -107,8 +120,12 @@ fn feed<W: Write, S: Source>(
     writer: &mut W,
     source: &mut S,
 ) -> Result<bool, ServeFault>
-    ensures ok { IfOk result (λ q. FillsBy S.gives source.old source.new visitor.old (line.old ++ bytes.now) (W.contents writer.old) (W.contents writer.new) q visitor.new line.new) }
-    ensures err { IfErr result (λ fault. BreaksBy S.gives S.fails source.old source.new fault visitor.old (line.old ++ bytes.now) (W.contents writer.old) (W.contents writer.new)) }
+    ensures ok { IfOk result
+        (λ q. FillsBy S.gives source.old source.new visitor.old (line.old ++ bytes.now)
+        (W.contents writer.old) (W.contents writer.new) q visitor.new line.new) }
+    ensures err { IfErr result
+        (λ fault. BreaksBy S.gives S.fails source.old source.new fault visitor.old (line.old
+        ++ bytes.now) (W.contents writer.old) (W.contents writer.new)) }
     ensures fault { IfErr result IsOfReplying }
 {
     for byte in bytes {
@@ -128,8 +145,12 @@ fn finish<W: Write, S: Source>(
     source: &mut S,
 ) -> Result<bool, ServeFault>
     requires { IsPending line.now }
-    ensures ok { IfOk result (λ q. EndsBy S.gives source.old source.new visitor.old line.now (W.contents writer.old) (W.contents writer.new) q visitor.new) }
-    ensures err { IfErr result (λ fault. FrontBy S.gives S.fails source.old source.new fault visitor.old line.now (W.contents writer.old) (W.contents writer.new)) }
+    ensures ok { IfOk result
+        (λ q. EndsBy S.gives source.old source.new visitor.old line.now (W.contents writer.old)
+        (W.contents writer.new) q visitor.new) }
+    ensures err { IfErr result
+        (λ fault. FrontBy S.gives S.fails source.old source.new fault visitor.old line.now
+        (W.contents writer.old) (W.contents writer.new)) }
     ensures fault { IfErr result IsOfReplying }
 {
     if line.len() == 0 {
@@ -148,11 +169,14 @@ fn converse<R: Read, W: Write, S: Source>(
     writer: &mut W,
     source: &mut S,
 ) -> Result<bool, ServeFault>
-    ensures ok { IfOk result (λ q. (answers : List Answer) × Asked S.gives source.old answers source.new
+    ensures ok { IfOk result (λ q. (answers : List Answer)
+        × Asked S.gives source.old answers source.new
         × Served visitor.old (streams (R.remaining reader.old) (W.contents writer.old))
         (streams (R.remaining reader.new) (W.contents writer.new)) answers visitor.new q) }
-    ensures err { IfErr result (λ fault. BrokeBy S.gives S.fails source.old source.new fault visitor.old
-        (streams (R.remaining reader.old) (W.contents writer.old)) (streams (R.remaining reader.new) (W.contents writer.new))) }
+    ensures err { IfErr result
+        (λ fault. BrokeBy S.gives S.fails source.old source.new fault visitor.old
+        (streams (R.remaining reader.old) (W.contents writer.old))
+        (streams (R.remaining reader.new) (W.contents writer.new))) }
     ensures open { result ≢ Err ServeFault.Closed }
 {
     let mut line = Line::new();
@@ -183,22 +207,28 @@ pub fn serve<R: Read, W: Write, S: Source>(
     writer: &mut W,
     source: &mut S,
 ) -> Result<(), ServeFault>
-    // It is refused as closed exactly where it was closed, and then nothing is read, written or asked.
+    // It is refused as closed exactly where it was closed, and then nothing is read, written or
+    // asked.
     ensures closed { IsErrOf result ServeFault.Closed ↔ IsTrue session.old.is_closed }
     ensures untouched { session.old.is_closed ≡ true → (session.new ≡ session.old)
-        × Keeps (R.remaining reader.old) (R.remaining reader.new) × Keeps (W.contents writer.old) (W.contents writer.new) }
+        × Keeps (R.remaining reader.old) (R.remaining reader.new)
+        × Keeps (W.contents writer.old) (W.contents writer.new) }
     ensures unasked { session.old.is_closed ≡ true → source.new ≡ source.old }
 
     // What is written is the output of what was read, to the end or past a line that quits.
     ensures ok { OnOk result ((answers : List Answer) × Asked S.gives source.old answers source.new
         × Served session.old.state (streams (R.remaining reader.old) (W.contents writer.old))
-        (streams (R.remaining reader.new) (W.contents writer.new)) answers session.new.state session.new.is_closed) }
+        (streams (R.remaining reader.new)
+        (W.contents writer.new)) answers session.new.state session.new.is_closed) }
 
-    // At an error it is a beginning of that, and the source was asked for just what was answered, and once
-    // more for a line that got no answer for want of memory.
+    // At an error it is a beginning of that, and the source was asked for just what was answered,
+    // and once more for a line that got no answer for want of memory.
     ensures err { OnErr result (session.new.is_closed ≡ true) }
-    ensures begins { session.old.is_closed ≡ false → IfErr result (λ fault. BrokeBy S.gives S.fails source.old source.new fault session.old.state
-        (streams (R.remaining reader.old) (W.contents writer.old)) (streams (R.remaining reader.new) (W.contents writer.new))) }
+    ensures begins { session.old.is_closed ≡ false
+        → IfErr result
+        (λ fault. BrokeBy S.gives S.fails source.old source.new fault session.old.state
+        (streams (R.remaining reader.old) (W.contents writer.old))
+        (streams (R.remaining reader.new) (W.contents writer.new))) }
 
     // The session's events run from the setup's start, and the position is one of theirs.
     ensures ran { Runs session.old.state.walk }

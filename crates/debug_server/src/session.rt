@@ -28,7 +28,8 @@ pub struct Session {
     pub(crate) is_closed: bool,
 }
 
-// By hand, so that letting a session go is one step of a proof: a derived drop is a step for each of its parts.
+// By hand, so that letting a session go is one step of a proof: a derived drop is a step for each
+// of its parts.
 impl Drop for Session {
     fn drop(self) {
         let Session {
@@ -50,9 +51,11 @@ impl Model for Session {
 impl Session {
     /// Runs the schedule of a script, and stands at its end. A new session is open.
     pub fn new(alloc: Global, script: &Script) -> Result<Session, RunFault>
-        ensures ok { IfOk result (λ s. s ≡ record { state = state_over script.now.setup script.now.schedule; is_closed = false }) }
+        ensures ok { IfOk result (λ s. s
+            ≡ record { state = state_over script.now.setup script.now.schedule; is_closed = false }) }
         ensures accepts { OnOk result (Accepts (start script.now.setup) script.now.schedule) }
-        ensures schedule { IfErr result (λ e. (i : ℕ) → (n : Refusal) → e ≡ RunFault.Schedule i n → IsRefused script.now.setup script.now.schedule i n) }
+        ensures schedule { IfErr result (λ e. (i : ℕ) → (n : Refusal) → e ≡ RunFault.Schedule i n
+            → IsRefused script.now.setup script.now.schedule i n) }
         ensures other { IfErr result (IsOf (OfSchedule ∷ OfMemory ∷ [])) }
     {
         session_of(alloc, script.setup(), script.schedule())
@@ -62,18 +65,21 @@ impl Session {
     pub fn of(alloc: Global, setup: &Setup, events: &[Event]) -> Result<Session, RunFault>
         requires starts { setup_refusal setup.now ≡ None }
         requires most { length events.now ≤ 1048576 }
-        ensures ok { IfOk result (λ s. s ≡ record { state = state_over setup.now events.now; is_closed = false }) }
+        ensures ok { IfOk result (λ s. s
+            ≡ record { state = state_over setup.now events.now; is_closed = false }) }
         ensures accepts { OnOk result (Accepts (start setup.now) events.now) }
-        ensures schedule { IfErr result (λ e. (i : ℕ) → (n : Refusal) → e ≡ RunFault.Schedule i n → IsRefused setup.now events.now i n) }
+        ensures schedule { IfErr result (λ e. (i : ℕ) → (n : Refusal) → e ≡ RunFault.Schedule i n
+            → IsRefused setup.now events.now i n) }
         ensures other { IfErr result (IsOf (OfSchedule ∷ OfMemory ∷ [])) }
     {
         session_of(alloc, setup, events)
     }
 
-    /// A session over a script's setup that has no events and runs none: a source may give it some. A new
-    /// session is open.
+    /// A session over a script's setup that has no events and runs none: a source may give it some.
+    /// A new session is open.
     pub fn live(alloc: Global, script: &Script) -> Result<Session, RunFault>
-        ensures ok { IfOk result (λ s. s ≡ record { state = without_stops (fresh script.now.setup); is_closed = false }) }
+        ensures ok { IfOk result (λ s. s
+            ≡ record { state = without_stops (fresh script.now.setup); is_closed = false }) }
         ensures err { IfErr result (λ e. e ≡ RunFault.Memory) }
     {
         match Walker::new(alloc, script.setup()) {
@@ -82,11 +88,18 @@ impl Session {
         }
     }
 
-    /// Replies to one line. An `Err` changes nothing. The answer, what a source gave, counts for the
-    /// commands that ask it. Whether the session is closed is neither asked nor changed.
+    /// Replies to one line. An `Err` changes nothing. The answer, what a source gave, counts for
+    /// the commands that ask it. Whether the session is closed is neither asked nor changed.
     pub fn line(&mut self, line: &[u8], answer: Option<&[Event]>) -> Result<Vec<u8>, AllocError>
-        ensures text { IfOk result (λ text. text.items ≡ (reply self.old.state line.now (option_map (λ es. es.now) answer.entry)).text) }
-        ensures next { OnOk result (self.new ≡ record { state = (reply self.old.state line.now (option_map (λ es. es.now) answer.entry)).next; is_closed = self.old.is_closed }) }
+        ensures text { IfOk result (λ text. text.items
+            ≡ (reply self.old.state line.now (option_map (λ es. es.now) answer.entry)).text) }
+        ensures next { OnOk result (self.new
+            ≡ record {
+              state =
+                  (reply self.old.state line.now
+                  (option_map (λ es. es.now) answer.entry)).next;
+              is_closed = self.old.is_closed;
+            }) }
         ensures err { OnErr result (self.new ≡ self.old) }
         // The events run from the setup's start, and the position is one of theirs.
         ensures ran { Runs self.old.state.walk }
@@ -112,9 +125,11 @@ fn fault_of(refusal: ExtendRefusal) -> RunFault
 fn session_of(alloc: Global, setup: &Setup, events: &[Event]) -> Result<Session, RunFault>
     requires starts { setup_refusal setup.now ≡ None }
     requires most { length events.now ≤ 1048576 }
-    ensures ok { IfOk result (λ s. s ≡ record { state = state_over setup.now events.now; is_closed = false }) }
+    ensures ok { IfOk result (λ s. s
+        ≡ record { state = state_over setup.now events.now; is_closed = false }) }
     ensures accepts { OnOk result (Accepts (start setup.now) events.now) }
-    ensures schedule { IfErr result (λ e. (i : ℕ) → (n : Refusal) → e ≡ RunFault.Schedule i n → IsRefused setup.now events.now i n) }
+    ensures schedule { IfErr result (λ e. (i : ℕ) → (n : Refusal) → e ≡ RunFault.Schedule i n
+        → IsRefused setup.now events.now i n) }
     ensures other { IfErr result (IsOf (OfSchedule ∷ OfMemory ∷ [])) }
 {
     let Ok(mut walker) = Walker::new(alloc, setup) else {
@@ -143,9 +158,11 @@ fn over_walk(alloc: Global, walker: Walker) -> Session
 // Adds some events at the end of a walk, and stays there.
 fn run_through(walker: &mut Walker, events: &[Event]) -> Result<(), RunFault>
     requires { walker.old.at ≡ length walker.old.events }
-    ensures ok { OnOk result (walker.new ≡ moved (extended walker.old events.now) (length walker.old.events + length events.now)) }
+    ensures ok { OnOk result (walker.new
+        ≡ moved (extended walker.old events.now) (length walker.old.events + length events.now)) }
     ensures accepts { OnOk result (Accepts (ending walker.old) events.now) }
-    ensures stops { IfErr result (λ e. (setup : Setup) → walker.old ≡ fresh setup → StopsBy setup events.now e) }
+    ensures stops { IfErr result (λ e. (setup : Setup) → walker.old ≡ fresh setup
+        → StopsBy setup events.now e) }
 {
     match walker.run_on(events) {
         Ok(()) => Ok(()),

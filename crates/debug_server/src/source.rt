@@ -15,7 +15,8 @@ pub trait Source {
 
     /// The trace so far, or none where there is no live run.
     fn trace(&mut self) -> Result<Option<Vec<Event>>, AllocError>
-        ensures told { IfOk result (λ answer. gives self.old (option_map (λ v. v.items) answer) self.new) }
+        ensures told { IfOk result
+            (λ answer. gives self.old (option_map (λ v. v.items) answer) self.new) }
         ensures wanted { OnErr result (fails self.old self.new) };
 }
 

@@ -77,8 +77,12 @@ pub(crate) fn jump_to(walker: &mut Walker, moment: usize) -> Result<(), AllocErr
 
 // Walks back to where a watch stops it. An `Err` changes nothing: the text is made first.
 pub(crate) fn stop_back(alloc: Global, visitor: &mut Visitor) -> Result<Vec<u8>, AllocError>
-    ensures text { IfOk result (λ text. text.items ≡ (stops_back visitor.old (reverse_stop visitor.old.walk visitor.old.stops.watchpoints)).text) }
-    ensures next { OnOk result (visitor.new ≡ (stops_back visitor.old (reverse_stop visitor.old.walk visitor.old.stops.watchpoints)).next) }
+    ensures text { IfOk result (λ text. text.items
+        ≡ (stops_back visitor.old
+        (reverse_stop visitor.old.walk visitor.old.stops.watchpoints)).text) }
+    ensures next { OnOk result (visitor.new
+        ≡ (stops_back visitor.old
+        (reverse_stop visitor.old.walk visitor.old.stops.watchpoints)).next) }
     ensures err { OnErr result (visitor.new ≡ visitor.old) }
 {
     let stop = earlier(&visitor.walker, &visitor.watches);
@@ -91,11 +95,13 @@ pub(crate) fn stop_back(alloc: Global, visitor: &mut Visitor) -> Result<Vec<u8>,
     Ok(text)
 }
 
-// Walks on to where a watch or a break stops it. Where memory for the text is refused it goes back to
-// where it was, which takes none.
+// Walks on to where a watch or a break stops it. Where memory for the text is refused it goes back
+// to where it was, which takes none.
 pub(crate) fn stop_on(alloc: Global, visitor: &mut Visitor) -> Result<Vec<u8>, AllocError>
-    ensures text { IfOk result (λ text. text.items ≡ (stops_on visitor.old (forward_stop visitor.old.walk visitor.old.stops)).text) }
-    ensures next { OnOk result (visitor.new ≡ (stops_on visitor.old (forward_stop visitor.old.walk visitor.old.stops)).next) }
+    ensures text { IfOk result (λ text. text.items
+        ≡ (stops_on visitor.old (forward_stop visitor.old.walk visitor.old.stops)).text) }
+    ensures next { OnOk result (visitor.new
+        ≡ (stops_on visitor.old (forward_stop visitor.old.walk visitor.old.stops)).next) }
     ensures err { OnErr result (visitor.new ≡ visitor.old) }
 {
     let (from, len) = (visitor.walker.at(), visitor.walker.len());

@@ -12,15 +12,17 @@ use inverse_log::walker::TRACE_LIMIT;
 use machine::{Event, Refusal};
 use std::alloc::{AllocError, Global};
 
-// Takes over the events that a source has more than the run. The position stays, and an `Err` changes
-// nothing.
+// Takes over the events that a source has more than the run. The position stays, and an `Err`
+// changes nothing.
 pub(crate) fn sync(
     alloc: Global,
     visitor: &mut Visitor,
     answer: Option<&[Event]>,
 ) -> Result<Vec<u8>, AllocError>
-    ensures text { IfOk result (λ text. text.items ≡ (syncs visitor.old (option_map (λ es. es.now) answer.entry)).text) }
-    ensures next { OnOk result (visitor.new ≡ (syncs visitor.old (option_map (λ es. es.now) answer.entry)).next) }
+    ensures text { IfOk result (λ text. text.items
+        ≡ (syncs visitor.old (option_map (λ es. es.now) answer.entry)).text) }
+    ensures next { OnOk result (visitor.new
+        ≡ (syncs visitor.old (option_map (λ es. es.now) answer.entry)).next) }
     ensures err { OnErr result (visitor.new ≡ visitor.old) }
 {
     let Some(source) = answer else {
@@ -40,9 +42,11 @@ fn take_over(alloc: Global, visitor: &mut Visitor, source: &[Event]) -> Result<V
     requires begins { torn_from 0 visitor.old.walk.events source.now ≡ None }
     requires most { length source.now ≤ 1048576 }
     ensures text { IfOk result (λ text. text.items ≡ (takes_over visitor.old source.now
-        (refused_from (length visitor.old.walk.events) (ending visitor.old.walk) (drop (length visitor.old.walk.events) source.now))).text) }
+        (refused_from (length visitor.old.walk.events) (ending visitor.old.walk)
+        (drop (length visitor.old.walk.events) source.now))).text) }
     ensures next { OnOk result (visitor.new ≡ (takes_over visitor.old source.now
-        (refused_from (length visitor.old.walk.events) (ending visitor.old.walk) (drop (length visitor.old.walk.events) source.now))).next) }
+        (refused_from (length visitor.old.walk.events) (ending visitor.old.walk)
+        (drop (length visitor.old.walk.events) source.now))).next) }
     ensures err { OnErr result (visitor.new ≡ visitor.old) }
 {
     let text = synced_line(alloc, source.len())?;

@@ -32,9 +32,12 @@ pub struct Traced {
 
 /// Reads a script, runs its schedule, and writes the trace of it in a form.
 pub fn trace_script(alloc: Global, text: &[u8], form: Form) -> Result<Traced, RunFault>
-    ensures ok { IfOk result (λ t. (p : Scenario) × Reads text.now (Ok p) × Accepts (start p.setup) p.schedule × IsTraceOf form p t) }
-    ensures script { IfErr result (λ e. (f : ScriptFault) → e ≡ RunFault.Script f → Reads text.now (Err f)) }
-    ensures schedule { IfErr result (λ e. (i : ℕ) → (n : Refusal) → e ≡ RunFault.Schedule i n → (p : Scenario) × Reads text.now (Ok p) × IsRefused p.setup p.schedule i n) }
+    ensures ok { IfOk result (λ t. (p : Scenario) × Reads text.now (Ok p)
+        × Accepts (start p.setup) p.schedule × IsTraceOf form p t) }
+    ensures script { IfErr result (λ e. (f : ScriptFault) → e ≡ RunFault.Script f
+        → Reads text.now (Err f)) }
+    ensures schedule { IfErr result (λ e. (i : ℕ) → (n : Refusal) → e ≡ RunFault.Schedule i n
+        → (p : Scenario) × Reads text.now (Ok p) × IsRefused p.setup p.schedule i n) }
     ensures other { IfErr result (IsOf (OfScript ∷ OfSchedule ∷ OfMemory ∷ [])) }
 {
     let script = script_of(alloc, text)?;
@@ -43,8 +46,10 @@ pub fn trace_script(alloc: Global, text: &[u8], form: Form) -> Result<Traced, Ru
 
 // Runs a script's schedule, and writes the trace of it in a form.
 fn trace_of(alloc: Global, script: &Script, form: Form) -> Result<Traced, RunFault>
-    ensures ok { IfOk result (λ t. Accepts (start script.now.setup) script.now.schedule × IsTraceOf form script.now t) }
-    ensures schedule { IfErr result (λ e. (i : ℕ) → (n : Refusal) → e ≡ RunFault.Schedule i n → IsRefused script.now.setup script.now.schedule i n) }
+    ensures ok { IfOk result (λ t. Accepts (start script.now.setup) script.now.schedule
+        × IsTraceOf form script.now t) }
+    ensures schedule { IfErr result (λ e. (i : ℕ) → (n : Refusal) → e ≡ RunFault.Schedule i n
+        → IsRefused script.now.setup script.now.schedule i n) }
     ensures other { IfErr result (IsOf (OfSchedule ∷ OfMemory ∷ [])) }
 {
     run_schedule(alloc, script)?;
@@ -57,13 +62,16 @@ fn trace_of(alloc: Global, script: &Script, form: Form) -> Result<Traced, RunFau
     }
 }
 
-/// Reads a script and a trace of the first form, and writes the trace of the second form of the script's
-/// setup and the trace's events. It runs none of them.
+/// Reads a script and a trace of the first form, and writes the trace of the second form of the
+/// script's setup and the trace's events. It runs none of them.
 pub fn migrate_trace(alloc: Global, text: &[u8], trace: &[u8]) -> Result<Traced, RunFault>
-    ensures ok { IfOk result (λ t. (p : Scenario) × Reads text.now (Ok p) × (events : List Event) × IsTrace events trace.now
+    ensures ok { IfOk result (λ t. (p : Scenario) × Reads text.now (Ok p) × (events : List Event)
+        × IsTrace events trace.now
         × IsTrace2 (canonical p.setup) events t.bytes.items × (t.events ≡ length events)) }
-    ensures script { IfErr result (λ e. (f : ScriptFault) → e ≡ RunFault.Script f → Reads text.now (Err f)) }
-    ensures trace { IfErr result (λ e. (f : TraceFault) → e ≡ RunFault.Trace f → ((p : Scenario) × Reads text.now (Ok p)) × IsFault trace.now f) }
+    ensures script { IfErr result (λ e. (f : ScriptFault) → e ≡ RunFault.Script f
+        → Reads text.now (Err f)) }
+    ensures trace { IfErr result (λ e. (f : TraceFault) → e ≡ RunFault.Trace f
+        → ((p : Scenario) × Reads text.now (Ok p)) × IsFault trace.now f) }
     ensures other { IfErr result (IsOf (OfScript ∷ OfTrace ∷ OfMemory ∷ [])) }
 {
     let script = script_of(alloc, text)?;
@@ -74,7 +82,8 @@ pub fn migrate_trace(alloc: Global, text: &[u8], trace: &[u8]) -> Result<Traced,
 fn migrate_with(alloc: Global, script: &Script, trace: &[u8]) -> Result<Traced, RunFault>
     ensures ok { IfOk result (λ t. (events : List Event) × IsTrace events trace.now
         × IsTrace2 (canonical script.now.setup) events t.bytes.items × (t.events ≡ length events)) }
-    ensures trace { IfErr result (λ e. (f : TraceFault) → e ≡ RunFault.Trace f → IsFault trace.now f) }
+    ensures trace { IfErr result (λ e. (f : TraceFault) → e ≡ RunFault.Trace f
+        → IsFault trace.now f) }
     ensures other { IfErr result (IsOf (OfTrace ∷ OfMemory ∷ [])) }
 {
     let events = match read_trace(alloc, trace) {

@@ -28,17 +28,25 @@ pub fn walk<R: Read, W: Write>(
     reader: &mut R,
     writer: &mut W,
 ) -> Result<(), RunFault>
-    // The schedule runs, and what is written is the output of the session of the script, without a source.
+    // The schedule runs, and what is written is the output of the session of the script, without a
+    // source.
     ensures ok { OnOk result ((p : Scenario) × Reads text.now (Ok p) × Walked p.setup p.schedule
-        (streams (R.remaining reader.old) (W.contents writer.old)) (streams (R.remaining reader.new) (W.contents writer.new))) }
-    // A fault of the script is its first one, a fault of the schedule its first refused event. Nothing was written then.
-    ensures script { IfErr result (λ e. (f : ScriptFault) → e ≡ RunFault.Script f → Reads text.now (Err f) × Keeps (W.contents writer.old) (W.contents writer.new)) }
+        (streams (R.remaining reader.old) (W.contents writer.old))
+        (streams (R.remaining reader.new) (W.contents writer.new))) }
+    // A fault of the script is its first one, a fault of the schedule its first refused event.
+    // Nothing was written then.
+    ensures script { IfErr result (λ e. (f : ScriptFault) → e ≡ RunFault.Script f
+        → Reads text.now (Err f) × Keeps (W.contents writer.old) (W.contents writer.new)) }
     ensures schedule { IfErr result (λ e. (i : ℕ) → (n : Refusal) → e ≡ RunFault.Schedule i n
-        → (p : Scenario) × Reads text.now (Ok p) × IsRefused p.setup p.schedule i n × Keeps (W.contents writer.old) (W.contents writer.new)) }
-    ensures memory { IfErr result (λ e. e ≡ RunFault.Memory → Keeps (W.contents writer.old) (W.contents writer.new)) }
+        → (p : Scenario) × Reads text.now (Ok p) × IsRefused p.setup p.schedule i n
+        × Keeps (W.contents writer.old) (W.contents writer.new)) }
+    ensures memory { IfErr result (λ e. e ≡ RunFault.Memory
+        → Keeps (W.contents writer.old) (W.contents writer.new)) }
     // At a fault of serving a beginning of that output was written.
-    ensures begins { IfErr result (λ e. (f : ServeFault) → e ≡ RunFault.Serve f → (p : Scenario) × Reads text.now (Ok p) × BrokenOff p.setup p.schedule
-        (streams (R.remaining reader.old) (W.contents writer.old)) (streams (R.remaining reader.new) (W.contents writer.new)) f) }
+    ensures begins { IfErr result (λ e. (f : ServeFault) → e ≡ RunFault.Serve f → (p : Scenario)
+        × Reads text.now (Ok p) × BrokenOff p.setup p.schedule
+        (streams (R.remaining reader.old) (W.contents writer.old))
+        (streams (R.remaining reader.new) (W.contents writer.new)) f) }
     ensures open { result ≢ Err (RunFault.Serve Closed) }
     ensures other { IfErr result (IsOf (OfScript ∷ OfSchedule ∷ OfServing ∷ OfMemory ∷ [])) }
 {
@@ -59,13 +67,18 @@ fn walk_script<R: Read, W: Write>(
     writer: &mut W,
 ) -> Result<(), RunFault>
     ensures ok { OnOk result (Walked script.now.setup script.now.schedule
-        (streams (R.remaining reader.old) (W.contents writer.old)) (streams (R.remaining reader.new) (W.contents writer.new))) }
+        (streams (R.remaining reader.old) (W.contents writer.old))
+        (streams (R.remaining reader.new) (W.contents writer.new))) }
     ensures script { IfErr result (λ e. (f : ScriptFault) → e ≢ RunFault.Script f) }
     ensures schedule { IfErr result (λ e. (i : ℕ) → (n : Refusal) → e ≡ RunFault.Schedule i n
-        → IsRefused script.now.setup script.now.schedule i n × Keeps (W.contents writer.old) (W.contents writer.new)) }
-    ensures memory { IfErr result (λ e. e ≡ RunFault.Memory → Keeps (W.contents writer.old) (W.contents writer.new)) }
-    ensures begins { IfErr result (λ e. (f : ServeFault) → e ≡ RunFault.Serve f → BrokenOff script.now.setup script.now.schedule
-        (streams (R.remaining reader.old) (W.contents writer.old)) (streams (R.remaining reader.new) (W.contents writer.new)) f) }
+        → IsRefused script.now.setup script.now.schedule i n
+        × Keeps (W.contents writer.old) (W.contents writer.new)) }
+    ensures memory { IfErr result (λ e. e ≡ RunFault.Memory
+        → Keeps (W.contents writer.old) (W.contents writer.new)) }
+    ensures begins { IfErr result (λ e. (f : ServeFault) → e ≡ RunFault.Serve f
+        → BrokenOff script.now.setup script.now.schedule
+        (streams (R.remaining reader.old) (W.contents writer.old))
+        (streams (R.remaining reader.new) (W.contents writer.new)) f) }
     ensures open { result ≢ Err (RunFault.Serve Closed) }
     ensures other { IfErr result (IsOf (OfScript ∷ OfSchedule ∷ OfServing ∷ OfMemory ∷ [])) }
 {
@@ -83,12 +96,17 @@ pub(crate) fn walk_events<R: Read, W: Write>(
     requires starts { setup_refusal setup.now ≡ None }
     requires most { length events.now ≤ 1048576 }
     ensures ok { OnOk result (Walked setup.now events.now
-        (streams (R.remaining reader.old) (W.contents writer.old)) (streams (R.remaining reader.new) (W.contents writer.new))) }
+        (streams (R.remaining reader.old) (W.contents writer.old))
+        (streams (R.remaining reader.new) (W.contents writer.new))) }
     ensures schedule { IfErr result (λ e. (i : ℕ) → (n : Refusal) → e ≡ RunFault.Schedule i n
-        → IsRefused setup.now events.now i n × Keeps (W.contents writer.old) (W.contents writer.new)) }
-    ensures memory { IfErr result (λ e. e ≡ RunFault.Memory → Keeps (W.contents writer.old) (W.contents writer.new)) }
-    ensures begins { IfErr result (λ e. (f : ServeFault) → e ≡ RunFault.Serve f → BrokenOff setup.now events.now
-        (streams (R.remaining reader.old) (W.contents writer.old)) (streams (R.remaining reader.new) (W.contents writer.new)) f) }
+        → IsRefused setup.now events.now i n
+        × Keeps (W.contents writer.old) (W.contents writer.new)) }
+    ensures memory { IfErr result (λ e. e ≡ RunFault.Memory
+        → Keeps (W.contents writer.old) (W.contents writer.new)) }
+    ensures begins { IfErr result (λ e. (f : ServeFault) → e ≡ RunFault.Serve f
+        → BrokenOff setup.now events.now
+        (streams (R.remaining reader.old) (W.contents writer.old))
+        (streams (R.remaining reader.new) (W.contents writer.new)) f) }
     ensures open { result ≢ Err (RunFault.Serve Closed) }
     ensures other { IfErr result (IsOf (OfSchedule ∷ OfServing ∷ OfMemory ∷ [])) }
 {
@@ -104,9 +122,11 @@ fn reply_to_all<R: Read, W: Write>(
 ) -> Result<(), RunFault>
     requires { session.old.is_closed ≡ false }
     ensures ok { OnOk result (Replied session.old.state
-        (streams (R.remaining reader.old) (W.contents writer.old)) (streams (R.remaining reader.new) (W.contents writer.new))) }
+        (streams (R.remaining reader.old) (W.contents writer.old))
+        (streams (R.remaining reader.new) (W.contents writer.new))) }
     ensures err { IfErr result (BrokenBy session.old.state
-        (streams (R.remaining reader.old) (W.contents writer.old)) (streams (R.remaining reader.new) (W.contents writer.new))) }
+        (streams (R.remaining reader.old) (W.contents writer.old))
+        (streams (R.remaining reader.new) (W.contents writer.new))) }
     ensures open { result ≢ Err (RunFault.Serve Closed) }
 {
     match serve(session, reader, writer, &mut NoSource) {

@@ -14,12 +14,14 @@ pub fn one_list_of_an_entry()
 
 /// Bytes hold one entry.
 pub fn one_entry_of_a_list()
-    ensures { (d e : Sqe) (bytes : List ℕ) → EntryFits d → EntryFits e → EntryLayout d bytes → EntryLayout e bytes → d ≡ e }
+    ensures { (d e : Sqe) (bytes : List ℕ) → EntryFits d → EntryFits e → EntryLayout d bytes
+        → EntryLayout e bytes → d ≡ e }
 {}
 
 /// The entry that lies in some bytes is the one that the layout's fields of them make.
 pub fn entry_made_of_a_list()
-    ensures { (e : Sqe) (bytes : List ℕ) → EntryFits e → EntryLayout e bytes → e ≡ entry_of_bytes bytes }
+    ensures { (e : Sqe) (bytes : List ℕ) → EntryFits e → EntryLayout e bytes
+        → e ≡ entry_of_bytes bytes }
 {}
 
 /// A completion lies in one list of bytes.
@@ -29,17 +31,20 @@ pub fn one_list_of_a_completion()
 
 /// Bytes hold one completion.
 pub fn one_completion_of_a_list()
-    ensures { (c d : Cqe) (bytes : List ℕ) → CompletionFits c → CompletionFits d → CompletionLayout c bytes → CompletionLayout d bytes → c ≡ d }
+    ensures { (c d : Cqe) (bytes : List ℕ) → CompletionFits c → CompletionFits d
+        → CompletionLayout c bytes → CompletionLayout d bytes → c ≡ d }
 {}
 
 /// The bytes of an entry are its fields, one behind the other.
 pub fn entry_spelled()
-    ensures { (e : Sqe) (bytes : List ℕ) → length e.rest ≡ 16 → (EntryLayout e bytes ↔ (bytes ≡ entry_bytes e)) }
+    ensures { (e : Sqe) (bytes : List ℕ) → length e.rest ≡ 16
+        → (EntryLayout e bytes ↔ (bytes ≡ entry_bytes e)) }
 {}
 
 /// The bytes of a completion are its fields, one behind the other.
 pub fn completion_spelled()
-    ensures { (c : Cqe) (bytes : List ℕ) → (CompletionLayout c bytes ↔ (bytes ≡ completion_bytes c)) }
+    ensures { (c : Cqe) (bytes : List ℕ)
+        → (CompletionLayout c bytes ↔ (bytes ≡ completion_bytes c)) }
 {}
 
 /// An entry that is written and read again is the same.

@@ -118,8 +118,8 @@ pub(crate) fn instruction_at(
     }
 }
 
-// What a thread's last Enter or Close answered. What one that waits in its Enter has is the answer of an
-// earlier one.
+// What a thread's last Enter or Close answered. What one that waits in its Enter has is the answer
+// of an earlier one.
 fn answer(state: &State, thread: u32) -> Option<i64>
     ensures { result ≡ answer_of state.now thread }
 {

@@ -184,7 +184,8 @@ fn comes_as(kind: Kind, row: &Row, next: &Option<Row>) -> bool
 }
 
 fn ends_as(kind: Kind, before: &Option<Row>, row: &Row, next: &Option<Row>) -> bool
-    ensures { result ≡ option_map_or (is_of kind before.now row.now next.now) (ending_of before.now row.now) false }
+    ensures { result ≡ option_map_or (is_of kind before.now row.now next.now)
+        (ending_of before.now row.now) false }
 {
     match ending_of(before, row) {
         Some(res) => is_of(kind, before, row, next, res),
@@ -192,8 +193,8 @@ fn ends_as(kind: Kind, before: &Option<Row>, row: &Row, next: &Option<Row>) -> b
     }
 }
 
-/// Whether a row, as it was before an event and is behind it, ends by it, and that is a finding of a kind; or
-/// it comes by it, and that is.
+/// Whether a row, as it was before an event and is behind it, ends by it, and that is a finding of
+/// a kind; or it comes by it, and that is.
 pub(crate) fn row_test(kind: Kind, before: &Option<Row>, row: &Row, next: &Option<Row>) -> bool
     ensures { result ≡ row_test kind before.now row.now next.now }
 {

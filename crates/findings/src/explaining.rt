@@ -241,9 +241,9 @@ fn explain_trace<W: Write>(
     Ok(faults)
 }
 
-/// Runs what the bytes are, a trace where the first one is a `U`, and else a script, and tells what the run
-/// shows: a headline and a sentence of each finding of the kinds that are asked for, in order. Says whether
-/// some of them is a fault.
+/// Runs what the bytes are, a trace where the first one is a `U`, and else a script, and tells what
+/// the run shows: a headline and a sentence of each finding of the kinds that are asked for, in
+/// order. Says whether some of them is a fault.
 pub fn explain_run<W: Write>(
     alloc: Global,
     bytes: &[u8],

@@ -44,7 +44,8 @@ fn follow(numbers: &mut Vec<u32>, number: u32, was: bool, is: bool) -> Result<()
 }
 
 fn follow_change(numbers: &mut Vec<u32>, change: Change, state: &State) -> Result<(), AllocError>
-    ensures { OnOk result (numbers.new.items ≡ after_note (view state.now) numbers.old.items change.old change.place) }
+    ensures { OnOk result (numbers.new.items
+        ≡ after_note (view state.now) numbers.old.items change.old change.place) }
 {
     let Place::Request(number) = change.place else {
         return Ok(());
@@ -59,7 +60,8 @@ pub(crate) fn follow_record(
     past: &Record,
     state: &State,
 ) -> Result<(), AllocError>
-    ensures { OnOk result (numbers.new.items ≡ after_notes (view state.now) numbers.old.items past.now) }
+    ensures { OnOk result (numbers.new.items
+        ≡ after_notes (view state.now) numbers.old.items past.now) }
 {
     let mut rest = past.changes();
     while let Some(change) = rest.next() {

@@ -38,7 +38,8 @@ pub enum Kind {
     Unfinished = 14,
     /// Bytes were written into the buffer of a READ or a WRITE that hasn't ended.
     BufferInUse = 15,
-    /// Bytes of a file were moved that another asks for in no order with it, and one of both is a WRITE.
+    /// Bytes of a file were moved that another asks for in no order with it, and one of both is a
+    /// WRITE.
     Unordered = 16,
     /// Bytes were moved at a position at which another begins in no order with it.
     SharedPosition = 17,

@@ -1,4 +1,5 @@
-//! What a run shows: findings, kind by kind, each proved to be just what its definition says, and told in sentences.
+//! What a run shows: findings, kind by kind, each proved to be just what its definition says, and
+//! told in sentences.
 #![tactic(auto)]
 
 mod conditions;

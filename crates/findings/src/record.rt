@@ -116,7 +116,8 @@ fn add_of_change(
     change: Change,
     state: &State,
 ) -> Result<(), AllocError>
-    ensures { OnOk result (found.new.items ≡ found.old.items ++ of_change moment (view state.now) change) }
+    ensures { OnOk result (found.new.items ≡ found.old.items
+        ++ of_change moment (view state.now) change) }
 {
     let Place::Request(number) = change.place else {
         return Ok(());
@@ -305,7 +306,8 @@ pub(crate) fn add_of_record(
     past: &Record,
     state: &State,
 ) -> Result<(), AllocError>
-    ensures added { OnOk result (found.new.items ≡ found.old.items ++ flat_map (of_change moment (view state.now)) past.now) }
+    ensures added { OnOk result (found.new.items ≡ found.old.items
+        ++ flat_map (of_change moment (view state.now)) past.now) }
     ensures once { OnOk result (NamesOnce past.now) }
 {
     let mut rest = past.changes();

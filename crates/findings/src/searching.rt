@@ -36,7 +36,8 @@ fn fault_by(index: u32, refusal: Refusal) -> LogFault
     }
 }
 
-// Adds what an event shows beside the READs and WRITEs that haven't ended, and follows which these are.
+// Adds what an event shows beside the READs and WRITEs that haven't ended, and follows which these
+// are.
 fn look_beside(
     setup: &Setup,
     state: &State,
@@ -47,9 +48,12 @@ fn look_beside(
     found: &mut Vec<Finding>,
     numbers: &mut Vec<u32>,
 ) -> Result<(), AllocError>
-    ensures added { OnOk result (found.new.items ≡ found.old.items ++ of_deed moment setup.now state.now.table
-        (done_as event (instruction_at setup.now event before.counter) state.now) numbers.new.items) }
-    ensures further { OnOk result (numbers.new.items ≡ after_notes (view state.now) numbers.old.items past.now) }
+    ensures added { OnOk result (found.new.items ≡ found.old.items
+        ++ of_deed moment setup.now state.now.table
+        (done_as event
+        (instruction_at setup.now event before.counter) state.now) numbers.new.items) }
+    ensures further { OnOk result (numbers.new.items
+        ≡ after_notes (view state.now) numbers.old.items past.now) }
 {
     follow_record(numbers, past, state)?;
     let deed = done_as(setup, before, event, state);
@@ -68,13 +72,16 @@ fn look(
     numbers: &mut Vec<u32>,
     history: &mut History,
 ) -> Result<(), AllocError>
-    ensures added { OnOk result (found.new.items ≡ ((found.old.items ++ flat_map (of_change moment (view state.now)) past.now)
+    ensures added { OnOk result (found.new.items
+        ≡ ((found.old.items ++ flat_map (of_change moment (view state.now)) past.now)
         ++ (of_overflow moment before.overflows (overflows state.now)
         ++ of_step moment (instruction_at setup.now event before.counter) event state.now))
         ++ of_deed moment setup.now state.now.table
-        (done_as event (instruction_at setup.now event before.counter) state.now) numbers.new.items) }
+        (done_as event
+        (instruction_at setup.now event before.counter) state.now) numbers.new.items) }
     ensures once { OnOk result (NamesOnce past.now) }
-    ensures further { OnOk result (numbers.new.items ≡ after_notes (view state.now) numbers.old.items past.now) }
+    ensures further { OnOk result (numbers.new.items
+        ≡ after_notes (view state.now) numbers.old.items past.now) }
 {
     note_times(history, moment, past, state)?;
     add_of_record(found, moment, past, state)?;
@@ -124,9 +131,12 @@ fn find_all(
     requires most { length events.now ≤ 1048576 }
     requires none { found.old.items ≡ [] }
     requires watched { watches.old ≡ map (advanced setup.now state.old 0) (watched setup.now) }
-    ensures found { OnOk result (FoundBefore setup.now events.now (length events.now) found.new.items) }
-    ensures lasting { OnOk result (IsLasting setup.now events.now (flat_map of_lasting watches.new)) }
-    ensures left { OnOk result (AreLeft setup.now events.now (all_left (length events.now) state.new.table)) }
+    ensures found { OnOk result
+        (FoundBefore setup.now events.now (length events.now) found.new.items) }
+    ensures lasting { OnOk result
+        (IsLasting setup.now events.now (flat_map of_lasting watches.new)) }
+    ensures left { OnOk result
+        (AreLeft setup.now events.now (all_left (length events.now) state.new.table)) }
     ensures err { IfErr result (Halted setup.now events.now) }
 {
     for i in 0..events.len() {
@@ -162,7 +172,8 @@ fn add_end(
     add_all_left(found, moment, state)
 }
 
-// Does some events from the start, and tells what they show and what is found at their end, in whatever order.
+// Does some events from the start, and tells what they show and what is found at their end, in
+// whatever order.
 fn find(
     alloc: Global,
     state: &mut State,

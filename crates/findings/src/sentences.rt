@@ -7,13 +7,12 @@ mod errors;
 mod left;
 mod rings;
 
-pub use left::why_unfinished;
-
 use crate::finding::Finding;
 use crate::kind::Kind;
 use crate::names::RowName;
 use crate::run::Run;
 use entries::Row;
+pub use left::why_unfinished;
 use std::alloc::{AllocError, Global};
 
 const READ_RULE: &str = "A READ or WRITE may move fewer bytes than it asks for (read(2), write(2))";

@@ -29,7 +29,8 @@ fn add_told(
     index: usize,
     finding: Finding,
 ) -> Result<(), AllocError>
-    ensures { OnOk result (findings_in told.new.items ≡ findings_in told.old.items ++ finding ∷ []) }
+    ensures { OnOk result (findings_in told.new.items ≡ findings_in told.old.items ++ finding
+        ∷ []) }
 {
     let text = sentence(alloc, run, index)?;
     told.push(Told { finding, text })?;

@@ -44,7 +44,8 @@ impl Times {
 pub(crate) struct History {
     /// Of each row.
     pub rows: Vec<Times>,
-    /// Of each event the place in its program of the instruction that a thread did by it, if one did.
+    /// Of each event the place in its program of the instruction that a thread did by it, if one
+    /// did.
     pub counters: Vec<Option<u32>>,
 }
 

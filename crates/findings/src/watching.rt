@@ -1,4 +1,5 @@
-//! Conditions that are watched, so that those that hold on to the end are told from where they began.
+//! Conditions that are watched, so that those that hold on to the end are told from where they
+//! began.
 ghost use Rattle.std.specs.Prelude.{◌≡◌, ◌++◌, map, IfOk, OnOk};
 ghost use Rattle.std.specs.List.{flat_map};
 ghost use Rattle.findings.specs.Watched.{continued, advanced, of_rings, watched, fresh, of_lasting};

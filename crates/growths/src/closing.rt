@@ -14,8 +14,8 @@ use std::alloc::AllocError;
 use std::marker::Brand;
 use std::sync::ledger::{Blank, Ledger};
 
-/// Closes a run of one NOP while growths are refused: a worker for each of its two seats, `finish`, and what its
-/// receipts are redeemed for.
+/// Closes a run of one NOP while growths are refused: a worker for each of its two seats, `finish`,
+/// and what its receipts are redeemed for.
 pub fn try_finish(rt: &(impl Print + Eprint), given: &Given<'_>) -> Result<(), Fault> {
     let script = read_script(given.alloc, given.text)?;
     let setup = script.setup();

@@ -131,7 +131,8 @@ fn drive_on<L: Ledger>(
     act_beside(rt, given.alloc, live, seat, calling)
 }
 
-// The seat of an event's actor: a thread's, or else the poller's, or that of the kernel worker behind it.
+// The seat of an event's actor: a thread's, or else the poller's, or that of the kernel worker
+// behind it.
 fn seat_of<'a, L: Ledger>(
     setup: &Setup,
     seats: &'a mut [Seat<L>],
@@ -272,7 +273,8 @@ fn look_at_offer<L: Ledger>(live: &Live<L>, seat: &Seat<L>, calling: Calling<'_>
     }
 }
 
-// Compares a live run with a state, what a seat was told with what it should be, and the trace with events.
+// Compares a live run with a state, what a seat was told with what it should be, and the trace with
+// events.
 fn compare<L: Ledger>(
     live: &Live<L>,
     seat: &Seat<L>,

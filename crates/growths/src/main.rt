@@ -1,9 +1,11 @@
-//! A call that meets refused memory, and then the same call again: what it leaves is compared with what was there.
+//! A call that meets refused memory, and then the same call again: what it leaves is compared with
+//! what was there.
 //!
-//! The words are the call, the path of a script, the number of the growth that is refused, and two numbers that say how
-//! much of the script's schedule lies behind; for a session's call its line, and the lines said before. Standard input
-//! has the lines by which two sessions are compared, or that are served. Growths are counted, and refused, by who hears
-//! the lines `armed` and `disarmed` on standard error; where nobody does, none is.
+//! The words are the call, the path of a script, the number of the growth that is refused, and two
+//! numbers that say how much of the script's schedule lies behind; for a session's call its line,
+//! and the lines said before. Standard input has the lines by which two sessions are compared, or
+//! that are served. Growths are counted, and refused, by who hears the lines `armed` and `disarmed`
+//! on standard error; where nobody does, none is.
 #![tactic(auto)]
 
 mod closing;
@@ -90,8 +92,8 @@ fn status_of(fault: &Fault) -> u8 {
     }
 }
 
-// Does what the words ask for. The status is 3 where values differ, 2 where the words aren't read, and 1 where the call
-// couldn't be made.
+// Does what the words ask for. The status is 3 where values differ, 2 where the words aren't read,
+// and 1 where the call couldn't be made.
 fn run(
     rt: &(impl Files + Input + Print + Eprint + AllocGlobal),
     words: &[String],

@@ -57,7 +57,8 @@ pub enum Call {
     Finish,
 }
 
-/// A call over a script: its first events lie behind, and FROM and TO say which ones, or which moments.
+/// A call over a script: its first events lie behind, and FROM and TO say which ones, or which
+/// moments.
 #[derive(Clone, Copy)]
 pub struct Plan<'a> {
     pub call: Call,

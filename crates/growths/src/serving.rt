@@ -31,8 +31,8 @@ impl Read for Counted<'_> {
     }
 }
 
-/// A session, a script or a trace, the lines that are served, what was written, and what is written where nothing is
-/// refused.
+/// A session, a script or a trace, the lines that are served, what was written, and what is written
+/// where nothing is refused.
 pub struct Serving {
     alloc: Global,
     call: Call,
@@ -65,8 +65,8 @@ impl Situation for Serving {
         serving_over(given, session)
     }
 
-    // Behind the number of a session's fault stands how many reads there were, behind that of a run's fault what it
-    // names, or for want of memory how many bytes were written.
+    // Behind the number of a session's fault stands how many reads there were, behind that of a
+    // run's fault what it names, or for want of memory how many bytes were written.
     fn call(&mut self) -> Answer {
         self.written.clear();
         match self.call {
@@ -75,7 +75,8 @@ impl Situation for Serving {
         }
     }
 
-    // Whether what was written is a beginning of all that is to be written, and that of the other all of it.
+    // Whether what was written is a beginning of all that is to be written, and that of the other
+    // all of it.
     fn compare(&mut self, other: &mut Serving) -> Compared {
         let mut compared = Compared::default();
         compared.count(self.whole.starts_with(self.written.as_slice()));

@@ -17,8 +17,8 @@ pub struct Given<'a> {
     pub lines: &'a [u8],
 }
 
-/// What a call answered: 0 and a number that it told, or the number of its refusal and what that names. A call that is
-/// refused for memory alone has the number 1.
+/// What a call answered: 0 and a number that it told, or the number of its refusal and what that
+/// names. A call that is refused for memory alone has the number 1.
 #[derive(Clone, Copy, PartialEq, Eq)]
 pub struct Answer {
     pub number: u32,
@@ -119,8 +119,8 @@ pub fn disarm(rt: &impl Eprint) -> io::Result<()> {
     eprintln!(rt; "disarmed")
 }
 
-/// Tells what a call answered as a growth was refused, as it was made again, and where none was refused; and how many
-/// values differed behind the refusal, and at the end.
+/// Tells what a call answered as a growth was refused, as it was made again, and where none was
+/// refused; and how many values differed behind the refusal, and at the end.
 pub fn tell(
     rt: &impl Print,
     (answer, again, first): (Answer, Answer, Answer),

@@ -38,7 +38,8 @@ impl Model for Trail {
 
     ghost Value = { Track };
 
-    ghost view = { λ t. record { setup = t.setup; events = t.events.items; at = t.at; walked = t.walked } };
+    ghost view = { λ t. record
+        { setup = t.setup; events = t.events.items; at = t.at; walked = t.walked } };
 
     ghost invariant = { λ t. Keeps t.setup t.events.items t.records.items t.at t.state t.walked };
 }
@@ -48,9 +49,11 @@ impl Trail {
 
     /// Stands at the start of a run without events.
     pub fn new(alloc: Global, setup: &Setup) -> Result<Trail, SetupRefusal>
-        ensures fresh { IfOk result (λ t. t ≡ record { setup = setup.now; events = []; at = 0; walked = 0 }) }
+        ensures fresh { IfOk result (λ t. t
+            ≡ record { setup = setup.now; events = []; at = 0; walked = 0 }) }
         ensures refused { (r : SetupRefusal) → setup_refusal setup.now ≡ Some r → result ≡ Err r }
-        ensures only_memory { IfErr result (λ r. setup_refusal setup.now ≡ None → r ≡ SetupRefusal.Memory) }
+        ensures only_memory { IfErr result (λ r. setup_refusal setup.now ≡ None
+            → r ≡ SetupRefusal.Memory) }
     {
         let state = State::new(alloc, setup)?;
         match setup.copy(alloc) {
@@ -150,8 +153,8 @@ impl Trail {
         Ok(())
     }
 
-    /// On to a moment from the state of an earlier one, by counted steps. Where memory is refused it
-    /// stays where it was.
+    /// On to a moment from the state of an earlier one, by counted steps. Where memory is refused
+    /// it stays where it was.
     pub fn on_from(&mut self, mut state: State, from: usize, to: usize) -> Result<(), AllocError>
         requires state { state ≡ moment self.old.setup self.old.events from }
         requires later { from ≤ to }
@@ -169,16 +172,19 @@ impl Trail {
         gone
     }
 
-    /// Adds events at the end, and keeps the position. Told are copies of the states that the run comes
-    /// by at multiples of a number.
+    /// Adds events at the end, and keeps the position. Told are copies of the states that the run
+    /// comes by at multiples of a number.
     pub fn extend(&mut self, events: &[Event], every: u32) -> Result<Vec<State>, ExtendRefusal>
         requires some { 0 < every }
         requires any { 0 < length events.now }
         requires room { length self.old.events + length events.now ≤ 1048576 }
         ensures ok { OnOk result (self.new ≡ grown self.old events.now self.old.at) }
         ensures accepts { OnOk result (Accepts (ends self.old) events.now) }
-        ensures covers { IfOk result (λ copies. (xs : List Machine) → Covers self.old.setup self.old.events every xs → Covers self.new.setup self.new.events every (xs ++ copies.items)) }
-        ensures refused { IfErr result (λ e. (i : ℕ) × (n : Refusal) × (e ≡ ExtendRefusal.Refused i n) × RefusedAt (ends self.old) events.now i n) }
+        ensures covers { IfOk result (λ copies. (xs : List Machine)
+            → Covers self.old.setup self.old.events every xs
+            → Covers self.new.setup self.new.events every (xs ++ copies.items)) }
+        ensures refused { IfErr result (λ e. (i : ℕ) × (n : Refusal)
+            × (e ≡ ExtendRefusal.Refused i n) × RefusedAt (ends self.old) events.now i n) }
         ensures err { OnErr result (self.new ≡ self.old) }
     {
         let (from, len) = (self.at(), self.len());
@@ -195,10 +201,14 @@ impl Trail {
         requires last { self.old.at ≡ length self.old.events }
         requires some { 0 < every }
         requires room { length self.old.events + length events.now ≤ 1048576 }
-        ensures ok { OnOk result (self.new ≡ grown self.old events.now (self.old.at + length events.now)) }
+        ensures ok { OnOk result (self.new
+            ≡ grown self.old events.now (self.old.at + length events.now)) }
         ensures accepts { OnOk result (Accepts (ends self.old) events.now) }
-        ensures covers { IfOk result (λ copies. (xs : List Machine) → Covers self.old.setup self.old.events every xs → Covers self.new.setup self.new.events every (xs ++ copies.items)) }
-        ensures refused { IfErr result (λ e. (i : ℕ) × (n : Refusal) × (e ≡ ExtendRefusal.Refused i n) × RefusedAt (ends self.old) events.now i n) }
+        ensures covers { IfOk result (λ copies. (xs : List Machine)
+            → Covers self.old.setup self.old.events every xs
+            → Covers self.new.setup self.new.events every (xs ++ copies.items)) }
+        ensures refused { IfErr result (λ e. (i : ℕ) × (n : Refusal)
+            × (e ≡ ExtendRefusal.Refused i n) × RefusedAt (ends self.old) events.now i n) }
         ensures err { OnErr result (self.new ≡ self.old) }
     {
         let len = self.len();
@@ -213,7 +223,13 @@ impl Trail {
     /// Keeps the first events alone.
     pub fn cut(&mut self, len: usize)
         requires { self.old.at ≤ len }
-        ensures { self.new ≡ record { setup = self.old.setup; events = take len self.old.events; at = self.old.at; walked = self.old.walked } }
+        ensures { self.new
+            ≡ record {
+              setup = self.old.setup;
+              events = take len self.old.events;
+              at = self.old.at;
+              walked = self.old.walked;
+            } }
     {
         self.events.truncate(len);
         self.records.truncate(len);
@@ -252,7 +268,8 @@ impl Trail {
         requires room { length self.old.events < 1048576 }
         ensures ok { OnOk result (self.new ≡ grown self.old (event ∷ []) (self.old.at + 1)) }
         ensures accepts { OnOk result (refusal (stands self.old) event ≡ None) }
-        ensures refuses { IfErr result (λ n. (refusal (stands self.old) event ≡ Some n) ⊎ ((n ≡ Refusal.Memory) × (refusal (stands self.old) event ≡ None))) }
+        ensures refuses { IfErr result (λ n. (refusal (stands self.old) event ≡ Some n)
+            ⊎ ((n ≡ Refusal.Memory) × (refusal (stands self.old) event ≡ None))) }
         ensures err { OnErr result (self.new ≡ self.old) }
     {
         if self.records.reserve(1).is_err() || self.events.reserve(1).is_err() {
@@ -269,7 +286,10 @@ impl Trail {
     fn copy_at(&self, every: u32, copies: &mut Vec<State>) -> Result<(), AllocError>
         requires last { self.now.at ≡ length self.now.events }
         requires some { 0 < every }
-        ensures covers { OnOk result ((events : List Event) (event : Event) (xs : List Machine) → self.now.events ≡ events ++ event ∷ [] → Covers self.now.setup events every (xs ++ copies.old.items) → Covers self.now.setup self.now.events every (xs ++ copies.new.items)) }
+        ensures covers { OnOk result ((events : List Event) (event : Event) (xs : List Machine)
+            → self.now.events ≡ events ++ event ∷ []
+            → Covers self.now.setup events every (xs ++ copies.old.items)
+            → Covers self.now.setup self.now.events every (xs ++ copies.new.items)) }
     {
         if self.at % every as usize == 0 {
             copies.push(self.state.copy(self.alloc)?)?;
@@ -277,17 +297,22 @@ impl Trail {
         Ok(())
     }
 
-    // Does events at the end, up to one that is refused, and stands behind them. Told are copies of the
-    // states at multiples.
+    // Does events at the end, up to one that is refused, and stands behind them. Told are copies of
+    // the states at multiples.
     fn push_all(&mut self, events: &[Event], every: u32) -> Result<Vec<State>, ExtendRefusal>
         requires last { self.old.at ≡ length self.old.events }
         requires some { 0 < every }
         requires room { length self.old.events + length events.now ≤ 1048576 }
-        ensures ok { OnOk result (self.new ≡ grown self.old events.now (self.old.at + length events.now)) }
+        ensures ok { OnOk result (self.new
+            ≡ grown self.old events.now (self.old.at + length events.now)) }
         ensures accepts { OnOk result (Accepts (ends self.old) events.now) }
-        ensures covers { IfOk result (λ copies. (xs : List Machine) → Covers self.old.setup self.old.events every xs → Covers self.new.setup self.new.events every (xs ++ copies.items)) }
-        ensures refused { IfErr result (λ e. (i : ℕ) × (n : Refusal) × (e ≡ ExtendRefusal.Refused i n) × RefusedAt (ends self.old) events.now i n) }
-        ensures err { OnErr result ((i : ℕ) × (self.new ≡ grown self.old (take i events.now) (self.old.at + i))) }
+        ensures covers { IfOk result (λ copies. (xs : List Machine)
+            → Covers self.old.setup self.old.events every xs
+            → Covers self.new.setup self.new.events every (xs ++ copies.items)) }
+        ensures refused { IfErr result (λ e. (i : ℕ) × (n : Refusal)
+            × (e ≡ ExtendRefusal.Refused i n) × RefusedAt (ends self.old) events.now i n) }
+        ensures err { OnErr result ((i : ℕ)
+            × (self.new ≡ grown self.old (take i events.now) (self.old.at + i))) }
     {
         let mut copies = Vec::new(self.alloc);
         for (i, event) in events.iter().enumerate() {

@@ -39,7 +39,14 @@ impl Model for Walker {
 
     ghost Value = { Walk };
 
-    ghost view = { λ w. record { setup = w.trail.setup; events = w.trail.events; at = w.trail.at; walked = w.trail.walked; every = w.kept.every; window = w.kept.window } };
+    ghost view = { λ w. record {
+      setup = w.trail.setup;
+      events = w.trail.events;
+      at = w.trail.at;
+      walked = w.trail.walked;
+      every = w.kept.every;
+      window = w.kept.window;
+    } };
 
     ghost invariant = { λ w. Covers w.trail.setup w.trail.events w.kept.every w.kept.states };
 }
@@ -53,12 +60,14 @@ impl Walker {
     pub fn new(alloc: Global, setup: &Setup) -> Result<Walker, SetupRefusal>
         ensures fresh { IfOk result (λ w. w ≡ fresh setup.now) }
         ensures refused { (r : SetupRefusal) → setup_refusal setup.now ≡ Some r → result ≡ Err r }
-        ensures only_memory { IfErr result (λ r. setup_refusal setup.now ≡ None → r ≡ SetupRefusal.Memory) }
+        ensures only_memory { IfErr result (λ r. setup_refusal setup.now ≡ None
+            → r ≡ SetupRefusal.Memory) }
     {
         Walker::with(alloc, setup, 1024, 256)
     }
 
-    /// The same, with copies at the multiples of `every`, and jumps that go back by single steps as far as
+    /// The same, with copies at the multiples of `every`, and jumps that go back by single steps as
+    /// far as
     /// `window`.
     pub fn with(
         alloc: Global,
@@ -69,7 +78,8 @@ impl Walker {
         requires { 0 < every }
         ensures fresh { IfOk result (λ w. w ≡ fresh_with setup.now every window) }
         ensures refused { (r : SetupRefusal) → setup_refusal setup.now ≡ Some r → result ≡ Err r }
-        ensures only_memory { IfErr result (λ r. setup_refusal setup.now ≡ None → r ≡ SetupRefusal.Memory) }
+        ensures only_memory { IfErr result (λ r. setup_refusal setup.now ≡ None
+            → r ≡ SetupRefusal.Memory) }
     {
         let trail = Trail::new(alloc, setup)?;
         match kept_first(alloc, trail.state(), every, window) {
@@ -120,14 +130,15 @@ impl Walker {
 
     /// The records of the trace's events, in order.
     pub fn records(&self) -> &[Record]
-        ensures linked { Linked (start self.now.setup) self.now.events result.now (ending self.now) }
+        ensures linked { Linked (start self.now.setup) self.now.events result.now
+            (ending self.now) }
         ensures recorded { Recorded (start self.now.setup) self.now.events result.now }
     {
         self.trail.records()
     }
 
-    /// The copies that jumps start from: the states at the multiples of a number, up to the last that is a
-    /// moment of the run; and how far back a jump goes by single steps.
+    /// The copies that jumps start from: the states at the multiples of a number, up to the last
+    /// that is a moment of the run; and how far back a jump goes by single steps.
     pub fn kept(&self) -> &Kept
         ensures every { result.now.every ≡ self.now.every }
         ensures window { result.now.window ≡ self.now.window }
@@ -143,13 +154,16 @@ impl Walker {
         self.trail.walked()
     }
 
-    /// Adds events at the end of the trace, and keeps the position. A copy that can't be made is want of
-    /// memory at the event that leads to it, a list of copies that can't grow at the last event.
+    /// Adds events at the end of the trace, and keeps the position. A copy that can't be made is
+    /// want of memory at the event that leads to it, a list of copies that can't grow at the last
+    /// event.
     pub fn extend(&mut self, events: &[Event]) -> Result<(), ExtendRefusal>
         ensures ok { OnOk result (self.new ≡ extended self.old events.now) }
         ensures accepts { OnOk result (Accepts (ending self.old) events.now) }
-        ensures full { (result ≡ Err ExtendRefusal.TraceFull) ↔ (1048576 < length self.old.events + length events.now) }
-        ensures refused { (i : ℕ) (n : Refusal) → result ≡ Err (ExtendRefusal.Refused i n) → RefusedAt (ending self.old) events.now i n }
+        ensures full { (result ≡ Err ExtendRefusal.TraceFull)
+            ↔ (1048576 < length self.old.events + length events.now) }
+        ensures refused { (i : ℕ) (n : Refusal) → result ≡ Err (ExtendRefusal.Refused i n)
+            → RefusedAt (ending self.old) events.now i n }
         ensures none { events.now ≡ [] → IsOk result }
         ensures err { OnErr result (self.new ≡ self.old) }
     {
@@ -171,10 +185,13 @@ impl Walker {
     /// The same from the end of the trace, but it stays at the end: each event is one step.
     pub fn run_on(&mut self, events: &[Event]) -> Result<(), ExtendRefusal>
         requires { self.old.at ≡ length self.old.events }
-        ensures ok { OnOk result (self.new ≡ moved (extended self.old events.now) (length self.old.events + length events.now)) }
+        ensures ok { OnOk result (self.new
+            ≡ moved (extended self.old events.now) (length self.old.events + length events.now)) }
         ensures accepts { OnOk result (Accepts (ending self.old) events.now) }
-        ensures full { (result ≡ Err ExtendRefusal.TraceFull) ↔ (1048576 < length self.old.events + length events.now) }
-        ensures refused { (i : ℕ) (n : Refusal) → result ≡ Err (ExtendRefusal.Refused i n) → RefusedAt (ending self.old) events.now i n }
+        ensures full { (result ≡ Err ExtendRefusal.TraceFull)
+            ↔ (1048576 < length self.old.events + length events.now) }
+        ensures refused { (i : ℕ) (n : Refusal) → result ≡ Err (ExtendRefusal.Refused i n)
+            → RefusedAt (ending self.old) events.now i n }
         ensures none { events.now ≡ [] → IsOk result }
         ensures err { OnErr result (self.new ≡ self.old) }
     {
@@ -220,7 +237,8 @@ impl Walker {
     pub fn on(&mut self) -> Result<bool, AllocError>
         ensures told { IfOk result (λ went. went ≡ nat_lt self.old.at (length self.old.events)) }
         ensures ends { self.old.at ≡ length self.old.events → IsOk result }
-        ensures moved { OnOk result (self.new ≡ moved self.old (min (self.old.at + 1) (length self.old.events))) }
+        ensures moved { OnOk result (self.new
+            ≡ moved self.old (min (self.old.at + 1) (length self.old.events))) }
         ensures err { OnErr result (self.new ≡ self.old) }
     {
         let at = self.at();
@@ -231,12 +249,14 @@ impl Walker {
         Ok(true)
     }
 
-    /// Goes to a moment, by counted steps: back by single steps within the window, on from the position
-    /// where no copy lies between, else on from the nearest copy.
+    /// Goes to a moment, by counted steps: back by single steps within the window, on from the
+    /// position where no copy lies between, else on from the nearest copy.
     pub fn goto(&mut self, moment: usize) -> Result<(), WalkRefusal>
         ensures ok { OnOk result (self.new ≡ jumped self.old moment) }
-        ensures short { OnOk result ((steps_to self.old moment ≤ self.old.window) ⊎ (steps_to self.old moment < self.old.every)) }
-        ensures there { (result ≡ Err WalkRefusal.NoSuchMoment) ↔ (length self.old.events < moment) }
+        ensures short { OnOk result ((steps_to self.old moment ≤ self.old.window)
+            ⊎ (steps_to self.old moment < self.old.every)) }
+        ensures there { (result ≡ Err WalkRefusal.NoSuchMoment)
+            ↔ (length self.old.events < moment) }
         ensures back { moment ≤ self.old.at → self.old.at ≤ moment + self.old.window → IsOk result }
         ensures err { OnErr result (self.new ≡ self.old) }
     {
@@ -254,7 +274,8 @@ impl Walker {
         }
     }
 
-    // Goes on to a moment: from the position where no copy lies between, else from the nearest copy.
+    // Goes on to a moment: from the position where no copy lies between, else from the nearest
+    // copy.
     fn jump_on(&mut self, moment: u32) -> Result<(), AllocError>
         requires within { moment ≤ length self.old.events }
         requires far { moment ≤ self.old.at → moment + self.old.window < self.old.at }
@@ -275,7 +296,8 @@ impl Walker {
 // The copies of a run without events: its start alone.
 fn kept_first(alloc: Global, state: &State, every: u32, window: u32) -> Result<Kept, AllocError>
     requires { 0 < every }
-    ensures { IfOk result (λ k. k ≡ record { every = every; window = window; states = state.now ∷ [] }) }
+    ensures { IfOk result (λ k. k
+        ≡ record { every = every; window = window; states = state.now ∷ [] }) }
 {
     let mut kept = Kept::new(alloc, every, window);
     kept.keep(vec![in alloc; state.copy(alloc)?]?)?;

@@ -16,8 +16,8 @@ pub enum Job<'a> {
     Walk(&'a str),
     /// A session over the trace in this file.
     Replay(&'a str),
-    /// What the events of the script or trace in this file changed: those from a number on, and below
-    /// another if there is one.
+    /// What the events of the script or trace in this file changed: those from a number on, and
+    /// below another if there is one.
     Log {
         run: &'a str,
         from: u32,
@@ -25,22 +25,24 @@ pub enum Job<'a> {
     },
     /// What is wrong with the script in this file.
     Check(&'a str),
-    /// What the run of the script or trace in this file shows: its findings, or those of one kind alone.
+    /// What the run of the script or trace in this file shows: its findings, or those of one kind
+    /// alone.
     Explain {
         run: &'a str,
         kind: Option<&'a str>,
         json: bool,
     },
-    /// A picture of the events of the script or trace in this file: those from a number on, and below another.
+    /// A picture of the events of the script or trace in this file: those from a number on, and
+    /// below another.
     Timeline {
         run: &'a str,
         out: &'a str,
         from: Option<u32>,
         to: Option<u32>,
     },
-    /// A session over what threads made together from the setup of the script in this file: a thread for each
-    /// of its threads, the poller if there is one, and so many kernel workers, each of which made so many turns.
-    /// If there is an `out`, the run's trace is written there first.
+    /// A session over what threads made together from the setup of the script in this file: a
+    /// thread for each of its threads, the poller if there is one, and so many kernel workers, each
+    /// of which made so many turns. If there is an `out`, the run's trace is written there first.
     Live {
         script: &'a str,
         /// 1 to 1000000.
@@ -49,8 +51,8 @@ pub enum Job<'a> {
         kernel: u32,
         out: Option<&'a str>,
     },
-    /// Clients on a port of loopback, each with a session of its own over such a run while it goes on; it ends
-    /// once so many sessions have, or goes on.
+    /// Clients on a port of loopback, each with a session of its own over such a run while it goes
+    /// on; it ends once so many sessions have, or goes on.
     Serve {
         script: &'a str,
         /// From 1 on.

@@ -481,8 +481,8 @@ fn refused(command: &mut Command<'_>, kind: ErrorKind, text: &str) -> Error {
     }
 }
 
-/// Reads the words of the program. Words that can't be read, help, a trace onto its script, and a number out
-/// of its range are errors with their text.
+/// Reads the words of the program. Words that can't be read, help, a trace onto its script, and a
+/// number out of its range are errors with their text.
 pub fn job<'a>(alloc: Global, words: &'a [&'a str]) -> Result<Job<'a>, Error>
     ensures keeps_script { IfOk result (λ j. LosesScript j → ⊥) }
     ensures in_range { IfOk result IsInRange }

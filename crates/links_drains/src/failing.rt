@@ -40,8 +40,8 @@ fn shown_on(entry: &Sqe) -> Option<u8>
     }
 }
 
-/// Which rows of a batch end at once, with their results. The rows are numbered from a first one. It takes
-/// time by how many they are.
+/// Which rows of a batch end at once, with their results. The rows are numbered from a first one.
+/// It takes time by how many they are.
 pub(crate) fn direct_ends(
     alloc: Global,
     world: &World,
@@ -74,7 +74,8 @@ fn failing_chains(
     rows: &[Row],
 ) -> Result<Vec<bool>, AllocError>
     requires { rows.now ≡ rows_of world.now first entries.now }
-    ensures { IfOk result (λ failing. (u : ℕ) → u < length rows.now → slice_get failing.items u ≡ Some (chain_fails world.now entries.now u)) }
+    ensures { IfOk result (λ failing. (u : ℕ) → u < length rows.now
+        → slice_get failing.items u ≡ Some (chain_fails world.now entries.now u)) }
 {
     let mut failing = Vec::from_elem(alloc, false, rows.len())?;
     for i in 0..rows.len() {

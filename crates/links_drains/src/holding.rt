@@ -9,7 +9,8 @@ use model_files::Held;
 /// A row comes to what is counted.
 pub(crate) fn count(held: &mut Held, row: &Row)
     requires { (fd : ℕ) → holders held.old fd < 2 ^ 32 - 1 }
-    ensures { (fd : ℕ) → holders held.new fd ≡ holders held.old fd + (if holds fd row.now then 1 else 0) }
+    ensures { (fd : ℕ) → holders held.new fd
+        ≡ holders held.old fd + (if holds fd row.now then 1 else 0) }
 {
     if let (Phase::Issued, Some(fd)) = (row.phase, row.held) {
         held.add(fd);
@@ -19,7 +20,8 @@ pub(crate) fn count(held: &mut Held, row: &Row)
 /// A row goes from what is counted.
 pub(crate) fn take_off(held: &mut Held, row: &Row)
     requires { (fd : ℕ) → holds fd row.now ≡ true → 0 < holders held.old fd }
-    ensures { (fd : ℕ) → holders held.old fd ≡ holders held.new fd + (if holds fd row.now then 1 else 0) }
+    ensures { (fd : ℕ) → holders held.old fd
+        ≡ holders held.new fd + (if holds fd row.now then 1 else 0) }
 {
     if let (Phase::Issued, Some(fd)) = (row.phase, row.held) {
         held.remove(fd);

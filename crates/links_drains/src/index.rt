@@ -1,4 +1,5 @@
-//! Sets and thresholds beside the rows that tell at once which of them may be issued, and which end by a count.
+//! Sets and thresholds beside the rows that tell at once which of them may be issued, and which end
+//! by a count.
 ghost use Rattle.std.specs.Prelude.{◌≡◌, ℕ, ◌+◌, ◌-◌, ◌*◌, ◌^◌, ◌<◌, ◌≤◌, [], true, Some, IfOk, IfSome, IfNone, OnOk, MatchBool, length, slice_get, take};
 ghost use Rattle.entries.specs.declared.row.Row.{Row};
 ghost use Rattle.links_drains.specs.Eligible.{is_eligible, GuardsFollow};
@@ -62,7 +63,8 @@ impl Index {
 
     /// A row has come, or has changed within its unit, or has become the last.
     pub(crate) fn update(&mut self, rows: &[Row], r: usize)
-        requires { (row : Row) × (slice_get rows.now r ≡ Some row) × IndexedBut r row.unit rows.now self.old }
+        requires { (row : Row) × (slice_get rows.now r ≡ Some row)
+            × IndexedBut r row.unit rows.now self.old }
         ensures { Indexed rows.now self.new }
     {
         let row = &rows[r];

@@ -9,16 +9,19 @@ ghost use Rattle.links_drains.specs.Links.{Chained};
 
 /// Units are runs of rows, also once a batch has come behind the others.
 pub fn batch_is_chained()
-    ensures { (w : WorldState) (rows : List Row) (entries : List Sqe) → Chained rows → Chained (rows ++ rows_of w (length rows) entries) }
+    ensures { (w : WorldState) (rows : List Row) (entries : List Sqe) → Chained rows
+        → Chained (rows ++ rows_of w (length rows) entries) }
 {}
 
 /// The rows that end as a batch is submitted are unfinished rows, in the order of their numbers.
 pub fn batch_ends_rows()
-    ensures { (w : WorldState) (rows : List Row) (entries : List Sqe) → Direct (rows ++ rows_of w (length rows) entries) (direct_of w (length rows) entries) }
+    ensures { (w : WorldState) (rows : List Row) (entries : List Sqe)
+        → Direct (rows ++ rows_of w (length rows) entries) (direct_of w (length rows) entries) }
 {}
 
 /// A row of a batch that doesn't end as it is submitted has passed its tests.
 pub fn other_rows_pass()
-    ensures { (w : WorldState) (first : ℕ) (entries : List Sqe) (i : ℕ) (row : Row) → slice_get (rows_of w first entries) i ≡ Some row
+    ensures { (w : WorldState) (first : ℕ) (entries : List Sqe) (i : ℕ) (row : Row)
+        → slice_get (rows_of w first entries) i ≡ Some row
         → result_in (direct_of w first entries) (first + i) ≡ None → error_at w entries i ≡ None }
 {}

@@ -97,7 +97,8 @@ impl NumberSet {
     pub(crate) fn is_next(&self, from: usize, k: usize) -> bool
         requires member { has self.now k ≡ true }
         requires after { from ≤ k }
-        ensures { MatchBool result (IsNext self.now from k) ((i : ℕ) × (i < k) × IsNext self.now from i) }
+        ensures { MatchBool result (IsNext self.now from k) ((i : ℕ) × (i < k)
+            × IsNext self.now from i) }
     {
         match self.next(from) {
             Some(first) => first == k,
@@ -107,7 +108,8 @@ impl NumberSet {
 
     /// Whether the set has no number below another.
     pub(crate) fn has_none_below(&self, limit: usize) -> bool
-        ensures { MatchBool result ((i : ℕ) → i < limit → has self.now i ≡ false) ((i : ℕ) × (i < limit) × (has self.now i ≡ true)) }
+        ensures { MatchBool result ((i : ℕ) → i < limit → has self.now i ≡ false) ((i : ℕ)
+            × (i < limit) × (has self.now i ≡ true)) }
     {
         match self.next(0) {
             Some(least) => limit <= least,
@@ -129,7 +131,8 @@ impl NumberSet {
 // A word with a bit set or cleared.
 fn with_bit(word: u64, bit: usize, member: bool) -> u64
     requires { bit < 64 }
-    ensures { (b : ℕ) → b < 64 → (bit_at result b == 1) ≡ (if b == bit then member else bit_at word b == 1) }
+    ensures { (b : ℕ) → b < 64
+        → (bit_at result b == 1) ≡ (if b == bit then member else bit_at word b == 1) }
 {
     if member {
         word | 1 << bit

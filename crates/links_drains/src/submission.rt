@@ -28,9 +28,9 @@ pub struct Batch {
 }
 
 impl Table {
-    /// Makes queued rows of entries, each in the unit of its chain: of all of them, or up to and with the
-    /// first that fails. Times are read from memory. The rows that end at once are Queued until their
-    /// caller ends them.
+    /// Makes queued rows of entries, each in the unit of its chain: of all of them, or up to and
+    /// with the first that fails. Times are read from memory. The rows that end at once are Queued
+    /// until their caller ends them.
     pub fn take_batch(
         &mut self,
         entries: &[Sqe],
@@ -39,14 +39,19 @@ impl Table {
         notes: &mut Recorder,
     ) -> Result<Batch, AllocError>
         requires { length self.old + length entries.now ≤ 65536 }
-        ensures ok { OnOk result (self.new ≡ self.old ++ rows_of world.now (length self.old) (taken_of submit_all world.now entries.now)) }
-        ensures taken { IfOk result (λ batch. batch.taken ≡ length (taken_of submit_all world.now entries.now)) }
-        ensures halted { IfOk result (λ batch. batch.halted ≡ halts submit_all world.now entries.now) }
+        ensures ok { OnOk result (self.new ≡ self.old
+            ++ rows_of world.now (length self.old) (taken_of submit_all world.now entries.now)) }
+        ensures taken { IfOk result (λ batch. batch.taken
+            ≡ length (taken_of submit_all world.now entries.now)) }
+        ensures halted { IfOk result (λ batch. batch.halted
+            ≡ halts submit_all world.now entries.now) }
         ensures len { IfOk result (λ batch. length self.new ≡ length self.old + batch.taken) }
         ensures within { IfOk result (λ batch. batch.taken ≤ length entries.now) }
-        ensures direct { IfOk result (λ batch. batch.direct.items ≡ direct_of world.now (length self.old) (taken_of submit_all world.now entries.now)) }
+        ensures direct { IfOk result (λ batch. batch.direct.items
+            ≡ direct_of world.now (length self.old) (taken_of submit_all world.now entries.now)) }
         ensures err { OnErr result (self.new ≡ self.old) }
-        ensures keeps { Keeps table_owns (table_seen self.old) (table_seen self.new) notes.old.made notes.new.made }
+        ensures keeps { Keeps table_owns (table_seen self.old)
+            (table_seen self.new) notes.old.made notes.new.made }
         ensures numbers { notes.old.numbers ≤ notes.new.numbers }
         ensures completions { notes.old.completions ≤ notes.new.completions }
     {
@@ -65,8 +70,8 @@ impl Table {
         }
     }
 
-    // All of the entries become rows. Some of them may have where there is no memory. Says which of the
-    // rows end at once.
+    // All of the entries become rows. Some of them may have where there is no memory. Says which of
+    // the rows end at once.
     fn add_batch(
         &mut self,
         entries: &[Sqe],
@@ -74,12 +79,16 @@ impl Table {
         notes: &mut Recorder,
     ) -> Result<Vec<(u32, i32)>, AllocError>
         requires { length self.old + length entries.now ≤ 65536 }
-        ensures ok { OnOk result (self.new ≡ self.old ++ rows_of world.now (length self.old) entries.now) }
+        ensures ok { OnOk result (self.new ≡ self.old
+            ++ rows_of world.now (length self.old) entries.now) }
         ensures len { OnOk result (length self.new ≡ length self.old + length entries.now) }
-        ensures direct { IfOk result (λ direct. direct.items ≡ direct_of world.now (length self.old) entries.now) }
+        ensures direct { IfOk result (λ direct. direct.items
+            ≡ direct_of world.now (length self.old) entries.now) }
         ensures before { take (length self.old) self.new ≡ self.old }
-        ensures keeps { Keeps table_owns (table_seen self.old) (table_seen self.new) notes.old.made notes.new.made }
-        ensures named { (p : Place) → named notes.new.made p ≡ None → named notes.old.made p ≡ None }
+        ensures keeps { Keeps table_owns (table_seen self.old)
+            (table_seen self.new) notes.old.made notes.new.made }
+        ensures named { (p : Place) → named notes.new.made p ≡ None
+            → named notes.old.made p ≡ None }
         ensures numbers { notes.old.numbers ≤ notes.new.numbers }
         ensures completions { notes.old.completions ≤ notes.new.completions }
     {
@@ -97,10 +106,13 @@ impl Table {
         notes: &mut Recorder,
     ) -> Result<(), AllocError>
         requires { length self.old + length entries.now ≤ 65536 }
-        ensures ok { OnOk result (self.new ≡ self.old ++ rows_of world.now (length self.old) entries.now) }
+        ensures ok { OnOk result (self.new ≡ self.old
+            ++ rows_of world.now (length self.old) entries.now) }
         ensures before { take (length self.old) self.new ≡ self.old }
-        ensures keeps { Keeps table_owns (table_seen self.old) (table_seen self.new) notes.old.made notes.new.made }
-        ensures named { (p : Place) → named notes.new.made p ≡ None → named notes.old.made p ≡ None }
+        ensures keeps { Keeps table_owns (table_seen self.old)
+            (table_seen self.new) notes.old.made notes.new.made }
+        ensures named { (p : Place) → named notes.new.made p ≡ None
+            → named notes.old.made p ≡ None }
         ensures numbers { notes.old.numbers ≤ notes.new.numbers }
         ensures completions { notes.old.completions ≤ notes.new.completions }
     {
@@ -118,12 +130,14 @@ impl Table {
     }
 }
 
-// The row that an entry of a batch becomes, in a unit; the rows of the batch are numbered from a first one.
+// The row that an entry of a batch becomes, in a unit; the rows of the batch are numbered from a
+// first one.
 fn row_at(world: &World, entries: &[Sqe], i: usize, first: u32, unit: u32) -> Row
     requires within { i < length entries.now }
     requires few { first + length entries.now ≤ 65536 }
     ensures { (entry : Sqe) → slice_get entries.now i ≡ Some entry
-        → result ≡ row_with entry unit (time_in world.now (behind_in entries.now i) entry) (target_of world.now first entries.now i entry) }
+        → result ≡ row_with entry unit (time_in world.now (behind_in entries.now i) entry)
+        (target_of world.now first entries.now i entry) }
 {
     let context = Context {
         behind: behind_at(entries, i),
@@ -137,7 +151,8 @@ fn row_at(world: &World, entries: &[Sqe], i: usize, first: u32, unit: u32) -> Ro
 fn target_at(world: &World, entries: &[Sqe], i: usize, first: u32) -> Option<u32>
     requires within { i < length entries.now }
     requires few { first + length entries.now ≤ 65536 }
-    ensures { (entry : Sqe) → slice_get entries.now i ≡ Some entry → result ≡ target_of world.now first entries.now i entry }
+    ensures { (entry : Sqe) → slice_get entries.now i ≡ Some entry
+        → result ≡ target_of world.now first entries.now i entry }
 {
     if entries[i].opcode != Op::LinkTimeout as u8 || error_at(world, entries, i).is_some() {
         return None;

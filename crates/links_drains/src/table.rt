@@ -72,7 +72,8 @@ impl Part for Table {
 
     fn put(&mut self, place: Place, value: Option<Value>)
         requires { table_can_put self.old place value }
-        ensures put { (q : Place) → table_seen self.new q ≡ put_at (table_seen self.old) place value q }
+        ensures put { (q : Place)
+            → table_seen self.new q ≡ put_at (table_seen self.old) place value q }
         ensures len { OnSome value (length self.new ≡ length self.old) }
         ensures fixed { OnSome value (map fixed_of self.new ≡ map fixed_of self.old) }
     {
@@ -171,9 +172,10 @@ impl Table {
         }
     }
 
-    /// The least row from a number on that is an issued TIMEOUT for which as many completions were counted
-    /// as it waits for. Where there is none it takes constant time; where there is one, it looks at the
-    /// blocks of 256 thresholds and at the one block in which it stands, whatever has been issued or ended.
+    /// The least row from a number on that is an issued TIMEOUT for which as many completions were
+    /// counted as it waits for. Where there is none it takes constant time; where there is one, it
+    /// looks at the blocks of 256 thresholds and at the one block in which it stands, whatever has
+    /// been issued or ended.
     pub fn next_met(&self, total: u32, from: u32) -> Option<u32>
         requires { total < 2 ^ 32 - 1 }
         ensures some { IfSome result (λ r. IsNextMet self.now total from r) }
@@ -186,8 +188,8 @@ impl Table {
         }
     }
 
-    /// The later rows of a row's unit that haven't ended, in the order of their numbers; none where there
-    /// is no such row. It takes time by how many rows the unit has.
+    /// The later rows of a row's unit that haven't ended, in the order of their numbers; none where
+    /// there is no such row. It takes time by how many rows the unit has.
     pub fn rest_of(&self, r: u32) -> Result<Vec<u32>, AllocError>
         ensures { IfOk result (λ rest. rest.items ≡ rest_of_unit self.now r) }
     {
@@ -201,8 +203,10 @@ impl Table {
         ensures ok { OnOk result (self.new ≡ self.old ++ row ∷ []) }
         ensures err { OnErr result (self.new ≡ self.old) }
         ensures len { OnOk result (length self.new ≡ length self.old + 1) }
-        ensures keeps { Keeps table_owns (table_seen self.old) (table_seen self.new) notes.old.made notes.new.made }
-        ensures named { (p : Place) → named notes.new.made p ≡ None → named notes.old.made p ≡ None }
+        ensures keeps { Keeps table_owns (table_seen self.old)
+            (table_seen self.new) notes.old.made notes.new.made }
+        ensures named { (p : Place) → named notes.new.made p ≡ None
+            → named notes.old.made p ≡ None }
         ensures numbers { notes.old.numbers ≤ notes.new.numbers }
         ensures completions { notes.old.completions ≤ notes.new.completions }
         ensures others { notes.old.others ≤ notes.new.others + 1 }
@@ -225,11 +229,13 @@ impl Table {
         notes: &mut Recorder,
     ) -> Result<(), AllocError>
         requires { r < length self.old }
-        ensures ok { OnOk result (self.new ≡ updated (λ row. record row { phase = phase }) self.old r) }
+        ensures ok { OnOk result (self.new
+            ≡ updated (λ row. record row { phase = phase }) self.old r) }
         ensures err { OnErr result (self.new ≡ self.old) }
         ensures len { length self.new ≡ length self.old }
         ensures stay { Stay self.old self.new }
-        ensures keeps { Keeps table_owns (table_seen self.old) (table_seen self.new) notes.old.made notes.new.made }
+        ensures keeps { Keeps table_owns (table_seen self.old)
+            (table_seen self.new) notes.old.made notes.new.made }
         ensures numbers { notes.old.numbers ≤ notes.new.numbers }
         ensures completions { notes.old.completions ≤ notes.new.completions }
         ensures others { notes.old.others ≤ notes.new.others + 1 }
@@ -240,8 +246,8 @@ impl Table {
         Ok(())
     }
 
-    /// Issues a row, which holds a descriptor from now on, or none, with its deadline, and what was counted
-    /// before.
+    /// Issues a row, which holds a descriptor from now on, or none, with its deadline, and what was
+    /// counted before.
     pub fn issue(
         &mut self,
         r: u32,
@@ -251,11 +257,15 @@ impl Table {
         notes: &mut Recorder,
     ) -> Result<(), AllocError>
         requires { r < length self.old }
-        ensures ok { OnOk result (self.new ≡ updated (λ row. record row { phase = Issued; held = held; deadline = deadline; base = base }) self.old r) }
+        ensures ok { OnOk result (self.new
+            ≡ updated
+            (λ row. record row { phase = Issued; held = held; deadline = deadline; base = base })
+            self.old r) }
         ensures err { OnErr result (self.new ≡ self.old) }
         ensures len { length self.new ≡ length self.old }
         ensures stay { Stay self.old self.new }
-        ensures keeps { Keeps table_owns (table_seen self.old) (table_seen self.new) notes.old.made notes.new.made }
+        ensures keeps { Keeps table_owns (table_seen self.old)
+            (table_seen self.new) notes.old.made notes.new.made }
         ensures numbers { notes.old.numbers ≤ notes.new.numbers }
         ensures completions { notes.old.completions ≤ notes.new.completions }
         ensures others { notes.old.others ≤ notes.new.others + 1 }
@@ -307,8 +317,8 @@ impl Table {
     }
 }
 
-/// The row that an entry becomes as it is submitted, in the unit of a number, with its time and the row that
-/// it guards.
+/// The row that an entry becomes as it is submitted, in the unit of a number, with its time and the
+/// row that it guards.
 pub fn new_row(entry: Sqe, unit: u32, time: Option<u128>, target: Option<u32>) -> Row
     ensures { result ≡ new_row_of entry unit time target }
 {

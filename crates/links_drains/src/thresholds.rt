@@ -69,7 +69,8 @@ impl Thresholds {
     pub(crate) fn write(&mut self, k: usize, threshold: u32)
         requires { k < length self.old }
         ensures len { length self.new ≡ length self.old }
-        ensures at { (i : ℕ) → threshold_at self.new i ≡ (if i == k then threshold else threshold_at self.old i) }
+        ensures at { (i : ℕ) → threshold_at self.new i
+            ≡ (if i == k then threshold else threshold_at self.old i) }
     {
         let old = self.each[k];
         if old == threshold {
@@ -85,8 +86,8 @@ impl Thresholds {
         self.least = bound_after(self.least, bound, block, &self.minima, 0, self.minima.len());
     }
 
-    /// The least number from one on whose threshold a total reaches. It takes constant time where the total
-    /// reaches none at all, and looks into no block of which it reaches none.
+    /// The least number from one on whose threshold a total reaches. It takes constant time where
+    /// the total reaches none at all, and looks into no block of which it reaches none.
     pub(crate) fn next(&self, from: usize, total: u32) -> Option<usize>
         requires { total < 2 ^ 32 - 1 }
         ensures some { IfSome result (λ k. IsNextReached self.now total from k) }
@@ -119,8 +120,8 @@ impl Thresholds {
     }
 }
 
-// A bound of the thresholds from one number on and below another, of which one has changed. It looks at all of
-// them only where that one may have been the least.
+// A bound of the thresholds from one number on and below another, of which one has changed. It
+// looks at all of them only where that one may have been the least.
 fn bound_after(bound: u32, old: u32, k: usize, each: &[u32], from: usize, end: usize) -> u32
     requires there { k < length each.now }
     requires order { from ≤ end }
@@ -155,7 +156,8 @@ fn minimum(thresholds: &[u32]) -> u32
 fn next_between(thresholds: &[u32], from: usize, end: usize, total: u32) -> Option<usize>
     requires { end ≤ length thresholds.now }
     ensures some { IfSome result (λ k. IsNextReached thresholds.now total from k) }
-    ensures none { IfNone result ((i : ℕ) → from ≤ i → i < end → total < threshold_at thresholds.now i) }
+    ensures none { IfNone result ((i : ℕ) → from ≤ i → i < end
+        → total < threshold_at thresholds.now i) }
 {
     for k in from..end {
         if thresholds[k] <= total {
@@ -165,8 +167,8 @@ fn next_between(thresholds: &[u32], from: usize, end: usize, total: u32) -> Opti
     None
 }
 
-/// The total at which a row ends: where it is an issued TIMEOUT that counts completions, what had been counted
-/// as it was issued and what it waits for.
+/// The total at which a row ends: where it is an issued TIMEOUT that counts completions, what had
+/// been counted as it was issued and what it waits for.
 pub(crate) fn threshold_of(row: &Row) -> u32
     ensures { result ≡ threshold_of_row row.now }
 {

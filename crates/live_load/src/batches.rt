@@ -153,8 +153,9 @@ fn linked(entry: Sqe) -> Sqe {
     flagged(entry, LINK)
 }
 
-/// Bytes for all READs of the pipe, and then eight batches of chains, guards, drains and cancels. Each row ends by
-/// itself or in time, however the pushes of threads lie between one another: so no drain waits for what it holds back.
+/// Bytes for all READs of the pipe, and then eight batches of chains, guards, drains and cancels.
+/// Each row ends by itself or in time, however the pushes of threads lie between one another: so no
+/// drain waits for what it holds back.
 pub fn chains() -> [Batch; 9] {
     [
         [write(PIPE_WRITE, 512); 4],
@@ -217,8 +218,8 @@ pub fn chains() -> [Batch; 9] {
     ]
 }
 
-/// NOPs, and then eight batches for the poller, which takes one entry at a time. Each ends what waits of it, once that
-/// is issued.
+/// NOPs, and then eight batches for the poller, which takes one entry at a time. Each ends what
+/// waits of it, once that is issued.
 pub fn singles() -> [Batch; 9] {
     [
         [nop(); 4],

@@ -26,7 +26,8 @@ const PIPE: u32 = 1;
 
 const SMALL_PIPE: u32 = 3;
 
-/// Looks at all of a closed run: its events lead from its setup to its state, and each receipt is of its own event.
+/// Looks at all of a closed run: its events lead from its setup to its state, and each receipt is
+/// of its own event.
 pub fn check(alloc: Global, closed: &Closed, tally: &mut Tally) -> Result<(), Fault> {
     let mut state = State::new(alloc, closed.setup())?;
     replays(&mut state, closed, tally)?;
@@ -48,8 +49,8 @@ fn replays(state: &mut State, closed: &Closed, tally: &mut Tally) -> Result<(), 
     is_there(state, closed.state())
 }
 
-// How many rows have not ended: those whose entries were taken, without those whose completions are in the ring. Both
-// rings start from the same word, and no completion is kept elsewhere.
+// How many rows have not ended: those whose entries were taken, without those whose completions are
+// in the ring. Both rings start from the same word, and no completion is kept elsewhere.
 fn unfinished(state: &State) -> u64 {
     let taken = number_at(state, Place::SubmissionHead);
     let ended = number_at(state, Place::CompletionTail);

@@ -1,4 +1,5 @@
-//! Live runs under load: sixteen submitters and eight kernel workers, without a poller and beside one.
+//! Live runs under load: sixteen submitters and eight kernel workers, without a poller and beside
+//! one.
 #![tactic(auto)]
 
 mod batches;

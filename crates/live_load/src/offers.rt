@@ -24,7 +24,8 @@ const BATCH: u32 = 4096;
 /// More than the events of a batch of a kernel worker.
 const DEEDS: u32 = 16384;
 
-/// Reads the program's name and the words behind it: `offers`, the number of rows that ended, of those that wait, and how often an offer is asked for.
+/// Reads the program's name and the words behind it: `offers`, the number of rows that ended, of
+/// those that wait, and how often an offer is asked for.
 pub fn plan_of(words: &[String]) -> Option<Plan> {
     let [_, word, ended, waiting, times] = words else {
         return None;
@@ -41,8 +42,8 @@ fn number_of(word: &String) -> Option<u32> {
     word.as_str().parse::<u32>().ok()
 }
 
-/// Asks for the offers of a kernel worker as one more row is there to be issued, once it is issued, and once it has
-/// ended. Tells how many there were.
+/// Asks for the offers of a kernel worker as one more row is there to be issued, once it is issued,
+/// and once it has ended. Tells how many there were.
 pub fn ask(alloc: Global, plan: Plan) -> Result<u32, Fault> {
     let setup = asking_setup(alloc, plan.ended, plan.waiting)?;
     ask_over::<Brand>(
@@ -63,8 +64,8 @@ fn ask_over<L: Ledger>(alloc: Global, blank: Blank, setup: &Setup, times: u32) -
     Ok(drive(&mut live, &mut seats, times))
 }
 
-// Each thread but the last submits all it has, and the kernel worker does all it can. Behind the last one's entry it is
-// asked.
+// Each thread but the last submits all it has, and the kernel worker does all it can. Behind the
+// last one's entry it is asked.
 fn drive<L: Ledger>(live: &mut Live<L>, seats: &mut [Seat<L>], times: u32) -> u32 {
     let kernel = seats.len().saturating_sub(1);
     let poller = kernel.saturating_sub(1);

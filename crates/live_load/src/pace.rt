@@ -9,12 +9,14 @@ use std::time::{Clock, Duration};
 /// How many turns an actor can be ahead of another.
 const LEAD: u32 = 8;
 
-/// How often an actor asks for the others, and how long it sleeps before it asks again, in milliseconds.
+/// How often an actor asks for the others, and how long it sleeps before it asks again, in
+/// milliseconds.
 const ASKED: u32 = 10000;
 
 const SLEEP: u64 = 1;
 
-/// At its turn k an actor waits for turn k - 8 of the others. One that asks in vain is told not to go on.
+/// At its turn k an actor waits for turn k - 8 of the others. One that asks in vain is told not to
+/// go on.
 #[derive(Drop)]
 pub struct Pace {
     turns: Vec<AtomicU64>,

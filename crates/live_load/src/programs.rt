@@ -29,8 +29,8 @@ const BASE: u32 = 4294967000;
 /// The most entries that a program pushes behind those that it puts.
 const PUSHES: usize = 4092;
 
-/// Where threads store a byte, and how often each does so with each chain, and beside a poller for each completion:
-/// the other actors need so many turns for what it submits.
+/// Where threads store a byte, and how often each does so with each chain, and beside a poller for
+/// each completion: the other actors need so many turns for what it submits.
 const STORED: u32 = 4096;
 
 const CHAIN_STORES: u32 = 6;
@@ -169,7 +169,8 @@ fn programs(alloc: Global, way: Way) -> Result<Items<Items<Instruction>>, AllocE
 /// The objects' names.
 const NAMES: [u8; 5] = *b"fpesq";
 
-// What the object of a name is: a file, a pipe, an eventfd, a small pipe, or an eventfd that stays at 0.
+// What the object of a name is: a file, a pipe, an eventfd, a small pipe, or an eventfd that stays
+// at 0.
 fn contents(alloc: Global, name: u8) -> Result<Contents, AllocError> {
     Ok(match name {
         b'f' => Contents::File(Items::of(vec![in alloc; 1u8; 4096]?)),
@@ -273,7 +274,8 @@ fn asking_programs(alloc: Global, slots: &[u32]) -> Result<Items<Items<Instructi
     Ok(Items::of(programs))
 }
 
-/// Threads that push so many NOPs, and behind them so many polls that wait; and one thread more, which pushes a NOP.
+/// Threads that push so many NOPs, and behind them so many polls that wait; and one thread more,
+/// which pushes a NOP.
 pub fn asking_setup(alloc: Global, nops: u32, polls: u32) -> Result<Setup, AllocError> {
     let slots = asked_slots(alloc, nops, polls)?;
     let programs = asking_programs(alloc, &slots)?;

@@ -55,8 +55,8 @@ fn kind_of(event: Event) -> usize {
     }
 }
 
-// Whether a request ended well: a transfer that moved all, a guard that its target ended before, any other without
-// an error.
+// Whether a request ended well: a transfer that moved all, a guard that its target ended before,
+// any other without an error.
 fn is_well(op: Op, row: &Row, res: i32) -> bool {
     match op {
         Op::Read | Op::Write => i64::from(res) == i64::from(row.entry.len),
@@ -97,7 +97,8 @@ impl Tally {
         }
     }
 
-    /// Tells what is missing: there are enough events, each kind, and each opcode ended well and badly.
+    /// Tells what is missing: there are enough events, each kind, and each opcode ended well and
+    /// badly.
     pub fn tell(&self) -> Result<(), Fault> {
         if self.events < LEAST_EVENTS {
             return Err(Fault::Few(self.events));

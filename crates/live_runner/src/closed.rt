@@ -113,9 +113,11 @@ impl Closed {
     /// The event of a receipt, if the run has that event at its moment, and it is its actor's.
     #[tactic(auto, using(crate::proofs::Telling::told_is_of))]
     pub fn redeem(&self, receipt: &Receipt) -> Option<Event>
-        ensures some { (result ≡ Some receipt.now.event) ↔ IsOf self.now.owners self.now.events receipt.now }
+        ensures some { (result ≡ Some receipt.now.event)
+            ↔ IsOf self.now.owners self.now.events receipt.now }
         ensures none { result ≢ None → result ≡ Some receipt.now.event }
-        ensures own { (a : ℕ) → Contains (told a self.now.owners self.now.events) receipt.now → result ≡ Some receipt.now.event }
+        ensures own { (a : ℕ) → Contains (told a self.now.owners self.now.events) receipt.now
+            → result ≡ Some receipt.now.event }
     {
         if self.has(receipt) {
             Some(receipt.event)

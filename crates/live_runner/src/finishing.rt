@@ -27,7 +27,8 @@ pub fn finish<'g, L: Ledger, G: Gate>(
     ensures count { receipt_count workers.entry.items ≡ length live.events }
     ensures closed { IfOk result (λ c. c ≡ closed_of live (told_to workers.entry.items)) }
     ensures whole { OnOk result (AllTold live.owners live.events (told_to workers.entry.items)) }
-    ensures torn { IfErr result (λ t. LeastTorn live.owners live.events (told_to workers.entry.items) t.0) }
+    ensures torn { IfErr result
+        (λ t. LeastTorn live.owners live.events (told_to workers.entry.items) t.0) }
 {
     let ended = end(live, workers);
     match first_torn(&ended.owners, &ended.events, &ended.lists) {
@@ -45,7 +46,8 @@ fn end<'g, L: Ledger, G: Gate>(live: Live<L>, workers: Vec<Worker<'g, L, G>>) ->
     ensures few { length (told_to workers.entry.items) < 2 ^ 32 }
     ensures pairs { length live.owners ≡ length live.events }
     ensures most { length live.events ≤ 1048576 }
-    ensures whole { AllTold live.owners live.events (told_to workers.entry.items) → Whole (closed_of live (told_to workers.entry.items)) }
+    ensures whole { AllTold live.owners live.events (told_to workers.entry.items)
+        → Whole (closed_of live (told_to workers.entry.items)) }
 {
     let Live {
         alloc: _,
@@ -154,7 +156,9 @@ fn is_told_at(
 ) -> bool
     requires there { moment < length events.now }
     requires most { length events.now ≤ 1048576 }
-    ensures { (result ≡ true) ↔ (slice_get receipts.now place ≡ option_map (receipt actor moment) (slice_get events.now moment)) }
+    ensures { (result ≡ true)
+        ↔ (slice_get receipts.now place
+        ≡ option_map (receipt actor moment) (slice_get events.now moment)) }
 {
     match events.get(moment) {
         Some(event) => {

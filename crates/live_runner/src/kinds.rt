@@ -4,7 +4,8 @@ ghost use Rattle.live_runner.specs.Actors.{actors, pollers, is_own, is_submitter
 
 use scenario::{Event, Setup};
 
-/// How many actors there are: a submitter for each thread, then the poller, and then the kernel workers.
+/// How many actors there are: a submitter for each thread, then the poller, and then the kernel
+/// workers.
 pub fn actors(setup: &Setup, kernel: u32) -> u32
     requires { kernel ≤ 8 }
     ensures value { result ≡ actors setup.now kernel }

@@ -24,22 +24,27 @@ ghost use Rattle.live_runner.specs.declared.receipt.Receipt.{Receipt};
 
 /// In a closed run the moments of an actor's receipts rise.
 pub fn moments_rise()
-    ensures { (c : Past) (a : ℕ) (receipts : List Receipt) → Whole c → slice_get c.receipts a ≡ Some receipts → IsStrictlyIncreasing (map (λ (r : Receipt). r.moment) receipts) }
+    ensures { (c : Past) (a : ℕ) (receipts : List Receipt) → Whole c
+        → slice_get c.receipts a ≡ Some receipts
+        → IsStrictlyIncreasing (map (λ (r : Receipt). r.moment) receipts) }
 {}
 
 /// No two receipts of a closed run share a moment, whoever was told them.
 pub fn moments_differ()
-    ensures { (c : Past) (a b : ℕ) (r s : Receipt) → Whole c → IsReceiptOf c a r → IsReceiptOf c b s → r.moment ≡ s.moment → (a ≡ b) × (r ≡ s) }
+    ensures { (c : Past) (a b : ℕ) (r s : Receipt) → Whole c → IsReceiptOf c a r → IsReceiptOf c b s
+        → r.moment ≡ s.moment → (a ≡ b) × (r ≡ s) }
 {}
 
 /// Each receipt of a closed run is of its own event.
 pub fn receipts_redeem()
-    ensures { (c : Past) (a : ℕ) (r : Receipt) → Whole c → IsReceiptOf c a r → IsOf c.owners c.events r }
+    ensures { (c : Past) (a : ℕ) (r : Receipt) → Whole c → IsReceiptOf c a r
+        → IsOf c.owners c.events r }
 {}
 
 /// A row is offered to which it may be done, and to none before it.
 pub fn least_rows_offered()
-    ensures { (m : Machine) (deed : Deed) (r : ℕ) → least_row m deed ≡ Some r → (may_do m deed r ≡ true) × ((k : ℕ) → k < r → may_do m deed k ≡ false) }
+    ensures { (m : Machine) (deed : Deed) (r : ℕ) → least_row m deed ≡ Some r
+        → (may_do m deed r ≡ true) × ((k : ℕ) → k < r → may_do m deed k ≡ false) }
 {}
 
 /// Those that may be issued are the eligible ones.
@@ -49,12 +54,18 @@ pub fn eligible_rows_issued()
 
 /// Those that are finished are issued, and neither a TIMEOUT nor a LINK_TIMEOUT.
 pub fn issued_rows_finished()
-    ensures { (m : Machine) (r : ℕ) → may_do m Finishing r ≡ true → option_map_or (λ (row : Row). is_issued row.phase && not (is_timer row.entry.opcode)) (slice_get m.table r) false ≡ true }
+    ensures { (m : Machine) (r : ℕ) → may_do m Finishing r ≡ true
+        → option_map_or (λ (row : Row). is_issued row.phase && not (is_timer row.entry.opcode))
+        (slice_get m.table r) false ≡ true }
 {}
 
 /// Those that expire are the issued TIMEOUTs and LINK_TIMEOUTs that are due.
 pub fn due_rows_expired()
-    ensures { (m : Machine) (r : ℕ) → may_do m Expiring r ≡ option_map_or (λ (row : Row). is_timer row.entry.opcode && (is_issued row.phase && is_due m.clock row)) (slice_get m.table r) false }
+    ensures { (m : Machine) (r : ℕ)
+        → may_do m Expiring r
+        ≡ option_map_or
+        (λ (row : Row). is_timer row.entry.opcode && (is_issued row.phase && is_due m.clock row))
+        (slice_get m.table r) false }
 {}
 
 /// The clock goes on to the least deadline of all.
@@ -64,10 +75,12 @@ pub fn least_deadline_told()
 
 /// What a kernel worker is offered is refused for want of memory alone.
 pub fn offers_accepted()
-    ensures { (setup : Setup) (count : ℕ) (m : Machine) (actor : ℕ) (e : Event) → WellFormed m → offer setup count m actor ≡ Some e → is_of_worker e ≡ true → refusal m e ≡ None }
+    ensures { (setup : Setup) (count : ℕ) (m : Machine) (actor : ℕ) (e : Event) → WellFormed m
+        → offer setup count m actor ≡ Some e → is_of_worker e ≡ true → refusal m e ≡ None }
 {}
 
 /// An actor is offered its own events alone.
 pub fn offers_own()
-    ensures { (setup : Setup) (count : ℕ) (m : Machine) (actor : ℕ) (e : Event) → offer setup count m actor ≡ Some e → is_own setup count actor e ≡ true }
+    ensures { (setup : Setup) (count : ℕ) (m : Machine) (actor : ℕ) (e : Event)
+        → offer setup count m actor ≡ Some e → is_own setup count actor e ≡ true }
 {}

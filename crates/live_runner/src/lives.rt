@@ -53,10 +53,27 @@ impl<L: Ledger> Model for Live<L> {
 
     ghost Value = { History };
 
-    ghost view = { λ l. record { setup = l.setup; actors = l.actors; events = l.events.items; owners = l.owners.items; state = l.state; total = l.book.total } };
+    ghost view = { λ l. record {
+      setup = l.setup;
+      actors = l.actors;
+      events = l.events.items;
+      owners = l.owners.items;
+      state = l.state;
+      total = l.book.total;
+    } };
 
-    ghost invariant = { λ l. Replays (record { setup = l.setup; actors = l.actors; events = l.events.items; owners = l.owners.items; state = l.state; total = l.book.total }) l.records.items
-        × (l.rest.parts ≡ 0) × (l.rest.amount ≡ 0) × (vec_len l.room ≡ 0) × (l.actors ≤ vec_capacity l.room) × EndedBelow l.state.table l.first };
+    ghost invariant = { λ l. Replays
+        (record {
+          setup = l.setup;
+          actors = l.actors;
+          events = l.events.items;
+          owners =
+              l.owners.items;
+          state = l.state;
+          total = l.book.total;
+        }) l.records.items
+        × (l.rest.parts ≡ 0) × (l.rest.amount ≡ 0) × (vec_len l.room ≡ 0)
+        × (l.actors ≤ vec_capacity l.room) × EndedBelow l.state.table l.first };
 }
 
 /// Why an actor's event was not done.
@@ -86,7 +103,8 @@ impl<L: Ledger> Live<L> {
         ensures order { IfOk result (λ r. InOrder r.1.items) }
         ensures untold { IfOk result (λ r. All (λ s. s.receipts ≡ []) r.1.items) }
         ensures refused { (r : SetupRefusal) → setup_refusal setup.now ≡ Some r → result ≡ Err r }
-        ensures only_memory { IfErr result (λ r. setup_refusal setup.now ≡ None → r ≡ SetupRefusal.Memory) }
+        ensures only_memory { IfErr result (λ r. setup_refusal setup.now ≡ None
+            → r ≡ SetupRefusal.Memory) }
     {
         if let Some(refusal) = setup_refusal(setup) {
             return Err(refusal);
@@ -151,7 +169,8 @@ impl<L: Ledger> Live<L> {
     /// One event of a seat's actor at the end of the run.
     pub fn attempt(&mut self, seat: &mut Seat<L>, event: Event) -> Result<Receipt, LiveRefusal>
         ensures attempted { Attempted self.old seat.old event result self.new seat.new }
-        ensures kept { (self.new.setup ≡ self.old.setup) × (self.new.actors ≡ self.old.actors) × (seat.new.actor ≡ seat.old.actor) }
+        ensures kept { (self.new.setup ≡ self.old.setup) × (self.new.actors ≡ self.old.actors)
+            × (seat.new.actor ≡ seat.old.actor) }
     {
         if !is_own(&self.setup, self.actors, seat.actor, event) {
             return Err(LiveRefusal::NotYours);
@@ -176,7 +195,8 @@ impl<L: Ledger> Live<L> {
         ensures receipt { IfOk result (λ r. r ≡ receipt seat.old.actor moment event) }
         ensures seat { IfOk result (λ r. seat.new ≡ seat_with seat.old r) }
         ensures refused { (n : Refusal) → refusal self.old.state event ≡ Some n → result ≡ Err n }
-        ensures only_memory { IfErr result (λ n. (refusal self.old.state event ≡ Some n) ⊎ ((n ≡ Refusal.Memory) × (refusal self.old.state event ≡ None))) }
+        ensures only_memory { IfErr result (λ n. (refusal self.old.state event ≡ Some n)
+            ⊎ ((n ≡ Refusal.Memory) × (refusal self.old.state event ≡ None))) }
         ensures err { OnErr result ((self.new ≡ self.old) × (seat.new ≡ seat.old)) }
     {
         if make_room(
@@ -205,8 +225,9 @@ impl<L: Ledger> Live<L> {
         Ok(receipt)
     }
 
-    /// What an actor does next, if anything. It takes no memory. It looks at each queued and each issued row once at
-    /// most, and at none that ended; those that ended before all others cost it nothing.
+    /// What an actor does next, if anything. It takes no memory. It looks at each queued and each
+    /// issued row once at most, and at none that ended; those that ended before all others cost it
+    /// nothing.
     pub fn offer(&self, actor: u32) -> Option<Event>
         ensures { result ≡ offer self.now.setup self.now.actors self.now.state actor }
     {
@@ -215,13 +236,18 @@ impl<L: Ledger> Live<L> {
 
     /// Attempts what the seat's actor does next, if anything.
     pub fn take_offer(&mut self, seat: &mut Seat<L>) -> Option<Result<Receipt, LiveRefusal>>
-        ensures none { (result ≡ None) ↔ (offer self.old.setup self.old.actors self.old.state seat.old.actor ≡ None) }
+        ensures none { (result ≡ None)
+            ↔ (offer self.old.setup self.old.actors self.old.state seat.old.actor ≡ None) }
         ensures idle { result ≡ None → (self.new ≡ self.old) × (seat.new ≡ seat.old) }
-        ensures kept { (self.new.setup ≡ self.old.setup) × (self.new.actors ≡ self.old.actors) × (seat.new.actor ≡ seat.old.actor) }
+        ensures kept { (self.new.setup ≡ self.old.setup) × (self.new.actors ≡ self.old.actors)
+            × (seat.new.actor ≡ seat.old.actor) }
         ensures told { (r : _) → result ≡ Some (Ok r) → seat.new ≡ seat_with seat.old r }
-        ensures attempted { (e : Event) (x : _) → offer self.old.setup self.old.actors self.old.state seat.old.actor ≡ Some e → result ≡ Some x
+        ensures attempted { (e : Event) (x : _)
+            → offer self.old.setup self.old.actors self.old.state seat.old.actor ≡ Some e
+            → result ≡ Some x
             → Attempted self.old seat.old e x self.new seat.new }
-        ensures err { (x : _) → result ≡ Some (Err x) → (self.new ≡ self.old) × (seat.new ≡ seat.old) }
+        ensures err { (x : _) → result ≡ Some (Err x) → (self.new ≡ self.old)
+            × (seat.new ≡ seat.old) }
     {
         let event = self.offer(seat.actor())?;
         Some(self.attempt(seat, event))

@@ -21,7 +21,8 @@ pub enum Deed {
     Expiring,
 }
 
-/// What an actor of so many does next, if anything, where each row before the first has ended. It takes no memory.
+/// What an actor of so many does next, if anything, where each row before the first has ended. It
+/// takes no memory.
 pub(crate) fn offer(
     setup: &Setup,
     count: u32,
@@ -148,7 +149,8 @@ fn clock(state: &State) -> u64
     }
 }
 
-// Whether a row may end in full. One that has a deadline is a TIMEOUT or a LINK_TIMEOUT, which may not.
+// Whether a row may end in full. One that has a deadline is a TIMEOUT or a LINK_TIMEOUT, which may
+// not.
 fn may_finish(state: &State, r: u32, deadline: Option<u128>) -> bool
     requires formed { WellFormed state.now }
     requires deadline { deadline ≡ deadline_at state.now.table r }

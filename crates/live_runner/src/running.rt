@@ -45,9 +45,12 @@ pub fn run_live<G: Gate, R: Threads + Wait + Clock + Sync>(
     requires { kernel ≤ 8 }
     ensures whole { IfOk result Whole }
     ensures same { IfOk result (λ c. (c.setup ≡ setup.now) × (c.actors ≡ actors setup.now kernel)) }
-    ensures refused { (n : SetupRefusal) → setup_refusal setup.now ≡ Some n → result ≡ Err (LiveFault.Setup n) }
-    ensures only_memory { (n : SetupRefusal) → result ≡ Err (LiveFault.Setup n) → setup_refusal setup.now ≡ None → n ≡ SetupRefusal.Memory }
-    ensures strange { (s : Setup) (k : ℕ) → result ≡ Err (LiveFault.Strange s k) → s ≡ setup.now → k ≢ actors setup.now kernel }
+    ensures refused { (n : SetupRefusal) → setup_refusal setup.now ≡ Some n
+        → result ≡ Err (LiveFault.Setup n) }
+    ensures only_memory { (n : SetupRefusal) → result ≡ Err (LiveFault.Setup n)
+        → setup_refusal setup.now ≡ None → n ≡ SetupRefusal.Memory }
+    ensures strange { (s : Setup) (k : ℕ) → result ≡ Err (LiveFault.Strange s k) → s ≡ setup.now
+        → k ≢ actors setup.now kernel }
 {
     let blank = Blank::new(actors(setup, kernel) as u64);
     run_over::<Brand, G, R>(rt, alloc, blank, setup, kernel, turns, gate)
@@ -69,9 +72,12 @@ fn run_over<L: Ledger + Send + Sync, G: Gate, R: Threads + Wait + Clock + Sync>(
     requires all { blank.parts ≡ actors setup.now kernel }
     ensures whole { IfOk result Whole }
     ensures same { IfOk result (λ c. (c.setup ≡ setup.now) × (c.actors ≡ actors setup.now kernel)) }
-    ensures refused { (n : SetupRefusal) → setup_refusal setup.now ≡ Some n → result ≡ Err (LiveFault.Setup n) }
-    ensures only_memory { (n : SetupRefusal) → result ≡ Err (LiveFault.Setup n) → setup_refusal setup.now ≡ None → n ≡ SetupRefusal.Memory }
-    ensures strange { (s : Setup) (k : ℕ) → result ≡ Err (LiveFault.Strange s k) → s ≡ setup.now → k ≢ actors setup.now kernel }
+    ensures refused { (n : SetupRefusal) → setup_refusal setup.now ≡ Some n
+        → result ≡ Err (LiveFault.Setup n) }
+    ensures only_memory { (n : SetupRefusal) → result ≡ Err (LiveFault.Setup n)
+        → setup_refusal setup.now ≡ None → n ≡ SetupRefusal.Memory }
+    ensures strange { (s : Setup) (k : ℕ) → result ≡ Err (LiveFault.Strange s k) → s ≡ setup.now
+        → k ≢ actors setup.now kernel }
 {
     let (live, seats) = match Live::<L>::open(alloc, blank, setup, kernel) {
         Ok(opened) => opened,
@@ -97,7 +103,8 @@ pub fn close<'g, L: Ledger, G: Gate>(
     ensures whole { IfOk result Whole }
     ensures same { IfOk result (λ c. (c.setup ≡ setup.now) × (c.actors ≡ count)) }
     ensures started { (n : SetupRefusal) → result ≢ Err (LiveFault.Setup n) }
-    ensures strange { (s : Setup) (k : ℕ) → result ≡ Err (LiveFault.Strange s k) → s ≡ setup.now → k ≢ count }
+    ensures strange { (s : Setup) (k : ℕ) → result ≡ Err (LiveFault.Strange s k) → s ≡ setup.now
+        → k ≢ count }
 {
     if !live.setup().is(setup) || live.actors() != count {
         let (setup, count) = live.into_setup();
@@ -162,8 +169,8 @@ pub fn start_all<'s, E, L: Ledger + Send + Sync + 's, G: Gate + 's, R: Wait + Cl
     handles
 }
 
-/// Joins threads, in order, and makes a worker of each one's seat, in room that there is for so many. None where
-/// there are fewer.
+/// Joins threads, in order, and makes a worker of each one's seat, in room that there is for so
+/// many. None where there are fewer.
 pub fn join_all<'g, L: Ledger, G: Gate, R: Threads>(
     rt: &R,
     handles: Vec<Running<L>>,
@@ -188,7 +195,8 @@ pub fn join_all<'g, L: Ledger, G: Gate, R: Threads>(
     }
 }
 
-// Runs a thread for each seat, and joins them all. None where one couldn't be started, or there is no memory.
+// Runs a thread for each seat, and joins them all. None where one couldn't be started, or there is
+// no memory.
 fn take_turns<'g, L: Ledger + Send + Sync, G: Gate, R: Threads + Wait + Clock + Sync>(
     rt: &R,
     alloc: Global,
@@ -208,7 +216,8 @@ fn take_turns<'g, L: Ledger + Send + Sync, G: Gate, R: Threads + Wait + Clock + 
         thread::scope_env(),
         rt,
         |scope| -> Vec<Running<L>>
-            requires { InOrder seats.items × (vec_len handles ≡ 0) × (vec_len seats ≤ vec_capacity handles) }
+            requires { InOrder seats.items × (vec_len handles ≡ 0)
+                × (vec_len seats ≤ vec_capacity handles) }
             ensures { HandlesInOrder result.items }
         { start_all(scope, rt, lock, seats, turns, gate, handles) },
     );

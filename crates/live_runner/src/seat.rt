@@ -20,9 +20,22 @@ impl<L: Ledger> Model for Seat<L> {
 
     ghost Value = { Held };
 
-    ghost view = { λ s. record { actor = s.actor; receipts = s.receipts.items; parts = s.share.parts; amount = s.share.amount } };
+    ghost view = { λ s. record {
+      actor = s.actor;
+      receipts = s.receipts.items;
+      parts = s.share.parts;
+      amount =
+          s.share.amount;
+    } };
 
-    ghost invariant = { λ s. Counted (record { actor = s.actor; receipts = s.receipts.items; parts = s.share.parts; amount = s.share.amount }) };
+    ghost invariant = { λ s. Counted
+        (record {
+          actor = s.actor;
+          receipts = s.receipts.items;
+          parts = s.share.parts;
+          amount =
+              s.share.amount;
+        }) };
 }
 
 impl<L: Ledger> Seat<L> {

@@ -36,11 +36,13 @@ impl Machine {
         entry: &Sqe,
         notes: &mut Recorder,
     ) -> Result<(), AllocError>
-        requires there { (row : Row) × (slice_get self.old.table r ≡ Some row) × (is_ended row.phase ≡ false) }
+        requires there { (row : Row) × (slice_get self.old.table r ≡ Some row)
+            × (is_ended row.phase ≡ false) }
         requires formed { WellFormed self.old }
         ensures ok { OnOk result (self.new ≡ cancelled self.old r entry.now) }
         ensures grows { Grows self.old self.new }
-        ensures keeps { Keeps everywhere (view self.old) (view self.new) notes.old.made notes.new.made }
+        ensures keeps { Keeps everywhere (view self.old)
+            (view self.new) notes.old.made notes.new.made }
     {
         let verdict = self.verdict(r, entry)?;
         let direct = ending_with(self.table.allocator(), r, &verdict)?;
@@ -50,7 +52,8 @@ impl Machine {
     // What it comes to.
     fn verdict(&self, me: u32, entry: &Sqe) -> Result<Verdict, AllocError>
         requires few { length self.now.table ≤ 65536 }
-        ensures { IfOk result (λ v. (v.res, v.rows.items) ≡ verdict_of self.now.table self.now.world me entry.now) }
+        ensures { IfOk result (λ v. (v.res, v.rows.items)
+            ≡ verdict_of self.now.table self.now.world me entry.now) }
     {
         let key = key_of(entry);
         if takes_all(entry) {
@@ -81,7 +84,8 @@ fn on_found(alloc: Global, found: Found) -> Result<Verdict, AllocError>
 
 // A row with its result, and the rows that it ends, in the order of their numbers.
 fn ending_with(alloc: Global, me: u32, verdict: &Verdict) -> Result<Vec<(u32, i32)>, AllocError>
-    ensures { IfOk result (λ direct. direct.items ≡ ending_with me (verdict.now.res, verdict.now.rows.items)) }
+    ensures { IfOk result (λ direct. direct.items
+        ≡ ending_with me (verdict.now.res, verdict.now.rows.items)) }
 {
     let mut direct = canceled_before(alloc, &verdict.rows, me)?;
     direct.push((me, verdict.res))?;

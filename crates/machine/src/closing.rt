@@ -18,7 +18,8 @@ impl Machine {
         requires formed { WellFormed self.old }
         ensures ok { OnOk result (self.new ≡ closed self.old t fd) }
         ensures grows { Grows self.old self.new }
-        ensures keeps { Keeps everywhere (view self.old) (view self.new) notes.old.made notes.new.made }
+        ensures keeps { Keeps everywhere (view self.old)
+            (view self.new) notes.old.made notes.new.made }
     {
         if !is_open(self.world.descriptor_at(fd)) {
             return self.threads.answer(t, -i64::from(EBADF), notes);

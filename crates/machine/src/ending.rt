@@ -25,7 +25,8 @@ impl Machine {
         requires counts { self.old.counted + 1 < 2 ^ 32 }
         ensures ok { OnOk result (self.new ≡ ended self.old r res) }
         ensures grows { Grows self.old self.new }
-        ensures keeps { Keeps everywhere (view self.old) (view self.new) notes.old.made notes.new.made }
+        ensures keeps { Keeps everywhere (view self.old)
+            (view self.new) notes.old.made notes.new.made }
     {
         let Some(row) = self.table.get(r) else {
             unreachable!()
@@ -63,15 +64,16 @@ impl Machine {
         requires mostly { Mostly self.old }
         ensures ok { OnOk result (self.new ≡ fallen self.old direct.now) }
         ensures grows { Grows self.old self.new }
-        ensures keeps { Keeps everywhere (view self.old) (view self.new) notes.old.made notes.new.made }
+        ensures keeps { Keeps everywhere (view self.old)
+            (view self.new) notes.old.made notes.new.made }
     {
         let endings = fall(&self.table, self.counted, direct)?;
         self.expect(endings.len(), notes)?;
         self.end_all(&endings, notes)
     }
 
-    // Takes the memory at once of the notes that so many endings make: of their rows, and of the completions
-    // that the ring has no slots for.
+    // Takes the memory at once of the notes that so many endings make: of their rows, and of the
+    // completions that the ring has no slots for.
     fn expect(&self, n: usize, notes: &mut Recorder) -> Result<(), AllocError>
         ensures { notes.new.made ≡ notes.old.made }
     {
@@ -88,13 +90,15 @@ impl Machine {
         endings: &[(u32, i32)],
         notes: &mut Recorder,
     ) -> Result<(), AllocError>
-        requires there { (i : ℕ) (p : ℕ × ℤ) → slice_get endings.now i ≡ Some p → p.0 < length self.old.table }
+        requires there { (i : ℕ) (p : ℕ × ℤ) → slice_get endings.now i ≡ Some p
+            → p.0 < length self.old.table }
         requires room { length self.old.backlog.items + length endings.now ≤ 65536 }
         requires delivery { DeliveryFormed (delivery self.old) }
         requires counts { self.old.counted + length endings.now < 2 ^ 32 }
         ensures ok { OnOk result (self.new ≡ ended_in_turn self.old endings.now) }
         ensures grows { Grows self.old self.new }
-        ensures keeps { Keeps everywhere (view self.old) (view self.new) notes.old.made notes.new.made }
+        ensures keeps { Keeps everywhere (view self.old)
+            (view self.new) notes.old.made notes.new.made }
     {
         for i in 0..endings.len() {
             let (r, res) = endings[i];

@@ -29,12 +29,16 @@ impl Machine {
         flags: u32,
         notes: &mut Recorder,
     ) -> Result<(), AllocError>
-        requires next { next_of (slice_get self.old.threads t) ≡ Some (Enter to_submit min_complete flags) }
-        requires accepted { instruction_refusal self.old (Enter to_submit min_complete flags) ≡ None }
+        requires next { next_of (slice_get self.old.threads t)
+            ≡ Some (Enter to_submit min_complete flags) }
+        requires accepted { instruction_refusal self.old (Enter to_submit min_complete flags)
+            ≡ None }
         requires formed { WellFormed self.old }
-        ensures ok { OnOk result (self.new ≡ executed self.old t (Some (Enter to_submit min_complete flags))) }
+        ensures ok { OnOk result (self.new
+            ≡ executed self.old t (Some (Enter to_submit min_complete flags))) }
         ensures grows { Grows self.old self.new }
-        ensures keeps { Keeps everywhere (view self.old) (view self.new) notes.old.made notes.new.made }
+        ensures keeps { Keeps everywhere (view self.old)
+            (view self.new) notes.old.made notes.new.made }
     {
         if flags > GETEVENTS | SQ_WAKEUP {
             return self.threads.answer(t, -i64::from(EINVAL), notes);
@@ -55,12 +59,15 @@ impl Machine {
         flags: u32,
         notes: &mut Recorder,
     ) -> Result<(), AllocError>
-        requires next { next_of (slice_get self.old.threads t) ≡ Some (Enter to_submit min_complete flags) }
+        requires next { next_of (slice_get self.old.threads t)
+            ≡ Some (Enter to_submit min_complete flags) }
         requires accepted { alone_refusal self.old to_submit flags ≡ None }
         requires formed { WellFormed self.old }
-        ensures ok { OnOk result (self.new ≡ entered_alone self.old t to_submit min_complete flags) }
+        ensures ok { OnOk result (self.new
+            ≡ entered_alone self.old t to_submit min_complete flags) }
         ensures grows { Grows self.old self.new }
-        ensures keeps { Keeps everywhere (view self.old) (view self.new) notes.old.made notes.new.made }
+        ensures keeps { Keeps everywhere (view self.old)
+            (view self.new) notes.old.made notes.new.made }
     {
         self.make_way(to_submit, flags, notes)?;
         if to_submit > 0 && !self.backlog.is_empty() {
@@ -70,7 +77,8 @@ impl Machine {
         self.answer_or_wait(t, taken, to_submit, min_complete, flags, notes)
     }
 
-    // Kept completions move into the ring, where completions are asked for or entries are to be submitted.
+    // Kept completions move into the ring, where completions are asked for or entries are to be
+    // submitted.
     fn make_way(
         &mut self,
         to_submit: u32,
@@ -80,7 +88,8 @@ impl Machine {
         requires formed { WellFormed self.old }
         ensures ok { OnOk result (self.new ≡ before_submission self.old to_submit flags) }
         ensures grows { Grows self.old self.new }
-        ensures keeps { Keeps everywhere (view self.old) (view self.new) notes.old.made notes.new.made }
+        ensures keeps { Keeps everywhere (view self.old)
+            (view self.new) notes.old.made notes.new.made }
     {
         if flags & GETEVENTS == 0 && to_submit == 0 {
             return Ok(());
@@ -97,12 +106,15 @@ impl Machine {
         flags: u32,
         notes: &mut Recorder,
     ) -> Result<(), AllocError>
-        requires next { next_of (slice_get self.old.threads t) ≡ Some (Enter to_submit min_complete flags) }
+        requires next { next_of (slice_get self.old.threads t)
+            ≡ Some (Enter to_submit min_complete flags) }
         requires poller { is_some self.old.poller ≡ true }
         requires formed { WellFormed self.old }
-        ensures ok { OnOk result (self.new ≡ entered_beside self.old t to_submit min_complete flags) }
+        ensures ok { OnOk result (self.new
+            ≡ entered_beside self.old t to_submit min_complete flags) }
         ensures grows { Grows self.old self.new }
-        ensures keeps { Keeps everywhere (view self.old) (view self.new) notes.old.made notes.new.made }
+        ensures keeps { Keeps everywhere (view self.old)
+            (view self.new) notes.old.made notes.new.made }
     {
         self.wake(flags, notes)?;
         self.show_kept(flags, notes)?;
@@ -114,7 +126,8 @@ impl Machine {
         requires poller { is_some self.old.poller ≡ true }
         ensures ok { OnOk result (self.new ≡ woken self.old flags) }
         ensures grows { Grows self.old self.new }
-        ensures keeps { Keeps everywhere (view self.old) (view self.new) notes.old.made notes.new.made }
+        ensures keeps { Keeps everywhere (view self.old)
+            (view self.new) notes.old.made notes.new.made }
     {
         if flags & SQ_WAKEUP == 0 {
             return Ok(());
@@ -127,7 +140,8 @@ impl Machine {
         requires formed { WellFormed self.old }
         ensures ok { OnOk result (self.new ≡ shown self.old flags) }
         ensures grows { Grows self.old self.new }
-        ensures keeps { Keeps everywhere (view self.old) (view self.new) notes.old.made notes.new.made }
+        ensures keeps { Keeps everywhere (view self.old)
+            (view self.new) notes.old.made notes.new.made }
     {
         if flags & GETEVENTS == 0 {
             return Ok(());
@@ -146,10 +160,13 @@ impl Machine {
         notes: &mut Recorder,
     ) -> Result<(), AllocError>
         requires there { t < length self.old.threads }
-        requires goes_on { (x : ThreadState) → slice_get self.old.threads t ≡ Some x → x.counter + 1 < 2 ^ 32 }
-        ensures ok { OnOk result (self.new ≡ awaited self.old t taken to_submit min_complete flags) }
+        requires goes_on { (x : ThreadState) → slice_get self.old.threads t ≡ Some x
+            → x.counter + 1 < 2 ^ 32 }
+        ensures ok { OnOk result (self.new
+            ≡ awaited self.old t taken to_submit min_complete flags) }
         ensures grows { Grows self.old self.new }
-        ensures keeps { Keeps everywhere (view self.old) (view self.new) notes.old.made notes.new.made }
+        ensures keeps { Keeps everywhere (view self.old)
+            (view self.new) notes.old.made notes.new.made }
     {
         let wanted = min_complete.min(self.completions.size());
         if flags & GETEVENTS != 0 && taken == to_submit && self.completions.waiting() < wanted {
@@ -165,7 +182,8 @@ impl Machine {
         requires formed { WellFormed self.old }
         ensures ok { OnOk result (self.new ≡ flushed self.old) }
         ensures grows { Grows self.old self.new }
-        ensures keeps { Keeps everywhere (view self.old) (view self.new) notes.old.made notes.new.made }
+        ensures keeps { Keeps everywhere (view self.old)
+            (view self.new) notes.old.made notes.new.made }
     {
         flush(
             &mut self.submissions,
@@ -184,7 +202,8 @@ impl Machine {
         requires poller { is_some self.old.poller ≡ true }
         ensures ok { OnOk result (self.new ≡ with_poller self.old stage) }
         ensures grows { Grows self.old self.new }
-        ensures keeps { Keeps everywhere (view self.old) (view self.new) notes.old.made notes.new.made }
+        ensures keeps { Keeps everywhere (view self.old)
+            (view self.new) notes.old.made notes.new.made }
     {
         notes.room(1)?;
         let Some(poller) = &mut self.poller else {

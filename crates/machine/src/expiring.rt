@@ -19,7 +19,8 @@ impl Machine {
         requires formed { WellFormed self.old }
         ensures ok { OnOk result (self.new ≡ after self.old (Expire r)) }
         ensures grows { Grows self.old self.new }
-        ensures keeps { Keeps everywhere (view self.old) (view self.new) notes.old.made notes.new.made }
+        ensures keeps { Keeps everywhere (view self.old)
+            (view self.new) notes.old.made notes.new.made }
     {
         let Some(row) = self.table.get(r) else {
             unreachable!()

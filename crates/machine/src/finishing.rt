@@ -30,7 +30,8 @@ impl Machine {
         requires formed { WellFormed self.old }
         ensures ok { OnOk result (self.new ≡ after self.old (Issue r)) }
         ensures grows { Grows self.old self.new }
-        ensures keeps { Keeps everywhere (view self.old) (view self.new) notes.old.made notes.new.made }
+        ensures keeps { Keeps everywhere (view self.old)
+            (view self.new) notes.old.made notes.new.made }
     {
         let Some(row) = self.table.get(r) else {
             unreachable!()
@@ -49,9 +50,14 @@ impl Machine {
     fn start(&mut self, r: u32, row: &Row, notes: &mut Recorder) -> Result<(), AllocError>
         requires there { slice_get self.old.table r ≡ Some row.now }
         requires time { IsTime row.now.time }
-        ensures ok { OnOk result (self.new ≡ record self.old { table = updated (started self.old.clock self.old.counted) self.old.table r }) }
+        ensures ok { OnOk result (self.new
+            ≡ record self.old {
+              table = updated
+                  (started self.old.clock self.old.counted) self.old.table r;
+            }) }
         ensures grows { Grows self.old self.new }
-        ensures keeps { Keeps everywhere (view self.old) (view self.new) notes.old.made notes.new.made }
+        ensures keeps { Keeps everywhere (view self.old)
+            (view self.new) notes.old.made notes.new.made }
     {
         let deadline = deadline_of(self.clock, row);
         let base = base_of(self.counted, row);
@@ -61,8 +67,10 @@ impl Machine {
     // The queued guard of a row, which stands behind it.
     fn guard_of(&self, r: u32) -> Option<Row>
         requires few { r < 65536 }
-        ensures some { IfSome result (λ guard. (slice_get self.now.table (r + 1) ≡ Some guard) × (is_guard_of r guard ≡ true)) }
-        ensures none { IfNone result (option_map_or (is_guard_of r) (slice_get self.now.table (r + 1)) false ≡ false) }
+        ensures some { IfSome result (λ guard. (slice_get self.now.table (r + 1) ≡ Some guard)
+            × (is_guard_of r guard ≡ true)) }
+        ensures none { IfNone result
+            (option_map_or (is_guard_of r) (slice_get self.now.table (r + 1)) false ≡ false) }
     {
         match self.table.get(r + 1) {
             Some(row) if is_guard_of(r, &row) => Some(row),
@@ -82,7 +90,8 @@ impl Machine {
         requires fresh { (p : Place) → named notes.old.made p ≡ None }
         ensures ok { OnOk result (self.new ≡ after self.old (Finish r choice)) }
         ensures grows { Grows self.old self.new }
-        ensures keeps { Keeps everywhere (view self.old) (view self.new) notes.old.made notes.new.made }
+        ensures keeps { Keeps everywhere (view self.old)
+            (view self.new) notes.old.made notes.new.made }
     {
         let Some(row) = self.table.get(r) else {
             unreachable!()

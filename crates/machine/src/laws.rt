@@ -25,47 +25,59 @@ pub fn shown_alike()
 
 /// Accepted events keep machines well formed.
 pub fn stays_formed()
-    ensures { (m : Machine) (e : Event) → WellFormed m → refusal m e ≡ None → WellFormed (after m e) }
+    ensures { (m : Machine) (e : Event) → WellFormed m → refusal m e ≡ None
+        → WellFormed (after m e) }
 {}
 
-/// Whatever a step of a machine ends of itself, running the filters again over what falls adds none.
+/// Whatever a step of a machine ends of itself, running the filters again over what falls adds
+/// none.
 pub fn falls_whole()
-    ensures { (m : Machine) (direct : List Ending) → WellFormed m → IsWhole m.table m.counted direct (fall_of m.table m.counted direct) }
+    ensures { (m : Machine) (direct : List Ending) → WellFormed m
+        → IsWhole m.table m.counted direct (fall_of m.table m.counted direct) }
 {}
 
 /// And so it is once the entries of a submission have become rows.
 pub fn submissions_fall_whole()
-    ensures { (m : Machine) (k : ℕ) (direct : List Ending) → WellFormed m → IsWhole (taken m k).table m.counted direct (fall_of (taken m k).table m.counted direct) }
+    ensures { (m : Machine) (k : ℕ) (direct : List Ending) → WellFormed m
+        → IsWhole (taken m k).table m.counted direct (fall_of (taken m k).table m.counted direct) }
 {}
 
 /// The rows that fall might as well end one after the other.
 pub fn falls_in_turn()
-    ensures { (m : Machine) (direct : List Ending) → WellFormed m → fallen m direct ≡ ended_in_turn m (fall_of m.table m.counted direct) }
+    ensures { (m : Machine) (direct : List Ending) → WellFormed m
+        → fallen m direct ≡ ended_in_turn m (fall_of m.table m.counted direct) }
 {}
 
 /// And so it is once the entries of a submission have become rows.
 pub fn submissions_fall_in_turn()
-    ensures { (m : Machine) (k : ℕ) (direct : List Ending) → WellFormed m → fallen (taken m k) direct ≡ ended_in_turn (taken m k) (fall_of (taken m k).table m.counted direct) }
+    ensures { (m : Machine) (k : ℕ) (direct : List Ending) → WellFormed m
+        → fallen (taken m k) direct
+        ≡ ended_in_turn (taken m k) (fall_of (taken m k).table m.counted direct) }
 {}
 
 /// A submission finds a well formed machine, as kept completions have moved into the ring.
 pub fn submissions_find_formed()
-    ensures { (m : Machine) (k flags : ℕ) → WellFormed m → WellFormed (before_submission m k flags) }
+    ensures { (m : Machine) (k flags : ℕ) → WellFormed m
+        → WellFormed (before_submission m k flags) }
 {}
 
-/// As an unfinished row is issued a deadline is noted just if it is a TIMEOUT or a LINK_TIMEOUT, and once
-/// it is issued it has one just if it is.
+/// As an unfinished row is issued a deadline is noted just if it is a TIMEOUT or a LINK_TIMEOUT,
+/// and once it is issued it has one just if it is.
 pub fn timers_alone_have_deadlines()
-    ensures noted { (m : Machine) (r : ℕ) (row : Row) → WellFormed m → slice_get m.table r ≡ Some row → is_unfinished row.phase ≡ true → is_some (deadline_of m.clock row) ≡ is_timer row.entry.opcode }
-    ensures kept { (m : Machine) (r : ℕ) (row : Row) → WellFormed m → slice_get m.table r ≡ Some row → is_issued row.phase ≡ true → is_some row.deadline ≡ is_timer row.entry.opcode }
+    ensures noted { (m : Machine) (r : ℕ) (row : Row) → WellFormed m
+        → slice_get m.table r ≡ Some row → is_unfinished row.phase ≡ true
+        → is_some (deadline_of m.clock row) ≡ is_timer row.entry.opcode }
+    ensures kept { (m : Machine) (r : ℕ) (row : Row) → WellFormed m → slice_get m.table r ≡ Some row
+        → is_issued row.phase ≡ true → is_some row.deadline ≡ is_timer row.entry.opcode }
 {}
 
-/// A submission of nothing ends nothing: a Take of no entries changes no place, and an Enter that submits
-/// none and has no flags is answered 0, whether or not there is a poller.
+/// A submission of nothing ends nothing: a Take of no entries changes no place, and an Enter that
+/// submits none and has no flags is answered 0, whether or not there is a poller.
 pub fn nothing_falls_of_itself()
     ensures falls { (m : Machine) → WellFormed m → fallen m [] ≡ m }
     ensures take { (m : Machine) → WellFormed m → after m (Take 0) ≡ m }
-    ensures enter { (m : Machine) (t min_complete : ℕ) → WellFormed m → executed m t (Some (Enter 0 min_complete 0)) ≡ answered m t (pos 0) }
+    ensures enter { (m : Machine) (t min_complete : ℕ) → WellFormed m
+        → executed m t (Some (Enter 0 min_complete 0)) ≡ answered m t (pos 0) }
 {}
 
 /// The number of a refusal is that of its variant.
@@ -77,11 +89,14 @@ pub fn number_told(refusal: Refusal) -> u32
 
 /// Of the causes that an event has to be refused, that of the least number is told.
 pub fn least_cause_told()
-    ensures told { (m : Machine) (e : Event) (n : Refusal) → refusal m e ≡ Some n → has_cause m e n ≡ true }
-    ensures least { (m : Machine) (e : Event) (n k : Refusal) → refusal m e ≡ Some n → number_of k < number_of n → has_cause m e k ≡ false }
+    ensures told { (m : Machine) (e : Event) (n : Refusal) → refusal m e ≡ Some n
+        → has_cause m e n ≡ true }
+    ensures least { (m : Machine) (e : Event) (n k : Refusal) → refusal m e ≡ Some n
+        → number_of k < number_of n → has_cause m e k ≡ false }
 {}
 
 /// And where none is told, it has none.
 pub fn no_cause_untold()
-    ensures { (m : Machine) (e : Event) → refusal m e ≡ None → (n : Refusal) → has_cause m e n ≡ false }
+    ensures { (m : Machine) (e : Event) → refusal m e ≡ None → (n : Refusal)
+        → has_cause m e n ≡ false }
 {}

@@ -21,7 +21,8 @@ impl Machine {
         requires fresh { (p : Place) → named notes.old.made p ≡ None }
         ensures ok { OnOk result (self.new ≡ after self.old event) }
         ensures grows { Grows self.old self.new }
-        ensures keeps { Keeps everywhere (view self.old) (view self.new) notes.old.made notes.new.made }
+        ensures keeps { Keeps everywhere (view self.old)
+            (view self.new) notes.old.made notes.new.made }
     {
         match event {
             Event::Step(t) => self.step_thread(t, notes),
@@ -39,7 +40,8 @@ impl Machine {
         requires { refusal self.old (Tick d) ≡ None }
         ensures ok { OnOk result (self.new ≡ after self.old (Tick d)) }
         ensures grows { Grows self.old self.new }
-        ensures keeps { Keeps everywhere (view self.old) (view self.new) notes.old.made notes.new.made }
+        ensures keeps { Keeps everywhere (view self.old)
+            (view self.new) notes.old.made notes.new.made }
     {
         notes.note_number(Place::Clock, self.clock)?;
         self.clock += d;
@@ -52,7 +54,8 @@ impl Machine {
         requires formed { WellFormed self.old }
         ensures ok { OnOk result (self.new ≡ submitted self.old n) }
         ensures grows { Grows self.old self.new }
-        ensures keeps { Keeps everywhere (view self.old) (view self.new) notes.old.made notes.new.made }
+        ensures keeps { Keeps everywhere (view self.old)
+            (view self.new) notes.old.made notes.new.made }
     {
         self.submit(n, notes)?;
         Ok(())
@@ -65,7 +68,8 @@ impl Machine {
         requires fresh { (p : Place) → named notes.old.made p ≡ None }
         ensures ok { OnOk result (self.new ≡ after self.old (Step t)) }
         ensures grows { Grows self.old self.new }
-        ensures keeps { Keeps everywhere (view self.old) (view self.new) notes.old.made notes.new.made }
+        ensures keeps { Keeps everywhere (view self.old)
+            (view self.new) notes.old.made notes.new.made }
     {
         let Some(thread) = self.threads.get(t) else {
             unreachable!()

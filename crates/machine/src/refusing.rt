@@ -146,7 +146,8 @@ impl Machine {
         }
     }
 
-    // Whether completions would still be kept once as many have moved into the ring as there is room for.
+    // Whether completions would still be kept once as many have moved into the ring as there is
+    // room for.
     fn stays_busy(&self, to_submit: u32) -> bool
         ensures { result ≡ is_busy (flushed self.now) to_submit }
     {
@@ -184,7 +185,8 @@ impl Machine {
 
     fn refuses_finish(&self, r: u32, choice: Choice) -> Option<Refusal>
         requires formed { WellFormed self.now }
-        ensures { result ≡ finish_refusal (is_held_by self.now.table) self.now.world (slice_get self.now.table r) choice }
+        ensures { result ≡ finish_refusal (is_held_by self.now.table) self.now.world
+            (slice_get self.now.table r) choice }
     {
         let Some(row) = self.table.get(r) else {
             return Some(Refusal::NoSuchRequest);
@@ -209,7 +211,8 @@ impl Machine {
 
     // Why an issued row can't end as a kernel chooses.
     fn refuses_choice(&self, row: &Row, choice: Choice) -> Option<Refusal>
-        ensures { result ≡ choice_refusal (is_held_by self.now.table) self.now.world row.now choice }
+        ensures { result ≡ choice_refusal
+            (is_held_by self.now.table) self.now.world row.now choice }
     {
         if is_cancel(row.entry.opcode) {
             return refuses_a_part(choice);

@@ -86,7 +86,8 @@ fn start_threads(alloc: Global, programs: &[Items<Instruction>]) -> Result<Threa
 
 fn start_thread(alloc: Global, program: &[Instruction]) -> Result<Thread, AllocError>
     ensures start { IfOk result (λ thread. thread ≡ thread_start program.now) }
-    ensures widths { IfOk result (λ thread. (i : ℕ) (x : Instruction) → slice_get program.now i ≡ Some x → HasWidths x) }
+    ensures widths { IfOk result (λ thread. (i : ℕ) (x : Instruction)
+        → slice_get program.now i ≡ Some x → HasWidths x) }
 {
     let mut copies = Vec::new(alloc);
     for instruction in program {

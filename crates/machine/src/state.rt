@@ -52,8 +52,8 @@ impl State {
     ghost use Rattle.scenario.specs.declared.event.Refusal.TheVariants.{Memory};
     ghost use Rattle.machine.specs.declared.whole.Machine.{Machine};
 
-    /// The start of a setup. A setup that has none is refused by its first fault, whether or not there is
-    /// memory.
+    /// The start of a setup. A setup that has none is refused by its first fault, whether or not
+    /// there is memory.
     pub fn new(alloc: Global, setup: &Setup) -> Result<State, SetupRefusal>
         ensures start { IfOk result (λ s. s ≡ start setup.now) }
         ensures refused { (r : SetupRefusal) → setup_refusal setup.now ≡ Some r → result ≡ Err r }
@@ -136,7 +136,8 @@ impl State {
     pub fn unwind(&mut self, records: &[Record])
         requires { (s : Machine) × (es : List Event) × Linked s es records.now self.old }
         ensures undone { (p : Place) → view self.new p ≡ undo_all (view self.old) records.now p }
-        ensures back { (s : Machine) (es : List Event) → Linked s es records.now self.old → self.new ≡ s }
+        ensures back { (s : Machine) (es : List Event) → Linked s es records.now self.old
+            → self.new ≡ s }
     {
         let mut i = records.len();
         while i > 0 {

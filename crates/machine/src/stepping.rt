@@ -23,7 +23,8 @@ impl Machine {
         requires formed { WellFormed self.old }
         ensures ok { OnOk result (self.new ≡ executed self.old t (Some (Put slot entry))) }
         ensures grows { Grows self.old self.new }
-        ensures keeps { Keeps everywhere (view self.old) (view self.new) notes.old.made notes.new.made }
+        ensures keeps { Keeps everywhere (view self.old)
+            (view self.new) notes.old.made notes.new.made }
     {
         let Some(before) = self.submissions.entry(slot) else {
             unreachable!()
@@ -45,7 +46,8 @@ impl Machine {
         requires formed { WellFormed self.old }
         ensures ok { OnOk result (self.new ≡ executed self.old t (Some (Push index))) }
         ensures grows { Grows self.old self.new }
-        ensures keeps { Keeps everywhere (view self.old) (view self.new) notes.old.made notes.new.made }
+        ensures keeps { Keeps everywhere (view self.old)
+            (view self.new) notes.old.made notes.new.made }
     {
         notes.room_for_numbers(3)?;
         self.submissions.push(index, notes);
@@ -59,7 +61,8 @@ impl Machine {
         requires formed { WellFormed self.old }
         ensures ok { OnOk result (self.new ≡ executed self.old t (Some Reap)) }
         ensures grows { Grows self.old self.new }
-        ensures keeps { Keeps everywhere (view self.old) (view self.new) notes.old.made notes.new.made }
+        ensures keeps { Keeps everywhere (view self.old)
+            (view self.new) notes.old.made notes.new.made }
     {
         notes.room_for_numbers(2)?;
         let completion = self.completions.reap(notes);

@@ -21,7 +21,8 @@ impl Machine {
         ensures ok { OnOk result (self.new ≡ submitted self.old to_submit) }
         ensures count { IfOk result (λ n. n ≡ length (entries_for self.old to_submit)) }
         ensures grows { Grows self.old self.new }
-        ensures keeps { Keeps everywhere (view self.old) (view self.new) notes.old.made notes.new.made }
+        ensures keeps { Keeps everywhere (view self.old)
+            (view self.new) notes.old.made notes.new.made }
     {
         let batch = self.take(to_submit, notes)?;
         self.fall(&batch.direct, notes)?;
@@ -32,10 +33,13 @@ impl Machine {
     fn take(&mut self, to_submit: u32, notes: &mut Recorder) -> Result<Batch, AllocError>
         requires { length self.old.table + length (offered self.old.submissions to_submit) ≤ 65536 }
         ensures ok { OnOk result (self.new ≡ taken self.old to_submit) }
-        ensures count { IfOk result (λ batch. batch.taken ≡ length (entries_for self.old to_submit)) }
-        ensures direct { IfOk result (λ batch. batch.direct.items ≡ direct_of self.old.world (length self.old.table) (entries_for self.old to_submit)) }
+        ensures count { IfOk result (λ batch. batch.taken
+            ≡ length (entries_for self.old to_submit)) }
+        ensures direct { IfOk result (λ batch. batch.direct.items
+            ≡ direct_of self.old.world (length self.old.table) (entries_for self.old to_submit)) }
         ensures grows { Grows self.old self.new }
-        ensures keeps { Keeps everywhere (view self.old) (view self.new) notes.old.made notes.new.made }
+        ensures keeps { Keeps everywhere (view self.old)
+            (view self.new) notes.old.made notes.new.made }
     {
         let offered = self.offered(to_submit);
         let entries = self.entries_named(offered)?;
@@ -49,12 +53,14 @@ impl Machine {
         Ok(batch)
     }
 
-    // How many of the words that are offered a submission takes: all of them, or those up to and with the
-    // one that names the last entry that it takes.
+    // How many of the words that are offered a submission takes: all of them, or those up to and
+    // with the one that names the last entry that it takes.
     fn word_count(&self, most: u32, taken: u32, halted: bool) -> u32
         requires offered { most ≤ length (sub_list self.now.submissions) }
         requires named { taken ≤ length (offered_entries self.now.submissions most) }
-        ensures words { offered self.now.submissions result ≡ (if halted then up_to_entry self.now.submissions.slots taken (offered self.now.submissions most) else offered self.now.submissions most) }
+        ensures words { offered self.now.submissions result
+            ≡ (if halted then up_to_entry self.now.submissions.slots taken
+            (offered self.now.submissions most) else offered self.now.submissions most) }
         ensures within { result ≤ most }
         ensures enough { taken ≤ result }
     {
@@ -69,7 +75,8 @@ impl Machine {
     fn words_up_to(&self, most: u32, n: u32) -> u32
         requires offered { most ≤ length (sub_list self.now.submissions) }
         requires named { n ≤ length (offered_entries self.now.submissions most) }
-        ensures words { offered self.now.submissions result ≡ up_to_entry self.now.submissions.slots n (offered self.now.submissions most) }
+        ensures words { offered self.now.submissions result
+            ≡ up_to_entry self.now.submissions.slots n (offered self.now.submissions most) }
         ensures within { result ≤ most }
         ensures enough { n ≤ result }
     {
@@ -91,7 +98,8 @@ impl Machine {
     // The entries that the first words that wait name; the others name none.
     fn entries_named(&self, count: u32) -> Result<Vec<Sqe>, AllocError>
         requires { count ≤ length (sub_list self.now.submissions) }
-        ensures { IfOk result (λ entries. entries.items ≡ entries_at self.now.submissions.slots (offered self.now.submissions count)) }
+        ensures { IfOk result (λ entries. entries.items
+            ≡ entries_at self.now.submissions.slots (offered self.now.submissions count)) }
     {
         let mut entries = Vec::new(self.table.allocator());
         for i in 0..count {

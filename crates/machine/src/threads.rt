@@ -30,7 +30,14 @@ impl Model for Thread {
 
     ghost Value = { ThreadState };
 
-    ghost view = { λ a. record { program = arc_value a.program; counter = a.counter; stage = a.stage; last = a.last; got = a.got } };
+    ghost view = { λ a. record {
+      program = arc_value a.program;
+      counter = a.counter;
+      stage = a.stage;
+      last = a.last;
+      got =
+          a.got;
+    } };
 }
 
 impl Thread {
@@ -139,7 +146,8 @@ impl Part for Threads {
 
     fn put(&mut self, place: Place, value: Option<Value>)
         requires { threads_can_put self.old place value }
-        ensures put { (q : Place) → threads_seen self.new q ≡ put_at (threads_seen self.old) place value q }
+        ensures put { (q : Place)
+            → threads_seen self.new q ≡ put_at (threads_seen self.old) place value q }
         ensures programs { map program_of self.new ≡ map program_of self.old }
     {
         match (place, value) {
@@ -196,10 +204,13 @@ impl Threads {
     /// A thread goes on.
     pub fn go_on(&mut self, t: u32, notes: &mut Recorder) -> Result<(), AllocError>
         requires there { t < length self.old }
-        requires goes_on { (x : ThreadState) → slice_get self.old t ≡ Some x → x.counter + 1 < 2 ^ 32 }
-        ensures ok { OnOk result (self.new ≡ updated (λ x. record x { counter = x.counter + 1 }) self.old t) }
+        requires goes_on { (x : ThreadState) → slice_get self.old t ≡ Some x
+            → x.counter + 1 < 2 ^ 32 }
+        ensures ok { OnOk result (self.new
+            ≡ updated (λ x. record x { counter = x.counter + 1 }) self.old t) }
         ensures programs { map program_of self.new ≡ map program_of self.old }
-        ensures keeps { Keeps threads_owns (threads_seen self.old) (threads_seen self.new) notes.old.made notes.new.made }
+        ensures keeps { Keeps threads_owns (threads_seen self.old)
+            (threads_seen self.new) notes.old.made notes.new.made }
     {
         let thread = &mut self.threads[t as usize];
         notes.note_number(Place::ProgramCounter(t), thread.counter as u64)?;
@@ -212,7 +223,8 @@ impl Threads {
         requires there { t < length self.old }
         ensures ok { OnOk result (self.new ≡ updated (λ x. record x { last = n }) self.old t) }
         ensures programs { map program_of self.new ≡ map program_of self.old }
-        ensures keeps { Keeps threads_owns (threads_seen self.old) (threads_seen self.new) notes.old.made notes.new.made }
+        ensures keeps { Keeps threads_owns (threads_seen self.old)
+            (threads_seen self.new) notes.old.made notes.new.made }
     {
         let thread = &mut self.threads[t as usize];
         notes.note(Place::Last(t), Some(Value::Signed(thread.last)))?;
@@ -223,9 +235,11 @@ impl Threads {
     // The completion that a thread reaped last.
     fn set_got(&mut self, t: u32, completion: Cqe, notes: &mut Recorder) -> Result<(), AllocError>
         requires there { t < length self.old }
-        ensures ok { OnOk result (self.new ≡ updated (λ x. record x { got = Some completion }) self.old t) }
+        ensures ok { OnOk result (self.new
+            ≡ updated (λ x. record x { got = Some completion }) self.old t) }
         ensures programs { map program_of self.new ≡ map program_of self.old }
-        ensures keeps { Keeps threads_owns (threads_seen self.old) (threads_seen self.new) notes.old.made notes.new.made }
+        ensures keeps { Keeps threads_owns (threads_seen self.old)
+            (threads_seen self.new) notes.old.made notes.new.made }
     {
         let thread = &mut self.threads[t as usize];
         notes.note(Place::Got(t), Some(Value::Reaped(thread.got)))?;
@@ -243,7 +257,8 @@ impl Threads {
         requires there { t < length self.old }
         ensures ok { OnOk result (self.new ≡ updated (λ x. record x { stage = stage }) self.old t) }
         ensures programs { map program_of self.new ≡ map program_of self.old }
-        ensures keeps { Keeps threads_owns (threads_seen self.old) (threads_seen self.new) notes.old.made notes.new.made }
+        ensures keeps { Keeps threads_owns (threads_seen self.old)
+            (threads_seen self.new) notes.old.made notes.new.made }
     {
         let thread = &mut self.threads[t as usize];
         notes.note(Place::ThreadStage(t), Some(Value::Staged(thread.stage)))?;
@@ -254,10 +269,14 @@ impl Threads {
     /// A thread has an answer, and goes on.
     pub fn answer(&mut self, t: u32, n: i64, notes: &mut Recorder) -> Result<(), AllocError>
         requires there { t < length self.old }
-        requires goes_on { (x : ThreadState) → slice_get self.old t ≡ Some x → x.counter + 1 < 2 ^ 32 }
-        ensures ok { OnOk result (self.new ≡ updated (λ x. record x { counter = x.counter + 1; last = n; stage = Ready }) self.old t) }
+        requires goes_on { (x : ThreadState) → slice_get self.old t ≡ Some x
+            → x.counter + 1 < 2 ^ 32 }
+        ensures ok { OnOk result (self.new
+            ≡ updated
+            (λ x. record x { counter = x.counter + 1; last = n; stage = Ready }) self.old t) }
         ensures programs { map program_of self.new ≡ map program_of self.old }
-        ensures keeps { Keeps threads_owns (threads_seen self.old) (threads_seen self.new) notes.old.made notes.new.made }
+        ensures keeps { Keeps threads_owns (threads_seen self.old)
+            (threads_seen self.new) notes.old.made notes.new.made }
     {
         self.go_on(t, notes)?;
         self.set_last(t, n, notes)?;
@@ -269,7 +288,8 @@ impl Threads {
         requires there { t < length self.old }
         ensures ok { OnOk result (self.new ≡ updated (λ x. record x { stage = Ready }) self.old t) }
         ensures programs { map program_of self.new ≡ map program_of self.old }
-        ensures keeps { Keeps threads_owns (threads_seen self.old) (threads_seen self.new) notes.old.made notes.new.made }
+        ensures keeps { Keeps threads_owns (threads_seen self.old)
+            (threads_seen self.new) notes.old.made notes.new.made }
     {
         match self.threads[t as usize].stage {
             Stage::Ready => Ok(()),
@@ -285,10 +305,13 @@ impl Threads {
         notes: &mut Recorder,
     ) -> Result<(), AllocError>
         requires there { t < length self.old }
-        requires goes_on { (x : ThreadState) → slice_get self.old t ≡ Some x → x.counter + 1 < 2 ^ 32 }
-        ensures ok { OnOk result (self.new ≡ updated (λ x. record x { counter = x.counter + 1; got = Some completion }) self.old t) }
+        requires goes_on { (x : ThreadState) → slice_get self.old t ≡ Some x
+            → x.counter + 1 < 2 ^ 32 }
+        ensures ok { OnOk result (self.new
+            ≡ updated (λ x. record x { counter = x.counter + 1; got = Some completion }) self.old t) }
         ensures programs { map program_of self.new ≡ map program_of self.old }
-        ensures keeps { Keeps threads_owns (threads_seen self.old) (threads_seen self.new) notes.old.made notes.new.made }
+        ensures keeps { Keeps threads_owns (threads_seen self.old)
+            (threads_seen self.new) notes.old.made notes.new.made }
     {
         self.go_on(t, notes)?;
         self.set_got(t, completion, notes)

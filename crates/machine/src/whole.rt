@@ -26,7 +26,8 @@ pub struct Machine {
     pub world: World,
     pub table: Table,
     pub poller: Option<Poller>,
-    /// Whether a submission goes on behind an entry that fails (io_uring_setup(2), IORING_SETUP_SUBMIT_ALL).
+    /// Whether a submission goes on behind an entry that fails (io_uring_setup(2),
+    /// IORING_SETUP_SUBMIT_ALL).
     pub submit_all: bool,
     pub threads: Threads,
     pub clock: u64,
@@ -115,7 +116,8 @@ impl Part for Machine {
         ensures put { (q : Place) → view self.new q ≡ put_at (view self.old) place value q }
         ensures setup { OneSetup self.old self.new }
         ensures rows { OnSome value (map fixed_of self.new.table ≡ map fixed_of self.old.table) }
-        ensures backlog { OnSome value (length self.new.backlog.items ≡ length self.old.backlog.items) }
+        ensures backlog { OnSome value (length self.new.backlog.items
+            ≡ length self.old.backlog.items) }
     {
         if is_of_submissions(place) {
             self.submissions.put(place, value);

@@ -7,11 +7,12 @@ use places::Items;
 use std::alloc::{AllocError, Global};
 use std::mem::replace;
 
-/// The most instructions of a program, and the most entries of the submission ring: the poller takes so many at once.
+/// The most instructions of a program, and the most entries of the submission ring: the poller
+/// takes so many at once.
 pub const BATCH: u32 = 4096;
 
-/// A setup, and events that run from it. One thread after the other does instructions, each until its program
-/// is full.
+/// A setup, and events that run from it. One thread after the other does instructions, each until
+/// its program is full.
 #[derive(Drop)]
 pub struct Draft {
     pub alloc: Global,

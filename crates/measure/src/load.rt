@@ -64,8 +64,8 @@ pub fn fill(draft: &mut Draft, Plan { word, size }: Plan) -> Result<(), AllocErr
     }
 }
 
-// All NOPs are submitted, each taken as it is pushed; behind them the clock ticks. The files are as many, and as
-// long, as a setup can have.
+// All NOPs are submitted, each taken as it is pushed; behind them the clock ticks. The files are as
+// many, and as long, as a setup can have.
 fn full(draft: &mut Draft, events: u32) -> Filled {
     let mut files = Vec::new(draft.alloc);
     for number in 0..32u8 {
@@ -81,8 +81,8 @@ fn full(draft: &mut Draft, events: u32) -> Filled {
     draft.events.resize(events as usize, Event::Tick(1))
 }
 
-// READs of a file's first page and of its second page in turn, and behind each a WRITE of what was read over its
-// third page. The pages differ in each byte.
+// READs of a file's first page and of its second page in turn, and behind each a WRITE of what was
+// read over its third page. The pages differ in each byte.
 fn transfers(draft: &mut Draft, events: u32) -> Filled {
     let entries = [
         entry(READ, 4096, 0),

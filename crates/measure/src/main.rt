@@ -1,4 +1,5 @@
-//! Large runs, built in process, walked both ways and timed: counts on standard output, times on standard error.
+//! Large runs, built in process, walked both ways and timed: counts on standard output, times on
+//! standard error.
 #![tactic(auto)]
 
 mod draft;
@@ -70,7 +71,8 @@ fn walk_last(
     Ok(report(rt, "events back", events, back)?)
 }
 
-// Adds the events, each of which is done once, its record kept, and undone once; and walks as a plan asks for.
+// Adds the events, each of which is done once, its record kept, and undone once; and walks as a
+// plan asks for.
 fn walk(
     rt: &(impl Print + Eprint + Clock),
     walker: &mut Walker,
@@ -88,8 +90,8 @@ fn walk(
     print_figures(rt, walker)
 }
 
-// What the records name and keep; of the last one, how much of it differs behind its step, and how much once that
-// is undone; and how many requests ended.
+// What the records name and keep; of the last one, how much of it differs behind its step, and how
+// much once that is undone; and how many requests ended.
 fn print_figures(rt: &(impl Print + Eprint), walker: &mut Walker) -> Result<(), Fault> {
     let end = walker.len();
     let from = end.saturating_sub(1);
@@ -116,8 +118,8 @@ fn print_sums(rt: &(impl Print + Eprint), walker: &Walker) -> io::Result<()> {
     println!(rt; "named {} places, {} of them bytes", all.places, all.bytes)
 }
 
-// Where the run jumps, a state is copied at each 1,024th moment; else only the start is, and no way back is too
-// long for single steps: so each way is walked event by event.
+// Where the run jumps, a state is copied at each 1,024th moment; else only the start is, and no way
+// back is too long for single steps: so each way is walked event by event.
 fn start(rt: &(impl Print + Eprint + Clock), plan: Plan, draft: &mut Draft) -> Result<(), Fault> {
     fill(draft, plan)?;
     draft.end()?;
@@ -139,8 +141,8 @@ fn main(rt: HostRuntime) -> io::Result<ExitCode> {
     run(&rt, &words)
 }
 
-// Measures what the words behind the program's name ask for. The status is 2 where they aren't read, and 1 where
-// the measuring failed.
+// Measures what the words behind the program's name ask for. The status is 2 where they aren't
+// read, and 1 where the measuring failed.
 fn run(rt: &(impl Print + Eprint + Clock + AllocGlobal), words: &[String]) -> io::Result<ExitCode> {
     let Some(plan) = plan_of(words) else {
         eprintln!(rt; "{WORDS}")?;

@@ -7,14 +7,15 @@ pub const WORDS: &str =
 /// The most events of a trace.
 const MOST_EVENTS: u32 = 1048576;
 
-/// The most rows beside 100 that end: each has an instruction of 16 programs, of which 102 are Puts at most.
+/// The most rows beside 100 that end: each has an instruction of 16 programs, of which 102 are Puts
+/// at most.
 const MOST_ROWS: u32 = 65334;
 
 /// What is measured.
 #[derive(Clone, Copy)]
 pub enum Word {
-    /// So many events over 32 files of 65,536 bytes: 65,535 NOPs are submitted, and then the clock ticks. The
-    /// run jumps between their moments.
+    /// So many events over 32 files of 65,536 bytes: 65,535 NOPs are submitted, and then the clock
+    /// ticks. The run jumps between their moments.
     Full,
     /// So many events of NOPs, each pushed, taken, issued, finished and reaped.
     Nops,
@@ -30,7 +31,8 @@ pub enum Word {
     Drains,
     /// 100 cancels beside so many issued rows: each finds the last of them, which is running.
     Cancels,
-    /// 100 NOPs that finish beside so many TIMEOUTs that wait for a count of completions, and none is met.
+    /// 100 NOPs that finish beside so many TIMEOUTs that wait for a count of completions, and none
+    /// is met.
     Counts,
     /// The same, but each NOP meets a TIMEOUT.
     Meets,
@@ -50,7 +52,8 @@ pub struct Plan {
 }
 
 impl Plan {
-    /// How many of its last events are walked, on and back, and how often; none where the run jumps.
+    /// How many of its last events are walked, on and back, and how often; none where the run
+    /// jumps.
     pub fn rounds(self) -> Option<(usize, usize)> {
         match self.word {
             Word::Full => None,

@@ -94,8 +94,11 @@ impl Body {
     /// Puts back the bytes of a stretch.
     pub(crate) fn put_back(&mut self, stretch: Stretch<'_>)
         requires paired { length stretch.kept.now ≡ length stretch.olds.now }
-        requires stand { BytesStand (body_seen self.old) stretch.region stretch.start (masked stretch.olds.now stretch.kept.now) }
-        ensures put { PutsBack (body_seen self.old) (body_seen self.new) stretch.entry.region stretch.entry.start (masked stretch.entry.olds.now stretch.entry.kept.now) }
+        requires stand { BytesStand (body_seen self.old) stretch.region stretch.start
+            (masked stretch.olds.now stretch.kept.now) }
+        ensures put { PutsBack (body_seen self.old)
+            (body_seen self.new) stretch.entry.region stretch.entry.start
+            (masked stretch.entry.olds.now stretch.entry.kept.now) }
         ensures kind { kind_of_body self.new ≡ kind_of_body self.old }
     {
         match self {
@@ -115,11 +118,14 @@ impl Body {
     ) -> Result<(), AllocError>
         requires formed { IsSomeAnd (file_in self.old) FileFormed }
         requires within { offset + length others.now ≤ 65536 }
-        requires fresh { (i : ℕ) → i < length others.now → named notes.old.made (FileByte object (offset + i)) ≡ None }
+        requires fresh { (i : ℕ) → i < length others.now
+            → named notes.old.made (FileByte object (offset + i)) ≡ None }
         ensures ok { OnOk result (self.new ≡ on_file (written others.now offset) self.old) }
         ensures err { OnErr result (self.new ≡ self.old) }
-        ensures keeps { Keeps (object_owns object) (body_seen self.old) (body_seen self.new) notes.old.made notes.new.made }
-        ensures named { (p : Place) → named notes.new.made p ≡ None → named notes.old.made p ≡ None }
+        ensures keeps { Keeps (object_owns object) (body_seen self.old)
+            (body_seen self.new) notes.old.made notes.new.made }
+        ensures named { (p : Place) → named notes.new.made p ≡ None
+            → named notes.old.made p ≡ None }
         ensures numbers { notes.old.numbers ≤ notes.new.numbers + 1 }
         ensures completions { notes.old.completions ≤ notes.new.completions }
         ensures others { notes.old.others ≤ notes.new.others }
@@ -141,8 +147,10 @@ impl Body {
         requires fresh { (i : ℕ) → i < 65536 → named notes.old.made (PipeByte object i) ≡ None }
         ensures ok { OnOk result (self.new ≡ on_pipe (put_in others.now) self.old) }
         ensures err { OnErr result (self.new ≡ self.old) }
-        ensures keeps { Keeps (object_owns object) (body_seen self.old) (body_seen self.new) notes.old.made notes.new.made }
-        ensures named { (p : Place) → named notes.new.made p ≡ None → named notes.old.made p ≡ None }
+        ensures keeps { Keeps (object_owns object) (body_seen self.old)
+            (body_seen self.new) notes.old.made notes.new.made }
+        ensures named { (p : Place) → named notes.new.made p ≡ None
+            → named notes.old.made p ≡ None }
         ensures numbers { notes.old.numbers ≤ notes.new.numbers + 1 }
         ensures completions { notes.old.completions ≤ notes.new.completions }
         ensures others { notes.old.others ≤ notes.new.others }
@@ -174,8 +182,10 @@ impl Body {
         requires room { IsSomeAnd (counter_in self.old) (λ n. n + number < 2 ^ 64) }
         ensures ok { OnOk result (self.new ≡ on_counter (λ n. n + number) self.old) }
         ensures err { OnErr result (self.new ≡ self.old) }
-        ensures keeps { Keeps (object_owns object) (body_seen self.old) (body_seen self.new) notes.old.made notes.new.made }
-        ensures named { (p : Place) → named notes.new.made p ≡ None → named notes.old.made p ≡ None }
+        ensures keeps { Keeps (object_owns object) (body_seen self.old)
+            (body_seen self.new) notes.old.made notes.new.made }
+        ensures named { (p : Place) → named notes.new.made p ≡ None
+            → named notes.old.made p ≡ None }
         ensures numbers { notes.old.numbers ≤ notes.new.numbers + 1 }
         ensures completions { notes.old.completions ≤ notes.new.completions }
         ensures others { notes.old.others ≤ notes.new.others }
@@ -195,8 +205,10 @@ impl Body {
         requires counter { IsSome (counter_in self.old) }
         ensures ok { OnOk result (self.new ≡ on_counter (λ n. 0) self.old) }
         ensures err { OnErr result (self.new ≡ self.old) }
-        ensures keeps { Keeps (object_owns object) (body_seen self.old) (body_seen self.new) notes.old.made notes.new.made }
-        ensures named { (p : Place) → named notes.new.made p ≡ None → named notes.old.made p ≡ None }
+        ensures keeps { Keeps (object_owns object) (body_seen self.old)
+            (body_seen self.new) notes.old.made notes.new.made }
+        ensures named { (p : Place) → named notes.new.made p ≡ None
+            → named notes.old.made p ≡ None }
         ensures numbers { notes.old.numbers ≤ notes.new.numbers + 1 }
         ensures completions { notes.old.completions ≤ notes.new.completions }
         ensures others { notes.old.others ≤ notes.new.others }
@@ -217,8 +229,10 @@ impl Body {
         requires fresh { (i : ℕ) → i < 65536 → named notes.old.made (DurableByte object i) ≡ None }
         ensures ok { OnOk result (self.new ≡ on_file synced self.old) }
         ensures err { OnErr result (self.new ≡ self.old) }
-        ensures keeps { Keeps (object_owns object) (body_seen self.old) (body_seen self.new) notes.old.made notes.new.made }
-        ensures named { (p : Place) → named notes.new.made p ≡ None → named notes.old.made p ≡ None }
+        ensures keeps { Keeps (object_owns object) (body_seen self.old)
+            (body_seen self.new) notes.old.made notes.new.made }
+        ensures named { (p : Place) → named notes.new.made p ≡ None
+            → named notes.old.made p ≡ None }
         ensures numbers { notes.old.numbers ≤ notes.new.numbers + 1 }
         ensures completions { notes.old.completions ≤ notes.new.completions }
         ensures others { notes.old.others ≤ notes.new.others }

@@ -8,7 +8,8 @@ ghost use Rattle.model_files.specs.Differing.{Alike, DifferAt, IsFirst, IsSpanEn
 use places::{Recorder, Region};
 use std::alloc::AllocError;
 
-/// How many bytes in a row that are alike end a span. To keep as many takes more memory than another run.
+/// How many bytes in a row that are alike end a span. To keep as many takes more memory than
+/// another run.
 const GAP: usize = 16;
 
 /// How many bytes are compared at once while none differs.
@@ -21,8 +22,9 @@ struct Span {
     end: usize,
 }
 
-/// Notes the old bytes of a region from an index on that differ from what is to stand there, none of which
-/// is noted. Of those that are alike it notes fewer than sixteen in a row, between two that differ.
+/// Notes the old bytes of a region from an index on that differ from what is to stand there, none
+/// of which is noted. Of those that are alike it notes fewer than sixteen in a row, between two
+/// that differ.
 pub(crate) fn note_differing(
     region: Region,
     start: u32,
@@ -32,7 +34,8 @@ pub(crate) fn note_differing(
 ) -> Result<(), AllocError>
     requires len { length others.now ≡ length old.now }
     requires fits { start + length old.now ≤ 65536 }
-    requires fresh { (i : ℕ) → i < length old.now → named notes.old.made (place_in region (start + i)) ≡ None }
+    requires fresh { (i : ℕ) → i < length old.now
+        → named notes.old.made (place_in region (start + i)) ≡ None }
     ensures noted { OnOk result (NamesDiffering notes.new.made region start old.now others.now) }
     ensures spared { Spares notes.new.made region start old.now others.now }
     ensures among { NotedAmong notes.old.made notes.new.made region start old.now }
@@ -51,7 +54,8 @@ pub(crate) fn note_differing(
 fn next_span(old: &[u8], others: &[u8], done: usize) -> Option<Span>
     requires len { length others.now ≡ length old.now }
     requires within { done ≤ length old.now }
-    ensures { MatchOption result (Alike old.now others.now done (length old.now)) (λ s. IsFirst old.now others.now done s.from × IsSpanEnd old.now others.now s.from s.end) }
+    ensures { MatchOption result (Alike old.now others.now done (length old.now))
+        (λ s. IsFirst old.now others.now done s.from × IsSpanEnd old.now others.now s.from s.end) }
 {
     let from = first_difference(old, others, done)?;
     let end = span_end(old, others, from);
@@ -62,7 +66,8 @@ fn next_span(old: &[u8], others: &[u8], done: usize) -> Option<Span>
 fn first_difference(old: &[u8], others: &[u8], done: usize) -> Option<usize>
     requires len { length others.now ≡ length old.now }
     requires within { done ≤ length old.now }
-    ensures { MatchOption result (Alike old.now others.now done (length old.now)) (λ at. IsFirst old.now others.now done at) }
+    ensures { MatchOption result (Alike old.now others.now done (length old.now))
+        (λ at. IsFirst old.now others.now done at) }
 {
     let near = skip_alike(old, others, done, STRIDE);
     let from = skip_alike(old, others, near, GAP);
@@ -82,7 +87,8 @@ fn skip_alike(old: &[u8], others: &[u8], from: usize, step: usize) -> usize
     ensures from { from ≤ result }
     ensures within { result ≤ length old.now }
     ensures alike { Alike old.now others.now from result }
-    ensures stops { result + step ≤ length old.now → ¬ Alike old.now others.now result (result + step) }
+    ensures stops { result + step ≤ length old.now
+        → ¬ Alike old.now others.now result (result + step) }
 {
     let mut at = from;
     while step <= old.len() - at && are_alike(old, others, at, at + step) {

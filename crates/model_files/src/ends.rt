@@ -20,8 +20,8 @@ const POLLERR: u32 = 8;
 const POLLHUP: u32 = 16;
 
 impl World {
-    /// Whether a pipe has a writer: a descriptor of its write end that is open, or that a request under way
-    /// holds.
+    /// Whether a pipe has a writer: a descriptor of its write end that is open, or that a request
+    /// under way holds.
     pub fn has_writer(&self, object: u32, held: &Held) -> bool
         ensures { result ≡ has_writer (is_held held.now) self.now object }
     {
@@ -35,8 +35,8 @@ impl World {
         some_keeps(self.descriptors(), object, End::Read, held)
     }
 
-    /// What a descriptor's object is ready for, by the bits of poll(2). It goes over no more than the
-    /// descriptors.
+    /// What a descriptor's object is ready for, by the bits of poll(2). It goes over no more than
+    /// the descriptors.
     pub fn ready_mask(&self, fd: u32, held: &Held) -> u32
         ensures mask { result ≡ ready_mask_of (is_held held.now) self.now fd }
         ensures few { result < 32 }

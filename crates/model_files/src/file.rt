@@ -27,9 +27,21 @@ impl Model for RegularFile {
 
     ghost Value = { FileState };
 
-    ghost view = { λ a. record { bytes = a.bytes.items; len = a.len; durable = a.durable.items; durable_len = a.durable_len } };
+    ghost view = { λ a. record {
+      bytes = a.bytes.items;
+      len = a.len;
+      durable = a.durable.items;
+      durable_len = a.durable_len;
+    } };
 
-    ghost invariant = { λ a. FileTracked (record { bytes = a.bytes.items; len = a.len; durable = a.durable.items; durable_len = a.durable_len }) a.dirty.marks };
+    ghost invariant = { λ a. FileTracked
+        (record {
+          bytes = a.bytes.items;
+          len = a.len;
+          durable = a.durable.items;
+          durable_len =
+              a.durable_len;
+        }) a.dirty.marks };
 }
 
 impl At for RegularFile {
@@ -116,7 +128,8 @@ impl RegularFile {
     /// Whether the device may not have a page as it is.
     pub(crate) fn is_dirty(&self, page: u32) -> bool
         requires { page < 16 }
-        ensures { result ≡ false → (i : ℕ) → page * 4096 ≤ i → i < page * 4096 + 4096 → slice_get self.now.bytes i ≡ slice_get self.now.durable i }
+        ensures { result ≡ false → (i : ℕ) → page * 4096 ≤ i → i < page * 4096 + 4096
+            → slice_get self.now.bytes i ≡ slice_get self.now.durable i }
     {
         self.dirty.is_marked(page as usize)
     }
@@ -153,8 +166,11 @@ impl RegularFile {
     /// Puts back the bytes of a stretch.
     pub(crate) fn put_back(&mut self, stretch: Stretch<'_>)
         requires paired { length stretch.kept.now ≡ length stretch.olds.now }
-        requires stand { BytesStand (file_seen self.old) stretch.region stretch.start (masked stretch.olds.now stretch.kept.now) }
-        ensures put { PutsBack (file_seen self.old) (file_seen self.new) stretch.entry.region stretch.entry.start (masked stretch.entry.olds.now stretch.entry.kept.now) }
+        requires stand { BytesStand (file_seen self.old) stretch.region stretch.start
+            (masked stretch.olds.now stretch.kept.now) }
+        ensures put { PutsBack (file_seen self.old)
+            (file_seen self.new) stretch.entry.region stretch.entry.start
+            (masked stretch.entry.olds.now stretch.entry.kept.now) }
         ensures bytes { length self.new.bytes ≡ length self.old.bytes }
         ensures durable { length self.new.durable ≡ length self.old.durable }
     {

@@ -27,8 +27,10 @@ impl PipeBuffer {
         requires fresh { (i : ℕ) → i < 65536 → named notes.old.made (PipeByte object i) ≡ None }
         ensures ok { OnOk result (self.new ≡ put_in others.now self.old) }
         ensures err { OnErr result (self.new ≡ self.old) }
-        ensures keeps { Keeps (object_owns object) (pipe_seen self.old) (pipe_seen self.new) notes.old.made notes.new.made }
-        ensures named { (p : Place) → named notes.new.made p ≡ None → named notes.old.made p ≡ None }
+        ensures keeps { Keeps (object_owns object) (pipe_seen self.old)
+            (pipe_seen self.new) notes.old.made notes.new.made }
+        ensures named { (p : Place) → named notes.new.made p ≡ None
+            → named notes.old.made p ≡ None }
         ensures numbers { notes.old.numbers ≤ notes.new.numbers + 1 }
         ensures completions { notes.old.completions ≤ notes.new.completions }
         ensures others { notes.old.others ≤ notes.new.others }
@@ -41,9 +43,13 @@ impl PipeBuffer {
     fn note_put(&self, object: u32, others: &[u8], notes: &mut Recorder) -> Result<(), AllocError>
         requires room { TakesIn (length others.now) self.now }
         requires fresh { (i : ℕ) → i < 65536 → named notes.old.made (PipeByte object i) ≡ None }
-        ensures keeps { Keeps (object_owns object) (pipe_seen self.now) (pipe_seen self.now) notes.old.made notes.new.made }
-        ensures noted { OnOk result (NamesChanges (object_owns object) (pipe_seen self.now) (pipe_seen (put_in others.now self.now)) notes.new.made) }
-        ensures named { (p : Place) → named notes.new.made p ≡ None → named notes.old.made p ≡ None }
+        ensures keeps { Keeps (object_owns object) (pipe_seen self.now)
+            (pipe_seen self.now) notes.old.made notes.new.made }
+        ensures noted { OnOk result
+            (NamesChanges (object_owns object) (pipe_seen self.now)
+            (pipe_seen (put_in others.now self.now)) notes.new.made) }
+        ensures named { (p : Place) → named notes.new.made p ≡ None
+            → named notes.old.made p ≡ None }
         ensures numbers { notes.old.numbers ≤ notes.new.numbers + 1 }
         ensures completions { notes.old.completions ≤ notes.new.completions }
         ensures others { notes.old.others ≤ notes.new.others }
@@ -53,13 +59,18 @@ impl PipeBuffer {
         Ok(())
     }
 
-    /// Notes the slots that bytes are to stand in, in two parts: up to the last one, and from the first on.
+    /// Notes the slots that bytes are to stand in, in two parts: up to the last one, and from the
+    /// first on.
     fn note_slots(&self, object: u32, others: &[u8], notes: &mut Recorder) -> Result<(), AllocError>
         requires room { TakesIn (length others.now) self.now }
         requires fresh { (i : ℕ) → i < 65536 → named notes.old.made (PipeByte object i) ≡ None }
-        ensures keeps { Keeps (object_owns object) (pipe_seen self.now) (pipe_seen self.now) notes.old.made notes.new.made }
-        ensures noted { OnOk result ((i : ℕ) → named notes.new.made (PipeByte object i) ≡ None → slice_get (slots_with self.now.slots self.now.put others.now) i ≡ slice_get self.now.slots i) }
-        ensures named { (p : Place) → named notes.new.made p ≡ None → named notes.old.made p ≡ None }
+        ensures keeps { Keeps (object_owns object) (pipe_seen self.now)
+            (pipe_seen self.now) notes.old.made notes.new.made }
+        ensures noted { OnOk result ((i : ℕ) → named notes.new.made (PipeByte object i) ≡ None
+            → slice_get (slots_with self.now.slots self.now.put others.now) i
+            ≡ slice_get self.now.slots i) }
+        ensures named { (p : Place) → named notes.new.made p ≡ None
+            → named notes.old.made p ≡ None }
         ensures room { HasAsMuch notes.old notes.new }
     {
         let size = self.slots().len();
@@ -79,9 +90,13 @@ impl PipeBuffer {
     ) -> Result<(), AllocError>
         requires most { length self.now.slots ≤ 65536 }
         requires within { at + length others.now ≤ length self.now.slots }
-        requires fresh { (i : ℕ) → i < length others.now → named notes.old.made (PipeByte object (at + i)) ≡ None }
-        ensures noted { OnOk result (NamesDiffering notes.new.made (Pipe object) at (part self.now.slots at (length others.now)) others.now) }
-        ensures among { NotedAmong notes.old.made notes.new.made (Pipe object) at (part self.now.slots at (length others.now)) }
+        requires fresh { (i : ℕ) → i < length others.now
+            → named notes.old.made (PipeByte object (at + i)) ≡ None }
+        ensures noted { OnOk result
+            (NamesDiffering notes.new.made (Pipe object) at
+            (part self.now.slots at (length others.now)) others.now) }
+        ensures among { NotedAmong notes.old.made notes.new.made (Pipe object) at
+            (part self.now.slots at (length others.now)) }
         ensures room { HasAsMuch notes.old notes.new }
     {
         let old = &self.slots()[at..at + others.len()];

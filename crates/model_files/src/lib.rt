@@ -1,5 +1,5 @@
-//! Memory, objects and their descriptors, without a kernel, a real file or a real pipe (read(2), write(2),
-//! fsync(2), pipe(7), eventfd(2)).
+//! Memory, objects and their descriptors, without a kernel, a real file or a real pipe (read(2),
+//! write(2), fsync(2), pipe(7), eventfd(2)).
 #![tactic(auto)]
 
 pub mod body;

@@ -36,8 +36,10 @@ impl Pages {
     pub(crate) fn mark(&mut self, at: usize, count: usize)
         requires some { 0 < count }
         requires within { at + count ≤ 65536 }
-        ensures kept { (page : ℕ) → slice_get self.new.marks page ≡ Some false → slice_get self.old.marks page ≡ Some false }
-        ensures apart { (page : ℕ) → slice_get self.new.marks page ≡ Some false → (page * 4096 + 4096 ≤ at) ⊎ (at + count ≤ page * 4096) }
+        ensures kept { (page : ℕ) → slice_get self.new.marks page ≡ Some false
+            → slice_get self.old.marks page ≡ Some false }
+        ensures apart { (page : ℕ) → slice_get self.new.marks page ≡ Some false
+            → (page * 4096 + 4096 ≤ at) ⊎ (at + count ≤ page * 4096) }
     {
         for page in at / PAGE..(at + count - 1) / PAGE + 1 {
             self.marks[page] = true;
@@ -46,8 +48,10 @@ impl Pages {
 
     /// Marks the pages that some bytes are in, as far as a file can reach.
     pub(crate) fn mark_within(&mut self, at: usize, count: usize)
-        ensures kept { (page : ℕ) → slice_get self.new.marks page ≡ Some false → slice_get self.old.marks page ≡ Some false }
-        ensures apart { (page i : ℕ) → slice_get self.new.marks page ≡ Some false → page * 4096 ≤ i → i < page * 4096 + 4096 → i < 65536 → (i < at) ⊎ (at + count ≤ i) }
+        ensures kept { (page : ℕ) → slice_get self.new.marks page ≡ Some false
+            → slice_get self.old.marks page ≡ Some false }
+        ensures apart { (page i : ℕ) → slice_get self.new.marks page ≡ Some false → page * 4096 ≤ i
+            → i < page * 4096 + 4096 → i < 65536 → (i < at) ⊎ (at + count ≤ i) }
     {
         let from = at.min(MOST_BYTES);
         let most = MOST_BYTES - from;
@@ -73,11 +77,15 @@ impl Pages {
         requires page { page < 16 }
         requires bytes { length bytes.now ≡ 65536 }
         requires durable { length durable.old.items ≡ 65536 }
-        requires clean { (i : ℕ) → slice_get self.now.marks page ≡ Some false → page * 4096 ≤ i → i < page * 4096 + 4096 → slice_get bytes.now i ≡ slice_get durable.old.items i }
+        requires clean { (i : ℕ) → slice_get self.now.marks page ≡ Some false → page * 4096 ≤ i
+            → i < page * 4096 + 4096 → slice_get bytes.now i ≡ slice_get durable.old.items i }
         ensures len { length durable.new.items ≡ 65536 }
-        ensures before { (i : ℕ) → i < page * 4096 → slice_get durable.new.items i ≡ slice_get durable.old.items i }
-        ensures there { (i : ℕ) → page * 4096 ≤ i → i < page * 4096 + 4096 → slice_get durable.new.items i ≡ slice_get bytes.now i }
-        ensures behind { (i : ℕ) → page * 4096 + 4096 ≤ i → slice_get durable.new.items i ≡ slice_get durable.old.items i }
+        ensures before { (i : ℕ) → i < page * 4096
+            → slice_get durable.new.items i ≡ slice_get durable.old.items i }
+        ensures there { (i : ℕ) → page * 4096 ≤ i → i < page * 4096 + 4096
+            → slice_get durable.new.items i ≡ slice_get bytes.now i }
+        ensures behind { (i : ℕ) → page * 4096 + 4096 ≤ i
+            → slice_get durable.new.items i ≡ slice_get durable.old.items i }
     {
         if self.is_marked(page) {
             let start = page * PAGE;

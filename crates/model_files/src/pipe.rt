@@ -113,7 +113,8 @@ impl PipeBuffer {
     pub(crate) fn oldest(&self, count: usize) -> (&[u8], &[u8])
         requires some { 0 < length self.now.slots }
         requires within { count ≤ length self.now.slots }
-        ensures bytes { result.0.now ++ result.1.now ≡ bytes_from self.now.slots self.now.taken count }
+        ensures bytes { result.0.now ++ result.1.now
+            ≡ bytes_from self.now.slots self.now.taken count }
         ensures len { length result.0.now + length result.1.now ≡ count }
     {
         let at = (self.taken % self.slots.len() as u64) as usize;
@@ -147,8 +148,11 @@ impl PipeBuffer {
     /// Puts back the bytes of a stretch.
     pub(crate) fn put_back(&mut self, stretch: Stretch<'_>)
         requires paired { length stretch.kept.now ≡ length stretch.olds.now }
-        requires stand { BytesStand (pipe_seen self.old) stretch.region stretch.start (masked stretch.olds.now stretch.kept.now) }
-        ensures put { PutsBack (pipe_seen self.old) (pipe_seen self.new) stretch.entry.region stretch.entry.start (masked stretch.entry.olds.now stretch.entry.kept.now) }
+        requires stand { BytesStand (pipe_seen self.old) stretch.region stretch.start
+            (masked stretch.olds.now stretch.kept.now) }
+        ensures put { PutsBack (pipe_seen self.old)
+            (pipe_seen self.new) stretch.entry.region stretch.entry.start
+            (masked stretch.entry.olds.now stretch.entry.kept.now) }
         ensures size { length self.new.slots ≡ length self.old.slots }
     {
         let Stretch {

@@ -61,7 +61,8 @@ fn start_descriptor(objects: &[Object], descriptor: Descriptor) -> DescriptorSta
 }
 
 fn start_position(objects: &[Object], object: u32) -> Option<u64>
-    ensures { result ≡ option_and_then (λ o. position_start o.contents) (slice_get objects.now object) }
+    ensures { result ≡ option_and_then (λ o. position_start o.contents)
+        (slice_get objects.now object) }
 {
     match objects.get(object as usize) {
         Some(object) => match object.contents {

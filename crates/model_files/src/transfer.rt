@@ -25,11 +25,14 @@ impl RegularFile {
     ) -> Result<(), AllocError>
         requires formed { FileFormed self.old }
         requires within { offset + length others.now ≤ 65536 }
-        requires fresh { (i : ℕ) → i < length others.now → named notes.old.made (FileByte object (offset + i)) ≡ None }
+        requires fresh { (i : ℕ) → i < length others.now
+            → named notes.old.made (FileByte object (offset + i)) ≡ None }
         ensures ok { OnOk result (self.new ≡ written others.now offset self.old) }
         ensures err { OnErr result (self.new ≡ self.old) }
-        ensures keeps { Keeps (object_owns object) (file_seen self.old) (file_seen self.new) notes.old.made notes.new.made }
-        ensures named { (p : Place) → named notes.new.made p ≡ None → named notes.old.made p ≡ None }
+        ensures keeps { Keeps (object_owns object) (file_seen self.old)
+            (file_seen self.new) notes.old.made notes.new.made }
+        ensures named { (p : Place) → named notes.new.made p ≡ None
+            → named notes.old.made p ≡ None }
         ensures numbers { notes.old.numbers ≤ notes.new.numbers + 1 }
         ensures completions { notes.old.completions ≤ notes.new.completions }
         ensures others { notes.old.others ≤ notes.new.others }
@@ -52,10 +55,15 @@ impl RegularFile {
         requires formed { FileFormed self.now }
         requires some { 0 < length others.now }
         requires within { offset + length others.now ≤ 65536 }
-        requires fresh { (i : ℕ) → i < length others.now → named notes.old.made (FileByte object (offset + i)) ≡ None }
-        ensures keeps { Keeps (object_owns object) (file_seen self.now) (file_seen self.now) notes.old.made notes.new.made }
-        ensures noted { OnOk result (NamesChanges (object_owns object) (file_seen self.now) (file_seen (written others.now offset self.now)) notes.new.made) }
-        ensures named { (p : Place) → named notes.new.made p ≡ None → named notes.old.made p ≡ None }
+        requires fresh { (i : ℕ) → i < length others.now
+            → named notes.old.made (FileByte object (offset + i)) ≡ None }
+        ensures keeps { Keeps (object_owns object) (file_seen self.now)
+            (file_seen self.now) notes.old.made notes.new.made }
+        ensures noted { OnOk result
+            (NamesChanges (object_owns object) (file_seen self.now)
+            (file_seen (written others.now offset self.now)) notes.new.made) }
+        ensures named { (p : Place) → named notes.new.made p ≡ None
+            → named notes.old.made p ≡ None }
         ensures numbers { notes.old.numbers ≤ notes.new.numbers + 1 }
         ensures completions { notes.old.completions ≤ notes.new.completions }
         ensures others { notes.old.others ≤ notes.new.others }
@@ -76,8 +84,10 @@ impl RegularFile {
         requires fresh { (i : ℕ) → i < 65536 → named notes.old.made (DurableByte object i) ≡ None }
         ensures ok { OnOk result (self.new ≡ synced self.old) }
         ensures err { OnErr result (self.new ≡ self.old) }
-        ensures keeps { Keeps (object_owns object) (file_seen self.old) (file_seen self.new) notes.old.made notes.new.made }
-        ensures named { (p : Place) → named notes.new.made p ≡ None → named notes.old.made p ≡ None }
+        ensures keeps { Keeps (object_owns object) (file_seen self.old)
+            (file_seen self.new) notes.old.made notes.new.made }
+        ensures named { (p : Place) → named notes.new.made p ≡ None
+            → named notes.old.made p ≡ None }
         ensures numbers { notes.old.numbers ≤ notes.new.numbers + 1 }
         ensures completions { notes.old.completions ≤ notes.new.completions }
         ensures others { notes.old.others ≤ notes.new.others }
@@ -89,9 +99,13 @@ impl RegularFile {
 
     fn note_sync(&self, object: u32, notes: &mut Recorder) -> Result<(), AllocError>
         requires fresh { (i : ℕ) → i < 65536 → named notes.old.made (DurableByte object i) ≡ None }
-        ensures keeps { Keeps (object_owns object) (file_seen self.now) (file_seen self.now) notes.old.made notes.new.made }
-        ensures noted { OnOk result (NamesChanges (object_owns object) (file_seen self.now) (file_seen (synced self.now)) notes.new.made) }
-        ensures named { (p : Place) → named notes.new.made p ≡ None → named notes.old.made p ≡ None }
+        ensures keeps { Keeps (object_owns object) (file_seen self.now)
+            (file_seen self.now) notes.old.made notes.new.made }
+        ensures noted { OnOk result
+            (NamesChanges (object_owns object) (file_seen self.now)
+            (file_seen (synced self.now)) notes.new.made) }
+        ensures named { (p : Place) → named notes.new.made p ≡ None
+            → named notes.old.made p ≡ None }
         ensures numbers { notes.old.numbers ≤ notes.new.numbers + 1 }
         ensures completions { notes.old.completions ≤ notes.new.completions }
         ensures others { notes.old.others ≤ notes.new.others }
@@ -104,9 +118,11 @@ impl RegularFile {
     /// Notes what the device has of each page that may differ.
     fn note_pages(&self, object: u32, notes: &mut Recorder) -> Result<(), AllocError>
         requires fresh { (i : ℕ) → i < 65536 → named notes.old.made (DurableByte object i) ≡ None }
-        ensures keeps { Keeps (object_owns object) (file_seen self.now) (file_seen self.now) notes.old.made notes.new.made }
+        ensures keeps { Keeps (object_owns object) (file_seen self.now)
+            (file_seen self.now) notes.old.made notes.new.made }
         ensures noted { OnOk result (NamesUpTo object self.now notes.new.made 65536) }
-        ensures named { (p : Place) → named notes.new.made p ≡ None → named notes.old.made p ≡ None }
+        ensures named { (p : Place) → named notes.new.made p ≡ None
+            → named notes.old.made p ≡ None }
         ensures room { HasAsMuch notes.old notes.new }
     {
         for page in 0..PAGES as u32 {
@@ -117,11 +133,16 @@ impl RegularFile {
 
     fn note_page(&self, object: u32, page: u32, notes: &mut Recorder) -> Result<(), AllocError>
         requires page { page < 16 }
-        requires fresh { (i : ℕ) → page * 4096 ≤ i → i < 65536 → named notes.old.made (DurableByte object i) ≡ None }
-        ensures keeps { Keeps (object_owns object) (file_seen self.now) (file_seen self.now) notes.old.made notes.new.made }
-        ensures noted { OnOk result (NamesUpTo object self.now notes.old.made (page * 4096) → NamesUpTo object self.now notes.new.made (page * 4096 + 4096)) }
-        ensures named { (p : Place) → named notes.new.made p ≡ None → named notes.old.made p ≡ None }
-        ensures fresh { (i : ℕ) → page * 4096 + 4096 ≤ i → i < 65536 → named notes.new.made (DurableByte object i) ≡ None }
+        requires fresh { (i : ℕ) → page * 4096 ≤ i → i < 65536
+            → named notes.old.made (DurableByte object i) ≡ None }
+        ensures keeps { Keeps (object_owns object) (file_seen self.now)
+            (file_seen self.now) notes.old.made notes.new.made }
+        ensures noted { OnOk result (NamesUpTo object self.now notes.old.made (page * 4096)
+            → NamesUpTo object self.now notes.new.made (page * 4096 + 4096)) }
+        ensures named { (p : Place) → named notes.new.made p ≡ None
+            → named notes.old.made p ≡ None }
+        ensures fresh { (i : ℕ) → page * 4096 + 4096 ≤ i → i < 65536
+            → named notes.new.made (DurableByte object i) ≡ None }
         ensures room { HasAsMuch notes.old notes.new }
     {
         if !self.is_dirty(page) {

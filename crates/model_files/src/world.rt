@@ -37,7 +37,8 @@ impl Model for World {
 
     ghost Value = { WorldState };
 
-    ghost view = { λ a. record { memory = a.memory.items; objects = a.objects.items; descriptors = a.descriptors.items } };
+    ghost view = { λ a. record
+        { memory = a.memory.items; objects = a.objects.items; descriptors = a.descriptors.items } };
 
     ghost use Rattle.std.specs.Prelude.{◌≡◌, length};
 
@@ -99,7 +100,8 @@ impl Part for World {
 
     fn put(&mut self, place: Place, value: Option<Value>)
         requires { world_can_put self.old place value }
-        ensures put { (q : Place) → world_seen self.new q ≡ put_at (world_seen self.old) place value q }
+        ensures put { (q : Place)
+            → world_seen self.new q ≡ put_at (world_seen self.old) place value q }
         ensures setup { OneSetup self.old self.new }
     {
         let Some(value) = value else { unreachable!() };
@@ -129,8 +131,10 @@ impl World {
         descriptors: &[Descriptor],
     ) -> Result<World, AllocError>
         requires memory { length memory.now ≤ 65536 }
-        requires files { (i : ℕ) (o : Object) → slice_get objects.now i ≡ Some o → ContentsFit o.contents }
-        ensures { IfOk result (λ world. world ≡ world_start memory.now objects.now descriptors.now) }
+        requires files { (i : ℕ) (o : Object) → slice_get objects.now i ≡ Some o
+            → ContentsFit o.contents }
+        ensures { IfOk result (λ world. world
+            ≡ world_start memory.now objects.now descriptors.now) }
     {
         Ok(World {
             memory: pad(alloc, memory)?,
@@ -153,8 +157,13 @@ impl World {
     /// Puts back the bytes of a stretch that are kept. It takes no memory.
     pub fn put_back(&mut self, stretch: Stretch<'_>)
         requires paired { length stretch.kept.now ≡ length stretch.olds.now }
-        requires stand { BytesStand (world_seen self.old) stretch.region stretch.start (masked stretch.olds.now stretch.kept.now) }
-        ensures put { (q : Place) → world_seen self.new q ≡ undo (world_seen self.old) (old_bytes stretch.entry.region stretch.entry.start (masked stretch.entry.olds.now stretch.entry.kept.now)) q }
+        requires stand { BytesStand (world_seen self.old) stretch.region stretch.start
+            (masked stretch.olds.now stretch.kept.now) }
+        ensures put { (q : Place)
+            → world_seen self.new q
+            ≡ undo (world_seen self.old)
+            (old_bytes stretch.entry.region stretch.entry.start
+            (masked stretch.entry.olds.now stretch.entry.kept.now)) q }
         ensures setup { OneSetup self.old self.new }
     {
         if let Some(object) = object_in(stretch.region.place(stretch.start)) {
@@ -168,8 +177,13 @@ impl World {
     fn put_object_back(&mut self, object: u32, stretch: Stretch<'_>)
         requires its { object_in (place_in stretch.region stretch.start) ≡ Some object }
         requires paired { length stretch.kept.now ≡ length stretch.olds.now }
-        requires stand { BytesStand (world_seen self.old) stretch.region stretch.start (masked stretch.olds.now stretch.kept.now) }
-        ensures put { (q : Place) → world_seen self.new q ≡ undo (world_seen self.old) (old_bytes stretch.entry.region stretch.entry.start (masked stretch.entry.olds.now stretch.entry.kept.now)) q }
+        requires stand { BytesStand (world_seen self.old) stretch.region stretch.start
+            (masked stretch.olds.now stretch.kept.now) }
+        ensures put { (q : Place)
+            → world_seen self.new q
+            ≡ undo (world_seen self.old)
+            (old_bytes stretch.entry.region stretch.entry.start
+            (masked stretch.entry.olds.now stretch.entry.kept.now)) q }
         ensures setup { OneSetup self.old self.new }
     {
         let index = object as usize;
@@ -259,11 +273,14 @@ impl World {
         notes: &mut Recorder,
     ) -> Result<(), AllocError>
         requires in_memory { address + length bytes.now ≤ 65536 }
-        requires fresh { (i : ℕ) → i < length bytes.now → named notes.old.made (MemoryByte (address + i)) ≡ None }
+        requires fresh { (i : ℕ) → i < length bytes.now
+            → named notes.old.made (MemoryByte (address + i)) ≡ None }
         ensures ok { OnOk result (self.new ≡ world_stored address bytes.now self.old) }
         ensures err { OnErr result (self.new ≡ self.old) }
-        ensures keeps { Keeps world_owns (world_seen self.old) (world_seen self.new) notes.old.made notes.new.made }
-        ensures named { (p : Place) → named notes.new.made p ≡ None → named notes.old.made p ≡ None }
+        ensures keeps { Keeps world_owns (world_seen self.old)
+            (world_seen self.new) notes.old.made notes.new.made }
+        ensures named { (p : Place) → named notes.new.made p ≡ None
+            → named notes.old.made p ≡ None }
         ensures numbers { notes.old.numbers ≤ notes.new.numbers }
         ensures completions { notes.old.completions ≤ notes.new.completions }
         ensures others { notes.old.others ≤ notes.new.others }
@@ -275,8 +292,8 @@ impl World {
         Ok(())
     }
 
-    /// Bytes of a file, from an offset on, come into memory at an address (read(2)). Want of memory for
-    /// the notes leaves all as it was.
+    /// Bytes of a file, from an offset on, come into memory at an address (read(2)). Want of memory
+    /// for the notes leaves all as it was.
     pub fn read_at(
         &mut self,
         object: u32,
@@ -288,11 +305,14 @@ impl World {
         requires file { IsSome (file_of self.old object) }
         requires in_file { offset + count ≤ 65536 }
         requires in_memory { address + count ≤ 65536 }
-        requires fresh { (i : ℕ) → i < count → named notes.old.made (MemoryByte (address + i)) ≡ None }
+        requires fresh { (i : ℕ) → i < count
+            → named notes.old.made (MemoryByte (address + i)) ≡ None }
         ensures ok { OnOk result (self.new ≡ world_read object offset count address self.old) }
         ensures err { OnErr result (self.new ≡ self.old) }
-        ensures keeps { Keeps world_owns (world_seen self.old) (world_seen self.new) notes.old.made notes.new.made }
-        ensures named { (p : Place) → named notes.new.made p ≡ None → named notes.old.made p ≡ None }
+        ensures keeps { Keeps world_owns (world_seen self.old)
+            (world_seen self.new) notes.old.made notes.new.made }
+        ensures named { (p : Place) → named notes.new.made p ≡ None
+            → named notes.old.made p ≡ None }
         ensures numbers { notes.old.numbers ≤ notes.new.numbers }
         ensures completions { notes.old.completions ≤ notes.new.completions }
         ensures others { notes.old.others ≤ notes.new.others }
@@ -308,8 +328,8 @@ impl World {
         Ok(())
     }
 
-    /// Bytes of memory, from an address on, go into a file at an offset (write(2)). Want of memory for the
-    /// notes leaves all as it was.
+    /// Bytes of memory, from an address on, go into a file at an offset (write(2)). Want of memory
+    /// for the notes leaves all as it was.
     pub fn write_at(
         &mut self,
         object: u32,
@@ -321,11 +341,14 @@ impl World {
         requires file { IsSomeAnd (file_of self.old object) FileFormed }
         requires in_file { offset + count ≤ 65536 }
         requires in_memory { address + count ≤ 65536 }
-        requires fresh { (i : ℕ) → i < count → named notes.old.made (FileByte object (offset + i)) ≡ None }
+        requires fresh { (i : ℕ) → i < count
+            → named notes.old.made (FileByte object (offset + i)) ≡ None }
         ensures ok { OnOk result (self.new ≡ world_written object offset count address self.old) }
         ensures err { OnErr result (self.new ≡ self.old) }
-        ensures keeps { Keeps world_owns (world_seen self.old) (world_seen self.new) notes.old.made notes.new.made }
-        ensures named { (p : Place) → named notes.new.made p ≡ None → named notes.old.made p ≡ None }
+        ensures keeps { Keeps world_owns (world_seen self.old)
+            (world_seen self.new) notes.old.made notes.new.made }
+        ensures named { (p : Place) → named notes.new.made p ≡ None
+            → named notes.old.made p ≡ None }
         ensures numbers { notes.old.numbers ≤ notes.new.numbers + 1 }
         ensures completions { notes.old.completions ≤ notes.new.completions }
         ensures others { notes.old.others ≤ notes.new.others }
@@ -335,14 +358,17 @@ impl World {
         self.objects[object as usize].write_at(object, offset, others, notes)
     }
 
-    /// Brings all of a file to the device (fsync(2)). Want of memory for the notes leaves all as it was.
+    /// Brings all of a file to the device (fsync(2)). Want of memory for the notes leaves all as it
+    /// was.
     pub fn sync(&mut self, object: u32, notes: &mut Recorder) -> Result<(), AllocError>
         requires file { IsSome (file_of self.old object) }
         requires fresh { (i : ℕ) → i < 65536 → named notes.old.made (DurableByte object i) ≡ None }
         ensures ok { OnOk result (self.new ≡ world_synced object self.old) }
         ensures err { OnErr result (self.new ≡ self.old) }
-        ensures keeps { Keeps world_owns (world_seen self.old) (world_seen self.new) notes.old.made notes.new.made }
-        ensures named { (p : Place) → named notes.new.made p ≡ None → named notes.old.made p ≡ None }
+        ensures keeps { Keeps world_owns (world_seen self.old)
+            (world_seen self.new) notes.old.made notes.new.made }
+        ensures named { (p : Place) → named notes.new.made p ≡ None
+            → named notes.old.made p ≡ None }
         ensures numbers { notes.old.numbers ≤ notes.new.numbers + 1 }
         ensures completions { notes.old.completions ≤ notes.new.completions }
         ensures others { notes.old.others ≤ notes.new.others }
@@ -350,8 +376,8 @@ impl World {
         self.objects[object as usize].sync(object, notes)
     }
 
-    /// The oldest bytes of a pipe come out, into memory at an address (pipe(7)). Want of memory for the notes
-    /// leaves all as it was.
+    /// The oldest bytes of a pipe come out, into memory at an address (pipe(7)). Want of memory for
+    /// the notes leaves all as it was.
     pub fn take_pipe(
         &mut self,
         object: u32,
@@ -361,11 +387,14 @@ impl World {
     ) -> Result<(), AllocError>
         requires there { IsSomeAnd (pipe_of self.old object) (GivesOut count) }
         requires in_memory { address + count ≤ 65536 }
-        requires fresh { (i : ℕ) → i < count → named notes.old.made (MemoryByte (address + i)) ≡ None }
+        requires fresh { (i : ℕ) → i < count
+            → named notes.old.made (MemoryByte (address + i)) ≡ None }
         ensures ok { OnOk result (self.new ≡ world_taken object count address self.old) }
         ensures err { OnErr result (self.new ≡ self.old) }
-        ensures keeps { Keeps world_owns (world_seen self.old) (world_seen self.new) notes.old.made notes.new.made }
-        ensures named { (p : Place) → named notes.new.made p ≡ None → named notes.old.made p ≡ None }
+        ensures keeps { Keeps world_owns (world_seen self.old)
+            (world_seen self.new) notes.old.made notes.new.made }
+        ensures named { (p : Place) → named notes.new.made p ≡ None
+            → named notes.old.made p ≡ None }
         ensures numbers { notes.old.numbers ≤ notes.new.numbers + 1 }
         ensures completions { notes.old.completions ≤ notes.new.completions }
         ensures others { notes.old.others ≤ notes.new.others }
@@ -380,7 +409,8 @@ impl World {
     fn bring_oldest(&mut self, object: u32, count: u32, address: u32)
         requires there { IsSomeAnd (pipe_of self.old object) (GivesOut count) }
         requires in_memory { address + count ≤ 65536 }
-        ensures { self.new ≡ world_stored address (oldest count (pipe_of self.old object)) self.old }
+        ensures { self.new ≡ world_stored address
+            (oldest count (pipe_of self.old object)) self.old }
     {
         let Body::Pipe(pipe) = &self.objects[object as usize] else {
             unreachable!()
@@ -400,10 +430,15 @@ impl World {
     ) -> Result<(), AllocError>
         requires there { IsSomeAnd (pipe_of self.now object) (GivesOut count) }
         requires in_memory { address + count ≤ 65536 }
-        requires fresh { (i : ℕ) → i < count → named notes.old.made (MemoryByte (address + i)) ≡ None }
-        ensures keeps { Keeps world_owns (world_seen self.now) (world_seen self.now) notes.old.made notes.new.made }
-        ensures noted { OnOk result (NamesChanges world_owns (world_seen self.now) (world_seen (world_taken object count address self.now)) notes.new.made) }
-        ensures named { (p : Place) → named notes.new.made p ≡ None → named notes.old.made p ≡ None }
+        requires fresh { (i : ℕ) → i < count
+            → named notes.old.made (MemoryByte (address + i)) ≡ None }
+        ensures keeps { Keeps world_owns (world_seen self.now)
+            (world_seen self.now) notes.old.made notes.new.made }
+        ensures noted { OnOk result
+            (NamesChanges world_owns (world_seen self.now)
+            (world_seen (world_taken object count address self.now)) notes.new.made) }
+        ensures named { (p : Place) → named notes.new.made p ≡ None
+            → named notes.old.made p ≡ None }
         ensures numbers { notes.old.numbers ≤ notes.new.numbers + 1 }
         ensures completions { notes.old.completions ≤ notes.new.completions }
         ensures others { notes.old.others ≤ notes.new.others }
@@ -426,9 +461,13 @@ impl World {
         notes: &mut Recorder,
     ) -> Result<(), AllocError>
         requires in_memory { address + length others.now ≤ 65536 }
-        requires fresh { (i : ℕ) → i < length others.now → named notes.old.made (MemoryByte (address + i)) ≡ None }
-        ensures noted { OnOk result (NamesDiffering notes.new.made Memory address (part self.now.memory address (length others.now)) others.now) }
-        ensures among { NotedAmong notes.old.made notes.new.made Memory address (part self.now.memory address (length others.now)) }
+        requires fresh { (i : ℕ) → i < length others.now
+            → named notes.old.made (MemoryByte (address + i)) ≡ None }
+        ensures noted { OnOk result
+            (NamesDiffering notes.new.made Memory address
+            (part self.now.memory address (length others.now)) others.now) }
+        ensures among { NotedAmong notes.old.made notes.new.made Memory address
+            (part self.now.memory address (length others.now)) }
         ensures room { HasAsMuch notes.old notes.new }
     {
         let at = address as usize;
@@ -436,8 +475,8 @@ impl World {
         note_differing(Region::Memory, address, old, others, notes)
     }
 
-    /// Bytes of memory, from an address on, go into a pipe (pipe(7)). Want of memory for the notes leaves all
-    /// as it was.
+    /// Bytes of memory, from an address on, go into a pipe (pipe(7)). Want of memory for the notes
+    /// leaves all as it was.
     pub fn put_pipe(
         &mut self,
         object: u32,
@@ -450,8 +489,10 @@ impl World {
         requires fresh { (i : ℕ) → i < 65536 → named notes.old.made (PipeByte object i) ≡ None }
         ensures ok { OnOk result (self.new ≡ world_put object count address self.old) }
         ensures err { OnErr result (self.new ≡ self.old) }
-        ensures keeps { Keeps world_owns (world_seen self.old) (world_seen self.new) notes.old.made notes.new.made }
-        ensures named { (p : Place) → named notes.new.made p ≡ None → named notes.old.made p ≡ None }
+        ensures keeps { Keeps world_owns (world_seen self.old)
+            (world_seen self.new) notes.old.made notes.new.made }
+        ensures named { (p : Place) → named notes.new.made p ≡ None
+            → named notes.old.made p ≡ None }
         ensures numbers { notes.old.numbers ≤ notes.new.numbers + 1 }
         ensures completions { notes.old.completions ≤ notes.new.completions }
         ensures others { notes.old.others ≤ notes.new.others }
@@ -471,8 +512,10 @@ impl World {
         requires room { IsSomeAnd (counter_of self.old object) (λ n. n + number < 2 ^ 64) }
         ensures ok { OnOk result (self.new ≡ world_added object number self.old) }
         ensures err { OnErr result (self.new ≡ self.old) }
-        ensures keeps { Keeps world_owns (world_seen self.old) (world_seen self.new) notes.old.made notes.new.made }
-        ensures named { (p : Place) → named notes.new.made p ≡ None → named notes.old.made p ≡ None }
+        ensures keeps { Keeps world_owns (world_seen self.old)
+            (world_seen self.new) notes.old.made notes.new.made }
+        ensures named { (p : Place) → named notes.new.made p ≡ None
+            → named notes.old.made p ≡ None }
         ensures numbers { notes.old.numbers ≤ notes.new.numbers + 1 }
         ensures completions { notes.old.completions ≤ notes.new.completions }
         ensures others { notes.old.others ≤ notes.new.others }
@@ -480,8 +523,8 @@ impl World {
         self.objects[object as usize].add(object, number, notes)
     }
 
-    /// The eight bytes of an eventfd's counter come into memory at an address, and it is 0 (eventfd(2)).
-    /// Want of memory for the notes leaves all as it was.
+    /// The eight bytes of an eventfd's counter come into memory at an address, and it is 0
+    /// (eventfd(2)). Want of memory for the notes leaves all as it was.
     pub fn clear_event(
         &mut self,
         object: u32,
@@ -493,8 +536,10 @@ impl World {
         requires fresh { (i : ℕ) → i < 8 → named notes.old.made (MemoryByte (address + i)) ≡ None }
         ensures ok { OnOk result (self.new ≡ world_cleared object address self.old) }
         ensures err { OnErr result (self.new ≡ self.old) }
-        ensures keeps { Keeps world_owns (world_seen self.old) (world_seen self.new) notes.old.made notes.new.made }
-        ensures named { (p : Place) → named notes.new.made p ≡ None → named notes.old.made p ≡ None }
+        ensures keeps { Keeps world_owns (world_seen self.old)
+            (world_seen self.new) notes.old.made notes.new.made }
+        ensures named { (p : Place) → named notes.new.made p ≡ None
+            → named notes.old.made p ≡ None }
         ensures numbers { notes.old.numbers ≤ notes.new.numbers + 1 }
         ensures completions { notes.old.completions ≤ notes.new.completions }
         ensures others { notes.old.others ≤ notes.new.others }
@@ -509,7 +554,8 @@ impl World {
         Ok(())
     }
 
-    /// Moves a descriptor of a file to a position (lseek(2)). Want of memory leaves it where it was.
+    /// Moves a descriptor of a file to a position (lseek(2)). Want of memory leaves it where it
+    /// was.
     pub fn set_position(
         &mut self,
         fd: u32,
@@ -520,8 +566,10 @@ impl World {
         ensures ok { OnOk result (self.new ≡ world_at fd position self.old) }
         ensures err { OnErr result (self.new ≡ self.old) }
         ensures there { 0 < notes.old.numbers → fd < 67 → IsOk result }
-        ensures keeps { Keeps world_owns (world_seen self.old) (world_seen self.new) notes.old.made notes.new.made }
-        ensures named { (p : Place) → named notes.new.made p ≡ None → named notes.old.made p ≡ None }
+        ensures keeps { Keeps world_owns (world_seen self.old)
+            (world_seen self.new) notes.old.made notes.new.made }
+        ensures named { (p : Place) → named notes.new.made p ≡ None
+            → named notes.old.made p ≡ None }
         ensures numbers { notes.old.numbers ≤ notes.new.numbers + 1 }
         ensures completions { notes.old.completions ≤ notes.new.completions }
         ensures others { notes.old.others ≤ notes.new.others }
@@ -540,8 +588,10 @@ impl World {
         requires { IsSome (descriptor_of self.old fd) }
         ensures ok { OnOk result (self.new ≡ world_closed fd self.old) }
         ensures err { OnErr result (self.new ≡ self.old) }
-        ensures keeps { Keeps world_owns (world_seen self.old) (world_seen self.new) notes.old.made notes.new.made }
-        ensures named { (p : Place) → named notes.new.made p ≡ None → named notes.old.made p ≡ None }
+        ensures keeps { Keeps world_owns (world_seen self.old)
+            (world_seen self.new) notes.old.made notes.new.made }
+        ensures named { (p : Place) → named notes.new.made p ≡ None
+            → named notes.old.made p ≡ None }
         ensures numbers { notes.old.numbers ≤ notes.new.numbers + 1 }
         ensures completions { notes.old.completions ≤ notes.new.completions }
         ensures others { notes.old.others ≤ notes.new.others }

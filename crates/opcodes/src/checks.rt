@@ -7,7 +7,8 @@ use crate::op::{Op, is_timer};
 use entries::Sqe;
 use model_files::World;
 
-/// The entry flags that may stand: IOSQE_IO_DRAIN, IOSQE_IO_LINK, IOSQE_IO_HARDLINK, and IOSQE_ASYNC, which changes nothing.
+/// The entry flags that may stand: IOSQE_IO_DRAIN, IOSQE_IO_LINK, IOSQE_IO_HARDLINK, and
+/// IOSQE_ASYNC, which changes nothing.
 const ALLOWED_FLAGS: u8 = 30;
 
 /// The nanoseconds of a second.
@@ -22,8 +23,8 @@ pub struct Context<'a> {
     pub world: &'a World,
 }
 
-/// Whether an entry can be submitted, and what it asks for. The error is the negated number that its
-/// completion has (io_uring_enter(2)).
+/// Whether an entry can be submitted, and what it asks for. The error is the negated number that
+/// its completion has (io_uring_enter(2)).
 pub fn check(entry: &Sqe, context: Context) -> Result<Op, i32>
     ensures { result ≡ check_of context.entry.world.now context.entry.behind entry.now }
 {
@@ -97,7 +98,8 @@ fn time_at(world: &World, address: u32) -> Option<u128>
     Some(u128::from(seconds) * SECOND + u128::from(nanoseconds))
 }
 
-// Whether a LINK_TIMEOUT can stand behind an entry of an opcode: not behind another one, nor first in a chain.
+// Whether a LINK_TIMEOUT can stand behind an entry of an opcode: not behind another one, nor first
+// in a chain.
 fn can_guard(behind: Option<u8>) -> bool
     ensures { result ≡ can_guard behind }
 {

@@ -1,5 +1,5 @@
-//! What the end of a request does to memory, objects and descriptors (read(2), write(2), fsync(2), pipe(7),
-//! eventfd(2)).
+//! What the end of a request does to memory, objects and descriptors (read(2), write(2), fsync(2),
+//! pipe(7), eventfd(2)).
 ghost use Rattle.std.specs.Prelude.{◌≡◌, ◌+◌, ◌-◌, ◌^◌, ◌<◌, ◌≤◌, ◌≤ℤ◌, ℕ, Bool, pos, OnOk, OnErr, IsOk, IsSome, IsSomeAnd, None, Some, unwrap_or};
 ghost use Rattle.model_files.specs.declared.descriptor.DescriptorState.{DescriptorState};
 ghost use Rattle.places.specs.View.{Keeps, named};
@@ -18,7 +18,8 @@ use model_files::{DescriptorState, Stock, World};
 use places::Recorder;
 use std::alloc::AllocError;
 
-/// Does what the end of a request with a result does. Want of memory for the notes leaves all as it was.
+/// Does what the end of a request with a result does. Want of memory for the notes leaves all as it
+/// was.
 pub fn carry_out(
     world: &mut World,
     row: &Row,
@@ -27,12 +28,14 @@ pub fn carry_out(
 ) -> Result<(), AllocError>
     requires formed { WorldFormed world.old }
     requires puts { PutsWithin (2 ^ 63) world.old }
-    requires came { (held : ℕ → Bool) × (c : Choice) × (outcome_of held world.old row.now c ≡ Res res) }
+    requires came { (held : ℕ → Bool) × (c : Choice)
+        × (outcome_of held world.old row.now c ≡ Res res) }
     requires fresh { (p : Place) → named notes.old.made p ≡ None }
     ensures ok { OnOk result (world.new ≡ world_after row.now res world.old) }
     ensures err { OnErr result (world.new ≡ world.old) }
     ensures setup { OneWorldSetup world.old world.new }
-    ensures keeps { Keeps world_owns (world_seen world.old) (world_seen world.new) notes.old.made notes.new.made }
+    ensures keeps { Keeps world_owns (world_seen world.old)
+        (world_seen world.new) notes.old.made notes.new.made }
 {
     let (Some(fd), Some(descriptor)) = (row.held, held_descriptor(world, row)) else {
         return Ok(());
@@ -90,13 +93,15 @@ fn read_bytes(
     requires formed { WorldFormed world.old }
     requires descriptor { descriptor_of world.old fd ≡ Some descriptor.now }
     requires file { IsSome (file_of world.old descriptor.now.object) }
-    requires in_file { 0 < count → offset_of entry.now (position_of (Some descriptor.now)) + count ≤ 65536 }
+    requires in_file { 0 < count → offset_of entry.now (position_of (Some descriptor.now)) + count
+        ≤ 65536 }
     requires in_memory { entry.now.addr + count ≤ 65536 }
     requires fresh { (p : Place) → named notes.old.made p ≡ None }
     ensures ok { OnOk result (world.new ≡ bytes_read entry.now fd descriptor.now count world.old) }
     ensures err { OnErr result (world.new ≡ world.old) }
     ensures setup { OneWorldSetup world.old world.new }
-    ensures keeps { Keeps world_owns (world_seen world.old) (world_seen world.new) notes.old.made notes.new.made }
+    ensures keeps { Keeps world_owns (world_seen world.old)
+        (world_seen world.new) notes.old.made notes.new.made }
 {
     if count == 0 {
         return Ok(());
@@ -126,13 +131,16 @@ fn write_bytes(
     requires formed { WorldFormed world.old }
     requires descriptor { descriptor_of world.old fd ≡ Some descriptor.now }
     requires file { IsSome (file_of world.old descriptor.now.object) }
-    requires in_file { 0 < count → offset_of entry.now (position_of (Some descriptor.now)) + count ≤ 65536 }
+    requires in_file { 0 < count → offset_of entry.now (position_of (Some descriptor.now)) + count
+        ≤ 65536 }
     requires in_memory { entry.now.addr + count ≤ 65536 }
     requires fresh { (p : Place) → named notes.old.made p ≡ None }
-    ensures ok { OnOk result (world.new ≡ bytes_written entry.now fd descriptor.now count world.old) }
+    ensures ok { OnOk result (world.new
+        ≡ bytes_written entry.now fd descriptor.now count world.old) }
     ensures err { OnErr result (world.new ≡ world.old) }
     ensures setup { OneWorldSetup world.old world.new }
-    ensures keeps { Keeps world_owns (world_seen world.old) (world_seen world.new) notes.old.made notes.new.made }
+    ensures keeps { Keeps world_owns (world_seen world.old)
+        (world_seen world.new) notes.old.made notes.new.made }
 {
     if count == 0 {
         return Ok(());
@@ -165,7 +173,8 @@ fn take_bytes(
     ensures ok { OnOk result (world.new ≡ world_taken object count entry.now.addr world.old) }
     ensures err { OnErr result (world.new ≡ world.old) }
     ensures setup { OneWorldSetup world.old world.new }
-    ensures keeps { Keeps world_owns (world_seen world.old) (world_seen world.new) notes.old.made notes.new.made }
+    ensures keeps { Keeps world_owns (world_seen world.old)
+        (world_seen world.new) notes.old.made notes.new.made }
 {
     if count == 0 {
         return Ok(());
@@ -188,7 +197,8 @@ fn put_bytes(
     ensures ok { OnOk result (world.new ≡ world_put object count entry.now.addr world.old) }
     ensures err { OnErr result (world.new ≡ world.old) }
     ensures setup { OneWorldSetup world.old world.new }
-    ensures keeps { Keeps world_owns (world_seen world.old) (world_seen world.new) notes.old.made notes.new.made }
+    ensures keeps { Keeps world_owns (world_seen world.old)
+        (world_seen world.new) notes.old.made notes.new.made }
 {
     if count == 0 {
         return Ok(());
@@ -210,7 +220,8 @@ fn clear(
     ensures ok { OnOk result (world.new ≡ world_cleared object entry.now.addr world.old) }
     ensures err { OnErr result (world.new ≡ world.old) }
     ensures setup { OneWorldSetup world.old world.new }
-    ensures keeps { Keeps world_owns (world_seen world.old) (world_seen world.new) notes.old.made notes.new.made }
+    ensures keeps { Keeps world_owns (world_seen world.old)
+        (world_seen world.new) notes.old.made notes.new.made }
 {
     world.clear_event(object, narrow(entry.addr), notes)
 }
@@ -219,11 +230,14 @@ fn clear(
 fn add(world: &mut World, entry: &Sqe, object: u32, notes: &mut Recorder) -> Result<(), AllocError>
     requires formed { WorldFormed world.old }
     requires in_memory { entry.now.addr + 8 ≤ 65536 }
-    requires room { IsSomeAnd (counter_of world.old object) (λ n. n + number_at world.old entry.now.addr < 2 ^ 64 - 1) }
-    ensures ok { OnOk result (world.new ≡ world_added object (number_at world.old entry.now.addr) world.old) }
+    requires room { IsSomeAnd (counter_of world.old object)
+        (λ n. n + number_at world.old entry.now.addr < 2 ^ 64 - 1) }
+    ensures ok { OnOk result (world.new
+        ≡ world_added object (number_at world.old entry.now.addr) world.old) }
     ensures err { OnErr result (world.new ≡ world.old) }
     ensures setup { OneWorldSetup world.old world.new }
-    ensures keeps { Keeps world_owns (world_seen world.old) (world_seen world.new) notes.old.made notes.new.made }
+    ensures keeps { Keeps world_owns (world_seen world.old)
+        (world_seen world.new) notes.old.made notes.new.made }
 {
     let number = world.number_at(narrow(entry.addr));
     world.add_event(object, number, notes)
@@ -238,12 +252,14 @@ fn move_on(
     count: u32,
     notes: &mut Recorder,
 ) -> Result<(), AllocError>
-    requires descriptor { (d : DescriptorState) × (descriptor_of world.old fd ≡ Some d) × (d.position ≡ position) }
+    requires descriptor { (d : DescriptorState) × (descriptor_of world.old fd ≡ Some d)
+        × (d.position ≡ position) }
     requires in_file { offset_of entry.now (unwrap_or position 0) + count ≤ 65536 }
     ensures ok { OnOk result (world.new ≡ moved_on entry.now fd position count world.old) }
     ensures there { 0 < notes.old.numbers → fd < 67 → IsOk result }
     ensures setup { OneWorldSetup world.old world.new }
-    ensures keeps { Keeps world_owns (world_seen world.old) (world_seen world.new) notes.old.made notes.new.made }
+    ensures keeps { Keeps world_owns (world_seen world.old)
+        (world_seen world.new) notes.old.made notes.new.made }
 {
     match position {
         Some(position) if is_at_position(entry) => {

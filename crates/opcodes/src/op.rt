@@ -41,16 +41,16 @@ impl Op {
     }
 }
 
-/// Whether an opcode is a TIMEOUT or a LINK_TIMEOUT. These aren't counted among the completions that a
-/// TIMEOUT waits for.
+/// Whether an opcode is a TIMEOUT or a LINK_TIMEOUT. These aren't counted among the completions
+/// that a TIMEOUT waits for.
 pub fn is_timer(opcode: u8) -> bool
     ensures { result ≡ is_timer_number opcode }
 {
     opcode == 11 || opcode == 15
 }
 
-/// Whether an opcode is a POLL_REMOVE, a TIMEOUT_REMOVE or an ASYNC_CANCEL. What these come to, and which
-/// requests they end, depends on the other requests.
+/// Whether an opcode is a POLL_REMOVE, a TIMEOUT_REMOVE or an ASYNC_CANCEL. What these come to, and
+/// which requests they end, depends on the other requests.
 pub fn is_cancel(opcode: u8) -> bool
     ensures { result ≡ is_cancel_number opcode }
 {
@@ -64,8 +64,8 @@ pub fn uses_descriptor(opcode: u8) -> bool
     opcode == 3 || opcode == 6 || opcode == 22 || opcode == 23
 }
 
-/// Whether a request of an opcode can use an end: nothing is read from a pipe's write end, nor written to
-/// its read end (pipe(7)).
+/// Whether a request of an opcode can use an end: nothing is read from a pipe's write end, nor
+/// written to its read end (pipe(7)).
 pub fn fits_end(opcode: u8, end: End) -> bool
     ensures { result ≡ fits_end_of opcode end }
 {

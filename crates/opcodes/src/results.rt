@@ -13,8 +13,8 @@ use crate::streams::{event_read, event_written, pipe_read, pipe_written};
 use entries::{Row, Sqe};
 use model_files::{DescriptorState, Held, Stock, World};
 
-/// What an issued request comes to, by which descriptors requests under way hold. It takes no memory, and
-/// isn't asked about a cancel or a removal, which depends on the other requests.
+/// What an issued request comes to, by which descriptors requests under way hold. It takes no
+/// memory, and isn't asked about a cancel or a removal, which depends on the other requests.
 pub fn outcome(world: &World, held: &Held, row: &Row, choice: Choice) -> Outcome
     ensures { result ≡ outcome_of (is_held held.now) world.now row.now choice }
 {
@@ -51,7 +51,8 @@ pub(crate) fn held_descriptor(world: &World, row: &Row) -> Option<DescriptorStat
 
 /// What the object of the descriptor is ready for that a row holds.
 fn mask_behind(world: &World, held: &Held, row: &Row) -> u32
-    ensures mask { result ≡ mask_behind (is_held held.now) world.now (held_descriptor world.now row.now) }
+    ensures mask { result ≡ mask_behind (is_held held.now) world.now
+        (held_descriptor world.now row.now) }
     ensures few { result < 32 }
 {
     match row.held {
@@ -193,7 +194,9 @@ fn read_outcome(
     choice: Choice,
 ) -> Outcome
     requires { entry.now.len ≤ 65536 }
-    ensures { result ≡ read_outcome entry.now (position_of descriptor) (writer_behind (is_held held.now) world.now descriptor) (stock_behind world.now descriptor) choice }
+    ensures { result ≡ read_outcome entry.now (position_of descriptor)
+        (writer_behind (is_held held.now) world.now descriptor)
+        (stock_behind world.now descriptor) choice }
 {
     let len = entry.len;
     match stock_behind(world, descriptor) {
@@ -217,7 +220,9 @@ fn write_outcome(
     choice: Choice,
 ) -> Outcome
     requires within { entry.now.addr + entry.now.len ≤ 65536 }
-    ensures { result ≡ write_outcome entry.now (position_of descriptor) (reader_behind (is_held held.now) world.now descriptor) (number_at world.now entry.now.addr) (stock_behind world.now descriptor) choice }
+    ensures { result ≡ write_outcome entry.now (position_of descriptor)
+        (reader_behind (is_held held.now) world.now descriptor) (number_at world.now entry.now.addr)
+        (stock_behind world.now descriptor) choice }
 {
     let len = entry.len;
     match stock_behind(world, descriptor) {

@@ -7,8 +7,8 @@ use crate::results::{held_descriptor, stock_behind};
 use entries::Row;
 use model_files::{Stock, World};
 
-/// Whether an issued row is running, so that a cancel finds it but can't end it. Other issued rows wait:
-/// for a pipe or an eventfd, for an event of a poll, or for the clock.
+/// Whether an issued row is running, so that a cancel finds it but can't end it. Other issued rows
+/// wait: for a pipe or an eventfd, for an event of a poll, or for the clock.
 pub fn is_running(world: &World, row: &Row) -> bool
     ensures { result ≡ is_running world.now row.now }
 {

@@ -31,8 +31,8 @@ pub(crate) fn pipe_read(len: u32, writer: bool, filled: u64, choice: Choice) -> 
     fixed(least(len, filled), choice)
 }
 
-/// A WRITE of so few bytes that they go in at once waits for room for all of them, a longer one for room for
-/// any.
+/// A WRITE of so few bytes that they go in at once waits for room for all of them, a longer one for
+/// room for any.
 pub(crate) fn pipe_written(
     len: u32,
     reader: bool,
@@ -89,7 +89,8 @@ pub(crate) fn event_read(len: u32, counter: u64, choice: Choice) -> Outcome
 /// A WRITE waits until the sum is at most 2^64 - 2.
 pub(crate) fn event_written(world: &World, entry: &Sqe, counter: u64, choice: Choice) -> Outcome
     requires within { entry.now.addr + entry.now.len ≤ 65536 }
-    ensures { result ≡ event_written entry.now.len counter (number_at world.now entry.now.addr) choice }
+    ensures { result ≡ event_written entry.now.len counter
+        (number_at world.now entry.now.addr) choice }
 {
     if entry.len < 8 {
         return fixed(-EINVAL, choice);

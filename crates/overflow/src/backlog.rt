@@ -57,7 +57,8 @@ impl Part for Backlog {
 
     fn put(&mut self, place: Place, value: Option<Value>)
         requires { backlog_can_put self.old place value }
-        ensures put { (q : Place) → backlog_seen self.new q ≡ put_at (backlog_seen self.old) place value q }
+        ensures put { (q : Place)
+            → backlog_seen self.new q ≡ put_at (backlog_seen self.old) place value q }
         ensures len { OnSome value (length self.new.items ≡ length self.old.items) }
     {
         match (place, value) {
@@ -109,7 +110,8 @@ impl Backlog {
     /// How many are still kept.
     pub fn kept(&self) -> usize
         ensures value { result ≡ length (kept self.now) }
-        ensures all { self.now.front ≤ length self.now.items → self.now.front + result ≡ length self.now.items }
+        ensures all { self.now.front ≤ length self.now.items
+            → self.now.front + result ≡ length self.now.items }
     {
         let all = self.items.len();
         all.saturating_sub(self.front as usize)
@@ -143,8 +145,10 @@ impl Backlog {
         requires { length self.old.items + length list.now ≤ 65536 }
         ensures ok { OnOk result (self.new ≡ backlog_with self.old list.now) }
         ensures err { OnErr result (self.new ≡ self.old) }
-        ensures keeps { Keeps backlog_owns (backlog_seen self.old) (backlog_seen self.new) notes.old.made notes.new.made }
-        ensures named { (p : Place) → named notes.new.made p ≡ None → named notes.old.made p ≡ None }
+        ensures keeps { Keeps backlog_owns (backlog_seen self.old)
+            (backlog_seen self.new) notes.old.made notes.new.made }
+        ensures named { (p : Place) → named notes.new.made p ≡ None
+            → named notes.old.made p ≡ None }
         ensures numbers { notes.old.numbers ≤ notes.new.numbers }
         ensures completions { notes.old.completions ≤ notes.new.completions }
     {
@@ -160,8 +164,10 @@ impl Backlog {
         requires kept { self.old.front + count ≤ 65536 }
         requires numbers { 0 < notes.old.numbers }
         ensures next { self.new ≡ backlog_behind self.old count }
-        ensures keeps { Keeps backlog_owns (backlog_seen self.old) (backlog_seen self.new) notes.old.made notes.new.made }
-        ensures named { (p : Place) → named notes.new.made p ≡ None → named notes.old.made p ≡ None }
+        ensures keeps { Keeps backlog_owns (backlog_seen self.old)
+            (backlog_seen self.new) notes.old.made notes.new.made }
+        ensures named { (p : Place) → named notes.new.made p ≡ None
+            → named notes.old.made p ≡ None }
         ensures numbers { notes.old.numbers ≤ notes.new.numbers + 1 }
     {
         match notes.note_number(Place::BacklogFront, self.front as u64) {

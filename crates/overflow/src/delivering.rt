@@ -12,8 +12,8 @@ use places::{Place, Recorder};
 use ring_words::{ComRing, RingFlag, SubRing};
 use std::alloc::AllocError;
 
-/// Posts completions: into the ring while it has room and none is kept, the others into the backlog.
-/// Want of memory leaves the three parts as they were.
+/// Posts completions: into the ring while it has room and none is kept, the others into the
+/// backlog. Want of memory leaves the three parts as they were.
 pub fn post_all(
     submissions: &mut SubRing,
     completions: &mut ComRing,
@@ -21,25 +21,38 @@ pub fn post_all(
     list: &[Cqe],
     notes: &mut Recorder,
 ) -> Result<(), AllocError>
-    requires waits { waiting completions.old.head completions.old.tail ≤ length completions.old.slots }
+    requires waits { waiting completions.old.head completions.old.tail
+        ≤ length completions.old.slots }
     requires front { backlog.old.front ≤ length backlog.old.items }
     requires room { length backlog.old.items + length list.now ≤ 65536 }
-    ensures ok { OnOk result (delivery_of submissions.new completions.new backlog.new ≡ all_posted (delivery_of submissions.old completions.old backlog.old) list.now) }
-    ensures err { OnErr result (delivery_of submissions.new completions.new backlog.new ≡ delivery_of submissions.old completions.old backlog.old) }
+    ensures ok { OnOk result (delivery_of submissions.new completions.new backlog.new
+        ≡ all_posted (delivery_of submissions.old completions.old backlog.old) list.now) }
+    ensures err { OnErr result (delivery_of submissions.new completions.new backlog.new
+        ≡ delivery_of submissions.old completions.old backlog.old) }
 
     // Nothing is lost, and nothing passes a kept completion.
-    ensures in_order { OnOk result (com_list completions.new ++ kept backlog.new ≡ (com_list completions.old ++ kept backlog.old) ++ list.now) }
-    ensures behind_kept { OnOk result (is_clear backlog.old ≡ false → com_list completions.new ≡ com_list completions.old) }
-    ensures into_ring { OnOk result (is_clear backlog.old ≡ true → length (com_list completions.new) ≡ min (length (com_list completions.old) + length list.now) (length completions.old.slots)) }
-    ensures flag { OnOk result (has_flag submissions.new.flags CqOverflow ≡ not (is_clear backlog.new)) }
+    ensures in_order { OnOk result (com_list completions.new ++ kept backlog.new
+        ≡ (com_list completions.old ++ kept backlog.old) ++ list.now) }
+    ensures behind_kept { OnOk result (is_clear backlog.old ≡ false
+        → com_list completions.new ≡ com_list completions.old) }
+    ensures into_ring { OnOk result (is_clear backlog.old ≡ true
+        → length (com_list completions.new)
+        ≡ min (length (com_list completions.old) + length list.now)
+        (length completions.old.slots)) }
+    ensures flag { OnOk result (has_flag submissions.new.flags CqOverflow
+        ≡ not (is_clear backlog.new)) }
 
     ensures words { submissions.new ≡ record submissions.old { flags = submissions.new.flags } }
     ensures slots { length completions.new.slots ≡ length completions.old.slots }
-    ensures still_waits { waiting completions.new.head completions.new.tail ≤ length completions.new.slots }
+    ensures still_waits { waiting completions.new.head completions.new.tail
+        ≤ length completions.new.slots }
     ensures still_front { backlog.new.front ≤ length backlog.new.items }
     ensures items { length backlog.old.items ≤ length backlog.new.items }
     ensures at_most { length backlog.new.items ≤ length backlog.old.items + length list.now }
-    ensures keeps { Keeps delivery_owns (delivery_seen (delivery_of submissions.old completions.old backlog.old)) (delivery_seen (delivery_of submissions.new completions.new backlog.new)) notes.old.made notes.new.made }
+    ensures keeps { Keeps delivery_owns
+        (delivery_seen (delivery_of submissions.old completions.old backlog.old))
+        (delivery_seen
+        (delivery_of submissions.new completions.new backlog.new)) notes.old.made notes.new.made }
     ensures named { (p : Place) → named notes.new.made p ≡ None → named notes.old.made p ≡ None }
 {
     let now = fits(completions, backlog, list.len());
@@ -59,23 +72,34 @@ pub fn flush(
     backlog: &mut Backlog,
     notes: &mut Recorder,
 ) -> Result<(), AllocError>
-    requires waits { waiting completions.old.head completions.old.tail ≤ length completions.old.slots }
+    requires waits { waiting completions.old.head completions.old.tail
+        ≤ length completions.old.slots }
     requires front { backlog.old.front ≤ length backlog.old.items }
     requires most { length backlog.old.items ≤ 65536 }
-    ensures ok { OnOk result (delivery_of submissions.new completions.new backlog.new ≡ flushed (delivery_of submissions.old completions.old backlog.old)) }
-    ensures err { OnErr result (delivery_of submissions.new completions.new backlog.new ≡ delivery_of submissions.old completions.old backlog.old) }
+    ensures ok { OnOk result (delivery_of submissions.new completions.new backlog.new
+        ≡ flushed (delivery_of submissions.old completions.old backlog.old)) }
+    ensures err { OnErr result (delivery_of submissions.new completions.new backlog.new
+        ≡ delivery_of submissions.old completions.old backlog.old) }
 
     // Nothing is lost, and the order stays.
-    ensures in_order { OnOk result (com_list completions.new ++ kept backlog.new ≡ com_list completions.old ++ kept backlog.old) }
-    ensures into_ring { OnOk result (length (com_list completions.new) ≡ min (length (com_list completions.old) + length (kept backlog.old)) (length completions.old.slots)) }
-    ensures flag { OnOk result (has_flag submissions.new.flags CqOverflow ≡ not (is_clear backlog.new)) }
+    ensures in_order { OnOk result (com_list completions.new ++ kept backlog.new
+        ≡ com_list completions.old ++ kept backlog.old) }
+    ensures into_ring { OnOk result (length (com_list completions.new)
+        ≡ min (length (com_list completions.old) + length (kept backlog.old))
+        (length completions.old.slots)) }
+    ensures flag { OnOk result (has_flag submissions.new.flags CqOverflow
+        ≡ not (is_clear backlog.new)) }
 
     ensures words { submissions.new ≡ record submissions.old { flags = submissions.new.flags } }
     ensures slots { length completions.new.slots ≡ length completions.old.slots }
-    ensures still_waits { waiting completions.new.head completions.new.tail ≤ length completions.new.slots }
+    ensures still_waits { waiting completions.new.head completions.new.tail
+        ≤ length completions.new.slots }
     ensures still_front { backlog.new.front ≤ length backlog.new.items }
     ensures items { backlog.new.items ≡ backlog.old.items }
-    ensures keeps { Keeps delivery_owns (delivery_seen (delivery_of submissions.old completions.old backlog.old)) (delivery_seen (delivery_of submissions.new completions.new backlog.new)) notes.old.made notes.new.made }
+    ensures keeps { Keeps delivery_owns
+        (delivery_seen (delivery_of submissions.old completions.old backlog.old))
+        (delivery_seen
+        (delivery_of submissions.new completions.new backlog.new)) notes.old.made notes.new.made }
     ensures named { (p : Place) → named notes.new.made p ≡ None → named notes.old.made p ≡ None }
 {
     let count = backlog.kept().min(free_slots(completions));
@@ -113,11 +137,13 @@ fn fits(completions: &ComRing, backlog: &Backlog, count: usize) -> usize
 /// Posts completions where there is room for all.
 fn post_in_order(completions: &mut ComRing, list: &[Cqe], notes: &mut Recorder)
     requires formed { ComFormed completions.old }
-    requires free { waiting completions.old.head completions.old.tail + length list.now ≤ length completions.old.slots }
+    requires free { waiting completions.old.head completions.old.tail + length list.now
+        ≤ length completions.old.slots }
     requires numbers { length list.now ≤ notes.old.numbers }
     requires places { length list.now ≤ notes.old.completions }
     ensures next { completions.new ≡ posted_in_order completions.old list.now }
-    ensures keeps { Keeps com_owns (com_seen completions.old) (com_seen completions.new) notes.old.made notes.new.made }
+    ensures keeps { Keeps com_owns (com_seen completions.old)
+        (com_seen completions.new) notes.old.made notes.new.made }
     ensures named { (p : Place) → named notes.new.made p ≡ None → named notes.old.made p ≡ None }
     ensures spends { notes.old.numbers ≤ notes.new.numbers + length list.now }
 {
@@ -130,7 +156,8 @@ fn post_in_order(completions: &mut ComRing, list: &[Cqe], notes: &mut Recorder)
 fn flag(submissions: &mut SubRing, backlog: &Backlog, notes: &mut Recorder)
     requires { 0 < notes.old.numbers }
     ensures next { submissions.new ≡ flagged submissions.old backlog.now }
-    ensures keeps { Keeps sub_owns (sub_seen submissions.old) (sub_seen submissions.new) notes.old.made notes.new.made }
+    ensures keeps { Keeps sub_owns (sub_seen submissions.old)
+        (sub_seen submissions.new) notes.old.made notes.new.made }
     ensures named { (p : Place) → named notes.new.made p ≡ None → named notes.old.made p ≡ None }
 {
     let kept = !backlog.is_empty();

@@ -7,22 +7,29 @@ ghost use Rattle.overflow.specs.Backlogs.{kept, is_clear, Delivery, DeliveryForm
 
 /// Posting loses nothing and keeps the order: what the ring and the backlog had, and then the list.
 pub fn posted_in_row()
-    ensures { (d : Delivery) (cs : List Cqe) → DeliveryFormed d → com_list (all_posted d cs).completions ++ kept (all_posted d cs).backlog ≡ (com_list d.completions ++ kept d.backlog) ++ cs }
+    ensures { (d : Delivery) (cs : List Cqe) → DeliveryFormed d
+        → com_list (all_posted d cs).completions ++ kept (all_posted d cs).backlog
+        ≡ (com_list d.completions ++ kept d.backlog) ++ cs }
 {}
 
 /// Nothing posted passes a kept completion.
 pub fn posted_behind_kept()
-    ensures { (d : Delivery) (cs : List Cqe) → is_clear d.backlog ≡ false → com_list (all_posted d cs).completions ≡ com_list d.completions }
+    ensures { (d : Delivery) (cs : List Cqe) → is_clear d.backlog ≡ false
+        → com_list (all_posted d cs).completions ≡ com_list d.completions }
 {}
 
 /// Where none is kept, as many go into the ring as its size allows.
 pub fn posted_into_ring()
-    ensures { (d : Delivery) (cs : List Cqe) → DeliveryFormed d → is_clear d.backlog ≡ true → length (com_list (all_posted d cs).completions) ≡ min (length (com_list d.completions) + length cs) (length d.completions.slots) }
+    ensures { (d : Delivery) (cs : List Cqe) → DeliveryFormed d → is_clear d.backlog ≡ true
+        → length (com_list (all_posted d cs).completions)
+        ≡ min (length (com_list d.completions) + length cs) (length d.completions.slots) }
 {}
 
 /// After posting the overflow flag is set exactly where a completion is kept.
 pub fn posted_flag()
-    ensures { (d : Delivery) (cs : List Cqe) → has_flag (all_posted d cs).submissions.flags CqOverflow ≡ not (is_clear (all_posted d cs).backlog) }
+    ensures { (d : Delivery) (cs : List Cqe)
+        → has_flag (all_posted d cs).submissions.flags CqOverflow
+        ≡ not (is_clear (all_posted d cs).backlog) }
 {}
 
 /// Posting leaves the three parts well formed.
@@ -32,17 +39,23 @@ pub fn posted_formed()
 
 /// A flush loses nothing and keeps the order.
 pub fn flushed_in_row()
-    ensures { (d : Delivery) → DeliveryFormed d → com_list (flushed d).completions ++ kept (flushed d).backlog ≡ com_list d.completions ++ kept d.backlog }
+    ensures { (d : Delivery) → DeliveryFormed d
+        → com_list (flushed d).completions ++ kept (flushed d).backlog ≡ com_list d.completions
+        ++ kept d.backlog }
 {}
 
 /// After a flush the ring has as many as its size allows.
 pub fn flushed_into_ring()
-    ensures { (d : Delivery) → DeliveryFormed d → length (com_list (flushed d).completions) ≡ min (length (com_list d.completions) + length (kept d.backlog)) (length d.completions.slots) }
+    ensures { (d : Delivery) → DeliveryFormed d
+        → length (com_list (flushed d).completions)
+        ≡ min (length (com_list d.completions) + length (kept d.backlog))
+        (length d.completions.slots) }
 {}
 
 /// After a flush the overflow flag is set exactly where a completion is kept.
 pub fn flushed_flag()
-    ensures { (d : Delivery) → has_flag (flushed d).submissions.flags CqOverflow ≡ not (is_clear (flushed d).backlog) }
+    ensures { (d : Delivery)
+        → has_flag (flushed d).submissions.flags CqOverflow ≡ not (is_clear (flushed d).backlog) }
 {}
 
 /// A flush leaves the three parts well formed.

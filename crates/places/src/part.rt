@@ -22,7 +22,8 @@ pub trait At {
 
     /// The bytes of a region, from its first on, where they stand in a row.
     fn bytes_in(&self, _region: Region) -> Option<&[u8]>
-        ensures { IfSome result (λ bytes. (i : ℕ) → seen self.now (place_in _region i) ≡ option_map Byte (slice_get bytes.now i)) }
+        ensures { IfSome result (λ bytes. (i : ℕ)
+            → seen self.now (place_in _region i) ≡ option_map Byte (slice_get bytes.now i)) }
     {
         None
     }

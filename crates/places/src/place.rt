@@ -143,7 +143,8 @@ impl Place {
         }
     }
 
-    /// Whether an unsigned number stands there: a ring word, a counter, a length, a position, a mark.
+    /// Whether an unsigned number stands there: a ring word, a counter, a length, a position, a
+    /// mark.
     pub fn is_number(&self) -> bool
         ensures { result ≡ is_number self.now }
     {

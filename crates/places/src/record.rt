@@ -36,7 +36,8 @@ impl Model for Record {
 
     ghost view = { λ a. all_changes a.numbers.items a.completions.items a.rows.items a.rest };
 
-    ghost invariant = { λ a. NamesOnce (all_changes a.numbers.items a.completions.items a.rows.items a.rest) };
+    ghost invariant = { λ a. NamesOnce
+        (all_changes a.numbers.items a.completions.items a.rows.items a.rest) };
 }
 
 /// The changes of a record that are left, one after the other.
@@ -56,7 +57,8 @@ impl<'a> Model for Changes<'a> {
 
     ghost Value = { List Change };
 
-    ghost view = { λ a. kind_changes a.numbers.now a.completions.now a.rows.now a.bytes.left ++ a.odd.now };
+    ghost view = { λ a. kind_changes a.numbers.now a.completions.now a.rows.now a.bytes.left
+        ++ a.odd.now };
 }
 
 impl<'a> Changes<'a> {
@@ -122,8 +124,8 @@ impl Record {
         }
     }
 
-    /// The changes in three parts: those of numbers, completions and rows, those of bytes a run at a time,
-    /// and the others.
+    /// The changes in three parts: those of numbers, completions and rows, those of bytes a run at
+    /// a time, and the others.
     pub fn parts(&self) -> (Changes<'_>, Stretches<'_>, Changes<'_>)
         ensures value { self.now ≡ result.0 ++ (result.1.left ++ result.2) }
         ensures once { NamesOnce self.now }
@@ -172,8 +174,8 @@ impl Record {
         self.left(Listed::Requests, n)
     }
 
-    /// How many of n completions that did not fit into the ring stay once those go that are named as
-    /// absent, with all behind them.
+    /// How many of n completions that did not fit into the ring stay once those go that are named
+    /// as absent, with all behind them.
     pub fn backlog_left(&self, n: usize) -> usize
         ensures { IsLeft Overflowed self.now n result }
     {

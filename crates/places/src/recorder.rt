@@ -60,7 +60,13 @@ impl Model for Recorder {
 
     ghost Value = { Notes };
 
-    ghost view = { λ a. record { made = all_changes a.numbers.notes a.completions.notes a.rows.notes a.rest; numbers = a.room.numbers; completions = a.room.completions; others = a.room.others } };
+    ghost view = { λ a. record {
+      made = all_changes a.numbers.notes a.completions.notes a.rows.notes a.rest;
+      numbers =
+          a.room.numbers;
+      completions = a.room.completions;
+      others = a.room.others;
+    } };
 
     ghost invariant = { λ a. IsSound a.numbers a.completions a.rows a.rest a.room };
 }
@@ -80,15 +86,16 @@ impl Recorder {
         }
     }
 
-    /// The next n notes of each sort take no memory: of numbers, of completion slots, and of the other
-    /// places that a setup has.
+    /// The next n notes of each sort take no memory: of numbers, of completion slots, and of the
+    /// other places that a setup has.
     pub fn room(&mut self, n: usize) -> Result<(), AllocError>
         ensures made { self.new.made ≡ self.old.made }
         ensures numbers { OnOk result (n ≤ self.new.numbers) }
         ensures completions { OnOk result (n ≤ self.new.completions) }
         ensures others { OnOk result (n ≤ self.new.others) }
         ensures kept { HasAsMuch self.old self.new }
-        ensures there { n ≤ self.old.numbers → n ≤ self.old.completions → n ≤ self.old.others → IsOk result }
+        ensures there { n ≤ self.old.numbers → n ≤ self.old.completions → n ≤ self.old.others
+            → IsOk result }
     {
         self.room_for_numbers(n)?;
         self.room_for_completions(n)?;
@@ -114,7 +121,8 @@ impl Recorder {
         Ok(())
     }
 
-    /// Takes the memory of n more notes of rows at once, where so many are to come. It promises none.
+    /// Takes the memory of n more notes of rows at once, where so many are to come. It promises
+    /// none.
     pub fn expect_rows(&mut self, n: usize) -> Result<(), AllocError>
         ensures made { self.new.made ≡ self.old.made }
         ensures kept { HasAsMuch self.old self.new }
@@ -160,8 +168,9 @@ impl Recorder {
         Ok(())
     }
 
-    /// Notes what stands in a place, unless the place is noted. It takes no memory where there is room.
-    /// A value that cannot stand in the place is noted as well, in time that grows with the notes.
+    /// Notes what stands in a place, unless the place is noted. It takes no memory where there is
+    /// room. A value that cannot stand in the place is noted as well, in time that grows with the
+    /// notes.
     pub fn note(&mut self, place: Place, old: Option<Value>) -> Result<(), AllocError>
         ensures ok { OnOk result (Noted self.old.made self.new.made place old) }
         ensures err { OnErr result (self.new.made ≡ self.old.made) }
@@ -209,7 +218,8 @@ impl Recorder {
     /// Notes the value of a place of none of the other kinds, or that there is none.
     fn note_small(&mut self, place: Place, old: Option<Small>) -> Result<(), AllocError>
         requires { is_other place ≡ true }
-        ensures ok { OnOk result (Noted self.old.made self.new.made place (option_map value_of old)) }
+        ensures ok { OnOk result
+            (Noted self.old.made self.new.made place (option_map value_of old)) }
         ensures err { OnErr result (self.new.made ≡ self.old.made) }
         ensures there { 0 < self.old.others → InLimits place → IsOk result }
         ensures spends { OnOk result (Spends self.old self.new place) }
@@ -242,7 +252,8 @@ impl Recorder {
 
     /// Notes the completion in a slot of the ring.
     pub fn note_completion(&mut self, slot: u32, old: Cqe) -> Result<(), AllocError>
-        ensures ok { OnOk result (Noted self.old.made self.new.made (Completion slot) (Some (Completed old))) }
+        ensures ok { OnOk result
+            (Noted self.old.made self.new.made (Completion slot) (Some (Completed old))) }
         ensures err { OnErr result (self.new.made ≡ self.old.made) }
         ensures there { 0 < self.old.completions → slot < 8192 → IsOk result }
         ensures spends { OnOk result (Spends self.old self.new (Completion slot)) }
@@ -258,7 +269,8 @@ impl Recorder {
 
     /// Notes a row, or that there is none yet.
     pub fn note_row(&mut self, row: u32, old: Option<Row>) -> Result<(), AllocError>
-        ensures ok { OnOk result (Noted self.old.made self.new.made (Request row) (option_map Requested old)) }
+        ensures ok { OnOk result
+            (Noted self.old.made self.new.made (Request row) (option_map Requested old)) }
         ensures err { OnErr result (self.new.made ≡ self.old.made) }
         ensures there { 0 < self.old.others → row < 65536 → IsOk result }
         ensures spends { OnOk result (Spends self.old self.new (Request row)) }
@@ -274,7 +286,8 @@ impl Recorder {
 
     /// Notes the old bytes of a region from an index on, none of which is noted.
     pub fn note_bytes(&mut self, region: Region, start: u32, old: &[u8]) -> Result<(), AllocError>
-        requires fresh { (i : ℕ) → i < length old.now → named self.old.made (place_in region (start + i)) ≡ None }
+        requires fresh { (i : ℕ) → i < length old.now
+            → named self.old.made (place_in region (start + i)) ≡ None }
         requires within { start + length old.now ≤ 2 ^ 32 }
         ensures ok { OnOk result (NotedBytes self.old.made self.new.made region start old.now) }
         ensures err { OnErr result (self.new.made ≡ self.old.made) }
@@ -316,8 +329,8 @@ impl Recorder {
         either(self.rest.names(place), by_kind)
     }
 
-    /// Drops the notes whose place has its old value, and keeps the others. It can't fail: where there is
-    /// no memory for the record's own, it has that of the notes.
+    /// Drops the notes whose place has its old value, and keeps the others. It can't fail: where
+    /// there is no memory for the record's own, it has that of the notes.
     pub fn close<A: At>(self, whole: &A) -> Record
         ensures { Exact (undo (A.seen whole.now) self.made) (A.seen whole.now) result }
     {
@@ -325,8 +338,8 @@ impl Recorder {
         notes.finish(whole)
     }
 
-    /// The same, but that the next notes are made here: they take the memory that these had, and note
-    /// places in constant time from the start.
+    /// The same, but that the next notes are made here: they take the memory that these had, and
+    /// note places in constant time from the start.
     pub fn finish<A: At>(&mut self, whole: &A) -> Record
         ensures exact { Exact (undo (A.seen whole.now) self.old.made) (A.seen whole.now) result }
         ensures none { self.new.made ≡ [] }

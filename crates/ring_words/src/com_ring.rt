@@ -28,7 +28,8 @@ impl Model for ComRing {
 
     ghost view = { λ a. record { head = a.head; tail = a.tail; slots = a.slots.items } };
 
-    ghost invariant = { λ a. ComFormed (record { head = a.head; tail = a.tail; slots = a.slots.items }) };
+    ghost invariant = { λ a. ComFormed
+        (record { head = a.head; tail = a.tail; slots = a.slots.items }) };
 }
 
 impl At for ComRing {
@@ -172,10 +173,17 @@ impl ComRing {
         requires free { waiting self.old.head self.old.tail < length self.old.slots }
         requires numbers { 0 < notes.old.numbers }
         requires completions { 0 < notes.old.completions }
-        ensures next { self.new ≡ record self.old { tail = (self.old.tail + 1) % 2 ^ 32; slots = slice_set self.old.slots (self.old.tail % length self.old.slots) completion } }
+        ensures next { self.new ≡ record self.old {
+          tail =
+              (self.old.tail + 1) % 2 ^ 32;
+          slots = slice_set self.old.slots
+              (self.old.tail % length self.old.slots) completion;
+        } }
         ensures list { com_list self.new ≡ com_list self.old ++ completion ∷ [] }
-        ensures keeps { Keeps com_owns (com_seen self.old) (com_seen self.new) notes.old.made notes.new.made }
-        ensures named { (p : Place) → named notes.new.made p ≡ None → named notes.old.made p ≡ None }
+        ensures keeps { Keeps com_owns (com_seen self.old)
+            (com_seen self.new) notes.old.made notes.new.made }
+        ensures named { (p : Place) → named notes.new.made p ≡ None
+            → named notes.old.made p ≡ None }
         ensures spends_numbers { notes.old.numbers ≤ notes.new.numbers + 1 }
         ensures spends_completions { notes.old.completions ≤ notes.new.completions + 1 }
         ensures spends_others { notes.old.others ≤ notes.new.others }
@@ -192,9 +200,11 @@ impl ComRing {
         requires some { 0 < waiting self.old.head self.old.tail }
         requires numbers { 0 < notes.old.numbers }
         ensures next { self.new ≡ record self.old { head = (self.old.head + 1) % 2 ^ 32 } }
-        ensures value { slice_get self.old.slots (self.old.head % length self.old.slots) ≡ Some result }
+        ensures value { slice_get self.old.slots (self.old.head % length self.old.slots)
+            ≡ Some result }
         ensures list { com_list self.old ≡ result ∷ com_list self.new }
-        ensures keeps { Keeps com_owns (com_seen self.old) (com_seen self.new) notes.old.made notes.new.made }
+        ensures keeps { Keeps com_owns (com_seen self.old)
+            (com_seen self.new) notes.old.made notes.new.made }
         ensures spends_numbers { notes.old.numbers ≤ notes.new.numbers + 1 }
         ensures spends_completions { notes.old.completions ≤ notes.new.completions }
         ensures spends_others { notes.old.others ≤ notes.new.others }

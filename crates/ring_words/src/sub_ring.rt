@@ -33,9 +33,25 @@ impl Model for SubRing {
 
     ghost Value = { SubWords };
 
-    ghost view = { λ a. record { head = a.head; tail = a.tail; flags = a.flags; dropped = a.dropped; array = a.array.items; slots = a.slots.items } };
+    ghost view = { λ a. record {
+      head = a.head;
+      tail = a.tail;
+      flags = a.flags;
+      dropped = a.dropped;
+      array = a.array.items;
+      slots = a.slots.items;
+    } };
 
-    ghost invariant = { λ a. SubFormed (record { head = a.head; tail = a.tail; flags = a.flags; dropped = a.dropped; array = a.array.items; slots = a.slots.items }) };
+    ghost invariant = { λ a. SubFormed
+        (record {
+          head = a.head;
+          tail = a.tail;
+          flags = a.flags;
+          dropped = a.dropped;
+          array =
+              a.array.items;
+          slots = a.slots.items;
+        }) };
 }
 
 impl At for SubRing {
@@ -101,8 +117,8 @@ impl Part for SubRing {
 }
 
 impl SubRing {
-    /// An empty ring of at least so many entries, both of its words at the base, every slot the entry
-    /// of 64 zero bytes.
+    /// An empty ring of at least so many entries, both of its words at the base, every slot the
+    /// entry of 64 zero bytes.
     pub fn new(alloc: Global, entries: u32, base: u32) -> Result<SubRing, RingRefusal>
         ensures ok { IfOk result (λ r. r ≡ sub_start entries base) }
         ensures power { IfOk result (λ r. IsNextPowerOfTwo entries (length r.array)) }
@@ -119,7 +135,15 @@ impl SubRing {
 
     fn start(alloc: Global, size: usize, base: u32) -> Result<SubRing, AllocError>
         requires { IsSize 4096 size }
-        ensures { IfOk result (λ r. r ≡ record { head = base; tail = base; flags = 0; dropped = 0; array = replicate size 0; slots = replicate size zero_entry }) }
+        ensures { IfOk result (λ r. r
+            ≡ record {
+              head = base;
+              tail = base;
+              flags = 0;
+              dropped = 0;
+              array = replicate size 0;
+              slots = replicate size zero_entry;
+            }) }
     {
         let zero = Sqe {
             opcode: 0,
@@ -253,9 +277,15 @@ impl SubRing {
     pub fn push(&mut self, index: u32, notes: &mut Recorder)
         requires free { waiting self.old.head self.old.tail < length self.old.array }
         requires numbers { 2 ≤ notes.old.numbers }
-        ensures next { self.new ≡ record self.old { tail = (self.old.tail + 1) % 2 ^ 32; array = slice_set self.old.array (self.old.tail % length self.old.array) index } }
+        ensures next { self.new ≡ record self.old {
+          tail =
+              (self.old.tail + 1) % 2 ^ 32;
+          array = slice_set self.old.array
+              (self.old.tail % length self.old.array) index;
+        } }
         ensures list { sub_list self.new ≡ sub_list self.old ++ index ∷ [] }
-        ensures keeps { Keeps sub_owns (sub_seen self.old) (sub_seen self.new) notes.old.made notes.new.made }
+        ensures keeps { Keeps sub_owns (sub_seen self.old)
+            (sub_seen self.new) notes.old.made notes.new.made }
         ensures spends_numbers { notes.old.numbers ≤ notes.new.numbers + 2 }
         ensures spends_completions { notes.old.completions ≤ notes.new.completions }
         ensures spends_others { notes.old.others ≤ notes.new.others }
@@ -272,9 +302,14 @@ impl SubRing {
         requires some { 0 < waiting self.old.head self.old.tail }
         requires numbers { 2 ≤ notes.old.numbers }
         ensures taken { result ≡ taken_of self.old }
-        ensures next { self.new ≡ record self.old { head = (self.old.head + 1) % 2 ^ 32; dropped = dropped_after self.old.dropped result } }
+        ensures next { self.new ≡ record self.old {
+          head =
+              (self.old.head + 1) % 2 ^ 32;
+          dropped = dropped_after self.old.dropped result;
+        } }
         ensures list { sub_list self.old ≡ front_word self.old ∷ sub_list self.new }
-        ensures keeps { Keeps sub_owns (sub_seen self.old) (sub_seen self.new) notes.old.made notes.new.made }
+        ensures keeps { Keeps sub_owns (sub_seen self.old)
+            (sub_seen self.new) notes.old.made notes.new.made }
         ensures spends_numbers { notes.old.numbers ≤ notes.new.numbers + 2 }
         ensures spends_completions { notes.old.completions ≤ notes.new.completions }
         ensures spends_others { notes.old.others ≤ notes.new.others }
@@ -294,9 +329,14 @@ impl SubRing {
     pub fn take_first(&mut self, count: u32, dropped: u32, notes: &mut Recorder)
         requires some { count ≤ length (sub_list self.old) }
         requires numbers { 2 ≤ notes.old.numbers }
-        ensures next { self.new ≡ record self.old { head = (self.old.head + count) % 2 ^ 32; dropped = (self.old.dropped + dropped) % 2 ^ 32 } }
+        ensures next { self.new ≡ record self.old {
+          head =
+              (self.old.head + count) % 2 ^ 32;
+          dropped = (self.old.dropped + dropped) % 2 ^ 32;
+        } }
         ensures list { sub_list self.new ≡ drop count (sub_list self.old) }
-        ensures keeps { Keeps sub_owns (sub_seen self.old) (sub_seen self.new) notes.old.made notes.new.made }
+        ensures keeps { Keeps sub_owns (sub_seen self.old)
+            (sub_seen self.new) notes.old.made notes.new.made }
         ensures spends_numbers { notes.old.numbers ≤ notes.new.numbers + 2 }
         ensures spends_completions { notes.old.completions ≤ notes.new.completions }
         ensures spends_others { notes.old.others ≤ notes.new.others }
@@ -311,8 +351,10 @@ impl SubRing {
     pub fn set_flag(&mut self, flag: RingFlag, on: bool, notes: &mut Recorder)
         requires { 0 < notes.old.numbers }
         ensures next { self.new ≡ record self.old { flags = with_flag self.old.flags flag on } }
-        ensures keeps { Keeps sub_owns (sub_seen self.old) (sub_seen self.new) notes.old.made notes.new.made }
-        ensures named { (p : Place) → named notes.new.made p ≡ None → named notes.old.made p ≡ None }
+        ensures keeps { Keeps sub_owns (sub_seen self.old)
+            (sub_seen self.new) notes.old.made notes.new.made }
+        ensures named { (p : Place) → named notes.new.made p ≡ None
+            → named notes.old.made p ≡ None }
         ensures spends_numbers { notes.old.numbers ≤ notes.new.numbers + 1 }
         ensures spends_completions { notes.old.completions ≤ notes.new.completions }
         ensures spends_others { notes.old.others ≤ notes.new.others }

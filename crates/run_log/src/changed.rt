@@ -19,8 +19,8 @@ pub struct Changed {
     pub new: Option<Value>,
 }
 
-// Where a place stands among all places: by its kind, then its object or index, then its index within
-// the object.
+// Where a place stands among all places: by its kind, then its object or index, then its index
+// within the object.
 fn rank(place: Place) -> u128
     ensures { result ≡ rank place }
 {

@@ -33,7 +33,8 @@ fn is_next(first: Place, second: Place) -> bool
 // How many changes behind one stand on its line: the bytes that go on in a row.
 fn following(first: &Changed, rest: &[Changed]) -> usize
     ensures within { result ≤ length rest.now }
-    ensures parted { rows (first.now ∷ rest.now) ≡ (first.now ∷ take result rest.now) ∷ rows (drop result rest.now) }
+    ensures parted { rows (first.now ∷ rest.now) ≡ (first.now ∷ take result rest.now)
+        ∷ rows (drop result rest.now) }
 {
     let mut last = first.place;
     let mut count = 0;

@@ -96,7 +96,8 @@ fn put_lines(
     setup: &Setup,
     changes: &[Changed],
 ) -> Result<(), AllocError>
-    ensures { OnOk result (out.new.items ≡ out.old.items ++ flat_map (line_text setup.now) (rows changes.now)) }
+    ensures { OnOk result (out.new.items ≡ out.old.items
+        ++ flat_map (line_text setup.now) (rows changes.now)) }
 {
     let mut rest = changes;
     while !rest.is_empty() {

@@ -38,7 +38,8 @@ fn report(
     past: &Record,
     state: &State,
 ) -> Result<Vec<u8>, AllocError>
-    ensures { IfOk result (λ text. Shows setup.now index event (view state.now) past.now text.items) }
+    ensures { IfOk result
+        (λ text. Shows setup.now index event (view state.now) past.now text.items) }
 {
     let changes = changes_of(alloc, past, state)?;
     event_lines(alloc, setup, index, event, &changes)
@@ -54,9 +55,14 @@ fn write_report<W: Write>(
     state: &State,
     writer: &mut W,
 ) -> Result<(), LogFault>
-    ensures ok { OnOk result ((text : List ℕ) × Shows setup.now index event (view state.now) past.now text × Appends (W.contents writer.old) (W.contents writer.new) text) }
-    ensures err { IfErr result (λ f. ((f ≡ LogFault.Memory) × Keeps (W.contents writer.old) (W.contents writer.new))
-        ⊎ ((f ≡ LogFault.Write) × (text : List ℕ) × Shows setup.now index event (view state.now) past.now text × WritesFront (W.contents writer.old) (W.contents writer.new) text)) }
+    ensures ok { OnOk result ((text : List ℕ)
+        × Shows setup.now index event (view state.now) past.now text
+        × Appends (W.contents writer.old) (W.contents writer.new) text) }
+    ensures err { IfErr result (λ f. ((f ≡ LogFault.Memory)
+        × Keeps (W.contents writer.old) (W.contents writer.new))
+        ⊎ ((f ≡ LogFault.Write) × (text : List ℕ)
+        × Shows setup.now index event (view state.now) past.now text
+        × WritesFront (W.contents writer.old) (W.contents writer.new) text)) }
 {
     match report(alloc, setup, index, event, past, state) {
         Ok(text) => write_out(writer, &text),
@@ -76,8 +82,12 @@ fn log_event<W: Write>(
 ) -> Result<(), LogFault>
     requires { index < 2 ^ 32 }
     ensures next { OnOk result (Next state.old event state.new) }
-    ensures ok { OnOk result (Reported (has range index) setup.now index state.old event (W.contents writer.old) (W.contents writer.new)) }
-    ensures err { IfErr result (λ f. Halts (has range index) setup.now index state.old event f (W.contents writer.old) (W.contents writer.new)) }
+    ensures ok { OnOk result
+        (Reported (has range index) setup.now index state.old event (W.contents writer.old)
+        (W.contents writer.new)) }
+    ensures err { IfErr result
+        (λ f. Halts (has range index) setup.now index state.old event f (W.contents writer.old)
+        (W.contents writer.new)) }
 {
     let past = match state.step(event) {
         Ok(past) => past,
@@ -100,8 +110,12 @@ fn log_all<W: Write>(
 ) -> Result<(), LogFault>
     requires starts { state.old ≡ start setup.now }
     requires most { length events.now ≤ 1048576 }
-    ensures ok { OnOk result (Written setup.now events.now range (length events.now) (W.contents writer.old) (W.contents writer.new)) }
-    ensures err { IfErr result (λ f. Stopped setup.now events.now range f (W.contents writer.old) (W.contents writer.new)) }
+    ensures ok { OnOk result
+        (Written setup.now events.now range (length events.now) (W.contents writer.old)
+        (W.contents writer.new)) }
+    ensures err { IfErr result
+        (λ f. Stopped setup.now events.now range f (W.contents writer.old)
+        (W.contents writer.new)) }
 {
     for i in 0..events.len() {
         log_event(alloc, state, setup, i, events[i], range, writer)?;
@@ -119,8 +133,12 @@ pub fn log_events<W: Write>(
 ) -> Result<(), LogFault>
     requires starts { setup_refusal setup.now ≡ None }
     requires most { length events.now ≤ 1048576 }
-    ensures ok { OnOk result (Written setup.now events.now range (length events.now) (W.contents writer.old) (W.contents writer.new)) }
-    ensures err { IfErr result (λ f. Stopped setup.now events.now range f (W.contents writer.old) (W.contents writer.new)) }
+    ensures ok { OnOk result
+        (Written setup.now events.now range (length events.now) (W.contents writer.old)
+        (W.contents writer.new)) }
+    ensures err { IfErr result
+        (λ f. Stopped setup.now events.now range f (W.contents writer.old)
+        (W.contents writer.new)) }
 {
     let Ok(mut state) = State::new(alloc, setup) else {
         return Err(LogFault::Memory);

@@ -103,7 +103,8 @@ pub(crate) fn put_number(
     before: &str,
     number: u32,
 ) -> Result<(), AllocError>
-    ensures { OnOk result (out.new.items ≡ out.old.items ++ number_text before.entry.now (Some number)) }
+    ensures { OnOk result (out.new.items ≡ out.old.items
+        ++ number_text before.entry.now (Some number)) }
 {
     let text = format!(in alloc; "{before}{number}")?;
     out.extend_from_slice(text.as_bytes())

@@ -20,8 +20,12 @@ fn log_plan<W: Write>(
     range: EventRange,
     writer: &mut W,
 ) -> Result<(), LogFault>
-    ensures ok { OnOk result (Written script.now.setup script.now.schedule range (length script.now.schedule) (W.contents writer.old) (W.contents writer.new)) }
-    ensures err { IfErr result (λ f. Stopped script.now.setup script.now.schedule range f (W.contents writer.old) (W.contents writer.new)) }
+    ensures ok { OnOk result
+        (Written script.now.setup script.now.schedule range (length script.now.schedule)
+        (W.contents writer.old) (W.contents writer.new)) }
+    ensures err { IfErr result
+        (λ f. Stopped script.now.setup script.now.schedule range f (W.contents writer.old)
+        (W.contents writer.new)) }
 {
     log_events(alloc, script.setup(), script.schedule(), range, writer)
 }
@@ -33,8 +37,10 @@ pub fn log_script<W: Write>(
     range: EventRange,
     writer: &mut W,
 ) -> Result<(), LogFault>
-    ensures ok { OnOk result (LoggedScript text.now range (W.contents writer.old) (W.contents writer.new)) }
-    ensures err { IfErr result (λ f. FailsScript text.now range f (W.contents writer.old) (W.contents writer.new)) }
+    ensures ok { OnOk result
+        (LoggedScript text.now range (W.contents writer.old) (W.contents writer.new)) }
+    ensures err { IfErr result
+        (λ f. FailsScript text.now range f (W.contents writer.old) (W.contents writer.new)) }
 {
     let script = match read_script(alloc, text) {
         Ok(script) => script,
@@ -45,16 +51,18 @@ pub fn log_script<W: Write>(
     Ok(())
 }
 
-/// Reads a trace of the second form, runs its events from its setup, and writes the lines of those in
-/// the range.
+/// Reads a trace of the second form, runs its events from its setup, and writes the lines of those
+/// in the range.
 pub fn log_trace<W: Write>(
     alloc: Global,
     trace: &[u8],
     range: EventRange,
     writer: &mut W,
 ) -> Result<(), LogFault>
-    ensures ok { OnOk result (LoggedTrace trace.now range (W.contents writer.old) (W.contents writer.new)) }
-    ensures err { IfErr result (λ f. FailsTrace trace.now range f (W.contents writer.old) (W.contents writer.new)) }
+    ensures ok { OnOk result
+        (LoggedTrace trace.now range (W.contents writer.old) (W.contents writer.new)) }
+    ensures err { IfErr result
+        (λ f. FailsTrace trace.now range f (W.contents writer.old) (W.contents writer.new)) }
 {
     let (setup, events) = match read_trace2(alloc, trace) {
         Ok(found) => found,
@@ -72,8 +80,12 @@ pub fn log_run<W: Write>(
     range: EventRange,
     writer: &mut W,
 ) -> Result<(), LogFault>
-    ensures ok { OnOk result (LoggedRun (is_trace bytes.now) bytes.now range (W.contents writer.old) (W.contents writer.new)) }
-    ensures err { IfErr result (λ f. FailsRun (is_trace bytes.now) bytes.now range f (W.contents writer.old) (W.contents writer.new)) }
+    ensures ok { OnOk result
+        (LoggedRun (is_trace bytes.now) bytes.now range (W.contents writer.old)
+        (W.contents writer.new)) }
+    ensures err { IfErr result
+        (λ f. FailsRun (is_trace bytes.now) bytes.now range f (W.contents writer.old)
+        (W.contents writer.new)) }
 {
     match bytes {
         [TRACE_MARK, ..] => log_trace(alloc, bytes, range, writer),

@@ -9,7 +9,8 @@ use std::io::Write;
 /// Writes all of the bytes, and flushes them. An `Err` may leave a beginning of them.
 pub(crate) fn write_out<W: Write>(writer: &mut W, bytes: &[u8]) -> Result<(), LogFault>
     ensures ok { OnOk result (Appends (W.contents writer.old) (W.contents writer.new) bytes.now) }
-    ensures err { OnErr result (WritesFront (W.contents writer.old) (W.contents writer.new) bytes.now) }
+    ensures err { OnErr result
+        (WritesFront (W.contents writer.old) (W.contents writer.new) bytes.now) }
     ensures only { OnErr result (result ≡ Err LogFault.Write) }
 {
     match whole_files::write_out(writer, bytes) {

@@ -38,7 +38,8 @@ pub fn ring_size(entries: u32) -> u32
     0
 }
 
-/// How many completion entries a setup asks for: twice the submission ring's places, unless it says so.
+/// How many completion entries a setup asks for: twice the submission ring's places, unless it says
+/// so.
 pub fn completion_entries(entries: u32, cq: Option<u32>) -> u32
     ensures { result ≡ entries_for entries cq }
 {

@@ -13,15 +13,16 @@ use places::Place;
 /// What is wrong with the words of a place.
 #[derive(Clone, Copy, Debug, PartialEq, Eq)]
 pub enum PlaceFault {
-    /// No name with its number of words, or an object, a descriptor, a thread or an index that isn't there.
+    /// No name with its number of words, or an object, a descriptor, a thread or an index that
+    /// isn't there.
     Place,
     /// A word in a number's place isn't a number.
     Number,
 }
 
 /// The place that some words name over a setup. The name and the number of words are tested first,
-/// then that the object is there and of its kind, then that the words in a number's place are numbers,
-/// then their ranges, to which descriptors and threads belong.
+/// then that the object is there and of its kind, then that the words in a number's place are
+/// numbers, then their ranges, to which descriptors and threads belong.
 pub fn place_of(setup: &Setup, words: &[&[u8]]) -> Result<Place, PlaceFault>
     ensures { result ≡ place_named setup.now (map (λ w. w.now) words.now) }
 {

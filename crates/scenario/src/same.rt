@@ -23,7 +23,10 @@ impl Setup {
 
     // Whether the sizes, the flags and the base of two setups are the same.
     fn has_numbers_of(&self, other: &Setup) -> bool
-        ensures { IsTrue result ↔ ((self.now.entries ≡ other.now.entries) × (self.now.cq ≡ other.now.cq) × (self.now.sqpoll ≡ other.now.sqpoll) × (self.now.submit_all ≡ other.now.submit_all) × (self.now.base ≡ other.now.base)) }
+        ensures { IsTrue result
+            ↔ ((self.now.entries ≡ other.now.entries) × (self.now.cq ≡ other.now.cq)
+            × (self.now.sqpoll ≡ other.now.sqpoll) × (self.now.submit_all ≡ other.now.submit_all)
+            × (self.now.base ≡ other.now.base)) }
     {
         if self.entries != other.entries || self.base != other.base {
             return false;

@@ -32,7 +32,8 @@ pub enum Instruction {
 pub struct Setup {
     /// Submission entries, 1 to 4,096, rounded up to a power of two.
     pub entries: u32,
-    /// Completion entries, 1 to 8,192, rounded up likewise; twice the submission entries where there is none.
+    /// Completion entries, 1 to 8,192, rounded up likewise; twice the submission entries where
+    /// there is none.
     pub cq: Option<u32>,
     /// A poller stands beside the threads (IORING_SETUP_SQPOLL).
     pub sqpoll: bool,

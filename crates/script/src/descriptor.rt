@@ -80,7 +80,8 @@ pub fn read_descriptors(
     items: &[Value],
 ) -> Result<Vec<Descriptor>, ScriptFault>
     requires { length items.now ≤ 64 }
-    ensures { Gives (λ v. v.items) result (each (descriptor_at objects.now) 0 (map view items.now)) }
+    ensures { Gives (λ v. v.items) result
+        (each (descriptor_at objects.now) 0 (map view items.now)) }
 {
     let mut descriptors = Vec::new(alloc);
     for (i, item) in items.iter().enumerate() {

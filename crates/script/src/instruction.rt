@@ -155,7 +155,8 @@ pub fn read_instruction(
     index: u32,
     value: &Value,
 ) -> Result<Instruction, ScriptFault>
-    ensures { Gives (λ instruction. instruction) result (instruction_at size thread index (view value.now)) }
+    ensures { Gives (λ instruction. instruction) result
+        (instruction_at size thread index (view value.now)) }
 {
     let path = inner_path(Key::Threads, thread, index);
     let form = instruction_form(alloc, path, value)?;

@@ -57,7 +57,8 @@ pub fn items_of(value: &Value, path: Path) -> Result<&[Value], ScriptFault>
 
 /// The items of a list at a key that may be missing, and has none then.
 pub fn items_at<'a>(key: Key, found: Option<&'a Value>) -> Result<&'a [Value], ScriptFault>
-    ensures { Gives (λ items. map view items.now) result (list_at key (option_map (λ v. view v.now) found.entry)) }
+    ensures { Gives (λ items. map view items.now) result
+        (list_at key (option_map (λ v. view v.now) found.entry)) }
 {
     match found {
         Some(value) => items_of(value, key_path(key)),

@@ -5,5 +5,6 @@ ghost use Rattle.script.specs.Scripts.{Scenario, Reads};
 
 /// A text is read as one thing: one script, or one first fault.
 pub fn texts_read_alike()
-    ensures { (text : List ℕ) (one other : Result Scenario ScriptFault) → Reads text one → Reads text other → one ≡ other }
+    ensures { (text : List ℕ) (one other : Result Scenario ScriptFault) → Reads text one
+        → Reads text other → one ≡ other }
 {}

@@ -1,4 +1,5 @@
-//! Scripts: a JSON text that gives a setup and a schedule of events; and traces, given on from their crate.
+//! Scripts: a JSON text that gives a setup and a schedule of events; and traces, given on from
+//! their crate.
 #![tactic(auto)]
 
 mod descriptor;

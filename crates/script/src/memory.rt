@@ -92,7 +92,8 @@ pub fn write_piece(
     value: &Value,
 ) -> Result<(), ScriptFault>
     requires { length memory.old.items ≡ 65536 }
-    ensures next { Gives (λ u. memory.new.items) result (piece_at memory.old.items index (view value.now)) }
+    ensures next { Gives (λ u. memory.new.items) result
+        (piece_at memory.old.items index (view value.now)) }
     ensures len { length memory.new.items ≡ 65536 }
 {
     // No text is long enough for so many items.
@@ -122,7 +123,8 @@ pub fn make_zeros(alloc: Global, size: usize) -> Result<Vec<u8>, AllocError>
 
 /// The memory that a list of pieces makes, one written over the other.
 pub fn read_pieces(alloc: Global, items: &[Value]) -> Result<Items<u8>, ScriptFault>
-    ensures { Gives (λ memory. memory) result (folded piece_at (zeros 65536) 0 (map view items.now)) }
+    ensures { Gives (λ memory. memory) result
+        (folded piece_at (zeros 65536) 0 (map view items.now)) }
 {
     let Ok(mut memory) = make_zeros(alloc, MEMORY_SIZE) else {
         return Err(ScriptFault::Memory);

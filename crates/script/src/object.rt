@@ -41,7 +41,10 @@ fn one_of(
     pipe: Option<&Value>,
     eventfd: Option<&Value>,
 ) -> Result<ContentsForm, ScriptFault>
-    ensures { Gives (λ c. c) result (shaped path (one_of (option_map (λ v. view v.now) file.entry) (option_map (λ v. view v.now) pipe.entry) (option_map (λ v. view v.now) eventfd.entry))) }
+    ensures { Gives (λ c. c) result
+        (shaped path
+        (one_of (option_map (λ v. view v.now) file.entry) (option_map (λ v. view v.now) pipe.entry)
+        (option_map (λ v. view v.now) eventfd.entry))) }
 {
     let contents = match (file, pipe, eventfd) {
         (Some(text), None, None) => {
@@ -74,7 +77,8 @@ fn name_of(value: &Value) -> Option<&str>
 }
 
 fn read_members<'a>(alloc: Global, path: Path, value: &'a Value) -> Result<Found<'a>, ScriptFault>
-    ensures { Gives (λ f. record { name = f.name.now; contents = f.contents }) result (shaped path (members_form (view value.now))) }
+    ensures { Gives (λ f. record { name = f.name.now; contents = f.contents }) result
+        (shaped path (members_form (view value.now))) }
 {
     let Some(name) = name_of(value) else {
         return Err(ScriptFault::Shape(path));
@@ -84,7 +88,8 @@ fn read_members<'a>(alloc: Global, path: Path, value: &'a Value) -> Result<Found
 }
 
 fn object_form<'a>(alloc: Global, path: Path, value: &'a Value) -> Result<Found<'a>, ScriptFault>
-    ensures { Gives (λ f. record { name = f.name.now; contents = f.contents }) result (shaped path (object_form (view value.now))) }
+    ensures { Gives (λ f. record { name = f.name.now; contents = f.contents }) result
+        (shaped path (object_form (view value.now))) }
 {
     if is_object_of_script(value) {
         read_members(alloc, path, value)

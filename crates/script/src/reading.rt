@@ -132,7 +132,8 @@ fn read_fds(
     objects: &NamedObjects<'_>,
     found: Option<&Value>,
 ) -> Result<Items<Descriptor>, ScriptFault>
-    ensures { Gives (λ v. v) result (fds_of objects.now (option_map (λ v. view v.now) found.entry)) }
+    ensures { Gives (λ v. v) result
+        (fds_of objects.now (option_map (λ v. view v.now) found.entry)) }
 {
     let items = items_at(Key::Fds, found)?;
     if items.len() > 64 {

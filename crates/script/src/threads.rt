@@ -20,7 +20,8 @@ fn read_instructions(
     items: &[Value],
 ) -> Result<Vec<Instruction>, ScriptFault>
     requires { length items.now ≤ 4096 }
-    ensures { Gives (λ v. v.items) result (each (instruction_at size thread) 0 (map view items.now)) }
+    ensures { Gives (λ v. v.items) result
+        (each (instruction_at size thread) 0 (map view items.now)) }
 {
     let mut instructions = Vec::new(alloc);
     for (i, item) in items.iter().enumerate() {

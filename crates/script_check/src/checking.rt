@@ -98,8 +98,9 @@ fn is_too_long(fault: ScriptFault) -> bool {
     }
 }
 
-/// Tells what is wrong with a script, in a line each: the first fault of the text and some more behind it, or of
-/// one that is read the first event of its schedule that is refused; or `ok`. The lines begin with the name.
+/// Tells what is wrong with a script, in a line each: the first fault of the text and some more
+/// behind it, or of one that is read the first event of its schedule that is refused; or `ok`. The
+/// lines begin with the name.
 #[tactic(auto, using(crate::proofs::Telling::told_of_plan, crate::proofs::Telling::untold))]
 pub fn check_script<W: Write>(
     alloc: Global,

@@ -125,7 +125,8 @@ impl Faults {
         Ok(())
     }
 
-    // The objects before and one more; none where it is faulty, so that no name is held against its.
+    // The objects before and one more; none where it is faulty, so that no name is held against
+    // its.
     fn next_objects<'a>(
         &mut self,
         objects: NamedObjects<'a>,
@@ -208,7 +209,8 @@ impl Faults {
         Ok(())
     }
 
-    // Notes the faults of all keys. Where a key is unknown, it may be one that is missing, misspelled.
+    // Notes the faults of all keys. Where a key is unknown, it may be one that is missing,
+    // misspelled.
     fn note_keys(&mut self, document: &Value, are_known: bool) -> Result<(), AllocError> {
         let found = document.get("entries");
         let entries = if are_known || found.is_some() {
@@ -232,8 +234,8 @@ impl Faults {
     }
 }
 
-/// The faults of a script, in the order in which they are tested, at most 20. None is told that would rest on a
-/// key or an item which is faulty itself.
+/// The faults of a script, in the order in which they are tested, at most 20. None is told that
+/// would rest on a key or an item which is faulty itself.
 pub(crate) fn faults_of(alloc: Global, document: &Value) -> Result<Vec<ScriptFault>, AllocError> {
     let mut faults = Faults {
         alloc,

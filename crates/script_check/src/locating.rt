@@ -146,7 +146,8 @@ fn value_of(members: &[Member], word: &str) -> Option<usize> {
     found
 }
 
-/// Where what a path names begins in the text of a script; where it isn't there, what it would stand in.
+/// Where what a path names begins in the text of a script; where it isn't there, what it would
+/// stand in.
 pub(crate) fn offset_of(text: &[u8], members: &[Member], path: Path) -> usize {
     let Some(value) = value_of(members, key_word(path.key)) else {
         return document_at(text);

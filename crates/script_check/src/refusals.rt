@@ -105,7 +105,8 @@ fn no_such_row(alloc: Global, state: &State) -> Told {
     )
 }
 
-// Why a row isn't where an event wants it: it isn't of the kind, or it has come too far, or not far enough.
+// Why a row isn't where an event wants it: it isn't of the kind, or it has come too far, or not far
+// enough.
 fn wrong_phase(alloc: Global, name: RowName, row: &Row, event: Event) -> Told {
     match (event, row.phase) {
         (Event::Finish(_, _), _) if is_timer(row.entry.opcode) => {

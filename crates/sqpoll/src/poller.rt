@@ -39,7 +39,8 @@ impl Part for Poller {
 
     fn put(&mut self, place: Place, value: Option<Value>)
         requires { poller_can_put self.old place value }
-        ensures { (q : Place) → poller_seen self.new q ≡ put_at (poller_seen self.old) place value q }
+        ensures { (q : Place)
+            → poller_seen self.new q ≡ put_at (poller_seen self.old) place value q }
     {
         match (place, value) {
             (Place::PollerStage, Some(Value::Awake(awake))) => *self = Poller::of(awake),
@@ -71,11 +72,15 @@ impl Poller {
     pub fn sleep(&mut self, submissions: &mut SubRing, notes: &mut Recorder)
         requires numbers { 0 < notes.old.numbers }
         requires others { 0 < notes.old.others }
-        ensures next { polling_of self.new submissions.new ≡ sleeping (polling_of self.old submissions.old) }
+        ensures next { polling_of self.new submissions.new
+            ≡ sleeping (polling_of self.old submissions.old) }
         ensures flag { has_flag submissions.new.flags NeedWakeup ≡ not (is_awake self.new) }
-        ensures overflow { has_flag submissions.new.flags CqOverflow ≡ has_flag submissions.old.flags CqOverflow }
-        ensures keeps { Keeps polling_owns (polling_seen (polling_of self.old submissions.old)) (polling_seen (polling_of self.new submissions.new)) notes.old.made notes.new.made }
-        ensures named { (p : Place) → named notes.new.made p ≡ None → named notes.old.made p ≡ None }
+        ensures overflow { has_flag submissions.new.flags CqOverflow
+            ≡ has_flag submissions.old.flags CqOverflow }
+        ensures keeps { Keeps polling_owns (polling_seen (polling_of self.old submissions.old))
+            (polling_seen (polling_of self.new submissions.new)) notes.old.made notes.new.made }
+        ensures named { (p : Place) → named notes.new.made p ≡ None
+            → named notes.old.made p ≡ None }
         ensures spends_numbers { notes.old.numbers ≤ notes.new.numbers + 1 }
         ensures spends_completions { notes.old.completions ≤ notes.new.completions }
         ensures spends_others { notes.old.others ≤ notes.new.others + 1 }
@@ -89,11 +94,15 @@ impl Poller {
     pub fn wake(&mut self, submissions: &mut SubRing, notes: &mut Recorder)
         requires numbers { 0 < notes.old.numbers }
         requires others { 0 < notes.old.others }
-        ensures next { polling_of self.new submissions.new ≡ woken (polling_of self.old submissions.old) }
+        ensures next { polling_of self.new submissions.new
+            ≡ woken (polling_of self.old submissions.old) }
         ensures flag { has_flag submissions.new.flags NeedWakeup ≡ not (is_awake self.new) }
-        ensures overflow { has_flag submissions.new.flags CqOverflow ≡ has_flag submissions.old.flags CqOverflow }
-        ensures keeps { Keeps polling_owns (polling_seen (polling_of self.old submissions.old)) (polling_seen (polling_of self.new submissions.new)) notes.old.made notes.new.made }
-        ensures named { (p : Place) → named notes.new.made p ≡ None → named notes.old.made p ≡ None }
+        ensures overflow { has_flag submissions.new.flags CqOverflow
+            ≡ has_flag submissions.old.flags CqOverflow }
+        ensures keeps { Keeps polling_owns (polling_seen (polling_of self.old submissions.old))
+            (polling_seen (polling_of self.new submissions.new)) notes.old.made notes.new.made }
+        ensures named { (p : Place) → named notes.new.made p ≡ None
+            → named notes.old.made p ≡ None }
         ensures spends_numbers { notes.old.numbers ≤ notes.new.numbers + 1 }
         ensures spends_completions { notes.old.completions ≤ notes.new.completions }
         ensures spends_others { notes.old.others ≤ notes.new.others + 1 }

@@ -115,11 +115,7 @@ fn shown(alloc: Global, setup: &Setup, events: &[Event]) -> Result<Vec<Told>, Ti
 }
 
 // The bytes of a picture.
-fn bytes_of(
-    alloc: Global,
-    picture: Picture,
-    drawn: Drawn<'_>,
-) -> Result<Vec<u8>, TimelineFault>
+fn bytes_of(alloc: Global, picture: Picture, drawn: Drawn<'_>) -> Result<Vec<u8>, TimelineFault>
     ensures { IfErr result (λ f. f ≡ TimelineFault.Memory) }
 {
     match picture {
@@ -224,8 +220,8 @@ fn draw_trace(
     draw_events(alloc, name, &setup, &events, window, picture)
 }
 
-/// Draws what the bytes are: a trace where the first one is a `U`, and else a script. The picture tells the run's
-/// name.
+/// Draws what the bytes are: a trace where the first one is a `U`, and else a script. The picture
+/// tells the run's name.
 pub fn draw_run(
     alloc: Global,
     name: &str,

@@ -1,4 +1,5 @@
-//! A run as a picture: a page for a browser, or trace events, which Perfetto and chrome://tracing open.
+//! A run as a picture: a page for a browser, or trace events, which Perfetto and chrome://tracing
+//! open.
 #![tactic(auto)]
 
 mod drawing;

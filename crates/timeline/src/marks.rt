@@ -4,7 +4,8 @@ use crate::parts::FindingPart;
 use findings::Told;
 use std::alloc::{AllocError, Global};
 
-// Whether a finding stands in a part of a run: at one of its events, or at the end where the part ends there.
+// Whether a finding stands in a part of a run: at one of its events, or at the end where the part
+// ends there.
 fn is_within(moment: u32, from: u32, to: u32, count: u32) -> bool {
     from <= moment && (moment < to || moment == to && to == count)
 }

@@ -126,7 +126,8 @@ const rect = (kind, x, y, width, height, inner = '') => element('rect', {class: 
 
 // ---- what the data says
 
-// A line of the log is 'PLACE OLD -> NEW', and the first word of a place tells how many words it has.
+// A line of the log is 'PLACE OLD -> NEW', and the first word of a place tells how many words it
+// has.
 const LONE = /^(sq\.|cq\.|bfront|clock|counted|poller)/, TRIPLE = /^(file|durable|pipe) /;
 function change(line) {
   const words = line.split(' '), size = LONE.test(line) ? 1 : TRIPLE.test(line) ? 3 : 2;
@@ -230,7 +231,8 @@ const arrows = causes();
 
 let column = 24, event_picked = from, lane_chosen = 0, pointed = null;
 
-// Where a moment stands, and where, in the middle of the event before it, things came to stand as they do there.
+// Where a moment stands, and where, in the middle of the event before it, things came to stand as
+// they do there.
 const x_of = (moment) => LABELS + (moment - from) * column - view.scrollLeft;
 const x_since = (moment) => x_of(moment) - (moment > from ? column / 2 : 0);
 const x_until = (moment) => (moment === null || moment > to ? x_of(to) : x_since(moment));
@@ -271,7 +273,8 @@ function mark(step, y) {
 // Faults are drawn over notes.
 const marked = [...findings].sort((one, other) => one.fault - other.fault);
 
-// The event that a finding is told beside: that at its moment, or the last one of what holds at the end.
+// The event that a finding is told beside: that at its moment, or the last one of what holds at the
+// end.
 const event_of = (it) => Math.min(it.moment, Math.max(from, to - 1));
 
 function axis(low, high) {
@@ -374,7 +377,8 @@ function lane_label(k, y) {
   return out.join('');
 }
 
-// Which part of the picture is in view. The upper lanes stay where they are if they leave room for rows.
+// Which part of the picture is in view. The upper lanes stay where they are if they leave room for
+// rows.
 function frame() {
   const width = view.clientWidth, height = view.clientHeight, pinned = head_height <= height / 2;
   const low = within(from, from + Math.floor(view.scrollLeft / column), to);

@@ -1,4 +1,5 @@
-//! What a page is told, as JSON. Numbers that may pass 2^53 are texts: a browser reads the others as they are.
+//! What a page is told, as JSON. Numbers that may pass 2^53 are texts: a browser reads the others
+//! as they are.
 
 use courses::Filling;
 use serde::Serialize;

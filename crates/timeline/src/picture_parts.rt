@@ -18,7 +18,11 @@ use std::alloc::{AllocError, Global};
 
 // How many events a run has.
 fn event_count(course: &Course) -> u32 {
-    course.fillings.len().saturating_sub(1).min(u32::MAX as usize) as u32
+    course
+        .fillings
+        .len()
+        .saturating_sub(1)
+        .min(u32::MAX as usize) as u32
 }
 
 // The end of a range of so many events.

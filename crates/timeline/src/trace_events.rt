@@ -54,7 +54,8 @@ fn add_thread(alloc: Global, out: &mut Vec<u8>, thread: u32) -> Added {
     add_track(alloc, out, thread.saturating_add(1), name.as_str())
 }
 
-/// Begins a file: the name of the run, and of the tracks of its threads and of the poller if it has one.
+/// Begins a file: the name of the run, and of the tracks of its threads and of the poller if it has
+/// one.
 pub(crate) fn begin(
     alloc: Global,
     out: &mut Vec<u8>,
@@ -126,7 +127,12 @@ pub(crate) fn add_slice(
 
 /// Adds what the run shows at a moment, as an instant.
 pub(crate) fn add_finding(alloc: Global, out: &mut Vec<u8>, part: &FindingPart) -> Added {
-    let FindingPart { moment, kind, fault, .. } = part;
+    let FindingPart {
+        moment,
+        kind,
+        fault,
+        ..
+    } = part;
     let text = json(alloc, &part.text)?;
     let members = format!(in alloc;
         "\"ph\":\"i\",\"s\":\"p\",\"cat\":\"finding\",\"name\":\"{kind}\",\"tid\":{FINDINGS},\"ts\":{moment},\"args\":{{\"fault\":{fault},\"text\":{text}}}"
@@ -215,8 +221,8 @@ fn add_row_end(alloc: Global, out: &mut Vec<u8>, part: &RowPart, name: &str, mom
     add_end(alloc, out, "e", name, part.row, moment, arguments.as_str())
 }
 
-/// Adds a row as an asynchronous slice, and within it how long it was queued and issued. What comes behind the
-/// last moment is left out.
+/// Adds a row as an asynchronous slice, and within it how long it was queued and issued. What comes
+/// behind the last moment is left out.
 pub(crate) fn add_row(alloc: Global, out: &mut Vec<u8>, part: &RowPart, last: u32) -> Added {
     let row = part.row;
     let operation = part.name;

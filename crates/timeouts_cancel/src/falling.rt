@@ -13,9 +13,9 @@ use links_drains::{Table, is_soft_linked, is_unfinished};
 use opcodes::{ECANCELED, Op};
 use std::alloc::AllocError;
 
-/// The rows that end, with their results, in the order of their numbers: those that a step ends of itself,
-/// the later ones of each unit that they sever, the TIMEOUTs whose count of completions they meet, and
-/// the guards of all these.
+/// The rows that end, with their results, in the order of their numbers: those that a step ends of
+/// itself, the later ones of each unit that they sever, the TIMEOUTs whose count of completions
+/// they meet, and the guards of all these.
 pub fn fall(
     table: &Table,
     counted: u32,
@@ -35,12 +35,13 @@ pub fn fall(
     add(table, ended, &guards)
 }
 
-// The rows that a step ends of itself, and the later ones of each unit that they sever. It looks at no
-// other row.
+// The rows that a step ends of itself, and the later ones of each unit that they sever. It looks at
+// no other row.
 fn with_severed(table: &Table, direct: &[(u32, i32)]) -> Result<Vec<(u32, i32)>, AllocError>
     requires direct { Direct table.now direct.now }
     requires few { length table.now ≤ 65536 }
-    ensures { IfOk result (λ endings. endings.items ≡ with_severed table.now (first_listed table.now direct.now)) }
+    ensures { IfOk result (λ endings. endings.items
+        ≡ with_severed table.now (first_listed table.now direct.now)) }
 {
     let mut endings = Vec::new(table.allocator());
     let mut at = 0;
@@ -50,7 +51,8 @@ fn with_severed(table: &Table, direct: &[(u32, i32)]) -> Result<Vec<(u32, i32)>,
     Ok(endings)
 }
 
-// A row that a step ends of itself, and those that it severs. Says which of the direct ones is next.
+// A row that a step ends of itself, and those that it severs. Says which of the direct ones is
+// next.
 fn end_one(
     table: &Table,
     direct: &[(u32, i32)],
@@ -61,7 +63,8 @@ fn end_one(
     requires few { length table.now ≤ 65536 }
     requires there { at < length direct.now }
     requires walked { (k : ℕ) × Walked table.now direct.now k at endings.old.items }
-    ensures walked { IfOk result (λ next. (k : ℕ) × Walked table.now direct.now k next endings.new.items) }
+    ensures walked { IfOk result (λ next. (k : ℕ)
+        × Walked table.now direct.now k next endings.new.items) }
     ensures on { IfOk result (λ next. at < next) }
 {
     let (r, res) = direct[at];
@@ -87,7 +90,8 @@ fn sever(
     requires direct { Direct table.now direct.now }
     requires within { from ≤ length table.now }
     requires sweeping { Sweeping table.now direct.now from at endings.old.items unit }
-    ensures walked { IfOk result (λ next. (k : ℕ) × Walked table.now direct.now k next endings.new.items) }
+    ensures walked { IfOk result (λ next. (k : ℕ)
+        × Walked table.now direct.now k next endings.new.items) }
     ensures on { IfOk result (λ next. at ≤ next) }
 {
     let mut next = at;

@@ -10,7 +10,8 @@ use links_drains::{Table, is_guard, is_unfinished};
 use opcodes::ECANCELED;
 use std::alloc::AllocError;
 
-/// The guards of rows that end, with the results that they end with. It looks at the row behind each.
+/// The guards of rows that end, with the results that they end with. It looks at the row behind
+/// each.
 pub(crate) fn guards(table: &Table, listed: &[(u32, i32)]) -> Result<Vec<(u32, i32)>, AllocError>
     requires listed { Direct table.now listed.now }
     requires guards { GuardsStand table.now }

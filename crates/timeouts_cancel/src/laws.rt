@@ -7,17 +7,20 @@ ghost use Rattle.timeouts_cancel.specs.Falls.{fall_of, GuardsFormed, IsWhole};
 
 /// Running the filters again over the rows that fall adds none.
 pub fn fall_is_whole()
-    ensures { (rows : List Row) (counted : ℕ) (direct : List Ending) → GuardsFormed rows → IsWhole rows counted direct (fall_of rows counted direct) }
+    ensures { (rows : List Row) (counted : ℕ) (direct : List Ending) → GuardsFormed rows
+        → IsWhole rows counted direct (fall_of rows counted direct) }
 {}
 
 /// The rows that fall are unfinished.
 pub fn fall_of_unfinished()
-    ensures { (rows : List Row) (counted : ℕ) (direct : List Ending) (i : ℕ) (e : Ending) → slice_get (fall_of rows counted direct) i ≡ Some e
+    ensures { (rows : List Row) (counted : ℕ) (direct : List Ending) (i : ℕ) (e : Ending)
+        → slice_get (fall_of rows counted direct) i ≡ Some e
         → (row : Row) × (slice_get rows e.0 ≡ Some row) × (is_unfinished row.phase ≡ true) }
 {}
 
 /// They fall in the order of their numbers, each once.
 pub fn fall_rises()
-    ensures { (rows : List Row) (counted : ℕ) (direct : List Ending) (i j : ℕ) (p q : Ending) → slice_get (fall_of rows counted direct) i ≡ Some p
+    ensures { (rows : List Row) (counted : ℕ) (direct : List Ending) (i j : ℕ) (p q : Ending)
+        → slice_get (fall_of rows counted direct) i ≡ Some p
         → slice_get (fall_of rows counted direct) j ≡ Some q → i < j → p.0 < q.0 }
 {}

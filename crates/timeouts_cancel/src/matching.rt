@@ -1,5 +1,5 @@
-//! What a cancel or a removal finds (io_uring_enter(2)). Each issued row is looked at no more than once, and
-//! no other.
+//! What a cancel or a removal finds (io_uring_enter(2)). Each issued row is looked at no more than
+//! once, and no other.
 ghost use Rattle.std.specs.Prelude.{◌≡◌, ◌<◌, Some, IfOk, IfSome, IfNone};
 ghost use Rattle.timeouts_cancel.specs.Matches.{holds_number, fits_key, is_match, found_by, found_first, waiting_by, IsNextMatch, NoMatchFrom};
 ghost use Rattle.timeouts_cancel.specs.declared.matching.Key.TheVariants.{User};
@@ -34,16 +34,16 @@ pub enum Found {
     Waiting(u32),
 }
 
-/// The least issued row that has a user_data, other than a LINK_TIMEOUT and the row that asks. It takes no
-/// memory.
+/// The least issued row that has a user_data, other than a LINK_TIMEOUT and the row that asks. It
+/// takes no memory.
 pub fn find(table: &Table, world: &World, addr: u64, me: u32) -> Found
     ensures { result ≡ found_by table.now world.now (User addr) me }
 {
     find_by(table, world, Key::User(addr), me)
 }
 
-/// The least issued row that fits a key, other than a LINK_TIMEOUT and the row that asks. It takes no
-/// memory.
+/// The least issued row that fits a key, other than a LINK_TIMEOUT and the row that asks. It takes
+/// no memory.
 pub fn find_by(table: &Table, world: &World, key: Key, me: u32) -> Found
     ensures { result ≡ found_by table.now world.now key me }
 {
@@ -53,8 +53,8 @@ pub fn find_by(table: &Table, world: &World, key: Key, me: u32) -> Found
     }
 }
 
-/// All issued rows that fit a key and wait, other than LINK_TIMEOUTs and the row that asks, in the order of
-/// their numbers.
+/// All issued rows that fit a key and wait, other than LINK_TIMEOUTs and the row that asks, in the
+/// order of their numbers.
 pub fn all_by(table: &Table, world: &World, key: Key, me: u32) -> Result<Vec<u32>, AllocError>
     ensures { IfOk result (λ all. all.items ≡ waiting_by table.now world.now key me) }
 {

@@ -8,8 +8,8 @@ ghost use Rattle.timeouts_cancel.specs.Merges.{IsLeast, Rises, Splits};
 use links_drains::Table;
 use std::alloc::AllocError;
 
-/// A list of rows that end, and others that end too, in the order of their numbers: a row of both keeps the
-/// result that the first has. Where there are no others it takes no memory.
+/// A list of rows that end, and others that end too, in the order of their numbers: a row of both
+/// keeps the result that the first has. Where there are no others it takes no memory.
 pub(crate) fn add(
     table: &Table,
     first: Vec<(u32, i32)>,
@@ -17,7 +17,8 @@ pub(crate) fn add(
 ) -> Result<Vec<(u32, i32)>, AllocError>
     requires first { (f : ℕ → Row → Option ℤ) × (first.items ≡ endings f table.now) }
     requires others { Direct table.now others.now }
-    ensures { IfOk result (λ all. all.items ≡ joined table.now (λ r row. result_in others.now r) first.items) }
+    ensures { IfOk result (λ all. all.items
+        ≡ joined table.now (λ r row. result_in others.now r) first.items) }
 {
     if others.is_empty() {
         return Ok(first);
@@ -33,7 +34,8 @@ fn merge(
 ) -> Result<Vec<(u32, i32)>, AllocError>
     requires first { Direct table.now first.now }
     requires second { Direct table.now second.now }
-    ensures { IfOk result (λ all. all.items ≡ joined table.now (λ r row. result_in second.now r) first.now) }
+    ensures { IfOk result (λ all. all.items
+        ≡ joined table.now (λ r row. result_in second.now r) first.now) }
 {
     let mut all = Vec::new(table.allocator());
     let mut i = 0;

@@ -34,8 +34,8 @@ pub(crate) fn count(table: &Table, endings: &[(u32, i32)]) -> u32
     count
 }
 
-/// The TIMEOUTs whose count of completions is met, with the results that they end with. It looks at no
-/// other row.
+/// The TIMEOUTs whose count of completions is met, with the results that they end with. It looks at
+/// no other row.
 pub(crate) fn met(table: &Table, total: u32) -> Result<Vec<(u32, i32)>, AllocError>
     requires { total < 2 ^ 32 - 1 }
     ensures { IfOk result (λ met. met.items ≡ met_rows table.now total) }

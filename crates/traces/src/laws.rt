@@ -24,31 +24,41 @@ pub fn one_list_of_a_trace()
 
 /// Bytes are a trace of the second form of one setup and one list of events.
 pub fn one_setup_and_events_of_a_trace()
-    ensures { (a b : Setup) (d e : List Event) (bytes : List ℕ) → IsTrace2 a d bytes → IsTrace2 b e bytes → (a ≡ b) × (d ≡ e) }
+    ensures { (a b : Setup) (d e : List Event) (bytes : List ℕ) → IsTrace2 a d bytes
+        → IsTrace2 b e bytes → (a ≡ b) × (d ≡ e) }
 {}
 
 /// Bytes that are no trace have one first fault, in either form.
 pub fn one_fault_of_bytes()
-    ensures first { (bytes : List ℕ) (one other : TraceFault) → IsFault bytes one → IsFault bytes other → one ≡ other }
-    ensures second { (bytes : List ℕ) (one other : TraceFault) → IsFault2 bytes one → IsFault2 bytes other → one ≡ other }
+    ensures first { (bytes : List ℕ) (one other : TraceFault) → IsFault bytes one
+        → IsFault bytes other → one ≡ other }
+    ensures second { (bytes : List ℕ) (one other : TraceFault) → IsFault2 bytes one
+        → IsFault2 bytes other → one ≡ other }
 {}
 
 /// A trace has none, in either form.
 pub fn no_fault_of_a_trace()
-    ensures first { (events : List Event) (bytes : List ℕ) (fault : TraceFault) → IsTrace events bytes → ¬ (IsFault bytes fault) }
-    ensures second { (setup : Setup) (events : List Event) (bytes : List ℕ) (fault : TraceFault) → IsTrace2 setup events bytes → ¬ (IsFault2 bytes fault) }
+    ensures first { (events : List Event) (bytes : List ℕ) (fault : TraceFault)
+        → IsTrace events bytes → ¬ (IsFault bytes fault) }
+    ensures second { (setup : Setup) (events : List Event) (bytes : List ℕ) (fault : TraceFault)
+        → IsTrace2 setup events bytes → ¬ (IsFault2 bytes fault) }
 {}
 
-/// What is wrong with a trace of the first form, read as one of the second, is how it begins, and nothing else.
+/// What is wrong with a trace of the first form, read as one of the second, is how it begins, and
+/// nothing else.
 pub fn first_form_is_not_second()
-    ensures wrong { (events : List Event) (bytes : List ℕ) → IsTrace events bytes → IsFault2 bytes TraceFault.Magic }
-    ensures only { (events : List Event) (bytes : List ℕ) (fault : TraceFault) → IsTrace events bytes → IsFault2 bytes fault → fault ≡ TraceFault.Magic }
+    ensures wrong { (events : List Event) (bytes : List ℕ) → IsTrace events bytes
+        → IsFault2 bytes TraceFault.Magic }
+    ensures only { (events : List Event) (bytes : List ℕ) (fault : TraceFault)
+        → IsTrace events bytes → IsFault2 bytes fault → fault ≡ TraceFault.Magic }
 {}
 
 /// And the other way round.
 pub fn second_form_is_not_first()
-    ensures wrong { (setup : Setup) (events : List Event) (bytes : List ℕ) → IsTrace2 setup events bytes → IsFault bytes TraceFault.Magic }
-    ensures only { (setup : Setup) (events : List Event) (bytes : List ℕ) (fault : TraceFault) → IsTrace2 setup events bytes → IsFault bytes fault → fault ≡ TraceFault.Magic }
+    ensures wrong { (setup : Setup) (events : List Event) (bytes : List ℕ)
+        → IsTrace2 setup events bytes → IsFault bytes TraceFault.Magic }
+    ensures only { (setup : Setup) (events : List Event) (bytes : List ℕ) (fault : TraceFault)
+        → IsTrace2 setup events bytes → IsFault bytes fault → fault ≡ TraceFault.Magic }
 {}
 
 /// Events that are written are read again, unless memory runs out.
@@ -62,8 +72,8 @@ pub fn events_again(alloc: Global, events: &[Event]) -> Result<Vec<Event>, Trace
     read_trace(alloc, &bytes)
 }
 
-/// A setup and events that are written are read again, the setup with rounded sizes and trimmed memory, unless
-/// memory runs out.
+/// A setup and events that are written are read again, the setup with rounded sizes and trimmed
+/// memory, unless memory runs out.
 pub fn setup_and_events_again(
     alloc: Global,
     setup: &Setup,

@@ -77,7 +77,8 @@ fn read_name<'a>(
 
 #[tactic(auto, unfolding(crate::specs::Reading::number_in))]
 fn read_counter(cursor: Cursor<'_>) -> Result<(u64, Cursor<'_>), TraceFault>
-    ensures { Gives (λ x. (x.0, x.1)) result (number_in 8 (λ n. nat_lt n (2 ^ 64 - 1)) cursor.entry) }
+    ensures { Gives (λ x. (x.0, x.1)) result
+        (number_in 8 (λ n. nat_lt n (2 ^ 64 - 1)) cursor.entry) }
 {
     let at = cursor.offset();
     let (counter, after) = u64_at(cursor)?;
@@ -212,7 +213,8 @@ fn read_descriptors_counted<'a>(
     objects: &[Object],
     cursor: Cursor<'a>,
 ) -> Result<(Vec<Descriptor>, Cursor<'a>), TraceFault>
-    ensures { Gives (λ x. (x.0.items, x.1)) result (items_at (λ before. descriptor_at objects.now) count [] cursor.entry) }
+    ensures { Gives (λ x. (x.0.items, x.1)) result
+        (items_at (λ before. descriptor_at objects.now) count [] cursor.entry) }
 {
     let mut descriptors = Vec::new(alloc);
     let mut rest = cursor;
@@ -231,7 +233,8 @@ pub(crate) fn read_descriptors<'a>(
     objects: &Items<Object>,
     cursor: Cursor<'a>,
 ) -> Result<(Items<Descriptor>, Cursor<'a>), TraceFault>
-    ensures { Gives (λ x. (x.0, x.1)) result (list_at 64 (λ before. descriptor_at objects.now) cursor.entry) }
+    ensures { Gives (λ x. (x.0, x.1)) result
+        (list_at 64 (λ before. descriptor_at objects.now) cursor.entry) }
 {
     let (count, after) = count_at(cursor, 64)?;
     let (descriptors, after) = read_descriptors_counted(alloc, count, objects.as_slice(), after)?;

@@ -112,7 +112,8 @@ fn read_instructions(
     slots: u32,
     cursor: Cursor<'_>,
 ) -> Result<(Vec<Instruction>, Cursor<'_>), TraceFault>
-    ensures { Gives (λ x. (x.0.items, x.1)) result (items_at (λ before. instruction_at slots) count [] cursor.entry) }
+    ensures { Gives (λ x. (x.0.items, x.1)) result
+        (items_at (λ before. instruction_at slots) count [] cursor.entry) }
 {
     let mut program = Vec::new(alloc);
     let mut rest = cursor;
@@ -143,7 +144,8 @@ fn read_programs(
     slots: u32,
     cursor: Cursor<'_>,
 ) -> Result<(Vec<Items<Instruction>>, Cursor<'_>), TraceFault>
-    ensures { Gives (λ x. (x.0.items, x.1)) result (items_at (λ before. program_at slots) count [] cursor.entry) }
+    ensures { Gives (λ x. (x.0.items, x.1)) result
+        (items_at (λ before. program_at slots) count [] cursor.entry) }
 {
     let mut programs = Vec::new(alloc);
     let mut rest = cursor;
@@ -162,7 +164,8 @@ pub(crate) fn read_threads(
     slots: u32,
     cursor: Cursor<'_>,
 ) -> Result<(Items<Items<Instruction>>, Cursor<'_>), TraceFault>
-    ensures { Gives (λ x. (x.0, x.1)) result (list_at 16 (λ before. program_at slots) cursor.entry) }
+    ensures { Gives (λ x. (x.0, x.1)) result
+        (list_at 16 (λ before. program_at slots) cursor.entry) }
 {
     let (count, after) = count_at(cursor, 16)?;
     let (programs, after) = read_programs(alloc, count, slots, after)?;

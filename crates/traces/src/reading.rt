@@ -19,7 +19,8 @@ fn read_events(alloc: Global, count: u32, bytes: &[u8]) -> Result<Vec<Event>, Tr
     ensures spelled { IfOk result (λ events. bytes.now ≡ flat_map event_bytes events.items) }
     ensures count { IfOk result (λ events. length events.items ≡ count) }
     ensures fits { IfOk result (λ events. AllByRecursion Fits events.items) }
-    ensures fault { IfErr result (λ fault. (fault ≡ TraceFault.Memory) ⊎ IsEventsFault count bytes.now fault) }
+    ensures fault { IfErr result (λ fault. (fault ≡ TraceFault.Memory)
+        ⊎ IsEventsFault count bytes.now fault) }
 {
     let room = bytes.len() / 16;
     let mut events = Vec::with_capacity(alloc, room.min(count as usize))?;
@@ -40,7 +41,8 @@ fn read_events(alloc: Global, count: u32, bytes: &[u8]) -> Result<Vec<Event>, Tr
 pub(crate) fn read_counted(alloc: Global, bytes: &[u8]) -> Result<Vec<Event>, TraceFault>
     ensures events { IfOk result (λ events. AreEvents events.items) }
     ensures spelled { IfOk result (λ events. bytes.now ≡ counted_bytes events.items) }
-    ensures fault { IfErr result (λ fault. (fault ≡ TraceFault.Memory) ⊎ IsCountedFault bytes.now fault) }
+    ensures fault { IfErr result (λ fault. (fault ≡ TraceFault.Memory)
+        ⊎ IsCountedFault bytes.now fault) }
     ensures cut { length bytes.now < 4 → result ≡ Err TraceFault.Truncated }
     ensures count { IsCountedFault bytes.now TraceFault.Count → result ≡ Err TraceFault.Count }
 {
@@ -59,7 +61,8 @@ fn read_first(alloc: Global, bytes: &[u8]) -> Result<Vec<Event>, TraceFault>
     ensures found { IfOk result (λ events. IsTrace events.items bytes.now) }
     ensures fault { IfErr result (λ fault. (fault ≡ TraceFault.Memory) ⊎ IsFault bytes.now fault) }
     ensures other { (BeginsAs magic bytes.now → ⊥) → result ≡ Err TraceFault.Magic }
-    ensures cut { BeginsAs magic bytes.now → length bytes.now < 12 → result ≡ Err TraceFault.Truncated }
+    ensures cut { BeginsAs magic bytes.now → length bytes.now < 12
+        → result ≡ Err TraceFault.Truncated }
     ensures count { IsFault bytes.now TraceFault.Count → result ≡ Err TraceFault.Count }
 {
     let there = MAGIC.len().min(bytes.len());
@@ -81,9 +84,11 @@ pub fn read_trace(alloc: Global, bytes: &[u8]) -> Result<Vec<Event>, TraceFault>
     // Which fault it is.
     ensures fault { IfErr result (λ fault. (fault ≡ TraceFault.Memory) ⊎ IsFault bytes.now fault) }
 
-    // Bytes that begin otherwise, that end before the count, or that count too many are refused without memory.
+    // Bytes that begin otherwise, that end before the count, or that count too many are refused
+    // without memory.
     ensures other { (BeginsAs magic bytes.now → ⊥) → result ≡ Err TraceFault.Magic }
-    ensures cut { BeginsAs magic bytes.now → length bytes.now < 12 → result ≡ Err TraceFault.Truncated }
+    ensures cut { BeginsAs magic bytes.now → length bytes.now < 12
+        → result ≡ Err TraceFault.Truncated }
     ensures count { IsFault bytes.now TraceFault.Count → result ≡ Err TraceFault.Count }
 {
     read_first(alloc, bytes)

@@ -26,7 +26,8 @@ const MAGIC: [u8; 8] = *b"URTRACE2";
 fn read_body(alloc: Global, cursor: Cursor<'_>) -> Result<(Setup, Vec<Event>), TraceFault>
     ensures found { IfOk result (λ found. (s : Cursor) × (setup_at cursor.entry ≡ Ok (found.0, s))
         × (s.rest ≡ counted_bytes found.1.items) × AreEvents found.1.items) }
-    ensures fault { IfErr result (λ fault. (fault ≡ TraceFault.Memory) ⊎ IsBodyFault (setup_at cursor.entry) fault) }
+    ensures fault { IfErr result (λ fault. (fault ≡ TraceFault.Memory)
+        ⊎ IsBodyFault (setup_at cursor.entry) fault) }
 {
     let (setup, after) = read_setup(alloc, cursor)?;
     let events = read_counted(alloc, after.rest())?;
@@ -38,7 +39,8 @@ fn read_second(alloc: Global, bytes: &[u8]) -> Result<(Setup, Vec<Event>), Trace
     ensures found { IfOk result (λ found. IsTrace2 found.0 found.1.items bytes.now) }
     ensures fault { IfErr result (λ fault. (fault ≡ TraceFault.Memory) ⊎ IsFault2 bytes.now fault) }
     ensures other { (BeginsAs magic2 bytes.now → ⊥) → result ≡ Err TraceFault.Magic }
-    ensures cut { BeginsAs magic2 bytes.now → length bytes.now < 8 → result ≡ Err TraceFault.Truncated }
+    ensures cut { BeginsAs magic2 bytes.now → length bytes.now < 8
+        → result ≡ Err TraceFault.Truncated }
 {
     let there = MAGIC.len().min(bytes.len());
     if bytes[..there] != MAGIC[..there] {
@@ -64,13 +66,15 @@ pub fn read_trace2(alloc: Global, bytes: &[u8]) -> Result<(Setup, Vec<Event>), T
 
     // Bytes that begin otherwise, or that end before the setup, are refused without memory.
     ensures other { (BeginsAs magic2 bytes.now → ⊥) → result ≡ Err TraceFault.Magic }
-    ensures cut { BeginsAs magic2 bytes.now → length bytes.now < 8 → result ≡ Err TraceFault.Truncated }
+    ensures cut { BeginsAs magic2 bytes.now → length bytes.now < 8
+        → result ≡ Err TraceFault.Truncated }
 {
     read_second(alloc, bytes)
 }
 
-/// The one trace of the second form of a setup that a run can start from, with rounded sizes and its
-/// memory up to the last byte that isn't 0, and of at most 1,048,576 events, none a transfer of no bytes.
+/// The one trace of the second form of a setup that a run can start from, with rounded sizes and
+/// its memory up to the last byte that isn't 0, and of at most 1,048,576 events, none a transfer of
+/// no bytes.
 pub fn write_trace2(alloc: Global, setup: &Setup, events: &[Event]) -> Result<Vec<u8>, AllocError>
     requires starts { setup_refusal setup.now ≡ None }
     requires few { length events.now ≤ most_events }
@@ -88,7 +92,8 @@ pub fn write_trace2(alloc: Global, setup: &Setup, events: &[Event]) -> Result<Ve
 pub fn migrate(alloc: Global, setup: &Setup, bytes: &[u8]) -> Result<Vec<u8>, TraceFault>
     requires { setup_refusal setup.now ≡ None }
     // What is migrated has the setup and just those events.
-    ensures migrated { IfOk result (λ made. (events : List Event) × IsTrace events bytes.now × IsTrace2 (canonical setup.now) events made.items) }
+    ensures migrated { IfOk result (λ made. (events : List Event) × IsTrace events bytes.now
+        × IsTrace2 (canonical setup.now) events made.items) }
 
     // A trace of the first form is migrated, unless memory runs out.
     ensures only { (events : List Event) → IsTrace events bytes.now →
@@ -97,9 +102,11 @@ pub fn migrate(alloc: Global, setup: &Setup, bytes: &[u8]) -> Result<Vec<u8>, Tr
     // Which fault it is.
     ensures fault { IfErr result (λ fault. (fault ≡ TraceFault.Memory) ⊎ IsFault bytes.now fault) }
 
-    // Bytes that begin otherwise, that end before the count, or that count too many are refused without memory.
+    // Bytes that begin otherwise, that end before the count, or that count too many are refused
+    // without memory.
     ensures other { (BeginsAs magic bytes.now → ⊥) → result ≡ Err TraceFault.Magic }
-    ensures cut { BeginsAs magic bytes.now → length bytes.now < 12 → result ≡ Err TraceFault.Truncated }
+    ensures cut { BeginsAs magic bytes.now → length bytes.now < 12
+        → result ≡ Err TraceFault.Truncated }
     ensures count { IsFault bytes.now TraceFault.Count → result ≡ Err TraceFault.Count }
 {
     let events = read_trace(alloc, bytes)?;

@@ -128,7 +128,8 @@ fn push_descriptor(out: &mut Vec<u8>, descriptor: Descriptor) -> Result<(), Allo
 fn push_descriptors(out: &mut Vec<u8>, descriptors: &[Descriptor]) -> Result<(), AllocError>
     requires few { length descriptors.now ≤ 64 }
     requires small { IsTrue (list_all (λ d. nat_lt d.object 256) descriptors.now) }
-    ensures { OnOk result (out.new.items ≡ out.old.items ++ list_bytes descriptor_bytes descriptors.now) }
+    ensures { OnOk result (out.new.items ≡ out.old.items
+        ++ list_bytes descriptor_bytes descriptors.now) }
 {
     push_u32(out, descriptors.len() as u32)?;
     for descriptor in descriptors {
@@ -146,7 +147,8 @@ fn entry_bytes(entry: Sqe) -> [u8; 64]
 }
 
 fn push_put(out: &mut Vec<u8>, slot: u32, entry: Sqe) -> Result<(), AllocError>
-    ensures spelled { OnOk result (out.new.items ≡ out.old.items ++ instruction_bytes (Put slot entry)) }
+    ensures spelled { OnOk result (out.new.items ≡ out.old.items
+        ++ instruction_bytes (Put slot entry)) }
     ensures widths { OnOk result (HasWidths (Put slot entry)) }
 {
     push_u8(out, 1)?;
@@ -157,7 +159,8 @@ fn push_put(out: &mut Vec<u8>, slot: u32, entry: Sqe) -> Result<(), AllocError>
 
 fn push_store(out: &mut Vec<u8>, address: u32, bytes: &[u8]) -> Result<(), AllocError>
     requires { length bytes.now < 2 ^ 32 }
-    ensures { OnOk result (out.new.items ≡ out.old.items ++ (little_bytes 1 3 ++ (little_bytes 4 address ++ long_bytes bytes.now))) }
+    ensures { OnOk result (out.new.items ≡ out.old.items
+        ++ (little_bytes 1 3 ++ (little_bytes 4 address ++ long_bytes bytes.now))) }
 {
     push_u8(out, 3)?;
     push_u32(out, address)?;
@@ -171,7 +174,8 @@ fn push_enter(
     flags: u32,
 ) -> Result<(), AllocError>
     ensures { OnOk result (out.new.items ≡ out.old.items
-        ++ (little_bytes 1 4 ++ (little_bytes 4 to_submit ++ (little_bytes 4 min_complete ++ little_bytes 4 flags)))) }
+        ++ (little_bytes 1 4
+        ++ (little_bytes 4 to_submit ++ (little_bytes 4 min_complete ++ little_bytes 4 flags)))) }
 {
     push_u8(out, 4)?;
     push_u32(out, to_submit)?;
@@ -185,7 +189,8 @@ fn push_instruction(
     instruction: &Instruction,
 ) -> Result<(), AllocError>
     requires { IsTrue (keeps_instruction slots instruction.now) }
-    ensures spelled { OnOk result (out.new.items ≡ out.old.items ++ instruction_bytes instruction.now) }
+    ensures spelled { OnOk result (out.new.items ≡ out.old.items
+        ++ instruction_bytes instruction.now) }
     ensures widths { OnOk result (HasWidths instruction.now) }
 {
     match instruction {
@@ -227,7 +232,8 @@ fn push_threads(
 ) -> Result<(), AllocError>
     requires few { length threads.now ≤ 16 }
     requires kept { IsTrue (list_all (keeps_program slots) threads.now) }
-    ensures spelled { OnOk result (out.new.items ≡ out.old.items ++ list_bytes program_bytes threads.now) }
+    ensures spelled { OnOk result (out.new.items ≡ out.old.items
+        ++ list_bytes program_bytes threads.now) }
     ensures widths { OnOk result (AllByRecursion (AllByRecursion HasWidths) threads.now) }
 {
     push_u32(out, threads.len() as u32)?;
@@ -268,7 +274,8 @@ fn options_number(sqpoll: bool, submit_all: bool) -> u8
 
 fn push_rings(out: &mut Vec<u8>, setup: &Setup) -> Result<(), AllocError>
     requires { IsTrue (keeps_rings setup.now) }
-    ensures spelled { OnOk result (out.new.items ≡ out.old.items ++ rings_bytes (canonical setup.now)) }
+    ensures spelled { OnOk result (out.new.items ≡ out.old.items
+        ++ rings_bytes (canonical setup.now)) }
     ensures base { OnOk result (setup.now.base < 2 ^ 32) }
 {
     push_u16(out, ring_size(setup.entries) as u16)?;
@@ -287,7 +294,8 @@ fn push_memory(out: &mut Vec<u8>, memory: &[u8]) -> Result<(), AllocError>
 /// The setup with rounded sizes, and its memory up to the last byte that isn't 0.
 pub(crate) fn push_setup(out: &mut Vec<u8>, setup: &Setup) -> Result<(), AllocError>
     requires { IsTrue (keeps_ranges setup.now) }
-    ensures spelled { OnOk result (out.new.items ≡ out.old.items ++ setup_bytes (canonical setup.now)) }
+    ensures spelled { OnOk result (out.new.items ≡ out.old.items
+        ++ setup_bytes (canonical setup.now)) }
     ensures widths { OnOk result (Widths setup.now) }
 {
     push_rings(out, setup)?;

@@ -34,7 +34,8 @@ fn read_entries(cursor: Cursor<'_>) -> Result<(u32, Cursor<'_>), TraceFault>
 
 #[tactic(auto, unfolding(crate::specs::Reading::number_in))]
 fn read_completions(entries: u32, cursor: Cursor<'_>) -> Result<(u32, Cursor<'_>), TraceFault>
-    ensures { Gives (λ x. (x.0, x.1)) result (number_in 2 (is_completion_size entries) cursor.entry) }
+    ensures { Gives (λ x. (x.0, x.1)) result
+        (number_in 2 (is_completion_size entries) cursor.entry) }
 {
     let at = cursor.offset();
     let (size, after) = u16_at(cursor)?;

@@ -9,12 +9,9 @@ use std::process::ExitCode;
 use std::rt::Files;
 use whole_files::read_file;
 
-/// Writes what is wrong with the script in a file to standard output, or `ok`. The status is 1 where something is,
-/// and else 0.
-pub fn check_file(
-    rt: &(impl Files + Print + AllocGlobal),
-    path: &str,
-) -> Result<ExitCode, Fault> {
+/// Writes what is wrong with the script in a file to standard output, or `ok`. The status is 1
+/// where something is, and else 0.
+pub fn check_file(rt: &(impl Files + Print + AllocGlobal), path: &str) -> Result<ExitCode, Fault> {
     let text = read_file(rt, path, SCRIPT_AND_ONE).map_err(told)?;
     match check_script(rt.alloc(), path, &text, &mut io::writer(rt)) {
         Ok(Verdict::Fine) => Ok(ExitCode::SUCCESS),

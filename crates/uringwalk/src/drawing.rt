@@ -17,7 +17,8 @@ const ONTO_RUN: &str = "error: OUT leads to RUN's own file: the picture would ta
 
 const NO_PICTURE: &str = "error: OUT ends in .html or .json";
 
-/// What a run that isn't drawn is told as; one of too many events, which words can mend, is told by them.
+/// What a run that isn't drawn is told as; one of too many events, which words can mend, is told by
+/// them.
 pub fn fault_of_drawing(fault: TimelineFault) -> Fault
     ensures { result ≡ told_as fault }
 {
@@ -38,8 +39,8 @@ fn refuse_long(rt: &impl Eprint, events: u32) -> ExitCode {
     }
 }
 
-/// Draws the events in the window, of the script or the trace in a file, and writes the picture to another. It
-/// gives the status that the program ends with.
+/// Draws the events in the window, of the script or the trace in a file, and writes the picture to
+/// another. It gives the status that the program ends with.
 pub fn draw_file(
     rt: &(impl Files + Eprint + AllocGlobal),
     run: &str,

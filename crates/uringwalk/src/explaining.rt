@@ -12,8 +12,8 @@ use whole_files::read_file;
 /// The status where some finding is a fault.
 const SOME_FAULTS: u8 = 3;
 
-/// Writes what the run shows of the script or the trace in a file, of one kind alone or of all, to standard
-/// output. The status is 3 where some of it is a fault, and else 0.
+/// Writes what the run shows of the script or the trace in a file, of one kind alone or of all, to
+/// standard output. The status is 3 where some of it is a fault, and else 0.
 pub fn explain_file(
     rt: &(impl Files + Print + AllocGlobal),
     path: &str,

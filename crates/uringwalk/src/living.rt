@@ -34,8 +34,8 @@ fn tell_run(rt: &impl Print, closed: &Closed) -> Result<(), Fault> {
     }
 }
 
-/// Runs threads over a script's setup, writes the trace to its file if there is one, prints how many events
-/// there were, and replies to the lines of standard input over them.
+/// Runs threads over a script's setup, writes the trace to its file if there is one, prints how
+/// many events there were, and replies to the lines of standard input over them.
 pub fn live_file<R: Files + Input + Print + AllocGlobal + Threads + Wait + Clock + Sync>(
     rt: &R,
     script: &str,

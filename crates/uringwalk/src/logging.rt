@@ -22,7 +22,8 @@ pub fn fault_of_log(fault: LogFault) -> Fault
     })
 }
 
-/// Writes what the events in the range changed, of the script or the trace in a file, to standard output.
+/// Writes what the events in the range changed, of the script or the trace in a file, to standard
+/// output.
 pub fn log_file(
     rt: &(impl Files + Print + AllocGlobal),
     path: &str,

@@ -39,8 +39,8 @@ const SCRIPT_AND_ONE: u64 = 8388609;
 /// One byte more than a trace of the first form may have.
 const TRACE_AND_ONE: u64 = 16777229;
 
-/// One byte more than a trace of the second form may have: 65,536 bytes of memory, 32 files as long, 64
-/// descriptors, 16 programs of 4,096 stores of 4,096 bytes, and 1,048,576 events.
+/// One byte more than a trace of the second form may have: 65,536 bytes of memory, 32 files as
+/// long, 64 descriptors, 16 programs of 4,096 stores of 4,096 bytes, and 1,048,576 events.
 const WHOLE_TRACE_AND_ONE: u64 = 287966118;
 
 /// What is told where OUT is another path of the script's file.

@@ -30,8 +30,8 @@ fn tell_port(rt: &impl Print, port: u16) -> Result<(), Fault> {
     }
 }
 
-/// Listens on a port of loopback, prints it, and serves clients the run that threads make meanwhile over a
-/// script's setup. It ends after so many sessions, or goes on.
+/// Listens on a port of loopback, prints it, and serves clients the run that threads make meanwhile
+/// over a script's setup. It ends after so many sessions, or goes on.
 pub fn serve_file<
     R: Files
         + Print

@@ -32,13 +32,16 @@ pub fn earlier(walker: &Walker, watches: &Watches) -> Stop
     earlier_among(walker, watches.places())
 }
 
-/// Goes back to the latest earlier moment whose event changes a watched place, or to the start. It is
-/// found in the records, without moving, and reached by a jump.
+/// Goes back to the latest earlier moment whose event changes a watched place, or to the start. It
+/// is found in the records, without moving, and reached by a jump.
 pub fn rcont(walker: &mut Walker, watches: &Watches) -> Result<Stop, AllocError>
     ensures stop { IfOk result (λ stop. stop ≡ reverse_stop walker.old watches.now.watchpoints) }
     ensures meaning { IfOk result (IsEarlier walker.old watches.now.watchpoints) }
-    ensures lands { IfOk result (λ stop. walker.new ≡ jumped walker.old (position_of walker.old stop)) }
-    ensures near { walker.old.at ≤ position_of walker.old (reverse_stop walker.old watches.now.watchpoints) + walker.old.window → IsOk result }
+    ensures lands { IfOk result (λ stop. walker.new
+        ≡ jumped walker.old (position_of walker.old stop)) }
+    ensures near { walker.old.at
+        ≤ position_of walker.old
+        (reverse_stop walker.old watches.now.watchpoints) + walker.old.window → IsOk result }
     ensures err { OnErr result (walker.new ≡ walker.old) }
 {
     let stop = earlier(walker, watches);
@@ -52,12 +55,14 @@ pub fn rcont(walker: &mut Walker, watches: &Watches) -> Result<Stop, AllocError>
     }
 }
 
-/// Goes on to the first later moment at which a watched place has changed, or else a break's value is met
-/// that was not a moment before, or to the end. Where memory is refused it goes back to where it was.
+/// Goes on to the first later moment at which a watched place has changed, or else a break's value
+/// is met that was not a moment before, or to the end. Where memory is refused it goes back to
+/// where it was.
 pub fn cont(walker: &mut Walker, watches: &Watches) -> Result<Stop, AllocError>
     ensures stop { IfOk result (λ stop. stop ≡ forward_stop walker.old watches.now) }
     ensures meaning { IfOk result (IsLater walker.old watches.now) }
-    ensures lands { IfOk result (λ stop. walker.new ≡ moved walker.old (position_of walker.old stop)) }
+    ensures lands { IfOk result (λ stop. walker.new
+        ≡ moved walker.old (position_of walker.old stop)) }
     ensures none { walker.old.at ≡ length walker.old.events → IsOk result }
     ensures err { OnErr result (walker.new ≡ walker.old) }
 {
@@ -140,8 +145,10 @@ fn names_place(past: &Record, place: Place) -> bool
 
 // Whether the event of a record brought a place to the value of one of the breaks.
 fn meets_any(state: &State, past: &Record, breaks: &[Break]) -> bool
-    ensures no { result ≡ false → (old : View) → Exact old (view state.now) past.now → NoneMet old (view state.now) breaks.now }
-    ensures yes { result ≡ true → (old : View) → Exact old (view state.now) past.now → NoneMet old (view state.now) breaks.now → ⊥ }
+    ensures no { result ≡ false → (old : View) → Exact old (view state.now) past.now
+        → NoneMet old (view state.now) breaks.now }
+    ensures yes { result ≡ true → (old : View) → Exact old (view state.now) past.now
+        → NoneMet old (view state.now) breaks.now → ⊥ }
 {
     for stop in breaks {
         if meets(state, past, stop) {
@@ -153,8 +160,12 @@ fn meets_any(state: &State, past: &Record, breaks: &[Break]) -> bool
 
 // Whether the event of a record brought a place to the value of a break.
 fn meets(state: &State, past: &Record, stop: &Break) -> bool
-    ensures no { result ≡ false → (old : View) → Exact old (view state.now) past.now → view state.now stop.now.place ≡ Some stop.now.value → old stop.now.place ≡ Some stop.now.value }
-    ensures yes { result ≡ true → (old : View) → Exact old (view state.now) past.now → (view state.now stop.now.place ≡ Some stop.now.value → old stop.now.place ≡ Some stop.now.value) → ⊥ }
+    ensures no { result ≡ false → (old : View) → Exact old (view state.now) past.now
+        → view state.now stop.now.place ≡ Some stop.now.value
+        → old stop.now.place ≡ Some stop.now.value }
+    ensures yes { result ≡ true → (old : View) → Exact old (view state.now) past.now
+        → (view state.now stop.now.place ≡ Some stop.now.value
+        → old stop.now.place ≡ Some stop.now.value) → ⊥ }
 {
     if !names_place(past, stop.place) {
         return false;

@@ -74,7 +74,8 @@ impl Watches {
         }
     }
 
-    /// Watches a place, and tells how many watches there are now. A watch that is there isn't added twice.
+    /// Watches a place, and tells how many watches there are now. A watch that is there isn't added
+    /// twice.
     pub fn watch(&mut self, place: Place) -> Result<u32, AllocError>
         requires { length self.old.watchpoints < 64 }
         ensures ok { OnOk result (self.new ≡ watched self.old place) }

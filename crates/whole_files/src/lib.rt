@@ -29,8 +29,8 @@ fn real_path(
     }
 }
 
-/// Whether two paths lead to one file that is there, by links among them (realpath(3)). A second name of a file,
-/// a hard link, is another file here: what takes its place leaves the first one.
+/// Whether two paths lead to one file that is there, by links among them (realpath(3)). A second
+/// name of a file, a hard link, is another file here: what takes its place leaves the first one.
 pub fn lead_to_one_file(
     rt: &(impl Files + AllocGlobal),
     one: &str,
@@ -96,7 +96,8 @@ fn take_place(rt: &(impl Files + AllocGlobal), made: &str, path: &str) -> io::Re
     }
 }
 
-// Whether something else than a file stands where a path leads to, by links among them: a folder, a device, a pipe.
+// Whether something else than a file stands where a path leads to, by links among them: a folder, a
+// device, a pipe.
 fn is_other(rt: &(impl Files + AllocGlobal), path: &str) -> io::Result<bool> {
     match fs::metadata(rt, path) {
         Ok(found) => Ok(!found.is_file()),
@@ -118,9 +119,9 @@ fn replace(rt: &(impl Files + AllocGlobal), path: &str, bytes: &[u8]) -> io::Res
     Err(io::Error::from(ErrorKind::AlreadyExists))
 }
 
-/// Writes a file whole: it is made beside its place, and renamed. At a fault the old one stands, and
-/// nothing else is left. A device, a pipe or a folder that stands there is a fault, and so is a link to one; a link
-/// to a file, or to nothing, is replaced.
+/// Writes a file whole: it is made beside its place, and renamed. At a fault the old one stands,
+/// and nothing else is left. A device, a pipe or a folder that stands there is a fault, and so is a
+/// link to one; a link to a file, or to nothing, is replaced.
 pub fn write_file(
     rt: &(impl Files + AllocGlobal),
     path: &str,

@@ -12,7 +12,8 @@ pub struct NotWritten;
 // Writes all of the bytes. An `Err` may leave a beginning of them.
 fn write_bytes<W: Write>(writer: &mut W, bytes: &[u8]) -> Result<(), NotWritten>
     ensures ok { OnOk result (Appends (W.contents writer.old) (W.contents writer.new) bytes.now) }
-    ensures err { OnErr result (WritesFront (W.contents writer.old) (W.contents writer.new) bytes.now) }
+    ensures err { OnErr result
+        (WritesFront (W.contents writer.old) (W.contents writer.new) bytes.now) }
 {
     let mut at = 0;
     while at < bytes.len() {
@@ -28,7 +29,8 @@ fn write_bytes<W: Write>(writer: &mut W, bytes: &[u8]) -> Result<(), NotWritten>
 /// Writes all of the bytes, and flushes them. A writer that takes none of them is at its end.
 pub fn write_out<W: Write>(writer: &mut W, bytes: &[u8]) -> Result<(), NotWritten>
     ensures ok { OnOk result (Appends (W.contents writer.old) (W.contents writer.new) bytes.now) }
-    ensures err { OnErr result (WritesFront (W.contents writer.old) (W.contents writer.new) bytes.now) }
+    ensures err { OnErr result
+        (WritesFront (W.contents writer.old) (W.contents writer.new) bytes.now) }
 {
     write_bytes(writer, bytes)?;
     match writer.flush() {

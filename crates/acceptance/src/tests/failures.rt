@@ -57,8 +57,8 @@ fn written_before(call: usize) -> usize {
     OUTPUT.len()
 }
 
-// Whether a call that fails is told, and just that written which comes before it: at a read the replies to the lines
-// before it, at a write or a flush the bytes of the calls before it.
+// Whether a call that fails is told, and just that written which comes before it: at a read the
+// replies to the lines before it, at a write or a flush the bytes of the calls before it.
 fn is_told(fault: Option<ServeFault>, written: &[u8], reading: Plan, writing: Plan) -> bool {
     let cut = match fault {
         Some(ServeFault::Read) => reading.call > 0 && lines(written) == lines_before(reading.call),

@@ -6,8 +6,8 @@ use std::test::Fail;
 use std::{env, fs, io, process};
 use whole_files::{FileFault, write_file};
 
-/// How many calls a file of nine bytes is written by: one looks at its place, one makes it, three write it, one
-/// brings it to the device, and one renames it.
+/// How many calls a file of nine bytes is written by: one looks at its place, one makes it, three
+/// write it, one brings it to the device, and one renames it.
 const CALLS: u32 = 7;
 
 const OLD: &[u8] = b"old bytes of a file";
@@ -53,7 +53,8 @@ fn make(rt: &HostRuntime, folder: &str, path: &str, old: Option<&[u8]>) -> io::R
     }
 }
 
-// Takes a folder away, in which there is just a file of some bytes, or nothing. Says whether it was so.
+// Takes a folder away, in which there is just a file of some bytes, or nothing. Says whether it was
+// so.
 fn take_away(rt: &HostRuntime, folder: &str, path: &str, bytes: Option<&[u8]>) -> bool {
     let same = match bytes {
         Some(bytes) => has_bytes(rt, path, bytes) && fs::remove_file(rt, path).is_ok(),
@@ -62,7 +63,8 @@ fn take_away(rt: &HostRuntime, folder: &str, path: &str, bytes: Option<&[u8]>) -
     same && fs::remove_dir(rt, folder).is_ok()
 }
 
-// In a new folder, whether a call that fails is told, and leaves it as it was; a call behind the last one doesn't fail.
+// In a new folder, whether a call that fails is told, and leaves it as it was; a call behind the
+// last one doesn't fail.
 fn stands(rt: &HostRuntime, folder: &str, path: &str, old: Option<&[u8]>, number: u32) -> bool {
     if make(rt, folder, path, old).is_err() {
         return false;

@@ -47,8 +47,8 @@ fn steps<L: Ledger, R: Wait>(rt: &R, lock: &Mutex<Live<L>>, seats: &mut Vec<Seat
     }
 }
 
-// Two clients who stand in one run at once: the second sync of the first tells the event between, and the second
-// client, who doesn't ask, is told of none.
+// Two clients who stand in one run at once: the second sync of the first tells the event between,
+// and the second client, who doesn't ask, is told of none.
 fn are_told<L: Ledger, R: Wait>(
     rt: &R,
     first: &TcpStream,

@@ -137,8 +137,8 @@ fn counts_twice(alloc: Global, input: &str) -> Result<(Counts, Counts), RunFault
     Ok((first, second))
 }
 
-// To quit, five bytes are read; four are written, and flushed. An end of input closes nothing: a line is six reads and
-// the end a seventh, its reply ten writes and a flush.
+// To quit, five bytes are read; four are written, and flushed. An end of input closes nothing: a
+// line is six reads and the end a seventh, its reply ten writes and a flush.
 #[test]
 fn calls_of_a_session_are_counted(rt: HostRuntime) -> Result<(), Fail> {
     let closed = counts_twice(rt.alloc(), "quit\nwhere\n")?;

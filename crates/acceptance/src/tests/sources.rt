@@ -40,7 +40,9 @@ struct Answers {
 }
 
 impl Source for Answers {
-    ghost gives = { λ old answer new. (answer ≡ option_map (λ v. v.items) (slice_get old.traces.items 0)) × (new.traces.items ≡ drop 1 old.traces.items) };
+    ghost gives = { λ old answer new. (answer
+        ≡ option_map (λ v. v.items) (slice_get old.traces.items 0))
+        × (new.traces.items ≡ drop 1 old.traces.items) };
 
     ghost fails = { λ _ _. ⊥ };
 

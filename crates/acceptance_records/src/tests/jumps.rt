@@ -10,8 +10,9 @@ use std::test::Fail;
 /// An event of a run, at each of which the clock goes on by one.
 const TICK: Event = Event::Tick(1);
 
-/// How far jumps go back by single steps, and ticks that are added in parts; then jumps: to which moment, and how many
-/// steps all of them have made so far. A state is copied at each fourth moment.
+/// How far jumps go back by single steps, and ticks that are added in parts; then jumps: to which
+/// moment, and how many steps all of them have made so far. A state is copied at each fourth
+/// moment.
 const RUNS: [(u32, &[&[Event]], &[(usize, u64)]); 3] = [
     (
         2,

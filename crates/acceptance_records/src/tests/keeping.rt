@@ -9,16 +9,16 @@ use std::test::Fail;
 /// What a record keeps that names nothing.
 const LEAST: usize = 88;
 
-/// What the record of an event keeps at most beside the bytes that it names: those of a request that ends, or of a
-/// thread's step.
+/// What the record of an event keeps at most beside the bytes that it names: those of a request
+/// that ends, or of a thread's step.
 const BESIDE: usize = 320;
 
 /// Of a page of zeros that is written over zeros, and read over zeros, one byte is another.
 const PAGE_WRITTEN_AND_READ: &str =
     r#"{"entries":2,"memory":[[100,"01"]],"objects":[{"name":"f","file":""}],"fds":["f"],"threads":[[["put",0,{"op":23,"fd":3,"len":4096,"ud":1}],["push",0],["put",1,{"op":22,"fd":3,"addr":8192,"len":4096,"ud":2}],["push",1],["enter",2,0,0]]],"schedule":[]}"#;
 
-/// Bytes over zeros: the digits that they begin with, those that follow so often, and how much a record keeps of them
-/// at most. Of a page one differs, each second, all, none.
+/// Bytes over zeros: the digits that they begin with, those that follow so often, and how much a
+/// record keeps of them at most. Of a page one differs, each second, all, none.
 const STORED: [(&str, &str, usize, usize); 4] = [
     ("01", "00", 4095, 200),
     ("", "0001", 2048, 8400),

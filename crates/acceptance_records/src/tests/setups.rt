@@ -36,8 +36,8 @@ const SIZES: [Change; 17] = [
     (8, &[0, 16, 255, 255], 8, 10),
 ];
 
-/// Changes of the whole one. The last but one makes a name that is there already; the last shows that the length of
-/// a Store is tested before its address.
+/// Changes of the whole one. The last but one makes a name that is there already; the last shows
+/// that the length of a Store is tested before its address.
 const CHANGES: [Change; 45] = [
     (0, &[86], 1, 0),
     (7, &[49], 1, 0),

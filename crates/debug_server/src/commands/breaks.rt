@@ -20,7 +20,8 @@ pub(crate) fn parse_break(setup: &Setup, words: &[&[u8]]) -> Result<Command, Com
 
 // The command of a place and of the words behind the mark, of which there has to be one.
 fn parse_parts(setup: &Setup, name: &[&[u8]], words: &[&[u8]]) -> Result<Command, CommandFault>
-    ensures { result ≡ break_named setup.now (map (λ w. w.now) name.now) (map (λ w. w.now) words.now) }
+    ensures { result ≡ break_named setup.now (map (λ w. w.now) name.now)
+        (map (λ w. w.now) words.now) }
 {
     let place = parse_place(setup, name)?;
     match value_in(place, words) {

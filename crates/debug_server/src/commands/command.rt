@@ -60,14 +60,16 @@ pub(crate) fn parse_place(setup: &Setup, name: &[&[u8]]) -> Result<Place, Comman
 
 // The command that some words show a place by.
 fn parse_show(setup: &Setup, name: &[&[u8]]) -> Result<Command, CommandFault>
-    ensures { result ≡ placed (place_named setup.now (map (λ w. w.now) name.now)) (λ p. Ok (Command.Show p)) }
+    ensures { result ≡ placed (place_named setup.now (map (λ w. w.now) name.now))
+        (λ p. Ok (Command.Show p)) }
 {
     Ok(Command::Show(parse_place(setup, name)?))
 }
 
 // The command that some words watch a place by.
 fn parse_watch(setup: &Setup, name: &[&[u8]]) -> Result<Command, CommandFault>
-    ensures { result ≡ placed (place_named setup.now (map (λ w. w.now) name.now)) (λ p. Ok (Command.Watch p)) }
+    ensures { result ≡ placed (place_named setup.now (map (λ w. w.now) name.now))
+        (λ p. Ok (Command.Watch p)) }
 {
     Ok(Command::Watch(parse_place(setup, name)?))
 }

@@ -47,7 +47,8 @@ fn drains(run: &Run<'_>, unit: u32) -> bool {
     false
 }
 
-// Whether a row of a number is unfinished, and of an earlier chain, and one of the two chains drains.
+// Whether a row of a number is unfinished, and of an earlier chain, and one of the two chains
+// drains.
 fn is_before_drain(run: &Run<'_>, number: u32, unit: u32, own: bool) -> bool {
     match run.row(number) {
         Some(row) => row.unit < unit && is_unfinished(&row) && (own || drains(run, row.unit)),

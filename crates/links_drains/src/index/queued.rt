@@ -7,7 +7,8 @@ use super::Index;
 impl Index {
     /// The least row from a number on that is neither issued nor ended.
     pub(crate) fn next_queued(&self, from: usize) -> Option<usize>
-        ensures some { IfSome result (λ r. IsNextBeside self.now.unfinished self.now.issued from r) }
+        ensures some { IfSome result
+            (λ r. IsNextBeside self.now.unfinished self.now.issued from r) }
         ensures none { IfNone result (NoneBeside self.now.unfinished self.now.issued from) }
     {
         self.unfinished.next_beside(&self.issued, from)

@@ -6,8 +6,8 @@ ghost use Rattle.links_drains.specs.Beside.{IsNextBeside, NoneBeside};
 use super::{NumberSet, next_bit};
 
 impl NumberSet {
-    /// The least number of the set from one on that another set doesn't have. Of all words it looks only
-    /// at those that have a number of the set.
+    /// The least number of the set from one on that another set doesn't have. Of all words it looks
+    /// only at those that have a number of the set.
     pub(crate) fn next_beside(&self, other: &NumberSet, from: usize) -> Option<usize>
         ensures some { IfSome result (λ k. IsNextBeside self.now other.now from k) }
         ensures none { IfNone result (NoneBeside self.now other.now from) }
@@ -25,7 +25,8 @@ impl NumberSet {
 
     // The word of a place, without what another set has there.
     fn word_beside(&self, other: &NumberSet, at: usize) -> u64
-        ensures value { result ≡ bit_and (slice_index self.now at) (bit_not w64 (slice_index other.now at)) }
+        ensures value { result ≡ bit_and (slice_index self.now at)
+            (bit_not w64 (slice_index other.now at)) }
         ensures fits { slice_index other.now at < 2 ^ 64 }
         ensures few { length self.now ≤ 1024 }
     {

@@ -28,7 +28,8 @@ impl State {
         self.machine.table.next_issued(from)
     }
 
-    /// When an issued row is due, in nanoseconds of the clock, if it has a deadline. It takes no memory.
+    /// When an issued row is due, in nanoseconds of the clock, if it has a deadline. It takes no
+    /// memory.
     pub fn deadline(&self, r: u32) -> Option<u128>
         ensures { result ≡ deadline_at self.now.table r }
     {

@@ -25,7 +25,9 @@ fn is_byte(now: Option<Value>, byte: u8) -> bool
 fn clear_alike(olds: &[u8], kept: &mut [bool], start: usize, now: &[u8])
     requires paired { length kept.old ≡ length olds.now }
     ensures len { length kept.new ≡ length kept.old }
-    ensures marks { (i b : ℕ) (k l : Bool) → slice_get olds.now i ≡ Some b → slice_get kept.old i ≡ Some k → slice_get kept.new i ≡ Some l → LeftMark (slice_get now.now (start + i)) b k l }
+    ensures marks { (i b : ℕ) (k l : Bool) → slice_get olds.now i ≡ Some b
+        → slice_get kept.old i ≡ Some k → slice_get kept.new i ≡ Some l
+        → LeftMark (slice_get now.now (start + i)) b k l }
 {
     let from = start.min(now.len());
     let there = &now[from..];
@@ -51,7 +53,8 @@ fn clear_each<A: At>(olds: &[u8], kept: &mut [bool], region: Region, start: u32,
     requires paired { length kept.old ≡ length olds.now }
     requires within { start + length olds.now ≤ 2 ^ 32 }
     ensures len { length kept.new ≡ length kept.old }
-    ensures kept { KeptOf (A.seen whole.now) (old_bytes region start (masked olds.now kept.old)) (old_bytes region start (masked olds.now kept.new)) }
+    ensures kept { KeptOf (A.seen whole.now) (old_bytes region start (masked olds.now kept.old))
+        (old_bytes region start (masked olds.now kept.new)) }
 {
     for i in 0..olds.len() {
         kept[i] = stays(kept[i], olds[i], region.place(start + i as u32), whole);
@@ -63,7 +66,8 @@ fn clear_run<A: At>(olds: &[u8], kept: &mut [bool], region: Region, start: u32, 
     requires paired { length kept.old ≡ length olds.now }
     requires within { start + length olds.now ≤ 2 ^ 32 }
     ensures len { length kept.new ≡ length kept.old }
-    ensures kept { KeptOf (A.seen whole.now) (old_bytes region start (masked olds.now kept.old)) (old_bytes region start (masked olds.now kept.new)) }
+    ensures kept { KeptOf (A.seen whole.now) (old_bytes region start (masked olds.now kept.old))
+        (old_bytes region start (masked olds.now kept.new)) }
 {
     match whole.bytes_in(region) {
         Some(now) => clear_alike(olds, kept, start as usize, now),
@@ -77,7 +81,8 @@ pub fn clear_runs<A: At>(runs: &[Run], olds: &[u8], kept: &mut [bool], whole: &A
     requires fits { run_total runs.now ≡ length olds.now }
     requires within { RunsFit runs.now }
     ensures len { length kept.new ≡ length kept.old }
-    ensures kept { KeptOf (A.seen whole.now) (run_changes runs.now (masked olds.now kept.old)) (run_changes runs.now (masked olds.now kept.new)) }
+    ensures kept { KeptOf (A.seen whole.now) (run_changes runs.now (masked olds.now kept.old))
+        (run_changes runs.now (masked olds.now kept.new)) }
 {
     if let Some((run, rest)) = runs.split_first() {
         let (old_front, old_back) = olds.split_at(run.len);

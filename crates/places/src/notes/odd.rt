@@ -25,7 +25,8 @@ impl Model for Odd {
 
     ghost Value = { OddList };
 
-    ghost view = { λ a. record { notes = a.notes.items; spare = vec_capacity a.notes - vec_len a.notes } };
+    ghost view = { λ a. record
+        { notes = a.notes.items; spare = vec_capacity a.notes - vec_len a.notes } };
 
     ghost invariant = { λ a. NamesOnce a.notes.items };
 }
@@ -54,7 +55,8 @@ impl Odd {
     pub fn push(&mut self, place: Place, old: Option<Value>)
         requires room { 0 < self.old.spare }
         requires fresh { named self.old.notes place ≡ None }
-        ensures notes { self.new.notes ≡ self.old.notes ++ record { place = place; old = old } ∷ [] }
+        ensures notes { self.new.notes ≡ self.old.notes ++ record { place = place; old = old }
+            ∷ [] }
         ensures spare { self.old.spare ≤ self.new.spare + 1 }
     {
         match self.notes.push(Change { place, old }) {

@@ -92,9 +92,12 @@ impl Rest {
         start: u32,
         old: &[u8],
     ) -> Result<(), AllocError>
-        requires fresh { (i : ℕ) → i < length old.now → named (run_changes self.old.runs self.old.olds) (place_in region (start + i)) ≡ None }
+        requires fresh { (i : ℕ) → i < length old.now
+            → named (run_changes self.old.runs self.old.olds) (place_in region (start + i)) ≡ None }
         requires within { start + length old.now ≤ 2 ^ 32 }
-        ensures ok { OnOk result (NotedBytes (run_changes self.old.runs self.old.olds) (run_changes self.new.runs self.new.olds) region start old.now) }
+        ensures ok { OnOk result
+            (NotedBytes (run_changes self.old.runs self.old.olds)
+            (run_changes self.new.runs self.new.olds) region start old.now) }
         ensures runs { OnErr result (self.new.runs ≡ self.old.runs) }
         ensures olds { OnErr result (self.new.olds ≡ self.old.olds) }
         ensures odd { self.new.odd ≡ self.old.odd }
@@ -125,7 +128,8 @@ impl Rest {
 
     /// Whether a byte is noted in a run.
     pub fn covers(&self, place: Place) -> bool
-        ensures { AllKept self.now.olds → result ≡ is_some (named (run_changes self.now.runs self.now.olds) place) }
+        ensures { AllKept self.now.olds
+            → result ≡ is_some (named (run_changes self.now.runs self.now.olds) place) }
     {
         match &self.inner {
             None => false,
@@ -141,10 +145,11 @@ impl Rest {
         stretches.names(place)
     }
 
-    /// Takes out the notes whose place has another value now. None stay here, but their memory does where
-    /// none was taken.
+    /// Takes out the notes whose place has another value now. None stay here, but their memory does
+    /// where none was taken.
     pub fn close<A: At>(&mut self, whole: &A) -> Rest
-        ensures bytes { KeptOf (A.seen whole.now) (run_changes self.old.runs self.old.olds) (run_changes result.runs result.olds) }
+        ensures bytes { KeptOf (A.seen whole.now) (run_changes self.old.runs self.old.olds)
+            (run_changes result.runs result.olds) }
         ensures odd { KeptOf (A.seen whole.now) self.old.odd result.odd }
         ensures bytes_once { NamesOnce (run_changes self.old.runs self.old.olds) }
         ensures odd_once { NamesOnce self.old.odd }

@@ -77,13 +77,17 @@ impl Room {
     pub fn spend(&mut self, place: Place)
         requires { self.old.held ≡ self.old.numbers + (self.old.completions + self.old.others) }
         ensures numbers { self.old.numbers ≤ self.new.numbers + one_if (is_number place) }
-        ensures completions { self.old.completions ≤ self.new.completions + one_if (is_completion place) }
-        ensures others { self.old.others ≤ self.new.others + neither (is_number place) (is_completion place) }
+        ensures completions { self.old.completions
+            ≤ self.new.completions + one_if (is_completion place) }
+        ensures others { self.old.others
+            ≤ self.new.others + neither (is_number place) (is_completion place) }
         ensures fewer_numbers { self.new.numbers ≤ self.old.numbers }
         ensures fewer_completions { self.new.completions ≤ self.old.completions }
         ensures fewer_others { self.new.others ≤ self.old.others }
         ensures held { self.new.held ≡ self.new.numbers + (self.new.completions + self.new.others) }
-        ensures took { 0 < (if is_number place then self.old.numbers else (if is_completion place then self.old.completions else self.old.others)) → self.new.held + 1 ≤ self.old.held }
+        ensures took { 0 < (if is_number place then self.old.numbers else
+            (if is_completion place then self.old.completions else self.old.others))
+            → self.new.held + 1 ≤ self.old.held }
     {
         if place.is_number() {
             self.spend_number();

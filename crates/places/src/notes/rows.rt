@@ -27,8 +27,8 @@ pub enum Small {
     Up(bool),
 }
 
-/// A row by its number, and what stood there, if anything did; or another place, by its kind and its
-/// index.
+/// A row by its number, and what stood there, if anything did; or another place, by its kind and
+/// its index.
 #[derive(Clone, Copy)]
 pub enum RowNote {
     Absent(u32),
@@ -39,7 +39,8 @@ pub enum RowNote {
 impl Small {
     /// The value, if it is no row.
     pub fn of(value: Value) -> Option<Small>
-        ensures { MatchOption result ((row : Row) × (value ≡ Requested row)) (λ s. value_of s ≡ value) }
+        ensures { MatchOption result ((row : Row)
+            × (value ≡ Requested row)) (λ s. value_of s ≡ value) }
     {
         match value {
             Value::Number(n) => Some(Small::Amount(n)),
@@ -73,7 +74,8 @@ impl Small {
 impl RowNote {
     /// The note of a row.
     pub fn of(row: u32, old: Option<Row>) -> RowNote
-        ensures { row_change result ≡ record { place = Request row; old = option_map Requested old } }
+        ensures { row_change result
+            ≡ record { place = Request row; old = option_map Requested old } }
     {
         match old {
             None => RowNote::Absent(row),
@@ -89,10 +91,12 @@ impl RowNote {
         RowNote::Other(place.kind(), place.index(), old)
     }
 
-    /// How many of so many elements of a list stay once what was absent is taken back, with all behind it.
+    /// How many of so many elements of a list stay once what was absent is taken back, with all
+    /// behind it.
     #[tactic(auto, unfolding(crate::specs::Slots::other_place))]
     pub fn left_after(&self, list: Listed, left: usize) -> usize
-        ensures { result ≡ after_change list (row_change self.now).place (row_change self.now).old left }
+        ensures { result ≡ after_change list (row_change self.now).place
+            (row_change self.now).old left }
     {
         match (list, self) {
             (Listed::Requests, RowNote::Absent(row)) => left.min(*row as usize),

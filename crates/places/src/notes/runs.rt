@@ -67,8 +67,8 @@ pub struct Run {
     pub len: usize,
 }
 
-/// Runs, their old bytes in a row, and marks of those that are kept. A byte that has its old value again
-/// as the notes are closed is let go.
+/// Runs, their old bytes in a row, and marks of those that are kept. A byte that has its old value
+/// again as the notes are closed is let go.
 #[derive(Drop)]
 pub struct ByteNotes {
     runs: Vec<Run>,
@@ -102,9 +102,12 @@ impl ByteNotes {
 
     /// Notes the old bytes from an index on, none of which is noted.
     pub fn note(&mut self, region: Region, start: u32, old: &[u8]) -> Result<(), AllocError>
-        requires fresh { (i : ℕ) → i < length old.now → named (run_changes self.old.runs self.old.olds) (place_in region (start + i)) ≡ None }
+        requires fresh { (i : ℕ) → i < length old.now
+            → named (run_changes self.old.runs self.old.olds) (place_in region (start + i)) ≡ None }
         requires within { start + length old.now ≤ 2 ^ 32 }
-        ensures ok { OnOk result (NotedBytes (run_changes self.old.runs self.old.olds) (run_changes self.new.runs self.new.olds) region start old.now) }
+        ensures ok { OnOk result
+            (NotedBytes (run_changes self.old.runs self.old.olds)
+            (run_changes self.new.runs self.new.olds) region start old.now) }
         ensures err { OnErr result (self.new ≡ self.old) }
         ensures kept { AllKept self.old.olds → AllKept self.new.olds }
     {
@@ -120,14 +123,16 @@ impl ByteNotes {
 
     /// Whether a byte is noted.
     pub fn covers(&self, place: Place) -> bool
-        ensures { AllKept self.now.olds → result ≡ is_some (named (run_changes self.now.runs self.now.olds) place) }
+        ensures { AllKept self.now.olds
+            → result ≡ is_some (named (run_changes self.now.runs self.now.olds) place) }
     {
         is_covered(&self.runs, place)
     }
 
     /// Lets the old bytes go that stand there now.
     pub fn close<A: At>(&mut self, whole: &A)
-        ensures kept { KeptOf (A.seen whole.now) (run_changes self.old.runs self.old.olds) (run_changes self.new.runs self.new.olds) }
+        ensures kept { KeptOf (A.seen whole.now) (run_changes self.old.runs self.old.olds)
+            (run_changes self.new.runs self.new.olds) }
         ensures once { NamesOnce (run_changes self.old.runs self.old.olds) }
     {
         close_runs(&mut self.runs, &mut self.olds, &mut self.kept, whole);
@@ -187,7 +192,9 @@ impl ByteNotes {
 fn close_runs<A: At>(runs: &mut Vec<Run>, olds: &mut Vec<u8>, kept: &mut Vec<bool>, whole: &A)
     requires { MaskedOnce runs.old.items olds.old.items kept.old.items }
     ensures once { MaskedOnce runs.new.items olds.new.items kept.new.items }
-    ensures kept { KeptOf (A.seen whole.now) (run_changes runs.old.items (masked olds.old.items kept.old.items)) (run_changes runs.new.items (masked olds.new.items kept.new.items)) }
+    ensures kept { KeptOf (A.seen whole.now)
+        (run_changes runs.old.items (masked olds.old.items kept.old.items))
+        (run_changes runs.new.items (masked olds.new.items kept.new.items)) }
 {
     clear_marks(runs, olds, kept, whole);
     if is_any_kept(kept) {
@@ -204,7 +211,8 @@ fn clear_marks<A: At>(runs: &[Run], olds: &[u8], kept: &mut Vec<bool>, whole: &A
     requires fits { run_total runs.now ≡ length olds.now }
     requires within { RunsFit runs.now }
     ensures len { length kept.new.items ≡ length kept.old.items }
-    ensures kept { KeptOf (A.seen whole.now) (run_changes runs.now (masked olds.now kept.old.items)) (run_changes runs.now (masked olds.now kept.new.items)) }
+    ensures kept { KeptOf (A.seen whole.now) (run_changes runs.now (masked olds.now kept.old.items))
+        (run_changes runs.now (masked olds.now kept.new.items)) }
 {
     clear_runs(runs, olds, kept, whole);
 }
@@ -233,7 +241,8 @@ fn covers_place(run: Run, place: Place) -> bool
 fn append(olds: &mut Vec<u8>, kept: &mut Vec<bool>, bytes: &[u8]) -> Result<(), AllocError>
     requires { length kept.old.items ≡ length olds.old.items }
     ensures olds { OnOk result (olds.new.items ≡ olds.old.items ++ bytes.now) }
-    ensures kept { OnOk result (kept.new.items ≡ kept.old.items ++ replicate (length bytes.now) true) }
+    ensures kept { OnOk result (kept.new.items ≡ kept.old.items
+        ++ replicate (length bytes.now) true) }
     ensures err { OnErr result (olds.new.items ≡ olds.old.items) }
     ensures err_kept { OnErr result (kept.new.items ≡ kept.old.items) }
 {

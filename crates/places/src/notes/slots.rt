@@ -39,7 +39,9 @@ pub trait Slotted {
 
     /// Whether another value stands in its place now.
     fn differs<A: At>(&self, whole: &A) -> bool
-        ensures { MatchBool result ((change self.now).old ≢ A.seen whole.now (change self.now).place) ((change self.now).old ≡ A.seen whole.now (change self.now).place) };
+        ensures { MatchBool result ((change self.now).old
+            ≢ A.seen whole.now (change self.now).place) ((change self.now).old
+            ≡ A.seen whole.now (change self.now).place) };
 
     /// A slot is of one place.
     ghost one_place: { (x y : Self) → slot x ≡ slot y → (change x).place ≡ (change y).place };
@@ -48,8 +50,8 @@ pub trait Slotted {
     ghost one_slot: { (x y : Self) → (change x).place ≡ (change y).place → slot x ≡ slot y };
 }
 
-/// Notes, and for each slot where its note stands, if it has one. A mark is right only where it leads
-/// to a note of its slot, so marks of earlier notes may stay, and so may the memory of these.
+/// Notes, and for each slot where its note stands, if it has one. A mark is right only where it
+/// leads to a note of its slot, so marks of earlier notes may stay, and so may the memory of these.
 #[derive(Drop)]
 pub struct Slots<N: Slotted> {
     notes: Vec<N>,
@@ -62,7 +64,12 @@ impl<N: Slotted> Model for Slots<N> {
 
     ghost Value = { SlotList N };
 
-    ghost view = { λ a. record { notes = a.notes.items; spare = vec_capacity a.notes - vec_len a.notes; reached = length a.marks.items } };
+    ghost view = { λ a. record {
+      notes = a.notes.items;
+      spare = vec_capacity a.notes - vec_len a.notes;
+      reached = length
+          a.marks.items;
+    } };
 
     ghost invariant = { λ a. SlotsOnce N.slot N.change a.notes.items a.marks.items };
 }
@@ -80,7 +87,9 @@ impl<N: Slotted + Copy> Slots<N> {
 
     /// Adds a note, unless its place has one. It takes no memory where there is room and a mark.
     pub fn note(&mut self, note: N) -> Result<(), AllocError>
-        ensures ok { OnOk result (Noted (map N.change self.old.notes) (map N.change self.new.notes) (N.change note).place (N.change note).old) }
+        ensures ok { OnOk result
+            (Noted (map N.change self.old.notes) (map N.change self.new.notes) (N.change note).place
+            (N.change note).old) }
         ensures err { OnErr result (self.new.notes ≡ self.old.notes) }
         ensures there { 0 < self.old.spare → N.slot note < self.old.reached → IsOk result }
         ensures spare { self.old.spare ≤ self.new.spare + 1 }
@@ -126,7 +135,8 @@ impl<N: Slotted + Copy> Slots<N> {
 
     /// The notes whose place has another value now. None stay here.
     pub fn close<A: At>(&mut self, whole: &A) -> Vec<N>
-        ensures kept { KeptOf (A.seen whole.now) (map N.change self.old.notes) (map N.change result.items) }
+        ensures kept { KeptOf (A.seen whole.now) (map N.change self.old.notes)
+            (map N.change result.items) }
         ensures once { NamesOnce (map N.change self.old.notes) }
         ensures none { self.new.notes ≡ [] }
     {
@@ -163,11 +173,14 @@ pub fn is_same_place(a: Place, b: Place) -> bool
 }
 
 fn drop_same_notes<N: Slotted + Copy, A: At>(notes: &mut Vec<N>, whole: &A)
-    ensures { KeptOf (A.seen whole.now) (map N.change notes.old.items) (map N.change notes.new.items) }
+    ensures { KeptOf (A.seen whole.now) (map N.change notes.old.items)
+        (map N.change notes.new.items) }
 {
     notes.retain(
         |n: &N| -> bool
-            ensures { MatchBool result ((N.change n.now).old ≢ A.seen whole.entry.now (N.change n.now).place) ((N.change n.now).old ≡ A.seen whole.entry.now (N.change n.now).place) }
+            ensures { MatchBool result ((N.change n.now).old
+                ≢ A.seen whole.entry.now (N.change n.now).place) ((N.change n.now).old
+                ≡ A.seen whole.entry.now (N.change n.now).place) }
         { n.differs(whole) },
     );
 }
@@ -204,14 +217,16 @@ pub fn drop_same<A: At>(notes: &mut Vec<Change>, whole: &A)
 {
     notes.retain(
         |c: &Change| -> bool
-            ensures { MatchBool result (c.now.old ≢ A.seen whole.entry.now c.now.place) (c.now.old ≡ A.seen whole.entry.now c.now.place) }
+            ensures { MatchBool result (c.now.old ≢ A.seen whole.entry.now c.now.place) (c.now.old
+                ≡ A.seen whole.entry.now c.now.place) }
         { differs(*c, whole) },
     );
 }
 
 /// Whether what a change says stood in its place isn't there now.
 pub fn differs<A: At>(change: Change, whole: &A) -> bool
-    ensures { MatchBool result (change.old ≢ A.seen whole.now change.place) (change.old ≡ A.seen whole.now change.place) }
+    ensures { MatchBool result (change.old ≢ A.seen whole.now change.place) (change.old
+        ≡ A.seen whole.now change.place) }
 {
     !is_same(change.old, whole.at(change.place))
 }
@@ -235,7 +250,8 @@ fn reach(marks: &mut Vec<usize>, slot: usize) -> Result<(), AllocError>
     ensures reached { OnOk result (slot < length marks.new.items) }
     ensures there { slot < length marks.old.items → IsOk result }
     ensures longer { length marks.old.items ≤ length marks.new.items }
-    ensures kept { (i : ℕ) → i < length marks.old.items → slice_get marks.new.items i ≡ slice_get marks.old.items i }
+    ensures kept { (i : ℕ) → i < length marks.old.items
+        → slice_get marks.new.items i ≡ slice_get marks.old.items i }
 {
     while marks.len() <= slot {
         marks.push(0)?;
@@ -245,7 +261,8 @@ fn reach(marks: &mut Vec<usize>, slot: usize) -> Result<(), AllocError>
 
 /// Whether a slot has a note.
 fn is_marked<N: Slotted>(notes: &[N], marks: &[usize], slot: usize) -> bool
-    ensures { MatchBool result (IsMarked N.slot notes.now marks.now slot) (¬ (IsMarked N.slot notes.now marks.now slot)) }
+    ensures { MatchBool result (IsMarked N.slot notes.now marks.now slot)
+        (¬ (IsMarked N.slot notes.now marks.now slot)) }
 {
     if slot < marks.len() {
         let at = marks[slot];

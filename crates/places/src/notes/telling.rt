@@ -31,9 +31,18 @@ impl<'a> Model for ByteChanges<'a> {
 
     ghost use Rattle.places.specs.Masked.{masked};
 
-    ghost view = { λ a. record { left = old_bytes a.region a.from (take a.left (masked a.olds.now a.kept.now)) ++ run_changes a.runs.now (drop a.left (masked a.olds.now a.kept.now)); work = length a.runs.now + length a.olds.now } };
+    ghost view = { λ a. record {
+      left = old_bytes a.region a.from
+          (take a.left (masked a.olds.now a.kept.now))
+          ++ run_changes a.runs.now
+          (drop a.left
+          (masked a.olds.now a.kept.now));
+      work = length a.runs.now + length a.olds.now;
+    } };
 
-    ghost invariant = { λ a. (a.from + a.left ≤ 2 ^ 32) × (a.left + run_total a.runs.now ≡ length a.olds.now) × RunsFit a.runs.now × (length a.kept.now ≡ length a.olds.now) };
+    ghost invariant = { λ a. (a.from + a.left ≤ 2 ^ 32)
+        × (a.left + run_total a.runs.now ≡ length a.olds.now) × RunsFit a.runs.now
+        × (length a.kept.now ≡ length a.olds.now) };
 }
 
 /// Old bytes of a region from an index on, and marks of those that are kept.
@@ -49,13 +58,16 @@ impl<'a> Stretch<'a> {
     /// Whether a place is of a byte that is kept.
     pub fn names(&self, place: Place) -> bool
         requires { length self.now.kept.now ≡ length self.now.olds.now }
-        ensures { result ≡ is_some (named (old_bytes self.now.region self.now.start (masked self.now.olds.now self.now.kept.now)) place) }
+        ensures { result ≡ is_some
+            (named (old_bytes self.now.region self.now.start
+            (masked self.now.olds.now self.now.kept.now)) place) }
     {
         self.has_mark(place)
     }
 
     fn has_mark(&self, place: Place) -> bool
-        ensures { result ≡ (is_in self.now.region place && unwrap_or (mark_at self.now.start self.now.kept.now (offset_in self.now.region place)) false) }
+        ensures { result ≡ (is_in self.now.region place && unwrap_or
+            (mark_at self.now.start self.now.kept.now (offset_in self.now.region place)) false) }
     {
         let offset = self.region.offset(place);
         let is_kept = mark_at(self.kept, self.start, offset).unwrap_or(false);
@@ -87,9 +99,14 @@ impl<'a> Model for Stretches<'a> {
 
     ghost Value = { ByteRest };
 
-    ghost view = { λ a. record { left = run_changes a.runs.now (masked a.olds.now a.kept.now); work = length a.runs.now } };
+    ghost view = { λ a. record {
+      left = run_changes a.runs.now
+          (masked a.olds.now a.kept.now);
+      work = length a.runs.now;
+    } };
 
-    ghost invariant = { λ a. (run_total a.runs.now ≡ length a.olds.now) × RunsFit a.runs.now × (length a.kept.now ≡ length a.olds.now) };
+    ghost invariant = { λ a. (run_total a.runs.now ≡ length a.olds.now) × RunsFit a.runs.now
+        × (length a.kept.now ≡ length a.olds.now) };
 }
 
 impl<'a> Stretches<'a> {
@@ -105,7 +122,8 @@ impl<'a> Stretches<'a> {
 
     /// The next run, if one is left.
     pub fn next(&mut self) -> Option<Stretch<'a>>
-        ensures told { MatchOption result (self.old.left ≡ []) (λ s. self.old.left ≡ old_bytes s.region s.start (masked s.olds.now s.kept.now) ++ self.new.left) }
+        ensures told { MatchOption result (self.old.left ≡ []) (λ s. self.old.left
+            ≡ old_bytes s.region s.start (masked s.olds.now s.kept.now) ++ self.new.left) }
         ensures paired { IfSome result (λ s. length s.kept.now ≡ length s.olds.now) }
         ensures less { (result ≡ None) ⊎ (self.new.work < self.old.work) }
     {
@@ -166,7 +184,8 @@ impl<'a> ByteChanges<'a> {
 
     /// The next old byte, if one is left.
     pub fn next(&mut self) -> Option<Change>
-        ensures { MatchOption result ((self.old.left ≡ []) × (self.new.left ≡ [])) (λ c. self.old.left ≡ c ∷ self.new.left) }
+        ensures { MatchOption result ((self.old.left ≡ [])
+            × (self.new.left ≡ [])) (λ c. self.old.left ≡ c ∷ self.new.left) }
     {
         loop {
             match self.turn() {

@@ -21,9 +21,9 @@ returns-in_ok-state-clause-ok c =
     let later : c.nearest-nearest.result ≤ c.args.self.now.at → c.args.self.now.at ≤ c.args.moment → ⊥ = elim c.else-nearest-at.branch [ else-nearest-at-via-then-nearest-at+else-at-moment w ↦ λ a b. omega (arith, at, w.if-at-moment.false) | else-nearest-at-via-else-nearest-at w ↦ λ a b. omega (arith, at, w.if-nearest-at.false) ] in
     let steps = steps_from_copy c.args.self.now c.args.moment c.nearest-nearest.result (c.nearest-nearest.ensures.value ∙ ap (λ (w : Walk). nearest w.every c.args.moment) c.self.view_is) c.requires.far later in
     on_ok c.on_from.result (λ e.
-      ap (λ (t : Track). record { setup = t.setup; events = t.events; at = t.at; walked = t.walked; every = c.self.inside.kept.every; window = c.self.inside.kept.window }) e
-      ∙ ap (λ n. record { setup = c.self.inside.trail.setup; events = c.self.inside.trail.events; at = c.args.moment; walked = min (c.self.inside.trail.walked + n) (2 ^ 64 - 1); every = c.self.inside.kept.every; window = c.self.inside.kept.window }) (sym steps)
-      ∙ ap (λ (w : Walk). record w { at = c.args.moment; walked = min (w.walked + steps_to c.args.self.now c.args.moment) (2 ^ 64 - 1) }) c.self.view_is)
+    ap (λ (t : Track). record { setup = t.setup; events = t.events; at = t.at; walked = t.walked; every = c.self.inside.kept.every; window = c.self.inside.kept.window }) e
+    ∙ ap (λ n. record { setup = c.self.inside.trail.setup; events = c.self.inside.trail.events; at = c.args.moment; walked = min (c.self.inside.trail.walked + n) (2 ^ 64 - 1); every = c.self.inside.kept.every; window = c.self.inside.kept.window }) (sym steps)
+    ∙ ap (λ (w : Walk). record w { at = c.args.moment; walked = min (w.walked + steps_to c.args.self.now c.args.moment) (2 ^ 64 - 1) }) c.self.view_is)
     c.on_from.ensures.ok
 
 pub returns-in_ok-state-clause-short : goal.returns-in_ok-state-clause-short
