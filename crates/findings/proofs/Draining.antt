@@ -18,7 +18,7 @@ NoneDrains rows unit k = (j : ℕ) (row : Row) → unit ≤ j → j < k → slic
 pub drains_found : (rows : List Row) (k unit : ℕ) (row : Row) → slice_get rows k ≡ Some row → row.unit ≡ unit → asks_to_drain row ≡ true → drains rows unit ≡ true
 drains_found rows k unit row e u a = any_true (is_draining unit) rows k row e (and_from (row.unit == unit) (asks_to_drain row) (eq-eqb row.unit unit u) a)
 
-by_bool : (b : Bool) → (b ≡ true → ⊥) → b ≡ false
+pub by_bool : (b : Bool) → (b ≡ true → ⊥) → b ≡ false
 by_bool true h = absurd (h refl)
 by_bool false h = refl
 
@@ -29,7 +29,7 @@ not_draining unit row g = by_bool (is_draining unit row) (λ t. g (eqb-true row.
 earlier : (rows : List Row) (unit j : ℕ) (row : Row) → Chained rows → slice_get rows j ≡ Some row → j < unit → is_draining unit row ≡ false
 earlier rows unit j row c e l = not_draining unit row (λ same. let low : row.unit ≤ j = c.back j row e in absurd (omega (arith, same)))
 
-none_past : (rows : List Row) (k j : ℕ) (row : Row) → length rows ≤ k → k ≤ j → slice_get rows j ≡ Some row → ⊥
+pub none_past : (rows : List Row) (k j : ℕ) (row : Row) → length rows ≤ k → k ≤ j → slice_get rows j ≡ Some row → ⊥
 none_past rows k j row l up e = none-some row (sym (slice_get_past rows j (omega arith)) ∙ e)
 
 -- where the table ends

@@ -5,6 +5,7 @@ pub mod Shown
 pub mod Candidates
 pub mod Beside
 pub mod Draining
+pub mod Barriers
 pub mod Ranks
 pub mod Distinct
 pub mod Lasting

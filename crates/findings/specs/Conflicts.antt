@@ -1,6 +1,7 @@
 -- What an event does beside requests that are under way: over bytes of memory that are theirs, or of a file in no order.
 use Rattle.std.specs.Prelude.{ℕ, ℤ, pos, ◌+◌, ◌-◌, ◌==◌, Bool, true, false, not, ◌&&◌, ◌||◌, nat_lt, min, max, if◌then◌else◌, Option, Some, None, slice_get, List, length}
 use Rattle.std.specs.Option.{option_map_or, option_and_then}
+use Rattle.std.specs.List.{list_any}
 use Rattle.entries.specs.declared.entry.Sqe.{Sqe}
 use Rattle.entries.specs.declared.row.Phase.{Phase}
 use Rattle.entries.specs.declared.row.Phase.TheVariants.{Ended}
@@ -15,7 +16,7 @@ use Rattle.scenario.specs.declared.setup.Instruction.{Instruction}
 use Rattle.scenario.specs.declared.setup.Instruction.TheVariants.{Store}
 use Rattle.scenario.specs.declared.setup.Setup.{Setup}
 use Rattle.opcodes.specs.Outcomes.{is_at_position}
-use Rattle.links_drains.specs.Eligible.{is_before_in_unit, is_before_in_drain}
+use Rattle.links_drains.specs.Eligible.{drains, is_before_in_unit, is_before_in_drain}
 use Rattle.links_drains.specs.Units.{is_open}
 use Rattle.timeouts_cancel.specs.Falls.{is_transfer}
 use Rattle.machine.specs.Steps.{number_in}
@@ -107,9 +108,16 @@ is_by_position s a b = is_at_position a && (is_at_position b && (are_one (number
 
 -- ---- order
 
--- whether a row is ordered behind another: by their chain, or by a drain (io_uring_enter(2), IOSQE_IO_LINK and IOSQE_IO_DRAIN)
+-- whether a row that hasn't ended, of a chain that drains, stands between the chains of two others: the later waits for it, and it for the earlier
+abbrev pub is_between : List Row → Row → Row → Row → Bool
+is_between rows row other x = (nat_lt other.unit x.unit && nat_lt x.unit row.unit) && (is_open x && drains rows x.unit)
+
+abbrev pub is_behind_barrier : List Row → Row → Row → Bool
+is_behind_barrier rows row other = list_any (is_between rows row other) rows
+
+-- whether a row is ordered behind another: by their chain, by a drain of one of theirs, or by one between (io_uring_enter(2), IOSQE_IO_LINK and IOSQE_IO_DRAIN)
 abbrev pub is_behind : List Row → ℕ → Row → ℕ → Row → Bool
-is_behind rows q row r other = is_before_in_unit q row r other || is_before_in_drain rows row other
+is_behind rows q row r other = is_before_in_unit q row r other || (is_before_in_drain rows row other || is_behind_barrier rows row other)
 
 -- ---- kinds
 
@@ -120,13 +128,13 @@ is_candidate row = is_transfer row.entry.opcode && is_open row
 -- Whether the end of row r, as it is then, is a finding about another READ or WRITE that hasn't ended:
 --   BufferInUse: a READ moved bytes into its buffer;
 --   Unordered: bytes of a file were moved that it asks for, and one of both is a WRITE;
---   SharedPosition: bytes were moved at the position at which it begins;
---   FsyncEarly: an FSYNC of its file ended well, and it is an earlier WRITE.
+--   SharedPosition: bytes were moved at the position at which it begins, and it asks for some;
+--   FsyncEarly: an FSYNC of its file ended well, and it is an earlier WRITE of some bytes.
 abbrev pub is_beside : Kind → Setup → ℕ → Row → ℕ → Row → Bool
 is_beside BufferInUse s r done q row = (done.entry.opcode == 22) && is_in_buffer done.entry.addr (moved done.phase) row
 is_beside Unordered s r done q row = is_one_write done.entry row.entry && (is_over (moved done.phase) done.entry row.entry && is_same_file s done.entry row.entry)
-is_beside SharedPosition s r done q row = nat_lt 0 (moved done.phase) && is_by_position s done.entry row.entry
-is_beside FsyncEarly s r done q row = (done.entry.opcode == 3) && (is_good done.phase && (nat_lt q r && ((row.entry.opcode == 23) && is_same_file s done.entry row.entry)))
+is_beside SharedPosition s r done q row = (nat_lt 0 (moved done.phase) && nat_lt 0 row.entry.len) && is_by_position s done.entry row.entry
+is_beside FsyncEarly s r done q row = (done.entry.opcode == 3) && (is_good done.phase && (nat_lt q r && ((row.entry.opcode == 23) && (nat_lt 0 row.entry.len && is_same_file s done.entry row.entry))))
 is_beside kind s r done q row = false
 
 -- Whether bytes that a Store writes are a finding about a READ or a WRITE that hasn't ended:

@@ -51,9 +51,9 @@ is_told_apart row res =
 
 -- ---- kinds
 
--- whether another row stands behind it in its chain
+-- whether another row that is no guard stands just behind it in its chain
 abbrev pub has_next : Row → Option Row → Bool
-has_next row next = option_map_or (λ (other : Row). other.unit == row.unit) next false
+has_next row next = option_map_or (λ (other : Row). (other.unit == row.unit) && not (is_guard other)) next false
 
 -- whether a row with a hard link ends badly, and its chain goes on: one that fails as it is submitted ends its chain, and so does one that an earlier soft link ends
 abbrev pub leaves_chain : Option Row → Row → ℤ → Bool
@@ -66,7 +66,7 @@ leaves_chain before row res = has_flag row.entry.flags 8 && (is_bad row res && (
 --   Canceled: with ECANCELED;
 --   TimedOut, Expired: a LINK_TIMEOUT, a TIMEOUT with ETIME;
 --   NotFound, TooLate: a cancel or a removal with ENOENT, with EALREADY;
---   WentOn: a hard-linked row badly, and another stands behind it.
+--   WentOn: a hard-linked row badly, and another, no guard, stands just behind it.
 abbrev pub is_of : Kind → Option Row → Row → Option Row → ℤ → Bool
 is_of Failed before row next res = is_negative res && not (is_told_apart row res)
 is_of Short before row next res = is_transfer row.entry.opcode && is_less res row.entry.len

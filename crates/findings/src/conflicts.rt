@@ -3,7 +3,7 @@ ghost use Rattle.std.specs.Prelude.{◌≡◌, ◌==◌};
 ghost use Rattle.opcodes.specs.Outcomes.{is_at_position};
 ghost use Rattle.links_drains.specs.Links.{asks_to_drain};
 ghost use Rattle.links_drains.specs.Eligible.{drains, is_before_in_unit, is_before_in_drain};
-ghost use Rattle.findings.specs.Conflicts.{meet, moved, is_good, is_in_buffer, is_same_file, is_one_write, is_over, is_by_position, is_behind, is_candidate, is_beside, is_stored_over, is_conflict, conflicts};
+ghost use Rattle.findings.specs.Conflicts.{meet, moved, is_good, is_in_buffer, is_same_file, is_one_write, is_over, is_by_position, is_between, is_behind_barrier, is_behind, is_candidate, is_beside, is_stored_over, is_conflict, conflicts};
 
 use crate::deed::{Deed, is_transfer};
 use crate::files::{is_same_descriptor, is_same_file};
@@ -121,11 +121,39 @@ fn is_before_in_drain(state: &State, row: &Row, before: &Row) -> bool
     before.unit < row.unit && (drains(state, before.unit) || drains(state, row.unit))
 }
 
+// Whether a row that hasn't ended, of a chain that drains, stands between the chains of two others.
+fn is_between(state: &State, row: &Row, before: &Row, other: &Row) -> bool
+    ensures { result ≡ is_between state.now.table row.now before.now other.now }
+{
+    (before.unit < other.unit && other.unit < row.unit)
+        && (is_unfinished(other) && drains(state, other.unit))
+}
+
+// Whether a row waits for a chain that drains, which waits for another row. Those rows stand behind the
+// first of the other's chain.
+fn is_behind_barrier(state: &State, row: &Row, before: &Row) -> bool
+    ensures { result ≡ is_behind_barrier state.now.table row.now before.now }
+{
+    let _first = row_at(state, before.unit);
+    for number in before.unit..MOST_ROWS {
+        match row_at(state, number) {
+            Some(other) => {
+                if is_between(state, row, before, &other) {
+                    return true;
+                }
+            }
+            None => return false,
+        }
+    }
+    false
+}
+
 // Whether a row is ordered behind another.
 fn is_behind(state: &State, number: u32, row: &Row, other: u32, before: &Row) -> bool
     ensures { result ≡ is_behind state.now.table number row.now other before.now }
 {
-    is_before_in_unit(number, row, other, before) || is_before_in_drain(state, row, before)
+    is_before_in_unit(number, row, other, before)
+        || (is_before_in_drain(state, row, before) || is_behind_barrier(state, row, before))
 }
 
 // ---- kinds
@@ -137,14 +165,15 @@ pub(crate) fn is_candidate(row: &Row) -> bool
     is_transfer(row) && is_unfinished(row)
 }
 
-// An FSYNC that ended well, and an earlier WRITE of its file.
+// An FSYNC that ended well, and an earlier WRITE of some bytes of its file.
 fn is_synced_early(setup: &Setup, number: u32, done: &Row, other: u32, row: &Row) -> bool
     ensures { result ≡ is_beside Kind.FsyncEarly setup.now number done.now other row.now }
 {
     done.entry.opcode == Op::Fsync as u8
         && (is_good(done.phase)
             && (other < number
-                && (is_write(&row.entry) && is_same_file(setup, &done.entry, &row.entry))))
+                && (is_write(&row.entry)
+                    && (0 < row.entry.len && is_same_file(setup, &done.entry, &row.entry)))))
 }
 
 // Whether the end of a row is a finding about another.
@@ -161,7 +190,9 @@ fn is_beside(kind: Kind, setup: &Setup, number: u32, done: &Row, other: u32, row
                 && (is_over(count, &done.entry, &row.entry)
                     && is_same_file(setup, &done.entry, &row.entry))
         }
-        Kind::SharedPosition => 0 < count && is_by_position(setup, &done.entry, &row.entry),
+        Kind::SharedPosition => {
+            (0 < count && 0 < row.entry.len) && is_by_position(setup, &done.entry, &row.entry)
+        }
         Kind::FsyncEarly => is_synced_early(setup, number, done, other, row),
         _ => false,
     }

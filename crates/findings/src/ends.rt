@@ -115,12 +115,12 @@ fn severs(before: &Option<Row>, row: &Row, res: i32) -> bool
     is_soft_linked(row) && (is_bad(row, res) && (was_issued(before) || !is_canceled(res)))
 }
 
-// Whether another row stands behind a row in its chain.
+// Whether another row that is no guard stands just behind a row in its chain.
 fn has_next(row: &Row, next: &Option<Row>) -> bool
     ensures { result ≡ has_next row.now next.now }
 {
     match next {
-        Some(other) => other.unit == row.unit,
+        Some(other) => other.unit == row.unit && !is_guard(other),
         None => false,
     }
 }

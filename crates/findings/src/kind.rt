@@ -132,7 +132,12 @@ impl Kind {
     {
         !matches!(
             self,
-            Kind::Canceled | Kind::Expired | Kind::NotReaped | Kind::WentOn | Kind::NoEffect
+            Kind::Canceled
+                | Kind::Expired
+                | Kind::NotReaped
+                | Kind::FsyncEarly
+                | Kind::WentOn
+                | Kind::NoEffect
         )
     }
 

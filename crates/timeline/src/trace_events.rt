@@ -135,7 +135,7 @@ pub(crate) fn add_finding(alloc: Global, out: &mut Vec<u8>, part: &FindingPart) 
     } = part;
     let text = json(alloc, &part.text)?;
     let members = format!(in alloc;
-        "\"ph\":\"i\",\"s\":\"p\",\"cat\":\"finding\",\"name\":\"{kind}\",\"tid\":{FINDINGS},\"ts\":{moment},\"args\":{{\"fault\":{fault},\"text\":{text}}}"
+        "\"ph\":\"i\",\"s\":\"t\",\"cat\":\"finding\",\"name\":\"{kind}\",\"tid\":{FINDINGS},\"ts\":{moment},\"args\":{{\"fault\":{fault},\"text\":{text}}}"
     )?;
     add(out, members.as_str())
 }

@@ -178,6 +178,6 @@ pub(crate) fn cut_off(alloc: Global, run: &Run<'_>, about: &About) -> Result<Str
         "no further entry was taken with it"
     };
     format!(in alloc;
-        "Row {name} is linked to the next entry, but is the last of its submission: {reason}. A chain ends with its submission, so what is taken later does not wait for it {RULE}."
+        "Row {name} is linked to the next entry, but is the last of its submission: {reason}. A chain ends with its submission, so what is taken later does not wait for it by this link {RULE}."
     )
 }

@@ -82,9 +82,9 @@ pub(crate) fn taken_short(
     let counter = run.counter(moment).unwrap_or(0);
     let (came, failed) = came_at(run, moment);
     let reason = if failed && !run.setup.submit_all {
-        "an entry failed, and the submission halted behind it"
+        "an entry failed, and the submission halts behind one"
     } else {
-        "no more that name a slot waited in the ring"
+        "no more waited in the ring, or an index that names no slot used one up"
     };
     format!(in alloc;
         "The enter of thread {thread}, instruction {counter}, was to submit {wanted} entries, and took {came}: {reason} {SUBMIT_RULE}."
@@ -104,7 +104,7 @@ pub(crate) fn no_such_slot(
     };
     let counter = run.counter(moment).unwrap_or(0);
     format!(in alloc;
-        "The push of thread {thread}, instruction {counter}, is of index {index}, which names no slot of the ring: it will be dropped, and counted in sq.dropped (io_uring(7))."
+        "The push of thread {thread}, instruction {counter}, is of index {index}, which names no slot of the ring: once taken it is dropped, and counted in sq.dropped (io_uring(7))."
     )
 }
 

@@ -1,0 +1,50 @@
+-- Chains that drain between two rows, found row by row.
+use Rattle.std.proofs.Common.{◌≡◌, inl, inr, ℕ, ◌<◌, ◌≤◌, ◌+◌, Bool, true, false, List, length, refl, sym, ap, ◌∙◌, arith}
+use Rattle.std.proofs.lemmas.Option.{same_Some}
+use Rattle.std.proofs.lemmas.Bool.{cases_lt, and_parts, ltb-true}
+use Rattle.std.specs.Prelude.{Some, slice_get, nat_lt, ◌&&◌}
+use Rattle.entries.specs.declared.row.Row.{Row}
+use Rattle.links_drains.specs.Eligible.{drains}
+use Rattle.links_drains.specs.Links.{Chained}
+use Rattle.links_drains.specs.Units.{is_open}
+use Rattle.links_drains.proofs.Units.{any_true, any_false}
+use Rattle.findings.specs.Conflicts.{is_between, is_behind_barrier}
+use Rattle.findings.proofs.Draining.{by_bool, none_past}
+
+-- none of the rows from the other's chain on, before a number, stands between
+abbrev pub NoneBetween : List Row → Row → Row → ℕ → Type 0
+NoneBetween rows row other k = (j : ℕ) (x : Row) → other.unit ≤ j → j < k → slice_get rows j ≡ Some x → is_between rows row other x ≡ false
+
+pub between_found : (rows : List Row) (row other x : Row) (k : ℕ) → slice_get rows k ≡ Some x → is_between rows row other x ≡ true → is_behind_barrier rows row other ≡ true
+between_found rows row other x k e h = any_true (is_between rows row other) rows k x e h
+
+-- a row before the first of the other's chain is of an earlier one
+earlier_chain : (rows : List Row) (row other x : Row) (j : ℕ) → Chained rows → slice_get rows j ≡ Some x → j < other.unit → is_between rows row other x ≡ false
+earlier_chain rows row other x j c e l =
+    by_bool (is_between rows row other x) (λ t.
+    let units = (and_parts (nat_lt other.unit x.unit && nat_lt x.unit row.unit) (is_open x && drains rows x.unit) t).0 in
+    let up : other.unit < x.unit = ltb-true other.unit x.unit (and_parts (nat_lt other.unit x.unit) (nat_lt x.unit row.unit) units).0 in
+    let low : x.unit ≤ j = c.back j x e in
+    absurd (omega (arith, up, low, l)))
+
+-- where the table ends
+pub between_end : (rows : List Row) (row other : Row) (k : ℕ) → Chained rows → NoneBetween rows row other k → length rows ≤ k → is_behind_barrier rows row other ≡ false
+between_end rows row other k c none l = any_false (is_between rows row other) rows (λ j x e.
+    elim (cases_lt j other.unit) [
+      | inl before ↦ earlier_chain rows row other x j c e before
+      | inr behind ↦ elim (cases_lt j k) [
+        | inl below ↦ none j x behind below e
+        | inr past ↦ absurd (none_past rows k j x l past e)
+      ]
+    ])
+
+-- one row more
+pub between_more : (rows : List Row) (row other x : Row) (k : ℕ) → NoneBetween rows row other k → slice_get rows k ≡ Some x → is_between rows row other x ≡ false → NoneBetween rows row other (k + 1)
+between_more rows row other x k none there h = λ j y low high e.
+    elim (cases_lt j k) [
+      | inl below ↦ none j y low below e
+      | inr past ↦
+          let same : k ≡ j = omega arith in
+          let one : x ≡ y = same_Some x y (sym there ∙ ap (slice_get rows) same ∙ e) in
+          ap (is_between rows row other) (sym one) ∙ h
+    ]
