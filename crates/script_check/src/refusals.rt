@@ -12,6 +12,9 @@ use std::alloc::{AllocError, Global};
 /// The most rows of a run.
 const MOST_ROWS: u32 = 65536;
 
+/// The bit of sq.flags that says that completions are kept (io_uring_setup(2), CQ_OVERFLOW).
+const CQ_OVERFLOW: u64 = 2;
+
 /// The bits of a ring's word.
 const WORD: u64 = 0xffff_ffff;
 
@@ -52,6 +55,15 @@ fn completions_waiting(state: &State) -> u64 {
     waiting(state, Place::CompletionHead, Place::CompletionTail)
 }
 
+// What brings completions into the ring. One that is posted while others are kept goes behind those.
+fn remedy_for_completions(state: &State) -> &'static str {
+    if number_at(state, Place::SubmissionFlags) & CQ_OVERFLOW == 0 {
+        "requests must end first"
+    } else {
+        "some are kept in the backlog, which an enter with GETEVENTS (flags 1) moves into the ring"
+    }
+}
+
 fn no_such_thread(alloc: Global, setup: &Setup) -> Told {
     let count = setup.threads.len();
     format!(in alloc;
@@ -61,8 +73,13 @@ fn no_such_thread(alloc: Global, setup: &Setup) -> Told {
 
 fn full_ring(alloc: Global, setup: &Setup) -> Told {
     let size = ring_size(setup.entries);
+    let taker = if setup.sqpoll {
+        "a take of the poller"
+    } else {
+        "an enter that submits"
+    };
     format!(in alloc;
-        "all {size} places of the submission ring wait to be taken: an enter, or the poller's take, must come first"
+        "all {size} places of the submission ring wait to be taken: {taker} must come first"
     )
 }
 
@@ -72,9 +89,15 @@ fn still_waiting(alloc: Global, state: &State, thread: u32) -> Told {
         _ => 0,
     };
     let there = completions_waiting(state);
+    let remedy = remedy_for_completions(state);
     format!(in alloc;
-        "the thread waits in its enter: of {wanted} completions that it waits for, the ring has {there}: requests must end first"
+        "the thread waits in its enter: of {wanted} completions that it waits for, the ring has {there}: {remedy}"
     )
+}
+
+fn empty_ring(alloc: Global, state: &State) -> Told {
+    let remedy = remedy_for_completions(state);
+    format!(in alloc; "the thread would reap, and the completion ring is empty: {remedy}")
 }
 
 // A step that is refused.
@@ -86,10 +109,7 @@ fn step(alloc: Global, state: &State, setup: &Setup, thread: u32, refusal: Refus
         }
         Refusal::SqFull => full_ring(alloc, setup),
         Refusal::StillWaiting => still_waiting(alloc, state, thread),
-        Refusal::NothingToReap => String::from_str(
-            alloc,
-            "the thread would reap, and the completion ring is empty: a request must end first",
-        ),
+        Refusal::NothingToReap => empty_ring(alloc, state),
         _ => too_many(alloc),
     }
 }
@@ -144,6 +164,9 @@ fn not_ready(alloc: Global, state: &State, setup: &Setup, number: u32, row: &Row
 fn not_due(alloc: Global, state: &State, name: RowName, row: &Row) -> Told {
     let clock = number_at(state, Place::Clock);
     match row.deadline {
+        Some(deadline) if deadline > u128::from(u64::MAX) => format!(in alloc;
+            "row {name} is due at {deadline}, behind the end of the clock"
+        ),
         Some(deadline) => {
             let left = deadline.saturating_sub(u128::from(clock));
             format!(in alloc;
@@ -161,7 +184,7 @@ fn bad_choice(alloc: Global, name: RowName, choice: Choice) -> Told {
             "row {name} can't end with {bytes} bytes: only a READ or a WRITE of a file can end short, with fewer bytes than it would move"
         ),
         Choice::Eio => format!(in alloc;
-            "row {name} can't end in EIO: only a READ, a WRITE or an FSYNC of a file can, where nothing else is wrong with it"
+            "row {name} can't end in EIO: only a READ, a WRITE or an FSYNC of a file can, where nothing else is wrong with it, and no WRITE of 0 bytes"
         ),
     }
 }

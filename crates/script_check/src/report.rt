@@ -110,7 +110,7 @@ fn no_json(alloc: Global, source: Source<'_>, error: &Error) -> Result<String, A
     let reason = if error.is_eof() {
         "the text ends within its JSON value"
     } else {
-        "no JSON value goes on like this, or it nests too deep: look at what stands here, and just before it"
+        "no JSON value goes on like this, or it nests too deep, or a number is too large: look at what stands here, and just before it"
     };
     format!(in alloc; "{name}:{line}:{column}: {reason}\n")
 }

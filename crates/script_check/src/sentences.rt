@@ -1,6 +1,6 @@
 //! Sentences about the faults of a script: what stands there, and what may.
 
-use crate::document::{cut, shown, value_at};
+use crate::document::{shown, value_at};
 use crate::ranges::range;
 use script::items::{is_entry_key, is_object_key, is_script_key};
 use script::{Key, Path, ScriptFault};
@@ -122,9 +122,9 @@ fn entry_of(instruction: &Value) -> Option<&Value> {
 
 // The key of an item that it may not have.
 fn odd_key_at(path: Path, value: &Value) -> Option<&str> {
-    match (path.key, path.inner) {
-        (Key::Threads, Some(_)) => odd_key(entry_of(value)?, true),
-        (Key::Objects, None) => odd_key(value, false),
+    match (path.key, path.item, path.inner) {
+        (Key::Threads, _, Some(_)) => odd_key(entry_of(value)?, true),
+        (Key::Objects, Some(_), None) => odd_key(value, false),
         _ => None,
     }
 }
@@ -147,13 +147,13 @@ pub(crate) fn unknown_key(alloc: Global, key: &Value) -> Result<String, AllocErr
 
 // Of an entry's key, or of an object's.
 fn unknown_inner_key(alloc: Global, path: Path, key: &str) -> Result<String, AllocError> {
-    let key = cut(alloc, key)?;
+    let key = shown(alloc, &Value::String(String::from_str(alloc, key)?))?;
     match path.key {
         Key::Threads => format!(in alloc;
-            "\"{key}\" is no key of an entry: its keys are op, flags, ioprio, fd, off, addr, len, opflags and ud"
+            "{key} is no key of an entry: its keys are op, flags, ioprio, fd, off, addr, len, opflags and ud"
         ),
         _ => format!(in alloc;
-            "\"{key}\" is no key of an object: its keys are name, and file, pipe or eventfd"
+            "{key} is no key of an object: its keys are name, and file, pipe or eventfd"
         ),
     }
 }

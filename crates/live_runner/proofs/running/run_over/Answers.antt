@@ -1,5 +1,9 @@
-use Rattle.std.proofs.Common.{◌∙◌, sym}
+use Rattle.std.proofs.Common.{◌≡◌, ℕ, IfOk, ◌∙◌, sym, subst}
 use Rattle.live_runner.proofs.running.run_over.Goals as goal
+
+pub returns-in-Some-clause-same : goal.returns-in-Some-clause-same
+returns-in-Some-clause-same g c =
+    subst (λ (n : ℕ). IfOk c.close.result (λ r. (r.setup ≡ c.args.setup.now) × (r.actors ≡ n))) c.actors.ensures.value c.close.ensures.same
 
 pub returns-in-Some-clause-strange : goal.returns-in-Some-clause-strange
 returns-in-Some-clause-strange g c = λ s k strange same count. c.close.ensures.strange s k strange same (count ∙ sym c.actors.ensures.value)
