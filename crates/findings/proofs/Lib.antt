@@ -3,6 +3,7 @@ pub mod Members
 pub mod Notes
 pub mod Shown
 pub mod Candidates
+pub mod Passing
 pub mod Beside
 pub mod Draining
 pub mod Barriers

@@ -56,6 +56,15 @@ of_place i behind before _ = []
 abbrev pub of_change : ℕ → View → Change → List Finding
 of_change i behind c = of_place i behind c.old c.place
 
+abbrev pub is_row : Place → Bool
+is_row (Request r) = true
+is_row _ = false
+
+-- No change is of a row.
+abbrev pub OfNoRow : List Change → Type 0
+OfNoRow [] = Unit {0}
+OfNoRow (c ∷ cs) = (is_row c.place ≡ false) × OfNoRow cs
+
 -- ---- one event
 
 -- that completions are kept, and none was

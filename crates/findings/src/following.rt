@@ -1,15 +1,14 @@
 //! The READs and WRITEs that haven't ended, followed event by event.
 ghost use Rattle.std.specs.Prelude.{◌≡◌, not, ◌==◌, filter, OnOk};
-ghost use Rattle.machine.specs.Whole.{view};
-ghost use Rattle.findings.specs.Records.{is_candidate_in, followed, after_note, after_notes};
+ghost use Rattle.findings.specs.Records.{is_candidate_in, followed};
 
 use crate::conflicts::is_candidate;
 use crate::record::row_in;
-use machine::State;
-use places::{Change, Place, Record, Value};
+use places::Value;
 use std::alloc::AllocError;
 
-fn is_candidate_in(value: Option<Value>) -> bool
+/// Whether a value is a row that is a candidate.
+pub(crate) fn is_candidate_in(value: Option<Value>) -> bool
     ensures { result ≡ is_candidate_in value }
 {
     match row_in(value) {
@@ -25,8 +24,13 @@ fn leave(numbers: &mut Vec<u32>, number: u32)
     numbers.retain(|k| *k != number);
 }
 
-// Follows a row that is a candidate or isn't, which it was or wasn't.
-fn follow(numbers: &mut Vec<u32>, number: u32, was: bool, is: bool) -> Result<(), AllocError>
+/// Follows a row that is a candidate or isn't, which it was or wasn't.
+pub(crate) fn follow(
+    numbers: &mut Vec<u32>,
+    number: u32,
+    was: bool,
+    is: bool,
+) -> Result<(), AllocError>
     ensures { OnOk result (numbers.new.items ≡ followed numbers.old.items number was is) }
 {
     match (was, is) {
@@ -41,31 +45,4 @@ fn follow(numbers: &mut Vec<u32>, number: u32, was: bool, is: bool) -> Result<()
         (true, true) => Ok(()),
         (false, false) => Ok(()),
     }
-}
-
-fn follow_change(numbers: &mut Vec<u32>, change: Change, state: &State) -> Result<(), AllocError>
-    ensures { OnOk result (numbers.new.items
-        ≡ after_note (view state.now) numbers.old.items change.old change.place) }
-{
-    let Place::Request(number) = change.place else {
-        return Ok(());
-    };
-    let is = is_candidate_in(state.value(Place::Request(number)));
-    follow(numbers, number, is_candidate_in(change.old), is)
-}
-
-/// Follows the rows that a record names, by the state behind it.
-pub(crate) fn follow_record(
-    numbers: &mut Vec<u32>,
-    past: &Record,
-    state: &State,
-) -> Result<(), AllocError>
-    ensures { OnOk result (numbers.new.items
-        ≡ after_notes (view state.now) numbers.old.items past.now) }
-{
-    let mut rest = past.changes();
-    while let Some(change) = rest.next() {
-        follow_change(numbers, change, state)?;
-    }
-    Ok(())
 }

@@ -2,6 +2,7 @@
 //! told in sentences.
 #![tactic(auto)]
 
+mod changes;
 mod conditions;
 mod conflicts;
 mod deed;

@@ -2,11 +2,9 @@
 ghost use Rattle.std.specs.Prelude.{◌≡◌, ◌++◌, length, OnOk};
 ghost use Rattle.std.specs.List.{flat_map};
 ghost use Rattle.std.specs.Option.{option_copied};
-ghost use Rattle.machine.specs.Whole.{view};
-ghost use Rattle.places.specs.View.{NamesOnce};
 ghost use Rattle.findings.specs.Endings.{row_test};
 ghost use Rattle.findings.specs.Conditions.{overflows, instruction_at};
-ghost use Rattle.findings.specs.Records.{given, row_kinds, of_row, row_in, of_change, of_overflow, of_instruction, of_step, of_candidate, of_number, of_deed};
+ghost use Rattle.findings.specs.Records.{given, row_kinds, of_row, row_in, of_overflow, of_instruction, of_step, of_candidate, of_number, of_deed};
 
 use crate::conditions::{Before, instruction_at, is_of_step, overflows};
 use crate::conflicts::conflicts;
@@ -17,7 +15,7 @@ use crate::kind::Kind;
 use crate::leftover::row_at;
 use entries::Row;
 use machine::{Event, Instruction, Setup, State};
-use places::{Change, Place, Record, Value};
+use places::Value;
 use std::alloc::AllocError;
 
 /// The kinds that are about rows which come or end.
@@ -84,8 +82,8 @@ fn add_of_row(
     Ok(())
 }
 
-// Adds what a row shows.
-fn add_of_any_kind(
+/// Adds what a row shows.
+pub(crate) fn add_of_any_kind(
     found: &mut Vec<Finding>,
     moment: u32,
     number: u32,
@@ -106,28 +104,6 @@ pub(crate) fn row_in(value: Option<Value>) -> Option<Row>
     match value {
         Some(Value::Requested(row)) => Some(row),
         _ => None,
-    }
-}
-
-// Adds what a change shows.
-fn add_of_change(
-    found: &mut Vec<Finding>,
-    moment: u32,
-    change: Change,
-    state: &State,
-) -> Result<(), AllocError>
-    ensures { OnOk result (found.new.items ≡ found.old.items
-        ++ of_change moment (view state.now) change) }
-{
-    let Place::Request(number) = change.place else {
-        return Ok(());
-    };
-    match row_at(state, number) {
-        Some(row) => {
-            let next = row_at(state, number + 1);
-            add_of_any_kind(found, moment, number, &row_in(change.old), &row, &next)
-        }
-        None => Ok(()),
     }
 }
 
@@ -297,22 +273,4 @@ pub(crate) fn add_of_deed(
         Deed::Nothing => Ok(()),
         _ => add_of_numbers(found, moment, setup, state, deed, numbers),
     }
-}
-
-/// Adds what an event shows of rows, by its record and the state behind it.
-pub(crate) fn add_of_record(
-    found: &mut Vec<Finding>,
-    moment: u32,
-    past: &Record,
-    state: &State,
-) -> Result<(), AllocError>
-    ensures added { OnOk result (found.new.items ≡ found.old.items
-        ++ flat_map (of_change moment (view state.now)) past.now) }
-    ensures once { OnOk result (NamesOnce past.now) }
-{
-    let mut rest = past.changes();
-    while let Some(change) = rest.next() {
-        add_of_change(found, moment, change, state)?;
-    }
-    Ok(())
 }

@@ -12,14 +12,14 @@ ghost use Rattle.findings.specs.Conflicts.{done_as};
 ghost use Rattle.findings.specs.Records.{of_change, of_overflow, of_step, of_deed, after_notes, Adds, FoundBefore, IsLasting, AreLeft, all_left, IsAll, SameFindings, HaltsAt, Halted};
 ghost use Rattle.findings.specs.Watched.{advanced, watched, of_lasting};
 
+use crate::changes::look_at_record;
 use crate::conditions::Before;
 use crate::deed::done_as;
 use crate::finding::Finding;
-use crate::following::follow_record;
 use crate::leftover::add_all_left;
 use crate::ordering::in_order;
-use crate::record::{add_of_deed, add_of_event, add_of_record};
-use crate::times::{History, note_times};
+use crate::record::{add_of_deed, add_of_event};
+use crate::times::{History, note_counter};
 use crate::watching::{Watch, add_all_lasting, advance, watches_of};
 use machine::{Event, Refusal, Setup, State};
 use places::Record;
@@ -36,26 +36,21 @@ fn fault_by(index: u32, refusal: Refusal) -> LogFault
     }
 }
 
-// Adds what an event shows beside the READs and WRITEs that haven't ended, and follows which these
-// are.
+// Adds what an event shows beside the READs and WRITEs that haven't ended.
 fn look_beside(
     setup: &Setup,
     state: &State,
     moment: u32,
     event: Event,
     before: Before,
-    past: &Record,
     found: &mut Vec<Finding>,
-    numbers: &mut Vec<u32>,
+    numbers: &[u32],
 ) -> Result<(), AllocError>
-    ensures added { OnOk result (found.new.items ≡ found.old.items
+    ensures { OnOk result (found.new.items ≡ found.old.items
         ++ of_deed moment setup.now state.now.table
         (done_as event
-        (instruction_at setup.now event before.counter) state.now) numbers.new.items) }
-    ensures further { OnOk result (numbers.new.items
-        ≡ after_notes (view state.now) numbers.old.items past.now) }
+        (instruction_at setup.now event before.counter) state.now) numbers.now) }
 {
-    follow_record(numbers, past, state)?;
     let deed = done_as(setup, before, event, state);
     add_of_deed(found, moment, setup, state, &deed, numbers)
 }
@@ -83,10 +78,10 @@ fn look(
     ensures further { OnOk result (numbers.new.items
         ≡ after_notes (view state.now) numbers.old.items past.now) }
 {
-    note_times(history, moment, past, state)?;
-    add_of_record(found, moment, past, state)?;
+    note_counter(&mut history.counters, before.counter)?;
+    look_at_record(found, numbers, &mut history.rows, moment, past, state)?;
     add_of_event(found, setup, moment, before, event, state)?;
-    look_beside(setup, state, moment, event, before, past, found, numbers)
+    look_beside(setup, state, moment, event, before, found, numbers)
 }
 
 // Does an event, and adds what it shows.

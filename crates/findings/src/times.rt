@@ -1,8 +1,6 @@
 //! When rows came, were issued and ended, and where threads stood.
 
 use entries::Phase;
-use machine::State;
-use places::{Change, Place, Record, Value};
 use std::alloc::{AllocError, Global};
 
 /// The moments before the events by which a row came, was issued and ended.
@@ -67,8 +65,8 @@ impl History {
     }
 }
 
-// Notes what an event made of a row.
-fn note_row(
+/// Notes what an event made of a row.
+pub(crate) fn note_row(
     times: &mut Vec<Times>,
     moment: u32,
     number: u32,
@@ -87,42 +85,15 @@ fn note_row(
     Ok(())
 }
 
-fn note_change(
-    times: &mut Vec<Times>,
-    moment: u32,
-    change: Change,
-    state: &State,
+/// Notes where the program of the thread stood that did an event, if one did.
+pub(crate) fn note_counter(
+    counters: &mut Vec<Option<u32>>,
+    counter: Option<u64>,
 ) -> Result<(), AllocError> {
-    let Place::Request(number) = change.place else {
-        return Ok(());
+    let place = match counter {
+        Some(counter) => u32::try_from(counter).ok(),
+        None => None,
     };
-    match state.value(Place::Request(number)) {
-        Some(Value::Requested(row)) => note_row(times, moment, number, row.phase),
-        _ => Ok(()),
-    }
-}
-
-// Where the program of a thread stood, if a change says it.
-fn counter_in(change: Change) -> Option<u32> {
-    match (change.place, change.old) {
-        (Place::ProgramCounter(_), Some(Value::Number(counter))) => u32::try_from(counter).ok(),
-        _ => None,
-    }
-}
-
-/// Notes what an event did, by its record and the state behind it.
-pub(crate) fn note_times(
-    history: &mut History,
-    moment: u32,
-    past: &Record,
-    state: &State,
-) -> Result<(), AllocError> {
-    let mut counter = None;
-    let mut rest = past.changes();
-    while let Some(change) = rest.next() {
-        note_change(&mut history.rows, moment, change, state)?;
-        counter = counter.or(counter_in(change));
-    }
-    history.counters.push(counter)?;
+    counters.push(place)?;
     Ok(())
 }

@@ -1,0 +1,73 @@
+-- Changes that are of no row, and what a record shows without them.
+use Rattle.std.proofs.Common.{◌≡◌, ℕ, ◌+◌, true, false, List, [], ◌∷◌, ◌++◌, refl, sym, ap, ◌∙◌}
+use Rattle.std.proofs.lemmas.Grind.{flat_map-append}
+use Rattle.std.proofs.lemmas.List.{append_assoc}
+use Rattle.std.specs.Prelude.{Option, Some, None, Result, Ok, Err, OnOk}
+use Rattle.std.specs.List.{flat_map}
+use Rattle.places.specs.declared.notes.runs.Region.{Region}
+use Rattle.places.specs.declared.notes.runs.Region.TheVariants.{Memory, File, Durable, Pipe}
+use Rattle.places.specs.declared.place.Place.{Place}
+use Rattle.places.specs.declared.place.Place.TheVariants.{Request}
+use Rattle.places.specs.declared.value.Change.{Change}
+use Rattle.places.specs.declared.value.Value.{Value}
+use Rattle.places.specs.Runs.{place_in, old_bytes}
+use Rattle.places.specs.View.{View}
+use Rattle.findings.specs.declared.finding.Finding.{Finding}
+use Rattle.findings.specs.Records.{of_place, of_change, after_note, after_notes, is_row, OfNoRow}
+
+-- a byte is no row
+byte_no_row : (g : Region) (i : ℕ) → is_row (place_in g i) ≡ false
+byte_no_row Memory i = refl
+byte_no_row (File o) i = refl
+byte_no_row (Durable o) i = refl
+byte_no_row (Pipe o) i = refl
+
+-- old bytes of a region are of none, nor are changes behind them
+pub bytes_no_row : (g : Region) (s : ℕ) (os : List (Option ℕ)) (cs : List Change) → OfNoRow cs → OfNoRow (old_bytes g s os ++ cs)
+bytes_no_row g s [] cs h = h
+bytes_no_row g s (None ∷ os) cs h = bytes_no_row g (s + 1) os cs h
+bytes_no_row g s (Some b ∷ os) cs h = (byte_no_row g s, bytes_no_row g (s + 1) os cs h)
+
+true_false : true ≡ false → ⊥
+true_false e = cc
+
+place_shows_none : (i : ℕ) (v : View) (x : Option Value) (p : Place) → is_row p ≡ false → of_place i v x p ≡ []
+place_shows_none i v x (Request r) e = absurd (true_false e)
+place_shows_none i v x _ e = refl
+
+place_follows_none : (v : View) (ns : List ℕ) (x : Option Value) (p : Place) → is_row p ≡ false → after_note v ns x p ≡ ns
+place_follows_none v ns x (Request r) e = absurd (true_false e)
+place_follows_none v ns x _ e = refl
+
+-- they show nothing
+shows_none : (i : ℕ) (v : View) (cs : List Change) → OfNoRow cs → flat_map (of_change i v) cs ≡ []
+shows_none i v [] h = refl
+shows_none i v (c ∷ cs) h = ap (λ (fs : List Finding). fs ++ flat_map (of_change i v) cs) (place_shows_none i v c.old c.place h.0) ∙ shows_none i v cs h.1
+
+-- and change nothing of what is followed
+follows_none : (v : View) (ns : List ℕ) (cs ds : List Change) → OfNoRow cs → after_notes v ns (cs ++ ds) ≡ after_notes v ns ds
+follows_none v ns [] ds h = refl
+follows_none v ns (c ∷ cs) ds h = ap (λ (ks : List ℕ). after_notes v ks (cs ++ ds)) (place_follows_none v ns c.old c.place h.0) ∙ follows_none v ns cs ds h.1
+
+follows_parts : (v : View) (ns : List ℕ) (cs ds : List Change) → after_notes v ns (cs ++ ds) ≡ after_notes v (after_notes v ns cs) ds
+follows_parts v ns [] ds = refl
+follows_parts v ns (c ∷ cs) ds = follows_parts v (after_note v ns c.old c.place) cs ds
+
+shown_without : (i : ℕ) (v : View) (cs bs ds : List Change) → OfNoRow bs → flat_map (of_change i v) cs ++ flat_map (of_change i v) ds ≡ flat_map (of_change i v) (cs ++ (bs ++ ds))
+shown_without i v cs bs ds h = sym (
+    flat_map-append (of_change i v) cs (bs ++ ds)
+    ∙ ap (λ (fs : List Finding). flat_map (of_change i v) cs ++ fs) (flat_map-append (of_change i v) bs ds ∙ ap (λ (fs : List Finding). fs ++ flat_map (of_change i v) ds) (shows_none i v bs h)))
+
+-- a record whose first and last part were looked at, and whose middle is of no row
+pub all_shown : {V E : Type 0} (r : Result V E) (i : ℕ) (v : View) (all cs bs ds : List Change) (fs gs hs : List Finding) → all ≡ cs ++ (bs ++ ds) → OfNoRow bs → gs ≡ fs ++ flat_map (of_change i v) cs → OnOk r (hs ≡ gs ++ flat_map (of_change i v) ds)
+    → OnOk r (hs ≡ fs ++ flat_map (of_change i v) all)
+all_shown (Ok x) i v all cs bs ds fs gs hs e h g k =
+    k ∙ ap (λ (xs : List Finding). xs ++ flat_map (of_change i v) ds) g
+    ∙ append_assoc fs (flat_map (of_change i v) cs) (flat_map (of_change i v) ds)
+    ∙ ap (λ (xs : List Finding). fs ++ xs) (shown_without i v cs bs ds h ∙ ap (flat_map (of_change i v)) (sym e))
+all_shown (Err x) i v all cs bs ds fs gs hs e h g k = tt
+
+pub all_followed : {V E : Type 0} (r : Result V E) (v : View) (all cs bs ds : List Change) (ns ks now : List ℕ) → all ≡ cs ++ (bs ++ ds) → OfNoRow bs → ks ≡ after_notes v ns cs → OnOk r (now ≡ after_notes v ks ds) → OnOk r (now ≡ after_notes v ns all)
+all_followed (Ok x) v all cs bs ds ns ks now e h g k =
+    k ∙ ap (λ (xs : List ℕ). after_notes v xs ds) g ∙ sym (follows_none v (after_notes v ns cs) bs ds h) ∙ sym (follows_parts v ns cs (bs ++ ds)) ∙ ap (after_notes v ns) (sym e)
+all_followed (Err x) v all cs bs ds ns ks now e h g k = tt

@@ -1,0 +1,12 @@
+use Rattle.std.proofs.Common.{◌≡◌, ◌++◌, length}
+use Rattle.std.specs.List.{flat_map}
+use Rattle.machine.specs.Whole.{view}
+use Rattle.findings.specs.Records.{of_change, after_notes}
+use Rattle.findings.proofs.changes.look_at_changes.Given as goal
+
+abbrev pub invariant-loop-change : goal.invariant-loop-change
+invariant-loop-change l = (l.found.items ++ flat_map (of_change l.moment (view l.state)) l.rest ≡ l.fn.found.items ++ flat_map (of_change l.moment (view l.state)) l.fn.rest)
+    × (after_notes (view l.state) l.numbers.items l.rest ≡ after_notes (view l.state) l.fn.numbers.items l.fn.rest)
+
+abbrev pub decreases-loop-change : goal.decreases-loop-change
+decreases-loop-change l = length l.rest

@@ -1,0 +1,108 @@
+//! One pass over what a record names.
+ghost use Rattle.std.specs.Prelude.{◌≡◌, ◌++◌, OnOk};
+ghost use Rattle.std.specs.List.{flat_map};
+ghost use Rattle.machine.specs.Whole.{view};
+ghost use Rattle.places.specs.View.{NamesOnce};
+ghost use Rattle.findings.specs.Records.{of_place, of_change, after_note, after_notes, OfNoRow};
+
+use crate::conflicts::is_candidate;
+use crate::finding::Finding;
+use crate::following::{follow, is_candidate_in};
+use crate::leftover::row_at;
+use crate::record::{add_of_any_kind, row_in};
+use crate::times::{Times, note_row};
+use machine::State;
+use places::{Change, Changes, Place, Record, Stretches, Value};
+use std::alloc::AllocError;
+
+// Adds what a row shows that a record names, notes when it came and ended, and follows it.
+fn look_at_row(
+    found: &mut Vec<Finding>,
+    numbers: &mut Vec<u32>,
+    times: &mut Vec<Times>,
+    moment: u32,
+    number: u32,
+    old: Option<Value>,
+    state: &State,
+) -> Result<(), AllocError>
+    ensures added { OnOk result (found.new.items ≡ found.old.items
+        ++ of_place moment (view state.now) old (Place.Request number)) }
+    ensures further { OnOk result (numbers.new.items
+        ≡ after_note (view state.now) numbers.old.items old (Place.Request number)) }
+{
+    let was = is_candidate_in(old);
+    let Some(row) = row_at(state, number) else {
+        return follow(numbers, number, was, false);
+    };
+    follow(numbers, number, was, is_candidate(&row))?;
+    note_row(times, moment, number, row.phase)?;
+    let next = row_at(state, number + 1);
+    add_of_any_kind(found, moment, number, &row_in(old), &row, &next)
+}
+
+fn look_at_change(
+    found: &mut Vec<Finding>,
+    numbers: &mut Vec<u32>,
+    times: &mut Vec<Times>,
+    moment: u32,
+    change: Change,
+    state: &State,
+) -> Result<(), AllocError>
+    ensures added { OnOk result (found.new.items
+        ≡ found.old.items ++ of_change moment (view state.now) change) }
+    ensures further { OnOk result (numbers.new.items
+        ≡ after_note (view state.now) numbers.old.items change.old change.place) }
+{
+    let Place::Request(number) = change.place else {
+        return Ok(());
+    };
+    look_at_row(found, numbers, times, moment, number, change.old, state)
+}
+
+fn look_at_changes(
+    found: &mut Vec<Finding>,
+    numbers: &mut Vec<u32>,
+    times: &mut Vec<Times>,
+    moment: u32,
+    rest: &mut Changes<'_>,
+    state: &State,
+) -> Result<(), AllocError>
+    ensures added { OnOk result (found.new.items
+        ≡ found.old.items ++ flat_map (of_change moment (view state.now)) rest.old) }
+    ensures further { OnOk result (numbers.new.items
+        ≡ after_notes (view state.now) numbers.old.items rest.old) }
+{
+    while let Some(change) = rest.next() {
+        look_at_change(found, numbers, times, moment, change, state)?;
+    }
+    Ok(())
+}
+
+// Passes over bytes, none of which is a row, a run at a time.
+fn pass_over(rest: &mut Stretches<'_>)
+    ensures { OfNoRow rest.old.left }
+{
+    while let Some(_run) = rest.next() {}
+}
+
+/// Adds what an event shows of rows, by its record and the state behind it, notes when they came
+/// and ended, and follows them.
+pub(crate) fn look_at_record(
+    found: &mut Vec<Finding>,
+    numbers: &mut Vec<u32>,
+    times: &mut Vec<Times>,
+    moment: u32,
+    past: &Record,
+    state: &State,
+) -> Result<(), AllocError>
+    ensures added { OnOk result (found.new.items ≡ found.old.items
+        ++ flat_map (of_change moment (view state.now)) past.now) }
+    ensures once { OnOk result (NamesOnce past.now) }
+    ensures further { OnOk result (numbers.new.items
+        ≡ after_notes (view state.now) numbers.old.items past.now) }
+{
+    let (mut first, mut bytes, mut last) = past.parts();
+    pass_over(&mut bytes);
+    look_at_changes(found, numbers, times, moment, &mut first, state)?;
+    look_at_changes(found, numbers, times, moment, &mut last, state)
+}
