@@ -1,6 +1,7 @@
 """Calls of the program `growths`, each of whose growths is refused in turn, alone and with all later ones.
 
-Where one alone is refused a call may go on with less: a list that can't have room for twice its items asks for one more."""
+A call may go on with less: a list that can't have room for twice its items asks for one more, where that growth alone is
+refused, and a record that can't have memory of its own keeps that of its notes."""
 import re
 
 from room import Wrong, note_of, numbers_of, require
@@ -83,7 +84,7 @@ def try_situation(room, situation):
             try:
                 done, reached, _ = room.ran(situation_words(room, situation, number), "growth", how, None, given)
                 require(reached, "it was not reached")
-                if how == "one" and answers(done)[0][0] == 0:
+                if answers(done)[0][0] == 0:
                     check_unrefused(situation, done)
                 else:
                     before = check_refused(situation, done, before)
@@ -94,5 +95,5 @@ def try_situation(room, situation):
     require(not reached, f"behind growth {count} there is another")
     check_unrefused(situation, done)
     for refused in situation.refused:
-        require(any(is_one(answer, refused) for answer in met), f"no answer was {refused}")
+        require(situation.spares or any(is_one(answer, refused) for answer in met), f"no answer was {refused}")
     return runs, len(met), note_of(numbers, count)

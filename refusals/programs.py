@@ -21,6 +21,8 @@ SERVED_RUNS = 100
 ASKED = b"sync\nwhere\ngoto 0\nshow clock\nquit\n"
 ANSWERS = b"synced %s\nat 0 of %s\nat 0 of %s\n0\nbye\n"
 PATIENCE = 20
+# How often another port is tried where somebody else has taken one meanwhile, and what is told then.
+TRIES, NO_PORT = 5, b"fault net\n"
 
 
 class Job:
@@ -107,8 +109,8 @@ FIXED = (WALK, REPLAY, LOG, LOG_TRACE, TRACE, TRACE_1, MIGRATE)
 # ---- memory
 
 def refuse_growths(job):
-    """Want of memory is told by its line; what was written is a beginning, and the files are as they were. Where one growth
-    alone is refused the program may go on with less."""
+    """Want of memory is told by its line; what was written is a beginning, and the files are as they were. The program may go on
+    with less."""
     def trial(room):
         expected = Expected(job, room)
         _, _, _, count = job.run(room, "growth", "one", 0)
@@ -118,7 +120,7 @@ def refuse_growths(job):
             for number in numbers:
                 done, files, reached, _ = job.run(room, "growth", how, number)
                 require(reached, f"growth {number} of {count}, {how}, was not reached")
-                if how == "one" and expected.is_whole(done, files):
+                if expected.is_whole(done, files):
                     continue
                 fault = MEMORY if job.serves and done.stderr == MEMORY else NO_MEMORY
                 written = fault == MEMORY or job.words[0] == "log"
@@ -193,7 +195,14 @@ def answered(port):
 def served(room, number):
     """Serves a run to one client. Returns what ran, what the client was told, whether the refusal was reached, and how many
     growths were counted."""
-    port = free_port()
+    for _ in range(TRIES):
+        done, said, *counted = served_at(room, number, free_port())
+        if done.stderr != NO_PORT or done.stdout:
+            break
+    return done, said, *counted
+
+
+def served_at(room, number, port):
     words = [room.uringwalk, "serve", room.script("one_nop"), "--port", str(port), "--turns", "6", "--clients", "1"]
     env, report = room.refusing("growth", "one", number)
     with subprocess.Popen(words, stdout=subprocess.PIPE, stderr=subprocess.PIPE, env=env) as it:

@@ -154,12 +154,14 @@ def shown_places(run, memory=65536):
 
 class Situation:
     """A call of `growths` over a script: the answers to refused growths, each of which is to be met (None stands for whatever
-    is told), and what is looked at of all of them."""
+    is told), and what is looked at of all of them. One that `spares` may do without each growth: the notes of a step find the
+    room of an earlier one, and its record can keep theirs."""
 
     def __init__(self, call, over, start=0, goal=0, lines=(), refused=((1, 0),), asked=None, quiet=False, rising=False,
-                 closes=False):
+                 closes=False, spares=False):
         self.call, self.over, self.start, self.goal, self.lines = call, over, start, goal, list(lines)
         self.refused, self.asked, self.quiet, self.rising, self.closes = refused, asked, quiet, rising, closes
+        self.spares = spares
 
     @property
     def name(self):
@@ -178,7 +180,7 @@ def calls_of_states():
     for name in ("expired_guard", "full_backlog", "met_counts", "written_page", "canceled_rows"):
         yield Situation("step", name, last(name), refused=((17, 0),))
     for at in range(last("all_opcodes") + 1):
-        yield Situation("step", "all_opcodes", at, refused=((17, 0),))
+        yield Situation("step", "all_opcodes", at, refused=((17, 0),), spares=at > 0)
     for at in (0, 3, 4):
         yield Situation("step", "polled", at, refused=((17, 0),))
     for name in ("one_nop", "all_opcodes"):
@@ -196,11 +198,13 @@ def calls_of_states():
 
 
 def calls_of_walkers():
-    yield Situation("extend", "twelve_ticks", 2, 1, refused=[(2, event) for event in range(10)], rising=True)
+    # What can't be done without: the lists that grow, and copies of the state at 4, 8 and 12.
+    yield Situation("extend", "twelve_ticks", 2, 1, refused=[(2, event) for event in (0, 1, 2, 5, 6, 9)], rising=True)
     yield Situation("goto", "ticks", 9, 5, refused=((2, 0),))
     yield Situation("goto", "ticks", 10, 9, quiet=True)
     yield Situation("back", "ticks", 10, quiet=True)
-    yield Situation("on", "ticks", 9)
+    yield Situation("on", "ticks", 9, spares=True)
+    yield Situation("on", "written_page", 4)
     for at in (49, 6):
         yield Situation("rcont", "counter", at)
     yield Situation("rcont", "counter", 8, quiet=True)
@@ -232,9 +236,9 @@ def calls_of_live_runs():
     for name in ("one_nop", "all_opcodes"):
         yield Situation("open", name, refused=((3, 0),))
         for at in range(last(name) + 1):
-            yield Situation("attempt", name, at, refused=((3, 17),))
+            yield Situation("attempt", name, at, refused=((3, 17),), spares=at > 0)
     for at in range(last("one_nop") + 1):
-        yield Situation("take_offer", "one_nop", at, refused=((3, 17),))
+        yield Situation("take_offer", "one_nop", at, refused=((3, 17),), spares=at > 0)
         yield Situation("offer", "one_nop", at, quiet=True)
     yield Situation("events", "one_nop", 5)
     yield Situation("finish", "one_nop", quiet=True)
