@@ -1,6 +1,7 @@
 //! What the program is asked for, by its words.
 #![tactic(auto)]
 
+mod table;
 mod task;
 mod words;
 

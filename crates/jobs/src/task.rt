@@ -1,7 +1,7 @@
 //! What the program is asked for.
 
 /// The form of a trace.
-#[derive(Clone, Copy, Debug, PartialEq, Eq)]
+#[derive(Clone, Copy)]
 pub enum Form {
     /// The first: the events alone.
     Events,
@@ -10,7 +10,7 @@ pub enum Form {
 }
 
 /// What the words ask for. Files are named by their paths.
-#[derive(Clone, Copy, Debug)]
+#[derive(Clone, Copy)]
 pub enum Job<'a> {
     /// A session over the script in this file.
     Walk(&'a str),
