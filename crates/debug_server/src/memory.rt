@@ -8,6 +8,7 @@ ghost use Rattle.debug_server.specs.Kinds.{IsOf, OfScript, OfSchedule, OfServing
 ghost use Rattle.debug_server.specs.Lines.{lines_of};
 ghost use Rattle.debug_server.specs.Transcripts.{unanswered, output};
 ghost use Rattle.debug_server.specs.Schedules.{state_over};
+ghost use Rattle.debug_server.specs.declared.faults.ServeFault.{ServeFault};
 ghost use Rattle.debug_server.specs.declared.faults.ServeFault.TheVariants.{Closed};
 
 use crate::faults::RunFault;
@@ -28,6 +29,9 @@ pub fn replies(alloc: Global, script: &[u8], input: &[u8]) -> Result<Vec<u8>, Ru
         → Reads script.now (Err f)) }
     ensures schedule { IfErr result (λ e. (i : ℕ) → (n : Refusal) → e ≡ RunFault.Schedule i n
         → (p : Scenario) × Reads script.now (Ok p) × IsRefused p.setup p.schedule i n) }
+    // A fault of serving is met only once the whole schedule has run.
+    ensures begins { IfErr result (λ e. (f : ServeFault) → e ≡ RunFault.Serve f
+        → (p : Scenario) × Reads script.now (Ok p) × Accepts (start p.setup) p.schedule) }
     ensures other { IfErr result (IsOf (OfScript ∷ OfSchedule ∷ OfServing ∷ OfMemory ∷ [])) }
     ensures open { result ≢ Err (RunFault.Serve Closed) }
 {
