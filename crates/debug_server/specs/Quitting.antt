@@ -1,4 +1,4 @@
--- Which command ends a session.
+-- Which command ends a session. No public contract cites it.
 use Rattle.std.specs.Prelude.{Bool, true, false, Result, Ok}
 use Rattle.debug_server.specs.declared.commands.command.Command.{Command}
 use Rattle.debug_server.specs.declared.commands.command.Command.TheVariants.{Quit}

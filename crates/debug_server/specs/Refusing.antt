@@ -1,4 +1,4 @@
--- What is told of events that could not be added.
+-- What is told of events that could not be added. No public contract cites it.
 use Rattle.std.specs.Prelude.{◌≡◌, ℕ, ◌+◌, List}
 use Rattle.scenario.specs.declared.event.Refusal.TheVariants as refusal
 use Rattle.inverse_log.specs.declared.refusal.ExtendRefusal.{ExtendRefusal}

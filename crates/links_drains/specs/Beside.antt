@@ -1,4 +1,4 @@
--- Numbers that one set has and another doesn't.
+-- Numbers that one set has and another doesn't. No public contract cites it.
 use Rattle.std.specs.Prelude.{◌≡◌, ℕ, Bool, true, false, not, ◌&&◌, List, ◌≤◌, ◌<◌}
 use Rattle.links_drains.specs.Sets.{has}
 

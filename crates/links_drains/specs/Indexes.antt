@@ -1,4 +1,4 @@
--- What the sets and thresholds beside the rows have.
+-- What the sets and thresholds beside the rows have. No public contract cites it.
 use Rattle.std.specs.Prelude.{◌≡◌, ◌≢◌, ℕ, ◌*◌, ◌≤◌, ◌<◌, false, List, length}
 use Rattle.entries.specs.declared.row.Row.{Row}
 use Rattle.links_drains.specs.Counts.{never, threshold_in}

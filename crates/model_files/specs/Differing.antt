@@ -1,4 +1,4 @@
--- Bytes that differ from those that are to stand in their places, and notes of them.
+-- Bytes that differ from those that are to stand in their places, and notes of them. No public contract cites it.
 use Rattle.std.specs.Prelude.{◌≡◌, ◌≢◌, ℕ, ◌+◌, ◌-◌, ◌≤◌, ◌<◌, ◌⊎◌, None, slice_get, List, length}
 use Rattle.places.specs.declared.place.Place.{Place}
 use Rattle.places.specs.declared.notes.runs.Region.{Region}

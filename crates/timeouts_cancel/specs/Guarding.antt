@@ -1,4 +1,4 @@
--- The guards of listed rows, one after the other.
+-- The guards of listed rows, one after the other. No public contract cites it.
 use Rattle.std.specs.Prelude.{◌≡◌, ℕ, ◌+◌, ◌<◌, ◌≤◌, ◌==◌, Bool, false, ◌&&◌, Some, slice_get, List}
 use Rattle.std.specs.Option.{option_map_or}
 use Rattle.entries.specs.declared.row.Row.{Row}

@@ -1,4 +1,4 @@
--- How far two lists of endings have been put together.
+-- How far two lists of endings have been put together. No public contract cites it.
 use Rattle.std.specs.Prelude.{◌≡◌, ℕ, ◌<◌, ◌≤◌, ◌⊎◌, Some, slice_get, List}
 use Rattle.entries.specs.declared.row.Row.{Row}
 use Rattle.links_drains.specs.Endings.{Ending, result_in, or_else}

@@ -1,4 +1,4 @@
--- How far a walk over the rows that fall has come.
+-- How far a walk over the rows that fall has come. No public contract cites it.
 use Rattle.std.specs.Prelude.{◌≡◌, ℕ, ℤ, ◌<◌, ◌≤◌, true, Option, Some, slice_get, List, take}
 use Rattle.entries.specs.declared.row.Row.{Row}
 use Rattle.links_drains.specs.Links.{is_soft_linked}

@@ -1,4 +1,4 @@
--- The ranges that reading and writing test the values of a setup for, together what `setup_refusal` says.
+-- The ranges that reading and writing test the values of a setup for, together what `setup_refusal` says. Public contracts say that alone.
 use Rattle.std.specs.Prelude.{◌≡◌, ℕ, ◌+◌, ◌-◌, ◌<◌, ◌^◌, Bool, true, false, not, ◌&&◌, ◌||◌, ◌==◌, nat_lt, nat_le, FitsSigned, List, [], ◌∷◌, ◌++◌, length, slice_get, Option, Some, None}
 use Rattle.std.specs.List.{list_all, list_any, AllByRecursion}
 use Rattle.std.specs.Int.{w32}
