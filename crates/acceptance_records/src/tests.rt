@@ -5,14 +5,17 @@ mod keeping;
 mod runs;
 mod searches;
 mod setups;
+mod starts;
 mod traces_again;
 mod units;
 
 use inverse_log::Walker;
-use machine::{Event, State};
+use machine::{Event, Setup, State};
 use opcodes::Choice;
+use places::Items;
 use script::{Script, read_script};
 use std::alloc::Global;
+use std::process::Abort;
 use std::test::Fail;
 
 /// One NOP with user_data 7, which a thread puts, pushes, enters and reaps.
@@ -41,6 +44,25 @@ const TWO_REQUESTS: [Event; 9] = [
     Event::Issue(1),
     Event::Finish(1, Choice::Full),
 ];
+
+fn check(rt: &impl Abort, holds: bool) {
+    assert!(rt; holds);
+}
+
+// A setup without threads.
+fn quiet(alloc: Global) -> Setup {
+    Setup {
+        entries: 1,
+        cq: None,
+        sqpoll: false,
+        submit_all: false,
+        base: 0,
+        memory: Items::new(alloc),
+        objects: Items::new(alloc),
+        fds: Items::new(alloc),
+        threads: Items::new(alloc),
+    }
+}
 
 fn state_over(alloc: Global, script: &Script) -> Result<State, Fail> {
     Ok(State::new(alloc, script.setup())?)

@@ -1,10 +1,10 @@
 //! How many steps jumps make.
 
+use crate::tests::{check, quiet};
 use inverse_log::{WalkRefusal, Walker};
-use machine::{Event, Setup, SetupRefusal};
-use places::{Items, Place, Value};
+use machine::{Event, SetupRefusal};
+use places::{Place, Value};
 use std::alloc::Global;
-use std::process::Abort;
 use std::test::Fail;
 
 /// An event of a run, at each of which the clock goes on by one.
@@ -23,20 +23,6 @@ const RUNS: [(u32, &[&[Event]], &[(usize, u64)]); 3] = [
     (256, &[&[TICK; 10]], &[(7, 3), (5, 5), (6, 6)]),
 ];
 
-fn quiet(alloc: Global) -> Setup {
-    Setup {
-        entries: 1,
-        cq: None,
-        sqpoll: false,
-        submit_all: false,
-        base: 0,
-        memory: Items::new(alloc),
-        objects: Items::new(alloc),
-        fds: Items::new(alloc),
-        threads: Items::new(alloc),
-    }
-}
-
 fn walker_with(alloc: Global, window: u32) -> Result<Walker, SetupRefusal> {
     Walker::with(alloc, &quiet(alloc), 4, window)
 }
@@ -48,58 +34,52 @@ fn clock(walker: &Walker) -> Option<u64> {
     }
 }
 
-fn check_jump(
-    rt: &impl Abort,
-    walker: &mut Walker,
-    moment: usize,
-    walked: u64,
-) -> Result<(), Fail> {
+// Whether a jump leads to its moment, and all of them have made so many steps.
+fn is_jump(walker: &mut Walker, moment: usize, walked: u64) -> Result<bool, Fail> {
     walker.goto(moment)?;
-    assert_eq!(rt; walker.walked(), walked, "at {moment}");
-    assert_eq!(rt; clock(walker), Some(moment as u64));
-    Ok(())
+    Ok(walker.walked() == walked && clock(walker) == Some(moment as u64))
 }
 
-// Single steps are not counted, nor is a jump that is refused.
-fn check_free(rt: &impl Abort, walker: &mut Walker, walked: u64) -> Result<(), Fail> {
-    let (at, len) = (walker.at(), walker.len());
-    assert!(rt; walker.back());
-    assert!(rt; walker.on()?);
-    assert_eq!(rt; walker.goto(len + 1), Err(WalkRefusal::NoSuchMoment));
-    assert_eq!(rt; (walker.at(), walker.walked()), (at, walked));
-    Ok(())
+// Whether single steps are not counted, nor a jump that is refused.
+fn is_free(walker: &mut Walker) -> Result<bool, Fail> {
+    let (at, len, walked) = (walker.at(), walker.len(), walker.walked());
+    let moved = walker.back() && walker.on()?;
+    let refused = walker.goto(len + 1) == Err(WalkRefusal::NoSuchMoment);
+    Ok(moved && refused && walker.at() == at && walker.walked() == walked)
 }
 
-fn check_jumps(
-    rt: &impl Abort,
-    walker: &mut Walker,
-    parts: &[&[Event]],
-    jumps: &[(usize, u64)],
-) -> Result<(), Fail> {
+fn extend_by(walker: &mut Walker, parts: &[&[Event]]) -> Result<(), Fail> {
     for part in parts {
         walker.extend(part)?;
     }
-    for (moment, walked) in jumps {
-        check_jump(rt, walker, *moment, *walked)?;
-    }
-    let (_, walked) = jumps.last().ok_or("no jump")?;
-    check_free(rt, walker, *walked)
+    Ok(())
 }
 
-fn check_run(
-    rt: &(impl Abort + AllocGlobal),
+fn are_jumps(walker: &mut Walker, jumps: &[(usize, u64)]) -> Result<bool, Fail> {
+    for (moment, walked) in jumps {
+        if !is_jump(walker, *moment, *walked)? {
+            return Ok(false);
+        }
+    }
+    is_free(walker)
+}
+
+fn is_run(
+    alloc: Global,
     window: u32,
     parts: &[&[Event]],
     jumps: &[(usize, u64)],
-) -> Result<(), Fail> {
-    let mut walker = walker_with(rt.alloc(), window)?;
-    check_jumps(rt, &mut walker, parts, jumps)
+) -> Result<bool, Fail> {
+    let mut walker = walker_with(alloc, window)?;
+    extend_by(&mut walker, parts)?;
+    are_jumps(&mut walker, jumps)
 }
 
 #[test]
 fn jumps_count_their_steps(rt: HostRuntime) -> Result<(), Fail> {
     for (window, parts, jumps) in RUNS {
-        check_run(&rt, window, parts, jumps)?;
+        let counted = is_run(rt.alloc(), window, parts, jumps)?;
+        check(&rt, counted);
     }
     Ok(())
 }

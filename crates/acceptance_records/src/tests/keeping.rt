@@ -1,9 +1,8 @@
 //! How many bytes records keep.
 
-use crate::tests::{ONE_NOP, REQUEST_AND_STEP, TWO_REQUESTS, state_of};
+use crate::tests::{ONE_NOP, REQUEST_AND_STEP, TWO_REQUESTS, check, state_of};
 use machine::{Event, State};
 use std::alloc::{AllocError, Global};
-use std::process::Abort;
 use std::test::Fail;
 
 /// What a record keeps that names nothing.
@@ -58,45 +57,68 @@ fn digits(alloc: Global, first: &str, next: &str, times: usize) -> Result<String
     Ok(digits)
 }
 
-// A thread stores bytes over zeros.
-fn check_stores(rt: &(impl Abort + AllocGlobal)) -> Result<(), Fail> {
-    for (first, next, times, most) in STORED {
-        let bytes = digits(rt.alloc(), first, next, times)?;
-        let script = format!(in rt.alloc();
-            r#"{{"entries":1,"threads":[[["store",0,"{bytes}"]]],"schedule":[]}}"#
-        )?;
-        let kept = kept(rt.alloc(), script.as_str(), &[Event::Step(0)])?;
-        assert!(rt;
-            kept <= BESIDE.saturating_add(most),
-            "{kept} bytes of {first}{next}"
-        );
-    }
-    Ok(())
+// The script of a thread that stores some bytes.
+fn storing(alloc: Global, bytes: &str) -> Result<String, AllocError> {
+    format!(in alloc; r#"{{"entries":1,"threads":[[["store",0,"{bytes}"]]],"schedule":[]}}"#)
 }
 
-// A file of zeros is written, and brought to the device.
-fn check_syncs(rt: &(impl Abort + AllocGlobal)) -> Result<(), Fail> {
-    for (first, next, times, most) in SYNCED {
-        let bytes = digits(rt.alloc(), first, next, times)?;
-        let script = format!(in rt.alloc();
-            r#"{{"entries":2,"memory":[[0,"{bytes}"]],"objects":[{{"name":"f","file":""}}],"fds":["f"],"threads":[[["put",0,{{"op":23,"fd":3,"len":65536,"ud":1}}],["push",0],["put",1,{{"op":3,"fd":3,"ud":2}}],["push",1],["enter",2,0,0]]],"schedule":[]}}"#
-        )?;
-        let kept = kept(rt.alloc(), script.as_str(), &TWO_REQUESTS)?;
-        assert!(rt;
-            kept <= BESIDE.saturating_add(most),
-            "{kept} bytes of {first}{next}"
-        );
+// The script of a file of zeros over which some bytes are written, and brought to the device.
+fn syncing(alloc: Global, bytes: &str) -> Result<String, AllocError> {
+    format!(in alloc;
+        r#"{{"entries":2,"memory":[[0,"{bytes}"]],"objects":[{{"name":"f","file":""}}],"fds":["f"],"threads":[[["put",0,{{"op":23,"fd":3,"len":65536,"ud":1}}],["push",0],["put",1,{{"op":3,"fd":3,"ud":2}}],["push",1],["enter",2,0,0]]],"schedule":[]}}"#
+    )
+}
+
+// What is kept of a store of bytes over zeros.
+fn kept_of_store(alloc: Global, bytes: &str) -> Result<usize, Fail> {
+    let script = storing(alloc, bytes)?;
+    kept(alloc, script.as_str(), &[Event::Step(0)])
+}
+
+// What is kept of bringing bytes to the device.
+fn kept_of_sync(alloc: Global, bytes: &str) -> Result<usize, Fail> {
+    let script = syncing(alloc, bytes)?;
+    kept(alloc, script.as_str(), &TWO_REQUESTS)
+}
+
+fn is_store_little(alloc: Global, stored: (&str, &str, usize, usize)) -> Result<bool, Fail> {
+    let (first, next, times, most) = stored;
+    let bytes = digits(alloc, first, next, times)?;
+    Ok(kept_of_store(alloc, bytes.as_str())? <= BESIDE.saturating_add(most))
+}
+
+fn is_sync_little(alloc: Global, synced: (&str, &str, usize, usize)) -> Result<bool, Fail> {
+    let (first, next, times, most) = synced;
+    let bytes = digits(alloc, first, next, times)?;
+    Ok(kept_of_sync(alloc, bytes.as_str())? <= BESIDE.saturating_add(most))
+}
+
+fn are_bytes_little(alloc: Global) -> Result<bool, Fail> {
+    for stored in STORED {
+        if !is_store_little(alloc, stored)? {
+            return Ok(false);
+        }
     }
-    Ok(())
+    for synced in SYNCED {
+        if !is_sync_little(alloc, synced)? {
+            return Ok(false);
+        }
+    }
+    Ok(true)
+}
+
+fn are_events_little(alloc: Global) -> Result<bool, Fail> {
+    let tick = kept(alloc, ONE_NOP, &[Event::Tick(0)])?;
+    let finish = kept(alloc, ONE_NOP, &REQUEST_AND_STEP[..5])?;
+    let write = kept(alloc, PAGE_WRITTEN_AND_READ, &TWO_REQUESTS[..7])?;
+    let read = kept(alloc, PAGE_WRITTEN_AND_READ, &TWO_REQUESTS)?;
+    Ok(tick == LEAST && finish > 200 && finish <= BESIDE && write <= 512 && read <= 512)
 }
 
 #[test]
 fn records_keep_little(rt: HostRuntime) -> Result<(), Fail> {
-    assert_eq!(rt; kept(rt.alloc(), ONE_NOP, &[Event::Tick(0)])?, LEAST);
-    let finish = kept(rt.alloc(), ONE_NOP, &REQUEST_AND_STEP[..5])?;
-    assert!(rt; finish > 200 && finish <= BESIDE);
-    assert!(rt; kept(rt.alloc(), PAGE_WRITTEN_AND_READ, &TWO_REQUESTS[..7])? <= 512);
-    assert!(rt; kept(rt.alloc(), PAGE_WRITTEN_AND_READ, &TWO_REQUESTS)? <= 512);
-    check_stores(&rt)?;
-    check_syncs(&rt)
+    let events = are_events_little(rt.alloc())?;
+    let bytes = are_bytes_little(rt.alloc())?;
+    check(&rt, events && bytes);
+    Ok(())
 }

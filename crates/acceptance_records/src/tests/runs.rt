@@ -1,12 +1,11 @@
 //! A run whose steps are all undone.
 ghost use Rattle.std.specs.Prelude.{◌≡◌, length, OnOk};
 
-use crate::tests::{ONE_NOP, REQUEST_AND_STEP, walker_of};
+use crate::tests::{ONE_NOP, REQUEST_AND_STEP, check, walker_of};
 use inverse_log::Walker;
 use machine::State;
 use places::{Place, Value};
 use std::alloc::Global;
-use std::process::Abort;
 use std::test::Fail;
 
 fn number(state: &State, place: Place) -> Option<u64> {
@@ -34,22 +33,22 @@ fn unwound(alloc: Global, walker: &Walker) -> Result<State, Fail>
     Ok(state)
 }
 
-fn check_start(rt: &impl Abort, state: &State) {
-    assert_eq!(rt; number(state, Place::CompletionHead), Some(0));
-    assert_eq!(rt; number(state, Place::ProgramCounter(0)), Some(0));
-    assert!(rt; state.value(Place::Request(0)).is_none());
+fn is_start(state: &State) -> bool {
+    number(state, Place::CompletionHead) == Some(0)
+        && number(state, Place::ProgramCounter(0)) == Some(0)
+        && state.value(Place::Request(0)).is_none()
 }
 
-fn check_unwinding(rt: &(impl Abort + AllocGlobal), walker: &mut Walker) -> Result<(), Fail> {
+fn is_unwound(alloc: Global, walker: &mut Walker) -> Result<bool, Fail> {
     go_to_the_end(walker)?;
-    assert_eq!(rt; number(walker.state(), Place::CompletionHead), Some(1));
-    let state = unwound(rt.alloc(), walker)?;
-    check_start(rt, &state);
-    Ok(())
+    let state = unwound(alloc, walker)?;
+    Ok(number(walker.state(), Place::CompletionHead) == Some(1) && is_start(&state))
 }
 
 #[test]
 fn runs_are_unwound(rt: HostRuntime) -> Result<(), Fail> {
     let mut walker = walker_of(rt.alloc(), ONE_NOP)?;
-    check_unwinding(&rt, &mut walker)
+    let unwound = is_unwound(rt.alloc(), &mut walker)?;
+    check(&rt, unwound);
+    Ok(())
 }

@@ -1,11 +1,10 @@
 //! How many steps searches back make.
 
-use crate::tests::{TWO_REQUESTS, walker_of};
+use crate::tests::{TWO_REQUESTS, check, walker_of};
 use inverse_log::Walker;
 use machine::Event;
 use places::Place;
 use std::alloc::{AllocError, Global};
-use std::process::Abort;
 use std::test::Fail;
 use watches::{Stop, Watches, rcont};
 
@@ -28,24 +27,28 @@ fn walk_behind_ticks(walker: &mut Walker) -> Result<(), Fail> {
     Ok(())
 }
 
+// Whether a search back ends at a stop, and makes so many steps.
+fn is_found(walker: &mut Walker, watches: &Watches, stop: Stop, steps: u64) -> Result<bool, Fail> {
+    let before = walker.walked();
+    let found = rcont(walker, watches)?;
+    Ok(found == stop && walker.walked().wrapping_sub(before) == steps)
+}
+
 // The counter changes at the moments 7 and 9. A search makes the steps of its jump alone.
-fn check_searches(rt: &impl Abort, walker: &mut Walker, watches: &Watches) -> Result<(), Fail> {
+fn are_found(walker: &mut Walker, watches: &Watches) -> Result<bool, Fail> {
     walk_behind_ticks(walker)?;
-    for (stop, steps) in [
-        (Stop::Change(8), 41),
-        (Stop::Change(6), 2),
-        (Stop::Start, 6),
-    ] {
-        let before = walker.walked();
-        assert_eq!(rt; rcont(walker, watches)?, stop);
-        assert_eq!(rt; walker.walked().wrapping_sub(before), steps);
-    }
-    Ok(())
+    Ok(
+        is_found(walker, watches, Stop::Change(8), 41)?
+            && is_found(walker, watches, Stop::Change(6), 2)?
+            && is_found(walker, watches, Stop::Start, 6)?,
+    )
 }
 
 #[test]
 fn searches_back_make_few_steps(rt: HostRuntime) -> Result<(), Fail> {
     let watches = counter_watched(rt.alloc())?;
     let mut walker = walker_of(rt.alloc(), COUNTER_ADDED_AND_READ)?;
-    check_searches(&rt, &mut walker, &watches)
+    let found = are_found(&mut walker, &watches)?;
+    check(&rt, found);
+    Ok(())
 }

@@ -1,8 +1,8 @@
 //! Traces of the second form that are cut and changed.
 
+use crate::tests::check;
 use crate::tests::traces_again::{EVERY_KIND, ONE_NOP_2, WHOLE};
 use std::alloc::{AllocError, Global};
-use std::process::Abort;
 use std::test::Fail;
 use traces::{TraceFault, read_trace2, write_trace2};
 
@@ -105,32 +105,31 @@ fn changed(alloc: Global, trace: &[u8], place: usize, bytes: &[u8]) -> Result<Ve
     Ok(changed)
 }
 
-fn check_changes(
-    rt: &(impl Abort + AllocGlobal),
-    trace: &[u8],
-    changes: &[Change],
-) -> Result<(), Fail> {
-    for (place, bytes, fault, offset) in changes {
-        let changed = changed(rt.alloc(), trace, *place, bytes)?;
-        assert_eq!(rt;
-            fault_of(rt.alloc(), &changed),
-            (*fault, *offset),
-            "{bytes:?} at {place}"
-        );
-    }
-    Ok(())
+// Whether a trace that was changed has its fault.
+fn has_fault(alloc: Global, trace: &[u8], change: &Change) -> Result<bool, Fail> {
+    let (place, bytes, fault, offset) = *change;
+    let changed = changed(alloc, trace, place, bytes)?;
+    Ok(fault_of(alloc, &changed) == (fault, offset))
 }
 
-// Each proper beginning of a trace is cut.
-fn check_beginnings(rt: &(impl Abort + AllocGlobal), trace: &[u8]) {
-    assert_eq!(rt; fault_of(rt.alloc(), trace), (0, 0));
-    for length in 0..trace.len() {
-        assert_eq!(rt;
-            fault_of(rt.alloc(), &trace[..length]),
-            (2, 0),
-            "{length} bytes"
-        );
+// Whether each change of a trace is told by its fault.
+fn are_told(alloc: Global, trace: &[u8], changes: &[Change]) -> Result<bool, Fail> {
+    for change in changes {
+        if !has_fault(alloc, trace, change)? {
+            return Ok(false);
+        }
     }
+    Ok(true)
+}
+
+// Whether a trace is sound, and each proper beginning of it is cut.
+fn is_cut_short(alloc: Global, trace: &[u8]) -> bool {
+    for length in 0..trace.len() {
+        if fault_of(alloc, &trace[..length]) != (2, 0) {
+            return false;
+        }
+    }
+    fault_of(alloc, trace) == (0, 0)
 }
 
 // A file, a pipe and an eventfd in turn, with names of two letters.
@@ -197,17 +196,27 @@ fn written_again(alloc: Global, bytes: &[u8]) -> Result<Vec<u8>, TraceFault> {
     Ok(write_trace2(alloc, &setup, &events)?)
 }
 
+// Whether the full trace is as long as it should be, is written as it was read, and is cut short
+// anywhere.
+fn is_full_sound(alloc: Global) -> Result<bool, Fail> {
+    let full = full_trace(alloc)?;
+    let again = written_again(alloc, &full)?;
+    Ok(full.len() == 1470 && again.as_slice() == full.as_slice() && is_cut_short(alloc, &full))
+}
+
+// Whether the small traces are cut short anywhere, and the full one is sound.
+fn are_sound(alloc: Global) -> Result<bool, Fail> {
+    let small = is_cut_short(alloc, &SMALLEST)
+        && is_cut_short(alloc, &ONE_NOP_2)
+        && is_cut_short(alloc, &WHOLE);
+    Ok(is_full_sound(alloc)? && small)
+}
+
 #[test]
 fn beginnings_and_changed_bytes_of_setups(rt: HostRuntime) -> Result<(), Fail> {
-    check_changes(&rt, &SMALLEST, &SIZES)?;
-    check_changes(&rt, &WHOLE, &CHANGES)?;
-    let full = full_trace(rt.alloc())?;
-    assert_eq!(rt; full.len(), 1470);
-    let again = written_again(rt.alloc(), &full)?;
-    assert!(rt; again.as_slice() == full.as_slice());
-    check_beginnings(&rt, &SMALLEST);
-    check_beginnings(&rt, &ONE_NOP_2);
-    check_beginnings(&rt, &WHOLE);
-    check_beginnings(&rt, &full);
+    let sizes = are_told(rt.alloc(), &SMALLEST, &SIZES)?;
+    let others = are_told(rt.alloc(), &WHOLE, &CHANGES)?;
+    let sound = are_sound(rt.alloc())?;
+    check(&rt, sizes && others && sound);
     Ok(())
 }

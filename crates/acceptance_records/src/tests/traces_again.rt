@@ -2,10 +2,10 @@
 ghost use Rattle.std.specs.Prelude.{◌≡◌, None};
 ghost use Rattle.machine.specs.Runs.{setup_refusal};
 
+use crate::tests::check;
 use machine::{Event, Setup};
 use opcodes::Choice;
 use std::alloc::Global;
-use std::process::Abort;
 use std::test::Fail;
 use traces::laws::{events_again, setup_and_events_again};
 use traces::{TraceFault, migrate, read_trace, read_trace2, write_trace, write_trace2};
@@ -57,8 +57,8 @@ pub const WHOLE: [u8; 220] = [
 /// The events of that trace.
 const WHOLE_EVENTS: [Event; 2] = [Event::Step(0), Event::Tick(5)];
 
-// Events of each kind but those of one NOP are written, and read again.
-fn check_every_kind(rt: &(impl Abort + AllocGlobal)) -> Result<(), Fail> {
+// Whether events of each kind but those of one NOP are written, and read again.
+fn is_every_kind_again(alloc: Global) -> Result<bool, Fail> {
     let events = [
         Event::Take(258),
         Event::Sleep,
@@ -67,65 +67,76 @@ fn check_every_kind(rt: &(impl Abort + AllocGlobal)) -> Result<(), Fail> {
         Event::Expire(4_294_967_295),
         Event::Tick(18_446_744_073_709_551_615),
     ];
-    let trace = write_trace(rt.alloc(), &events)?;
-    assert_eq!(rt; trace.as_slice(), EVERY_KIND.as_slice());
-    let again = events_again(rt.alloc(), &events)?;
-    assert_eq!(rt; again.as_slice(), events.as_slice());
-    Ok(())
+    let trace = write_trace(alloc, &events)?;
+    let again = events_again(alloc, &events)?;
+    Ok(trace.as_slice() == EVERY_KIND.as_slice() && again.as_slice() == events.as_slice())
 }
 
-fn check_setup(rt: &impl Abort, setup: &Setup) {
-    assert_eq!(rt;
-        (setup.entries, setup.cq, setup.base),
-        (4, Some(8), 0x0102_0304)
-    );
-    assert!(rt; setup.sqpoll && setup.submit_all);
-    assert_eq!(rt; setup.memory.as_slice(), [0, 7, 9].as_slice());
-    assert_eq!(rt;
-        (setup.objects.len(), setup.fds.len(), setup.threads.len()),
-        (3, 4, 2)
-    );
+// Whether a setup is that of the whole trace.
+fn is_whole(setup: &Setup) -> bool {
+    setup.entries == 4
+        && setup.cq == Some(8)
+        && setup.base == 0x0102_0304
+        && setup.sqpoll
+        && setup.submit_all
+        && setup.memory.as_slice() == [0, 7, 9].as_slice()
+        && setup.objects.len() == 3
+        && setup.fds.len() == 4
+        && setup.threads.len() == 2
 }
 
-// A setup and its events are written, and read again.
-fn check_again(rt: &(impl Abort + AllocGlobal), setup: &Setup) -> Result<(), Fail>
+// Whether a setup and its events are written as the whole trace.
+fn is_written(alloc: Global, setup: &Setup) -> Result<bool, Fail>
     requires { setup_refusal setup.now ≡ None }
 {
-    let trace = write_trace2(rt.alloc(), setup, &WHOLE_EVENTS)?;
-    assert_eq!(rt; trace.as_slice(), WHOLE.as_slice());
-    let (again, events) = setup_and_events_again(rt.alloc(), setup, &WHOLE_EVENTS)?;
-    check_setup(rt, &again);
-    assert_eq!(rt; events.as_slice(), WHOLE_EVENTS.as_slice());
-    Ok(())
+    let trace = write_trace2(alloc, setup, &WHOLE_EVENTS)?;
+    Ok(trace.as_slice() == WHOLE.as_slice())
 }
 
-fn check_whole(rt: &(impl Abort + AllocGlobal)) -> Result<(), Fail> {
-    let (setup, events) = read_trace2(rt.alloc(), &WHOLE)?;
-    assert_eq!(rt; events.as_slice(), WHOLE_EVENTS.as_slice());
-    check_again(rt, &setup)
-}
-
-// A trace of the first form is migrated behind a setup, one of the second is refused.
-fn check_migrations(rt: &(impl Abort + AllocGlobal), setup: &Setup) -> Result<(), Fail>
+// Whether they are read again.
+fn is_read_again(alloc: Global, setup: &Setup) -> Result<bool, Fail>
     requires { setup_refusal setup.now ≡ None }
 {
-    let migrated = migrate(rt.alloc(), setup, &ONE_NOP)?;
-    assert_eq!(rt; migrated.as_slice(), ONE_NOP_2.as_slice());
-    let other = migrate(rt.alloc(), setup, &ONE_NOP_2).err();
-    assert!(rt; matches!(other, Some(TraceFault::Magic)));
-    Ok(())
+    let (again, events) = setup_and_events_again(alloc, setup, &WHOLE_EVENTS)?;
+    Ok(is_whole(&again) && events.as_slice() == WHOLE_EVENTS.as_slice())
 }
 
-fn check_migrating(rt: &(impl Abort + AllocGlobal)) -> Result<(), Fail> {
-    let (setup, _events) = read_trace2(rt.alloc(), &ONE_NOP_2)?;
-    check_migrations(rt, &setup)
+fn is_whole_again(alloc: Global) -> Result<bool, Fail> {
+    let (setup, events) = read_trace2(alloc, &WHOLE)?;
+    Ok(
+        events.as_slice() == WHOLE_EVENTS.as_slice()
+            && is_written(alloc, &setup)?
+            && is_read_again(alloc, &setup)?,
+    )
+}
+
+// Whether a trace of the first form is migrated behind a setup.
+fn is_migrated(alloc: Global, setup: &Setup) -> Result<bool, Fail>
+    requires { setup_refusal setup.now ≡ None }
+{
+    let migrated = migrate(alloc, setup, &ONE_NOP)?;
+    Ok(migrated.as_slice() == ONE_NOP_2.as_slice())
+}
+
+// Whether one of the second form is refused.
+fn is_refused(alloc: Global, setup: &Setup) -> bool
+    requires { setup_refusal setup.now ≡ None }
+{
+    matches!(migrate(alloc, setup, &ONE_NOP_2), Err(TraceFault::Magic))
+}
+
+fn is_one_nop_migrated(alloc: Global) -> Result<bool, Fail> {
+    let (setup, _events) = read_trace2(alloc, &ONE_NOP_2)?;
+    Ok(is_migrated(alloc, &setup)? && is_refused(alloc, &setup))
 }
 
 #[test]
 fn traces_are_written_and_read_again(rt: HostRuntime) -> Result<(), Fail> {
-    check_every_kind(&rt)?;
-    check_whole(&rt)?;
-    check_migrating(&rt)
+    let first = is_every_kind_again(rt.alloc())?;
+    let second = is_whole_again(rt.alloc())?;
+    let migrated = is_one_nop_migrated(rt.alloc())?;
+    check(&rt, first && second && migrated);
+    Ok(())
 }
 
 // The number of a trace's fault, 0 for none.
@@ -136,16 +147,14 @@ fn fault_number(alloc: Global, bytes: &[u8]) -> u32 {
     }
 }
 
-// Each proper beginning of a trace is cut.
-fn check_beginnings(rt: &(impl Abort + AllocGlobal), trace: &[u8]) {
-    assert_eq!(rt; fault_number(rt.alloc(), trace), 0);
+// Whether a trace is sound, and each proper beginning of it is cut.
+fn is_cut_short(alloc: Global, trace: &[u8]) -> bool {
     for length in 0..trace.len() {
-        assert_eq!(rt;
-            fault_number(rt.alloc(), &trace[..length]),
-            2,
-            "{length} bytes"
-        );
+        if fault_number(alloc, &trace[..length]) != 2 {
+            return false;
+        }
     }
+    fault_number(alloc, trace) == 0
 }
 
 // How often each number is met where one byte of a trace is another.
@@ -165,8 +174,12 @@ fn changed_bytes(alloc: Global) -> [usize; 9] {
 // Of 108 bytes eight begin the trace, four count its events, and six times three must be zero.
 #[test]
 fn beginnings_and_changed_bytes(rt: HostRuntime) {
-    check_beginnings(&rt, &NO_EVENTS);
-    check_beginnings(&rt, &ONE_NOP);
-    check_beginnings(&rt, &EVERY_KIND);
-    assert!(rt; changed_bytes(rt.alloc()) == [28, 8, 2, 2, 6, 62, 0, 0, 0]);
+    let alloc = rt.alloc();
+    let cut = is_cut_short(alloc, &NO_EVENTS)
+        && is_cut_short(alloc, &ONE_NOP)
+        && is_cut_short(alloc, &EVERY_KIND);
+    check(
+        &rt,
+        cut && changed_bytes(alloc) == [28, 8, 2, 2, 6, 62, 0, 0, 0],
+    );
 }

@@ -1,0 +1,37 @@
+//! Setups that a run can't start from.
+
+use crate::tests::{check, quiet};
+use machine::Setup;
+use places::Items;
+use scenario::{Instruction, SetupRefusal, setup_refusal};
+use std::alloc::{AllocError, Global};
+
+// A setup whose only thread stores two bytes from an address on.
+fn storing(alloc: Global, address: u32) -> Result<Setup, AllocError> {
+    let mut bytes = Vec::new(alloc);
+    bytes.extend_from_slice(&[1, 2])?;
+    let mut program = Vec::new(alloc);
+    program.push(Instruction::Store(address, Items::of(bytes)))?;
+    let mut threads = Vec::new(alloc);
+    threads.push(Items::of(program))?;
+    let mut setup = quiet(alloc);
+    setup.threads = Items::of(threads);
+    Ok(setup)
+}
+
+// A store reaches to the end of memory at most. Ring sizes are told before that.
+fn are_refused(alloc: Global) -> Result<bool, AllocError> {
+    let last = storing(alloc, 65534)?;
+    let mut past = storing(alloc, 65535)?;
+    let stores = setup_refusal(&last).is_none()
+        && setup_refusal(&past) == Some(SetupRefusal::Limit);
+    past.entries = 0;
+    Ok(stores && setup_refusal(&past) == Some(SetupRefusal::RingSize))
+}
+
+#[test]
+fn setups_past_their_limits_are_refused(rt: HostRuntime) -> Result<(), AllocError> {
+    let refused = are_refused(rt.alloc())?;
+    check(&rt, refused);
+    Ok(())
+}
