@@ -14,14 +14,13 @@ use Rattle.machine.specs.Whole.{view, WellFormed, Grows}
 use Rattle.machine.proofs.Growing.{grows_after}
 use Rattle.machine.specs.Steps.{after, refusal, Next}
 use Rattle.machine.specs.Runs.{start, moment, Accepts, IsRefused}
-use Rattle.courses.specs.declared.course.Course.{Course}
 use Rattle.courses.specs.declared.following.Stop.{Stop}
 use Rattle.courses.specs.declared.filling.Filling.{Filling}
 use Rattle.courses.specs.declared.stamps.Stamps.{Stamps}
 use Rattle.courses.specs.Fillings.{filling_of}
 use Rattle.courses.specs.Stamping.{stamps_behind}
-use Rattle.courses.specs.Courses.{AreStamped, AreFilled, IsCourse, Halts, Stops}
-use Rattle.courses.proofs.Running.{accepts_more, moment_more}
+use Rattle.courses.specs.Courses.{AreStamped, AreFilled, Halts, Stops}
+use Rattle.machine.proofs.Longer.{accepts_more, moment_more}
 use Rattle.courses.proofs.Moments.{Growing, are_stamped_more, are_filled_more}
 
 -- the first i events were followed, and the next one finds their machine
@@ -103,6 +102,3 @@ following_stops s es i m e d fs xs k x h l g stop = λ other.
     let there : slice_get es i ≡ Some e = slice_get-get_or es i d h ∙ ap Some (sym g) in
     let refused : IsRefused s es i x.refusal = record { runs = l.runs; event = e; there = there; refused = ap (λ y. refusal y e) (sym l.here) ∙ stop.refused other } in
     subst (λ q. IsRefused s es q x.refusal) (sym (stop.at other)) refused
-
-pub course_of : (s : Setup) (es : List Event) (m : Machine) (c : Course) → Following s es (length es) m c.fillings.items c.stamps.items c.overflowed → IsCourse s es (length es) c
-course_of s es m c l = record { runs = l.runs; fillings = l.filled; stamps = l.stamped }

@@ -9,6 +9,7 @@ use Rattle.scenario.specs.declared.event.Refusal.{Refusal}
 use Rattle.scenario.specs.declared.event.Refusal.TheVariants.{Memory}
 use Rattle.machine.specs.Steps.{refusal, after}
 use Rattle.machine.specs.Runs.{run, Accepts, Link, Linked, IsRefused, start}
+pub use Rattle.machine.proofs.Longer.{run-append, run-push, accepts-append, accepts-push}
 use Rattle.places.specs.View.{Exact}
 use Rattle.machine.specs.Whole.{view}
 use Rattle.inverse_log.specs.Tracks.{RefusedAt, Recorded}
@@ -23,14 +24,6 @@ run-take_suc s (x ∷ es) (suc i) e h g = run-take_suc (after s x) es i e (omega
 pub run-take_more : (s : Machine) (es : List Event) (i : ℕ) (e : Event) → i < length es → e ≡ get_or es i e → run s (take (i + 1) es) ≡ after (run s (take i es)) e
 run-take_more s es i e h g = rw add-one (run-take_suc s es i e h g)
 
-pub run-push : (s : Machine) (es : List Event) (e : Event) → run s (es ++ e ∷ []) ≡ after (run s es) e
-run-push s [] e = refl
-run-push s (x ∷ es) e = run-push (after s x) es e
-
-pub run-append : (s : Machine) (es fs : List Event) → run s (es ++ fs) ≡ run (run s es) fs
-run-append s [] fs = refl
-run-append s (x ∷ es) fs = run-append (after s x) es fs
-
 pub run_all : (s : Machine) (es : List Event) (n : ℕ) → n ≡ length es → run s (take n es) ≡ run s es
 run_all s [] zero h = refl
 run_all s [] (suc n) h = refl
@@ -38,13 +31,6 @@ run_all s (x ∷ es) zero h = absurd (omega arith)
 run_all s (x ∷ es) (suc n) h = run_all (after s x) es n (omega arith)
 
 -- ---- accepted events
-
-pub accepts-append : (s : Machine) (es fs : List Event) → Accepts s es → Accepts (run s es) fs → Accepts s (es ++ fs)
-accepts-append s [] fs a b = b
-accepts-append s (e ∷ es) fs a b = (a.0, accepts-append (after s e) es fs a.1 b)
-
-pub accepts-push : (s : Machine) (es : List Event) (e : Event) → Accepts s es → refusal (run s es) e ≡ None → Accepts s (es ++ e ∷ [])
-accepts-push s es e a b = accepts-append s es (e ∷ []) a (b, tt)
 
 -- the events behind those that are accepted
 pub accepts-behind : (s : Machine) (es fs : List Event) → Accepts s (es ++ fs) → Accepts (run s es) fs

@@ -172,31 +172,8 @@ impl Trail {
         gone
     }
 
-    /// Adds events at the end, and keeps the position. Told are copies of the states that the run
-    /// comes by at multiples of a number.
-    pub fn extend(&mut self, events: &[Event], every: u32) -> Result<Vec<State>, ExtendRefusal>
-        requires some { 0 < every }
-        requires any { 0 < length events.now }
-        requires room { length self.old.events + length events.now ≤ 1048576 }
-        ensures ok { OnOk result (self.new ≡ grown self.old events.now self.old.at) }
-        ensures accepts { OnOk result (Accepts (ends self.old) events.now) }
-        ensures covers { IfOk result (λ copies. (xs : List Machine)
-            → Covers self.old.setup self.old.events every xs
-            → Covers self.new.setup self.new.events every (xs ++ copies.items)) }
-        ensures refused { IfErr result (λ e. (i : ℕ) × (n : Refusal)
-            × (e ≡ ExtendRefusal.Refused i n) × RefusedAt (ends self.old) events.now i n) }
-        ensures err { OnErr result (self.new ≡ self.old) }
-    {
-        let (from, len) = (self.at(), self.len());
-        if self.on_to(len, Tally::Free).is_err() {
-            return Err(ExtendRefusal::Refused(0, Refusal::Memory));
-        }
-        let added = self.run_on(events, every);
-        self.back_to(from, Tally::Free);
-        added
-    }
-
-    /// The same from the end, but it stays there: each event is one step.
+    /// Adds events at the end, and stays there: each event is one step. Told are copies of the states
+    /// that the run comes by at multiples of a number.
     pub fn run_on(&mut self, events: &[Event], every: u32) -> Result<Vec<State>, ExtendRefusal>
         requires last { self.old.at ≡ length self.old.events }
         requires some { 0 < every }

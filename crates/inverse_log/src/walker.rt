@@ -173,13 +173,13 @@ impl Walker {
         if events.is_empty() {
             return Ok(());
         }
-        let len = self.len();
-        let copies = self.trail.extend(events, self.kept.every())?;
-        if self.kept.keep(copies).is_err() {
-            self.trail.cut(len);
-            return Err(ExtendRefusal::Refused(events.len() as u32 - 1, Refusal::Memory));
+        let (from, len) = (self.at(), self.len());
+        if self.trail.on_to(len, Tally::Free).is_err() {
+            return Err(ExtendRefusal::Refused(0, Refusal::Memory));
         }
-        Ok(())
+        let added = self.run_on(events);
+        self.trail.back_to(from, Tally::Free);
+        added
     }
 
     /// The same from the end of the trace, but it stays at the end: each event is one step.

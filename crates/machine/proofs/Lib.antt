@@ -25,6 +25,7 @@ pub mod FallenRows
 pub mod FormedSubmissions
 pub mod Formed
 pub mod NothingTaken
+pub mod Longer
 pub mod Linking
 pub mod StartLemmas
 pub mod PipeCounts

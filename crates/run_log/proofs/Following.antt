@@ -1,8 +1,7 @@
 -- Logs that go on by an event, or end at one.
-use Rattle.std.proofs.Common.{◌≡◌, ◌⊎◌, inl, inr, ℕ, ◌+◌, ◌<◌, suc, List, [], ◌∷◌, ◌++◌, length, take, get_or, slice_get, Bool, true, false, Option, Some, None, refl, sym, ap, ◌∙◌, subst, arith, append_assoc}
+use Rattle.std.proofs.Common.{◌≡◌, ◌⊎◌, inl, inr, ℕ, ◌+◌, ◌<◌, suc, List, [], ◌++◌, length, get_or, slice_get, Bool, true, false, Option, Some, None, refl, sym, ap, ◌∙◌, subst, arith, append_assoc}
 use Rattle.std.specs.Prelude.{⊤, Result, Ok, Err, OnOk, IfErr}
 use Rattle.std.proofs.KnownBytes.{Appends-nil, Appends-trans, Appends-kept}
-use Rattle.std.proofs.lemmas.List.{take_more}
 use Rattle.std.proofs.lemmas.Option.{slice_get-get_or}
 use Rattle.std.specs.Io.KnownBytes.{Appends, Keeps}
 use Rattle.places.specs.declared.value.Change.{Change}
@@ -14,33 +13,14 @@ use Rattle.scenario.specs.declared.setup.Setup.{Setup}
 use Rattle.machine.specs.declared.whole.Machine.{Machine}
 use Rattle.machine.specs.Whole.{view}
 use Rattle.machine.specs.Steps.{after, refusal, Next}
-use Rattle.machine.specs.Runs.{run, start, moment, Accepts, IsRefused}
+use Rattle.machine.specs.Runs.{start, moment, IsRefused}
+use Rattle.machine.proofs.Longer.{accepts_more, moment_more}
 use Rattle.whole_files.specs.Writes.{WritesFront}
 use Rattle.run_log.specs.declared.fault.LogFault.{LogFault}
 use Rattle.run_log.specs.declared.fault.LogFault.TheVariants.{Script, Trace, Schedule, Write, Memory}
 use Rattle.run_log.specs.declared.range.EventRange.{EventRange}
 use Rattle.run_log.specs.Ranges.{has}
 use Rattle.run_log.specs.Logs.{Shows, Reports, Tells, Reported, Halts, fault_by, Logs, Written, Stopped}
-
--- ---- runs, one event longer
-
-run-push : (s : Machine) (es : List Event) (e : Event) → run s (es ++ e ∷ []) ≡ after (run s es) e
-run-push s [] e = refl
-run-push s (x ∷ es) e = run-push (after s x) es e
-
-accepts-push : (s : Machine) (es : List Event) (e : Event) → Accepts s es → refusal (run s es) e ≡ None → Accepts s (es ++ e ∷ [])
-accepts-push s [] e a h = (h, tt)
-accepts-push s (x ∷ es) e a h = (a.0, accepts-push (after s x) es e a.1 h)
-
-accepts_more : (s : Machine) (es : List Event) (i : ℕ) (e d : Event) → i < length es → e ≡ get_or es i d → Accepts s (take i es) → refusal (run s (take i es)) e ≡ None → Accepts s (take (i + 1) es)
-accepts_more s es i e d h g a n =
-    let one : take (i + 1) es ≡ take i es ++ e ∷ [] = take_more es i d h ∙ ap (λ x. take i es ++ x ∷ []) (sym g) in
-    subst (Accepts s) (sym one) (accepts-push s (take i es) e a n)
-
-moment_more : (s : Setup) (es : List Event) (i : ℕ) (e d : Event) → i < length es → e ≡ get_or es i d → moment s es (i + 1) ≡ after (moment s es i) e
-moment_more s es i e d h g =
-    let one : take (i + 1) es ≡ take i es ++ e ∷ [] = take_more es i d h ∙ ap (λ x. take i es ++ x ∷ []) (sym g) in
-    ap (run (start s)) one ∙ run-push (start s) (take i es) e
 
 -- ---- one event
 

@@ -1,22 +1,18 @@
-use Rattle.std.proofs.Common.{◌≡◌, ℕ, ◌-◌, ◌<◌, length, arith, subst, ap}
+use Rattle.std.proofs.Common.{◌≡◌, ℕ, ◌<◌, length, arith, subst}
 use Rattle.std.proofs.lemmas.Bool.Decides.{nat_tests}
 use Rattle.scenario.specs.declared.event.Refusal.{Refusal}
 use Rattle.scenario.specs.declared.event.Refusal.TheVariants.{Memory}
-use Rattle.inverse_log.specs.Tracks.{Track, RefusedAt, ends}
-use Rattle.inverse_log.specs.Walks.{Walk}
-use Rattle.inverse_log.proofs.Pushing.{no_copy}
+use Rattle.inverse_log.specs.Tracks.{RefusedAt}
+use Rattle.inverse_log.specs.Walks.{ending}
+use Rattle.inverse_log.proofs.Pushing.{no_memory}
 use Rattle.inverse_log.proofs.walker.Walker.extend.Goals as goal
-
-pub cut-requires : goal.cut-requires
-cut-requires c =
-    let at : c.extend.new.self.at ≡ c.self.inside.trail.at = ap (λ (t : Track). t.at) c.in_ok-copies.ensures.ok in
-    let from : c.self.inside.trail.at ≡ c.args.self.now.at = ap (λ (w : Walk). w.at) c.self.view_is in
-    omega (arith, at, from, c.len-len.ensures.within)
 
 pub returns-then-is_err-clause-refused : goal.returns-then-is_err-clause-refused
 returns-then-is_err-clause-refused c = λ i n e.
-    let some : length c.args.events.now - 1 < length c.args.events.now = grind (arith, nat_tests) in
-    let at : length c.args.events.now - 1 ≡ i = cc in
+    let some : 0 < length c.args.events.now = grind (arith, nat_tests) in
+    let at : 0 ≡ i = cc in
     let why : Memory ≡ n = cc in
-    let stops : RefusedAt (ends c.self.inside.trail) c.args.events.now (length c.args.events.now - 1) Memory = no_copy (ends c.self.inside.trail) c.args.events.now (length c.args.events.now - 1) some c.in_ok-copies.ensures.accepts in
-    rw (← c.self.view_is) (subst (λ (k : ℕ). RefusedAt (ends c.self.inside.trail) c.args.events.now k n) at (subst (λ (r : Refusal). RefusedAt (ends c.self.inside.trail) c.args.events.now (length c.args.events.now - 1) r) why stops))
+    let m = ending c.args.self.now in
+    let es = c.args.events.now in
+    let first : RefusedAt m es 0 n = subst (λ (r : Refusal). RefusedAt m es 0 r) why (no_memory m es some) in
+    subst (λ (k : ℕ). RefusedAt m es k n) at first
