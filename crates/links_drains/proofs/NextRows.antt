@@ -13,7 +13,7 @@ use Rattle.links_drains.specs.Numbered.{next_where, IsNextWhere, NoneWhere}
 use Rattle.links_drains.specs.Phases.{is_queued, is_issued, is_unfinished}
 use Rattle.links_drains.specs.Sets.{has, IsNext, NoneFrom}
 use Rattle.links_drains.specs.Beside.{is_beside, IsNextBeside, NoneBeside}
-use Rattle.links_drains.specs.Units.{passes_at, is_going, is_open, IsNextIssued, NoneIssuedFrom}
+use Rattle.links_drains.specs.Units.{passes_at, is_going, is_open}
 use Rattle.links_drains.specs.Queued.{is_queued_row, IsNextQueued, NoneQueuedFrom}
 use Rattle.links_drains.proofs.Filters.{first_numbered, none_numbered}
 use Rattle.links_drains.proofs.Units.{passes_here}
@@ -37,11 +37,11 @@ module _ (test : Row → Bool) (rows : List Row) (member : ℕ → Bool) (ties :
   none : (from : ℕ) → ((i : ℕ) → from ≤ i → member i ≡ false) → NoneWhere test rows from
   none from absent = λ i x low g. sym (passes_here test rows i x g) ∙ sym (ties i) ∙ absent i low
 
-pub next_found : (rows : List Row) (words : List ℕ) (from r : ℕ) → ((q : ℕ) → has words q ≡ passes_at is_going rows q) → IsNext words from r → IsNextIssued rows from r
-next_found rows words from r ties next = found is_going rows (has words) ties from r next.after next.member next.least
+pub next_found : (test : Row → Bool) (rows : List Row) (words : List ℕ) (from r : ℕ) → ((q : ℕ) → has words q ≡ passes_at test rows q) → IsNext words from r → IsNextWhere test rows from r
+next_found test rows words from r ties next = found test rows (has words) ties from r next.after next.member next.least
 
-pub none_found : (rows : List Row) (words : List ℕ) (from : ℕ) → ((q : ℕ) → has words q ≡ passes_at is_going rows q) → NoneFrom words from → NoneIssuedFrom rows from
-none_found rows words from ties absent = none is_going rows (has words) ties from absent
+pub none_found : (test : Row → Bool) (rows : List Row) (words : List ℕ) (from : ℕ) → ((q : ℕ) → has words q ≡ passes_at test rows q) → NoneFrom words from → NoneWhere test rows from
+none_found test rows words from ties absent = none test rows (has words) ties from absent
 
 -- a row is queued where it hasn't ended and isn't issued
 phase_queued : (p : Phase) → (is_unfinished p && not (is_issued p)) ≡ is_queued p

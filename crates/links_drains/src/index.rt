@@ -125,6 +125,14 @@ impl Index {
         }
     }
 
+    /// The least row from a number on that hasn't ended. It takes constant time.
+    pub(crate) fn next_unfinished(&self, from: usize) -> Option<usize>
+        ensures some { IfSome result (λ r. IsNext self.now.unfinished from r) }
+        ensures none { IfNone result (NoneFrom self.now.unfinished from) }
+    {
+        self.unfinished.next(from)
+    }
+
     /// The least issued row from a number on. It takes constant time.
     pub(crate) fn next_issued(&self, from: usize) -> Option<usize>
         ensures some { IfSome result (λ r. IsNext self.now.issued from r) }

@@ -10,8 +10,9 @@ ghost use Rattle.links_drains.specs.Counts.{IsNextMet, NoneMetFrom};
 ghost use Rattle.links_drains.specs.Eligible.{is_eligible, GuardsFollow};
 ghost use Rattle.links_drains.specs.Holding.{is_held_by};
 ghost use Rattle.links_drains.specs.Links.{Chained, GoesOn};
+ghost use Rattle.links_drains.specs.Numbered.{IsNextWhere, NoneWhere};
 ghost use Rattle.links_drains.specs.Rows.{fixed_of, Stay, table_owns, table_seen, table_can_put, new_row as new_row_of};
-ghost use Rattle.links_drains.specs.Units.{rest_of as rest_of_unit, next_issued, IsNextIssued, NoneIssuedFrom};
+ghost use Rattle.links_drains.specs.Units.{is_open, rest_of as rest_of_unit, next_issued, IsNextIssued, NoneIssuedFrom};
 
 mod queued;
 
@@ -157,6 +158,18 @@ impl Table {
         ensures { result ≡ is_eligible self.now r }
     {
         self.index.is_eligible(&self.rows, r as usize)
+    }
+
+    /// The least row from a number on that hasn't ended. It takes constant time.
+    pub fn next_unfinished(&self, from: u32) -> Option<u32>
+        ensures some { IfSome result (λ r. IsNextWhere is_open self.now from r) }
+        ensures none { IfNone result (NoneWhere is_open self.now from) }
+        ensures few { IfSome result (λ r. r < 65536) }
+    {
+        match self.index.next_unfinished(from as usize) {
+            Some(r) => Some(r as u32),
+            None => None,
+        }
     }
 
     /// The least issued row from a number on. It takes constant time.

@@ -108,8 +108,8 @@ fn canceled_behind(alloc: Global, rows: &[u32], me: u32) -> Result<Vec<(u32, i32
     behind.map(|r| (*r, -ECANCELED)).collect(alloc)
 }
 
-// What an entry looks for.
-fn key_of(entry: &Sqe) -> Key
+/// What an entry looks for.
+pub(crate) fn key_of(entry: &Sqe) -> Key
     ensures { result ≡ key_of entry.now }
 {
     if entry.opcode == Op::PollRemove as u8 {
@@ -124,8 +124,8 @@ fn key_of(entry: &Sqe) -> Key
     Key::User(entry.addr)
 }
 
-// Whether it ends all matches that wait.
-fn takes_all(entry: &Sqe) -> bool
+/// Whether an entry ends all matches that wait.
+pub fn takes_all(entry: &Sqe) -> bool
     ensures { result ≡ takes_all entry.now }
 {
     entry.opcode == Op::AsyncCancel as u8 && entry.operation_flags & CANCEL_ALL != 0

@@ -18,6 +18,7 @@ mod submitting;
 pub mod threads;
 pub mod whole;
 
+pub use cancelling::takes_all;
 pub use scenario::{
     Event, Instruction, PlaceFault, Refusal, Setup, SetupRefusal, place_of, read_number, ring_size,
     setup_refusal,

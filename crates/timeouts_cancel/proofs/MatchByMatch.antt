@@ -1,9 +1,9 @@
 -- What is found, match by match.
 use Rattle.std.proofs.Common.{◌≡◌, ℕ, Bool, true, false, not, cond, refl, sym, ◌∙◌, ap, List, [], ◌∷◌, ◌++◌, take, ◌+◌, ◌<◌, ◌≤◌, ◌⊎◌, inl, inr, arith}
-use Rattle.std.specs.Prelude.{Some, map, option_map, slice_get, ◌&&◌}
+use Rattle.std.specs.Prelude.{Some, map, option_map, slice_get, length, ◌&&◌}
 use Rattle.std.specs.List.{filter, enumerate_from}
 use Rattle.std.proofs.lemmas.Bool.{and_left, cases_lt}
-use Rattle.std.proofs.lemmas.List.{map-append}
+use Rattle.std.proofs.lemmas.List.{length-append, map-append}
 use Rattle.std.proofs.lemmas.List.Elements.{filter-append}
 use Rattle.entries.specs.declared.row.Row.{Row}
 use Rattle.model_files.specs.Worlds.{WorldState}
@@ -15,7 +15,7 @@ use Rattle.links_drains.proofs.Filters.{filter_skip, first_numbered, none_number
 use Rattle.links_drains.proofs.RestOfUnit.{none_behind, numbered}
 use Rattle.timeouts_cancel.specs.declared.matching.Key.{Key}
 use Rattle.timeouts_cancel.specs.declared.matching.Found.TheVariants.{Absent}
-use Rattle.timeouts_cancel.specs.Matches.{is_match, is_waiting_match, found_by, found_first, waiting_by, IsNextMatch, NoMatchFrom, Passed}
+use Rattle.timeouts_cancel.specs.Matches.{is_match, is_waiting_match, matches_of, found_by, found_first, waiting_by, IsNextMatch, NoMatchFrom, Passed}
 
 -- the tests of a row with its number
 abbrev matches : Key → ℕ → ℕ × Row → Bool
@@ -70,6 +70,22 @@ found_next rows w key me r row m = ap (found_first w) (sym (first_numbered (matc
 
 pub found_none : (rows : List Row) (w : WorldState) (key : Key) (me : ℕ) → NoMatchFrom rows key me 0 → Absent ≡ found_by rows w key me
 found_none rows w key me none = ap (λ (ps : List (ℕ × Row)). found_first w (slice_get ps 0)) (sym (none_numbered (matches key me) rows (λ i x g. none i x (omega arith) g)))
+
+-- ---- the matches, among the first rows
+
+abbrev pub matches_to : List Row → Key → ℕ → ℕ → List (ℕ × Row)
+matches_to rows key me k = filter (matches key me) (take k (enumerate_from 0 rows))
+
+pub count_more : (rows : List Row) (key : Key) (me from r n : ℕ) (row : Row) → IsNextMatch rows key me from r row → n ≡ length (matches_to rows key me from) → n + 1 ≡ length (matches_to rows key me (r + 1))
+count_more rows key me from r n row m e =
+    ap (λ k. k + 1) e ∙ sym (length-append (matches_to rows key me from) ((r, row) ∷ []))
+    ∙ ap (λ ps. length (ps ++ (r, row) ∷ [])) (sym (filter_skip (matches key me) from r (enumerate_from 0 rows) m.after (λ i p low high g. numbered (matches key me) rows i p (λ x h. m.least i x low high h) g)))
+    ∙ ap (λ b. length (matches_to rows key me r ++ cond b ((r, row) ∷ []) [])) (sym m.matching)
+    ∙ ap length (sym (filter-append (matches key me) (take r (enumerate_from 0 rows)) ((r, row) ∷ [])))
+    ∙ ap (λ ps. length (filter (matches key me) ps)) (sym (take_more (enumerate_from 0 rows) r (r, row) (enumerated rows r ∙ ap (option_map (λ (y : Row). (r, y))) m.there)))
+
+pub count_past : (rows : List Row) (key : Key) (me from n : ℕ) → NoMatchFrom rows key me from → n ≡ length (matches_to rows key me from) → n ≡ length (matches_of rows key me)
+count_past rows key me from n none e = e ∙ ap length (none_behind (matches key me) from (enumerate_from 0 rows) (λ i p low g. numbered (matches key me) rows i p (λ x h. none i x low h) g))
 
 -- ---- the matches that wait, among the first rows
 

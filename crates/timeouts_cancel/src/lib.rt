@@ -9,5 +9,5 @@ mod merging;
 mod timers;
 
 pub use falling::fall;
-pub use matching::{Found, Key, all_by, find, find_by};
+pub use matching::{Found, Key, all_by, count_by, find, find_by};
 pub use timers::due;

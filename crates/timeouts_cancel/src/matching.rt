@@ -1,7 +1,7 @@
 //! What a cancel or a removal finds (io_uring_enter(2)). Each issued row is looked at no more than
 //! once, and no other.
-ghost use Rattle.std.specs.Prelude.{◌≡◌, ◌<◌, Some, IfOk, IfSome, IfNone};
-ghost use Rattle.timeouts_cancel.specs.Matches.{holds_number, fits_key, is_match, found_by, found_first, waiting_by, IsNextMatch, NoMatchFrom};
+ghost use Rattle.std.specs.Prelude.{◌≡◌, ◌<◌, Some, IfOk, IfSome, IfNone, length};
+ghost use Rattle.timeouts_cancel.specs.Matches.{holds_number, fits_key, is_match, matches_of, found_by, found_first, waiting_by, IsNextMatch, NoMatchFrom};
 ghost use Rattle.timeouts_cancel.specs.declared.matching.Key.TheVariants.{User};
 
 use entries::Row;
@@ -67,6 +67,20 @@ pub fn all_by(table: &Table, world: &World, key: Key, me: u32) -> Result<Vec<u32
         from = r + 1;
     }
     Ok(all)
+}
+
+/// How many issued rows fit a key, other than LINK_TIMEOUTs and the row that asks. It takes no
+/// memory.
+pub fn count_by(table: &Table, key: Key, me: u32) -> u32
+    ensures { result ≡ length (matches_of table.now key me) }
+{
+    let mut count = 0;
+    let mut next = 0;
+    while let Some((r, _row)) = next_match(table, key, me, next) {
+        count += 1;
+        next = r + 1;
+    }
+    count
 }
 
 // A match, with how far it is.

@@ -1,11 +1,17 @@
 //! What a state tells of its rows.
-ghost use Rattle.std.specs.Prelude.{◌≡◌, ◌<◌, IfSome, IfNone};
+ghost use Rattle.std.specs.Prelude.{◌≡◌, ◌<◌, IfSome, IfNone, length};
+ghost use Rattle.links_drains.specs.Numbered.{IsNextWhere, NoneWhere};
 ghost use Rattle.links_drains.specs.Queued.{next_queued, IsNextQueued, NoneQueuedFrom};
-ghost use Rattle.links_drains.specs.Units.{next_issued, IsNextIssued, NoneIssuedFrom};
+ghost use Rattle.links_drains.specs.Units.{is_open, next_issued, IsNextIssued, NoneIssuedFrom};
+ghost use Rattle.timeouts_cancel.specs.Matches.{matches_of};
+ghost use Rattle.machine.specs.Cancels.{key_of};
 ghost use Rattle.machine.specs.Deadlines.{deadline_at};
 
 use super::State;
+use crate::cancelling::key_of;
+use entries::Sqe;
 use links_drains::is_issued;
+use timeouts_cancel::count_by;
 
 impl State {
     /// The least queued row from a number on. It takes no memory, and looks at no row that ended.
@@ -26,6 +32,23 @@ impl State {
         ensures few { IfSome result (λ r. r < 65536) }
     {
         self.machine.table.next_issued(from)
+    }
+
+    /// The least row from a number on that hasn't ended. It takes no memory, and constant time.
+    pub fn next_unfinished(&self, from: u32) -> Option<u32>
+        ensures some { IfSome result (λ r. IsNextWhere is_open self.now.table from r) }
+        ensures none { IfNone result (NoneWhere is_open self.now.table from) }
+        ensures few { IfSome result (λ r. r < 65536) }
+    {
+        self.machine.table.next_unfinished(from)
+    }
+
+    /// How many issued rows the entry of a cancel or a removal matches, as the row of a number. It
+    /// takes no memory, and looks at each issued row.
+    pub fn match_count(&self, entry: &Sqe, me: u32) -> u32
+        ensures { result ≡ length (matches_of self.now.table (key_of entry.now) me) }
+    {
+        count_by(&self.machine.table, key_of(entry), me)
     }
 
     /// When an issued row is due, in nanoseconds of the clock, if it has a deadline. It takes no
