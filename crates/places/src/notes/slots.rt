@@ -17,7 +17,7 @@ use std::mem;
 /// For how many notes there is room once there is one.
 const FIRST_NOTES: usize = 4;
 
-/// How many notes are taken out as a copy at most.
+/// For how many notes there stays room at most once they are closed.
 const FEW_NOTES: usize = 64;
 
 /// A note of a place that has a slot: a number that no other place has.
@@ -133,15 +133,39 @@ impl<N: Slotted + Copy> Slots<N> {
         has_note(&self.notes, place)
     }
 
-    /// The notes whose place has another value now. None stay here.
-    pub fn close<A: At>(&mut self, whole: &A) -> Vec<N>
+    /// Drops the notes whose place has its old value.
+    pub fn close<A: At>(&mut self, whole: &A)
         ensures kept { KeptOf (A.seen whole.now) (map N.change self.old.notes)
-            (map N.change result.items) }
+            (map N.change self.new.notes) }
         ensures once { NamesOnce (map N.change self.old.notes) }
-        ensures none { self.new.notes ≡ [] }
     {
         drop_same_notes(&mut self.notes, whole);
-        take_notes(&mut self.notes)
+    }
+
+    /// The notes.
+    pub fn as_slice(&self) -> &[N]
+        ensures { result.now ≡ self.now.notes }
+    {
+        &self.notes
+    }
+
+    /// Drops all notes. The memory of a few stays.
+    pub fn clear(&mut self)
+        ensures { self.new.notes ≡ [] }
+    {
+        if self.notes.len() <= FEW_NOTES {
+            self.notes.clear();
+        } else {
+            drop(take_all(&mut self.notes));
+        }
+    }
+
+    /// Takes the notes out, with their memory.
+    pub fn take(&mut self) -> Vec<N>
+        ensures taken { result.items ≡ self.old.notes }
+        ensures none { self.new.notes ≡ [] }
+    {
+        take_all(&mut self.notes)
     }
 }
 
@@ -185,22 +209,8 @@ fn drop_same_notes<N: Slotted + Copy, A: At>(notes: &mut Vec<N>, whole: &A)
     );
 }
 
-/// Takes the notes out. A few of them leave their memory to later notes.
-fn take_notes<N: Slotted + Copy>(notes: &mut Vec<N>) -> Vec<N>
-    ensures taken { result.items ≡ notes.old.items }
-    ensures none { notes.new.items ≡ [] }
-{
-    if notes.len() <= FEW_NOTES {
-        if let Ok(taken) = Vec::from_slice(*notes.allocator(), notes) {
-            notes.clear();
-            return taken;
-        }
-    }
-    take_all(notes)
-}
-
 /// Takes the notes out, with their memory.
-fn take_all<N: Slotted + Copy>(notes: &mut Vec<N>) -> Vec<N>
+fn take_all<N>(notes: &mut Vec<N>) -> Vec<N>
     ensures taken { result.items ≡ notes.old.items }
     ensures none { notes.new.items ≡ [] }
 {

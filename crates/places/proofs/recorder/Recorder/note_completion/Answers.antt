@@ -13,8 +13,8 @@ returns-then-names-clause-ok c = rw (← c.self.view_is) (odd_noted c.self.insid
 pub invariant_of-self-2 : goal.invariant_of-self-2
 invariant_of-self-2 c =
     let none : named c.self.inside.rest.odd (Completion c.args.slot) ≡ None = not_some _ (sym c.names.ensures ∙ c.if-names.false) in
-    completion_sound c.self.inside.numbers c.self.inside.completions c.self.inside.rows c.self.inside.rest c.self.inside.room c.spend_completion.new.self c.note.new.self c.self.invariant
-    (completion_apart c.self.inside.numbers c.self.inside.completions c.self.inside.rows c.self.inside.rest c.self.inside.room c.self.invariant c.note.new.self c.args.slot (Some (Completed c.args.old)) c.in_ok-note.ensures.ok none)
+    completion_sound c.self.inside.numbers c.self.inside.completions c.self.inside.rows c.self.inside.rest c.self.inside.room c.spend_completion.new.self c.note.new.self c.self.invariant.0
+    (completion_apart c.self.inside.numbers c.self.inside.completions c.self.inside.rows c.self.inside.rest c.self.inside.room c.self.invariant.0 c.note.new.self c.args.slot (Some (Completed c.args.old)) c.in_ok-note.ensures.ok none)
     c.note.ensures.spare c.note.ensures.reached c.spend_completion.ensures.numbers c.spend_completion.ensures.completions c.spend_completion.ensures.others c.spend_completion.ensures.held
 
 pub returns-clause-ok : goal.returns-clause-ok

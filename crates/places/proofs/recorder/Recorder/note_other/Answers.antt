@@ -19,7 +19,7 @@ push-requires-clause-fresh c =
 pub invariant_of-self-2 : goal.invariant_of-self-2
 invariant_of-self-2 c =
     let none : named (all_changes c.self.inside.numbers.notes c.self.inside.completions.notes c.self.inside.rows.notes c.self.inside.rest) c.args.place ≡ None = rw (← c.self.view_is) at (not_some _ (sym c.is_noted.ensures ∙ c.if-is_noted.false)) in
-    other_sound c.self.inside.numbers c.self.inside.completions c.self.inside.rows c.self.inside.rest c.self.inside.room c.self.invariant c.push.new.self c.spend.new.self c.args.place c.args.old none
+    other_sound c.self.inside.numbers c.self.inside.completions c.self.inside.rows c.self.inside.rest c.self.inside.room c.self.invariant.0 c.push.new.self c.spend.new.self c.args.place c.args.old none
     (c.push.ensures.odd ∙ ap (λ l. l ++ record { place = c.args.place; old = c.args.old } ∷ []) c.room.ensures.odd) (c.push.ensures.runs ∙ c.room.ensures.runs) (c.push.ensures.olds ∙ c.room.ensures.olds)
     c.spend.ensures.fewer_numbers c.spend.ensures.fewer_completions c.spend.ensures.fewer_others c.spend.ensures.held
     (omega (arith, c.in-Some.ensures, c.in_ok-room.ensures.room, c.push.ensures.spare))

@@ -17,8 +17,8 @@ pub invariant_of-self-2 : goal.invariant_of-self-2
 invariant_of-self-2 c =
     let none : named c.self.inside.rest.odd c.args.place ≡ None = not_some _ (sym c.names.ensures ∙ c.if-names.false) in
     let noted : Noted (map row_change c.self.inside.rows.notes) (map row_change c.note.new.self.notes) c.args.place (option_map value_of c.args.old) = subst (λ k. Noted (map row_change c.self.inside.rows.notes) (map row_change c.note.new.self.notes) k.place k.old) c.of_other.ensures c.in_ok-note.ensures.ok in
-    row_sound c.self.inside.numbers c.self.inside.completions c.self.inside.rows c.self.inside.rest c.self.inside.room c.spend_other.new.self c.note.new.self c.self.invariant
-    (row_apart c.self.inside.numbers c.self.inside.completions c.self.inside.rows c.self.inside.rest c.self.inside.room c.self.invariant c.note.new.self c.args.place (option_map value_of c.args.old) (other_sort c.args.place c.requires) noted none)
+    row_sound c.self.inside.numbers c.self.inside.completions c.self.inside.rows c.self.inside.rest c.self.inside.room c.spend_other.new.self c.note.new.self c.self.invariant.0
+    (row_apart c.self.inside.numbers c.self.inside.completions c.self.inside.rows c.self.inside.rest c.self.inside.room c.self.invariant.0 c.note.new.self c.args.place (option_map value_of c.args.old) (other_sort c.args.place c.requires) noted none)
     c.note.ensures.spare c.note.ensures.reached c.spend_other.ensures.numbers c.spend_other.ensures.completions c.spend_other.ensures.others c.spend_other.ensures.held
 
 pub returns-clause-ok : goal.returns-clause-ok
@@ -33,6 +33,6 @@ returns-in_err-note-clause-there c h l =
     let some : 0 < c.self.inside.room.others = omega arith in
     let at : row_slot_of c.of_other.result ≡ slot_at c.args.place = ap (λ k. slot_at k.place) c.of_other.ensures in
     let below = other_below c.args.place c.requires l in
-    let m = c.self.invariant.rows.spare in
-    let k = c.self.invariant.rows.reached some in
+    let m = c.self.invariant.0.rows.spare in
+    let k = c.self.invariant.0.rows.reached some in
     absurd (let o : false ≡ true = c.in_err-note.ensures.there (omega arith) (omega arith) in cc)

@@ -1,0 +1,106 @@
+-- Values whose numbers were put behind bytes are read there.
+use Rattle.std.proofs.Common.{◌≡◌, ℕ, zero, suc, ◌+◌, ◌*◌, ◌-◌, ◌/◌, ◌%◌, ◌^◌, ◌<◌, ◌≤◌, ℤ, refl, sym, ◌∙◌, ap, List, [], ◌∷◌, ◌++◌, length, take, drop, get_or, slice_index, arith, FitsSigned, w32, w64, to_z, of_z, drop-cons, length-drop}
+use Rattle.std.specs.Prelude.{Option, Some, None}
+use Rattle.std.specs.Int.{cast_signed, cast_unsigned, byte_at, bytes_low_first}
+use Rattle.std.proofs.Math.Nat.{mod-eq_of_lt, div-div-eq-div-mul, pow-succ'}
+use Rattle.std.proofs.lemmas.Int.{to_z-of_z, ints}
+use Rattle.std.proofs.lemmas.List.{take_all, take-append-drop}
+use Rattle.byteorder.specs.Endian.{little_bytes, little_number, little_from}
+use Rattle.byteorder.specs.Numbers.{byte_at-pow}
+use Rattle.entries.specs.declared.completion.Cqe.{Cqe}
+use Rattle.entries.specs.declared.entry.Sqe.{Sqe}
+use Rattle.entries.specs.declared.row.Row.{Row}
+use Rattle.entries.specs.Layout.{EntryFits, CompletionFits}
+use Rattle.places.specs.Reading.{Reads, Put, Puts}
+use Rattle.places.specs.Numerals.{number_of, after, behind, byte_of, half_of, word_of, signed_of, long_of}
+use Rattle.places.specs.Packed.{option_number, option_from, word_from, phase_from, completion_list, entry_list, row_list, completion_of, entry_of, row_of, RowAgain}
+
+same_part : {m n : ℕ} (k : ℕ) → m ≡ n → n < k → m % k ≡ n
+same_part k e h = ap (λ i. i % k) e ∙ mod-eq_of_lt h
+
+of_z_small : (z : ℤ) → FitsSigned w32 z → of_z w32 z < 2 ^ 32
+of_z_small z f = omega (arith, ints)
+
+same_signed : {m : ℕ} (z : ℤ) → m ≡ cast_unsigned w32 z → FitsSigned w32 z → cast_signed w32 (m % 2 ^ 32) ≡ z
+same_signed z e f = ap (cast_signed w32) (same_part (2 ^ 32) e (of_z_small z f)) ∙ to_z-of_z w32 z f
+
+-- ---- the bytes of a number that bytes hold
+
+byte_shifted : (j b r : ℕ) → b < 256 → byte_at (suc j) (b + 256 * r) ≡ byte_at j r
+byte_shifted j b r h =
+    let e : (b + 256 * r) / 256 ≡ r = omega arith in
+    ap (λ p. (b + 256 * r) / p % 256) (pow-succ' 256 j) ∙ ap (λ q. q % 256) (sym (div-div-eq-div-mul (b + 256 * r) 256 (256 ^ j)) ∙ ap (λ q. q / 256 ^ j) e) ∙ sym (byte_at-pow j r)
+
+bytes_shifted : (n j b r : ℕ) → b < 256 → bytes_low_first (suc j) n (b + 256 * r) ≡ bytes_low_first j n r
+bytes_shifted zero j b r h = refl
+bytes_shifted (suc n) j b r h = rw (byte_shifted j b r h, bytes_shifted n (suc j) b r h) refl
+
+bytes_back : (n i : ℕ) (xs : List ℕ) → i + n ≤ length xs → ((k : ℕ) → slice_index xs k < 256) → bytes_low_first 0 n (little_from i n xs) ≡ take n (drop i xs)
+bytes_back zero i xs l h = refl
+bytes_back (suc n) i xs l h =
+    let r = little_from (suc i) n xs in
+    let b = h i in
+    let e : (slice_index xs i + 256 * r) % 256 ≡ slice_index xs i = omega arith in
+    rw (e, bytes_shifted n 0 (slice_index xs i) r b, bytes_back n (suc i) xs (omega arith) h, drop-cons xs i 0 (omega arith)) refl
+
+-- ---- values
+
+pub completion_put : (x : Cqe) (old new : List ℕ) → CompletionFits x → Puts number_of after old (completion_list x) new → Puts completion_of (behind 3) old (x ∷ []) new
+completion_put x old new f g rest =
+    let p = g rest in
+    let h = p.reads in
+    let a = same_signed x.res h.1.0 f.res in
+    let b = same_part (2 ^ 32) h.1.1.0 f.flags in
+    record { put = p.put; joined = p.joined; reads = (rw (h.0, a, b) refl, h.1.1.1) }
+
+later : (xs : List ℕ) → length xs ≡ 16 → ((k : ℕ) → slice_index xs k < 256) → little_bytes 8 (little_number 8 (drop 8 xs)) ≡ take 8 (drop 8 xs)
+later xs l r = bytes_back 8 0 (drop 8 xs) (omega (arith, length-drop 8 xs)) (λ k. rw (get_or-drop 8 xs k 0) (r (8 + k)))
+
+halves : (xs : List ℕ) → length xs ≡ 16 → take 8 xs ++ take 8 (drop 8 xs) ≡ xs
+halves xs l = ap (λ (ys : List ℕ). take 8 xs ++ ys) (take_all 8 (drop 8 xs) (omega (arith, length-drop 8 xs))) ∙ take-append-drop 8 xs
+
+pub entry_put : (e : Sqe) (old new : List ℕ) → EntryFits e → length e.rest ≡ 16 → ((k : ℕ) → slice_index e.rest k < 256) → Puts number_of after old (entry_list e) new → Puts entry_of (behind 14) old (e ∷ []) new
+unfolding entry_of
+entry_put e old new f l r g rest =
+    let p = g rest in
+    let h = p.reads in
+    let p0 = same_part (2 ^ 8) h.0 f.opcode in
+    let p1 = same_part (2 ^ 8) h.1.0 f.flags in
+    let p2 = same_part (2 ^ 16) h.1.1.0 f.ioprio in
+    let p3 = same_signed e.fd h.1.1.1.0 f.fd in
+    let p4 = h.1.1.1.1.0 in
+    let p5 = h.1.1.1.1.1.0 in
+    let p6 = same_part (2 ^ 32) h.1.1.1.1.1.1.0 f.len in
+    let p7 = same_part (2 ^ 32) h.1.1.1.1.1.1.1.0 f.operation_flags in
+    let p8 = h.1.1.1.1.1.1.1.1.0 in
+    let p9 = same_part (2 ^ 16) h.1.1.1.1.1.1.1.1.1.0 f.buf_index in
+    let p10 = same_part (2 ^ 16) h.1.1.1.1.1.1.1.1.1.1.0 f.personality in
+    let p11 = same_signed e.splice_fd_in h.1.1.1.1.1.1.1.1.1.1.1.0 f.splice_fd_in in
+    let a : little_bytes 8 (number_of (behind 12 p.put)) ≡ take 8 e.rest = ap (little_bytes 8) h.1.1.1.1.1.1.1.1.1.1.1.1.0 ∙ bytes_back 8 0 e.rest (omega arith) r in
+    let b : little_bytes 8 (number_of (behind 13 p.put)) ≡ take 8 (drop 8 e.rest) = ap (little_bytes 8) h.1.1.1.1.1.1.1.1.1.1.1.1.1.0 ∙ later e.rest l r in
+    let c : little_bytes 8 (number_of (behind 12 p.put)) ++ little_bytes 8 (number_of (behind 13 p.put)) ≡ e.rest = rw (a, b) (halves e.rest l) in
+    record { put = p.put; joined = p.joined; reads = (rw (p0, p1, p2, p3, p4, p5, p6, p7, p8, p9, p10, p11, c) refl, h.1.1.1.1.1.1.1.1.1.1.1.1.1.1) }
+
+times : (t : Option ℕ) {n : ℕ} → n ≡ option_number t → option_from n ≡ t
+times None e = ap option_from e
+times (Some t) e = ap option_from e ∙ once t
+  where
+    once : (t : ℕ) → option_from (t + 1) ≡ Some t
+    once t = grind arith
+
+pub row_put : (r : Row) (old mid new : List ℕ) → RowAgain r → Puts number_of after old (row_list r) mid → Puts entry_of (behind 14) mid (r.entry ∷ []) new → Puts row_of (behind 21) old (r ∷ []) new
+unfolding row_of
+row_put r old mid new f g k rest =
+    let q = k rest in
+    let p = g q.put in
+    let h = p.reads in
+    let a = times r.deadline h.0 in
+    let b = times r.time h.1.0 in
+    let c = same_part (2 ^ 32) h.1.1.0 f.base in
+    let d = same_part (2 ^ 32) h.1.1.1.0 f.unit in
+    let t = ap word_from h.1.1.1.1.0 ∙ f.target in
+    let i = ap word_from h.1.1.1.1.1.0 ∙ f.held in
+    let j = ap phase_from h.1.1.1.1.1.1.0 ∙ f.phase in
+    let m : behind 7 p.put ≡ q.put = h.1.1.1.1.1.1.1 in
+    let e : entry_of (behind 7 p.put) ≡ r.entry = ap entry_of m ∙ q.reads.0 in
+    record { put = p.put; joined = q.joined ∙ p.joined; reads = (rw (a, b, c, d, t, i, j, e) refl, ap (behind 14) m ∙ q.reads.1) }
