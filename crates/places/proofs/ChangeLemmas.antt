@@ -137,7 +137,13 @@ kind_again k s h = omega arith
 shape_again : (k s : ℕ) → k < 30 → shape_from (k + 30 * s) ≡ s
 shape_again k s h = omega arith
 
-pub change_put : (c : Change) (old mid new : List ℕ) → second_of c.place ≡ 0 → index_of c.place < 2 ^ 32 → Puts number_of after old (kind_of c.place + 30 * shape_of c.old ∷ index_of c.place ∷ []) mid → Puts (value_of_shape (shape_of c.old)) (behind (size_of_shape (shape_of c.old))) mid (c.old ∷ []) new → Puts change_of after_change old (c ∷ []) new
+abbrev change_at : Place → Option Value → Change
+change_at p x = record { place = p; old = x }
+
+made : {p q : Place} {x y : Option Value} → p ≡ q → x ≡ y → change_at p x ≡ change_at q y
+made e f = rw (e, f) refl
+
+pub change_put : (c : Change) (old mid new : List ℕ) → second_of c.place ≡ 0 → index_of c.place < 2 ^ 32 → Puts number_of after old ((kind_of c.place + 30 * shape_of c.old) ∷ index_of c.place ∷ []) mid → Puts (value_of_shape (shape_of c.old)) (behind (size_of_shape (shape_of c.old))) mid (c.old ∷ []) new → Puts change_of after_change old (c ∷ []) new
 unfolding change_of after_change
 change_put c old mid new z l g h rest =
     let q = h rest in
@@ -151,15 +157,12 @@ change_put c old mid new z l g h rest =
     let b : value_of_shape (shape_from (number_of p.put)) (behind 2 p.put) ≡ c.old = ap (λ n. value_of_shape n (behind 2 p.put)) s ∙ ap (value_of_shape (shape_of c.old)) m ∙ q.reads.0 in
     let d : behind (size_of_shape (shape_from (number_of p.put))) (behind 2 p.put) ≡ rest = ap (λ n. behind (size_of_shape n) (behind 2 p.put)) s ∙ ap (behind (size_of_shape (shape_of c.old))) m ∙ q.reads.1 in
     record { put = p.put; joined = q.joined ∙ p.joined; reads = (made a b, d) }
-  where
-    made : {p q : Place} {x y : Option Value} → p ≡ q → x ≡ y → record { place = p; old = x } ≡ record { place = q; old = y }
-    made e f = rw (e, f) refl
 
 -- ---- packed changes
 
--- the first of so many that are read
-pub read_first : {X : Type 0} (read : List ℕ → X) (left : List ℕ → List ℕ) (n m : ℕ) (bs : List ℕ) → n ≡ m + 1 → read_all read left n bs ≡ read bs ∷ read_all read left m (left bs)
-read_first read left n m bs e = rw (e) refl
+-- what stood there is put where it is known to be this
+pub put_is : (old x : Option Value) (a b : List ℕ) → old ≡ x → Puts (value_of_shape (shape_of x)) (behind (size_of_shape (shape_of x))) a (x ∷ []) b → Puts (value_of_shape (shape_of old)) (behind (size_of_shape (shape_of old))) a (old ∷ []) b
+put_is old x a b e h = rw (e) h
 
 -- what is read behind a count
 pub packed_put : (old mid new : List ℕ) (n : ℕ) (cs : List Change) → old ≡ [] → length cs ≡ n → Puts number_of after old (n ∷ []) mid → Puts change_of after_change mid cs new → packed new ≡ cs

@@ -22,12 +22,12 @@ names_later cs ds c p e h = rw (e, h) refl
 pub left_later : (l : Listed) (cs ds : List Change) (c : Change) (m n : ℕ) → cs ≡ c ∷ ds → m ≡ after_change l c.place c.old n → left l ds m ≡ left l cs n
 left_later l cs ds c m n e h = rw (e, h) refl
 
+map_push : {X : Type 0} (change : X → Change) (ys : List X) (z : X) → map change (ys ++ z ∷ []) ≡ map change ys ++ change z ∷ []
+map_push change [] z = refl
+map_push change (w ∷ ys) z = ap (λ zs. change w ∷ zs) (map_push change ys z)
+
 -- the next note's change
 pub puts_note : {X : Type 0} (change : X → Change) (read : List ℕ → Change) (behind : List ℕ → List ℕ) (a b c : List ℕ) (xs : List X) (i : ℕ) (d : X) (y : Change) → i < length xs → y ≡ change (get_or xs i d) → Puts read behind a (map change (take i xs)) b → Puts read behind b (y ∷ []) c → Puts read behind a (map change (take (i + 1) xs)) c
 puts_note change read behind a b c xs i d y h e f g =
-    let m : map change (take i xs) ++ y ∷ [] ≡ map change (take (i + 1) xs) = ap (λ z. map change (take i xs) ++ z ∷ []) e ∙ sym (map_push (take i xs) (get_or xs i d)) ∙ ap (map change) (sym (take_more xs i d h)) in
+    let m : map change (take i xs) ++ y ∷ [] ≡ map change (take (i + 1) xs) = ap (λ z. map change (take i xs) ++ z ∷ []) e ∙ sym (map_push change (take i xs) (get_or xs i d)) ∙ ap (map change) (sym (take_more xs i d h)) in
     subst (λ ys. Puts read behind a ys c) m (puts_more read behind a b c (map change (take i xs)) (y ∷ []) f g)
-  where
-    map_push : (ys : List X) (z : X) → map change (ys ++ z ∷ []) ≡ map change ys ++ change z ∷ []
-    map_push [] z = refl
-    map_push (w ∷ ys) z = ap (λ zs. change w ∷ zs) (map_push ys z)

@@ -1,5 +1,5 @@
 -- The changes of a record are those of the notes that it was made of.
-use Rattle.std.proofs.Common.{◌≡◌, ℕ, ◌+◌, Bool, true, false, refl, sym, ◌∙◌, ap, subst, List, [], ◌∷◌, ◌++◌, length, append_assoc, length-append, arith, inl, inr}
+use Rattle.std.proofs.Common.{◌≡◌, ℕ, ◌+◌, ◌<◌, ◌≤◌, Bool, true, false, refl, sym, ◌∙◌, ap, subst, List, [], ◌∷◌, ◌++◌, length, append_assoc, length-append, arith, inl, inr}
 use Rattle.std.proofs.lemmas.List.{length-map}
 use Rattle.std.specs.Prelude.{map, ◌⊎◌}
 use Rattle.places.specs.declared.value.Change.{Change}
@@ -58,6 +58,16 @@ notes_packed ns cs rs n a b c d e z l f g h k =
     let B = map completion_change cs in
     let C = map row_change rs in
     packed_put a b e n (A ++ (B ++ C)) z
-    (omega (arith, l, length-append A (B ++ C), length-append B C, length-map number_change ns, length-map completion_change cs, length-map row_change rs))
+    (omega (arith, l, length-append A (B ++ C), length-append B C, length-map ns number_change, length-map cs completion_change, length-map rs row_change))
     f
     (puts_more change_of after_change b c e A (B ++ C) g (puts_more change_of after_change c d e B C h k))
+
+-- memory that is promised is there
+pub ready_held : (ns : List NumberNote) (cs : List CompletionNote) (rs : List RowNote) (r : Room) (w : WideList) → IsReady ns cs rs r w → 0 < r.held → w.is_ready ≡ true
+ready_held ns cs rs r w (inl e) h = e
+ready_held ns cs rs r w (inr n) h = absurd (let k = n.held in omega arith)
+
+-- and where less is promised
+pub ready_less : (ns : List NumberNote) (cs : List CompletionNote) (rs : List RowNote) (r q : Room) (w : WideList) → IsReady ns cs rs r w → q.held ≤ r.held → IsReady ns cs rs q w
+ready_less ns cs rs r q w (inl e) h = inl e
+ready_less ns cs rs r q w (inr n) h = inr (record { numbers = n.numbers; completions = n.completions; rows = n.rows; held = let k = n.held in omega arith })

@@ -1,12 +1,11 @@
 -- Values whose numbers were put behind bytes are read there.
-use Rattle.std.proofs.Common.{◌≡◌, ℕ, zero, suc, ◌+◌, ◌*◌, ◌-◌, ◌/◌, ◌%◌, ◌^◌, ◌<◌, ◌≤◌, ℤ, refl, sym, ◌∙◌, ap, List, [], ◌∷◌, ◌++◌, length, take, drop, get_or, slice_index, arith, FitsSigned, w32, w64, to_z, of_z, drop-cons, length-drop}
+use Rattle.std.proofs.Common.{◌≡◌, ℕ, zero, suc, ◌+◌, ◌*◌, ◌-◌, ◌/◌, ◌%◌, ◌^◌, ◌<◌, ◌≤◌, ℤ, refl, sym, ◌∙◌, ap, List, [], ◌∷◌, ◌++◌, length, take, drop, get_or, slice_index, arith, FitsSigned, w32, w64, to_z, of_z, drop-cons, length-drop, get_or-drop}
 use Rattle.std.specs.Prelude.{Option, Some, None}
 use Rattle.std.specs.Int.{cast_signed, cast_unsigned, byte_at, bytes_low_first}
-use Rattle.std.proofs.Math.Nat.{mod-eq_of_lt, div-div-eq-div-mul, pow-succ'}
+use Rattle.std.proofs.Math.Nat.{mod-eq_of_lt, div-div-eq-div-mul, div-one, pow-succ'}
 use Rattle.std.proofs.lemmas.Int.{to_z-of_z, ints}
 use Rattle.std.proofs.lemmas.List.{take_all, take-append-drop}
 use Rattle.byteorder.specs.Endian.{little_bytes, little_number, little_from}
-use Rattle.byteorder.specs.Numbers.{byte_at-pow}
 use Rattle.entries.specs.declared.completion.Cqe.{Cqe}
 use Rattle.entries.specs.declared.entry.Sqe.{Sqe}
 use Rattle.entries.specs.declared.row.Row.{Row}
@@ -26,10 +25,14 @@ same_signed z e f = ap (cast_signed w32) (same_part (2 ^ 32) e (of_z_small z f))
 
 -- ---- the bytes of a number that bytes hold
 
+byte_at_is : (j r : ℕ) → byte_at j r ≡ r / 256 ^ j % 256
+byte_at_is zero r = ap (λ q. q % 256) (sym (div-one r))
+byte_at_is (suc j) r = refl
+
 byte_shifted : (j b r : ℕ) → b < 256 → byte_at (suc j) (b + 256 * r) ≡ byte_at j r
 byte_shifted j b r h =
     let e : (b + 256 * r) / 256 ≡ r = omega arith in
-    ap (λ p. (b + 256 * r) / p % 256) (pow-succ' 256 j) ∙ ap (λ q. q % 256) (sym (div-div-eq-div-mul (b + 256 * r) 256 (256 ^ j)) ∙ ap (λ q. q / 256 ^ j) e) ∙ sym (byte_at-pow j r)
+    ap (λ p. (b + 256 * r) / p % 256) (pow-succ' 256 j) ∙ ap (λ q. q % 256) (sym (div-div-eq-div-mul (b + 256 * r) 256 (256 ^ j)) ∙ ap (λ q. q / 256 ^ j) e) ∙ sym (byte_at_is j r)
 
 bytes_shifted : (n j b r : ℕ) → b < 256 → bytes_low_first (suc j) n (b + 256 * r) ≡ bytes_low_first j n r
 bytes_shifted zero j b r h = refl
@@ -52,6 +55,12 @@ completion_put x old new f g rest =
     let a = same_signed x.res h.1.0 f.res in
     let b = same_part (2 ^ 32) h.1.1.0 f.flags in
     record { put = p.put; joined = p.joined; reads = (rw (h.0, a, b) refl, h.1.1.1) }
+
+abbrev entry_with : ℕ → ℕ → ℕ → ℤ → ℕ → ℕ → ℕ → ℕ → ℕ → ℕ → ℕ → ℤ → List ℕ → Sqe
+entry_with a0 a1 a2 a3 a4 a5 a6 a7 a8 a9 a10 a11 a12 = record { opcode = a0; flags = a1; ioprio = a2; fd = a3; off = a4; addr = a5; len = a6; operation_flags = a7; user_data = a8; buf_index = a9; personality = a10; splice_fd_in = a11; rest = a12 }
+
+same_fields : {a0 b0 : ℕ} {a1 b1 : ℕ} {a2 b2 : ℕ} {a3 b3 : ℤ} {a4 b4 : ℕ} {a5 b5 : ℕ} {a6 b6 : ℕ} {a7 b7 : ℕ} {a8 b8 : ℕ} {a9 b9 : ℕ} {a10 b10 : ℕ} {a11 b11 : ℤ} {a12 b12 : List ℕ} → a0 ≡ b0 → a1 ≡ b1 → a2 ≡ b2 → a3 ≡ b3 → a4 ≡ b4 → a5 ≡ b5 → a6 ≡ b6 → a7 ≡ b7 → a8 ≡ b8 → a9 ≡ b9 → a10 ≡ b10 → a11 ≡ b11 → a12 ≡ b12 → entry_with a0 a1 a2 a3 a4 a5 a6 a7 a8 a9 a10 a11 a12 ≡ entry_with b0 b1 b2 b3 b4 b5 b6 b7 b8 b9 b10 b11 b12
+same_fields e0 e1 e2 e3 e4 e5 e6 e7 e8 e9 e10 e11 e12 = rw (e0, e1, e2, e3, e4, e5, e6, e7, e8, e9, e10, e11, e12) refl
 
 later : (xs : List ℕ) → length xs ≡ 16 → ((k : ℕ) → slice_index xs k < 256) → little_bytes 8 (little_number 8 (drop 8 xs)) ≡ take 8 (drop 8 xs)
 later xs l r = bytes_back 8 0 (drop 8 xs) (omega (arith, length-drop 8 xs)) (λ k. rw (get_or-drop 8 xs k 0) (r (8 + k)))
@@ -79,7 +88,7 @@ entry_put e old new f l r g rest =
     let a : little_bytes 8 (number_of (behind 12 p.put)) ≡ take 8 e.rest = ap (little_bytes 8) h.1.1.1.1.1.1.1.1.1.1.1.1.0 ∙ bytes_back 8 0 e.rest (omega arith) r in
     let b : little_bytes 8 (number_of (behind 13 p.put)) ≡ take 8 (drop 8 e.rest) = ap (little_bytes 8) h.1.1.1.1.1.1.1.1.1.1.1.1.1.0 ∙ later e.rest l r in
     let c : little_bytes 8 (number_of (behind 12 p.put)) ++ little_bytes 8 (number_of (behind 13 p.put)) ≡ e.rest = rw (a, b) (halves e.rest l) in
-    record { put = p.put; joined = p.joined; reads = (rw (p0, p1, p2, p3, p4, p5, p6, p7, p8, p9, p10, p11, c) refl, h.1.1.1.1.1.1.1.1.1.1.1.1.1.1) }
+    record { put = p.put; joined = p.joined; reads = (same_fields p0 p1 p2 p3 p4 p5 p6 p7 p8 p9 p10 p11 c, h.1.1.1.1.1.1.1.1.1.1.1.1.1.1) }
 
 times : (t : Option ℕ) {n : ℕ} → n ≡ option_number t → option_from n ≡ t
 times None e = ap option_from e

@@ -363,31 +363,21 @@ impl Recorder {
         ensures exact { Exact (undo (A.seen whole.now) self.old.made) (A.seen whole.now) result }
         ensures none { self.new.made ≡ [] }
     {
-        self.numbers.close(whole);
-        self.completions.close(whole);
-        self.rows.close(whole);
+        let numbers = self.numbers.close(whole);
+        let completions = self.completions.close(whole);
+        let rows = self.rows.close(whole);
         let rest = self.rest.close(whole);
         self.room = Room::new();
-        let packed = Packed::of(
-            self.numbers.as_slice(),
-            self.completions.as_slice(),
-            self.rows.as_slice(),
-            &mut self.scratch,
-        );
-        match packed {
+        match Packed::of(&numbers, &completions, &rows, &mut self.scratch) {
             Ok(packed) => {
-                self.numbers.clear();
-                self.completions.clear();
-                self.rows.clear();
+                self.numbers.reuse(numbers);
+                self.completions.reuse(completions);
+                self.rows.reuse(rows);
                 Record::of(packed, Wide::new(), rest)
             }
             Err(_) => {
                 let spare = mem::replace(&mut self.spare, Wide::new());
-                let wide = spare.with(
-                    self.numbers.take(),
-                    self.completions.take(),
-                    self.rows.take(),
-                );
+                let wide = spare.with(numbers, completions, rows);
                 Record::of(Packed::new(self.alloc), wide, rest)
             }
         }

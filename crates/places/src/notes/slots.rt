@@ -17,7 +17,7 @@ use std::mem;
 /// For how many notes there is room once there is one.
 const FIRST_NOTES: usize = 4;
 
-/// For how many notes there stays room at most once they are closed.
+/// Of how many notes at most the memory stays for later ones.
 const FEW_NOTES: usize = 64;
 
 /// A note of a place that has a slot: a number that no other place has.
@@ -133,39 +133,22 @@ impl<N: Slotted + Copy> Slots<N> {
         has_note(&self.notes, place)
     }
 
-    /// Drops the notes whose place has its old value.
-    pub fn close<A: At>(&mut self, whole: &A)
+    /// Takes out the notes whose place has another value now, with their memory.
+    pub fn close<A: At>(&mut self, whole: &A) -> Vec<N>
         ensures kept { KeptOf (A.seen whole.now) (map N.change self.old.notes)
-            (map N.change self.new.notes) }
+            (map N.change result.items) }
         ensures once { NamesOnce (map N.change self.old.notes) }
-    {
-        drop_same_notes(&mut self.notes, whole);
-    }
-
-    /// The notes.
-    pub fn as_slice(&self) -> &[N]
-        ensures { result.now ≡ self.now.notes }
-    {
-        &self.notes
-    }
-
-    /// Drops all notes. The memory of a few stays.
-    pub fn clear(&mut self)
-        ensures { self.new.notes ≡ [] }
-    {
-        if self.notes.len() <= FEW_NOTES {
-            self.notes.clear();
-        } else {
-            drop(take_all(&mut self.notes));
-        }
-    }
-
-    /// Takes the notes out, with their memory.
-    pub fn take(&mut self) -> Vec<N>
-        ensures taken { result.items ≡ self.old.notes }
         ensures none { self.new.notes ≡ [] }
     {
-        take_all(&mut self.notes)
+        drop_same_notes(&mut self.notes, whole);
+        take_notes(&mut self.notes)
+    }
+
+    /// Makes the next notes in the memory of others, which go. Of many it is let go too.
+    pub fn reuse(&mut self, notes: Vec<N>)
+        ensures { self.new.notes ≡ [] }
+    {
+        self.notes = emptied(notes);
     }
 }
 
@@ -210,14 +193,24 @@ fn drop_same_notes<N: Slotted + Copy, A: At>(notes: &mut Vec<N>, whole: &A)
 }
 
 /// Takes the notes out, with their memory.
-fn take_all<N>(notes: &mut Vec<N>) -> Vec<N>
+fn take_notes<N: Slotted + Copy>(notes: &mut Vec<N>) -> Vec<N>
     ensures taken { result.items ≡ notes.old.items }
     ensures none { notes.new.items ≡ [] }
 {
     let none = Vec::new(*notes.allocator());
-    let mut taken = mem::replace(notes, none);
-    taken.shrink_to_fit();
-    taken
+    mem::replace(notes, none)
+}
+
+/// No notes, in the memory of a few.
+fn emptied<N: Slotted + Copy>(notes: Vec<N>) -> Vec<N>
+    ensures { result.items ≡ [] }
+{
+    let mut notes = notes;
+    if notes.len() > FEW_NOTES {
+        return Vec::new(*notes.allocator());
+    }
+    notes.clear();
+    notes
 }
 
 /// Drops the notes whose place has its old value.

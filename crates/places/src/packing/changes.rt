@@ -1,5 +1,5 @@
 //! Changes in bytes.
-ghost use Rattle.std.specs.Prelude.{◌≡◌, ◌∷◌, [], None, OnOk, MatchOption, is_some};
+ghost use Rattle.std.specs.Prelude.{◌≡◌, ◌==◌, ◌∷◌, [], None, Some, OnOk, MatchOption, is_some};
 ghost use Rattle.places.specs.View.{named};
 ghost use Rattle.places.specs.Notes.{left};
 ghost use Rattle.places.specs.PlaceNumbers.{place_of};
@@ -41,46 +41,67 @@ fn shape_of(old: Option<Value>) -> u64
     }
 }
 
-/// Puts what stood in a place behind bytes, by its shape. A byte has none.
-fn put_value(out: &mut Vec<u8>, old: Option<Value>) -> Result<(), AllocError>
-    ensures { OnOk result (Puts (value_of_shape (shape_of old)) (behind (size_of_shape (shape_of old)))
+fn awake_number(awake: bool) -> u64
+    ensures { (result == 1) ≡ awake }
+{
+    if awake { 1 } else { 0 }
+}
+
+/// Puts a value behind bytes, by its shape. A byte has none.
+fn put_value(out: &mut Vec<u8>, value: Value) -> Result<(), AllocError>
+    ensures { OnOk result
+        (Puts (value_of_shape (shape_of (Some value))) (behind (size_of_shape (shape_of (Some value))))
+        out.old.items (Some value ∷ []) out.new.items) }
+{
+    match value {
+        Value::Number(number) => {
+            put_numbers(out, &[number])?;
+            Ok(())
+        }
+        Value::Signed(number) => {
+            put_numbers(out, &[number.cast_unsigned()])?;
+            Ok(())
+        }
+        Value::Entry(entry) => {
+            put_entry(out, entry)?;
+            Ok(())
+        }
+        Value::Completed(completion) => {
+            put_completion(out, completion)?;
+            Ok(())
+        }
+        Value::Requested(row) => {
+            put_row(out, row)?;
+            Ok(())
+        }
+        Value::Staged(stage) => {
+            put_stage(out, stage)?;
+            Ok(())
+        }
+        Value::Reaped(reaped) => {
+            put_reaped(out, reaped)?;
+            Ok(())
+        }
+        Value::Awake(awake) => {
+            put_numbers(out, &[awake_number(awake)])?;
+            Ok(())
+        }
+        Value::Byte(_) => Err(AllocError),
+    }
+}
+
+/// Puts what stood in a place behind bytes, by its shape.
+fn put_old(out: &mut Vec<u8>, old: Option<Value>) -> Result<(), AllocError>
+    ensures { OnOk result
+        (Puts (value_of_shape (shape_of old)) (behind (size_of_shape (shape_of old)))
         out.old.items (old ∷ []) out.new.items) }
 {
     match old {
         None => Ok(()),
-        Some(Value::Number(number)) => {
-            put_numbers(out, &[number])?;
+        Some(value) => {
+            put_value(out, value)?;
             Ok(())
         }
-        Some(Value::Signed(number)) => {
-            put_numbers(out, &[number.cast_unsigned()])?;
-            Ok(())
-        }
-        Some(Value::Entry(entry)) => {
-            put_entry(out, entry)?;
-            Ok(())
-        }
-        Some(Value::Completed(completion)) => {
-            put_completion(out, completion)?;
-            Ok(())
-        }
-        Some(Value::Requested(row)) => {
-            put_row(out, row)?;
-            Ok(())
-        }
-        Some(Value::Staged(stage)) => {
-            put_stage(out, stage)?;
-            Ok(())
-        }
-        Some(Value::Reaped(reaped)) => {
-            put_reaped(out, reaped)?;
-            Ok(())
-        }
-        Some(Value::Awake(awake)) => {
-            put_numbers(out, &[u64::from(awake)])?;
-            Ok(())
-        }
-        Some(Value::Byte(_)) => Err(AllocError),
     }
 }
 
@@ -95,7 +116,7 @@ pub fn put_change(out: &mut Vec<u8>, change: Change) -> Result<(), AllocError>
     }
     let head = place.kind() as u64 + KINDS * shape_of(change.old);
     put_numbers(out, &[head, place.index() as u64])?;
-    put_value(out, change.old)?;
+    put_old(out, change.old)?;
     Ok(())
 }
 
