@@ -1,5 +1,5 @@
 -- Changes that were put behind bytes are read there.
-use Rattle.std.proofs.Common.{◌≡◌, ◌≢◌, ℕ, zero, suc, ◌+◌, ◌*◌, ◌-◌, ◌/◌, ◌%◌, ◌^◌, ◌<◌, ℤ, Bool, true, false, cond, refl, sym, ◌∙◌, ap, List, [], ◌∷◌, ◌++◌, length, arith, append-nil, FitsSigned, w64, to_z, of_z}
+use Rattle.std.proofs.Common.{◌≡◌, ℕ, ◌+◌, ◌*◌, ◌-◌, ◌%◌, ◌^◌, ◌<◌, ℤ, Bool, false, refl, sym, ◌∙◌, ap, List, [], ◌∷◌, ◌++◌, length, arith, append-nil, FitsSigned, w64}
 use Rattle.std.specs.Prelude.{Option, Some, None, ◌==◌}
 use Rattle.std.specs.Int.{cast_signed, cast_unsigned}
 use Rattle.std.proofs.Math.Nat.{mod-eq_of_lt}
@@ -16,8 +16,8 @@ use Rattle.places.specs.declared.value.Value.TheVariants.{Number, Signed, Entry,
 use Rattle.places.specs.declared.value.Change.{Change}
 use Rattle.places.specs.Places.{kind_of, index_of, second_of}
 use Rattle.places.specs.PlaceNumbers.{place_of, place_again}
-use Rattle.places.specs.Reading.{read_all, Reads, Put, Puts}
-use Rattle.places.specs.Numerals.{number_of, after, behind, word_of, long_of}
+use Rattle.places.specs.Reading.{read_all, Puts}
+use Rattle.places.specs.Numerals.{number_of, after, behind, word_of}
 use Rattle.places.specs.Packed.{StageFits, stage_list, stage_of, reaped_of, completion_of, entry_of, row_of, shape_of, size_of_shape, value_of_shape, kind_from, shape_from, change_of, after_change, packed}
 use Rattle.places.proofs.ReadingLemmas.{read_all_of}
 

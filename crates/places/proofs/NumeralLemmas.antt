@@ -1,11 +1,11 @@
 -- Numbers that were put behind bytes are read there.
-use Rattle.std.proofs.Common.{◌≡◌, ℕ, ◌+◌, ◌<◌, ◌≤◌, ◌^◌, refl, sym, ◌∙◌, ap, List, [], ◌∷◌, ◌++◌, length, append_assoc, length-append, drop, arith, Bool, true, false}
+use Rattle.std.proofs.Common.{◌≡◌, ℕ, ◌<◌, ◌≤◌, ◌^◌, refl, sym, ◌∙◌, ap, List, [], ◌∷◌, ◌++◌, length, append_assoc, length-append, drop, arith, false}
 use Rattle.std.specs.Prelude.{◌==◌, nat_lt}
 use Rattle.std.proofs.Math.Seq.{drop-append_seam}
-use Rattle.byteorder.specs.Endian.{little_bytes, little_number}
+use Rattle.byteorder.specs.Endian.{little_bytes}
 use Rattle.byteorder.specs.Numbers.{little_number-reads_back, length-bytes_low_first}
-use Rattle.places.specs.Reading.{Reads, Put, Puts}
-use Rattle.places.specs.Numerals.{number_of, after, width_of, wide_number}
+use Rattle.places.specs.Reading.{Puts}
+use Rattle.places.specs.Numerals.{number_of, after, wide_number}
 
 small_reads : (n : ℕ) (rest : List ℕ) → n < 253 → (number_of (n ∷ rest) ≡ n) × (after (n ∷ rest) ≡ rest)
 unfolding number_of after

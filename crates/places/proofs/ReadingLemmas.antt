@@ -1,7 +1,7 @@
 -- Values that were put behind bytes are read there.
-use Rattle.std.proofs.Common.{◌≡◌, ℕ, zero, suc, ◌+◌, ◌<◌, take, get_or, refl, sym, ◌∙◌, ap, subst, List, [], ◌∷◌, ◌++◌, length, append_assoc}
+use Rattle.std.proofs.Common.{◌≡◌, ℕ, ◌+◌, ◌<◌, take, get_or, refl, sym, ◌∙◌, subst, List, [], ◌∷◌, ◌++◌, length}
 use Rattle.std.proofs.lemmas.List.{take_more}
-use Rattle.places.specs.Reading.{read_all, Reads, Put, Puts}
+use Rattle.places.specs.Reading.{read_all, Reads, Puts}
 
 module _ {X : Type 0} (read : List ℕ → X) (left : List ℕ → List ℕ) where
   reads-append : (bs : List ℕ) (xs : List X) (mid : List ℕ) (ys : List X) (rest : List ℕ) → Reads read left bs xs mid → Reads read left mid ys rest → Reads read left bs (xs ++ ys) rest

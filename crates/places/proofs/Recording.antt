@@ -1,7 +1,7 @@
 -- The changes of a record are those of the notes that it was made of.
-use Rattle.std.proofs.Common.{◌≡◌, ℕ, ◌+◌, ◌<◌, ◌≤◌, Bool, true, false, refl, sym, ◌∙◌, ap, subst, List, [], ◌∷◌, ◌++◌, length, append_assoc, length-append, arith, inl, inr}
+use Rattle.std.proofs.Common.{◌≡◌, ℕ, ◌+◌, ◌<◌, ◌≤◌, true, false, refl, sym, ◌∙◌, ap, subst, List, [], ◌∷◌, ◌++◌, length, append_assoc, length-append, arith, inl, inr}
 use Rattle.std.proofs.lemmas.List.{length-map}
-use Rattle.std.specs.Prelude.{map, ◌⊎◌}
+use Rattle.std.specs.Prelude.{map}
 use Rattle.places.specs.declared.value.Change.{Change}
 use Rattle.places.specs.declared.notes.numbers.NumberNote.{NumberNote}
 use Rattle.places.specs.declared.notes.completions.CompletionNote.{CompletionNote}

@@ -1,5 +1,5 @@
 -- Values whose numbers were put behind bytes are read there.
-use Rattle.std.proofs.Common.{◌≡◌, ℕ, zero, suc, ◌+◌, ◌*◌, ◌-◌, ◌/◌, ◌%◌, ◌^◌, ◌<◌, ◌≤◌, ℤ, refl, sym, ◌∙◌, ap, List, [], ◌∷◌, ◌++◌, length, take, drop, get_or, slice_index, arith, FitsSigned, w32, w64, to_z, of_z, drop-cons, length-drop, get_or-drop}
+use Rattle.std.proofs.Common.{◌≡◌, ℕ, zero, suc, ◌+◌, ◌*◌, ◌/◌, ◌%◌, ◌^◌, ◌<◌, ◌≤◌, ℤ, refl, sym, ◌∙◌, ap, List, [], ◌∷◌, ◌++◌, length, take, drop, slice_index, arith, FitsSigned, w32, of_z, drop-cons, length-drop, get_or-drop}
 use Rattle.std.specs.Prelude.{Option, Some, None}
 use Rattle.std.specs.Int.{cast_signed, cast_unsigned, byte_at, bytes_low_first}
 use Rattle.std.proofs.Math.Nat.{mod-eq_of_lt, div-div-eq-div-mul, div-one, pow-succ'}
@@ -10,8 +10,8 @@ use Rattle.entries.specs.declared.completion.Cqe.{Cqe}
 use Rattle.entries.specs.declared.entry.Sqe.{Sqe}
 use Rattle.entries.specs.declared.row.Row.{Row}
 use Rattle.entries.specs.Layout.{EntryFits, CompletionFits}
-use Rattle.places.specs.Reading.{Reads, Put, Puts}
-use Rattle.places.specs.Numerals.{number_of, after, behind, byte_of, half_of, word_of, signed_of, long_of}
+use Rattle.places.specs.Reading.{Puts}
+use Rattle.places.specs.Numerals.{number_of, after, behind}
 use Rattle.places.specs.Packed.{option_number, option_from, word_from, phase_from, completion_list, entry_list, row_list, completion_of, entry_of, row_of, RowAgain}
 
 same_part : {m n : ℕ} (k : ℕ) → m ≡ n → n < k → m % k ≡ n
@@ -87,7 +87,7 @@ entry_put e old new f l r g rest =
     let p11 = same_signed e.splice_fd_in h.1.1.1.1.1.1.1.1.1.1.1.0 f.splice_fd_in in
     let a : little_bytes 8 (number_of (behind 12 p.put)) ≡ take 8 e.rest = ap (little_bytes 8) h.1.1.1.1.1.1.1.1.1.1.1.1.0 ∙ bytes_back 8 0 e.rest (omega arith) r in
     let b : little_bytes 8 (number_of (behind 13 p.put)) ≡ take 8 (drop 8 e.rest) = ap (little_bytes 8) h.1.1.1.1.1.1.1.1.1.1.1.1.1.0 ∙ later e.rest l r in
-    let c : little_bytes 8 (number_of (behind 12 p.put)) ++ little_bytes 8 (number_of (behind 13 p.put)) ≡ e.rest = rw (a, b) (halves e.rest l) in
+    let c : little_bytes 8 (number_of (behind 12 p.put)) ++ little_bytes 8 (number_of (behind 13 p.put)) ≡ e.rest = ap (λ (xs : List ℕ). xs ++ little_bytes 8 (number_of (behind 13 p.put))) a ∙ ap (λ (xs : List ℕ). take 8 e.rest ++ xs) b ∙ halves e.rest l in
     record { put = p.put; joined = p.joined; reads = (same_fields p0 p1 p2 p3 p4 p5 p6 p7 p8 p9 p10 p11 c, h.1.1.1.1.1.1.1.1.1.1.1.1.1.1) }
 
 times : (t : Option ℕ) {n : ℕ} → n ≡ option_number t → option_from n ≡ t

@@ -1,6 +1,6 @@
 -- Whole numbers in bytes, the smaller in fewer: one below 253 is a byte, and behind a byte 253, 254 or
 -- 255 stand two, four or eight, the lowest first.
-use Rattle.std.specs.Prelude.{ℕ, zero, suc, ℤ, ◌%◌, ◌^◌, ◌-◌, ◌==◌, nat_lt, List, [], ◌∷◌, Option, Some, None, length, drop, if◌then◌else◌}
+use Rattle.std.specs.Prelude.{ℕ, zero, suc, ℤ, ◌%◌, ◌^◌, ◌==◌, nat_lt, List, [], ◌∷◌, length, drop, if◌then◌else◌}
 use Rattle.std.specs.Int.{w32, w64, cast_signed}
 use Rattle.byteorder.specs.Endian.{little_number}
 

@@ -160,10 +160,7 @@ impl Record {
             either(names_place(self.wide.numbers(), place), by_slot),
         );
         let mut packed = self.packed.changes();
-        either(
-            packed.names(place),
-            either(self.rest.names(place), by_kind),
-        )
+        either(packed.names(place), either(self.rest.names(place), by_kind))
     }
 
     /// Lets the record go.

@@ -118,9 +118,9 @@ impl Wide {
             None => 0,
             Some(kinds) => size_of::<Kinds>()
                 .saturating_add(size_of::<NumberNote>().saturating_mul(kinds.numbers.capacity()))
-                .saturating_add(
-                    size_of::<CompletionNote>().saturating_mul(kinds.completions.capacity()),
-                )
+                .saturating_add(size_of::<CompletionNote>().saturating_mul(
+                    kinds.completions.capacity(),
+                ))
                 .saturating_add(size_of::<RowNote>().saturating_mul(kinds.rows.capacity())),
         }
     }

@@ -1,5 +1,6 @@
 //! Changes in bytes.
 ghost use Rattle.std.specs.Prelude.{◌≡◌, ◌==◌, ◌∷◌, [], None, Some, OnOk, MatchOption, is_some};
+ghost use Rattle.std.specs.Int.{w64, cast_unsigned};
 ghost use Rattle.places.specs.View.{named};
 ghost use Rattle.places.specs.Notes.{left};
 ghost use Rattle.places.specs.PlaceNumbers.{place_of};
@@ -8,15 +9,15 @@ ghost use Rattle.places.specs.Numerals.{behind};
 ghost use Rattle.places.specs.Packed.{shape_of, size_of_shape, value_of_shape, change_of, after_change, packed};
 
 use crate::listed::Listed;
+use crate::notes::leaving::left_after;
 use crate::notes::slots::is_same_place;
 use crate::packing::numerals::{Numerals, put_numbers};
 use crate::packing::values::{
-    put_completion, put_entry, put_reaped, put_row, put_stage, read_completion, read_entry, read_reaped,
-    read_row, read_stage,
+    put_completion, put_entry, put_reaped, put_row, put_stage, read_completion, read_entry,
+    read_reaped, read_row, read_stage,
 };
 use crate::place::Place;
 use crate::value::{Change, Value};
-use crate::notes::leaving::left_after;
 use std::alloc::AllocError;
 use std::marker::Model;
 
@@ -41,6 +42,12 @@ fn shape_of(old: Option<Value>) -> u64
     }
 }
 
+fn long_number(number: i64) -> u64
+    ensures { result ≡ cast_unsigned w64 number }
+{
+    number.cast_unsigned()
+}
+
 fn awake_number(awake: bool) -> u64
     ensures { (result == 1) ≡ awake }
 {
@@ -59,7 +66,7 @@ fn put_value(out: &mut Vec<u8>, value: Value) -> Result<(), AllocError>
             Ok(())
         }
         Value::Signed(number) => {
-            put_numbers(out, &[number.cast_unsigned()])?;
+            put_numbers(out, &[long_number(number)])?;
             Ok(())
         }
         Value::Entry(entry) => {

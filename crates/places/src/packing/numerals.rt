@@ -131,11 +131,7 @@ fn eight_of(bytes: &[u8]) -> u64
 fn behind(bytes: &[u8], n: usize) -> &[u8]
     ensures { result.now ≡ drop n bytes.now }
 {
-    if bytes.len() < n {
-        &[]
-    } else {
-        &bytes[n..]
-    }
+    if bytes.len() < n { &[] } else { &bytes[n..] }
 }
 
 /// Puts a number behind bytes.

@@ -1,4 +1,4 @@
-use Rattle.std.proofs.Common.{◌≡◌, ◌<◌, ◌^◌, subst, rules, arith}
+use Rattle.std.proofs.Common.{◌<◌, ◌^◌, subst, rules, arith}
 use Rattle.places.proofs.ChangeLemmas.{change_put}
 use Rattle.places.proofs.packing.changes.put_change.Goals as goal
 

@@ -1,5 +1,6 @@
-use Rattle.std.proofs.Common.{rules, ◌≡◌, ap}
-use Rattle.std.specs.Prelude.{Option, Some, None}
+use Rattle.std.proofs.Common.{rules, ap, w64}
+use Rattle.std.proofs.lemmas.Int.{to_z-of_z}
+use Rattle.std.specs.Prelude.{Some}
 use Rattle.places.specs.declared.value.Value.TheVariants.{Number, Signed, Entry, Completed, Requested, Staged, Reaped, Awake}
 use Rattle.places.proofs.ChangeLemmas.{put_is, number_put, signed_put, entry_value_put, completion_value_put, row_value_put, stage_value_put, reaped_value_put, awake_put}
 use Rattle.places.proofs.packing.changes.put_value.Goals as goal
@@ -8,7 +9,7 @@ pub returns-in_ok-put_numbers-in-Number : goal.returns-in_ok-put_numbers-in-Numb
 returns-in_ok-put_numbers-in-Number c = put_is (Some c.args.value) (Some (Number c.in-Number.number)) _ _ (ap Some c.in-Number.is) (number_put _ _ c.in-Number.number c.in_ok-put_numbers-in-Number.ensures)
 
 pub returns-in_ok-put_numbers-in-Signed : goal.returns-in_ok-put_numbers-in-Signed
-returns-in_ok-put_numbers-in-Signed c = put_is (Some c.args.value) (Some (Signed c.in-Signed.number)) _ _ (ap Some c.in-Signed.is) (signed_put _ _ c.in-Signed.number (search rules) (rw (c.cast_unsigned.ensures) at c.in_ok-put_numbers-in-Signed.ensures))
+returns-in_ok-put_numbers-in-Signed c = put_is (Some c.args.value) (Some (Signed c.in-Signed.number)) _ _ (ap Some c.in-Signed.is) (signed_put _ _ c.in-Signed.number (search rules) (rw (c.long_number.ensures, to_z-of_z w64 c.in-Signed.number (search rules)) at c.in_ok-put_numbers-in-Signed.ensures))
 
 pub returns-in_ok-put_entry-in-Entry : goal.returns-in_ok-put_entry-in-Entry
 returns-in_ok-put_entry-in-Entry c = put_is (Some c.args.value) (Some (Entry c.in-Entry.entry)) _ _ (ap Some c.in-Entry.is) (entry_value_put _ _ c.in-Entry.entry c.in_ok-put_entry-in-Entry.ensures)

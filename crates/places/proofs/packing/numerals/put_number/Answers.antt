@@ -1,4 +1,4 @@
-use Rattle.std.proofs.Common.{◌≡◌, ◌<◌, ◌^◌, arith}
+use Rattle.std.proofs.Common.{arith}
 use Rattle.places.proofs.NumeralLemmas.{put_small, put_two_bytes, put_four_bytes, put_eight_bytes}
 use Rattle.places.proofs.packing.numerals.put_number.Goals as goal
 

@@ -1,4 +1,4 @@
-use Rattle.std.proofs.Common.{length, subst, sym, take, ◌≡◌, arith}
+use Rattle.std.proofs.Common.{subst, arith}
 use Rattle.std.proofs.lemmas.List.{take_all}
 use Rattle.places.specs.Reading.{Puts}
 use Rattle.places.specs.Numerals.{number_of, after}

@@ -1,5 +1,5 @@
 use Rattle.std.proofs.Common.{subst, sym, [], ◌∷◌, ◌≡◌}
-use Rattle.std.specs.Prelude.{Option, Some, None}
+use Rattle.std.specs.Prelude.{Some, None}
 use Rattle.places.specs.Reading.{Puts}
 use Rattle.places.specs.Numerals.{behind}
 use Rattle.places.specs.Packed.{reaped_of}

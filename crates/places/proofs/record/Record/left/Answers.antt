@@ -1,4 +1,4 @@
-use Rattle.std.proofs.Common.{◌∙◌, sym, subst, ap}
+use Rattle.std.proofs.Common.{◌∙◌, sym, subst}
 use Rattle.places.specs.Notes.{IsLeft, left}
 use Rattle.places.specs.All.{all_changes}
 use Rattle.places.proofs.Left.{left_everywhere, left-append}

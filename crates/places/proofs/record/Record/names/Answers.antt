@@ -1,6 +1,3 @@
-use Rattle.std.proofs.Common.{◌∙◌, ap}
-use Rattle.std.specs.Prelude.{◌||◌, is_some}
-use Rattle.places.specs.View.{named}
 use Rattle.places.specs.All.{all_changes}
 use Rattle.places.proofs.Sound.{is_named_all}
 use Rattle.places.proofs.Undoing.{named_either}

@@ -1,5 +1,5 @@
-use Rattle.std.proofs.Common.{◌≡◌, refl, sym, ◌∙◌, ap, subst, inr, [], true, false}
-use Rattle.places.specs.View.{undo, Exact, NamesOnce}
+use Rattle.std.proofs.Common.{◌≡◌, refl, sym, ◌∙◌, ap, subst, inr, false}
+use Rattle.places.specs.View.{undo, NamesOnce}
 use Rattle.places.specs.All.{all_changes, record_changes, NothingNoted}
 use Rattle.places.specs.Slots.{number_change, completion_change, row_change}
 use Rattle.places.proofs.Kept.{kept_leaves, kept_exact}
@@ -55,11 +55,13 @@ returns-in-Err-clause-exact g c =
     (all_kept (g.A.At.seen c.args.whole.now) c.self.inside.numbers.notes c.close-numbers.result.items c.self.inside.completions.notes c.close-completions.result.items c.self.inside.rows.notes c.close-rows.result.items c.self.inside.rest c.close-rest.result c.close-numbers.ensures.kept c.close-completions.ensures.kept c.close-rows.ensures.kept c.close-rest.ensures.bytes c.close-rest.ensures.odd) (λ p. refl))
 
 pub invariant_of-self : goal.invariant_of-self
-invariant_of-self g c =
-    (sound_empty c.reuse.new.self c.reuse-in-Ok.new.self c.reuse-in-Ok-2.new.self c.close-rest.new.self c.new-self-inside.result c.close-rest.ensures.no_olds c.close-rest.ensures.no_odd c.new-self-inside.ensures,
-    inr (record { numbers = c.reuse.ensures; completions = c.reuse-in-Ok.ensures; rows = c.reuse-in-Ok-2.ensures; held = ap (λ r. r.held) c.new-self-inside.ensures }))
+invariant_of-self g c = (
+  sound_empty c.reuse.new.self c.reuse-in-Ok.new.self c.reuse-in-Ok-2.new.self c.close-rest.new.self c.new-self-inside.result c.close-rest.ensures.no_olds c.close-rest.ensures.no_odd c.new-self-inside.ensures,
+  inr (record { numbers = c.reuse.ensures; completions = c.reuse-in-Ok.ensures; rows = c.reuse-in-Ok-2.ensures; held = ap (λ r. r.held) c.new-self-inside.ensures }),
+)
 
 pub invariant_of-self-in-Err : goal.invariant_of-self-in-Err
-invariant_of-self-in-Err g c =
-    (sound_empty c.close-numbers.new.self c.close-completions.new.self c.close-rows.new.self c.close-rest.new.self c.new-self-inside.result c.close-rest.ensures.no_olds c.close-rest.ensures.no_odd c.new-self-inside.ensures,
-    inr (record { numbers = c.close-numbers.ensures.none; completions = c.close-completions.ensures.none; rows = c.close-rows.ensures.none; held = ap (λ r. r.held) c.new-self-inside.ensures }))
+invariant_of-self-in-Err g c = (
+  sound_empty c.close-numbers.new.self c.close-completions.new.self c.close-rows.new.self c.close-rest.new.self c.new-self-inside.result c.close-rest.ensures.no_olds c.close-rest.ensures.no_odd c.new-self-inside.ensures,
+  inr (record { numbers = c.close-numbers.ensures.none; completions = c.close-completions.ensures.none; rows = c.close-rows.ensures.none; held = ap (λ r. r.held) c.new-self-inside.ensures }),
+)

@@ -1,4 +1,4 @@
-use Rattle.std.proofs.Common.{◌≡◌, ◌∙◌, sym, ap}
+use Rattle.std.proofs.Common.{◌∙◌, ap}
 use Rattle.places.specs.Packed.{packed}
 use Rattle.places.proofs.Recording.{notes_packed}
 use Rattle.places.proofs.packing.packed.Packed.of.Goals as goal
