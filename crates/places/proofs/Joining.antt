@@ -1,5 +1,5 @@
 -- Notes of several kinds, one kind behind the other.
-use Rattle.std.proofs.Common.{◌≡◌, ◌≢◌, ℕ, Bool, true, false, cond, refl, sym, ◌∙◌, ap, List, [], ◌∷◌, ◌++◌}
+use Rattle.std.proofs.Common.{◌≡◌, ◌≢◌, ℕ, Bool, true, false, cond, refl, sym, ◌∙◌, ap, List, ◌++◌}
 use Rattle.std.specs.Prelude.{Option, Some, None, is_some, ◌==◌}
 use Rattle.std.proofs.lemmas.Bool.{eqb-true, eq-eqb}
 use Rattle.places.specs.declared.place.Place.{Place}
@@ -7,7 +7,7 @@ use Rattle.places.specs.declared.value.Value.{Value}
 use Rattle.places.specs.declared.value.Change.{Change}
 use Rattle.places.specs.declared.notes.runs.Region.{Region}
 use Rattle.places.specs.Places.{same_place}
-use Rattle.places.specs.View.{named, Noted, NamesOnce, first_note}
+use Rattle.places.specs.View.{named, Noted, first_note}
 use Rattle.places.specs.Runs.{byte_in, NotedBytes}
 use Rattle.places.proofs.SamePlace.{same_place_is}
 use Rattle.places.proofs.Naming.{named-append}

@@ -1,6 +1,6 @@
 -- Kept bytes by their index.
 use Rattle.std.proofs.Common.{◌≡◌, ◌≢◌, ℕ, zero, suc, ◌<◌, ◌≤◌, ◌+◌, ◌-◌, Bool, true, false, cond, refl, sym, ◌∙◌, ap, List, [], ◌∷◌, length, arith}
-use Rattle.std.specs.Prelude.{Option, Some, None, IsSome, is_some, option_map, slice_get, unwrap_or, ◌==◌, ◌&&◌, nat_lt}
+use Rattle.std.specs.Prelude.{Option, Some, None, is_some, option_map, slice_get, unwrap_or, ◌==◌, ◌&&◌, nat_lt}
 use Rattle.std.specs.Option.{option_flatten}
 use Rattle.std.proofs.lemmas.Bool.{ltb-true, ltb-false, eqb-true, eqb-false, eq-eqb, lt-ltb, le-ltb}
 use Rattle.std.proofs.lemmas.Option.{slice_get_past}

@@ -18,7 +18,7 @@ use Rattle.places.specs.Runs.{place_in, old_bytes, run_changes}
 use Rattle.places.specs.RestList.{RestList}
 use Rattle.places.specs.All.{kind_changes, all_changes}
 
-left-append : (l : Listed) (cs ds : List Change) (n : ℕ) → left l (cs ++ ds) n ≡ left l ds (left l cs n)
+pub left-append : (l : Listed) (cs ds : List Change) (n : ℕ) → left l (cs ++ ds) n ≡ left l ds (left l cs n)
 left-append l [] ds n = refl
 left-append l (c ∷ cs) ds n = left-append l cs ds (after_change l c.place c.old n)
 

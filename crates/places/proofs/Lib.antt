@@ -15,3 +15,9 @@ pub mod SameValue
 pub mod MaskedLemmas
 pub mod Undoing
 pub mod KeptAt
+pub mod ReadingLemmas
+pub mod NumeralLemmas
+pub mod ValueLemmas
+pub mod ChangeLemmas
+pub mod Recording
+pub mod PackedLemmas

@@ -1,19 +1,17 @@
 -- Old bytes beside marks.
-use Rattle.std.proofs.Common.{◌≡◌, ◌≢◌, ℕ, zero, suc, ◌<◌, ◌≤◌, ◌+◌, Bool, true, false, cond, refl, sym, ◌∙◌, ap, subst, List, [], ◌∷◌, ◌++◌, ◌⊎◌, inl, inr, length, take, drop, min, ◌-◌, not, ◌^◌, arith, length-append}
+use Rattle.std.proofs.Common.{◌≡◌, ◌≢◌, ℕ, zero, suc, ◌<◌, ◌≤◌, ◌+◌, Bool, true, false, cond, refl, sym, ◌∙◌, ap, subst, List, [], ◌∷◌, ◌++◌, inl, inr, length, take, drop, ◌-◌, ◌^◌, arith, length-append}
 use Rattle.std.specs.Prelude.{Option, Some, None, map, is_some, slice_get, option_map, replicate, slice_set, slice_index_or, ◌==◌}
 use Rattle.std.specs.List.{list_any}
 use Rattle.std.proofs.lemmas.List.{take_all, take-append-drop}
 use Rattle.std.proofs.lemmas.Bool.{eqb-true, eq-eqb}
 use Rattle.places.proofs.ListLemmas.{slice_get-set}
 use Rattle.places.proofs.ByteLemmas.{runs_once}
-use Rattle.places.specs.declared.value.Value.{Value}
 use Rattle.places.specs.declared.value.Value.TheVariants.{Byte}
-use Rattle.places.specs.declared.value.Change.{Change}
 use Rattle.places.specs.declared.notes.runs.Region.{Region}
 use Rattle.places.specs.declared.notes.runs.Run.{Run}
 use Rattle.places.specs.View.{View, named}
 use Rattle.places.specs.Closed.{KeptOf, LeftOf}
-use Rattle.places.specs.Runs.{place_in, old_bytes, run_changes, run_total, RunsOnce}
+use Rattle.places.specs.Runs.{place_in, old_bytes, run_changes, RunsOnce}
 use Rattle.places.specs.Masked.{masked, kept_byte, LeftMark, MaskedOnce}
 use Rattle.places.proofs.Kept.{kept_bytes, kept_runs, runs_closed}
 

@@ -1,7 +1,7 @@
 -- When two places are one.
-use Rattle.std.proofs.Common.{◌≡◌, ℕ, Bool, true, false, cond, refl, sym, ◌∙◌, ap, eq-eqb}
+use Rattle.std.proofs.Common.{◌≡◌, Bool, true, false, refl, sym, ◌∙◌, ap, eq-eqb}
 use Rattle.std.proofs.lemmas.Bool.{eqb-true}
-use Rattle.std.specs.Prelude.{◌&&◌, ◌==◌}
+use Rattle.std.specs.Prelude.{◌&&◌}
 use Rattle.places.specs.declared.place.Place.{Place}
 use Rattle.places.specs.Places.{kind_of, index_of, second_of, same_place}
 use Rattle.places.specs.PlaceNumbers.{same_numbers}

@@ -1,6 +1,6 @@
 -- Notes of one kind name no places of another.
-use Rattle.std.proofs.Common.{◌≡◌, ◌≢◌, ℕ, ◌+◌, ◌<◌, ◌≤◌, Bool, true, false, cond, refl, sym, ◌∙◌, ap, subst, List, [], ◌∷◌, ◌++◌, length, take, drop, arith}
-use Rattle.std.specs.Prelude.{Option, Some, None, is_some, map, ◌==◌}
+use Rattle.std.proofs.Common.{◌≡◌, ◌≢◌, ℕ, ◌+◌, Bool, true, false, cond, refl, sym, ◌∙◌, ap, List, [], ◌∷◌, ◌++◌, take, drop}
+use Rattle.std.specs.Prelude.{Option, Some, None, map, ◌==◌}
 use Rattle.std.proofs.lemmas.Bool.{eq-eqb}
 use Rattle.places.specs.declared.place.Place.{Place}
 use Rattle.places.specs.declared.place.Place.TheVariants.{SubmissionHead, SubmissionTail, SubmissionFlags, SubmissionDropped, CompletionHead, CompletionTail, Array, Slot, Completion, MemoryByte, FileByte, DurableByte, FileLength, DurableLength, Position, OpenMark, PipeByte, PutCount, TakenCount, EventCount, Request, Backlog, BacklogFront, Clock, Counted, PollerStage, ProgramCounter, ThreadStage, Last, Got}
@@ -15,18 +15,17 @@ use Rattle.places.specs.declared.notes.runs.Region.{Region}
 use Rattle.places.specs.declared.notes.runs.Region.TheVariants.{Memory, File, Durable, Pipe}
 use Rattle.places.specs.declared.notes.runs.Run.{Run}
 use Rattle.places.specs.Places.{same_place, is_number, is_other}
-use Rattle.places.specs.View.{View, named, NamesOnce, Noted, LeadsBack, Exact}
+use Rattle.places.specs.View.{View, named, NamesOnce, Noted}
 use Rattle.places.specs.Slots.{number_change, completion_change, row_change}
 use Rattle.places.specs.SlotLaws.{number_plain, other_lone}
-use Rattle.places.specs.Runs.{place_in, old_bytes, run_changes, byte_in, NotedBytes}
+use Rattle.places.specs.Runs.{place_in, old_bytes, run_changes, NotedBytes}
 use Rattle.places.specs.Closed.{KeptOf}
 use Rattle.places.specs.RestList.{RestList}
 use Rattle.places.specs.All.{kind_changes, all_changes}
 use Rattle.places.proofs.SamePlace.{same_place_is}
-use Rattle.places.proofs.Naming.{named-append}
 use Rattle.places.proofs.Marking.{named_nowhere}
 use Rattle.places.proofs.ByteLemmas.{once_append}
-use Rattle.places.proofs.Kept.{kept_append, kept_leaves, kept_exact}
+use Rattle.places.proofs.Kept.{kept_append}
 use Rattle.places.proofs.Joining.{noted_before_others, noted_behind_others, bytes_behind, none_append, sorts_apart}
 
 -- the kinds of notes: numbers, completions, rows and other places, bytes

@@ -1,29 +1,26 @@
 -- What a recorder's notes say together.
-use Rattle.std.proofs.Common.{◌≡◌, ℕ, ◌+◌, ◌-◌, ◌<◌, ◌≤◌, Bool, true, false, cond, refl, sym, ◌∙◌, ap, subst, List, ◌++◌, [], ◌∷◌, arith, length}
+use Rattle.std.proofs.Common.{◌≡◌, ℕ, ◌+◌, ◌-◌, ◌<◌, ◌≤◌, true, refl, sym, ◌∙◌, ap, List, ◌++◌, [], ◌∷◌, arith, length}
 use Rattle.std.specs.Prelude.{Option, Some, None, is_some, map, ◌||◌}
 use Rattle.places.specs.declared.place.Place.{Place}
 use Rattle.places.specs.declared.place.Place.TheVariants.{Completion}
 use Rattle.places.specs.declared.value.Value.{Value}
-use Rattle.places.specs.declared.value.Change.{Change}
 use Rattle.places.specs.declared.notes.numbers.NumberNote.{NumberNote}
 use Rattle.places.specs.declared.notes.completions.CompletionNote.{CompletionNote}
 use Rattle.places.specs.declared.notes.rows.RowNote.{RowNote}
 use Rattle.places.specs.declared.notes.room.Room.{Room}
 use Rattle.places.specs.declared.notes.runs.Region.{Region}
 use Rattle.places.specs.Places.{is_number}
-use Rattle.places.specs.View.{View, named, first_note, Noted, NamesOnce, LeadsBack, Exact}
+use Rattle.places.specs.View.{named, first_note, Noted, NamesOnce}
 use Rattle.places.specs.Marks.{SlotList}
 use Rattle.places.specs.RestList.{RestList}
 use Rattle.places.specs.Slots.{number_change, completion_change, row_change}
 use Rattle.places.specs.Runs.{run_changes, place_in, byte_in, NotedBytes, AllKept}
-use Rattle.places.specs.Closed.{KeptOf}
 use Rattle.places.specs.All.{kind_changes, all_changes, HasRoom, IsSound}
 use Rattle.places.proofs.Naming.{named-append, noted_at_end}
 use Rattle.places.proofs.Marking.{noted_again}
 use Rattle.places.proofs.ByteLemmas.{once_append, byte_in_there}
-use Rattle.places.proofs.Kept.{kept_leaves, kept_exact}
-use Rattle.places.proofs.Joining.{noted_before_others, noted_behind_others, bytes_before, none_parts, none_append, not_some, none_some, apart_noted, apart_bytes, apart_more}
-use Rattle.places.proofs.Sorts.{sort_of, number_of_kinds, completion_of_kinds, row_of_kinds, bytes_of_kinds, kinds_once, all_kept}
+use Rattle.places.proofs.Joining.{noted_before_others, noted_behind_others, bytes_before, none_parts, apart_noted, apart_bytes, apart_more}
+use Rattle.places.proofs.Sorts.{sort_of, number_of_kinds, completion_of_kinds, row_of_kinds, bytes_of_kinds, kinds_once}
 
 module _ (ns ms : SlotList NumberNote) (cs ds : SlotList CompletionNote) (rs ts : SlotList RowNote) (x y : RestList) (r q : Room) where
   -- the same notes, with other memory

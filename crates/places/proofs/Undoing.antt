@@ -47,7 +47,7 @@ undo-append v cs ds o p = ap (λ n. unwrap_or n (v p)) (named-append cs ds p) �
 
 -- ---- what is named, a part at a time
 
-named_either : (cs ds : List Change) (p : Place) → is_some (named (cs ++ ds) p) ≡ (is_some (named cs p) || is_some (named ds p))
+pub named_either : (cs ds : List Change) (p : Place) → is_some (named (cs ++ ds) p) ≡ (is_some (named cs p) || is_some (named ds p))
 named_either cs ds p = ap is_some (named-append cs ds p) ∙ by (named cs p) (named ds p)
   where
     by : (m n : Option (Option Value)) → is_some (first_note m n) ≡ (is_some m || is_some n)

@@ -1,5 +1,5 @@
 -- The notes of all kinds as one list of changes.
-use Rattle.std.specs.Prelude.{◌≡◌, ℕ, List, ◌++◌, None, map, true, is_some, ◌+◌, ◌<◌, ◌≤◌}
+use Rattle.std.specs.Prelude.{◌≡◌, ◌⊎◌, ℕ, List, [], ◌++◌, None, map, true, is_some, ◌+◌, ◌<◌, ◌≤◌}
 use Rattle.places.specs.declared.place.Place.{Place}
 use Rattle.places.specs.declared.value.Change.{Change}
 use Rattle.places.specs.declared.notes.numbers.NumberNote.{NumberNote}
@@ -10,6 +10,7 @@ use Rattle.places.specs.Slots.{number_change, completion_change, row_change}
 use Rattle.places.specs.Runs.{run_changes, AllKept}
 use Rattle.places.specs.Marks.{SlotList}
 use Rattle.places.specs.RestList.{RestList}
+use Rattle.places.specs.WideList.{WideList}
 use Rattle.places.specs.View.{named}
 
 -- the notes of numbers, completions and rows, and then those of bytes
@@ -19,6 +20,20 @@ kind_changes ns cs rs bs = map number_change ns ++ (map completion_change cs ++ 
 -- and behind them the others
 abbrev pub all_changes : List NumberNote → List CompletionNote → List RowNote → RestList → List Change
 all_changes ns cs rs x = kind_changes ns cs rs (run_changes x.runs x.olds) ++ x.odd
+
+-- the changes of a record: those that are packed, and then those of notes
+abbrev pub record_changes : List Change → WideList → RestList → List Change
+record_changes cs w x = cs ++ all_changes w.numbers w.completions w.rows x
+
+-- Nothing was noted or promised, or there is memory for notes to be kept as they were made.
+pub record NothingNoted (ns : List NumberNote) (cs : List CompletionNote) (rs : List RowNote) (r : Room) : Type 0 where
+  pub numbers : ns ≡ []
+  pub completions : cs ≡ []
+  pub rows : rs ≡ []
+  pub held : r.held ≡ 0
+
+abbrev pub IsReady : List NumberNote → List CompletionNote → List RowNote → Room → WideList → Type 0
+IsReady ns cs rs r w = (w.is_ready ≡ true) ⊎ NothingNoted ns cs rs r
 
 -- There is memory for n more notes of slots below a limit.
 pub record HasRoom {X : Type 0} (n limit : ℕ) (s : SlotList X) : Type 0 where

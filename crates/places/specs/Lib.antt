@@ -11,7 +11,12 @@ pub mod Masked
 pub mod Turns
 pub mod RestList
 pub mod RestOf
+pub mod WideList
+pub mod WideOf
 pub mod All
+pub mod Reading
+pub mod Numerals
+pub mod Packed
 pub mod SlotLaws
 pub mod Text
 pub mod Sameness

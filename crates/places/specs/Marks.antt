@@ -1,5 +1,5 @@
 -- Marks that say where in a list the note of a slot stands.
-use Rattle.std.specs.Prelude.{◌≡◌, ℕ, List, [], ◌∷◌, ◌++◌, Some, map, slice_get}
+use Rattle.std.specs.Prelude.{◌≡◌, ℕ, List, Some, map, slice_get}
 use Rattle.places.specs.declared.value.Change.{Change}
 use Rattle.places.specs.View.{NamesOnce}
 

@@ -1,5 +1,5 @@
 -- The notes that few steps make.
-use Rattle.std.specs.Prelude.{ℕ, List, [], Option, Some, None, Box}
+use Rattle.std.specs.Prelude.{[], Option, Some, None, Box}
 use Rattle.places.specs.declared.notes.rest.Inner.{Inner}
 use Rattle.places.specs.RestList.{RestList}
 

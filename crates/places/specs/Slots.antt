@@ -1,5 +1,5 @@
 -- The notes of numbers, completions and rows as changes of places, and the slots of their places.
-use Rattle.std.specs.Prelude.{ℕ, ◌+◌, ◌*◌, ◌==◌, List, [], ◌∷◌, Some, None, map, option_map, if◌then◌else◌}
+use Rattle.std.specs.Prelude.{ℕ, ◌+◌, ◌*◌, ◌==◌, List, [], ◌∷◌, Some, None, option_map, if◌then◌else◌}
 use Rattle.places.specs.declared.place.Place.{Place}
 use Rattle.places.specs.declared.place.Place.TheVariants.{SubmissionHead, SubmissionTail, SubmissionFlags, SubmissionDropped, CompletionHead, CompletionTail, Array, Completion, FileLength, DurableLength, Position, OpenMark, PutCount, TakenCount, EventCount, Request, BacklogFront, Clock, Counted, ProgramCounter, Slot, Backlog, PollerStage, ThreadStage, Last, Got}
 use Rattle.places.specs.declared.value.Value.{Value}

@@ -5,6 +5,7 @@ pub mod items;
 pub mod listed;
 pub mod notes;
 pub mod object;
+pub mod packing;
 pub mod part;
 pub mod place;
 pub mod record;

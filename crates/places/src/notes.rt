@@ -2,6 +2,7 @@
 
 pub mod clearing;
 pub mod completions;
+pub mod leaving;
 pub mod numbers;
 pub mod odd;
 pub mod rest;
@@ -10,3 +11,4 @@ pub mod rows;
 pub mod runs;
 pub mod slots;
 pub mod telling;
+pub mod wide;

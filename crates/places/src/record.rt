@@ -2,27 +2,31 @@
 ghost use Rattle.std.specs.Prelude.{◌≡◌, ◌∷◌, ◌++◌, [], map, is_some, MatchOption, None};
 ghost use Rattle.places.specs.View.{named, NamesOnce};
 ghost use Rattle.places.specs.declared.listed.Listed.TheVariants.{Requests, Overflowed};
-ghost use Rattle.places.specs.Notes.{IsLeft, left, after_change, number_in};
+ghost use Rattle.places.specs.Notes.{IsLeft, left};
 ghost use Rattle.places.specs.Slots.{row_change};
-ghost use Rattle.places.specs.All.{all_changes};
+ghost use Rattle.places.specs.All.{record_changes};
 
 use crate::listed::Listed;
 use crate::notes::completions::CompletionNote;
+use crate::notes::leaving::left_after;
 use crate::notes::numbers::NumberNote;
 use crate::notes::rest::Rest;
 use crate::notes::rows::RowNote;
 use crate::notes::slots::{Slotted, either, names_place};
 use crate::notes::telling::{ByteChanges, Stretches};
+use crate::notes::wide::Wide;
+use crate::packing::changes::PackedChanges;
+use crate::packing::packed::Packed;
 use crate::place::Place;
 use crate::value::Change;
 use std::marker::Model;
 
-/// The places where two states differ, each once, with what stood there in the earlier one.
+/// The places where two states differ, each once, with what stood there in the earlier one. Its
+/// numbers, completions and rows are packed, or as they were noted where that took no memory.
 #[derive(Drop)]
 pub struct Record {
-    numbers: Vec<NumberNote>,
-    completions: Vec<CompletionNote>,
-    rows: Vec<RowNote>,
+    packed: Packed,
+    wide: Wide,
     rest: Rest,
 }
 
@@ -30,19 +34,19 @@ impl Model for Record {
     ghost use Rattle.std.specs.Prelude.{List};
     ghost use Rattle.places.specs.declared.value.Change.{Change};
     ghost use Rattle.places.specs.View.{NamesOnce};
-    ghost use Rattle.places.specs.All.{all_changes};
+    ghost use Rattle.places.specs.All.{record_changes};
 
     ghost Value = { List Change };
 
-    ghost view = { λ a. all_changes a.numbers.items a.completions.items a.rows.items a.rest };
+    ghost view = { λ a. record_changes a.packed a.wide a.rest };
 
-    ghost invariant = { λ a. NamesOnce
-        (all_changes a.numbers.items a.completions.items a.rows.items a.rest) };
+    ghost invariant = { λ a. NamesOnce (record_changes a.packed a.wide a.rest) };
 }
 
 /// The changes of a record that are left, one after the other.
 #[derive(Drop)]
 pub struct Changes<'a> {
+    packed: PackedChanges<'a>,
     numbers: &'a [NumberNote],
     completions: &'a [CompletionNote],
     rows: &'a [RowNote],
@@ -57,8 +61,8 @@ impl<'a> Model for Changes<'a> {
 
     ghost Value = { List Change };
 
-    ghost view = { λ a. kind_changes a.numbers.now a.completions.now a.rows.now a.bytes.left
-        ++ a.odd.now };
+    ghost view = { λ a. a.packed
+        ++ (kind_changes a.numbers.now a.completions.now a.rows.now a.bytes.left ++ a.odd.now) };
 }
 
 impl<'a> Changes<'a> {
@@ -67,6 +71,9 @@ impl<'a> Changes<'a> {
         ensures told { MatchOption result (self.old ≡ []) (λ c. self.old ≡ c ∷ self.new) }
         ensures none { result ≡ None → self.new ≡ [] }
     {
+        if let Some(change) = self.packed.next() {
+            return Some(change);
+        }
         if let [first, rest @ ..] = self.numbers {
             self.numbers = rest;
             return Some(first.change());
@@ -93,21 +100,11 @@ impl<'a> Changes<'a> {
 }
 
 impl Record {
-    pub(crate) fn of(
-        numbers: Vec<NumberNote>,
-        completions: Vec<CompletionNote>,
-        rows: Vec<RowNote>,
-        rest: Rest,
-    ) -> Record
-        requires { NamesOnce (all_changes numbers.items completions.items rows.items rest) }
-        ensures { result ≡ all_changes numbers.items completions.items rows.items rest }
+    pub(crate) fn of(packed: Packed, wide: Wide, rest: Rest) -> Record
+        requires { NamesOnce (record_changes packed wide rest) }
+        ensures { result ≡ record_changes packed wide rest }
     {
-        Record {
-            numbers,
-            completions,
-            rows,
-            rest,
-        }
+        Record { packed, wide, rest }
     }
 
     /// The changes, each of another place.
@@ -116,9 +113,10 @@ impl Record {
         ensures once { NamesOnce self.now }
     {
         Changes {
-            numbers: &self.numbers,
-            completions: &self.completions,
-            rows: &self.rows,
+            packed: self.packed.changes(),
+            numbers: self.wide.numbers(),
+            completions: self.wide.completions(),
+            rows: self.wide.rows(),
             bytes: self.rest.bytes(),
             odd: self.rest.odd(),
         }
@@ -131,13 +129,15 @@ impl Record {
         ensures once { NamesOnce self.now }
     {
         let kinds = Changes {
-            numbers: &self.numbers,
-            completions: &self.completions,
-            rows: &self.rows,
+            packed: self.packed.changes(),
+            numbers: self.wide.numbers(),
+            completions: self.wide.completions(),
+            rows: self.wide.rows(),
             bytes: ByteChanges::of(&[], &[], &[]),
             odd: &[],
         };
         let others = Changes {
+            packed: PackedChanges::none(),
             numbers: &[],
             completions: &[],
             rows: &[],
@@ -152,14 +152,15 @@ impl Record {
         ensures { result ≡ is_some (named self.now place) }
     {
         let by_slot = either(
-            names_place(&self.completions, place),
-            names_place(&self.rows, place),
+            names_place(self.wide.completions(), place),
+            names_place(self.wide.rows(), place),
         );
         let by_kind = either(
             self.rest.names_byte(place),
-            either(names_place(&self.numbers, place), by_slot),
+            either(names_place(self.wide.numbers(), place), by_slot),
         );
-        either(self.rest.names(place), by_kind)
+        let mut packed = self.packed.changes();
+        either(packed.names(place), either(self.rest.names(place), by_kind))
     }
 
     /// Lets the record go.
@@ -185,15 +186,16 @@ impl Record {
     fn left(&self, list: Listed, n: usize) -> usize
         ensures { IsLeft list self.now n result }
     {
-        left_by(list, self.rest.odd(), left_of(list, &self.rows, n))
+        let mut packed = self.packed.changes();
+        let left = left_of(list, self.wide.rows(), packed.left(list, n));
+        left_by(list, self.rest.odd(), left)
     }
 
     /// What the record keeps in memory, itself included, in bytes.
     pub fn kept_bytes(&self) -> usize {
         size_of::<Record>()
-            .saturating_add(size_of::<NumberNote>().saturating_mul(self.numbers.capacity()))
-            .saturating_add(size_of::<CompletionNote>().saturating_mul(self.completions.capacity()))
-            .saturating_add(size_of::<RowNote>().saturating_mul(self.rows.capacity()))
+            .saturating_add(self.packed.kept_bytes())
+            .saturating_add(self.wide.kept_bytes())
             .saturating_add(self.rest.kept_bytes())
     }
 }
@@ -213,26 +215,7 @@ fn left_by(list: Listed, changes: &[Change], n: usize) -> usize
 {
     let mut left = n;
     for change in changes {
-        left = after_change(list, *change, left);
+        left = left_after(list, *change, left);
     }
     left
-}
-
-fn after_change(list: Listed, change: Change, left: usize) -> usize
-    ensures { result ≡ after_change list change.place change.old left }
-{
-    match (number_in(list, change.place), change.old) {
-        (Some(i), None) => left.min(i as usize),
-        _ => left,
-    }
-}
-
-fn number_in(list: Listed, place: Place) -> Option<u32>
-    ensures { result ≡ number_in list place }
-{
-    match (list, place) {
-        (Listed::Requests, Place::Request(i)) => Some(i),
-        (Listed::Overflowed, Place::Backlog(i)) => Some(i),
-        _ => None,
-    }
 }

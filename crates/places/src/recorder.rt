@@ -15,6 +15,8 @@ use crate::notes::room::Room;
 use crate::notes::rows::{RowNote, Small};
 use crate::notes::runs::Region;
 use crate::notes::slots::{Slots, either};
+use crate::notes::wide::Wide;
+use crate::packing::packed::Packed;
 use crate::part::At;
 use crate::place::Place;
 use crate::record::Record;
@@ -22,6 +24,7 @@ use crate::value::Value;
 use entries::{Cqe, Row};
 use std::alloc::{AllocError, Global};
 use std::marker::Model;
+use std::mem;
 
 /// The slots of the numbers, the completions, and the rows and other places that a setup can have.
 const NUMBER_SLOTS: usize = 8192;
@@ -37,6 +40,10 @@ pub struct Recorder {
     rows: Slots<RowNote>,
     rest: Rest,
     room: Room,
+    /// Memory for a record that keeps notes as they were made.
+    spare: Wide,
+    /// Memory in which records are packed.
+    scratch: Vec<u8>,
     alloc: Global,
 }
 
@@ -49,6 +56,8 @@ impl Drop for Recorder {
             rows: _,
             rest: _,
             room: _,
+            spare: _,
+            scratch: _,
             alloc: _,
         } = self;
     }
@@ -56,7 +65,7 @@ impl Drop for Recorder {
 
 impl Model for Recorder {
     ghost use Rattle.places.specs.Notes.{Notes};
-    ghost use Rattle.places.specs.All.{all_changes, IsSound};
+    ghost use Rattle.places.specs.All.{all_changes, IsSound, IsReady};
 
     ghost Value = { Notes };
 
@@ -68,7 +77,8 @@ impl Model for Recorder {
       others = a.room.others;
     } };
 
-    ghost invariant = { λ a. IsSound a.numbers a.completions a.rows a.rest a.room };
+    ghost invariant = { λ a. IsSound a.numbers a.completions a.rows a.rest a.room
+        × IsReady a.numbers.notes a.completions.notes a.rows.notes a.room a.spare };
 }
 
 impl Recorder {
@@ -82,6 +92,8 @@ impl Recorder {
             rows: Slots::new(alloc),
             rest: Rest::new(),
             room: Room::new(),
+            spare: Wide::new(),
+            scratch: Vec::new(alloc),
             alloc,
         }
     }
@@ -113,6 +125,7 @@ impl Recorder {
             let Some(held) = self.room.held.checked_add(n - self.room.others) else {
                 return Err(AllocError);
             };
+            self.spare.ready(self.alloc)?;
             self.rows.room(n, ROW_SLOTS)?;
             self.rest.room(self.alloc, held)?;
             self.room.others = n;
@@ -141,6 +154,7 @@ impl Recorder {
             let Some(held) = self.room.held.checked_add(n - self.room.numbers) else {
                 return Err(AllocError);
             };
+            self.spare.ready(self.alloc)?;
             self.numbers.room(n, NUMBER_SLOTS)?;
             self.rest.room(self.alloc, held)?;
             self.room.numbers = n;
@@ -160,6 +174,7 @@ impl Recorder {
             let Some(held) = self.room.held.checked_add(n - self.room.completions) else {
                 return Err(AllocError);
             };
+            self.spare.ready(self.alloc)?;
             self.completions.room(n, COMPLETION_SLOTS)?;
             self.rest.room(self.alloc, held)?;
             self.room.completions = n;
@@ -228,6 +243,7 @@ impl Recorder {
         if self.rest.names(place) {
             return Ok(());
         }
+        self.spare.ready(self.alloc)?;
         self.rows.note(RowNote::of_other(place, old))?;
         self.room.spend_other();
         Ok(())
@@ -245,6 +261,7 @@ impl Recorder {
         if self.rest.names(place) {
             return Ok(());
         }
+        self.spare.ready(self.alloc)?;
         self.numbers.note(NumberNote::of(place, old))?;
         self.room.spend_number();
         Ok(())
@@ -262,6 +279,7 @@ impl Recorder {
         if self.rest.names(Place::Completion(slot)) {
             return Ok(());
         }
+        self.spare.ready(self.alloc)?;
         self.completions.note(CompletionNote { slot, old })?;
         self.room.spend_completion();
         Ok(())
@@ -279,6 +297,7 @@ impl Recorder {
         if self.rest.names(Place::Request(row)) {
             return Ok(());
         }
+        self.spare.ready(self.alloc)?;
         self.rows.note(RowNote::of(row, old))?;
         self.room.spend_other();
         Ok(())
@@ -349,6 +368,18 @@ impl Recorder {
         let rows = self.rows.close(whole);
         let rest = self.rest.close(whole);
         self.room = Room::new();
-        Record::of(numbers, completions, rows, rest)
+        match Packed::of(&numbers, &completions, &rows, &mut self.scratch) {
+            Ok(packed) => {
+                self.numbers.reuse(numbers);
+                self.completions.reuse(completions);
+                self.rows.reuse(rows);
+                Record::of(packed, Wide::new(), rest)
+            }
+            Err(_) => {
+                let spare = mem::replace(&mut self.spare, Wide::new());
+                let wide = spare.with(numbers, completions, rows);
+                Record::of(Packed::new(self.alloc), wide, rest)
+            }
+        }
     }
 }

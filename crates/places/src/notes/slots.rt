@@ -17,7 +17,7 @@ use std::mem;
 /// For how many notes there is room once there is one.
 const FIRST_NOTES: usize = 4;
 
-/// How many notes are taken out as a copy at most.
+/// Of how many notes at most the memory stays for later ones.
 const FEW_NOTES: usize = 64;
 
 /// A note of a place that has a slot: a number that no other place has.
@@ -133,7 +133,7 @@ impl<N: Slotted + Copy> Slots<N> {
         has_note(&self.notes, place)
     }
 
-    /// The notes whose place has another value now. None stay here.
+    /// Takes out the notes whose place has another value now, with their memory.
     pub fn close<A: At>(&mut self, whole: &A) -> Vec<N>
         ensures kept { KeptOf (A.seen whole.now) (map N.change self.old.notes)
             (map N.change result.items) }
@@ -142,6 +142,13 @@ impl<N: Slotted + Copy> Slots<N> {
     {
         drop_same_notes(&mut self.notes, whole);
         take_notes(&mut self.notes)
+    }
+
+    /// Makes the next notes in the memory of others, which go. Of many it is let go too.
+    pub fn reuse(&mut self, notes: Vec<N>)
+        ensures { self.new.notes ≡ [] }
+    {
+        self.notes = emptied(notes);
     }
 }
 
@@ -185,29 +192,25 @@ fn drop_same_notes<N: Slotted + Copy, A: At>(notes: &mut Vec<N>, whole: &A)
     );
 }
 
-/// Takes the notes out. A few of them leave their memory to later notes.
+/// Takes the notes out, with their memory.
 fn take_notes<N: Slotted + Copy>(notes: &mut Vec<N>) -> Vec<N>
     ensures taken { result.items ≡ notes.old.items }
     ensures none { notes.new.items ≡ [] }
 {
-    if notes.len() <= FEW_NOTES {
-        if let Ok(taken) = Vec::from_slice(*notes.allocator(), notes) {
-            notes.clear();
-            return taken;
-        }
-    }
-    take_all(notes)
+    let none = Vec::new(*notes.allocator());
+    mem::replace(notes, none)
 }
 
-/// Takes the notes out, with their memory.
-fn take_all<N: Slotted + Copy>(notes: &mut Vec<N>) -> Vec<N>
-    ensures taken { result.items ≡ notes.old.items }
-    ensures none { notes.new.items ≡ [] }
+/// No notes, in the memory of a few.
+fn emptied<N: Slotted + Copy>(notes: Vec<N>) -> Vec<N>
+    ensures { result.items ≡ [] }
 {
-    let none = Vec::new(*notes.allocator());
-    let mut taken = mem::replace(notes, none);
-    taken.shrink_to_fit();
-    taken
+    let mut notes = notes;
+    if notes.len() > FEW_NOTES {
+        return Vec::new(*notes.allocator());
+    }
+    notes.clear();
+    notes
 }
 
 /// Drops the notes whose place has its old value.

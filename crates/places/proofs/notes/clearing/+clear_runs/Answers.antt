@@ -1,7 +1,4 @@
-use Rattle.std.proofs.Common.{◌≡◌, ◌∷◌, ◌++◌, ◌∙◌, rules, refl, take, drop}
-use Rattle.places.specs.Closed.{KeptOf}
-use Rattle.places.specs.Masked.{masked}
-use Rattle.places.specs.Runs.{run_changes}
+use Rattle.std.proofs.Common.{◌≡◌, ◌∷◌, rules, refl, take, drop}
 use Rattle.places.proofs.MaskedLemmas.{masked_runs}
 use Rattle.places.proofs.notes.clearing.+clear_runs.Goals as goal
 

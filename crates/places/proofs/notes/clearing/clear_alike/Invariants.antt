@@ -1,4 +1,4 @@
-use Rattle.std.proofs.Common.{◌≡◌, ◌<◌, ◌≤◌, ◌+◌, ℕ, Bool, length, Some}
+use Rattle.std.proofs.Common.{◌≡◌, ◌<◌, ◌≤◌, ℕ, Bool, length, Some}
 use Rattle.std.specs.Prelude.{slice_get}
 use Rattle.places.specs.Masked.{LeftMark}
 use Rattle.places.proofs.notes.clearing.clear_alike.Given as goal

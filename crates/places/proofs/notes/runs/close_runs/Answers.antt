@@ -1,10 +1,9 @@
-use Rattle.std.proofs.Common.{◌≡◌, ◌∙◌, ap, sym, subst, refl, false, ℕ, Bool, List, [], length}
+use Rattle.std.proofs.Common.{◌≡◌, ◌∙◌, ap, sym, subst, false, Bool, List}
 use Rattle.std.specs.List.{list_any}
 use Rattle.places.specs.declared.value.Change.{Change}
 use Rattle.places.specs.Closed.{KeptOf}
 use Rattle.places.specs.Masked.{masked}
 use Rattle.places.specs.Runs.{run_changes}
-use Rattle.places.proofs.Kept.{runs_closed}
 use Rattle.places.proofs.ByteLemmas.{none_kept}
 use Rattle.places.proofs.MaskedLemmas.{length-masked, no_marks, marks_closed}
 use Rattle.places.proofs.notes.runs.close_runs.Goals as goal

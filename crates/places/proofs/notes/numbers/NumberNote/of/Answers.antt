@@ -3,7 +3,6 @@ use Rattle.std.specs.Prelude.{Some}
 use Rattle.places.specs.declared.value.Value.TheVariants.{Number}
 use Rattle.places.specs.declared.value.Change.{Change}
 use Rattle.places.specs.Slots.{number_place}
-use Rattle.places.specs.Places.{kind_of, index_of}
 use Rattle.places.specs.declared.place.Place.{Place}
 use Rattle.places.specs.SlotLaws.{number_again}
 use Rattle.places.proofs.notes.numbers.NumberNote.of.Goals as goal

@@ -1,4 +1,4 @@
-use Rattle.std.proofs.Common.{◌∙◌, rules, sym}
+use Rattle.std.proofs.Common.{◌∙◌}
 use Rattle.places.proofs.MaskedLemmas.{length-masked}
 use Rattle.places.proofs.notes.runs.ByteNotes.changes.Goals as goal
 

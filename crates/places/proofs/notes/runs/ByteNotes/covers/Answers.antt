@@ -1,6 +1,6 @@
 use Rattle.std.proofs.Common.{◌∙◌, ap}
 use Rattle.std.specs.List.{list_any}
-use Rattle.places.specs.Runs.{covers, AllKept}
+use Rattle.places.specs.Runs.{covers}
 use Rattle.places.proofs.ByteLemmas.{covered}
 use Rattle.places.proofs.notes.runs.ByteNotes.covers.Goals as goal
 

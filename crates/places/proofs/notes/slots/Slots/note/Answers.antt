@@ -1,5 +1,5 @@
 use Rattle.std.proofs.Common.{rules, ◌≡◌, length}
-use Rattle.places.specs.Marks.{IsMarked, SlotsOnce}
+use Rattle.places.specs.Marks.{IsMarked}
 use Rattle.places.proofs.Marking.{marked_noted, noted_more, slots_reached, slots_once}
 use Rattle.places.proofs.notes.slots.Slots.note.Goals as goal
 

@@ -1,4 +1,4 @@
-use Rattle.std.proofs.Common.{rules, ◌∙◌}
+use Rattle.std.proofs.Common.{rules}
 use Rattle.places.proofs.MaskedLemmas.{first_kept}
 use Rattle.places.proofs.notes.telling.ByteChanges.turn.Goals as goal
 

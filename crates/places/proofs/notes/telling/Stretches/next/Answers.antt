@@ -1,4 +1,3 @@
-use Rattle.std.proofs.Common.{rules}
 use Rattle.places.proofs.MaskedLemmas.{first_run}
 use Rattle.places.proofs.notes.telling.Stretches.next.Goals as goal
 

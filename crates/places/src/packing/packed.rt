@@ -1,0 +1,95 @@
+//! Notes packed in bytes.
+ghost use Rattle.std.specs.Prelude.{◌≡◌, ◌+◌, ◌++◌, [], map, OnOk, IfOk, IfSome};
+ghost use Rattle.places.specs.Slots.{number_change, completion_change, row_change};
+ghost use Rattle.places.specs.Reading.{Puts};
+ghost use Rattle.places.specs.Packed.{change_of, after_change};
+
+use crate::notes::completions::CompletionNote;
+use crate::notes::numbers::NumberNote;
+use crate::notes::rows::RowNote;
+use crate::notes::slots::Slotted;
+use crate::packing::changes::{PackedChanges, put_change};
+use crate::packing::numerals::put_number;
+use std::alloc::{AllocError, Global};
+use std::marker::Model;
+
+/// Changes in bytes, behind their count.
+#[derive(Drop)]
+pub struct Packed {
+    bytes: Vec<u8>,
+}
+
+impl Model for Packed {
+    ghost use Rattle.std.specs.Prelude.{List};
+    ghost use Rattle.places.specs.declared.value.Change.{Change};
+    ghost use Rattle.places.specs.Packed.{packed};
+
+    ghost Value = { List Change };
+
+    ghost view = { λ a. packed a.bytes.items };
+}
+
+impl Packed {
+    /// No changes. It takes no memory.
+    #[tactic(auto, unfolding(crate::specs::Numerals::number_of))]
+    pub fn new(alloc: Global) -> Packed
+        ensures { result ≡ [] }
+    {
+        Packed {
+            bytes: Vec::new(alloc),
+        }
+    }
+
+    /// The changes of notes. They are put together in memory of another, which stays.
+    pub fn of(
+        numbers: &[NumberNote],
+        completions: &[CompletionNote],
+        rows: &[RowNote],
+        scratch: &mut Vec<u8>,
+    ) -> Result<Packed, AllocError>
+        ensures { IfOk result (λ p. p ≡ map number_change numbers.now
+            ++ (map completion_change completions.now ++ map row_change rows.now)) }
+    {
+        let Some(count) = sum_of(numbers.len(), completions.len(), rows.len()) else {
+            return Err(AllocError);
+        };
+        if count == 0 {
+            return Ok(Packed::new(*scratch.allocator()));
+        }
+        scratch.clear();
+        put_number(scratch, count as u64)?;
+        put_notes(scratch, numbers)?;
+        put_notes(scratch, completions)?;
+        put_notes(scratch, rows)?;
+        let bytes = Vec::from_slice(*scratch.allocator(), scratch)?;
+        Ok(Packed { bytes })
+    }
+
+    /// The changes, one after the other.
+    pub fn changes(&self) -> PackedChanges<'_>
+        ensures { result ≡ self.now }
+    {
+        PackedChanges::of(&self.bytes)
+    }
+
+    /// What the changes keep in memory, in bytes.
+    pub fn kept_bytes(&self) -> usize {
+        self.bytes.capacity()
+    }
+}
+
+fn sum_of(a: usize, b: usize, c: usize) -> Option<usize>
+    ensures { IfSome result (λ n. n ≡ a + (b + c)) }
+{
+    a.checked_add(b.checked_add(c)?)
+}
+
+fn put_notes<N: Slotted>(out: &mut Vec<u8>, notes: &[N]) -> Result<(), AllocError>
+    ensures { OnOk result
+        (Puts change_of after_change out.old.items (map N.change notes.now) out.new.items) }
+{
+    for note in notes {
+        put_change(out, note.change())?;
+    }
+    Ok(())
+}
