@@ -212,17 +212,6 @@ impl World {
         self.descriptor(fd as u32)
     }
 
-    /// How many bytes a file has, by its object's number.
-    pub fn file_len(&self, object: u32) -> Option<u32>
-        ensures value { result ≡ option_map (λ f. f.len) (file_of self.now object) }
-        ensures most { IfSome result (λ len. len ≤ 65536) }
-    {
-        match self.objects.get(object as usize) {
-            Some(Body::File(file)) => Some(file.len()),
-            _ => None,
-        }
-    }
-
     /// How much an object holds, by its number.
     pub fn stock(&self, object: u32) -> Option<Stock>
         ensures value { result ≡ stock_of self.now object }

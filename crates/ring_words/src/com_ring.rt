@@ -1,5 +1,5 @@
 //! The completion ring.
-ghost use Rattle.std.specs.Prelude.{◌≡◌, ◌==◌, ◌↔◌, ◌+◌, ◌%◌, ◌^◌, ◌<◌, ◌≤◌, ◌⊎◌, ◌∷◌, ◌++◌, [], nat_lt, length, slice_get, slice_set, IfOk, IsFalse, None};
+ghost use Rattle.std.specs.Prelude.{◌≡◌, ◌==◌, ◌↔◌, ◌+◌, ◌%◌, ◌^◌, ◌<◌, ◌≤◌, ◌⊎◌, ◌∷◌, ◌++◌, [], length, slice_get, slice_set, IfOk, IsFalse, None};
 ghost use Rattle.std.specs.Int.{IsNextPowerOfTwo};
 ghost use Rattle.places.specs.declared.place.Place.{Place};
 ghost use Rattle.places.specs.View.{Keeps, named};
@@ -159,13 +159,6 @@ impl ComRing {
         ensures { IsFalse result ↔ (waiting self.now.head self.now.tail < length self.now.slots) }
     {
         self.waiting() >= self.size()
-    }
-
-    /// Whether a completion can be posted.
-    pub fn has_room(&self) -> bool
-        ensures { result ≡ nat_lt (waiting self.now.head self.now.tail) (length self.now.slots) }
-    {
-        self.waiting() < self.size()
     }
 
     /// Adds a completion behind the others.
