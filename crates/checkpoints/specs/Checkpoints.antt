@@ -2,7 +2,8 @@
 use Rattle.std.specs.Prelude.{◌≡◌, ℕ, ◌+◌, ◌*◌, ◌/◌, ◌<◌, ◌≤◌, List, []}
 use Rattle.machine.specs.declared.whole.Machine.{Machine}
 
--- the states at the multiples of `every`, from moment 0 on; and how far back a jump goes step by step
+-- the states at the multiples of `every`, from moment 0 on; and how far back a jump goes step by
+-- step
 pub record Checkpoints : Type 0 where
   pub every : ℕ
   pub window : ℕ

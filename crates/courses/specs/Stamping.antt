@@ -20,8 +20,10 @@ new_stamps moment = record { queued = moment; issued = None; ended = None }
 -- a row that is in a phase at a moment
 abbrev pub stamped : Stamps → Phase → ℕ → Stamps
 stamped x Queued moment = x
-stamped x Issued moment = record { queued = x.queued; issued = first_moment x.issued moment; ended = x.ended }
-stamped x (Ended res) moment = record { queued = x.queued; issued = x.issued; ended = first_moment x.ended moment }
+stamped x Issued moment =
+    record { queued = x.queued; issued = first_moment x.issued moment; ended = x.ended }
+stamped x (Ended res) moment =
+    record { queued = x.queued; issued = x.issued; ended = first_moment x.ended moment }
 
 abbrev pub stamp_as : Option Row → ℕ → List Stamps → ℕ → List Stamps
 stamp_as None moment xs r = xs
@@ -38,8 +40,10 @@ stamp_place rows moment _ xs = xs
 -- the moment noted of all rows that a record names
 abbrev pub stamp_changes : List Row → ℕ → List Change → List Stamps → List Stamps
 stamp_changes rows moment [] xs = xs
-stamp_changes rows moment (c ∷ cs) xs = stamp_changes rows moment cs (stamp_place rows moment c.place xs)
+stamp_changes rows moment (c ∷ cs) xs =
+    stamp_changes rows moment cs (stamp_place rows moment c.place xs)
 
 -- the same once the rows that came have been added
 abbrev pub stamps_behind : List Row → ℕ → List Change → List Stamps → List Stamps
-stamps_behind rows moment cs xs = stamp_changes rows moment cs (xs ++ replicate (length rows - length xs) (new_stamps moment))
+stamps_behind rows moment cs xs =
+    stamp_changes rows moment cs (xs ++ replicate (length rows - length xs) (new_stamps moment))

@@ -1,5 +1,5 @@
--- How entries and completions lie in memory (io_uring_enter(2)). A list of bytes is a list of numbers
--- below 256.
+-- How entries and completions lie in memory (io_uring_enter(2)). A list of bytes is a list of
+-- numbers below 256.
 use Rattle.std.specs.Prelude.{◌≡◌, ◌<◌, ◌^◌, ◌+◌, ◌++◌, ℕ, ℤ, FitsSigned, List, length, take, drop}
 use Rattle.std.specs.Int.{w32, cast_signed, cast_unsigned}
 use Rattle.byteorder.specs.Endian.{little_bytes, little_number}

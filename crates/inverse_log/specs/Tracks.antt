@@ -1,4 +1,5 @@
--- Runs that are walked by single steps: their events, how many of them lie behind, and how many steps were counted.
+-- Runs that are walked by single steps: their events, how many of them lie behind, and how many
+-- steps were counted.
 use Rattle.std.specs.Prelude.{◌≡◌, ℕ, ◌+◌, ◌*◌, ◌-◌, ◌^◌, ◌<◌, ◌≤◌, ◌⊎◌, min, List, [], ◌∷◌, ◌++◌, length, take, slice_get, Some, None}
 use Rattle.places.specs.declared.value.Change.{Change}
 use Rattle.places.specs.View.{Exact}
@@ -38,22 +39,28 @@ tallied Free n k = n
 
 -- the track at another moment, by single steps
 abbrev pub stepped : Tally → Track → ℕ → Track
-stepped c t m = record { setup = t.setup; events = t.events; at = m; walked = tallied c t.walked (distance t.at m) }
+stepped c t m =
+    record
+    { setup = t.setup; events = t.events; at = m; walked = tallied c t.walked (distance t.at m) }
 
 -- the track at another moment, to which so many steps were counted
 abbrev pub reached : Track → ℕ → ℕ → Track
-reached t m steps = record { setup = t.setup; events = t.events; at = m; walked = min (t.walked + steps) (2 ^ 64 - 1) }
+reached t m steps =
+    record
+    { setup = t.setup; events = t.events; at = m; walked = min (t.walked + steps) (2 ^ 64 - 1) }
 
 -- the track with more events at its end, at another moment
 abbrev pub grown : Track → List Event → ℕ → Track
 grown t es m = record { setup = t.setup; events = t.events ++ es; at = m; walked = t.walked }
 
--- From a machine, the events run up to one that is refused for n. Want of memory is told where no rule refuses it, or before the first.
+-- From a machine, the events run up to one that is refused for n. Want of memory is told where no
+-- rule refuses it, or before the first.
 pub record RefusedAt (m : Machine) (es : List Event) (i : ℕ) (n : Refusal) : Type 0 where
   pub event : Event
   pub there : slice_get es i ≡ Some event
   pub runs : Accepts m (take i es)
-  pub refused : (refusal (run m (take i es)) event ≡ Some n) ⊎ ((n ≡ Memory) × ((i ≡ 0) ⊎ (refusal (run m (take i es)) event ≡ None)))
+  pub refused : (refusal (run m (take i es)) event ≡ Some n)
+      ⊎ ((n ≡ Memory) × ((i ≡ 0) ⊎ (refusal (run m (take i es)) event ≡ None)))
 
 -- Each record names just the places that its event changes, with what stood there before.
 abbrev pub Recorded : Machine → List Event → List (List Change) → Type 0
@@ -62,13 +69,16 @@ Recorded m (e ∷ es) (r ∷ rs) = Exact (view m) (view (after m e)) r × Record
 Recorded m [] (r ∷ rs) = ⊥
 Recorded m (e ∷ es) [] = ⊥
 
--- The copies are the states at the multiples of `every`, up to the last that is a moment of the run.
+-- The copies are the states at the multiples of `every`, up to the last that is a moment of the
+-- run.
 pub record Covers (setup : Setup) (events : List Event) (every : ℕ) (copies : List Machine) : Type 0 where
-  pub each : (k : ℕ) → k < length copies → slice_get copies k ≡ Some (moment setup events (k * every))
+  pub each : (k : ℕ) → k < length copies
+      → slice_get copies k ≡ Some (moment setup events (k * every))
   pub moments : length copies * every ≤ length events + every
   pub all : length events < length copies * every
 
--- What a trail keeps: the records lead back from the end to the start and name no more than they must, and the state is that of the position.
+-- What a trail keeps: the records lead back from the end to the start and name no more than they
+-- must, and the state is that of the position.
 pub record Keeps (setup : Setup) (events : List Event) (records : List (List Change)) (at : ℕ) (state : Machine) (walked : ℕ) : Type 0 where
   pub linked : Linked (start setup) events records (run (start setup) events)
   pub recorded : Recorded (start setup) events records

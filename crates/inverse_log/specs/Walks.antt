@@ -1,4 +1,5 @@
--- Walks through a run: its events, how many of them lie behind, how far jumps have gone, and how a jump goes.
+-- Walks through a run: its events, how many of them lie behind, how far jumps have gone, and how a
+-- jump goes.
 use Rattle.std.specs.Prelude.{ℕ, ◌+◌, ◌-◌, ◌^◌, ◌&&◌, min, nat_le, if◌then◌else◌, List, [], ◌++◌}
 use Rattle.machine.specs.declared.whole.Machine.{Machine}
 use Rattle.scenario.specs.declared.setup.Setup.{Setup}
@@ -6,7 +7,8 @@ use Rattle.scenario.specs.declared.event.Event.{Event}
 use Rattle.machine.specs.Runs.{start, run, moment}
 use Rattle.checkpoints.specs.Checkpoints.{nearest}
 
--- `every` and `window` say how a jump goes: copies lie at the multiples of the one, and it steps back no further than the other
+-- `every` and `window` say how a jump goes: copies lie at the multiples of the one, and it steps
+-- back no further than the other
 pub record Walk : Type 0 where
   pub setup : Setup
   pub events : List Event
@@ -25,13 +27,15 @@ ending w = run (start w.setup) w.events
 
 -- a new walk
 abbrev pub fresh_with : Setup → ℕ → ℕ → Walk
-fresh_with setup every window = record { setup = setup; events = []; at = 0; walked = 0; every = every; window = window }
+fresh_with setup every window =
+    record { setup = setup; events = []; at = 0; walked = 0; every = every; window = window }
 
 -- a new walk, of the usual jumps
 abbrev pub fresh : Setup → Walk
 fresh setup = fresh_with setup 1024 256
 
--- How many single steps a jump makes: back where the moment lies at most the window behind, on from the position where no copy lies between, else on from the nearest copy.
+-- How many single steps a jump makes: back where the moment lies at most the window behind, on from
+-- the position where no copy lies between, else on from the nearest copy.
 abbrev pub steps_to : Walk → ℕ → ℕ
 steps_to w m =
     if nat_le m w.at && nat_le w.at (m + w.window) then w.at - m

@@ -92,7 +92,8 @@ module _ (rows : List Row) (index : Index) (i : Indexed rows index) (guards : Gu
   eligible_is : (b : Bool) → list_any (λ (p : ℕ × Row). waits_for rows r row p.0 p.1) (enumerate_from 0 rows) ≡ b → not b ≡ is_eligible rows r
   eligible_is b h = rw (here, queued, free, h) refl
 
-  -- it waits for none where no earlier unfinished row is of its unit, and it is held by none of an earlier unit
+  -- it waits for none where no earlier unfinished row is of its unit, and it is held by none of an
+  -- earlier unit
   waits_for_none : ((k : ℕ) (x : Row) → slice_get rows k ≡ Some x → is_open x ≡ true → x.unit ≡ row.unit → k < r → ⊥)
       → ((k : ℕ) (x : Row) → slice_get rows k ≡ Some x → is_open x ≡ true → x.unit < row.unit → (drains rows x.unit || drains rows row.unit) ≡ true → ⊥) → true ≡ is_eligible rows r
   waits_for_none one two = eligible_is false (none_numbered (λ (p : ℕ × Row). waits_for rows r row p.0 p.1) rows (λ k x h. never _ _ _ _ _ _

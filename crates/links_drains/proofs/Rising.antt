@@ -7,7 +7,8 @@ use Rattle.links_drains.specs.Phases.{is_unfinished}
 use Rattle.links_drains.specs.Endings.{Ending, paired, endings_from, endings}
 use Rattle.links_drains.proofs.Listing.{result_of, endings_step}
 
--- an ending of a row that is unfinished, with the result that a test gives it; rows are numbered from a first one
+-- an ending of a row that is unfinished, with the result that a test gives it; rows are numbered
+-- from a first one
 pub record EndsFrom (f : ℕ → Row → Option ℤ) (n : ℕ) (rows : List Row) (e : Ending) : Type 0 where
   pub index : ℕ
   pub row : Row

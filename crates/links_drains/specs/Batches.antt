@@ -14,10 +14,12 @@ use Rattle.links_drains.specs.Rows.{new_row}
 
 -- ---- chains
 
--- The index of the first entry of the chain that an entry is in: one behind a linked entry is of its chain, each other begins one.
+-- The index of the first entry of the chain that an entry is in: one behind a linked entry is of
+-- its chain, each other begins one.
 abbrev pub chain_of : List Sqe → ℕ → ℕ
 chain_of entries zero = zero
-chain_of entries (suc i) = if option_map_or is_linked (slice_get entries i) false then chain_of entries i else suc i
+chain_of entries (suc i) =
+    if option_map_or is_linked (slice_get entries i) false then chain_of entries i else suc i
 
 -- the opcode that an entry shows to the next one of its chain, if it is linked
 abbrev pub shown_on : Sqe → Option ℕ
@@ -41,7 +43,8 @@ error_at w entries i = option_and_then (error_of w entries i) (slice_get entries
 abbrev pub errors_of : WorldState → List Sqe → List (Option ℤ)
 errors_of w entries = map_numbered (error_of w entries) entries
 
--- whether a submission halts: one of the entries fails, and the ring doesn't go on behind an error (io_uring_setup(2), IORING_SETUP_SUBMIT_ALL)
+-- whether a submission halts: one of the entries fails, and the ring doesn't go on behind an error
+-- (io_uring_setup(2), IORING_SETUP_SUBMIT_ALL)
 abbrev pub halts : Bool → WorldState → List Sqe → Bool
 halts submit_all w entries = not submit_all && list_any is_some (errors_of w entries)
 
@@ -57,15 +60,21 @@ taken_of submit_all w entries = if submit_all then entries else up_to_failure w 
 
 -- ---- the rows
 
--- The row that a LINK_TIMEOUT guards, which is the one before it in its chain. One that fails guards none.
+-- The row that a LINK_TIMEOUT guards, which is the one before it in its chain. One that fails
+-- guards none.
 abbrev pub target_of : WorldState → ℕ → List Sqe → ℕ → Sqe → Option ℕ
-target_of w first entries i entry = if (entry.opcode == 15) && is_none (error_of w entries i entry) then Some (first + i - 1) else None
+target_of w first entries i entry =
+    if (entry.opcode == 15) && is_none (error_of w entries i entry) then Some (first + i - 1)
+    else None
 
 -- the row that an entry becomes
 abbrev pub row_of : WorldState → ℕ → List Sqe → ℕ → Sqe → Row
-row_of w first entries i entry = new_row entry (first + chain_of entries i) (time_of w (behind_in entries i) entry) (target_of w first entries i entry)
+row_of w first entries i entry =
+    new_row entry (first + chain_of entries i) (time_of w (behind_in entries i) entry)
+    (target_of w first entries i entry)
 
--- the rows that entries become, numbered from a first one, each in the unit that has the number of its chain's first row
+-- the rows that entries become, numbered from a first one, each in the unit that has the number of
+-- its chain's first row
 abbrev pub rows_of : WorldState → ℕ → List Sqe → List Row
 rows_of w first entries = map_numbered (row_of w first entries) entries
 
@@ -73,12 +82,17 @@ rows_of w first entries = map_numbered (row_of w first entries) entries
 
 -- whether some entry of a chain fails
 abbrev pub chain_fails : WorldState → List Sqe → ℕ → Bool
-chain_fails w entries chain = any_numbered (λ i entry. (chain_of entries i == chain) && is_some (error_of w entries i entry)) entries
+chain_fails w entries chain =
+    any_numbered (λ i entry. (chain_of entries i == chain) && is_some (error_of w entries i entry))
+    entries
 
--- what the row of an entry ends with, if it ends at once: its own error, or ECANCELED where another of its chain fails
+-- what the row of an entry ends with, if it ends at once: its own error, or ECANCELED where another
+-- of its chain fails
 abbrev pub direct_result : WorldState → List Sqe → ℕ → Option ℤ
-direct_result w entries i = or_else (error_at w entries i) (given (chain_fails w entries (chain_of entries i)) ecanceled)
+direct_result w entries i =
+    or_else (error_at w entries i) (given (chain_fails w entries (chain_of entries i)) ecanceled)
 
 -- the rows of a batch that end as it is submitted, in the order of their numbers
 abbrev pub direct_of : WorldState → ℕ → List Sqe → List Ending
-direct_of w first entries = endings_from (λ r row. direct_result w entries (r - first)) first (rows_of w first entries)
+direct_of w first entries =
+    endings_from (λ r row. direct_result w entries (r - first)) first (rows_of w first entries)

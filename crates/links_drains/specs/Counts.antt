@@ -18,10 +18,12 @@ pub record IsNextMet (rows : List Row) (total from r : ℕ) : Type 0 where
   pub row : Row
   pub there : slice_get rows r ≡ Some row
   pub met : is_met total row ≡ true
-  pub least : (i : ℕ) (x : Row) → from ≤ i → i < r → slice_get rows i ≡ Some x → is_met total x ≡ false
+  pub least : (i : ℕ) (x : Row) → from ≤ i → i < r → slice_get rows i ≡ Some x
+      → is_met total x ≡ false
 
 abbrev pub NoneMetFrom : List Row → ℕ → ℕ → Type 0
-NoneMetFrom rows total from = (i : ℕ) (x : Row) → from ≤ i → slice_get rows i ≡ Some x → is_met total x ≡ false
+NoneMetFrom rows total from =
+    (i : ℕ) (x : Row) → from ≤ i → slice_get rows i ≡ Some x → is_met total x ≡ false
 
 -- ---- as thresholds
 

@@ -32,14 +32,19 @@ abbrev pub paired : ℕ → Option ℤ → Option Ending
 paired r None = None
 paired r (Some res) = Some (r, res)
 
--- The endings of all unfinished rows that are given a result, in the order of their numbers; the rows are numbered from a first one.
+-- The endings of all unfinished rows that are given a result, in the order of their numbers; the
+-- rows are numbered from a first one.
 abbrev pub endings_from : (ℕ → Row → Option ℤ) → ℕ → List Row → List Ending
-endings_from f first rows = filter_map (λ (p : ℕ × Row). if is_unfinished p.1.phase then paired p.0 (f p.0 p.1) else None) (enumerate_from first rows)
+endings_from f first rows =
+    filter_map (λ (p : ℕ × Row). if is_unfinished p.1.phase then paired p.0 (f p.0 p.1) else None)
+    (enumerate_from first rows)
 
 abbrev pub endings : (ℕ → Row → Option ℤ) → List Row → List Ending
 endings f rows = endings_from f 0 rows
 
 -- Unfinished rows, in the order of their numbers, each once: those that a step ends of itself.
 pub record Direct (rows : List Row) (direct : List Ending) : Type 0 where
-  pub each : (i : ℕ) (e : Ending) → slice_get direct i ≡ Some e → (row : Row) × (slice_get rows e.0 ≡ Some row) × (is_unfinished row.phase ≡ true)
-  pub rising : (i j : ℕ) (p q : Ending) → slice_get direct i ≡ Some p → slice_get direct j ≡ Some q → i < j → p.0 < q.0
+  pub each : (i : ℕ) (e : Ending) → slice_get direct i ≡ Some e
+      → (row : Row) × (slice_get rows e.0 ≡ Some row) × (is_unfinished row.phase ≡ true)
+  pub rising : (i j : ℕ) (p q : Ending) → slice_get direct i ≡ Some p → slice_get direct j ≡ Some q
+      → i < j → p.0 < q.0

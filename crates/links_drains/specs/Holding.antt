@@ -22,7 +22,8 @@ is_held_by rows fd = list_any (holds fd) rows
 abbrev pub holders_of : List Row → ℕ → ℕ
 holders_of rows fd = length (filter (holds fd) rows)
 
--- The counts of held descriptors are those of the rows, of which there are no more than a run can have.
+-- The counts of held descriptors are those of the rows, of which there are no more than a run can
+-- have.
 pub record Tallied (rows : List Row) (held : Held) : Type 0 where
   pub most : length rows ≤ 65536
   pub counts : (fd : ℕ) → holders held fd ≡ holders_of rows fd

@@ -26,9 +26,13 @@ is_guard row = row.entry.opcode == 15
 
 -- A row begins a unit, or is of the last row's.
 abbrev pub GoesOn : List Row → Row → Type 0
-GoesOn rows row = (row.unit ≡ length rows) ⊎ ((last : Row) × (k : ℕ) × (k + 1 ≡ length rows) × (slice_get rows k ≡ Some last) × (row.unit ≡ last.unit))
+GoesOn rows row =
+    (row.unit ≡ length rows)
+    ⊎ ((last : Row) × (k : ℕ) × (k + 1 ≡ length rows) × (slice_get rows k ≡ Some last)
+    × (row.unit ≡ last.unit))
 
 -- A unit is a run of rows, named by the number of its first.
 pub record Chained (rows : List Row) : Type 0 where
   pub back : (r : ℕ) (x : Row) → slice_get rows r ≡ Some x → x.unit ≤ r
-  pub run : (q r : ℕ) (y x : Row) → slice_get rows q ≡ Some y → slice_get rows r ≡ Some x → q ≤ r → x.unit ≤ q → y.unit ≡ x.unit
+  pub run : (q r : ℕ) (y x : Row) → slice_get rows q ≡ Some y → slice_get rows r ≡ Some x → q ≤ r
+      → x.unit ≤ q → y.unit ≡ x.unit

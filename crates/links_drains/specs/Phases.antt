@@ -24,7 +24,8 @@ is_ended (Ended res) = true
 abbrev pub is_unfinished : Phase → Bool
 is_unfinished phase = not (is_ended phase)
 
--- whether the end of a row is one of the completions that a TIMEOUT counts (io_uring_enter(2)): not that of a TIMEOUT or a LINK_TIMEOUT
+-- whether the end of a row is one of the completions that a TIMEOUT counts (io_uring_enter(2)): not
+-- that of a TIMEOUT or a LINK_TIMEOUT
 abbrev pub counts : Row → Bool
 counts row = not (is_timer row.entry.opcode)
 

@@ -25,11 +25,14 @@ fixed_of row = (row.entry, row.unit)
 
 -- Rows stay where they are, with their entries and units; others may have come behind them.
 abbrev pub Stay : List Row → List Row → Type 0
-Stay rows next = (r : ℕ) → r < length rows → option_map fixed_of (slice_get next r) ≡ option_map fixed_of (slice_get rows r)
+Stay rows next =
+    (r : ℕ) → r < length rows
+    → option_map fixed_of (slice_get next r) ≡ option_map fixed_of (slice_get rows r)
 
 -- A row can be written over by one of the same entry and unit, and the last one taken out.
 abbrev pub table_can_put : List Row → Place → Option Value → Type 0
-table_can_put rows (Request i) (Some (Requested row)) = option_map fixed_of (slice_get rows i) ≡ Some (fixed_of row)
+table_can_put rows (Request i) (Some (Requested row)) =
+    option_map fixed_of (slice_get rows i) ≡ Some (fixed_of row)
 table_can_put rows (Request i) None = i + 1 ≡ length rows
 table_can_put rows place value = ⊥
 

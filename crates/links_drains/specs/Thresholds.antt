@@ -16,7 +16,8 @@ pub record IsNextReached (thresholds : List ℕ) (total from k : ℕ) : Type 0 w
 abbrev pub NoneReachedFrom : List ℕ → ℕ → ℕ → Type 0
 NoneReachedFrom thresholds total from = (i : ℕ) → from ≤ i → total < threshold_at thresholds i
 
--- No threshold of a block of 256 is below the block's minimum, and none of those is below the least.
+-- No threshold of a block of 256 is below the block's minimum, and none of those is below the
+-- least.
 pub record Bounded (each minima : List ℕ) (least : ℕ) : Type 0 where
   pub few : length minima ≤ 256
   pub covered : length each ≤ 256 * length minima

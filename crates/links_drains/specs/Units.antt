@@ -31,7 +31,8 @@ NoneIssuedFrom = NoneWhere is_going
 
 -- whether a row stands behind another of its unit, and hasn't ended
 abbrev pub is_rest : List Row → ℕ → ℕ → Row → Bool
-is_rest rows r k other = nat_lt r k && (passes_at (λ (row : Row). other.unit == row.unit) rows r && is_open other)
+is_rest rows r k other =
+    nat_lt r k && (passes_at (λ (row : Row). other.unit == row.unit) rows r && is_open other)
 
 -- the later rows of a row's unit that haven't ended
 abbrev pub rest_of : List Row → ℕ → List ℕ
@@ -54,4 +55,5 @@ pub record HasRowOf (words : List ℕ) (rows : List Row) (unit : ℕ) : Type 0 w
   pub member : has words number ≡ true
 
 abbrev pub HasNoRowOf : List ℕ → List Row → ℕ → Type 0
-HasNoRowOf words rows unit = (r : ℕ) (row : Row) → slice_get rows r ≡ Some row → row.unit ≡ unit → has words r ≡ false
+HasNoRowOf words rows unit =
+    (r : ℕ) (row : Row) → slice_get rows r ≡ Some row → row.unit ≡ unit → has words r ≡ false

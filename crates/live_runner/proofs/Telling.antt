@@ -61,7 +61,8 @@ told_drop : (a i : ℕ) (os : List ℕ) (es : List Event) (o : ℕ) (e : Event) 
     → told_from a i (drop i os) (drop i es) ≡ told_from a i (get_or os i o ∷ drop (i + 1) os) (get_or es i e ∷ drop (i + 1) es)
 told_drop a i os es o e h k = ap (λ l. told_from a i l (drop i es)) (drop_more os i o h) ∙ ap (λ l. told_from a i (get_or os i o ∷ drop (i + 1) os) l) (drop_more es i e k)
 
--- how far a look through the trace has come: the first receipts are right, and the rest of the trace tells the others
+-- how far a look through the trace has come: the first receipts are right, and the rest of the
+-- trace tells the others
 pub record Agrees (a : ℕ) (os : List ℕ) (es : List Event) (rs : List Receipt) (next i : ℕ) : Type 0 where
   pub within : next ≤ length rs
   pub so_far : told a os es ≡ take next rs ++ told_from a i (drop i os) (drop i es)

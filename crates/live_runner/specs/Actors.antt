@@ -8,7 +8,8 @@ use Rattle.scenario.specs.declared.event.Event.TheVariants.{Step, Take, Sleep, I
 abbrev pub pollers : Setup → ℕ
 pollers setup = if setup.sqpoll then 1 else 0
 
--- how many actors there are: a submitter for each thread (a setup with more than 16 has no start), the poller, and then the kernel workers
+-- how many actors there are: a submitter for each thread (a setup with more than 16 has no start),
+-- the poller, and then the kernel workers
 abbrev pub actors : Setup → ℕ → ℕ
 actors setup kernel = min (length setup.threads) 16 + pollers setup + kernel
 

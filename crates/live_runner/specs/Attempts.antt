@@ -11,15 +11,19 @@ use Rattle.live_runner.specs.Actors.{is_own}
 use Rattle.live_runner.specs.Told.{receipt}
 use Rattle.live_runner.specs.History.{History, Held, gone_on, seat_with}
 
--- An accepted event is done at the end of the run, and told to its actor. What isn't the actor's is refused first, then a full trace,
--- then what the rules refuse; else memory alone is refused. A refusal changes nothing.
+-- An accepted event is done at the end of the run, and told to its actor. What isn't the actor's is
+-- refused first, then a full trace, then what the rules refuse; else memory alone is refused. A
+-- refusal changes nothing.
 pub record Attempted (old : History) (seat : Held) (e : Event) (answer : Result Receipt LiveRefusal) (new : History) (after : Held) : Type 0 where
   pub accepted : OnOk answer (refusal old.state e ≡ None)
   pub run : OnOk answer (new ≡ gone_on old seat.actor e)
   pub told : IfOk answer (λ r. r ≡ receipt seat.actor (length old.events) e)
   pub kept : IfOk answer (λ r. after ≡ seat_with seat r)
   pub not_yours : (answer ≡ Err NotYours) ↔ (is_own old.setup old.actors seat.actor e ≡ false)
-  pub full : (answer ≡ Err TraceFull) ↔ ((is_own old.setup old.actors seat.actor e ≡ true) × (length old.events ≡ 1048576))
-  pub refused : (n : Refusal) → is_own old.setup old.actors seat.actor e ≡ true → length old.events ≢ 1048576 → refusal old.state e ≡ Some n → answer ≡ Err (Step n)
-  pub only_memory : (n : Refusal) → answer ≡ Err (Step n) → (refusal old.state e ≡ Some n) ⊎ ((n ≡ Memory) × (refusal old.state e ≡ None))
+  pub full : (answer ≡ Err TraceFull) ↔
+      ((is_own old.setup old.actors seat.actor e ≡ true) × (length old.events ≡ 1048576))
+  pub refused : (n : Refusal) → is_own old.setup old.actors seat.actor e ≡ true
+      → length old.events ≢ 1048576 → refusal old.state e ≡ Some n → answer ≡ Err (Step n)
+  pub only_memory : (n : Refusal) → answer ≡ Err (Step n)
+      → (refusal old.state e ≡ Some n) ⊎ ((n ≡ Memory) × (refusal old.state e ≡ None))
   pub unchanged : OnErr answer ((new ≡ old) × (after ≡ seat))

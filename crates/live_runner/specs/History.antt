@@ -28,7 +28,8 @@ AllOwn setup n [] (e ∷ es) = ⊥
 AllOwn setup n (o ∷ os) [] = ⊥
 AllOwn setup n (o ∷ os) (e ∷ es) = (is_own setup n o e ≡ true) × AllOwn setup n os es
 
--- the setup has a start, the events lead from there to the state, their records lead back, each event is its actor's, and they are as many as the book says
+-- the setup has a start, the events lead from there to the state, their records lead back, each
+-- event is its actor's, and they are as many as the book says
 pub record Replays (h : History) (records : List (List Change)) : Type 0 where
   pub starts : setup_refusal h.setup ≡ None
   pub linked : Linked (start h.setup) h.events records h.state
@@ -55,7 +56,9 @@ InOrder seats = (i : ℕ) (d : Held) → i < length seats → (slice_index_or se
 
 -- a run without events
 abbrev pub opened : Setup → ℕ → History
-opened setup count = record { setup = setup; actors = count; events = []; owners = []; state = start setup; total = 0 }
+opened setup count =
+    record
+    { setup = setup; actors = count; events = []; owners = []; state = start setup; total = 0 }
 
 -- the run with one event more, of an actor
 abbrev pub gone_on : History → ℕ → Event → History
@@ -70,7 +73,9 @@ gone_on h actor event = record {
 
 -- the seat with one receipt more
 abbrev pub seat_with : Held → Receipt → Held
-seat_with s r = record { actor = s.actor; receipts = s.receipts ++ r ∷ []; parts = s.parts; amount = s.amount + 1 }
+seat_with s r =
+    record
+    { actor = s.actor; receipts = s.receipts ++ r ∷ []; parts = s.parts; amount = s.amount + 1 }
 
 -- the seat whose actor says another event of a receipt
 abbrev pub altered : Held → ℕ → Event → Held
@@ -97,7 +102,8 @@ receipt_count workers = sum_by (λ (w : Labour). length w.seat.receipts) workers
 
 -- a worker for each actor, in order
 abbrev pub WorkInOrder : List Labour → Type 0
-WorkInOrder workers = (i : ℕ) (d : Labour) → i < length workers → (slice_index_or workers i d).seat.actor ≡ i
+WorkInOrder workers =
+    (i : ℕ) (d : Labour) → i < length workers → (slice_index_or workers i d).seat.actor ≡ i
 
 -- a closed run, as contracts see it
 pub record Past : Type 0 where
@@ -108,7 +114,8 @@ pub record Past : Type 0 where
   pub state : Machine
   pub receipts : List (List Receipt)
 
--- the setup has a start, the events run from there to the state, each is its actor's, and each actor's receipts are just its events with their moments, in order
+-- the setup has a start, the events run from there to the state, each is its actor's, and each
+-- actor's receipts are just its events with their moments, in order
 pub record Whole (c : Past) : Type 0 where
   pub starts : setup_refusal c.setup ≡ None
   pub most : length c.events ≤ 1048576

@@ -68,9 +68,12 @@ ticks_to clock (Some d) = if nat_lt d (2 ^ 64) then Some (Tick (d - clock)) else
 abbrev pub ticks : Machine → Option Event
 ticks m = ticks_to m.clock (least_deadline m)
 
--- what it does of itself to the issued rows: it ends in full the least that it can end, expires the least that is due, or lets the clock go on to the least deadline
+-- what it does of itself to the issued rows: it ends in full the least that it can end, expires the
+-- least that is due, or lets the clock go on to the least deadline
 abbrev pub ends : Machine → Option Event
-ends m = or_else (on_row Finishing (least_row m Finishing)) (or_else (on_row Expiring (least_row m Expiring)) (ticks m))
+ends m =
+    or_else (on_row Finishing (least_row m Finishing))
+    (or_else (on_row Expiring (least_row m Expiring)) (ticks m))
 
 -- the first that there is: it issues the least row that may be issued, or does that
 abbrev pub works : Machine → Option Event
@@ -79,7 +82,9 @@ works m = or_else (on_row Issuing (least_row m Issuing)) (ends m)
 -- ---- each of so many actors
 
 abbrev pub offer_of : Setup → Machine → ℕ → Option Event
-offer_of setup m actor = if is_submitter setup actor then submits m actor else if is_poller setup actor then polls m else works m
+offer_of setup m actor =
+    if is_submitter setup actor then submits m actor else if is_poller setup actor then polls m
+    else works m
 
 -- what an actor does next, if anything
 abbrev pub offer : Setup → ℕ → Machine → ℕ → Option Event

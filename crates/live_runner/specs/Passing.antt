@@ -23,4 +23,5 @@ has_come clock deadline = option_map_or (λ d. nat_le d clock) deadline false
 
 -- Each row before one of a number is there, and has ended.
 pub record EndedBelow (rows : List Row) (first : ℕ) : Type 0 where
-  pub each : (r : ℕ) → r < first → (row : Row) × (slice_get rows r ≡ Some row) × (is_ended row.phase ≡ true)
+  pub each : (r : ℕ) → r < first
+      → (row : Row) × (slice_get rows r ≡ Some row) × (is_ended row.phase ≡ true)

@@ -11,14 +11,16 @@ abbrev pub told_from : ℕ → ℕ → List ℕ → List Event → List Receipt
 told_from actor moment [] es = []
 told_from actor moment (o ∷ os) [] = []
 told_from actor moment (o ∷ os) (e ∷ es) =
-    if o == actor then receipt actor moment e ∷ told_from actor (moment + 1) os es else told_from actor (moment + 1) os es
+    if o == actor then receipt actor moment e ∷ told_from actor (moment + 1) os es
+    else told_from actor (moment + 1) os es
 
 abbrev pub told : ℕ → List ℕ → List Event → List Receipt
 told actor owners events = told_from actor 0 owners events
 
 -- the receipts of each actor, in order, are just its events
 abbrev pub AllTold : List ℕ → List Event → List (List Receipt) → Type 0
-AllTold owners events lists = (a : ℕ) → a < length lists → slice_get lists a ≡ Some (told a owners events)
+AllTold owners events lists =
+    (a : ℕ) → a < length lists → slice_get lists a ≡ Some (told a owners events)
 
 -- a is the least actor whose receipts are something else
 pub record LeastTorn (owners : List ℕ) (events : List Event) (lists : List (List Receipt)) (a : ℕ) : Type 0 where
@@ -28,4 +30,5 @@ pub record LeastTorn (owners : List ℕ) (events : List Event) (lists : List (Li
 
 -- the trace has the receipt's event at its moment, and it is the actor's
 abbrev pub IsOf : List ℕ → List Event → Receipt → Type 0
-IsOf owners events r = (slice_get owners r.moment ≡ Some r.actor) × (slice_get events r.moment ≡ Some r.event)
+IsOf owners events r =
+    (slice_get owners r.moment ≡ Some r.actor) × (slice_get events r.moment ≡ Some r.event)

@@ -29,7 +29,8 @@ use Rattle.machine.proofs.PostedTogether.{none_posted, posted_together}
 
 -- ---- machines that post
 
--- What posting asks of a machine: where completions go is well formed, and the flags word tells what it should.
+-- What posting asks of a machine: where completions go is well formed, and the flags word tells
+-- what it should.
 pub record Posts (m : Machine) : Type 0 where
   pub delivery : DeliveryFormed (delivery m)
   pub flags : m.submissions.flags ≡ flag_word (is_asleep m.poller) (not (is_clear m.backlog))

@@ -97,7 +97,8 @@ fallen_unmet m direct r x h = by (slice_get m.table r) refl (sym (mapped_at (end
     by None e k = absurd cc
     by (Some y) e k = let same : ended_by falls r y ≡ x = cc in ap (is_met total) (sym same) ∙ told y e (result_in falls r) refl
 
--- guards that stand behind their targets, but for some that a step ends of itself, do once rows have fallen
+-- guards that stand behind their targets, but for some that a step ends of itself, do once rows
+-- have fallen
 guards_in_turn : (m : Machine) (direct : List (ℕ × ℤ)) → ((r : ℕ) (x : Row) → slice_get m.table r ≡ Some x → is_guard x ≡ true → is_unfinished x.phase ≡ true → result_in direct r ≡ None → GuardStands m.table r x) → AllGuardsStand (ended_in_turn m (fall_of m.table m.counted direct)).table
 guards_in_turn m direct h r x e g u = by (ended_in_turn_rows m falls r x e)
   where

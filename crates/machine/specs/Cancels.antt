@@ -1,4 +1,5 @@
--- What cancels and removals come to (io_uring_enter(2), IORING_OP_ASYNC_CANCEL, IORING_OP_POLL_REMOVE and IORING_OP_TIMEOUT_REMOVE).
+-- What cancels and removals come to (io_uring_enter(2), IORING_OP_ASYNC_CANCEL,
+-- IORING_OP_POLL_REMOVE and IORING_OP_TIMEOUT_REMOVE).
 use Rattle.std.specs.Prelude.{ℕ, ℤ, pos, negsuc, ◌==◌, nat_lt, Bool, ◌&&◌, if◌then◌else◌, List, [], ◌∷◌, ◌++◌, length, map}
 use Rattle.std.specs.List.{filter}
 use Rattle.entries.specs.declared.entry.Sqe.{Sqe}
@@ -19,7 +20,9 @@ enoent = negsuc 1
 abbrev pub ealready : ℤ
 ealready = negsuc 113
 
--- what an entry looks for: a POLL_REMOVE for polls and a TIMEOUT_REMOVE for timeouts of a user_data; an ASYNC_CANCEL for all that hold a descriptor (IORING_ASYNC_CANCEL_FD), or that have a user_data
+-- what an entry looks for: a POLL_REMOVE for polls and a TIMEOUT_REMOVE for timeouts of a
+-- user_data; an ASYNC_CANCEL for all that hold a descriptor (IORING_ASYNC_CANCEL_FD), or that have
+-- a user_data
 abbrev pub key_of : Sqe → Key
 key_of entry =
     if entry.opcode == 7 then Poll entry.addr
@@ -47,7 +50,9 @@ on_all rs = (pos (length rs), rs)
 
 -- what the entry of a row comes to
 abbrev pub verdict_of : List Row → WorldState → ℕ → Sqe → Verdict
-verdict_of rows w me entry = if takes_all entry then on_all (waiting_by rows w (key_of entry) me) else on_found (found_by rows w (key_of entry) me)
+verdict_of rows w me entry =
+    if takes_all entry then on_all (waiting_by rows w (key_of entry) me)
+    else on_found (found_by rows w (key_of entry) me)
 
 -- rows of a list, with ECANCELED
 abbrev pub canceled : (ℕ → Bool) → List ℕ → List Ending

@@ -59,7 +59,8 @@ executes Ready i = i
 executes (Waiting n w) i = None
 
 abbrev pub instruction_at : Machine → ℕ → Option Instruction
-instruction_at m t = option_and_then (λ x. executes x.stage (slice_get x.program x.counter)) (slice_get m.threads t)
+instruction_at m t =
+    option_and_then (λ x. executes x.stage (slice_get x.program x.counter)) (slice_get m.threads t)
 
 abbrev pub is_push : Instruction → Bool
 is_push (Push index) = true
@@ -76,17 +77,21 @@ waits_still m (Waiting n w) = nat_lt (ready_count m) w
 
 -- ---- submissions
 
--- Whether the rows and what a submission of at most k entries is offered are above 65,536. A flush before it changes neither.
+-- Whether the rows and what a submission of at most k entries is offered are above 65,536. A flush
+-- before it changes neither.
 abbrev pub exceeds_rows : Machine → ℕ → Bool
 exceeds_rows m k = nat_lt 65536 (length m.table + length (offered m.submissions k))
 
--- whether an Enter runs a submission: there is no poller, its flags are known (EINVAL), and no completion is kept behind its flush (EBUSY)
+-- whether an Enter runs a submission: there is no poller, its flags are known (EINVAL), and no
+-- completion is kept behind its flush (EBUSY)
 abbrev pub runs_submission : Machine → ℕ → ℕ → Bool
-runs_submission m k flags = is_none m.poller && (not (is_unknown flags) && not (is_busy (before_submission m k flags) k))
+runs_submission m k flags =
+    is_none m.poller && (not (is_unknown flags) && not (is_busy (before_submission m k flags) k))
 
 -- whether an instruction runs one that is too large
 abbrev pub submits_too_many : Machine → Instruction → Bool
-submits_too_many m (Enter to_submit min_complete flags) = runs_submission m to_submit flags && exceeds_rows m to_submit
+submits_too_many m (Enter to_submit min_complete flags) =
+    runs_submission m to_submit flags && exceeds_rows m to_submit
 submits_too_many m i = false
 
 -- ---- ends
@@ -108,32 +113,48 @@ is_bad_choice BadChoice = true
 
 -- whether a row's outcome is that its object isn't ready; a cancel or a removal has none
 abbrev pub is_unready : Machine → Choice → Row → Bool
-is_unready m c row = not (is_cancel row.entry.opcode) && is_waits (outcome_of (is_held_by m.table) m.world row c)
+is_unready m c row =
+    not (is_cancel row.entry.opcode) && is_waits (outcome_of (is_held_by m.table) m.world row c)
 
 -- whether it is that the choice isn't one of the row's; a cancel or a removal ends in full alone
 abbrev pub cannot_end : Machine → Choice → Row → Bool
-cannot_end m c row = if is_cancel row.entry.opcode then not (is_in_full c) else is_bad_choice (outcome_of (is_held_by m.table) m.world row c)
+cannot_end m c row =
+    if is_cancel row.entry.opcode then not (is_in_full c)
+    else is_bad_choice (outcome_of (is_held_by m.table) m.world row c)
 
 -- ---- the causes
 
--- Whether an event has the cause of a refusal, whatever others it has; in the order of their numbers. What is asked of a thread or
--- a row is no cause where there is none. A row without a deadline is never due, and a Take exceeds the rows whatever the poller does.
--- Want of memory has no cause in a machine.
+-- Whether an event has the cause of a refusal, whatever others it has; in the order of their
+-- numbers. What is asked of a thread or a row is no cause where there is none. A row without a
+-- deadline is never due, and a Take exceeds the rows whatever the poller does. Want of memory has
+-- no cause in a machine.
 abbrev pub has_cause : Machine → Event → Refusal → Bool
 has_cause m (Step t) NoSuchThread = is_none (slice_get m.threads t)
 has_cause m (Step t) ThreadDone = option_map_or is_at_end (slice_get m.threads t) false
-has_cause m (Step t) SqFull = option_map_or is_push (instruction_at m t) false && (waiting m.submissions.head m.submissions.tail == length m.submissions.array)
-has_cause m (Step t) NothingToReap = option_map_or is_reap (instruction_at m t) false && (ready_count m == 0)
-has_cause m (Step t) StillWaiting = option_map_or (λ x. waits_still m x.stage) (slice_get m.threads t) false
+has_cause m (Step t) SqFull =
+    option_map_or is_push (instruction_at m t) false
+    && (waiting m.submissions.head m.submissions.tail == length m.submissions.array)
+has_cause m (Step t) NothingToReap =
+    option_map_or is_reap (instruction_at m t) false && (ready_count m == 0)
+has_cause m (Step t) StillWaiting =
+    option_map_or (λ x. waits_still m x.stage) (slice_get m.threads t) false
 has_cause m (Issue r) NoSuchRequest = is_none (slice_get m.table r)
 has_cause m (Finish r c) NoSuchRequest = is_none (slice_get m.table r)
 has_cause m (Expire r) NoSuchRequest = is_none (slice_get m.table r)
-has_cause m (Issue r) WrongPhase = option_map_or (λ row. not (is_queued row.phase)) (slice_get m.table r) false
-has_cause m (Finish r c) WrongPhase = option_map_or (λ row. not (is_issued row.phase) || is_timer row.entry.opcode) (slice_get m.table r) false
-has_cause m (Expire r) WrongPhase = option_map_or (λ row. not (is_issued row.phase) || not (is_timer row.entry.opcode)) (slice_get m.table r) false
-has_cause m (Issue r) NotEligible = option_map_or (λ row. is_queued row.phase && not (is_eligible m.table r)) (slice_get m.table r) false
+has_cause m (Issue r) WrongPhase =
+    option_map_or (λ row. not (is_queued row.phase)) (slice_get m.table r) false
+has_cause m (Finish r c) WrongPhase =
+    option_map_or (λ row. not (is_issued row.phase) || is_timer row.entry.opcode)
+    (slice_get m.table r) false
+has_cause m (Expire r) WrongPhase =
+    option_map_or (λ row. not (is_issued row.phase) || not (is_timer row.entry.opcode))
+    (slice_get m.table r) false
+has_cause m (Issue r) NotEligible =
+    option_map_or (λ row. is_queued row.phase && not (is_eligible m.table r)) (slice_get m.table r)
+    false
 has_cause m (Finish r c) NotReady = option_map_or (is_unready m c) (slice_get m.table r) false
-has_cause m (Expire r) NotDue = option_map_or (λ row. not (is_due m.clock row)) (slice_get m.table r) false
+has_cause m (Expire r) NotDue =
+    option_map_or (λ row. not (is_due m.clock row)) (slice_get m.table r) false
 has_cause m (Finish r c) IsBadChoice = option_map_or (cannot_end m c) (slice_get m.table r) false
 has_cause m (Take n) NoPoller = is_none m.poller
 has_cause m Sleep NoPoller = is_none m.poller

@@ -23,7 +23,8 @@ abbrev pub first_poller : Bool → Option Poller
 first_poller true = Some Awake
 first_poller false = None
 
--- the machine that a setup starts with: empty rings whose words are the base, nothing kept, its memory and objects, descriptors open, no rows, the poller awake, threads ready, all numbers 0
+-- the machine that a setup starts with: empty rings whose words are the base, nothing kept, its
+-- memory and objects, descriptors open, no rows, the poller awake, threads ready, all numbers 0
 abbrev pub start : Setup → Machine
 start s = record {
   submissions = sub_start s.entries s.base;

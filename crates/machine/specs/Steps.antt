@@ -67,7 +67,8 @@ abbrev pub delivery : Machine → Delivery
 delivery m = delivery_of m.submissions m.completions m.backlog
 
 abbrev pub with_delivery : Machine → Delivery → Machine
-with_delivery m d = record m { submissions = d.submissions; completions = d.completions; backlog = d.backlog }
+with_delivery m d =
+    record m { submissions = d.submissions; completions = d.completions; backlog = d.backlog }
 
 -- the machine once completions are posted
 abbrev pub posted : Machine → List Cqe → Machine
@@ -85,9 +86,12 @@ ready_count m = waiting m.completions.head m.completions.tail
 
 -- why a submission of at most k entries is refused
 abbrev pub submission_refusal : Machine → ℕ → Option Refusal
-submission_refusal m k = if nat_lt 65536 (length m.table + length (offered m.submissions k)) then Some RequestsFull else None
+submission_refusal m k =
+    if nat_lt 65536 (length m.table + length (offered m.submissions k)) then Some RequestsFull
+    else None
 
--- the machine as a submission finds it: kept completions move into the ring where completions are asked for, or entries are to be submitted
+-- the machine as a submission finds it: kept completions move into the ring where completions are
+-- asked for, or entries are to be submitted
 abbrev pub before_submission : Machine → ℕ → ℕ → Machine
 before_submission m k flags = if gets_events flags || nat_lt 0 k then flushed m else m
 
@@ -97,7 +101,9 @@ is_busy m k = nat_lt 0 k && not (is_clear m.backlog)
 
 -- why an Enter is refused that submits, unless completions are kept
 abbrev pub alone_refusal : Machine → ℕ → ℕ → Option Refusal
-alone_refusal m k flags = if is_busy (before_submission m k flags) k then None else submission_refusal (before_submission m k flags) k
+alone_refusal m k flags =
+    if is_busy (before_submission m k flags) k then None
+    else submission_refusal (before_submission m k flags) k
 
 -- why an Enter is refused: where there is a poller, it submits nothing
 abbrev pub enter_refusal : Machine → Option Poller → ℕ → ℕ → Option Refusal
@@ -107,9 +113,12 @@ enter_refusal m None k flags = if is_unknown flags then None else alone_refusal 
 -- why an instruction is refused
 abbrev pub instruction_refusal : Machine → Instruction → Option Refusal
 instruction_refusal m (Put slot entry) = None
-instruction_refusal m (Push index) = if waiting m.submissions.head m.submissions.tail == length m.submissions.array then Some SqFull else None
+instruction_refusal m (Push index) =
+    if waiting m.submissions.head m.submissions.tail == length m.submissions.array then Some SqFull
+    else None
 instruction_refusal m (Store address bytes) = None
-instruction_refusal m (Enter to_submit min_complete flags) = enter_refusal m m.poller to_submit flags
+instruction_refusal m (Enter to_submit min_complete flags) =
+    enter_refusal m m.poller to_submit flags
 instruction_refusal m Reap = if ready_count m == 0 then Some NothingToReap else None
 instruction_refusal m (Close fd) = None
 
@@ -131,7 +140,8 @@ take_refusal m (Some Awake) n = submission_refusal m n
 abbrev pub sleep_refusal : Machine → Option Poller → Option Refusal
 sleep_refusal m None = Some NoPoller
 sleep_refusal m (Some Asleep) = Some IsAsleep
-sleep_refusal m (Some Awake) = if waiting m.submissions.head m.submissions.tail == 0 then None else Some NotIdle
+sleep_refusal m (Some Awake) =
+    if waiting m.submissions.head m.submissions.tail == 0 then None else Some NotIdle
 
 -- a queued row is issued once no other row holds it back
 abbrev pub start_refusal : List Row → ℕ → Phase → Option Refusal
@@ -157,7 +167,8 @@ full_refusal Eio = Some IsBadChoice
 
 -- why an issued row can't end as a kernel chooses
 abbrev pub choice_refusal : (ℕ → Bool) → WorldState → Row → Choice → Option Refusal
-choice_refusal held w row c = if is_cancel row.entry.opcode then full_refusal c else outcome_refusal (outcome_of held w row c)
+choice_refusal held w row c =
+    if is_cancel row.entry.opcode then full_refusal c else outcome_refusal (outcome_of held w row c)
 
 abbrev pub phase_refusal : Phase → Option Refusal → Option Refusal
 phase_refusal Queued o = Some WrongPhase
@@ -167,12 +178,17 @@ phase_refusal (Ended res) o = Some WrongPhase
 -- timeouts and guards don't finish, they expire
 abbrev pub finish_refusal : (ℕ → Bool) → WorldState → Option Row → Choice → Option Refusal
 finish_refusal held w None c = Some NoSuchRequest
-finish_refusal held w (Some row) c = if is_timer row.entry.opcode then Some WrongPhase else phase_refusal row.phase (choice_refusal held w row c)
+finish_refusal held w (Some row) c =
+    if is_timer row.entry.opcode then Some WrongPhase
+    else phase_refusal row.phase (choice_refusal held w row c)
 
 -- and not before their deadline
 abbrev pub expire_refusal : ℕ → Option Row → Option Refusal
 expire_refusal now None = Some NoSuchRequest
-expire_refusal now (Some row) = if is_timer row.entry.opcode then phase_refusal row.phase (if is_due now row then None else Some NotDue) else Some WrongPhase
+expire_refusal now (Some row) =
+    if is_timer row.entry.opcode
+    then phase_refusal row.phase (if is_due now row then None else Some NotDue)
+    else Some WrongPhase
 
 -- why an event is refused, if it is: the least number whose condition holds
 abbrev pub refusal : Machine → Event → Option Refusal
@@ -192,13 +208,15 @@ completion_of res row = record { user_data = row.entry.user_data; res = res; fla
 
 -- the completions of the rows that a list names, in its order
 abbrev pub completions_of : List Row → List Ending → List Cqe
-completions_of rows es = filter_map (λ (e : Ending). option_map (completion_of e.1) (slice_get rows e.0)) es
+completions_of rows es =
+    filter_map (λ (e : Ending). option_map (completion_of e.1) (slice_get rows e.0)) es
 
 -- a row with its number, once those that a list names have ended
 abbrev pub ended_by : List Ending → ℕ → Row → Row
 ended_by es r row = option_map_or (λ res. record row { phase = Ended res }) (result_in es r) row
 
--- the machine once the rows that a list names have ended, each with its result: their completions are posted in the list's order, and those of them that count are counted
+-- the machine once the rows that a list names have ended, each with its result: their completions
+-- are posted in the list's order, and those of them that count are counted
 abbrev pub all_ended : Machine → List Ending → Machine
 all_ended m es = record (posted m (completions_of m.table es)) {
   table = map_numbered (ended_by es) m.table;
@@ -216,7 +234,8 @@ words_for m k = taken_words m.submit_all m.world m.submissions k
 abbrev pub entries_for : Machine → ℕ → List Sqe
 entries_for m k = taken_entries m.submit_all m.world m.submissions k
 
--- the machine once words were taken from the ring, and the entries that they name have become rows; the other words are dropped
+-- the machine once words were taken from the ring, and the entries that they name have become rows;
+-- the other words are dropped
 abbrev pub taken : Machine → ℕ → Machine
 taken m k = record m {
   submissions = record m.submissions {
@@ -239,20 +258,25 @@ gone_on m t = record m { threads = updated (λ x. record x { counter = x.counter
 
 -- the machine once a thread waits in its Enter, which submitted n, for w completions
 abbrev pub held_back : Machine → ℕ → ℕ → ℕ → Machine
-held_back m t n w = record m { threads = updated (λ x. record x { stage = Waiting n w }) m.threads t }
+held_back m t n w =
+    record m { threads = updated (λ x. record x { stage = Waiting n w }) m.threads t }
 
 -- the machine once the poller is asleep, or awake
 abbrev pub with_poller : Machine → Poller → Machine
 with_poller m p = record m { poller = Some p; submissions = record m.submissions { flags = with_flag m.submissions.flags NeedWakeup (not (is_awake p)) } }
 
--- how many completions a thread waits for that asks for a number: no more than the ring has room for
+-- how many completions a thread waits for that asks for a number: no more than the ring has room
+-- for
 abbrev pub wanted : Machine → ℕ → ℕ
 wanted m min_complete = min min_complete (length m.completions.slots)
 
--- What a thread does that entered the kernel, and submitted a number of its entries: if it submitted all, and asks for completions, it waits while there are fewer than it wants.
+-- What a thread does that entered the kernel, and submitted a number of its entries: if it
+-- submitted all, and asks for completions, it waits while there are fewer than it wants.
 abbrev pub awaited : Machine → ℕ → ℕ → ℕ → ℕ → ℕ → Machine
 awaited m t submitted to_submit min_complete flags =
-    if gets_events flags && ((submitted == to_submit) && nat_lt (ready_count m) (wanted m min_complete)) then held_back m t submitted (wanted m min_complete)
+    if gets_events flags
+    && ((submitted == to_submit) && nat_lt (ready_count m) (wanted m min_complete))
+    then held_back m t submitted (wanted m min_complete)
     else answered m t (pos submitted)
 
 -- the machine once the poller is woken, if it is asked to
@@ -263,24 +287,31 @@ woken m flags = if wakes flags then with_poller m Awake else m
 abbrev pub shown : Machine → ℕ → Machine
 shown m flags = if gets_events flags then flushed m else m
 
--- an Enter where the poller submits: it wakes the poller and moves kept completions into the ring, if it is asked to
+-- an Enter where the poller submits: it wakes the poller and moves kept completions into the ring,
+-- if it is asked to
 abbrev pub entered_beside : Machine → ℕ → ℕ → ℕ → ℕ → Machine
-entered_beside m t to_submit min_complete flags = awaited (shown (woken m flags) flags) t to_submit to_submit min_complete flags
+entered_beside m t to_submit min_complete flags =
+    awaited (shown (woken m flags) flags) t to_submit to_submit min_complete flags
 
 -- what a thread does that is to submit entries: while completions are kept it submits none (EBUSY)
 abbrev pub submitting : Machine → ℕ → ℕ → ℕ → ℕ → Machine
 submitting m t to_submit min_complete flags =
     if is_busy m to_submit then answered m t ebusy
-    else awaited (submitted m to_submit) t (length (entries_for m to_submit)) to_submit min_complete flags
+    else awaited (submitted m to_submit) t (length (entries_for m to_submit)) to_submit min_complete
+    flags
 
 -- an Enter without a poller
 abbrev pub entered_alone : Machine → ℕ → ℕ → ℕ → ℕ → Machine
-entered_alone m t to_submit min_complete flags = submitting (before_submission m to_submit flags) t to_submit min_complete flags
+entered_alone m t to_submit min_complete flags =
+    submitting (before_submission m to_submit flags) t to_submit min_complete flags
 
 -- an Enter: unknown flags are answered with EINVAL
 abbrev pub entered : Machine → Option Poller → ℕ → ℕ → ℕ → ℕ → Machine
-entered m None t to_submit min_complete flags = if is_unknown flags then answered m t einval else entered_alone m t to_submit min_complete flags
-entered m (Some p) t to_submit min_complete flags = if is_unknown flags then answered m t einval else entered_beside m t to_submit min_complete flags
+entered m None t to_submit min_complete flags =
+    if is_unknown flags then answered m t einval else entered_alone m t to_submit min_complete flags
+entered m (Some p) t to_submit min_complete flags =
+    if is_unknown flags then answered m t einval
+    else entered_beside m t to_submit min_complete flags
 
 abbrev pub is_open : Option DescriptorState → Bool
 is_open None = false
@@ -289,15 +320,20 @@ is_open (Some d) = d.is_open
 -- a Close of a descriptor that is open, and of what is none (close(2))
 abbrev pub closed : Machine → ℕ → ℤ → Machine
 closed m t (negsuc n) = answered m t ebadf
-closed m t (pos fd) = if is_open (descriptor_of m.world fd) then answered (record m { world = world_closed fd m.world }) t (pos 0) else answered m t ebadf
+closed m t (pos fd) =
+    if is_open (descriptor_of m.world fd)
+    then answered (record m { world = world_closed fd m.world }) t (pos 0)
+    else answered m t ebadf
 
 -- what an instruction changes
 abbrev pub executed : Machine → ℕ → Option Instruction → Machine
 executed m t None = m
 executed m t (Some (Put slot entry)) = gone_on (record m { submissions = record m.submissions { slots = slice_set m.submissions.slots slot entry } }) t
 executed m t (Some (Push index)) = gone_on (record m { submissions = record m.submissions { tail = (m.submissions.tail + 1) % 2 ^ 32; array = slice_set m.submissions.array (m.submissions.tail % length m.submissions.array) index } }) t
-executed m t (Some (Store address bytes)) = gone_on (record m { world = world_stored address bytes m.world }) t
-executed m t (Some (Enter to_submit min_complete flags)) = entered m m.poller t to_submit min_complete flags
+executed m t (Some (Store address bytes)) =
+    gone_on (record m { world = world_stored address bytes m.world }) t
+executed m t (Some (Enter to_submit min_complete flags)) =
+    entered m m.poller t to_submit min_complete flags
 executed m t (Some Reap) = record m {
   completions = record m.completions { head = (m.completions.head + 1) % 2 ^ 32 };
   threads = updated (λ x. record x { counter = x.counter + 1; got = slice_get m.completions.slots (m.completions.head % length m.completions.slots) }) m.threads t;
@@ -308,7 +344,8 @@ abbrev pub next_of : Option ThreadState → Option Instruction
 next_of None = None
 next_of (Some x) = slice_get x.program x.counter
 
--- what a thread does next: one that is ready its next instruction, and one that waited has its answer
+-- what a thread does next: one that is ready its next instruction, and one that waited has its
+-- answer
 abbrev pub resumed : Machine → ℕ → Stage → Option Instruction → Machine
 resumed m t Ready next = executed m t next
 resumed m t (Waiting submitted wanted) next = answered m t (pos submitted)
@@ -333,11 +370,13 @@ is_usable row (Some d) = d.is_open && fits_end row.entry.opcode d.end
 
 -- whether a row has no descriptor to hold (EBADF)
 abbrev pub lacks_descriptor : WorldState → Row → Bool
-lacks_descriptor w row = uses_descriptor row.entry.opcode && not (is_usable row (descriptor_at w row.entry.fd))
+lacks_descriptor w row =
+    uses_descriptor row.entry.opcode && not (is_usable row (descriptor_at w row.entry.fd))
 
 -- the deadline of a row that is issued: its time, from now on, or by the clock (IORING_TIMEOUT_ABS)
 abbrev pub deadline_of : ℕ → Row → Option ℕ
-deadline_of clock row = option_map (λ t. if has_flag row.entry.operation_flags 1 then t else t + clock) row.time
+deadline_of clock row =
+    option_map (λ t. if has_flag row.entry.operation_flags 1 then t else t + clock) row.time
 
 -- what has been counted as a TIMEOUT is issued
 abbrev pub base_of : ℕ → Row → ℕ
@@ -348,11 +387,13 @@ started clock counted row = record row { phase = Issued; held = held_by row; dea
 
 -- whether a row is the queued guard of another
 abbrev pub is_guard_of : ℕ → Row → Bool
-is_guard_of r row = is_guard row && (is_queued row.phase && option_map_or (λ t. t == r) row.target false)
+is_guard_of r row =
+    is_guard row && (is_queued row.phase && option_map_or (λ t. t == r) row.target false)
 
 -- a row with its number, once one of a number is issued, and with it its queued guard
 abbrev pub started_with : ℕ → ℕ → ℕ → ℕ → Row → Row
-started_with clock counted r k row = if (k == r) || is_guard_of r row then started clock counted row else row
+started_with clock counted r k row =
+    if (k == r) || is_guard_of r row then started clock counted row else row
 
 -- the rows then
 abbrev pub all_started : ℕ → ℕ → List Row → ℕ → List Row
@@ -361,11 +402,15 @@ all_started clock counted rows r = map_numbered (started_with clock counted r) r
 -- the machine once a row is issued; one without its descriptor ends
 abbrev pub issued : Machine → ℕ → Option Row → Machine
 issued m r None = m
-issued m r (Some row) = if lacks_descriptor m.world row then fallen m ((r, ebadf) ∷ []) else record m { table = all_started m.clock m.counted m.table r }
+issued m r (Some row) =
+    if lacks_descriptor m.world row then fallen m ((r, ebadf) ∷ [])
+    else record m { table = all_started m.clock m.counted m.table r }
 
 -- whether the row of a number is issued, and waits
 abbrev pub waits_at : List Row → WorldState → ℕ → Bool
-waits_at rows w t = option_map_or (λ (row : Row). is_issued row.phase && not (is_running w row)) (slice_get rows t) false
+waits_at rows w t =
+    option_map_or (λ (row : Row). is_issued row.phase && not (is_running w row)) (slice_get rows t)
+    false
 
 -- the target of a guard, if it waits
 abbrev pub waiting_target : List Row → WorldState → Row → Option ℕ → Option ℕ
@@ -384,7 +429,8 @@ expired m r (Some row) = fallen m (expiring r (waiting_target m.table m.world ro
 
 -- the machine once a row has ended as its outcome says, with what it did
 abbrev pub finished_as : Machine → ℕ → Row → Outcome → Machine
-finished_as m r row (Res res) = fallen (record m { world = world_after row res m.world }) ((r, res) ∷ [])
+finished_as m r row (Res res) =
+    fallen (record m { world = world_after row res m.world }) ((r, res) ∷ [])
 finished_as m r row Waits = m
 finished_as m r row BadChoice = m
 
@@ -394,7 +440,9 @@ cancelled m r entry = fallen m (ending_with r (verdict_of m.table m.world r entr
 
 abbrev pub finished : Machine → ℕ → Option Row → Choice → Machine
 finished m r None c = m
-finished m r (Some row) c = if is_cancel row.entry.opcode then cancelled m r row.entry else finished_as m r row (outcome_of (is_held_by m.table) m.world row c)
+finished m r (Some row) c =
+    if is_cancel row.entry.opcode then cancelled m r row.entry
+    else finished_as m r row (outcome_of (is_held_by m.table) m.world row c)
 
 -- the machine after an event
 abbrev pub after : Machine → Event → Machine

@@ -14,7 +14,8 @@ entries_at slots words = filter_map (slice_get slots) words
 abbrev pub up_to_entry : List Sqe → ℕ → List ℕ → List ℕ
 up_to_entry slots zero words = []
 up_to_entry slots (suc n) [] = []
-up_to_entry slots (suc n) (word ∷ words) = word ∷ up_to_entry slots (if is_some (slice_get slots word) then n else suc n) words
+up_to_entry slots (suc n) (word ∷ words) =
+    word ∷ up_to_entry slots (if is_some (slice_get slots word) then n else suc n) words
 
 -- the words that a submission of at most k entries is offered, and the entries that they name
 abbrev pub offered : SubWords → ℕ → List ℕ
@@ -27,10 +28,12 @@ offered_entries w k = entries_at w.slots (offered w k)
 abbrev pub taken_entries : Bool → WorldState → SubWords → ℕ → List Sqe
 taken_entries submit_all world w k = taken_of submit_all world (offered_entries w k)
 
--- the words that it takes: all of them, or where it halts those up to and with the one that names the entry that fails
+-- the words that it takes: all of them, or where it halts those up to and with the one that names
+-- the entry that fails
 abbrev pub taken_words : Bool → WorldState → SubWords → ℕ → List ℕ
 taken_words submit_all world w k =
-    if halts submit_all world (offered_entries w k) then up_to_entry w.slots (length (taken_entries submit_all world w k)) (offered w k)
+    if halts submit_all world (offered_entries w k)
+    then up_to_entry w.slots (length (taken_entries submit_all world w k)) (offered w k)
     else offered w k
 
 -- the answer of an Enter that has unknown flags: EINVAL (errno(3))

@@ -11,7 +11,8 @@ use Rattle.places.specs.declared.value.Value.TheVariants.{Number, Signed, Staged
 use Rattle.places.specs.View.{View}
 use Rattle.scenario.specs.declared.setup.Instruction.{Instruction}
 
--- a thread: its program, the index of its next instruction, what it does next, what its last Enter or Close answered, what it reaped last
+-- a thread: its program, the index of its next instruction, what it does next, what its last Enter
+-- or Close answered, what it reaped last
 pub record ThreadState : Type 0 where
   pub program : List Instruction
   pub counter : ℕ
@@ -21,7 +22,8 @@ pub record ThreadState : Type 0 where
 
 -- a thread at the start of its program
 abbrev pub thread_start : List Instruction → ThreadState
-thread_start program = record { program = program; counter = 0; stage = Ready; last = pos 0; got = None }
+thread_start program =
+    record { program = program; counter = 0; stage = Ready; last = pos 0; got = None }
 
 abbrev pub program_of : ThreadState → List Instruction
 program_of x = x.program

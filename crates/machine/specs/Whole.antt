@@ -98,7 +98,8 @@ can_put m (Last t) v = threads_can_put m.threads (Last t) v
 can_put m (Got t) v = threads_can_put m.threads (Got t) v
 can_put m p v = ⊥
 
--- Two machines have what a setup fixes in common: sizes, programs, objects and descriptors, whether there is a poller, and how it submits.
+-- Two machines have what a setup fixes in common: sizes, programs, objects and descriptors, whether
+-- there is a poller, and how it submits.
 pub record OneSetup (m n : Machine) : Type 0 where
   pub array : length m.submissions.array ≡ length n.submissions.array
   pub slots : length m.submissions.slots ≡ length n.submissions.slots
@@ -108,7 +109,8 @@ pub record OneSetup (m n : Machine) : Type 0 where
   pub poller : is_some m.poller ≡ is_some n.poller
   pub submit_all : m.submit_all ≡ n.submit_all
 
--- Two machines of one setup, the second of which has the rows of the first, and no fewer items of the backlog.
+-- Two machines of one setup, the second of which has the rows of the first, and no fewer items of
+-- the backlog.
 pub record Grows (m n : Machine) : Type 0 where
   pub setup : OneSetup m n
   pub rows : length m.table ≤ length n.table
@@ -120,7 +122,8 @@ abbrev pub is_asleep : Option Poller → Bool
 is_asleep None = false
 is_asleep (Some p) = not (is_awake p)
 
--- the flags word: NEED_WAKEUP while the poller is asleep, CQ_OVERFLOW while completions are kept (io_uring_setup(2))
+-- the flags word: NEED_WAKEUP while the poller is asleep, CQ_OVERFLOW while completions are kept
+-- (io_uring_setup(2))
 abbrev pub flag_word : Bool → Bool → ℕ
 flag_word asleep keeps = (if asleep then 1 else 0) + (if keeps then 2 else 0)
 
@@ -152,11 +155,14 @@ pub record HoldsDescriptor (w : WorldState) (x : Row) : Type 0 where
   pub there : descriptor_of w fd ≡ Some descriptor
   pub fits : fits_end x.entry.opcode descriptor.end ≡ true
 
--- A time is made of two signed numbers of eight bytes that aren't negative, of which 2^63 - 1 is the greatest: seconds and nanoseconds.
+-- A time is made of two signed numbers of eight bytes that aren't negative, of which 2^63 - 1 is
+-- the greatest: seconds and nanoseconds.
 abbrev pub IsTime : Option ℕ → Type 0
 IsTime time = (t : ℕ) → time ≡ Some t → t ≤ (2 ^ 63 - 1) * 1000000001
 
--- While a row is unfinished its opcode is a supported one, and it has a time just if it is a TIMEOUT or a LINK_TIMEOUT; while it is issued it holds its descriptor, if it uses one, and has a deadline just if it has a time.
+-- While a row is unfinished its opcode is a supported one, and it has a time just if it is a
+-- TIMEOUT or a LINK_TIMEOUT; while it is issued it holds its descriptor, if it uses one, and has a
+-- deadline just if it has a time.
 pub record RowFormed (w : WorldState) (x : Row) : Type 0 where
   pub opcode : is_unfinished x.phase ≡ true → IsSome (op_of x.entry.opcode)
   pub holds : is_issued x.phase ≡ true → uses_descriptor x.entry.opcode ≡ true → HoldsDescriptor w x
@@ -181,14 +187,18 @@ NoneMet counted rows = (r : ℕ) (x : Row) → slice_get rows r ≡ Some x → i
 
 -- Each guard that hasn't ended does.
 abbrev pub AllGuardsStand : List Row → Type 0
-AllGuardsStand rows = (r : ℕ) (x : Row) → slice_get rows r ≡ Some x → is_guard x ≡ true → is_unfinished x.phase ≡ true → GuardStands rows r x
+AllGuardsStand rows =
+    (r : ℕ) (x : Row) → slice_get rows r ≡ Some x → is_guard x ≡ true → is_unfinished x.phase ≡ true
+    → GuardStands rows r x
 
--- What holds of the two rings: no more waits in them than they have room for, and the flags word tells whether the poller is asleep and whether completions are kept.
+-- What holds of the two rings: no more waits in them than they have room for, and the flags word
+-- tells whether the poller is asleep and whether completions are kept.
 pub record RingsFormed (entry_ring : SubWords) (completion_ring : ComWords) (asleep keeps : Bool) : Type 0 where
   pub submissions : SubFormed entry_ring
   pub completions : ComFormed completion_ring
   pub entries_wait : waiting entry_ring.head entry_ring.tail ≤ length entry_ring.array
-  pub completions_wait : waiting completion_ring.head completion_ring.tail ≤ length completion_ring.slots
+  pub completions_wait : waiting completion_ring.head completion_ring.tail
+      ≤ length completion_ring.slots
   pub flags : entry_ring.flags ≡ flag_word asleep keeps
 
 -- What holds of the backlog: each of its items is of a row that has ended.
@@ -196,7 +206,8 @@ pub record KeptFormed (backlog : BacklogState) (ended : ℕ) : Type 0 where
   pub front : backlog.front ≤ length backlog.items
   pub overflowed : length backlog.items ≤ ended
 
--- What holds of the rows together: they are few, units are runs of them, and those that have ended are counted.
+-- What holds of the rows together: they are few, units are runs of them, and those that have ended
+-- are counted.
 pub record TableFormed (rows : List Row) (total : ℕ) : Type 0 where
   pub few : length rows ≤ 65536
   pub chained : Chained rows
@@ -204,14 +215,16 @@ pub record TableFormed (rows : List Row) (total : ℕ) : Type 0 where
 
 -- What holds of every machine, also while the rows that a step ends do so one after the other.
 pub record Mostly (m : Machine) : Type 0 where
-  pub rings : RingsFormed m.submissions m.completions (is_asleep m.poller) (not (is_clear m.backlog))
+  pub rings : RingsFormed m.submissions m.completions (is_asleep m.poller)
+      (not (is_clear m.backlog))
   pub kept : KeptFormed m.backlog (ended_of m.table)
   pub table : TableFormed m.table m.counted
   pub world : WorldFormed m.world
   pub clock : m.clock < 2 ^ 64
   pub threads : AllStand (length m.submissions.slots) m.threads
 
--- What holds of every machine between steps: that, and what holds of each row and of what went into the pipes.
+-- What holds of every machine between steps: that, and what holds of each row and of what went into
+-- the pipes.
 pub record WellFormed (m : Machine) : Type 0 where
   pub mostly : Mostly m
   pub rows : (r : ℕ) (x : Row) → slice_get m.table r ≡ Some x → RowFormed m.world x
@@ -223,13 +236,15 @@ pub record WellFormed (m : Machine) : Type 0 where
 abbrev pub everywhere : Place → Bool
 everywhere p = true
 
--- Undoing the changes on the second machine gives the first, which is well formed and has no more rows or items of the backlog.
+-- Undoing the changes on the second machine gives the first, which is well formed and has no more
+-- rows or items of the backlog.
 pub record GoesBack (s m : Machine) (cs : List Change) : Type 0 where
   pub formed : WellFormed s
   pub grows : Grows s m
   pub back : LeadsBack (view s) (view m) cs
 
--- The first machine is well formed, the second has its setup and as many rows and items of the backlog, and each change tells what stands in the first.
+-- The first machine is well formed, the second has its setup and as many rows and items of the
+-- backlog, and each change tells what stands in the first.
 pub record Overwrites (s m : Machine) (cs : List Change) : Type 0 where
   pub formed : WellFormed s
   pub setup : OneSetup s m
@@ -237,7 +252,8 @@ pub record Overwrites (s m : Machine) (cs : List Change) : Type 0 where
   pub backlog : length s.backlog.items ≡ length m.backlog.items
   pub stood : (p : Place) (x : Option Value) → named cs p ≡ Some x → x ≡ view s p
 
--- The second machine is the first with changes undone, and has as many rows and items of the backlog.
+-- The second machine is the first with changes undone, and has as many rows and items of the
+-- backlog.
 pub record Overwritten (m n : Machine) (cs : List Change) : Type 0 where
   pub setup : OneSetup m n
   pub rows : map fixed_of m.table ≡ map fixed_of n.table

@@ -136,7 +136,8 @@ as_much a b c h k = record {
   others = let x = h.others in let y = k.others in omega arith;
 }
 
--- The bytes before an index are noted where they differ, without long stretches that are alike, and none from it on is noted.
+-- The bytes before an index are noted where they differ, without long stretches that are alike, and
+-- none from it on is noted.
 pub record NotingSpans (g : Region) (s : ℕ) (old others : List ℕ) (before notes : Notes) (done : ℕ) : Type 0 where
   pub within : done ≤ length old
   pub among : NotedAmong before.made notes.made g s old

@@ -81,7 +81,8 @@ far_enough len start many from n i e f l = by (below_or_not (from + i) len)
 
 -- ---- the pages of a file
 
--- a page that is not marked has none of the bytes, as far as they were cut to those that a file can have
+-- a page that is not marked has none of the bytes, as far as they were cut to those that a file can
+-- have
 pub cut_apart : (page i at count from within : ℕ) → from ≡ min at 65536 → within ≡ min count (65536 - from) → (page * 4096 + 4096 ≤ from) ⊎ (from + within ≤ page * 4096) → page * 4096 ≤ i → i < page * 4096 + 4096 → i < 65536 → (i < at) ⊎ (at + count ≤ i)
 cut_apart page i at count from within e f (inl l) lo hi m = inl (omega arith)
 cut_apart page i at count from within e f (inr l) lo hi m = inr (omega arith)

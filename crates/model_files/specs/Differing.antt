@@ -20,7 +20,8 @@ pub record IsFirst (old others : List ℕ) (done at : ℕ) : Type 0 where
   pub before : Alike old others done at
   pub differs : DifferAt old others at
 
--- A span of bytes ends behind one that differs, sixteen that are alike follow or the end, and no sixteen in a row within it are alike.
+-- A span of bytes ends behind one that differs, sixteen that are alike follow or the end, and no
+-- sixteen in a row within it are alike.
 pub record IsSpanEnd (old others : List ℕ) (from end : ℕ) : Type 0 where
   pub some : from < end
   pub within : end ≤ length old
@@ -30,12 +31,19 @@ pub record IsSpanEnd (old others : List ℕ) (from end : ℕ) : Type 0 where
 
 -- Each place is noted as it was, or as it is once all bytes of a region from an index on are noted.
 abbrev pub NotedAmong : List Change → List Change → Region → ℕ → List ℕ → Type 0
-NotedAmong before after g s bs = (q : Place) → (named after q ≡ named before q) ⊎ (named after q ≡ first_note (named before q) (byte_in g s bs q))
+NotedAmong before after g s bs =
+    (q : Place)
+    → (named after q ≡ named before q)
+    ⊎ (named after q ≡ first_note (named before q) (byte_in g s bs q))
 
--- Of the bytes of a region from an index on, those that differ from what is to stand there are noted.
+-- Of the bytes of a region from an index on, those that differ from what is to stand there are
+-- noted.
 abbrev pub NamesDiffering : List Change → Region → ℕ → List ℕ → List ℕ → Type 0
-NamesDiffering notes g s old others = (i : ℕ) → named notes (place_in g (s + i)) ≡ None → slice_get old i ≡ slice_get others i
+NamesDiffering notes g s old others =
+    (i : ℕ) → named notes (place_in g (s + i)) ≡ None → slice_get old i ≡ slice_get others i
 
 -- Of sixteen bytes in a row that are to stay as they are, none is noted.
 abbrev pub Spares : List Change → Region → ℕ → List ℕ → List ℕ → Type 0
-Spares notes g s old others = (i k : ℕ) → Alike old others i (i + 16) → i ≤ k → k < i + 16 → k < length old → named notes (place_in g (s + k)) ≡ None
+Spares notes g s old others =
+    (i k : ℕ) → Alike old others i (i + 16) → i ≤ k → k < i + 16 → k < length old
+    → named notes (place_in g (s + k)) ≡ None

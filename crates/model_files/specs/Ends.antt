@@ -14,7 +14,8 @@ is_end Read Read = true
 is_end Write Write = true
 is_end _ _ = false
 
--- whether a descriptor keeps an end of an object alive: it is one of that end, and it is open or a request under way holds it
+-- whether a descriptor keeps an end of an object alive: it is one of that end, and it is open or a
+-- request under way holds it
 abbrev pub keeps_end : ℕ → End → Bool → DescriptorState → Bool
 keeps_end o end is_held d = (d.object == o) && (is_end end d.end && (d.is_open || is_held))
 
@@ -26,7 +27,8 @@ some_keeps held o end fd (d ∷ ds) = keeps_end o end (held fd) d || some_keeps 
 abbrev pub has_end : (ℕ → Bool) → WorldState → ℕ → End → Bool
 has_end held w o end = some_keeps held o end 3 w.descriptors
 
--- whether a pipe has a writer, or a reader, where `held` says which descriptors requests under way hold
+-- whether a pipe has a writer, or a reader, where `held` says which descriptors requests under way
+-- hold
 abbrev pub has_writer : (ℕ → Bool) → WorldState → ℕ → Bool
 has_writer held w o = has_end held w o Write
 
@@ -56,7 +58,9 @@ body_mask end writer reader (Some (EventFd n)) = counter_mask n
 
 abbrev pub mask_behind : (ℕ → Bool) → WorldState → Option DescriptorState → ℕ
 mask_behind held w None = 0
-mask_behind held w (Some d) = body_mask d.end (has_writer held w d.object) (has_reader held w d.object) (slice_get w.objects d.object)
+mask_behind held w (Some d) =
+    body_mask d.end (has_writer held w d.object) (has_reader held w d.object)
+    (slice_get w.objects d.object)
 
 -- of a descriptor, open or closed, by its number; nothing where there is none
 abbrev pub ready_mask_of : (ℕ → Bool) → WorldState → ℕ → ℕ

@@ -1,10 +1,12 @@
--- Regular files: what a program reads and writes, and what of it is on the device (read(2), write(2), fsync(2)).
+-- Regular files: what a program reads and writes, and what of it is on the device (read(2),
+-- write(2), fsync(2)).
 use Rattle.std.specs.Prelude.{◌≡◌, ℕ, ◌+◌, ◌-◌, ◌≤◌, Some, None, option_map, slice_get, List, [], ◌∷◌, ◌++◌, length, take, drop, replicate}
 use Rattle.places.specs.View.{View}
 use Rattle.places.specs.declared.place.Place.TheVariants.{FileByte, DurableByte, FileLength, DurableLength}
 use Rattle.places.specs.declared.value.Value.TheVariants.{Number, Byte}
 
--- a file: its bytes and those on the device, each with zeros behind the length, up to the most that a file can have
+-- a file: its bytes and those on the device, each with zeros behind the length, up to the most that
+-- a file can have
 pub record FileState : Type 0 where
   pub bytes : List ℕ
   pub len : ℕ
@@ -42,8 +44,8 @@ part bytes at k = take k (drop at bytes)
 abbrev pub overwritten : List ℕ → ℕ → List ℕ → List ℕ
 overwritten bytes at others = take at bytes ++ (others ++ drop (at + length others) bytes)
 
--- The content of a file once bytes are written to it from an offset on. No bytes change nothing; a gap before others has zeros
--- (write(2), lseek(2)).
+-- The content of a file once bytes are written to it from an offset on. No bytes change nothing; a
+-- gap before others has zeros (write(2), lseek(2)).
 abbrev pub content_written : List ℕ → ℕ → List ℕ → List ℕ
 content_written old at [] = old
 content_written old at (b ∷ bs) = overwritten (old ++ zeros (at - length old)) at (b ∷ bs)
@@ -62,7 +64,9 @@ synced f = record f { durable = f.bytes; durable_len = f.len }
 
 -- the file that a setup starts with: all of it is on the device
 abbrev pub file_start : List ℕ → FileState
-file_start bytes = record { bytes = padded bytes; len = length bytes; durable = padded bytes; durable_len = length bytes }
+file_start bytes =
+    record
+    { bytes = padded bytes; len = length bytes; durable = padded bytes; durable_len = length bytes }
 
 -- There is room for the most that a file can have, and no length is above it.
 pub record FileSized (f : FileState) : Type 0 where

@@ -55,11 +55,16 @@ pub record CanPut (seen : View) (p : Place) (v : Value) : Type 0 where
 
 -- Of the places of an object, one alone was set.
 abbrev pub PutsIn : View → View → Place → Value → Type 0
-PutsIn old new p v = (o : ℕ) (q : Place) → object_owns o p ≡ true → object_owns o q ≡ true → new q ≡ put_at old p (Some v) q
+PutsIn old new p v =
+    (o : ℕ) (q : Place) → object_owns o p ≡ true → object_owns o q ≡ true
+    → new q ≡ put_at old p (Some v) q
 
--- Of the places of an object, those of a region's bytes that are kept were put back, of bytes that stand from s on.
+-- Of the places of an object, those of a region's bytes that are kept were put back, of bytes that
+-- stand from s on.
 abbrev pub PutsBack : View → View → Region → ℕ → List (Option ℕ) → Type 0
-PutsBack old new g s os = (o : ℕ) (q : Place) → object_owns o (place_in g s) ≡ true → object_owns o q ≡ true → new q ≡ undo old (old_bytes g s os) q
+PutsBack old new g s os =
+    (o : ℕ) (q : Place) → object_owns o (place_in g s) ≡ true → object_owns o q ≡ true
+    → new q ≡ undo old (old_bytes g s os) q
 
 -- Where two views of places differ, notes name the place.
 abbrev pub NamesChanges : (Place → Bool) → View → View → List Change → Type 0

@@ -7,7 +7,9 @@ use Rattle.model_files.specs.Files.{FileState, FileSized}
 
 -- In a page that is not marked two lists of bytes agree.
 abbrev pub Agree : List Bool → List ℕ → List ℕ → Type 0
-Agree marks bytes durable = (page i : ℕ) → slice_get marks page ≡ Some false → page * 4096 ≤ i → i < page * 4096 + 4096 → slice_get bytes i ≡ slice_get durable i
+Agree marks bytes durable =
+    (page i : ℕ) → slice_get marks page ≡ Some false → page * 4096 ≤ i → i < page * 4096 + 4096
+    → slice_get bytes i ≡ slice_get durable i
 
 -- A file has its size, and the device has the pages that are not marked as they are.
 pub record FileTracked (f : FileState) (marks : List Bool) : Type 0 where
@@ -16,4 +18,6 @@ pub record FileTracked (f : FileState) (marks : List Bool) : Type 0 where
 
 -- Of the first n bytes of a file, those that the device has otherwise are noted.
 abbrev pub NamesUpTo : ℕ → FileState → List Change → ℕ → Type 0
-NamesUpTo o f notes n = (i : ℕ) → i < n → named notes (DurableByte o i) ≡ None → slice_get f.bytes i ≡ slice_get f.durable i
+NamesUpTo o f notes n =
+    (i : ℕ) → i < n → named notes (DurableByte o i) ≡ None
+    → slice_get f.bytes i ≡ slice_get f.durable i

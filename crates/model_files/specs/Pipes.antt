@@ -4,7 +4,8 @@ use Rattle.places.specs.View.{View}
 use Rattle.places.specs.declared.place.Place.TheVariants.{PipeByte, PutCount, TakenCount, EventCount}
 use Rattle.places.specs.declared.value.Value.TheVariants.{Number, Byte}
 
--- a pipe: as many slots as its capacity, and how many bytes went in and came out; byte n, from 0 over the whole run, stands in slot n modulo the capacity
+-- a pipe: as many slots as its capacity, and how many bytes went in and came out; byte n, from 0
+-- over the whole run, stands in slot n modulo the capacity
 pub record PipeState : Type 0 where
   pub slots : List ℕ
   pub put : ℕ

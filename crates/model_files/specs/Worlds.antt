@@ -54,7 +54,8 @@ pipe_of w o = option_and_then pipe_in (slice_get w.objects o)
 abbrev pub counter_of : WorldState → ℕ → Option ℕ
 counter_of w o = option_and_then counter_in (slice_get w.objects o)
 
--- what a transfer depends on: how many bytes a file has, how many are in a pipe of a capacity, the counter of an eventfd
+-- what a transfer depends on: how many bytes a file has, how many are in a pipe of a capacity, the
+-- counter of an eventfd
 abbrev pub stock_in : Body → Stock
 stock_in (File f) = FileStock f.len
 stock_in (Pipe p) = PipeStock (filled p) (length p.slots)
@@ -116,8 +117,10 @@ world_seen w (PipeByte o i) = object_seen w o (PipeByte o i)
 world_seen w (PutCount o) = object_seen w o (PutCount o)
 world_seen w (TakenCount o) = object_seen w o (TakenCount o)
 world_seen w (EventCount o) = object_seen w o (EventCount o)
-world_seen w (Position fd) = option_and_then (λ (d : DescriptorState). option_map Number d.position) (descriptor_of w fd)
-world_seen w (OpenMark fd) = option_map (λ (d : DescriptorState). Number (mark_of d.is_open)) (descriptor_of w fd)
+world_seen w (Position fd) =
+    option_and_then (λ (d : DescriptorState). option_map Number d.position) (descriptor_of w fd)
+world_seen w (OpenMark fd) =
+    option_map (λ (d : DescriptorState). Number (mark_of d.is_open)) (descriptor_of w fd)
 world_seen w _ = None
 
 -- A value may be put where one stands, within the range of the place; nothing is taken out.
@@ -127,7 +130,8 @@ world_can_put w p (Some v) = CanPut (world_seen w) p v
 
 -- ---- the start
 
--- A file of a setup is not above the most, nor is a pipe's capacity, and an eventfd's counter is one that it may have.
+-- A file of a setup is not above the most, nor is a pipe's capacity, and an eventfd's counter is
+-- one that it may have.
 abbrev pub ContentsFit : Contents → Type 0
 ContentsFit (FileOf bytes) = length bytes ≤ 65536
 ContentsFit (PipeOf capacity) = (0 < capacity) × (capacity ≤ 65536)
@@ -149,7 +153,8 @@ descriptor_start objects d = record {
   object = d.object;
   end = d.end;
   is_open = true;
-  position = option_and_then (λ (o : Object). position_start o.contents) (slice_get objects d.object);
+  position =
+      option_and_then (λ (o : Object). position_start o.contents) (slice_get objects d.object);
 }
 
 -- what a setup's memory, objects and descriptors start as
@@ -199,7 +204,8 @@ bytes_of (Some f) = f.bytes
 
 -- k bytes of a file, from an offset on, stand in memory from an address on (read(2))
 abbrev pub world_read : ℕ → ℕ → ℕ → ℕ → WorldState → WorldState
-world_read o offset k addr w = record w { memory = overwritten w.memory addr (part (bytes_of (file_of w o)) offset k) }
+world_read o offset k addr w =
+    record w { memory = overwritten w.memory addr (part (bytes_of (file_of w o)) offset k) }
 
 -- k bytes of memory, from an address on, stand in a file from an offset on (write(2))
 abbrev pub world_written : ℕ → ℕ → ℕ → ℕ → WorldState → WorldState
@@ -247,9 +253,11 @@ abbrev pub counter_bytes : Option ℕ → List ℕ
 counter_bytes None = []
 counter_bytes (Some n) = to_le_bytes w64 n
 
--- the eight bytes of a counter stand in memory from an address on, and the counter is 0 (eventfd(2))
+-- the eight bytes of a counter stand in memory from an address on, and the counter is 0
+-- (eventfd(2))
 abbrev pub world_cleared : ℕ → ℕ → WorldState → WorldState
-world_cleared o addr w = with_counter (λ n. 0) (world_stored addr (counter_bytes (counter_of w o)) w) o
+world_cleared o addr w =
+    with_counter (λ n. 0) (world_stored addr (counter_bytes (counter_of w o)) w) o
 
 -- ---- what holds of it
 
@@ -259,13 +267,14 @@ BodyFormed (File f) = FileFormed f
 BodyFormed (Pipe p) = PipeFormed p
 BodyFormed (EventFd n) = n < 2 ^ 64 - 1
 
--- The memory has its size, each object is well formed, the descriptors are at most 64, and no position is past the most that a file
--- can have.
+-- The memory has its size, each object is well formed, the descriptors are at most 64, and no
+-- position is past the most that a file can have.
 pub record WorldFormed (w : WorldState) : Type 0 where
   pub memory : length w.memory ≡ 65536
   pub objects : (o : ℕ) (b : Body) → slice_get w.objects o ≡ Some b → BodyFormed b
   pub few : length w.descriptors ≤ 64
-  pub positions : (i : ℕ) (d : DescriptorState) (n : ℕ) → slice_get w.descriptors i ≡ Some d → d.position ≡ Some n → n ≤ 65536
+  pub positions : (i : ℕ) (d : DescriptorState) (n : ℕ) → slice_get w.descriptors i ≡ Some d
+      → d.position ≡ Some n → n ≤ 65536
 
 -- No more bytes than some went into a pipe over the whole run.
 abbrev pub PutsWithin : ℕ → WorldState → Type 0
@@ -293,7 +302,8 @@ pub record Fixed : Type 0 where
   pub positioned : Option ℕ
 
 abbrev pub fixed_of : DescriptorState → Fixed
-fixed_of d = record { object = d.object; end = d.end; positioned = option_map (λ (n : ℕ). 0) d.position }
+fixed_of d =
+    record { object = d.object; end = d.end; positioned = option_map (λ (n : ℕ). 0) d.position }
 
 -- Two worlds have the same kinds, sizes and numbers of objects and descriptors.
 pub record OneSetup (s m : WorldState) : Type 0 where

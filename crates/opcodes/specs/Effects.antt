@@ -1,4 +1,5 @@
--- What the end of a request does to memory, objects and descriptors (read(2), write(2), fsync(2), pipe(7), eventfd(2)).
+-- What the end of a request does to memory, objects and descriptors (read(2), write(2), fsync(2),
+-- pipe(7), eventfd(2)).
 use Rattle.std.specs.Prelude.{ℕ, ℤ, pos, negsuc, ◌+◌, Option, Some, None, if◌then◌else◌}
 use Rattle.std.specs.Option.{option_map_or}
 use Rattle.entries.specs.declared.entry.Sqe.{Sqe}
@@ -14,27 +15,37 @@ use Rattle.opcodes.specs.Outcomes.{held_descriptor, is_at_position, offset_of, p
 
 -- the position moves on behind the bytes of a transfer that began there
 abbrev pub moved_on : Sqe → ℕ → Option ℕ → ℕ → WorldState → WorldState
-moved_on entry fd position k w = option_map_or (λ n. if is_at_position entry then world_at fd (n + k) w else w) position w
+moved_on entry fd position k w =
+    option_map_or (λ n. if is_at_position entry then world_at fd (n + k) w else w) position w
 
 -- k bytes come from a file, or go to it
 abbrev pub bytes_read : Sqe → ℕ → DescriptorState → ℕ → WorldState → WorldState
-bytes_read entry fd d k w = moved_on entry fd d.position k (world_read d.object (offset_of entry (position_of (Some d))) k entry.addr w)
+bytes_read entry fd d k w =
+    moved_on entry fd d.position k
+    (world_read d.object (offset_of entry (position_of (Some d))) k entry.addr w)
 
 abbrev pub bytes_written : Sqe → ℕ → DescriptorState → ℕ → WorldState → WorldState
-bytes_written entry fd d k w = moved_on entry fd d.position k (world_written d.object (offset_of entry (position_of (Some d))) k entry.addr w)
+bytes_written entry fd d k w =
+    moved_on entry fd d.position k
+    (world_written d.object (offset_of entry (position_of (Some d))) k entry.addr w)
 
 -- what a good result did through a descriptor, by how much its object held
-abbrev pub done_by : Sqe → Option Op → Option Stock → ℕ → DescriptorState → ℕ → WorldState → WorldState
+abbrev pub done_by : Sqe → Option Op → Option Stock → ℕ → DescriptorState → ℕ → WorldState
+    → WorldState
 done_by entry (Some Fsync) (Some (File len)) fd d k w = world_synced d.object w
 done_by entry (Some Read) (Some (File len)) fd d k w = bytes_read entry fd d k w
-done_by entry (Some Read) (Some (Pipe filled capacity)) fd d k w = world_taken d.object k entry.addr w
+done_by entry (Some Read) (Some (Pipe filled capacity)) fd d k w =
+    world_taken d.object k entry.addr w
 done_by entry (Some Read) (Some (EventFd counter)) fd d k w = world_cleared d.object entry.addr w
 done_by entry (Some Write) (Some (File len)) fd d k w = bytes_written entry fd d k w
-done_by entry (Some Write) (Some (Pipe filled capacity)) fd d k w = world_put d.object k entry.addr w
-done_by entry (Some Write) (Some (EventFd counter)) fd d k w = world_added d.object (number_at w entry.addr) w
+done_by entry (Some Write) (Some (Pipe filled capacity)) fd d k w =
+    world_put d.object k entry.addr w
+done_by entry (Some Write) (Some (EventFd counter)) fd d k w =
+    world_added d.object (number_at w entry.addr) w
 done_by entry op stock fd d k w = w
 
--- The world once a request has ended with a result. A bad one changed nothing, and nor did one that holds no descriptor.
+-- The world once a request has ended with a result. A bad one changed nothing, and nor did one that
+-- holds no descriptor.
 abbrev pub world_after : Row → ℤ → WorldState → WorldState
 world_after row (negsuc n) w = w
 world_after row (pos k) w = option_map_or (λ fd. option_map_or (λ d. done_by row.entry (op_of row.entry.opcode) (stock_of w d.object) fd d k w) (descriptor_of w fd) w) row.held w

@@ -15,15 +15,18 @@ is_cancel opcode = (opcode == 7) || (opcode == 12) || (opcode == 14)
 abbrev pub uses_descriptor : ℕ → Bool
 uses_descriptor opcode = (opcode == 3) || (opcode == 6) || (opcode == 22) || (opcode == 23)
 
--- whether a request runs on whatever object once it is issued, and can't be cancelled: a NOP, an FSYNC, a POLL_REMOVE, a TIMEOUT_REMOVE or an ASYNC_CANCEL
+-- whether a request runs on whatever object once it is issued, and can't be cancelled: a NOP, an
+-- FSYNC, a POLL_REMOVE, a TIMEOUT_REMOVE or an ASYNC_CANCEL
 abbrev pub always_runs : ℕ → Bool
-always_runs opcode = (opcode == 0) || (opcode == 3) || (opcode == 7) || (opcode == 12) || (opcode == 14)
+always_runs opcode =
+    (opcode == 0) || (opcode == 3) || (opcode == 7) || (opcode == 12) || (opcode == 14)
 
 -- whether it runs on a regular file, and waits on any other object: a READ or a WRITE
 abbrev pub runs_on_file : ℕ → Bool
 runs_on_file opcode = (opcode == 22) || (opcode == 23)
 
--- whether a request can use an end: nothing is read from a pipe's write end, nor written to its read end (pipe(7))
+-- whether a request can use an end: nothing is read from a pipe's write end, nor written to its
+-- read end (pipe(7))
 abbrev pub fits_end : ℕ → End → Bool
 fits_end opcode Whole = true
 fits_end opcode Read = not (opcode == 23)

@@ -1,4 +1,5 @@
--- What an issued request comes to as it ends, by what a kernel chooses (read(2), write(2), fsync(2), pipe(7), eventfd(2), poll(2), io_uring_enter(2)).
+-- What an issued request comes to as it ends, by what a kernel chooses (read(2), write(2),
+-- fsync(2), pipe(7), eventfd(2), poll(2), io_uring_enter(2)).
 use Rattle.std.specs.Prelude.{ℕ, ℤ, pos, negsuc, ◌+◌, ◌-◌, ◌^◌, ◌==◌, ◌&&◌, ◌||◌, not, nat_lt, nat_le, min, unwrap_or, Bool, true, false, Option, Some, None, if◌then◌else◌, bit_and, bit_or}
 use Rattle.std.specs.Option.{option_and_then}
 use Rattle.entries.specs.declared.entry.Sqe.{Sqe}
@@ -31,7 +32,8 @@ abbrev pub position_of : Option DescriptorState → ℕ
 position_of None = 0
 position_of (Some d) = unwrap_or d.position 0
 
--- whether its pipe has a writer, or a reader, where `held` says which descriptors requests under way hold
+-- whether its pipe has a writer, or a reader, where `held` says which descriptors requests under
+-- way hold
 abbrev pub writer_behind : (ℕ → Bool) → WorldState → Option DescriptorState → Bool
 writer_behind held w None = false
 writer_behind held w (Some d) = has_writer held w d.object
@@ -48,10 +50,12 @@ is_file (Some (File len)) = true
 is_file (Some (Pipe filled capacity)) = false
 is_file (Some (EventFd counter)) = false
 
--- Whether an issued row is running, so that a cancel finds it but can't end it. A READ or a WRITE of a pipe or an eventfd, a POLL_ADD and
--- a TIMEOUT wait.
+-- Whether an issued row is running, so that a cancel finds it but can't end it. A READ or a WRITE
+-- of a pipe or an eventfd, a POLL_ADD and a TIMEOUT wait.
 abbrev pub is_running : WorldState → Row → Bool
-is_running w row = always_runs row.entry.opcode || (runs_on_file row.entry.opcode && is_file (stock_behind w (held_descriptor w row)))
+is_running w row =
+    always_runs row.entry.opcode
+    || (runs_on_file row.entry.opcode && is_file (stock_behind w (held_descriptor w row)))
 
 -- ---- results
 
@@ -118,7 +122,8 @@ at_once capacity = min 4096 capacity
 
 -- a WRITE of no more than that waits for room for all its bytes, a longer one for room for any
 abbrev pub waits_for_room : ℕ → ℕ → ℕ → Bool
-waits_for_room len room capacity = if nat_le len (at_once capacity) then nat_lt room len else room == 0
+waits_for_room len room capacity =
+    if nat_le len (at_once capacity) then nat_lt room len else room == 0
 
 abbrev pub pipe_written : ℕ → Bool → ℕ → ℕ → Choice → Outcome
 pipe_written len reader filled capacity c =
@@ -155,29 +160,41 @@ abbrev pub ready_of : Sqe → ℕ → ℕ
 ready_of entry mask = bit_and mask (bit_or entry.operation_flags 24)
 
 abbrev pub poll_outcome : Sqe → ℕ → Choice → Outcome
-poll_outcome entry mask c = if ready_of entry mask == 0 then Waits else fixed (pos (ready_of entry mask)) c
+poll_outcome entry mask c =
+    if ready_of entry mask == 0 then Waits else fixed (pos (ready_of entry mask)) c
 
 abbrev pub read_outcome : Sqe → ℕ → Bool → Option Stock → Choice → Outcome
 read_outcome entry position writer None c = BadChoice
 read_outcome entry position writer (Some (File len)) c = file_read entry position len c
-read_outcome entry position writer (Some (Pipe filled capacity)) c = pipe_read entry.len writer filled c
+read_outcome entry position writer (Some (Pipe filled capacity)) c =
+    pipe_read entry.len writer filled c
 read_outcome entry position writer (Some (EventFd counter)) c = event_read entry.len counter c
 
 abbrev pub write_outcome : Sqe → ℕ → Bool → ℕ → Option Stock → Choice → Outcome
 write_outcome entry position reader number None c = BadChoice
 write_outcome entry position reader number (Some (File len)) c = file_written entry position c
-write_outcome entry position reader number (Some (Pipe filled capacity)) c = pipe_written entry.len reader filled capacity c
-write_outcome entry position reader number (Some (EventFd counter)) c = event_written entry.len counter number c
+write_outcome entry position reader number (Some (Pipe filled capacity)) c =
+    pipe_written entry.len reader filled capacity c
+write_outcome entry position reader number (Some (EventFd counter)) c =
+    event_written entry.len counter number c
 
--- a line for each opcode but ASYNC_CANCEL, POLL_REMOVE and TIMEOUT_REMOVE: what these come to is told by all rows, and nobody asks for it here
-abbrev pub outcome_on : (ℕ → Bool) → WorldState → Sqe → Option Op → Option DescriptorState → Choice → Outcome
+-- a line for each opcode but ASYNC_CANCEL, POLL_REMOVE and TIMEOUT_REMOVE: what these come to is
+-- told by all rows, and nobody asks for it here
+abbrev pub outcome_on : (ℕ → Bool) → WorldState → Sqe → Option Op → Option DescriptorState → Choice
+    → Outcome
 outcome_on held w entry (Some Nop) d c = fixed (pos 0) c
 outcome_on held w entry (Some Fsync) d c = fsync_outcome (stock_behind w d) c
 outcome_on held w entry (Some PollAdd) d c = poll_outcome entry (mask_behind held w d) c
-outcome_on held w entry (Some Read) d c = if passes_memory entry then fixed (negsuc 13) c else read_outcome entry (position_of d) (writer_behind held w d) (stock_behind w d) c
-outcome_on held w entry (Some Write) d c = if passes_memory entry then fixed (negsuc 13) c else write_outcome entry (position_of d) (reader_behind held w d) (number_at w entry.addr) (stock_behind w d) c
+outcome_on held w entry (Some Read) d c =
+    if passes_memory entry then fixed (negsuc 13) c
+    else read_outcome entry (position_of d) (writer_behind held w d) (stock_behind w d) c
+outcome_on held w entry (Some Write) d c =
+    if passes_memory entry then fixed (negsuc 13) c
+    else write_outcome entry (position_of d) (reader_behind held w d) (number_at w entry.addr)
+    (stock_behind w d) c
 outcome_on held w entry op d c = BadChoice
 
 -- what a request comes to, where `held` says which descriptors requests under way hold
 abbrev pub outcome_of : (ℕ → Bool) → WorldState → Row → Choice → Outcome
-outcome_of held w row c = outcome_on held w row.entry (op_of row.entry.opcode) (held_descriptor w row) c
+outcome_of held w row c =
+    outcome_on held w row.entry (op_of row.entry.opcode) (held_descriptor w row) c

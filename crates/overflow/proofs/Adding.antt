@@ -14,7 +14,8 @@ use Rattle.places.proofs.Keeping.{keeps_then, keeps_noted, keeps_same, keeps_bac
 use Rattle.overflow.specs.Backlogs.{BacklogState, backlog_owns, backlog_seen, backlog_with}
 use Rattle.overflow.proofs.Seen.{seen_more}
 
--- The first i places behind the end were noted as absent: the notes serve as well for the completions that will stand there.
+-- The first i places behind the end were noted as absent: the notes serve as well for the
+-- completions that will stand there.
 pub record Adding (b : BacklogState) (old new : Notes) (list : List Cqe) (i : ℕ) : Type 0 where
   pub within : i ≤ length list
   pub keeps : Keeps backlog_owns (backlog_seen b) (backlog_seen (backlog_with b (take i list))) old.made new.made

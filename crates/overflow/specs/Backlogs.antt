@@ -1,4 +1,5 @@
--- Completions that did not fit as they were made, and how they come into the ring (io_uring_setup(2), IORING_FEAT_NODROP).
+-- Completions that did not fit as they were made, and how they come into the ring
+-- (io_uring_setup(2), IORING_FEAT_NODROP).
 use Rattle.std.specs.Prelude.{◌≡◌, ℕ, ◌+◌, ◌-◌, ◌%◌, ◌^◌, ◌<◌, ◌≤◌, ◌==◌, not, min, Bool, true, false, Option, Some, None, option_map, slice_get, slice_set, List, [], ◌∷◌, ◌++◌, length, take, drop, if◌then◌else◌}
 use Rattle.entries.specs.declared.completion.Cqe.{Cqe}
 use Rattle.places.specs.declared.place.Place.{Place}
@@ -9,7 +10,8 @@ use Rattle.places.specs.View.{View}
 use Rattle.ring_words.specs.declared.flag.RingFlag.TheVariants.{CqOverflow}
 use Rattle.ring_words.specs.Rings.{SubWords, ComWords, waiting, with_flag, ComFormed, sub_seen, com_seen}
 
--- the completions that did not fit as they were made, numbered over the whole run: those from a front on are still kept
+-- the completions that did not fit as they were made, numbered over the whole run: those from a
+-- front on are still kept
 pub record BacklogState : Type 0 where
   pub items : List Cqe
   pub front : ℕ
@@ -57,7 +59,8 @@ free_slots w = length w.slots - waiting w.head w.tail
 
 -- the ring with a completion behind the others
 abbrev pub posted_one : ComWords → Cqe → ComWords
-posted_one w c = record w { tail = (w.tail + 1) % 2 ^ 32; slots = slice_set w.slots (w.tail % length w.slots) c }
+posted_one w c =
+    record w { tail = (w.tail + 1) % 2 ^ 32; slots = slice_set w.slots (w.tail % length w.slots) c }
 
 -- the ring with a list of completions behind the others
 abbrev pub posted_in_order : ComWords → List Cqe → ComWords
@@ -104,7 +107,8 @@ delivery_seen d (Backlog i) = backlog_seen d.backlog (Backlog i)
 delivery_seen d BacklogFront = backlog_seen d.backlog BacklogFront
 delivery_seen d _ = None
 
--- What holds of the three between steps: no more wait than there are slots, and the front is not past the end.
+-- What holds of the three between steps: no more wait than there are slots, and the front is not
+-- past the end.
 pub record DeliveryFormed (d : Delivery) : Type 0 where
   pub completions : ComFormed d.completions
   pub waits : waiting d.completions.head d.completions.tail ≤ length d.completions.slots
@@ -122,7 +126,8 @@ fits w b n = if is_clear b then min n (free_slots w) else 0
 abbrev pub backlog_with : BacklogState → List Cqe → BacklogState
 backlog_with b cs = record b { items = b.items ++ cs }
 
--- the three once i of a list of completions have gone into the ring, and the others into the backlog
+-- the three once i of a list of completions have gone into the ring, and the others into the
+-- backlog
 abbrev pub all_posted_at : Delivery → List Cqe → ℕ → Delivery
 all_posted_at d cs i = record {
   submissions = flagged d.submissions (backlog_with d.backlog (drop i cs));
@@ -146,6 +151,7 @@ flushed_at d k = record {
   backlog = backlog_behind d.backlog k;
 }
 
--- the three after a flush: the front of the backlog has gone into the ring, as far as there was room
+-- the three after a flush: the front of the backlog has gone into the ring, as far as there was
+-- room
 abbrev pub flushed : Delivery → Delivery
 flushed d = flushed_at d (min (length (kept d.backlog)) (free_slots d.completions))

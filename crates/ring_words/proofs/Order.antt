@@ -1,4 +1,5 @@
--- A ring is a list: a word written at the tail goes behind the others, a word read at the head is the first.
+-- A ring is a list: a word written at the tail goes behind the others, a word read at the head is
+-- the first.
 use Rattle.std.proofs.Common.{◌≡◌, ◌≢◌, ℕ, zero, suc, Bool, true, false, cond, refl, sym, ◌∙◌, ap, List, [], ◌∷◌, ◌++◌, length, drop, get_or, ◌+◌, ◌-◌, ◌%◌, ◌<◌, ◌≤◌, ◌^◌, ◌⊎◌, inl, inr, append_assoc, arith, length-set}
 use Rattle.std.specs.Prelude.{Some, None, option_to_list, slice_get, slice_set, ◌==◌}
 use Rattle.std.proofs.lemmas.Bool.{eqb-true}

@@ -52,7 +52,8 @@ rounded n = first_not_below n sizes
 abbrev pub waiting : ℕ → ℕ → ℕ
 waiting head tail = (tail + (2 ^ 32 - head)) % 2 ^ 32
 
--- what stands in n places of a ring from a word on, the place of a word being the word modulo the size
+-- what stands in n places of a ring from a word on, the place of a word being the word modulo the
+-- size
 abbrev pub items_from : {X : Type 0} → List X → ℕ → ℕ → List X
 items_from xs h zero = []
 items_from xs h (suc n) = option_to_list (slice_get xs (h % length xs)) ++ items_from xs (h + 1) n
@@ -130,7 +131,8 @@ sub_start entries base = record {
 
 -- the completion ring that a setup starts with
 abbrev pub com_start : ℕ → ℕ → ComWords
-com_start entries base = record { head = base; tail = base; slots = replicate (rounded entries) zero_completion }
+com_start entries base =
+    record { head = base; tail = base; slots = replicate (rounded entries) zero_completion }
 
 -- What holds of each submission ring: its sizes, and the width of its words.
 pub record SubFormed (w : SubWords) : Type 0 where

@@ -27,13 +27,16 @@ next_byte _ = None
 abbrev pub is_next : Place → Place → Bool
 is_next p q = option_map_or (λ r. same_place r q) (next_byte p) false
 
--- a change before others that are parted: at the front of the first part, if that goes on with its byte
+-- a change before others that are parted: at the front of the first part, if that goes on with its
+-- byte
 abbrev pub onto : Changed → List (List Changed) → List (List Changed)
 onto d [] = (d ∷ []) ∷ []
 onto d ([] ∷ rs) = (d ∷ []) ∷ rs
-onto d ((e ∷ es) ∷ rs) = if is_next d.place e.place then (d ∷ e ∷ es) ∷ rs else (d ∷ []) ∷ (e ∷ es) ∷ rs
+onto d ((e ∷ es) ∷ rs) =
+    if is_next d.place e.place then (d ∷ e ∷ es) ∷ rs else (d ∷ []) ∷ (e ∷ es) ∷ rs
 
--- changes parted into those of one line each: bytes that stand in a row are one part, all others stand alone
+-- changes parted into those of one line each: bytes that stand in a row are one part, all others
+-- stand alone
 abbrev pub rows : List Changed → List (List Changed)
 rows [] = []
 rows (d ∷ ds) = onto d (rows ds)
@@ -52,7 +55,9 @@ news_text ds = flat_map (λ d. value_shown d.new) ds
 
 -- of a row of bytes, the number of the last
 abbrev pub end_text : List Changed → List ℕ
-end_text ds = number_text (codes "..") (option_and_then (λ d. number_of d.place) (slice_get ds (length ds - 1)))
+end_text ds =
+    number_text (codes "..")
+    (option_and_then (λ d. number_of d.place) (slice_get ds (length ds - 1)))
 
 -- what stood there, and what stands there
 abbrev pub values_text : List Changed → List ℕ
@@ -65,4 +70,5 @@ line_text s (d ∷ ds) = codes "  " ++ (place_text s d.place ++ (end_text ds ++ 
 
 -- the number of an event and its words, and below it what it changed
 abbrev pub event_lines : Setup → ℕ → Event → List Changed → List ℕ
-event_lines s i e ds = decimal i ++ (codes " " ++ (event_text e ++ (codes "\n" ++ flat_map (line_text s) (rows ds))))
+event_lines s i e ds =
+    decimal i ++ (codes " " ++ (event_text e ++ (codes "\n" ++ flat_map (line_text s) (rows ds))))

@@ -7,7 +7,8 @@ use Rattle.places.specs.Places.{kind_of, index_of, second_of}
 use Rattle.places.specs.View.{View}
 use Rattle.run_log.specs.declared.changed.Changed.{Changed}
 
--- Where a place stands among all: by its kind, then its object, thread or index, and then its index within an object. These are below 2 ^ 32.
+-- Where a place stands among all: by its kind, then its object, thread or index, and then its index
+-- within an object. These are below 2 ^ 32.
 abbrev pub rank : Place → ℕ
 rank p = (kind_of p * 2 ^ 32 + index_of p) * 2 ^ 32 + second_of p
 

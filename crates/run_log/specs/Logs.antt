@@ -25,14 +25,16 @@ use Rattle.run_log.specs.Lines.{event_lines}
 
 -- ---- an event
 
--- The lines of an event, by a record and what stands in each place behind it: all that the record names, each place once.
+-- The lines of an event, by a record and what stands in each place behind it: all that the record
+-- names, each place once.
 pub record Shows (s : Setup) (i : ℕ) (e : Event) (behind : View) (past : List Change) (text : List ℕ) : Type 0 where
   pub once : NamesOnce past
   pub listed : List Changed
   pub listing : IsListing behind past listed
   pub lines : text ≡ event_lines s i e listed
 
--- The lines of an event at a machine: the record names just the places that differ, with what stood there.
+-- The lines of an event at a machine: the record names just the places that differ, with what stood
+-- there.
 pub record Reports (s : Setup) (i : ℕ) (m : Machine) (e : Event) (text : List ℕ) : Type 0 where
   pub past : List Change
   pub exact : Exact (view m) (view (after m e)) past
@@ -54,19 +56,23 @@ fault_by i refused.Memory = Memory
 fault_by i n = Schedule i n
 
 -- Why a log ends at an event: it is refused, or a beginning of what it tells was written.
-abbrev pub Halts : Bool → Setup → ℕ → Machine → Event → LogFault → Option (List ℕ) → Option (List ℕ) → Type 0
+abbrev pub Halts : Bool → Setup → ℕ → Machine → Event → LogFault → Option (List ℕ) → Option (List ℕ)
+    → Type 0
 Halts told s i m e (Schedule j n) held held' = (j ≡ i) × (refusal m e ≡ Some n) × Keeps held held'
-Halts told s i m e Write held held' = (refusal m e ≡ None) × (text : List ℕ) × Tells told s i m e text × WritesFront held held' text
+Halts told s i m e Write held held' =
+    (refusal m e ≡ None) × (text : List ℕ) × Tells told s i m e text × WritesFront held held' text
 Halts told s i m e Memory held held' = Keeps held held'
 Halts told s i m e (Script f) held held' = ⊥
 Halts told s i m e (Trace f) held held' = ⊥
 
 -- ---- a run
 
--- The texts of the first n events of a run in a row: of those in the range their lines, each at its moment.
+-- The texts of the first n events of a run in a row: of those in the range their lines, each at its
+-- moment.
 abbrev pub Logs : Setup → List Event → EventRange → ℕ → List ℕ → Type 0
 Logs s es r zero text = text ≡ []
-Logs s es r (suc n) text = (before : List ℕ) × (last : List ℕ) × (e : Event) × (text ≡ before ++ last)
+Logs s es r (suc n) text =
+    (before : List ℕ) × (last : List ℕ) × (e : Event) × (text ≡ before ++ last)
     × (slice_get es n ≡ Some e) × Tells (has r n) s n (moment s es n) e last × Logs s es r n before
 
 -- The first n events run, and their log was written.
@@ -86,8 +92,10 @@ pub record Begun (s : Setup) (es : List Event) (r : EventRange) (n : ℕ) (held 
   pub log : Logs s es r n (front ++ rest)
   pub appended : Appends held held' front
 
--- Where a log stopped: at the first event that is refused, or at a write; the log of the events before it was written.
-abbrev pub Stopped : Setup → List Event → EventRange → LogFault → Option (List ℕ) → Option (List ℕ) → Type 0
+-- Where a log stopped: at the first event that is refused, or at a write; the log of the events
+-- before it was written.
+abbrev pub Stopped : Setup → List Event → EventRange → LogFault → Option (List ℕ) → Option (List ℕ)
+    → Type 0
 Stopped s es r (Schedule i n) held held' = IsRefused s es i n × Written s es r i held held'
 Stopped s es r Write held held' = (n : ℕ) × Begun s es r n held held'
 Stopped s es r Memory held held' = (n : ℕ) × Written s es r n held held'
@@ -103,33 +111,46 @@ is_trace (b ∷ bs) = b == 85
 
 -- the whole log of the schedule of a script was written
 abbrev pub LoggedScript : List ℕ → EventRange → Option (List ℕ) → Option (List ℕ) → Type 0
-LoggedScript text r held held' = (p : Scenario) × Reads text (Ok p) × Written p.setup p.schedule r (length p.schedule) held held'
+LoggedScript text r held held' =
+    (p : Scenario) × Reads text (Ok p) × Written p.setup p.schedule r (length p.schedule) held held'
 
 -- the same of a trace
 abbrev pub LoggedTrace : List ℕ → EventRange → Option (List ℕ) → Option (List ℕ) → Type 0
-LoggedTrace trace r held held' = (setup : Setup) × (events : List Event) × IsTrace2 setup events trace × Written setup events r (length events) held held'
+LoggedTrace trace r held held' =
+    (setup : Setup) × (events : List Event) × IsTrace2 setup events trace
+    × Written setup events r (length events) held held'
 
--- A script that isn't logged: a fault of it is its first one, and then nothing was written. Memory can be refused before any event.
+-- A script that isn't logged: a fault of it is its first one, and then nothing was written. Memory
+-- can be refused before any event.
 abbrev pub FailsScript : List ℕ → EventRange → LogFault → Option (List ℕ) → Option (List ℕ) → Type 0
 FailsScript text r (Script f) held held' = Reads text (Err f) × Keeps held held'
 FailsScript text r (Trace f) held held' = ⊥
-FailsScript text r (Schedule i n) held held' = (p : Scenario) × Reads text (Ok p) × Stopped p.setup p.schedule r (Schedule i n) held held'
-FailsScript text r Write held held' = (p : Scenario) × Reads text (Ok p) × Stopped p.setup p.schedule r Write held held'
-FailsScript text r Memory held held' = Keeps held held' ⊎ ((p : Scenario) × Reads text (Ok p) × Stopped p.setup p.schedule r Memory held held')
+FailsScript text r (Schedule i n) held held' =
+    (p : Scenario) × Reads text (Ok p) × Stopped p.setup p.schedule r (Schedule i n) held held'
+FailsScript text r Write held held' =
+    (p : Scenario) × Reads text (Ok p) × Stopped p.setup p.schedule r Write held held'
+FailsScript text r Memory held held' =
+    Keeps held held'
+    ⊎ ((p : Scenario) × Reads text (Ok p) × Stopped p.setup p.schedule r Memory held held')
 
 -- the same of a trace
 abbrev pub FailsTrace : List ℕ → EventRange → LogFault → Option (List ℕ) → Option (List ℕ) → Type 0
 FailsTrace trace r (Script f) held held' = ⊥
 FailsTrace trace r (Trace f) held held' = IsFault2 trace f × Keeps held held'
-FailsTrace trace r (Schedule i n) held held' = (s : Setup) × (es : List Event) × IsTrace2 s es trace × Stopped s es r (Schedule i n) held held'
-FailsTrace trace r Write held held' = (s : Setup) × (es : List Event) × IsTrace2 s es trace × Stopped s es r Write held held'
-FailsTrace trace r Memory held held' = Keeps held held' ⊎ ((s : Setup) × (es : List Event) × IsTrace2 s es trace × Stopped s es r Memory held held')
+FailsTrace trace r (Schedule i n) held held' =
+    (s : Setup) × (es : List Event) × IsTrace2 s es trace × Stopped s es r (Schedule i n) held held'
+FailsTrace trace r Write held held' =
+    (s : Setup) × (es : List Event) × IsTrace2 s es trace × Stopped s es r Write held held'
+FailsTrace trace r Memory held held' =
+    Keeps held held'
+    ⊎ ((s : Setup) × (es : List Event) × IsTrace2 s es trace × Stopped s es r Memory held held')
 
 -- bytes are a trace, or else a script
 abbrev pub LoggedRun : Bool → List ℕ → EventRange → Option (List ℕ) → Option (List ℕ) → Type 0
 LoggedRun true bytes r held held' = LoggedTrace bytes r held held'
 LoggedRun false bytes r held held' = LoggedScript bytes r held held'
 
-abbrev pub FailsRun : Bool → List ℕ → EventRange → LogFault → Option (List ℕ) → Option (List ℕ) → Type 0
+abbrev pub FailsRun : Bool → List ℕ → EventRange → LogFault → Option (List ℕ) → Option (List ℕ)
+    → Type 0
 FailsRun true bytes r f held held' = FailsTrace bytes r f held held'
 FailsRun false bytes r f held held' = FailsScript bytes r f held held'

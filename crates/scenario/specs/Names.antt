@@ -27,7 +27,9 @@ use Rattle.scenario.specs.declared.owned.BytePlace.TheVariants as of_byte
 
 -- digits without a zero before another
 abbrev pub is_numeral : List ℕ → Bool
-is_numeral word = list_all is_ascii_digit word && nat_lt 0 (length word) && (nat_lt (length word) 2 || not (slice_index word 0 == 48))
+is_numeral word =
+    list_all is_ascii_digit word && nat_lt 0 (length word)
+    && (nat_lt (length word) 2 || not (slice_index word 0 == 48))
 
 -- a number of 32 bits
 abbrev pub fitting : ℕ → Option ℕ
@@ -85,7 +87,9 @@ descriptor_at s f = if nat_lt f 3 then None else slice_get s.fds (f - 3)
 
 abbrev pub is_open_file : Setup → Option Descriptor → Bool
 is_open_file s None = false
-is_open_file s (Some d) = option_map_or (λ (o : Object). is_of object_kind.File o.contents) (slice_get s.objects d.object) false
+is_open_file s (Some d) =
+    option_map_or (λ (o : Object). is_of object_kind.File o.contents) (slice_get s.objects d.object)
+    false
 
 abbrev pub submission_size : Setup → ℕ
 submission_size s = rounded s.entries
@@ -195,7 +199,8 @@ object_place s (Some p) name = option_map (place_of_object p) (object_named s (o
 -- the byte of an object that a number tells
 abbrev pub byte_of : Setup → BytePlace → ℕ → Option ℕ → Result Place PlaceFault
 byte_of s p o None = Err fault.Number
-byte_of s p o (Some i) = if nat_lt i (bytes_of s o) then Ok (place_of_byte p o i) else Err fault.Place
+byte_of s p o (Some i) =
+    if nat_lt i (bytes_of s o) then Ok (place_of_byte p o i) else Err fault.Place
 
 abbrev pub byte_in : Setup → BytePlace → Option ℕ → List ℕ → Result Place PlaceFault
 byte_in s p None word = Err fault.Place

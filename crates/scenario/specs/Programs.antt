@@ -6,19 +6,24 @@ use Rattle.scenario.specs.declared.setup.Instruction.TheVariants.{Put, Push, Sto
 -- An instruction's numbers have their widths.
 abbrev pub HasWidths : Instruction → Type 0
 HasWidths (Push index) = index < 2 ^ 32
-HasWidths (Enter to_submit min_complete flags) = (to_submit < 2 ^ 32) × (min_complete < 2 ^ 32) × (flags < 2 ^ 32)
+HasWidths (Enter to_submit min_complete flags) =
+    (to_submit < 2 ^ 32) × (min_complete < 2 ^ 32) × (flags < 2 ^ 32)
 HasWidths _ = Unit {0}
 
 -- Those of each instruction of each program do.
 abbrev pub HaveWidths : List (List Instruction) → Type 0
-HaveWidths programs = (t : ℕ) (p : List Instruction) → slice_get programs t ≡ Some p → (i : ℕ) (x : Instruction) → slice_get p i ≡ Some x → HasWidths x
+HaveWidths programs =
+    (t : ℕ) (p : List Instruction) → slice_get programs t ≡ Some p → (i : ℕ) (x : Instruction)
+    → slice_get p i ≡ Some x → HasWidths x
 
--- An instruction's numbers have their widths, its slot is one of the ring's, and the bytes that it stores lie within the memory.
+-- An instruction's numbers have their widths, its slot is one of the ring's, and the bytes that it
+-- stores lie within the memory.
 abbrev pub IsDone : ℕ → Instruction → Type 0
 IsDone size (Put slot entry) = slot < size
 IsDone size (Push index) = index < 2 ^ 32
 IsDone size (Store address bytes) = address + length bytes ≤ 65536
-IsDone size (Enter to_submit min_complete flags) = (to_submit < 2 ^ 32) × (min_complete < 2 ^ 32) × (flags < 2 ^ 32)
+IsDone size (Enter to_submit min_complete flags) =
+    (to_submit < 2 ^ 32) × (min_complete < 2 ^ 32) × (flags < 2 ^ 32)
 IsDone size Reap = Unit {0}
 IsDone size (Close fd) = Unit {0}
 

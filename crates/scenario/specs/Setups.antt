@@ -21,12 +21,14 @@ is_between low high n = nat_le low n && nat_le n high
 
 -- ---- rings
 
--- the completion entries that a setup asks for: twice the rounded submission entries, unless it says so
+-- the completion entries that a setup asks for: twice the rounded submission entries, unless it
+-- says so
 abbrev pub completion_entries : ℕ → Option ℕ → ℕ
 completion_entries entries None = 2 * rounded entries
 completion_entries entries (Some n) = n
 
--- a completion ring of at least as many places as the submission ring; the default has twice as many
+-- a completion ring of at least as many places as the submission ring; the default has twice as
+-- many
 abbrev pub is_completion_size : ℕ → Option ℕ → Bool
 is_completion_size entries None = true
 is_completion_size entries (Some cq) = is_between 1 8192 cq && nat_le (rounded entries) (rounded cq)
@@ -36,10 +38,12 @@ has_ring_sizes s = is_between 1 4096 s.entries && is_completion_size s.entries s
 
 -- ---- threads
 
--- whether a thread can do an instruction: a slot is one of the ring's, and stored bytes are few enough and lie within the memory
+-- whether a thread can do an instruction: a slot is one of the ring's, and stored bytes are few
+-- enough and lie within the memory
 abbrev pub is_instruction : ℕ → Instruction → Bool
 is_instruction size (Put slot entry) = nat_lt slot size
-is_instruction size (Store address bytes) = nat_le (length bytes) 4096 && nat_le (address + length bytes) 65536
+is_instruction size (Store address bytes) =
+    nat_le (length bytes) 4096 && nat_le (address + length bytes) 65536
 is_instruction size _ = true
 
 abbrev pub is_program : ℕ → List Instruction → Bool
@@ -60,7 +64,8 @@ is_name_byte b = is_between 97 122 b || is_between 48 57 b || b == 95
 abbrev pub is_name : List ℕ → Bool
 is_name n = is_between 1 16 (length n) && list_all is_name_byte n
 
--- the most bytes of a file, the capacities of a pipe (pipe(7)), and the most that an eventfd counts (eventfd(2))
+-- the most bytes of a file, the capacities of a pipe (pipe(7)), and the most that an eventfd counts
+-- (eventfd(2))
 abbrev pub is_contents : Contents → Bool
 is_contents (File bytes) = nat_le (length bytes) 65536
 is_contents (Pipe capacity) = is_between 1 65536 capacity
@@ -90,7 +95,8 @@ is_end (EventFd counter) Whole = true
 is_end (EventFd counter) e = false
 
 abbrev pub is_descriptor : List Object → Descriptor → Bool
-is_descriptor objects d = option_map_or (λ (o : Object). is_end o.contents d.end) (slice_get objects d.object) false
+is_descriptor objects d =
+    option_map_or (λ (o : Object). is_end o.contents d.end) (slice_get objects d.object) false
 
 abbrev pub has_descriptors : Setup → Bool
 has_descriptors s = nat_le (length s.fds) 64 && list_all (is_descriptor s.objects) s.fds

@@ -25,7 +25,8 @@ Ends s es (Faulty f) = ⊥
 abbrev pub IsVerdict : List ℕ → Verdict → Type 0
 IsVerdict text (Faulty f) = Reads text (Err f)
 IsVerdict text Fine = (p : Scenario) × Reads text (Ok p) × Ends p.setup p.schedule Fine
-IsVerdict text (Refused i n) = (p : Scenario) × Reads text (Ok p) × Ends p.setup p.schedule (Refused i n)
+IsVerdict text (Refused i n) =
+    (p : Scenario) × Reads text (Ok p) × Ends p.setup p.schedule (Refused i n)
 
 -- a fault of writing, or want of memory
 abbrev pub IsOfOutput : LogFault → Type 0

@@ -17,7 +17,9 @@ use Rattle.timeline.specs.declared.fault.TimelineFault.TheVariants.{Script, Trac
 
 -- what a file of a name holds
 abbrev pub picture_of : List ℕ → Option Picture
-picture_of path = if ends_with nat_eq path (codes ".html") then Some Page else if ends_with nat_eq path (codes ".json") then Some TraceEvents else None
+picture_of path =
+    if ends_with nat_eq path (codes ".html") then Some Page
+    else if ends_with nat_eq path (codes ".json") then Some TraceEvents else None
 
 -- whether so many events are too many to be drawn without both ends of a window
 abbrev pub is_long : ℕ → Window → Bool

@@ -14,9 +14,12 @@ guarding rows listed = endings (λ r row. given (guards_listed listed row) ecanc
 
 -- whether an unfinished row guards another
 abbrev pub guards_row : ℕ → Row → Bool
-guards_row t row = is_unfinished row.phase && (is_guard row && option_map_or (λ target. target == t) row.target false)
+guards_row t row =
+    is_unfinished row.phase
+    && (is_guard row && option_map_or (λ target. target == t) row.target false)
 
--- The guards of the first listed rows have been looked for: they are those among the rows before one.
+-- The guards of the first listed rows have been looked for: they are those among the rows before
+-- one.
 pub record Guarded (rows : List Row) (listed : List Ending) (i : ℕ) (es : List Ending) : Type 0 where
   pub to : ℕ
   pub found : es ≡ upto (λ r row. given (guards_listed listed row) ecanceled) rows to

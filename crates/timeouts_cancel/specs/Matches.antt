@@ -1,4 +1,5 @@
--- What a cancel or a removal matches (io_uring_enter(2), IORING_OP_ASYNC_CANCEL, IORING_OP_POLL_REMOVE and IORING_OP_TIMEOUT_REMOVE): a filter over all rows.
+-- What a cancel or a removal matches (io_uring_enter(2), IORING_OP_ASYNC_CANCEL,
+-- IORING_OP_POLL_REMOVE and IORING_OP_TIMEOUT_REMOVE): a filter over all rows.
 use Rattle.std.specs.Prelude.{◌≡◌, ℕ, ℤ, ◌<◌, ◌≤◌, ◌==◌, Bool, true, false, not, ◌&&◌, if◌then◌else◌, Option, Some, None, slice_get, List}
 use Rattle.entries.specs.declared.row.Row.{Row}
 use Rattle.model_files.specs.Worlds.{WorldState}
@@ -17,7 +18,8 @@ abbrev pub holds_number : Option ℕ → ℤ → Bool
 holds_number None number = false
 holds_number (Some fd) number = is_number number fd
 
--- what a row is looked for by: any by its user_data or its descriptor, a POLL_ADD or a TIMEOUT by its user_data
+-- what a row is looked for by: any by its user_data or its descriptor, a POLL_ADD or a TIMEOUT by
+-- its user_data
 abbrev pub fits_key : Key → Row → Bool
 fits_key (User n) row = row.entry.user_data == n
 fits_key (Fd number) row = holds_number row.held number
@@ -26,7 +28,8 @@ fits_key (Timeout n) row = (row.entry.opcode == 11) && (row.entry.user_data == n
 
 -- An issued row matches, but neither a LINK_TIMEOUT nor the row that asks.
 abbrev pub is_match : Key → ℕ → ℕ → Row → Bool
-is_match key me r row = is_issued row.phase && (not (is_guard row) && (not (r == me) && fits_key key row))
+is_match key me r row =
+    is_issued row.phase && (not (is_guard row) && (not (r == me) && fits_key key row))
 
 abbrev pub matches_of : List Row → Key → ℕ → List (ℕ × Row)
 matches_of rows key me = numbered_where (is_match key me) rows
@@ -56,12 +59,15 @@ pub record IsNextMatch (rows : List Row) (key : Key) (me from r : ℕ) (row : Ro
   pub after : from ≤ r
   pub there : slice_get rows r ≡ Some row
   pub matching : is_match key me r row ≡ true
-  pub least : (i : ℕ) (x : Row) → from ≤ i → i < r → slice_get rows i ≡ Some x → is_match key me i x ≡ false
+  pub least : (i : ℕ) (x : Row) → from ≤ i → i < r → slice_get rows i ≡ Some x
+      → is_match key me i x ≡ false
 
 abbrev pub NoMatchFrom : List Row → Key → ℕ → ℕ → Type 0
-NoMatchFrom rows key me from = (i : ℕ) (x : Row) → from ≤ i → slice_get rows i ≡ Some x → is_match key me i x ≡ false
+NoMatchFrom rows key me from =
+    (i : ℕ) (x : Row) → from ≤ i → slice_get rows i ≡ Some x → is_match key me i x ≡ false
 
 -- The rows from one up to another have been looked at, and don't match.
 pub record Passed (rows : List Row) (key : Key) (me from at : ℕ) : Type 0 where
   pub after : from ≤ at
-  pub none : (i : ℕ) (x : Row) → from ≤ i → i < at → slice_get rows i ≡ Some x → is_match key me i x ≡ false
+  pub none : (i : ℕ) (x : Row) → from ≤ i → i < at → slice_get rows i ≡ Some x
+      → is_match key me i x ≡ false

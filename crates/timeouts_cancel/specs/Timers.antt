@@ -1,4 +1,5 @@
--- Timers: deadlines, and the TIMEOUTs whose count of completions is met (io_uring_enter(2), IORING_OP_TIMEOUT and IORING_OP_LINK_TIMEOUT).
+-- Timers: deadlines, and the TIMEOUTs whose count of completions is met (io_uring_enter(2),
+-- IORING_OP_TIMEOUT and IORING_OP_LINK_TIMEOUT).
 use Rattle.std.specs.Prelude.{ℕ, pos, Bool, false, nat_le, List}
 use Rattle.std.specs.Option.{option_map_or}
 use Rattle.entries.specs.declared.row.Row.{Row}

@@ -23,18 +23,22 @@ severed_endings rows direct = with_severed rows (own_endings rows direct)
 
 -- the results after two filters
 abbrev pub result_by : List Row → List Ending → ℕ → Row → Option ℤ
-result_by rows direct r row = or_else (result_in (own_endings rows direct) r) (given (is_severed rows (own_endings rows direct) r row) ecanceled)
+result_by rows direct r row =
+    or_else (result_in (own_endings rows direct) r)
+    (given (is_severed rows (own_endings rows direct) r row) ecanceled)
 
 -- the endings of the first rows
 abbrev pub upto : (ℕ → Row → Option ℤ) → List Row → ℕ → List Ending
 upto f rows k = endings f (take k rows)
 
--- The rows before one have been walked over: so many direct pairs are among them, the others aren't, and no row from there on is severed by the first.
+-- The rows before one have been walked over: so many direct pairs are among them, the others
+-- aren't, and no row from there on is severed by the first.
 pub record Walked (rows : List Row) (direct : List Ending) (k i : ℕ) (es : List Ending) : Type 0 where
   pub listed : es ≡ upto (result_by rows direct) rows k
   pub below : (j : ℕ) (e : Ending) → slice_get direct j ≡ Some e → j < i → e.0 < k
   pub above : (j : ℕ) (e : Ending) → slice_get direct j ≡ Some e → i ≤ j → k ≤ e.0
-  pub clear : (r : ℕ) (row : Row) (j : ℕ) (e : Ending) → k ≤ r → slice_get rows r ≡ Some row → slice_get direct j ≡ Some e → j < i → Severs rows r row e → ⊥
+  pub clear : (r : ℕ) (row : Row) (j : ℕ) (e : Ending) → k ≤ r → slice_get rows r ≡ Some row
+      → slice_get direct j ≡ Some e → j < i → Severs rows r row e → ⊥
 
 -- The rows before one have been walked over, the last of them in a unit that one of them severs.
 pub record Sweeping (rows : List Row) (direct : List Ending) (k i : ℕ) (es : List Ending) (unit : ℕ) : Type 0 where
@@ -51,7 +55,8 @@ pub record Sweeping (rows : List Row) (direct : List Ending) (k i : ℕ) (es : L
   pub bad : is_bad head cause.1 ≡ true
   pub unit_is : head.unit ≡ unit
   pub run : (q : ℕ) (y : Row) → cause.0 ≤ q → q < k → slice_get rows q ≡ Some y → y.unit ≡ unit
-  pub clear : (r : ℕ) (row : Row) (j : ℕ) (e : Ending) → cause.0 ≤ r → slice_get rows r ≡ Some row → slice_get direct j ≡ Some e → j < at → Severs rows r row e → ⊥
+  pub clear : (r : ℕ) (row : Row) (j : ℕ) (e : Ending) → cause.0 ≤ r → slice_get rows r ≡ Some row
+      → slice_get direct j ≡ Some e → j < at → Severs rows r row e → ⊥
 
 -- The same, with how many direct pairs are passed at least.
 pub record SweepsOn (rows : List Row) (direct : List Ending) (k i : ℕ) (es : List Ending) (unit at : ℕ) : Type 0 where

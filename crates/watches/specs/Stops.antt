@@ -1,4 +1,5 @@
--- Where a walk stops. All is said of moments: what stood in a place before an event, and what stands there after it.
+-- Where a walk stops. All is said of moments: what stood in a place before an event, and what
+-- stands there after it.
 use Rattle.std.specs.Prelude.{◌≡◌, ℕ, zero, suc, ◌+◌, ◌-◌, ◌<◌, ◌≤◌, List, [], ◌∷◌, length, Bool, not, ◌&&◌, if◌then◌else◌, is_some, Option, Some, None, unwrap_or}
 use Rattle.std.specs.List.{list_any, range_with_len}
 use Rattle.places.specs.declared.place.Place.{Place}
@@ -29,13 +30,16 @@ changes old new ps = list_any (λ p. not (is_same (old p) (new p))) ps
 
 -- whether the value of one of the breaks stands in its place that didn't before
 abbrev pub meets : View → View → List Break → Bool
-meets old new bs = list_any (λ b. is_same (new b.place) (Some b.value) && not (is_same (old b.place) (Some b.value))) bs
+meets old new bs =
+    list_any
+    (λ b. is_same (new b.place) (Some b.value) && not (is_same (old b.place) (Some b.value))) bs
 
 -- where the event after a moment stops a walk back, if it does
 abbrev pub stop_before : Walk → List Place → ℕ → Option Stop
 stop_before w ps m = if changes (seen w m) (seen w (m + 1)) ps then Some (Change m) else None
 
--- where the event before a moment stops a walk on, if it does: by a change, or else by a break that is met
+-- where the event before a moment stops a walk on, if it does: by a change, or else by a break that
+-- is met
 abbrev pub stop_behind : Walk → Stops → ℕ → Option Stop
 stop_behind w v m =
     if changes (seen w (m - 1)) (seen w m) v.watchpoints then Some (Change m)
@@ -58,7 +62,8 @@ reverse_stop w ps = first_stop (stop_before w ps) Start (moments_before w.at)
 
 -- where a walk on stops
 unfoldable pub forward_stop : Walk → Stops → Stop
-forward_stop w v = first_stop (stop_behind w v) End (range_with_len (w.at + 1) (length w.events - w.at))
+forward_stop w v =
+    first_stop (stop_behind w v) End (range_with_len (w.at + 1) (length w.events - w.at))
 
 -- ---- what is said by it
 
@@ -70,7 +75,8 @@ Stays old new (p ∷ ps) = (old p ≡ new p) × Stays old new ps
 -- no break's value stands in its place that didn't before
 abbrev pub NoneMet : View → View → List Break → Type 0
 NoneMet old new [] = Unit {0}
-NoneMet old new (b ∷ bs) = (new b.place ≡ Some b.value → old b.place ≡ Some b.value) × NoneMet old new bs
+NoneMet old new (b ∷ bs) =
+    (new b.place ≡ Some b.value → old b.place ≡ Some b.value) × NoneMet old new bs
 
 -- the event after a moment changes none of the places
 abbrev pub Unchanged : Walk → List Place → ℕ → Type 0
@@ -80,21 +86,29 @@ Unchanged w ps m = Stays (seen w m) (seen w (m + 1)) ps
 abbrev pub Unmet : Walk → List Break → ℕ → Type 0
 Unmet w bs m = NoneMet (seen w m) (seen w (m + 1)) bs
 
--- The greatest moment before the position whose event changes one of the places; or the start, where there is none.
+-- The greatest moment before the position whose event changes one of the places; or the start,
+-- where there is none.
 abbrev pub IsEarlier : Walk → List Place → Stop → Type 0
-IsEarlier w ps (Change m) = (m < w.at) × (Unchanged w ps m → ⊥) × ((k : ℕ) → m < k → k < w.at → Unchanged w ps k)
+IsEarlier w ps (Change m) =
+    (m < w.at) × (Unchanged w ps m → ⊥) × ((k : ℕ) → m < k → k < w.at → Unchanged w ps k)
 IsEarlier w ps Start = (k : ℕ) → k < w.at → Unchanged w ps k
 IsEarlier w ps (Met m) = ⊥
 IsEarlier w ps End = ⊥
 
 -- from one moment on up to another nothing stops
 abbrev pub Quiet : Walk → Stops → ℕ → ℕ → Type 0
-Quiet w v from to = (k : ℕ) → from ≤ k → k < to → Unchanged w v.watchpoints k × Unmet w v.breakpoints k
+Quiet w v from to =
+    (k : ℕ) → from ≤ k → k < to → Unchanged w v.watchpoints k × Unmet w v.breakpoints k
 
--- The least moment past the position to which an event has changed one of the places, or else met one of the breaks; or the end, where there is none.
+-- The least moment past the position to which an event has changed one of the places, or else met
+-- one of the breaks; or the end, where there is none.
 abbrev pub IsLater : Walk → Stops → Stop → Type 0
-IsLater w v (Change m) = (w.at < m) × (m ≤ length w.events) × (Unchanged w v.watchpoints (m - 1) → ⊥) × Quiet w v w.at (m - 1)
-IsLater w v (Met m) = (w.at < m) × (m ≤ length w.events) × Unchanged w v.watchpoints (m - 1) × (Unmet w v.breakpoints (m - 1) → ⊥) × Quiet w v w.at (m - 1)
+IsLater w v (Change m) =
+    (w.at < m) × (m ≤ length w.events) × (Unchanged w v.watchpoints (m - 1) → ⊥)
+    × Quiet w v w.at (m - 1)
+IsLater w v (Met m) =
+    (w.at < m) × (m ≤ length w.events) × Unchanged w v.watchpoints (m - 1)
+    × (Unmet w v.breakpoints (m - 1) → ⊥) × Quiet w v w.at (m - 1)
 IsLater w v End = Quiet w v w.at (length w.events)
 IsLater w v Start = ⊥
 
@@ -102,7 +116,8 @@ IsLater w v Start = ⊥
 abbrev pub IsStop : Walk → Stops → Option Stop → Type 0
 IsStop w v None = Unchanged w v.watchpoints (w.at - 1) × Unmet w v.breakpoints (w.at - 1)
 IsStop w v (Some (Change m)) = (m ≡ w.at) × (Unchanged w v.watchpoints (w.at - 1) → ⊥)
-IsStop w v (Some (Met m)) = (m ≡ w.at) × Unchanged w v.watchpoints (w.at - 1) × (Unmet w v.breakpoints (w.at - 1) → ⊥)
+IsStop w v (Some (Met m)) =
+    (m ≡ w.at) × Unchanged w v.watchpoints (w.at - 1) × (Unmet w v.breakpoints (w.at - 1) → ⊥)
 IsStop w v (Some Start) = ⊥
 IsStop w v (Some End) = ⊥
 
