@@ -53,6 +53,10 @@ const KINDS: &[&str] = &[
     "cut-off",
     "went-on",
     "no-effect",
+    "slot-in-use",
+    "closed-early",
+    "closed-while-held",
+    "refused-flags",
 ];
 
 const DRAWN: &str =
