@@ -29,8 +29,8 @@ not_draining unit row g = by_bool (is_draining unit row) (λ t. g (eqb-true row.
 earlier : (rows : List Row) (unit j : ℕ) (row : Row) → Chained rows → slice_get rows j ≡ Some row → j < unit → is_draining unit row ≡ false
 earlier rows unit j row c e l = not_draining unit row (λ same. let low : row.unit ≤ j = c.back j row e in absurd (omega (arith, same)))
 
-pub none_past : (rows : List Row) (k j : ℕ) (row : Row) → length rows ≤ k → k ≤ j → slice_get rows j ≡ Some row → ⊥
-none_past rows k j row l up e = none-some row (sym (slice_get_past rows j (omega arith)) ∙ e)
+pub none_past : {X : Type 0} (xs : List X) (k j : ℕ) (x : X) → length xs ≤ k → k ≤ j → slice_get xs j ≡ Some x → ⊥
+none_past xs k j x l up e = none-some x (sym (slice_get_past xs j (omega arith)) ∙ e)
 
 -- where the table ends
 pub drains_end : (rows : List Row) (unit k : ℕ) → Chained rows → NoneDrains rows unit k → length rows ≤ k → drains rows unit ≡ false

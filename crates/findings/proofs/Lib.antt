@@ -6,6 +6,8 @@ pub mod Candidates
 pub mod Passing
 pub mod Beside
 pub mod Draining
+pub mod Looking
+pub mod Waiting
 pub mod Barriers
 pub mod Ranks
 pub mod Distinct

@@ -19,14 +19,16 @@ use Rattle.machine.specs.declared.whole.Machine.{Machine}
 use Rattle.machine.specs.Whole.{view}
 use Rattle.findings.specs.declared.finding.Finding.{Finding}
 use Rattle.findings.specs.declared.kind.Kind.{Kind}
-use Rattle.findings.specs.declared.kind.Kind.TheVariants.{Failed, Short, Severed, Canceled, TimedOut, Expired, NotFound, TooLate, Overflow, Busy, TakenShort, NoSuchSlot, CutOff, WentOn, NoEffect}
+use Rattle.findings.specs.declared.kind.Kind.TheVariants.{Failed, Short, Severed, Canceled, TimedOut, Expired, NotFound, TooLate, Overflow, Busy, TakenShort, NoSuchSlot, CutOff, WentOn, NoEffect, SlotInUse, ClosedEarly, ClosedWhileHeld, RefusedFlags}
 use Rattle.findings.specs.Endings.{result_in, ending_of, is_of, comes_as, row_test}
 use Rattle.scenario.specs.declared.event.Event.{Event}
 use Rattle.scenario.specs.declared.event.Event.TheVariants.{Step}
 use Rattle.scenario.specs.declared.setup.Instruction.{Instruction}
-use Rattle.scenario.specs.declared.setup.Instruction.TheVariants.{Enter, Push}
+use Rattle.scenario.specs.declared.setup.Instruction.TheVariants.{Put, Push, Enter, Close}
 use Rattle.scenario.specs.declared.setup.Setup.{Setup}
-use Rattle.findings.specs.Conditions.{overflows, done_by, is_step_of, is_of_enter, is_of_push, is_of_step}
+use Rattle.machine.specs.Steps.{number_in}
+use Rattle.findings.specs.Conditions.{overflows, done_by, is_step_of, is_of_enter, is_of_push, has_closed, is_of_close, is_of_step}
+use Rattle.findings.specs.Uses.{changes_slot, changes_at, is_of_put, is_of_closed, is_of_number}
 use Rattle.findings.specs.Findings.{ends, ring_shows, step_shows, shows}
 use Rattle.findings.specs.Records.{given, row_kinds, of_row, row_in, of_place, of_change, of_overflow, step_kinds, of_instruction, of_step, of_event}
 use Rattle.findings.proofs.Members.{Has, has_left, has_right, has_flat_map}
@@ -176,26 +178,27 @@ rung_if : (s : Setup) (i : ℕ) (before : Machine) (e : Event) (behind : Machine
 rung_if s i before e behind true kind n h = All-cons (IsRung s i before e behind) (the_finding i kind n) [] (refl, h refl) (All-nil (IsRung s i before e behind))
 rung_if s i before e behind false kind n h = All-nil (IsRung s i before e behind)
 
-instruction_rung : (s : Setup) (i : ℕ) (before : Machine) (t : ℕ) (behind : Machine) (x : Instruction) (kinds : List Kind) → done_by s before (Step t) ≡ Some x → All (IsRung s i before (Step t) behind) (of_instruction i x behind t kinds)
+instruction_rung : (s : Setup) (i : ℕ) (before : Machine) (t : ℕ) (behind : Machine) (x : Instruction) (kinds : List Kind) → done_by s before (Step t) ≡ Some x
+    → All (IsRung s i before (Step t) behind) (of_instruction i (changes_slot before x) x behind t kinds)
 instruction_rung s i before t behind x [] d = All-nil (IsRung s i before (Step t) behind)
 instruction_rung s i before t behind x (kind ∷ kinds) d =
-    All-append (IsRung s i before (Step t) behind) (given (is_of_step kind x behind t) (the_finding i kind t)) (of_instruction i x behind t kinds)
-    (rung_if s i before (Step t) behind (is_of_step kind x behind t) kind t told)
+    All-append (IsRung s i before (Step t) behind) (given (is_of_step kind (changes_slot before x) x behind t) (the_finding i kind t)) (of_instruction i (changes_slot before x) x behind t kinds)
+    (rung_if s i before (Step t) behind (is_of_step kind (changes_slot before x) x behind t) kind t told)
     (instruction_rung s i before t behind x kinds d)
   where
-    told : is_of_step kind x behind t ≡ true → shows s kind before (Step t) behind t ≡ true
+    told : is_of_step kind (changes_slot before x) x behind t ≡ true → shows s kind before (Step t) behind t ≡ true
     told h = or_second (ring_shows kind before behind t) (step_shows s kind before (Step t) behind t)
-        (and_from (t == t) (option_map_or (λ (y : Instruction). is_of_step kind y behind t) (done_by s before (Step t)) false) (eq-eqb t t refl)
-        (ap (λ (o : Option Instruction). option_map_or (λ (y : Instruction). is_of_step kind y behind t) o false) d ∙ h))
+        (and_from (t == t) (option_map_or (λ (y : Instruction). is_of_step kind (changes_slot before y) y behind t) (done_by s before (Step t)) false) (eq-eqb t t refl)
+        (ap (λ (o : Option Instruction). option_map_or (λ (y : Instruction). is_of_step kind (changes_slot before y) y behind t) o false) d ∙ h))
 
-step_rung : (s : Setup) (i : ℕ) (before : Machine) (e : Event) (behind : Machine) (o : Option Instruction) → done_by s before e ≡ o → All (IsRung s i before e behind) (of_step i o e behind)
+step_rung : (s : Setup) (i : ℕ) (before : Machine) (e : Event) (behind : Machine) (o : Option Instruction) → done_by s before e ≡ o → All (IsRung s i before e behind) (of_step i (changes_at before o) o e behind)
 step_rung s i before e behind None d = All-nil (IsRung s i before e behind)
 step_rung s i before (Step t) behind (Some x) d = instruction_rung s i before t behind x step_kinds d
 step_rung s i before _ behind (Some x) d = All-nil _
 
 pub event_rung : (s : Setup) (i : ℕ) (before : Machine) (e : Event) (behind : Machine) → All (IsRung s i before e behind) (of_event s i before e behind)
 event_rung s i before e behind =
-    All-append (IsRung s i before e behind) (of_overflow i (overflows before) (overflows behind)) (of_step i (done_by s before e) e behind)
+    All-append (IsRung s i before e behind) (of_overflow i (overflows before) (overflows behind)) (of_step i (changes_at before (done_by s before e)) (done_by s before e) e behind)
     (rung_if s i before e behind (not (overflows before) && overflows behind) Overflow zero (λ h. or_first (not (overflows before) && overflows behind) (step_shows s Overflow before e behind zero) h))
     (step_rung s i before e behind (done_by s before e) refl)
 
@@ -203,25 +206,42 @@ event_rung s i before e behind =
 enter_kind : (kind : Kind) (n : ℕ) (m : Machine) (t : ℕ) → is_of_enter kind n m t ≡ true → Has step_kinds kind
 enter_kind Busy n m t h = inl refl
 enter_kind TakenShort n m t h = inr (inl refl)
+enter_kind RefusedFlags n m t h = inr (inr (inr (inr (inr (inr (inl refl))))))
 enter_kind _ n m t h = absurd (false_true h)
 
 push_kind : (kind : Kind) (index : ℕ) (m : Machine) → is_of_push kind index m ≡ true → Has step_kinds kind
 push_kind NoSuchSlot index m h = inr (inr (inl refl))
 push_kind _ index m h = absurd (false_true h)
 
-step_kind : (kind : Kind) (x : Instruction) (m : Machine) (t : ℕ) → is_of_step kind x m t ≡ true → Has step_kinds kind
-step_kind kind (Enter to_submit min_complete flags) m t h = enter_kind kind to_submit m t h
-step_kind kind (Push index) m t h = push_kind kind index m h
-step_kind kind _ m t h = absurd (false_true h)
+put_kind : (kind : Kind) (changes : Bool) (slot : ℕ) (m : Machine) → is_of_put kind changes slot m ≡ true → Has step_kinds kind
+put_kind SlotInUse changes slot m h = inr (inr (inr (inl refl)))
+put_kind _ changes slot m h = absurd (false_true h)
 
-step_there : (i : ℕ) (kind : Kind) (o : Option Instruction) (e : Event) (behind : Machine) (n : ℕ) → is_step_of n e ≡ true → option_map_or (λ (x : Instruction). is_of_step kind x behind n) o false ≡ true → Has (of_step i o e behind) (the_finding i kind n)
-step_there i kind None (Step t) behind n a b = absurd (false_true b)
-step_there i kind (Some x) (Step t) behind n a b =
+closed_kind : (kind : Kind) (m : Machine) (o : Option ℕ) → option_map_or (is_of_closed kind m) o false ≡ true → Has step_kinds kind
+closed_kind ClosedEarly m o h = inr (inr (inr (inr (inl refl))))
+closed_kind ClosedWhileHeld m o h = inr (inr (inr (inr (inr (inl refl)))))
+closed_kind kind m None h = absurd (false_true h)
+closed_kind _ m (Some fd) h = absurd (false_true h)
+
+close_kind : (kind : Kind) (fd : ℤ) (m : Machine) (t : ℕ) → is_of_close kind fd m t ≡ true → Has step_kinds kind
+close_kind kind fd m t h = closed_kind kind m (number_in fd) (and_parts (has_closed m t) (is_of_number kind m fd) h).1
+
+step_kind : (kind : Kind) (changes : Bool) (x : Instruction) (m : Machine) (t : ℕ) → is_of_step kind changes x m t ≡ true → Has step_kinds kind
+step_kind kind changes (Enter to_submit min_complete flags) m t h = enter_kind kind to_submit m t h
+step_kind kind changes (Push index) m t h = push_kind kind index m h
+step_kind kind changes (Put slot entry) m t h = put_kind kind changes slot m h
+step_kind kind changes (Close fd) m t h = close_kind kind fd m t h
+step_kind kind changes _ m t h = absurd (false_true h)
+
+step_there : (i : ℕ) (kind : Kind) (before : Machine) (o : Option Instruction) (e : Event) (behind : Machine) (n : ℕ) → is_step_of n e ≡ true → option_map_or (λ (x : Instruction). is_of_step kind (changes_slot before x) x behind n) o false ≡ true
+    → Has (of_step i (changes_at before o) o e behind) (the_finding i kind n)
+step_there i kind before None (Step t) behind n a b = absurd (false_true b)
+step_there i kind before (Some x) (Step t) behind n a b =
     let same : t ≡ n = eqb-true t n a in
-    let here : is_of_step kind x behind t ≡ true = ap (is_of_step kind x behind) same ∙ b in
-    subst (λ (k : ℕ). Has (of_instruction i x behind t step_kinds) (the_finding i kind k)) same
-    (has_flat_map (λ (k : Kind). given (is_of_step k x behind t) (the_finding i k t)) step_kinds kind (the_finding i kind t) (step_kind kind x behind t here) (given_there (is_of_step kind x behind t) (the_finding i kind t) here))
-step_there i kind o _ behind n a b = absurd (false_true a)
+    let here : is_of_step kind (changes_slot before x) x behind t ≡ true = ap (is_of_step kind (changes_slot before x) x behind) same ∙ b in
+    subst (λ (k : ℕ). Has (of_instruction i (changes_slot before x) x behind t step_kinds) (the_finding i kind k)) same
+    (has_flat_map (λ (k : Kind). given (is_of_step k (changes_slot before x) x behind t) (the_finding i k t)) step_kinds kind (the_finding i kind t) (step_kind kind (changes_slot before x) x behind t here) (given_there (is_of_step kind (changes_slot before x) x behind t) (the_finding i kind t) here))
+step_there i kind before o _ behind n a b = absurd (false_true a)
 
 overflow_there : (i : ℕ) (before behind : Machine) (kind : Kind) (n : ℕ) → ring_shows kind before behind n ≡ true → Has (of_overflow i (overflows before) (overflows behind)) (the_finding i kind n)
 overflow_there i before behind Overflow n h =
@@ -234,8 +254,8 @@ overflow_there i before behind _ n h = absurd (false_true h)
 pub rung_there : (s : Setup) (i : ℕ) (before : Machine) (e : Event) (behind : Machine) (kind : Kind) (n : ℕ) → shows s kind before e behind n ≡ true → Has (of_event s i before e behind) (the_finding i kind n)
 rung_there s i before e behind kind n h =
     elim (or_cases (ring_shows kind before behind n) (step_shows s kind before e behind n) h) [
-      | inl ring ↦ has_left (of_overflow i (overflows before) (overflows behind)) (of_step i (done_by s before e) e behind) (the_finding i kind n) (overflow_there i before behind kind n ring)
+      | inl ring ↦ has_left (of_overflow i (overflows before) (overflows behind)) (of_step i (changes_at before (done_by s before e)) (done_by s before e) e behind) (the_finding i kind n) (overflow_there i before behind kind n ring)
       | inr step ↦
-          let parts = and_parts (is_step_of n e) (option_map_or (λ (x : Instruction). is_of_step kind x behind n) (done_by s before e) false) step in
-          has_right (of_overflow i (overflows before) (overflows behind)) (of_step i (done_by s before e) e behind) (the_finding i kind n) (step_there i kind (done_by s before e) e behind n parts.0 parts.1)
+          let parts = and_parts (is_step_of n e) (option_map_or (λ (x : Instruction). is_of_step kind (changes_slot before x) x behind n) (done_by s before e) false) step in
+          has_right (of_overflow i (overflows before) (overflows behind)) (of_step i (changes_at before (done_by s before e)) (done_by s before e) e behind) (the_finding i kind n) (step_there i kind before (done_by s before e) e behind n parts.0 parts.1)
     ]

@@ -1,20 +1,22 @@
 -- What rings and threads show: by an event, and where it holds on to the end of a run.
-use Rattle.std.specs.Prelude.{◌≡◌, ℕ, ℤ, ◌+◌, ◌≤◌, ◌==◌, Bool, true, false, not, ◌&&◌, ◌||◌, nat_lt, if◌then◌else◌, Option, Some, None, is_none, option_map, slice_get, length}
+use Rattle.std.specs.Prelude.{◌≡◌, ℕ, ℤ, pos, ◌+◌, ◌≤◌, ◌==◌, Bool, true, false, not, ◌&&◌, ◌||◌, nat_lt, if◌then◌else◌, Option, Some, None, is_none, option_map, slice_get, length}
 use Rattle.std.specs.Option.{option_map_or, option_and_then}
+use Rattle.std.specs.Ordering.{int_eq}
 use Rattle.places.specs.declared.value.Stage.{Stage}
 use Rattle.places.specs.declared.value.Stage.TheVariants.{Ready, Waiting}
 use Rattle.scenario.specs.declared.event.Event.{Event}
 use Rattle.scenario.specs.declared.event.Event.TheVariants.{Step}
 use Rattle.scenario.specs.declared.setup.Instruction.{Instruction}
-use Rattle.scenario.specs.declared.setup.Instruction.TheVariants.{Push, Enter}
+use Rattle.scenario.specs.declared.setup.Instruction.TheVariants.{Put, Push, Enter, Close}
 use Rattle.scenario.specs.declared.setup.Setup.{Setup}
 use Rattle.links_drains.specs.Links.{has_flag}
 use Rattle.links_drains.specs.Units.{is_open}
 use Rattle.machine.specs.declared.whole.Machine.{Machine}
 use Rattle.machine.specs.Threads.{ThreadState}
 use Rattle.findings.specs.declared.kind.Kind.{Kind}
-use Rattle.findings.specs.declared.kind.Kind.TheVariants.{Busy, Waits, LostWakeUp, NotTaken, NotReaped, Unfinished, TakenShort, NoSuchSlot}
+use Rattle.findings.specs.declared.kind.Kind.TheVariants.{Busy, Waits, LostWakeUp, NotTaken, NotReaped, Unfinished, TakenShort, NoSuchSlot, RefusedFlags}
 use Rattle.findings.specs.Endings.{is_error, is_less}
+use Rattle.findings.specs.Uses.{is_of_put, is_of_number}
 
 -- ---- rings (io_uring_setup(2), io_uring(7))
 
@@ -64,10 +66,12 @@ is_step_of n e = false
 
 -- Whether an Enter that is to submit a number of entries, and was just answered or waits, is a finding about its thread (io_uring_enter(2)):
 --   Busy: it is answered EBUSY;
---   TakenShort: it took fewer entries than it was to submit.
+--   TakenShort: it took fewer entries than it was to submit, and isn't answered with an error, which tells of itself;
+--   RefusedFlags: it is answered EINVAL, since it has a flag other than IORING_ENTER_GETEVENTS and IORING_ENTER_SQ_WAKEUP.
 abbrev pub is_of_enter : Kind → ℕ → Machine → ℕ → Bool
 is_of_enter Busy to_submit m t = option_map_or (is_error 16) (answer_of m t) false
 is_of_enter TakenShort to_submit m t = option_map_or (λ n. is_less n to_submit) (answer_of m t) false
+is_of_enter RefusedFlags to_submit m t = option_map_or (is_error 22) (answer_of m t) false
 is_of_enter kind to_submit m t = false
 
 -- Whether a Push of an index is a finding (io_uring(7)):
@@ -76,11 +80,21 @@ abbrev pub is_of_push : Kind → ℕ → Machine → Bool
 is_of_push NoSuchSlot index m = is_none (slice_get m.submissions.slots index)
 is_of_push kind index m = false
 
--- whether a step of a thread is a finding about it, by the instruction that it did and the machine behind it
-abbrev pub is_of_step : Kind → Instruction → Machine → ℕ → Bool
-is_of_step kind (Enter to_submit min_complete flags) m t = is_of_enter kind to_submit m t
-is_of_step kind (Push index) m t = is_of_push kind index m
-is_of_step kind x m t = false
+-- whether a Close, just done, closed a descriptor (close(2))
+abbrev pub has_closed : Machine → ℕ → Bool
+has_closed m t = option_map_or (λ n. int_eq n (pos 0)) (answer_of m t) false
+
+-- whether a Close of a descriptor is a finding: one that closed it
+abbrev pub is_of_close : Kind → ℤ → Machine → ℕ → Bool
+is_of_close kind fd m t = has_closed m t && is_of_number kind m fd
+
+-- whether a step of a thread is a finding about it: by the instruction that it did, whether that changed a slot, and the machine behind it
+abbrev pub is_of_step : Kind → Bool → Instruction → Machine → ℕ → Bool
+is_of_step kind changes (Enter to_submit min_complete flags) m t = is_of_enter kind to_submit m t
+is_of_step kind changes (Push index) m t = is_of_push kind index m
+is_of_step kind changes (Put slot entry) m t = is_of_put kind changes slot m
+is_of_step kind changes (Close fd) m t = is_of_close kind fd m t
+is_of_step kind changes x m t = false
 
 -- whether a setup's thread waits in its Enter
 abbrev pub waits : Setup → Machine → ℕ → Bool

@@ -8,11 +8,12 @@ use Rattle.machine.specs.declared.whole.Machine.{Machine}
 use Rattle.machine.specs.Steps.{after}
 use Rattle.machine.specs.Runs.{moment as machine_at}
 use Rattle.findings.specs.declared.kind.Kind.{Kind}
-use Rattle.findings.specs.declared.kind.Kind.TheVariants.{Failed, Short, Severed, Canceled, TimedOut, Expired, NotFound, TooLate, Overflow, Busy, Waits, LostWakeUp, NotTaken, NotReaped, Unfinished, BufferInUse, Unordered, SharedPosition, FsyncEarly, TakenShort, NoSuchSlot, CutOff, WentOn, NoEffect}
+use Rattle.findings.specs.declared.kind.Kind.TheVariants.{Failed, Short, Severed, Canceled, TimedOut, Expired, NotFound, TooLate, Overflow, Busy, Waits, LostWakeUp, NotTaken, NotReaped, Unfinished, BufferInUse, Unordered, SharedPosition, FsyncEarly, TakenShort, NoSuchSlot, CutOff, WentOn, NoEffect, SlotInUse, ClosedEarly, ClosedWhileHeld, RefusedFlags}
 use Rattle.findings.specs.declared.finding.Finding.{Finding}
 use Rattle.findings.specs.Endings.{row_test}
 use Rattle.findings.specs.Conditions.{overflows, done_by, is_of_step, is_step_of, stands, is_left, Began}
 use Rattle.findings.specs.Conflicts.{clashes}
+use Rattle.findings.specs.Uses.{changes_slot}
 
 -- ---- order
 
@@ -42,6 +43,10 @@ number_of NoSuchSlot = 20
 number_of CutOff = 21
 number_of WentOn = 22
 number_of NoEffect = 23
+number_of SlotInUse = 24
+number_of ClosedEarly = 25
+number_of ClosedWhileHeld = 26
+number_of RefusedFlags = 31
 
 -- where a finding stands among all: by its moment, its kind, and the number of what it is about
 abbrev pub rank : Finding → ℕ
@@ -66,7 +71,7 @@ ring_shows kind before behind n = false
 
 -- whether an event is a finding about the thread whose step it is
 abbrev pub step_shows : Setup → Kind → Machine → Event → Machine → ℕ → Bool
-step_shows s kind before e behind t = is_step_of t e && option_map_or (λ x. is_of_step kind x behind t) (done_by s before e) false
+step_shows s kind before e behind t = is_step_of t e && option_map_or (λ x. is_of_step kind (changes_slot before x) x behind t) (done_by s before e) false
 
 abbrev pub shows : Setup → Kind → Machine → Event → Machine → ℕ → Bool
 shows s kind before e behind n = ring_shows kind before behind n || step_shows s kind before e behind n

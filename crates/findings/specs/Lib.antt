@@ -1,4 +1,5 @@
 pub mod Endings
+pub mod Uses
 pub mod Conditions
 pub mod Conflicts
 pub mod Watched

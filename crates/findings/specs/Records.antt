@@ -21,13 +21,14 @@ use Rattle.machine.specs.Whole.{view}
 use Rattle.run_log.specs.declared.fault.LogFault.{LogFault}
 use Rattle.run_log.specs.declared.fault.LogFault.TheVariants.{Script, Trace, Schedule, Write, Memory}
 use Rattle.findings.specs.declared.kind.Kind.{Kind}
-use Rattle.findings.specs.declared.kind.Kind.TheVariants.{Failed, Short, Severed, Canceled, TimedOut, Expired, NotFound, TooLate, Overflow, Busy, Unfinished, BufferInUse, Unordered, SharedPosition, FsyncEarly, TakenShort, NoSuchSlot, CutOff, WentOn, NoEffect}
+use Rattle.findings.specs.declared.kind.Kind.TheVariants.{Failed, Short, Severed, Canceled, TimedOut, Expired, NotFound, TooLate, Overflow, Busy, Unfinished, BufferInUse, Unordered, SharedPosition, FsyncEarly, TakenShort, NoSuchSlot, CutOff, WentOn, NoEffect, SlotInUse, ClosedEarly, ClosedWhileHeld, RefusedFlags}
 use Rattle.findings.specs.declared.deed.Deed.{Deed}
 use Rattle.findings.specs.declared.deed.Deed.TheVariants.{Nothing}
 use Rattle.findings.specs.declared.finding.Finding.{Finding}
 use Rattle.findings.specs.Endings.{row_test}
 use Rattle.findings.specs.Conditions.{overflows, done_by, is_of_step, Began}
 use Rattle.findings.specs.Conflicts.{done_at, is_candidate, conflicts}
+use Rattle.findings.specs.Uses.{changes_at}
 use Rattle.findings.specs.Findings.{rank, occurs_at, stands_at, IsLeft, IsFinding}
 
 -- ---- one record
@@ -73,19 +74,19 @@ of_overflow i before behind = given (not before && behind) (record { moment = i;
 
 -- the kinds that are about steps of threads
 abbrev pub step_kinds : List Kind
-step_kinds = Busy ∷ TakenShort ∷ NoSuchSlot ∷ []
+step_kinds = Busy ∷ TakenShort ∷ NoSuchSlot ∷ SlotInUse ∷ ClosedEarly ∷ ClosedWhileHeld ∷ RefusedFlags ∷ []
 
--- what an instruction that a thread did shows
-abbrev pub of_instruction : ℕ → Instruction → Machine → ℕ → List Kind → List Finding
-of_instruction i x behind t kinds = flat_map (λ (kind : Kind). given (is_of_step kind x behind t) (record { moment = i; kind = kind; subject = t })) kinds
+-- what an instruction that a thread did shows, which changes a slot or doesn't
+abbrev pub of_instruction : ℕ → Bool → Instruction → Machine → ℕ → List Kind → List Finding
+of_instruction i changes x behind t kinds = flat_map (λ (kind : Kind). given (is_of_step kind changes x behind t) (record { moment = i; kind = kind; subject = t })) kinds
 
-abbrev pub of_step : ℕ → Option Instruction → Event → Machine → List Finding
-of_step i (Some x) (Step t) behind = of_instruction i x behind t step_kinds
-of_step i x e behind = []
+abbrev pub of_step : ℕ → Bool → Option Instruction → Event → Machine → List Finding
+of_step i changes (Some x) (Step t) behind = of_instruction i changes x behind t step_kinds
+of_step i changes x e behind = []
 
 -- what an event shows of rings and threads
 abbrev pub of_event : Setup → ℕ → Machine → Event → Machine → List Finding
-of_event s i before e behind = of_overflow i (overflows before) (overflows behind) ++ of_step i (done_by s before e) e behind
+of_event s i before e behind = of_overflow i (overflows before) (overflows behind) ++ of_step i (changes_at before (done_by s before e)) (done_by s before e) e behind
 
 -- ---- requests beside others
 

@@ -2,12 +2,17 @@
 ghost use Rattle.std.specs.Prelude.{◌≡◌};
 ghost use Rattle.std.specs.Option.{option_copied};
 ghost use Rattle.links_drains.specs.Links.{has_flag};
-ghost use Rattle.findings.specs.Conditions.{needs_wake_up, overflows, has_entries, has_completions, counter_of, instruction_at, answer_of, is_of_enter, is_of_push, is_of_step, waits, stands};
+ghost use Rattle.findings.specs.Conditions.{needs_wake_up, overflows, has_entries, has_completions, counter_of, instruction_at, done_by, answer_of, is_of_enter, is_of_push, has_closed, is_of_close, is_of_step, waits, stands};
 ghost use Rattle.findings.specs.Endings.{is_error, is_less};
+ghost use Rattle.findings.specs.Uses.{changes_at};
 
+use crate::files::number_in;
 use crate::kind::Kind;
+use crate::uses::{
+    Sought, changes_at, first_pushed, is_of_number, is_of_put, submission_head, submission_tail,
+};
 use machine::{Event, Instruction, Setup, State};
-use opcodes::EBUSY;
+use opcodes::{EBUSY, EINVAL};
 use places::{Place, Stage, Value};
 
 /// IORING_SQ_NEED_WAKEUP.
@@ -23,16 +28,22 @@ pub(crate) struct Before {
     pub overflows: bool,
     /// Where the thread's program stands whose step the event is.
     pub counter: Option<u64>,
+    /// The event is a Put of other bytes than its slot has.
+    pub changes: bool,
 }
 
 impl Before {
-    pub fn of(state: &State, event: Event) -> Before
+    pub fn of(setup: &Setup, state: &State, event: Event) -> Before
         ensures overflows { result.overflows ≡ overflows state.now }
         ensures counter { result.counter ≡ counter_of state.now event }
+        ensures changes { result.changes ≡ changes_at state.now
+            (done_by setup.now state.now event) }
     {
+        let counter = counter_of(state, event);
         Before {
             overflows: overflows(state),
-            counter: counter_of(state, event),
+            counter,
+            changes: changes_at(state, instruction_at(setup, event, counter)),
         }
     }
 }
@@ -68,13 +79,7 @@ pub(crate) fn overflows(state: &State) -> bool
 fn has_entries(state: &State) -> bool
     ensures { result ≡ has_entries state.now }
 {
-    let Some(Value::Number(head)) = state.value(Place::SubmissionHead) else {
-        unreachable!()
-    };
-    let Some(Value::Number(tail)) = state.value(Place::SubmissionTail) else {
-        unreachable!()
-    };
-    !(head == tail)
+    !(submission_head(state) == submission_tail(state))
 }
 
 fn has_completions(state: &State) -> bool
@@ -132,10 +137,11 @@ fn answer(state: &State, thread: u32) -> Option<i64>
     }
 }
 
-fn is_busy(answer: i64) -> bool
-    ensures { result ≡ is_error 16 answer }
+// Whether an answer is an error.
+fn is_error(errno: u64, answer: i64) -> bool
+    ensures { result ≡ is_error errno answer }
 {
-    answer < 0 && answer.unsigned_abs() == EBUSY as u64
+    answer < 0 && answer.unsigned_abs() == errno
 }
 
 fn is_less(answer: i64, number: u32) -> bool
@@ -152,8 +158,9 @@ fn is_of_enter(kind: Kind, to_submit: u32, state: &State, thread: u32) -> bool
         return false;
     };
     match kind {
-        Kind::Busy => is_busy(answer),
+        Kind::Busy => is_error(EBUSY as u64, answer),
         Kind::TakenShort => is_less(answer, to_submit),
+        Kind::RefusedFlags => is_error(EINVAL as u64, answer),
         _ => false,
     }
 }
@@ -167,13 +174,51 @@ fn is_of_push(kind: Kind, index: u32, state: &State) -> bool
     }
 }
 
-/// Whether a step of a thread is a finding about it, by the instruction that it did.
-pub(crate) fn is_of_step(kind: Kind, instruction: &Instruction, state: &State, thread: u32) -> bool
-    ensures { result ≡ is_of_step kind instruction.now state.now thread }
+// Whether a Close, just done, closed a descriptor.
+fn has_closed(state: &State, thread: u32) -> bool
+    ensures { result ≡ has_closed state.now thread }
+{
+    match answer(state, thread) {
+        Some(answer) => answer == 0,
+        None => false,
+    }
+}
+
+fn is_of_close(kind: Kind, fd: i32, state: &State, thread: u32) -> bool
+    ensures { result ≡ is_of_close kind fd state.now thread }
+{
+    has_closed(state, thread) && is_of_number(kind, state, fd)
+}
+
+/// The first slot whose entry, pushed and not yet taken, was to use a descriptor that an event closed.
+pub(crate) fn slot_met(setup: &Setup, state: &State, event: Event, before: Before) -> Option<u32> {
+    let Event::Step(thread) = event else {
+        return None;
+    };
+    match instruction_at(setup, event, before.counter) {
+        Some(Instruction::Close(fd)) if has_closed(state, thread) => {
+            first_pushed(state, Sought::Naming(number_in(*fd)?))
+        }
+        _ => None,
+    }
+}
+
+/// Whether a step of a thread is a finding about it: by the instruction that it did, whether that
+/// changed a slot, and the state behind it.
+pub(crate) fn is_of_step(
+    kind: Kind,
+    changes: bool,
+    instruction: &Instruction,
+    state: &State,
+    thread: u32,
+) -> bool
+    ensures { result ≡ is_of_step kind changes instruction.now state.now thread }
 {
     match instruction {
         Instruction::Enter { to_submit, .. } => is_of_enter(kind, *to_submit, state, thread),
         Instruction::Push(index) => is_of_push(kind, *index, state),
+        Instruction::Put(slot, _) => is_of_put(kind, changes, *slot, state),
+        Instruction::Close(fd) => is_of_close(kind, *fd, state, thread),
         _ => false,
     }
 }

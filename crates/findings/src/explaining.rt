@@ -190,6 +190,7 @@ fn tell_found<W: Write>(
         events,
         times: &history.rows,
         counters: &history.counters,
+        slots: &history.slots,
         found,
     };
     tell(alloc, &run, asked, writer)

@@ -10,7 +10,8 @@ use places::{Contents, Descriptor};
 /// The number of the first descriptor.
 const FIRST: u32 = 3;
 
-fn number_in(fd: i32) -> Option<u32>
+/// The number that an entry has as its descriptor, if it is one.
+pub(crate) fn number_in(fd: i32) -> Option<u32>
     ensures { result ≡ number_in fd }
 {
     if fd < 0 {

@@ -55,10 +55,18 @@ pub enum Kind {
     WentOn = 22,
     /// A field of an entry has no effect.
     NoEffect = 23,
+    /// A Put changed an entry that was pushed and not yet taken.
+    SlotInUse = 24,
+    /// A Close closed a descriptor that a request was still to use.
+    ClosedEarly = 25,
+    /// A Close closed a descriptor that an issued request holds.
+    ClosedWhileHeld = 26,
+    /// An Enter was answered EINVAL.
+    RefusedFlags = 31,
 }
 
 /// All kinds.
-const KINDS: [Kind; 24] = [
+const KINDS: [Kind; 28] = [
     Kind::Failed,
     Kind::Short,
     Kind::Severed,
@@ -83,6 +91,10 @@ const KINDS: [Kind; 24] = [
     Kind::CutOff,
     Kind::WentOn,
     Kind::NoEffect,
+    Kind::SlotInUse,
+    Kind::ClosedEarly,
+    Kind::ClosedWhileHeld,
+    Kind::RefusedFlags,
 ];
 
 impl Kind {
@@ -123,6 +135,10 @@ impl Kind {
             Kind::CutOff => "cut-off",
             Kind::WentOn => "went-on",
             Kind::NoEffect => "no-effect",
+            Kind::SlotInUse => "slot-in-use",
+            Kind::ClosedEarly => "closed-early",
+            Kind::ClosedWhileHeld => "closed-while-held",
+            Kind::RefusedFlags => "refused-flags",
         }
     }
 
@@ -138,6 +154,7 @@ impl Kind {
                 | Kind::FsyncEarly
                 | Kind::WentOn
                 | Kind::NoEffect
+                | Kind::ClosedWhileHeld
         )
     }
 
@@ -145,7 +162,14 @@ impl Kind {
     pub(crate) fn is_of_thread(self) -> bool {
         matches!(
             self,
-            Kind::Busy | Kind::Waits | Kind::TakenShort | Kind::NoSuchSlot
+            Kind::Busy
+                | Kind::Waits
+                | Kind::TakenShort
+                | Kind::NoSuchSlot
+                | Kind::SlotInUse
+                | Kind::ClosedEarly
+                | Kind::ClosedWhileHeld
+                | Kind::RefusedFlags
         )
     }
 

@@ -22,6 +22,7 @@ mod searching;
 mod sentences;
 mod telling;
 mod times;
+mod uses;
 mod watching;
 
 pub use explaining::{Asked, explain_run};

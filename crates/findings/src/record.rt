@@ -34,7 +34,15 @@ const ROW_KINDS: [Kind; 11] = [
 ];
 
 /// The kinds that are about steps of threads.
-const STEP_KINDS: [Kind; 3] = [Kind::Busy, Kind::TakenShort, Kind::NoSuchSlot];
+const STEP_KINDS: [Kind; 7] = [
+    Kind::Busy,
+    Kind::TakenShort,
+    Kind::NoSuchSlot,
+    Kind::SlotInUse,
+    Kind::ClosedEarly,
+    Kind::ClosedWhileHeld,
+    Kind::RefusedFlags,
+];
 
 /// The kinds that are about a READ or a WRITE which hasn't ended, beside what an event does.
 const CONFLICT_KINDS: [Kind; 4] = [
@@ -128,13 +136,14 @@ fn add_overflow(
 fn add_of_instruction(
     found: &mut Vec<Finding>,
     moment: u32,
+    changes: bool,
     instruction: &Instruction,
     state: &State,
     thread: u32,
     kinds: &[Kind],
 ) -> Result<(), AllocError>
     ensures { OnOk result (found.new.items ≡
-        found.old.items ++ of_instruction moment instruction.now state.now thread kinds.now) }
+        found.old.items ++ of_instruction moment changes instruction.now state.now thread kinds.now) }
 {
     for kind in kinds {
         let finding = Finding {
@@ -144,7 +153,7 @@ fn add_of_instruction(
         };
         add_if(
             found,
-            is_of_step(*kind, instruction, state, thread),
+            is_of_step(*kind, changes, instruction, state, thread),
             finding,
         )?;
     }
@@ -155,16 +164,25 @@ fn add_of_instruction(
 fn add_of_step(
     found: &mut Vec<Finding>,
     moment: u32,
+    changes: bool,
     instruction: Option<&Instruction>,
     event: Event,
     state: &State,
 ) -> Result<(), AllocError>
     ensures { OnOk result (found.new.items ≡
-        found.old.items ++ of_step moment (option_copied instruction.entry) event state.now) }
+        found.old.items ++ of_step moment changes (option_copied instruction.entry) event state.now) }
 {
     match (instruction, event) {
         (Some(instruction), Event::Step(thread)) => {
-            add_of_instruction(found, moment, instruction, state, thread, &STEP_KINDS)
+            add_of_instruction(
+                found,
+                moment,
+                changes,
+                instruction,
+                state,
+                thread,
+                &STEP_KINDS,
+            )
         }
         _ => Ok(()),
     }
@@ -181,11 +199,12 @@ pub(crate) fn add_of_event(
 ) -> Result<(), AllocError>
     ensures { OnOk result (found.new.items ≡ found.old.items ++
         (of_overflow moment before.overflows (overflows state.now)
-        ++ of_step moment (instruction_at setup.now event before.counter) event state.now)) }
+        ++ of_step moment before.changes (instruction_at setup.now event before.counter) event
+        state.now)) }
 {
     add_overflow(found, moment, before.overflows, overflows(state))?;
     let instruction = instruction_at(setup, event, before.counter);
-    add_of_step(found, moment, instruction, event, state)
+    add_of_step(found, moment, before.changes, instruction, event, state)
 }
 
 // Adds what a deed shows beside a READ or a WRITE.

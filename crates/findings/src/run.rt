@@ -4,7 +4,7 @@ use crate::conditions::instruction_at;
 use crate::finding::Finding;
 use crate::kind::Kind;
 use crate::names::RowName;
-use crate::times::Times;
+use crate::times::{Met, Times};
 use entries::{Phase, Row};
 use machine::{Event, Instruction, Setup, State};
 use places::{Place, Value};
@@ -20,6 +20,7 @@ pub(crate) struct Run<'a> {
     pub times: &'a [Times],
     /// Of each event, where the program of the thread stood that did it.
     pub counters: &'a [Option<u32>],
+    pub slots: &'a [Met],
     pub found: &'a [Finding],
 }
 
@@ -62,6 +63,16 @@ impl Run<'_> {
     pub fn instruction(&self, moment: u32) -> Option<&Instruction> {
         let counter = self.counter(moment)?;
         instruction_at(self.setup, self.event(moment)?, Some(u64::from(counter)))
+    }
+
+    /// The first slot whose entry was still to use a descriptor that the event at a moment closed.
+    pub fn slot(&self, moment: u32) -> Option<u32> {
+        for met in self.slots {
+            if met.moment == moment {
+                return Some(met.slot);
+            }
+        }
+        None
     }
 
     /// Whether a row ended by the event at a moment.

@@ -13,13 +13,13 @@ ghost use Rattle.findings.specs.Records.{of_change, of_overflow, of_step, of_dee
 ghost use Rattle.findings.specs.Watched.{advanced, watched, of_lasting};
 
 use crate::changes::look_at_record;
-use crate::conditions::Before;
+use crate::conditions::{Before, slot_met};
 use crate::deed::done_as;
 use crate::finding::Finding;
 use crate::leftover::add_all_left;
 use crate::ordering::in_order;
 use crate::record::{add_of_deed, add_of_event};
-use crate::times::{History, note_counter};
+use crate::times::{History, note_counter, note_slot};
 use crate::watching::{Watch, add_all_lasting, advance, watches_of};
 use machine::{Event, Refusal, Setup, State};
 use places::Record;
@@ -70,7 +70,8 @@ fn look(
     ensures added { OnOk result (found.new.items
         ≡ ((found.old.items ++ flat_map (of_change moment (view state.now)) past.now)
         ++ (of_overflow moment before.overflows (overflows state.now)
-        ++ of_step moment (instruction_at setup.now event before.counter) event state.now))
+        ++ of_step moment before.changes (instruction_at setup.now event before.counter) event
+        state.now))
         ++ of_deed moment setup.now state.now.table
         (done_as event
         (instruction_at setup.now event before.counter) state.now) numbers.new.items) }
@@ -79,6 +80,8 @@ fn look(
         ≡ after_notes (view state.now) numbers.old.items past.now) }
 {
     note_counter(&mut history.counters, before.counter)?;
+    let slot = slot_met(setup, state, event, before);
+    note_slot(&mut history.slots, moment, slot)?;
     look_at_record(found, numbers, &mut history.rows, moment, past, state)?;
     add_of_event(found, setup, moment, before, event, state)?;
     look_beside(setup, state, moment, event, before, found, numbers)
@@ -99,7 +102,7 @@ fn find_at(
         found.old.items found.new.items numbers.old.items numbers.new.items) }
     ensures err { IfErr result (HaltsAt moment state.old event) }
 {
-    let before = Before::of(state, event);
+    let before = Before::of(setup, state, event);
     let past = match state.step(event) {
         Ok(past) => past,
         Err(refusal) => return Err(fault_by(moment, refusal)),

@@ -5,7 +5,9 @@ mod chains;
 mod conflicts;
 mod errors;
 mod left;
+mod listing;
 mod rings;
+mod uses;
 
 use crate::finding::Finding;
 use crate::kind::Kind;
@@ -139,6 +141,12 @@ pub(crate) fn sentence(alloc: Global, run: &Run<'_>, index: usize) -> Result<Str
         Kind::Busy => rings::busy(alloc, finding.subject),
         Kind::TakenShort => rings::taken_short(alloc, run, finding.subject, finding.moment),
         Kind::NoSuchSlot => rings::no_such_slot(alloc, run, finding.subject, finding.moment),
+        Kind::SlotInUse => uses::slot_in_use(alloc, run, finding.subject, finding.moment),
+        Kind::ClosedEarly => uses::closed_early(alloc, run, finding.subject, finding.moment),
+        Kind::ClosedWhileHeld => {
+            uses::closed_while_held(alloc, run, finding.subject, finding.moment)
+        }
+        Kind::RefusedFlags => rings::refused_flags(alloc, run, finding.subject, finding.moment),
         Kind::Waits => rings::waits(alloc, run, finding.subject),
         Kind::LostWakeUp => rings::lost_wake_up(alloc, run),
         Kind::NotTaken => rings::not_taken(alloc, run),

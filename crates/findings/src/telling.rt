@@ -65,6 +65,7 @@ pub fn told_of(alloc: Global, setup: &Setup, events: &[Event]) -> Result<Vec<Tol
         events,
         times: &history.rows,
         counters: &history.counters,
+        slots: &history.slots,
         found: &found,
     };
     match all_told(alloc, &run, &found) {

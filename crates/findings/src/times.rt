@@ -29,6 +29,11 @@ impl Times {
         }
     }
 
+    /// Whether it had come, and neither been issued nor ended, before that.
+    pub fn is_queued_at(&self, moment: u32) -> bool {
+        self.came < moment && !self.is_issued_at(moment) && !self.has_ended_at(moment)
+    }
+
     fn note(&mut self, moment: u32, phase: Phase) {
         match phase {
             Phase::Queued => {}
@@ -38,6 +43,14 @@ impl Times {
     }
 }
 
+/// A slot whose entry, pushed and not yet taken, was to use a descriptor that the event at a moment
+/// closed.
+#[derive(Clone, Copy, Debug)]
+pub(crate) struct Met {
+    pub moment: u32,
+    pub slot: u32,
+}
+
 /// What sentences look back at.
 pub(crate) struct History {
     /// Of each row.
@@ -45,6 +58,7 @@ pub(crate) struct History {
     /// Of each event the place in its program of the instruction that a thread did by it, if one
     /// did.
     pub counters: Vec<Option<u32>>,
+    pub slots: Vec<Met>,
 }
 
 impl Drop for History {
@@ -52,6 +66,7 @@ impl Drop for History {
         let History {
             rows: _,
             counters: _,
+            slots: _,
         } = self;
     }
 }
@@ -61,6 +76,7 @@ impl History {
         History {
             rows: Vec::new(alloc),
             counters: Vec::new(alloc),
+            slots: Vec::new(alloc),
         }
     }
 }
@@ -95,5 +111,17 @@ pub(crate) fn note_counter(
         None => None,
     };
     counters.push(place)?;
+    Ok(())
+}
+
+/// Notes which slot an event met, if it did one.
+pub(crate) fn note_slot(
+    slots: &mut Vec<Met>,
+    moment: u32,
+    slot: Option<u32>,
+) -> Result<(), AllocError> {
+    if let Some(slot) = slot {
+        slots.push(Met { moment, slot })?;
+    }
     Ok(())
 }

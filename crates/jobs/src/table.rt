@@ -127,6 +127,10 @@ pub const KINDS: &[&str] = &[
     "cut-off",
     "went-on",
     "no-effect",
+    "slot-in-use",
+    "closed-early",
+    "closed-while-held",
+    "refused-flags",
 ];
 
 /// The forms of a trace.

@@ -189,6 +189,7 @@ pub fn why_unfinished(
         events: &[],
         times: &[],
         counters: &[],
+        slots: &[],
         found: &[],
     };
     match run.row(number) {

@@ -57,6 +57,27 @@ pub(crate) fn busy(alloc: Global, thread: u32) -> Result<String, AllocError> {
     )
 }
 
+/// The flags that an Enter may have: IORING_ENTER_GETEVENTS and IORING_ENTER_SQ_WAKEUP.
+const ENTER_FLAGS: u32 = 3;
+
+/// An Enter that was answered EINVAL.
+pub(crate) fn refused_flags(
+    alloc: Global,
+    run: &Run<'_>,
+    thread: u32,
+    moment: u32,
+) -> Result<String, AllocError> {
+    let flags = match run.instruction(moment) {
+        Some(Instruction::Enter { flags, .. }) => *flags,
+        _ => 0,
+    };
+    let counter = run.counter(moment).unwrap_or(0);
+    let others = flags & !ENTER_FLAGS;
+    format!(in alloc;
+        "The enter of thread {thread}, instruction {counter}, was answered -22 (EINVAL), and did nothing: its flags {flags} have {others}, which is neither IORING_ENTER_GETEVENTS (1) nor IORING_ENTER_SQ_WAKEUP (2), and no other flag is modelled here (io_uring_enter(2))."
+    )
+}
+
 // How many rows came by the event at a moment, and whether one of them failed by it.
 fn came_at(run: &Run<'_>, moment: u32) -> (usize, bool) {
     let came = run

@@ -1,0 +1,229 @@
+//! What is still to use a slot, or a descriptor.
+ghost use Rattle.std.specs.Prelude.{◌≡◌, ◌<◌, ◌^◌, false, is_some, length, slice_get};
+ghost use Rattle.std.specs.Option.{option_copied, option_map_or};
+ghost use Rattle.std.specs.List.{list_any};
+ghost use Rattle.ring_words.specs.Rings.{waiting};
+ghost use Rattle.links_drains.specs.Holding.{is_number};
+ghost use Rattle.findings.specs.Uses.{changes_slot, changes_at, names_descriptor, is_sought, is_pushed, is_of_put, is_met, is_of_closed, is_of_number};
+
+use crate::files::number_in;
+use crate::kind::Kind;
+use crate::leftover::{MOST_ROWS, row_at};
+use entries::{Phase, Row, Sqe};
+use links_drains::is_issued;
+use machine::{Instruction, State};
+use opcodes::uses_descriptor;
+use places::value::is_same;
+use places::{Place, Value};
+
+/// The sizes of rings.
+const SIZES: [u32; 14] = [
+    1, 2, 4, 8, 16, 32, 64, 128, 256, 512, 1024, 2048, 4096, 8192,
+];
+
+/// Ring words are free-running, of 32 bits.
+const WORDS: u64 = 4294967296;
+
+/// What is looked for among the words that wait in the submission ring.
+#[derive(Clone, Copy, Debug)]
+pub enum Sought {
+    /// The word of this slot.
+    Named(u32),
+    /// The word of a slot whose entry uses this descriptor.
+    Naming(u32),
+}
+
+// ---- slots
+
+// Whether a slot has another entry.
+fn differs(state: &State, slot: u32, entry: Sqe) -> bool
+    ensures { result ≡ changes_slot state.now (Instruction.Put slot entry) }
+{
+    !is_same(state.value(Place::Slot(slot)), Some(Value::Entry(entry)))
+}
+
+/// Whether an instruction is a Put of other bytes than its slot has.
+pub(crate) fn changes_at(state: &State, instruction: Option<&Instruction>) -> bool
+    ensures { result ≡ changes_at state.now (option_copied instruction.entry) }
+{
+    match instruction {
+        Some(Instruction::Put(slot, entry)) => differs(state, *slot, *entry),
+        _ => false,
+    }
+}
+
+// ---- words that wait
+
+/// The head of the submission ring.
+pub(crate) fn submission_head(state: &State) -> u64
+    ensures value { result ≡ state.now.submissions.head }
+    ensures within { result < 2 ^ 32 }
+{
+    let Some(Value::Number(head)) = state.value(Place::SubmissionHead) else {
+        unreachable!()
+    };
+    head
+}
+
+/// Its tail.
+pub(crate) fn submission_tail(state: &State) -> u64
+    ensures value { result ≡ state.now.submissions.tail }
+    ensures within { result < 2 ^ 32 }
+{
+    let Some(Value::Number(tail)) = state.value(Place::SubmissionTail) else {
+        unreachable!()
+    };
+    tail
+}
+
+// How many words wait.
+fn waiting_count(state: &State) -> u64
+    ensures value { result ≡ waiting state.now.submissions.head state.now.submissions.tail }
+    ensures within { result < 2 ^ 32 }
+{
+    (submission_tail(state) + (WORDS - submission_head(state))) % WORDS
+}
+
+// A word of the ring.
+fn word_at(state: &State, index: u32) -> Option<u32>
+    ensures { result ≡ slice_get state.now.submissions.array index }
+{
+    match state.value(Place::Array(index)) {
+        Some(Value::Number(word)) => Some(word as u32),
+        _ => None,
+    }
+}
+
+// How many words the ring has.
+fn array_size(state: &State) -> u32
+    ensures value { result ≡ length state.now.submissions.array }
+    ensures some { 0 < result }
+{
+    let _head = state.value(Place::SubmissionHead);
+    for size in &SIZES {
+        match word_at(state, *size) {
+            Some(_) => {}
+            None => return *size,
+        }
+    }
+    unreachable!()
+}
+
+// ---- descriptors
+
+fn is_number(number: Option<u32>, fd: u32) -> bool
+    ensures { result ≡ is_number number fd }
+{
+    match number {
+        Some(other) => other == fd,
+        None => false,
+    }
+}
+
+fn names_descriptor(fd: u32, entry: &Sqe) -> bool
+    ensures { result ≡ names_descriptor fd entry.now }
+{
+    uses_descriptor(entry.opcode) && is_number(number_in(entry.fd), fd)
+}
+
+// ---- looking for one
+
+fn slot_names(state: &State, fd: u32, slot: u32) -> bool
+    ensures { result ≡ option_map_or (names_descriptor fd)
+        (slice_get state.now.submissions.slots slot) false }
+{
+    match state.value(Place::Slot(slot)) {
+        Some(Value::Entry(entry)) => names_descriptor(fd, &entry),
+        _ => false,
+    }
+}
+
+fn is_sought(state: &State, sought: Sought, word: Option<u32>) -> bool
+    ensures { result ≡ option_map_or (is_sought state.now.submissions.slots sought) word false }
+{
+    match (sought, word) {
+        (Sought::Named(slot), Some(word)) => word == slot,
+        (Sought::Naming(fd), Some(word)) => slot_names(state, fd, word),
+        _ => false,
+    }
+}
+
+/// The first of the words that wait which is sought.
+pub(crate) fn first_pushed(state: &State, sought: Sought) -> Option<u32>
+    ensures { is_some result ≡ is_pushed state.now.submissions sought }
+{
+    let head = submission_head(state);
+    let size = u64::from(array_size(state));
+    for place in 0..waiting_count(state) {
+        let word = word_at(state, ((head + place) % size) as u32);
+        if is_sought(state, sought, word) {
+            return word;
+        }
+    }
+    None
+}
+
+// Whether a row is one that a Close of a descriptor is a finding of.
+fn is_met(kind: Kind, fd: u32, row: &Row) -> bool
+    ensures { result ≡ is_met kind fd row.now }
+{
+    match kind {
+        Kind::ClosedEarly => {
+            matches!(row.phase, Phase::Queued) && names_descriptor(fd, &row.entry)
+        }
+        Kind::ClosedWhileHeld => is_issued(row) && is_number(row.held, fd),
+        _ => false,
+    }
+}
+
+// Whether some row is. A descriptor closes once, so that a run goes over its rows some 64 times.
+fn meets(state: &State, kind: Kind, fd: u32) -> bool
+    ensures { result ≡ list_any (is_met kind fd) state.now.table }
+{
+    let _first = row_at(state, 0);
+    for number in 0..MOST_ROWS {
+        match row_at(state, number) {
+            Some(row) => {
+                if is_met(kind, fd, &row) {
+                    return true;
+                }
+            }
+            None => return false,
+        }
+    }
+    false
+}
+
+// ---- kinds
+
+/// Whether a Put into a slot, that changes it or doesn't, is a finding.
+pub(crate) fn is_of_put(kind: Kind, changes: bool, slot: u32, state: &State) -> bool
+    ensures { result ≡ is_of_put kind changes slot state.now }
+{
+    match kind {
+        Kind::SlotInUse => changes && first_pushed(state, Sought::Named(slot)).is_some(),
+        _ => false,
+    }
+}
+
+fn is_of_closed(kind: Kind, state: &State, fd: u32) -> bool
+    ensures { result ≡ is_of_closed kind state.now fd }
+{
+    match kind {
+        Kind::ClosedEarly => {
+            meets(state, Kind::ClosedEarly, fd) || first_pushed(state, Sought::Naming(fd)).is_some()
+        }
+        Kind::ClosedWhileHeld => meets(state, Kind::ClosedWhileHeld, fd),
+        _ => false,
+    }
+}
+
+/// Whether the Close of an open descriptor is a finding.
+pub(crate) fn is_of_number(kind: Kind, state: &State, fd: i32) -> bool
+    ensures { result ≡ is_of_number kind state.now fd }
+{
+    match number_in(fd) {
+        Some(number) => is_of_closed(kind, state, number),
+        None => false,
+    }
+}
