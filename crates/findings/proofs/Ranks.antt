@@ -3,7 +3,7 @@ use Rattle.std.proofs.Common.{◌≡◌, ℕ, ◌+◌, ◌*◌, ◌<◌, lit<, r
 use Rattle.std.specs.Prelude.{◌==◌, if◌then◌else◌}
 use Rattle.findings.specs.declared.finding.Finding.{Finding}
 use Rattle.findings.specs.declared.kind.Kind.{Kind}
-use Rattle.findings.specs.declared.kind.Kind.TheVariants.{Failed, Short, Severed, Canceled, TimedOut, Expired, NotFound, TooLate, Overflow, Busy, Waits, LostWakeUp, NotTaken, NotReaped, Unfinished, BufferInUse, Unordered, SharedPosition, FsyncEarly, TakenShort, NoSuchSlot, CutOff, WentOn, NoEffect}
+use Rattle.findings.specs.declared.kind.Kind.TheVariants.{Failed, Short, Severed, Canceled, TimedOut, Expired, NotFound, TooLate, Overflow, Busy, Waits, LostWakeUp, NotTaken, NotReaped, Unfinished, BufferInUse, Unordered, SharedPosition, FsyncEarly, TakenShort, NoSuchSlot, CutOff, WentOn, NoEffect, Several, LeftRunning, SameUserData, NotDurable}
 use Rattle.findings.specs.Findings.{number_of, rank}
 use Rattle.findings.specs.Records.{IsSmall}
 
@@ -32,6 +32,10 @@ number_small NoSuchSlot = lit< tt
 number_small CutOff = lit< tt
 number_small WentOn = lit< tt
 number_small NoEffect = lit< tt
+number_small Several = lit< tt
+number_small LeftRunning = lit< tt
+number_small SameUserData = lit< tt
+number_small NotDurable = lit< tt
 
 kind_of : ℕ → Kind
 kind_of n =
@@ -58,7 +62,11 @@ kind_of n =
     else if n == 20 then NoSuchSlot
     else if n == 21 then CutOff
     else if n == 22 then WentOn
-    else NoEffect
+    else if n == 23 then NoEffect
+    else if n == 27 then Several
+    else if n == 28 then LeftRunning
+    else if n == 29 then SameUserData
+    else NotDurable
 
 kind_back : (kind : Kind) → kind_of (number_of kind) ≡ kind
 unfolding kind_of
@@ -86,6 +94,10 @@ kind_back NoSuchSlot = refl
 kind_back CutOff = refl
 kind_back WentOn = refl
 kind_back NoEffect = refl
+kind_back Several = refl
+kind_back LeftRunning = refl
+kind_back SameUserData = refl
+kind_back NotDurable = refl
 
 same_kind : (a b : Kind) → number_of a ≡ number_of b → a ≡ b
 same_kind a b e = sym (kind_back a) ∙ ap kind_of e ∙ kind_back b

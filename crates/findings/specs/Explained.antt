@@ -7,7 +7,7 @@ use Rattle.script.specs.Scripts.{Scenario, Reads}
 use Rattle.traces.specs.Setups.{IsTrace2}
 use Rattle.findings.specs.declared.finding.Finding.{Finding}
 use Rattle.findings.specs.declared.kind.Kind.{Kind}
-use Rattle.findings.specs.declared.kind.Kind.TheVariants.{Failed, Short, Severed, Canceled, TimedOut, Expired, NotFound, TooLate, Overflow, Busy, Waits, LostWakeUp, NotTaken, NotReaped, Unfinished, BufferInUse, Unordered, SharedPosition, FsyncEarly, TakenShort, NoSuchSlot, CutOff, WentOn, NoEffect}
+use Rattle.findings.specs.declared.kind.Kind.TheVariants.{Failed, Short, Severed, Canceled, TimedOut, Expired, NotFound, TooLate, Overflow, Busy, Waits, LostWakeUp, NotTaken, NotReaped, Unfinished, BufferInUse, Unordered, SharedPosition, FsyncEarly, TakenShort, NoSuchSlot, CutOff, WentOn, NoEffect, Several, LeftRunning, SameUserData, NotDurable}
 use Rattle.findings.specs.Findings.{number_of, IsToldOf}
 
 -- whether a kind is a fault, and no note
@@ -36,6 +36,10 @@ is_fault NoSuchSlot = true
 is_fault CutOff = true
 is_fault WentOn = false
 is_fault NoEffect = false
+is_fault Several = false
+is_fault LeftRunning = false
+is_fault SameUserData = false
+is_fault NotDurable = false
 
 -- whether a kind is asked for: one alone, or each
 abbrev pub is_asked : Option Kind → Kind → Bool

@@ -1,6 +1,7 @@
 pub mod Endings
 pub mod Conditions
 pub mod Conflicts
+pub mod Canceling
 pub mod Watched
 pub mod Findings
 pub mod Records

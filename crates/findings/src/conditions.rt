@@ -3,8 +3,10 @@ ghost use Rattle.std.specs.Prelude.{◌≡◌};
 ghost use Rattle.std.specs.Option.{option_copied};
 ghost use Rattle.links_drains.specs.Links.{has_flag};
 ghost use Rattle.findings.specs.Conditions.{needs_wake_up, overflows, has_entries, has_completions, counter_of, instruction_at, answer_of, is_of_enter, is_of_push, is_of_step, waits, stands};
+ghost use Rattle.findings.specs.Canceling.{cancel_before};
 ghost use Rattle.findings.specs.Endings.{is_error, is_less};
 
+use crate::canceling::{Cancel, cancel_before};
 use crate::kind::Kind;
 use machine::{Event, Instruction, Setup, State};
 use opcodes::EBUSY;
@@ -16,23 +18,27 @@ const NEED_WAKEUP: u64 = 1;
 /// IORING_SQ_CQ_OVERFLOW.
 const CQ_OVERFLOW: u64 = 2;
 
-/// What is to be known of the rings and the threads before an event.
+/// What is to be known of the rings, the threads and a cancel before an event.
 #[derive(Clone, Copy)]
 pub(crate) struct Before {
     /// Completions are kept.
     pub overflows: bool,
     /// Where the thread's program stands whose step the event is.
     pub counter: Option<u64>,
+    /// The cancel or the removal that the event is to end.
+    pub cancel: Option<Cancel>,
 }
 
 impl Before {
     pub fn of(state: &State, event: Event) -> Before
         ensures overflows { result.overflows ≡ overflows state.now }
         ensures counter { result.counter ≡ counter_of state.now event }
+        ensures cancel { result.cancel ≡ cancel_before state.now event }
     {
         Before {
             overflows: overflows(state),
             counter: counter_of(state, event),
+            cancel: cancel_before(state, event),
         }
     }
 }

@@ -55,10 +55,18 @@ pub enum Kind {
     WentOn = 22,
     /// A field of an entry has no effect.
     NoEffect = 23,
+    /// A cancel or a removal of one request matched more than one.
+    Several = 27,
+    /// A cancel of all left requests that were running.
+    LeftRunning = 28,
+    /// A request came with the user_data of an earlier one that hadn't ended.
+    SameUserData = 29,
+    /// At the end the device hasn't a file as it is.
+    NotDurable = 30,
 }
 
 /// All kinds.
-const KINDS: [Kind; 24] = [
+const KINDS: [Kind; 28] = [
     Kind::Failed,
     Kind::Short,
     Kind::Severed,
@@ -83,6 +91,10 @@ const KINDS: [Kind; 24] = [
     Kind::CutOff,
     Kind::WentOn,
     Kind::NoEffect,
+    Kind::Several,
+    Kind::LeftRunning,
+    Kind::SameUserData,
+    Kind::NotDurable,
 ];
 
 impl Kind {
@@ -123,6 +135,10 @@ impl Kind {
             Kind::CutOff => "cut-off",
             Kind::WentOn => "went-on",
             Kind::NoEffect => "no-effect",
+            Kind::Several => "several",
+            Kind::LeftRunning => "left-running",
+            Kind::SameUserData => "same-user-data",
+            Kind::NotDurable => "not-durable",
         }
     }
 
@@ -138,6 +154,10 @@ impl Kind {
                 | Kind::FsyncEarly
                 | Kind::WentOn
                 | Kind::NoEffect
+                | Kind::Several
+                | Kind::LeftRunning
+                | Kind::SameUserData
+                | Kind::NotDurable
         )
     }
 
@@ -154,7 +174,11 @@ impl Kind {
         !self.is_of_thread()
             && !matches!(
                 self,
-                Kind::Overflow | Kind::LostWakeUp | Kind::NotTaken | Kind::NotReaped
+                Kind::Overflow
+                    | Kind::LostWakeUp
+                    | Kind::NotTaken
+                    | Kind::NotReaped
+                    | Kind::NotDurable
             )
     }
 

@@ -2,6 +2,7 @@
 
 use entries::Row;
 use opcodes::Op;
+use std::alloc::{AllocError, Global};
 use std::fmt;
 
 /// The name of an opcode (io_uring_enter(2)).
@@ -61,6 +62,56 @@ impl fmt::Display for RowName {
         } = self;
         let operation = OpcodeName(*opcode);
         write!(f, "{number} ({operation}, user_data {user_data})")
+    }
+}
+
+/// How many rows of a list are named one by one.
+const NAMED: u32 = 8;
+
+/// The names of several rows, the first of them and how many there were.
+pub(crate) struct NameList {
+    text: String,
+    count: u32,
+}
+
+impl Drop for NameList {
+    fn drop(self) {
+        let NameList { text: _, count: _ } = self;
+    }
+}
+
+impl NameList {
+    pub fn new(alloc: Global) -> NameList {
+        NameList {
+            text: String::new(alloc),
+            count: 0,
+        }
+    }
+
+    /// Adds a row's name, if there is one, behind a comma where another stands before it.
+    pub fn add(&mut self, alloc: Global, name: Option<RowName>) -> Result<(), AllocError> {
+        self.count = self.count.saturating_add(1);
+        let Some(name) = name else {
+            return Ok(());
+        };
+        if self.count > NAMED {
+            return Ok(());
+        }
+        if !self.text.is_empty() {
+            self.text.push_str(", ")?;
+        }
+        self.text
+            .push_str(format!(in alloc; "row {name}")?.as_str())
+    }
+
+    /// What is told of them; nothing where there was none.
+    pub fn told(&self, alloc: Global) -> Result<String, AllocError> {
+        let text = self.text.as_str();
+        if self.count <= NAMED {
+            return String::from_str(alloc, text);
+        }
+        let more = self.count - NAMED;
+        format!(in alloc; "{text} and {more} more")
     }
 }
 

@@ -3,8 +3,10 @@
 mod cancels;
 mod chains;
 mod conflicts;
+mod durable;
 mod errors;
 mod left;
+mod matches;
 mod rings;
 
 use crate::finding::Finding;
@@ -90,6 +92,9 @@ fn row_sentence(
         Kind::CutOff => chains::cut_off(alloc, run, about),
         Kind::WentOn => chains::went_on(alloc, run, about),
         Kind::NoEffect => errors::no_effect(alloc, about),
+        Kind::Several => matches::several(alloc, run, about),
+        Kind::LeftRunning => matches::left_running(alloc, run, about),
+        Kind::SameUserData => matches::same_user_data(alloc, run, about),
         _ => beside_sentence(alloc, run, kind, about),
     }
 }
@@ -144,6 +149,7 @@ pub(crate) fn sentence(alloc: Global, run: &Run<'_>, index: usize) -> Result<Str
         Kind::NotTaken => rings::not_taken(alloc, run),
         Kind::NotReaped => rings::not_reaped(alloc, run),
         Kind::Unfinished => left::unfinished(alloc, run, finding.subject),
+        Kind::NotDurable => durable::not_durable(alloc, run, finding.subject),
         _ => sentence_of_row(alloc, run, *finding, index),
     }
 }

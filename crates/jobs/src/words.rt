@@ -53,6 +53,10 @@ const KINDS: &[&str] = &[
     "cut-off",
     "went-on",
     "no-effect",
+    "several",
+    "left-running",
+    "same-user-data",
+    "not-durable",
 ];
 
 const DRAWN: &str =

@@ -2,7 +2,7 @@
 
 use super::About;
 use super::cancels::rule_of;
-use crate::names::ResultName;
+use crate::names::{NameList, ResultName, RowName};
 use crate::run::Run;
 use machine::Event;
 use std::alloc::{AllocError, Global};
@@ -15,43 +15,24 @@ const GUARD_RULE: &str = "(io_uring_enter(2), IORING_OP_LINK_TIMEOUT)";
 
 const ERROR_RULE: &str = "(io_uring_enter(2), CQE ERRORS)";
 
-/// How many rows that ended with a chain are named one by one.
-const NAMED: u32 = 8;
-
-// Names the rows that ended with a chain, the first of them and how many there were.
+// Names the rows that ended with a chain.
 fn cut_rows(alloc: Global, run: &Run<'_>, about: &About) -> Result<String, AllocError> {
-    let mut text = String::new(alloc);
-    let mut count: u32 = 0;
+    let mut rows = NameList::new(alloc);
     let mut from = about.index;
     for _index in 0..run.found.len() {
         let Some(at) = run.next_cut(from, about.number, about.moment) else {
             break;
         };
-        count = count.saturating_add(1);
-        if count <= NAMED {
-            add_name(alloc, &mut text, run, at)?;
-        }
+        rows.add(alloc, name_at(run, at))?;
         from = at.saturating_add(1);
     }
-    if count > NAMED {
-        let more = count - NAMED;
-        text.push_str(format!(in alloc; " and {more} more")?.as_str())?;
-    }
-    Ok(text)
+    rows.told(alloc)
 }
 
-// Adds the name of the row that a finding is about, behind a comma where another stands before it.
-fn add_name(alloc: Global, text: &mut String, run: &Run<'_>, at: usize) -> Result<(), AllocError> {
-    let Some(finding) = run.found.get(at) else {
-        return Ok(());
-    };
-    let Some(name) = run.name(finding.subject) else {
-        return Ok(());
-    };
-    if !text.is_empty() {
-        text.push_str(", ")?;
-    }
-    text.push_str(format!(in alloc; "row {name}")?.as_str())
+// The name of the row that a finding is about, by its place in the list.
+fn name_at(run: &Run<'_>, at: usize) -> Option<RowName> {
+    let finding = run.found.get(at)?;
+    run.name(finding.subject)
 }
 
 /// A soft link that broke, and the rows that ended with it.
