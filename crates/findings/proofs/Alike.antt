@@ -1,6 +1,6 @@
 -- Rows that have the user_data of another, among those that haven't ended.
 use Rattle.std.proofs.Common.{◌≡◌, ◌⊎◌, inl, inr, ℕ, ◌<◌, ◌≤◌, ◌+◌, Bool, true, false, List, refl, sym, ap, ◌∙◌, arith}
-use Rattle.std.proofs.lemmas.Bool.{and_from, and_left, cases_lt, lt-ltb}
+use Rattle.std.proofs.lemmas.Bool.{and_from, and_left, cases_lt, lt-ltb, ne_eqb}
 use Rattle.std.proofs.lemmas.Bool.Decides.{nat_tests}
 use Rattle.std.specs.Prelude.{Option, Some, option_map, slice_get, nat_lt, not, ◌==◌, ◌&&◌}
 use Rattle.std.specs.Option.{option_map_or}
@@ -50,10 +50,10 @@ twin_on rows r user from q none next other k x l e =
     ]
 
 -- it is one
-pub twin_found : (rows : List Row) (r from q : ℕ) (row : Row) → IsNextWhere is_open rows from q → q < r → (row.entry.user_data == 0) ≡ false → has_user rows row.entry.user_data q ≡ true → has_twin rows r row ≡ true
+pub twin_found : (rows : List Row) (r from q : ℕ) (row : Row) → IsNextWhere is_open rows from q → q < r → (row.entry.user_data ≡ 0 → ⊥) → has_user rows row.entry.user_data q ≡ true → has_twin rows r row ≡ true
 twin_found rows r from q row next l user h =
     let own : (next.row.entry.user_data == row.entry.user_data) ≡ true = sym (has_user_at rows row.entry.user_data q next.row next.there) ∙ h in
-    and_from _ _ (ap not user) (any_true (twin_test r row.entry.user_data) (enumerate_from 0 rows) q (q, next.row)
+    and_from _ _ (ap not (ne_eqb row.entry.user_data 0 user)) (any_true (twin_test r row.entry.user_data) (enumerate_from 0 rows) q (q, next.row)
     (enumerated rows q ∙ ap (option_map (λ (y : Row). (q, y))) next.there)
     (and_from _ _ (lt-ltb q r l) (and_from _ _ next.passes own)))
 
