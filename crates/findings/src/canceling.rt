@@ -1,4 +1,4 @@
-//! What the end of a cancel or a removal shows of the rows that it matches (io_uring_prep_cancel(3)).
+//! What the end of a cancel or a removal shows of the rows that it matches.
 ghost use Rattle.std.specs.Prelude.{◌≡◌};
 ghost use Rattle.findings.specs.Canceling.{cancel_in, cancel_before, matches_some, is_of_cancel};
 
