@@ -20,12 +20,12 @@ use Rattle.findings.specs.declared.finding.Finding.{Finding}
 use Rattle.findings.specs.declared.kind.Kind.{Kind}
 use Rattle.findings.specs.Conflicts.{done_at}
 use Rattle.findings.specs.Findings.{occurs, occurs_at, stands_at, IsLeft, IsFinding, IsToldOf, Rises}
-use Rattle.findings.specs.Records.{of_change, of_event, of_deed, Covers, Adds, FoundBefore, IsLasting, AreLeft, IsAll, all_left, SameFindings, HaltsAt, Halted}
+use Rattle.findings.specs.Records.{of_change, of_event, of_deed, Covers, Adds, FoundBefore, IsLasting, AreLeft, IsAll, all_left, all_unsynced, SameFindings, HaltsAt, Halted}
 use Rattle.findings.specs.Conditions.{Began}
 use Rattle.findings.specs.declared.watching.Watch.{Watch}
 use Rattle.findings.specs.Watched.{advanced, watched, of_lasting}
 use Rattle.findings.proofs.Lasting.{watch_at, watched_first, advanced_more, lasting_told}
-use Rattle.findings.proofs.Left.{rows_left}
+use Rattle.findings.proofs.Left.{all_at_end}
 use Rattle.findings.proofs.Beside.{IsDone, deed_done, deed_there}
 use Rattle.findings.proofs.Candidates.{covers_more, covers_none}
 use Rattle.findings.proofs.Members.{Has, has_left, has_right, has_contains}
@@ -69,7 +69,7 @@ moved s es i f h = ap (λ (k : ℕ). occurs_at s es k f.kind f.subject) h
 
 -- what an event adds: of rows, of rings and threads, and beside requests that haven't ended
 abbrev of_rows : ℕ → Machine → List Change → List Finding
-of_rows i behind cs = flat_map (of_change i (view behind)) cs
+of_rows i behind cs = flat_map (of_change i behind.table) cs
 
 abbrev of_deeds : Setup → ℕ → Machine → Event → Machine → List ℕ → List Finding
 of_deeds s i before e behind numbers = of_deed i s behind.table (done_at s before e behind) numbers
@@ -183,7 +183,7 @@ within s es f h =
           absurd (false_true (sym untold ∙ h))
     ]
 
--- what events show, the conditions that hold on, and the rows that are unfinished
+-- what events show, the conditions that hold on, and what is found at the end
 pub all_found : (s : Setup) (es : List Event) (fs ls us gs : List Finding) → FoundBefore s es (length es) fs → IsLasting s es ls → AreLeft s es us → gs ≡ (fs ++ ls) ++ us → IsAll s es gs
 all_found s es fs ls us gs h lasting left e = subst (IsAll s es) (sym e) (record {
   only = All-append (IsFinding s es) (fs ++ ls) us
@@ -202,8 +202,8 @@ all_found s es fs ls us gs h lasting left e = subst (IsAll s es) (sym e) (record
 pub finds_lasting : (s : Setup) (es : List Event) (i : ℕ) (m : Machine) (fs : List Finding) (numbers : List ℕ) (ws : List Watch) → i ≡ length es → Finds s es i m fs numbers ws → IsLasting s es (flat_map of_lasting ws)
 finds_lasting s es i m fs numbers ws e h = lasting_told s es ws (h.watching ∙ ap (λ (n : ℕ). map (watch_at s es n) (watched s)) e)
 
-pub finds_left : (s : Setup) (es : List Event) (i : ℕ) (m : Machine) (fs : List Finding) (numbers : List ℕ) (ws : List Watch) → i ≡ length es → Finds s es i m fs numbers ws → AreLeft s es (all_left (length es) m.table)
-finds_left s es i m fs numbers ws e h = rows_left s es m (h.here ∙ ap (machine_at s es) e)
+pub finds_left : (s : Setup) (es : List Event) (i : ℕ) (m : Machine) (fs : List Finding) (numbers : List ℕ) (ws : List Watch) → i ≡ length es → Finds s es i m fs numbers ws → AreLeft s es (all_left (length es) m.table ++ all_unsynced s (length es) m.world)
+finds_left s es i m fs numbers ws e h = all_at_end s es m (h.here ∙ ap (machine_at s es) e)
 
 -- all findings, put in order
 pub told_of : (s : Setup) (es : List Event) (fs gs : List Finding) → IsAll s es fs → SameFindings fs gs → Rises zero gs → IsToldOf s es gs

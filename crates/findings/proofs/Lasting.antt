@@ -172,7 +172,7 @@ has_map f [] x h = absurd h
 has_map f (y ∷ ys) x (inl e) = inl (ap f e)
 has_map f (y ∷ ys) x (inr h) = inr (has_map f ys x h)
 
-below_there : (n m : ℕ) → n < m → Has (numbers_below m) n
+pub below_there : (n m : ℕ) → n < m → Has (numbers_below m) n
 below_there n zero l = absurd (omega arith)
 below_there n (suc m) l =
     elim (cases_lt n m) [

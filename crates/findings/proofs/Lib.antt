@@ -13,4 +13,6 @@ pub mod Ranks
 pub mod Distinct
 pub mod Lasting
 pub mod Left
+pub mod Alike
+pub mod OnDevice
 pub mod Followed

@@ -4,6 +4,7 @@ use Rattle.std.proofs.lemmas.Grind.{flat_map-append}
 use Rattle.std.proofs.lemmas.List.{append_assoc}
 use Rattle.std.specs.Prelude.{Option, Some, None, Result, Ok, Err, OnOk}
 use Rattle.std.specs.List.{flat_map}
+use Rattle.entries.specs.declared.row.Row.{Row}
 use Rattle.places.specs.declared.notes.runs.Region.{Region}
 use Rattle.places.specs.declared.notes.runs.Region.TheVariants.{Memory, File, Durable, Pipe}
 use Rattle.places.specs.declared.place.Place.{Place}
@@ -31,18 +32,18 @@ bytes_no_row g s (Some b ∷ os) cs h = (byte_no_row g s, bytes_no_row g (s + 1)
 true_false : true ≡ false → ⊥
 true_false e = cc
 
-place_shows_none : (i : ℕ) (v : View) (x : Option Value) (p : Place) → is_row p ≡ false → of_place i v x p ≡ []
-place_shows_none i v x (Request r) e = absurd (true_false e)
-place_shows_none i v x _ e = refl
+place_shows_none : (i : ℕ) (rows : List Row) (x : Option Value) (p : Place) → is_row p ≡ false → of_place i rows x p ≡ []
+place_shows_none i rows x (Request r) e = absurd (true_false e)
+place_shows_none i rows x _ e = refl
 
 place_follows_none : (v : View) (ns : List ℕ) (x : Option Value) (p : Place) → is_row p ≡ false → after_note v ns x p ≡ ns
 place_follows_none v ns x (Request r) e = absurd (true_false e)
 place_follows_none v ns x _ e = refl
 
 -- they show nothing
-shows_none : (i : ℕ) (v : View) (cs : List Change) → OfNoRow cs → flat_map (of_change i v) cs ≡ []
-shows_none i v [] h = refl
-shows_none i v (c ∷ cs) h = ap (λ (fs : List Finding). fs ++ flat_map (of_change i v) cs) (place_shows_none i v c.old c.place h.0) ∙ shows_none i v cs h.1
+shows_none : (i : ℕ) (rows : List Row) (cs : List Change) → OfNoRow cs → flat_map (of_change i rows) cs ≡ []
+shows_none i rows [] h = refl
+shows_none i rows (c ∷ cs) h = ap (λ (fs : List Finding). fs ++ flat_map (of_change i rows) cs) (place_shows_none i rows c.old c.place h.0) ∙ shows_none i rows cs h.1
 
 -- and change nothing of what is followed
 follows_none : (v : View) (ns : List ℕ) (cs ds : List Change) → OfNoRow cs → after_notes v ns (cs ++ ds) ≡ after_notes v ns ds
@@ -53,19 +54,19 @@ follows_parts : (v : View) (ns : List ℕ) (cs ds : List Change) → after_notes
 follows_parts v ns [] ds = refl
 follows_parts v ns (c ∷ cs) ds = follows_parts v (after_note v ns c.old c.place) cs ds
 
-shown_without : (i : ℕ) (v : View) (cs bs ds : List Change) → OfNoRow bs → flat_map (of_change i v) cs ++ flat_map (of_change i v) ds ≡ flat_map (of_change i v) (cs ++ (bs ++ ds))
-shown_without i v cs bs ds h = sym (
-    flat_map-append (of_change i v) cs (bs ++ ds)
-    ∙ ap (λ (fs : List Finding). flat_map (of_change i v) cs ++ fs) (flat_map-append (of_change i v) bs ds ∙ ap (λ (fs : List Finding). fs ++ flat_map (of_change i v) ds) (shows_none i v bs h)))
+shown_without : (i : ℕ) (rows : List Row) (cs bs ds : List Change) → OfNoRow bs → flat_map (of_change i rows) cs ++ flat_map (of_change i rows) ds ≡ flat_map (of_change i rows) (cs ++ (bs ++ ds))
+shown_without i rows cs bs ds h = sym (
+    flat_map-append (of_change i rows) cs (bs ++ ds)
+    ∙ ap (λ (fs : List Finding). flat_map (of_change i rows) cs ++ fs) (flat_map-append (of_change i rows) bs ds ∙ ap (λ (fs : List Finding). fs ++ flat_map (of_change i rows) ds) (shows_none i rows bs h)))
 
 -- a record whose first and last part were looked at, and whose middle is of no row
-pub all_shown : {V E : Type 0} (r : Result V E) (i : ℕ) (v : View) (all cs bs ds : List Change) (fs gs hs : List Finding) → all ≡ cs ++ (bs ++ ds) → OfNoRow bs → gs ≡ fs ++ flat_map (of_change i v) cs → OnOk r (hs ≡ gs ++ flat_map (of_change i v) ds)
-    → OnOk r (hs ≡ fs ++ flat_map (of_change i v) all)
-all_shown (Ok x) i v all cs bs ds fs gs hs e h g k =
-    k ∙ ap (λ (xs : List Finding). xs ++ flat_map (of_change i v) ds) g
-    ∙ append_assoc fs (flat_map (of_change i v) cs) (flat_map (of_change i v) ds)
-    ∙ ap (λ (xs : List Finding). fs ++ xs) (shown_without i v cs bs ds h ∙ ap (flat_map (of_change i v)) (sym e))
-all_shown (Err x) i v all cs bs ds fs gs hs e h g k = tt
+pub all_shown : {V E : Type 0} (r : Result V E) (i : ℕ) (rows : List Row) (all cs bs ds : List Change) (fs gs hs : List Finding) → all ≡ cs ++ (bs ++ ds) → OfNoRow bs → gs ≡ fs ++ flat_map (of_change i rows) cs → OnOk r (hs ≡ gs ++ flat_map (of_change i rows) ds)
+    → OnOk r (hs ≡ fs ++ flat_map (of_change i rows) all)
+all_shown (Ok x) i rows all cs bs ds fs gs hs e h g k =
+    k ∙ ap (λ (xs : List Finding). xs ++ flat_map (of_change i rows) ds) g
+    ∙ append_assoc fs (flat_map (of_change i rows) cs) (flat_map (of_change i rows) ds)
+    ∙ ap (λ (xs : List Finding). fs ++ xs) (shown_without i rows cs bs ds h ∙ ap (flat_map (of_change i rows)) (sym e))
+all_shown (Err x) i rows all cs bs ds fs gs hs e h g k = tt
 
 pub all_followed : {V E : Type 0} (r : Result V E) (v : View) (all cs bs ds : List Change) (ns ks now : List ℕ) → all ≡ cs ++ (bs ++ ds) → OfNoRow bs → ks ≡ after_notes v ns cs → OnOk r (now ≡ after_notes v ks ds) → OnOk r (now ≡ after_notes v ns all)
 all_followed (Ok x) v all cs bs ds ns ks now e h g k =

@@ -3,7 +3,7 @@ use Rattle.std.proofs.Common.{◌≡◌, ℕ, ◌+◌, ◌*◌, ◌<◌, lit<, r
 use Rattle.std.specs.Prelude.{◌==◌, if◌then◌else◌}
 use Rattle.findings.specs.declared.finding.Finding.{Finding}
 use Rattle.findings.specs.declared.kind.Kind.{Kind}
-use Rattle.findings.specs.declared.kind.Kind.TheVariants.{Failed, Short, Severed, Canceled, TimedOut, Expired, NotFound, TooLate, Overflow, Busy, Waits, LostWakeUp, NotTaken, NotReaped, Unfinished, BufferInUse, Unordered, SharedPosition, FsyncEarly, TakenShort, NoSuchSlot, CutOff, WentOn, NoEffect, SlotInUse, ClosedEarly, ClosedWhileHeld, RefusedFlags}
+use Rattle.findings.specs.declared.kind.Kind.TheVariants.{Failed, Short, Severed, Canceled, TimedOut, Expired, NotFound, TooLate, Overflow, Busy, Waits, LostWakeUp, NotTaken, NotReaped, Unfinished, BufferInUse, Unordered, SharedPosition, FsyncEarly, TakenShort, NoSuchSlot, CutOff, WentOn, NoEffect, SlotInUse, ClosedEarly, ClosedWhileHeld, Several, LeftRunning, SameUserData, NotDurable, RefusedFlags}
 use Rattle.findings.specs.Findings.{number_of, rank}
 use Rattle.findings.specs.Records.{IsSmall}
 
@@ -35,6 +35,10 @@ number_small NoEffect = lit< tt
 number_small SlotInUse = lit< tt
 number_small ClosedEarly = lit< tt
 number_small ClosedWhileHeld = lit< tt
+number_small Several = lit< tt
+number_small LeftRunning = lit< tt
+number_small SameUserData = lit< tt
+number_small NotDurable = lit< tt
 number_small RefusedFlags = lit< tt
 
 kind_of : ℕ → Kind
@@ -66,6 +70,10 @@ kind_of n =
     else if n == 24 then SlotInUse
     else if n == 25 then ClosedEarly
     else if n == 26 then ClosedWhileHeld
+    else if n == 27 then Several
+    else if n == 28 then LeftRunning
+    else if n == 29 then SameUserData
+    else if n == 30 then NotDurable
     else RefusedFlags
 
 kind_back : (kind : Kind) → kind_of (number_of kind) ≡ kind
@@ -97,6 +105,10 @@ kind_back NoEffect = refl
 kind_back SlotInUse = refl
 kind_back ClosedEarly = refl
 kind_back ClosedWhileHeld = refl
+kind_back Several = refl
+kind_back LeftRunning = refl
+kind_back SameUserData = refl
+kind_back NotDurable = refl
 kind_back RefusedFlags = refl
 
 same_kind : (a b : Kind) → number_of a ≡ number_of b → a ≡ b

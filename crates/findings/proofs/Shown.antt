@@ -1,5 +1,5 @@
 -- What an event shows, by its record.
-use Rattle.std.proofs.Common.{◌≡◌, inl, inr, ℕ, zero, ◌+◌, Bool, true, false, cond, List, [], ◌∷◌, refl, sym, ap, ◌∙◌, subst}
+use Rattle.std.proofs.Common.{◌≡◌, inl, inr, ℕ, zero, ◌+◌, Bool, true, false, cond, List, [], ◌∷◌, ◌++◌, refl, sym, ap, ◌∙◌, subst}
 use Rattle.std.proofs.lemmas.List.Elements.{All-nil, All-cons, All-append}
 use Rattle.std.proofs.lemmas.Bool.{and_parts, and_from, or_cases, eqb-true, eq-eqb}
 use Rattle.std.specs.Prelude.{Option, Some, None, is_none, option_map, slice_get, ℤ, ◌==◌, ◌&&◌, ◌||◌, not}
@@ -19,7 +19,7 @@ use Rattle.machine.specs.declared.whole.Machine.{Machine}
 use Rattle.machine.specs.Whole.{view}
 use Rattle.findings.specs.declared.finding.Finding.{Finding}
 use Rattle.findings.specs.declared.kind.Kind.{Kind}
-use Rattle.findings.specs.declared.kind.Kind.TheVariants.{Failed, Short, Severed, Canceled, TimedOut, Expired, NotFound, TooLate, Overflow, Busy, TakenShort, NoSuchSlot, CutOff, WentOn, NoEffect, SlotInUse, ClosedEarly, ClosedWhileHeld, RefusedFlags}
+use Rattle.findings.specs.declared.kind.Kind.TheVariants.{Failed, Short, Severed, Canceled, TimedOut, Expired, NotFound, TooLate, Overflow, Busy, TakenShort, NoSuchSlot, CutOff, WentOn, NoEffect, SameUserData, SlotInUse, ClosedEarly, ClosedWhileHeld, Several, LeftRunning, RefusedFlags}
 use Rattle.findings.specs.Endings.{result_in, ending_of, is_of, comes_as, row_test}
 use Rattle.scenario.specs.declared.event.Event.{Event}
 use Rattle.scenario.specs.declared.event.Event.TheVariants.{Step}
@@ -29,8 +29,10 @@ use Rattle.scenario.specs.declared.setup.Setup.{Setup}
 use Rattle.machine.specs.Steps.{number_in}
 use Rattle.findings.specs.Conditions.{overflows, done_by, is_step_of, is_of_enter, is_of_push, has_closed, is_of_close, is_of_step}
 use Rattle.findings.specs.Uses.{changes_slot, changes_at, is_of_put, is_of_closed, is_of_number}
+use Rattle.findings.specs.Canceling.{cancel_before, is_of_cancel, cancel_shows}
+use Rattle.findings.specs.declared.canceling.Cancel.{Cancel}
 use Rattle.findings.specs.Findings.{ends, ring_shows, step_shows, shows}
-use Rattle.findings.specs.Records.{given, row_kinds, of_row, row_in, of_place, of_change, of_overflow, step_kinds, of_instruction, of_step, of_event}
+use Rattle.findings.specs.Records.{given, row_kinds, of_row, row_in, of_place, of_change, of_overflow, step_kinds, of_instruction, of_step, cancel_kinds, of_kinds, of_cancel, of_event}
 use Rattle.findings.proofs.Members.{Has, has_left, has_right, has_flat_map}
 use Rattle.findings.proofs.Notes.{AreTrue, true_notes, is_named, change_there}
 
@@ -47,51 +49,47 @@ row_in_requested (Some row) = refl
 
 -- ---- nothing else
 
-given_shown : (i r : ℕ) (before behind : Machine) (kind : Kind) (old : Option Row) (row : Row) (next : Option Row) → slice_get before.table r ≡ old → slice_get behind.table r ≡ Some row → slice_get behind.table (r + 1) ≡ next
-    → All (IsShown i before behind) (given (row_test kind old row next) (the_finding i kind r))
-given_shown i r before behind kind old row next e k n = by (row_test kind old row next) refl
+given_shown : (i r : ℕ) (before behind : Machine) (kind : Kind) (old : Option Row) (row : Row) → slice_get before.table r ≡ old → slice_get behind.table r ≡ Some row
+    → All (IsShown i before behind) (given (row_test kind old behind.table r row) (the_finding i kind r))
+given_shown i r before behind kind old row e k = by (row_test kind old behind.table r row) refl
   where
-    shows : row_test kind old row next ≡ true → ends kind before behind r ≡ true
-    shows t = ap (λ o. option_map_or (λ (y : Row). row_test kind (slice_get before.table r) y (slice_get behind.table (r + 1))) o false) k
-        ∙ ap (λ o. row_test kind o row (slice_get behind.table (r + 1))) e
-        ∙ ap (row_test kind old row) n ∙ t
+    shows : row_test kind old behind.table r row ≡ true → ends kind before behind r ≡ true
+    shows t = ap (λ o. option_map_or (row_test kind (slice_get before.table r) behind.table r) o false) k ∙ ap (λ o. row_test kind o behind.table r row) e ∙ t
 
-    by : (b : Bool) → row_test kind old row next ≡ b → All (IsShown i before behind) (given b (the_finding i kind r))
+    by : (b : Bool) → row_test kind old behind.table r row ≡ b → All (IsShown i before behind) (given b (the_finding i kind r))
     by true t = All-cons (IsShown i before behind) (the_finding i kind r) [] (refl, shows t) (All-nil (IsShown i before behind))
     by false t = All-nil (IsShown i before behind)
 
-row_shown : (i r : ℕ) (before behind : Machine) (old : Option Row) (row : Row) (next : Option Row) (kinds : List Kind) → slice_get before.table r ≡ old → slice_get behind.table r ≡ Some row → slice_get behind.table (r + 1) ≡ next
-    → All (IsShown i before behind) (of_row i r old row next kinds)
-row_shown i r before behind old row next [] e k n = All-nil (IsShown i before behind)
-row_shown i r before behind old row next (kind ∷ kinds) e k n =
-    All-append (IsShown i before behind) (given (row_test kind old row next) (the_finding i kind r)) (of_row i r old row next kinds) (given_shown i r before behind kind old row next e k n) (row_shown i r before behind old row next kinds e k n)
+row_shown : (i r : ℕ) (before behind : Machine) (old : Option Row) (row : Row) (kinds : List Kind) → slice_get before.table r ≡ old → slice_get behind.table r ≡ Some row → All (IsShown i before behind) (of_row i old behind.table r row kinds)
+row_shown i r before behind old row [] e k = All-nil (IsShown i before behind)
+row_shown i r before behind old row (kind ∷ kinds) e k =
+    All-append (IsShown i before behind) (given (row_test kind old behind.table r row) (the_finding i kind r)) (of_row i old behind.table r row kinds) (given_shown i r before behind kind old row e k) (row_shown i r before behind old row kinds e k)
 
-place_shown : (i : ℕ) (before behind : Machine) (x : Option Value) (p : Place) → x ≡ view before p → All (IsShown i before behind) (of_place i (view behind) x p)
+place_shown : (i : ℕ) (before behind : Machine) (x : Option Value) (p : Place) → x ≡ view before p → All (IsShown i before behind) (of_place i behind.table x p)
 place_shown i before behind x (Request r) e = by (slice_get behind.table r) refl
   where
     old : slice_get before.table r ≡ row_in x
     old = sym (ap row_in e ∙ row_in_requested (slice_get before.table r))
 
-    by : (o : Option Row) → slice_get behind.table r ≡ o
-        → All (IsShown i before behind) (option_map_or (λ (row : Row). of_row i r (row_in x) row (row_in (view behind (Request (r + 1)))) row_kinds) (row_in (option_map Requested o)) [])
+    by : (o : Option Row) → slice_get behind.table r ≡ o → All (IsShown i before behind) (option_map_or (λ (row : Row). of_row i (row_in x) behind.table r row row_kinds) o [])
     by None k = All-nil (IsShown i before behind)
-    by (Some row) k = row_shown i r before behind (row_in x) row (row_in (view behind (Request (r + 1)))) row_kinds old k (sym (row_in_requested (slice_get behind.table (r + 1))))
+    by (Some row) k = row_shown i r before behind (row_in x) row row_kinds old k
 place_shown i before behind x _ e = All-nil (IsShown i before behind)
 
-changes_shown : (i : ℕ) (before behind : Machine) (cs : List Change) → AreTrue (view before) cs → All (IsShown i before behind) (flat_map (of_change i (view behind)) cs)
+changes_shown : (i : ℕ) (before behind : Machine) (cs : List Change) → AreTrue (view before) cs → All (IsShown i before behind) (flat_map (of_change i behind.table) cs)
 changes_shown i before behind [] h = All-nil (IsShown i before behind)
 changes_shown i before behind (c ∷ cs) h =
-    All-append (IsShown i before behind) (of_change i (view behind) c) (flat_map (of_change i (view behind)) cs) (place_shown i before behind c.old c.place h.0) (changes_shown i before behind cs h.1)
+    All-append (IsShown i before behind) (of_change i behind.table c) (flat_map (of_change i behind.table) cs) (place_shown i before behind c.old c.place h.0) (changes_shown i before behind cs h.1)
 
 -- what a record shows, the event does
-pub record_shown : (i : ℕ) (before behind : Machine) (cs : List Change) → Exact (view before) (view behind) cs → NamesOnce cs → All (IsShown i before behind) (flat_map (of_change i (view behind)) cs)
+pub record_shown : (i : ℕ) (before behind : Machine) (cs : List Change) → Exact (view before) (view behind) cs → NamesOnce cs → All (IsShown i before behind) (flat_map (of_change i behind.table) cs)
 record_shown i before behind cs x o = changes_shown i before behind cs (true_notes (view before) (view behind) cs x o)
 
 -- ---- nothing left out
 
 -- a row that stays as it is shows nothing
-stays_untold : (kind : Kind) (row : Row) (next : Option Row) → row_test kind (Some row) row next ≡ false
-stays_untold kind row next = by row.phase (is_of kind (Some row) row next) (comes_as kind row next)
+stays_untold : (kind : Kind) (rows : List Row) (r : ℕ) (row : Row) → row_test kind (Some row) rows r row ≡ false
+stays_untold kind rows r row = by row.phase (is_of kind (Some row) row (slice_get rows (r + 1))) (comes_as kind rows r row)
   where
     by : (p : Phase) (f : ℤ → Bool) (c : Bool) → (option_map_or f (cond (is_ended p) None (result_in p)) false || (false && c)) ≡ false
     by Queued f c = refl
@@ -111,54 +109,53 @@ no_row : (o : Option ℤ) (f : ℤ → Bool) (b : Bool) → ((res : ℤ) → f r
 no_row None f b h e = no_test false b refl e
 no_row (Some res) f b h e = no_test (f res) b (h res) e
 
-kind_there : (kind : Kind) (old : Option Row) (row : Row) (next : Option Row) → row_test kind old row next ≡ true → Has row_kinds kind
-kind_there Failed old row next t = inl refl
-kind_there Short old row next t = inr (inl refl)
-kind_there Severed old row next t = inr (inr (inl refl))
-kind_there Canceled old row next t = inr (inr (inr (inl refl)))
-kind_there TimedOut old row next t = inr (inr (inr (inr (inl refl))))
-kind_there Expired old row next t = inr (inr (inr (inr (inr (inl refl)))))
-kind_there NotFound old row next t = inr (inr (inr (inr (inr (inr (inl refl))))))
-kind_there TooLate old row next t = inr (inr (inr (inr (inr (inr (inr (inl refl)))))))
-kind_there CutOff old row next t = inr (inr (inr (inr (inr (inr (inr (inr (inl refl))))))))
-kind_there WentOn old row next t = inr (inr (inr (inr (inr (inr (inr (inr (inr (inl refl)))))))))
-kind_there NoEffect old row next t = inr (inr (inr (inr (inr (inr (inr (inr (inr (inr (inl refl))))))))))
-kind_there kind old row next t = absurd (no_row (ending_of old row) (is_of kind old row next) (is_none old) (λ res. refl) t)
+kind_there : (kind : Kind) (old : Option Row) (rows : List Row) (r : ℕ) (row : Row) → row_test kind old rows r row ≡ true → Has row_kinds kind
+kind_there Failed old rows r row t = inl refl
+kind_there Short old rows r row t = inr (inl refl)
+kind_there Severed old rows r row t = inr (inr (inl refl))
+kind_there Canceled old rows r row t = inr (inr (inr (inl refl)))
+kind_there TimedOut old rows r row t = inr (inr (inr (inr (inl refl))))
+kind_there Expired old rows r row t = inr (inr (inr (inr (inr (inl refl)))))
+kind_there NotFound old rows r row t = inr (inr (inr (inr (inr (inr (inl refl))))))
+kind_there TooLate old rows r row t = inr (inr (inr (inr (inr (inr (inr (inl refl)))))))
+kind_there CutOff old rows r row t = inr (inr (inr (inr (inr (inr (inr (inr (inl refl))))))))
+kind_there WentOn old rows r row t = inr (inr (inr (inr (inr (inr (inr (inr (inr (inl refl)))))))))
+kind_there NoEffect old rows r row t = inr (inr (inr (inr (inr (inr (inr (inr (inr (inr (inl refl))))))))))
+kind_there SameUserData old rows r row t = inr (inr (inr (inr (inr (inr (inr (inr (inr (inr (inr (inl refl)))))))))))
+kind_there kind old rows r row t = absurd (no_row (ending_of old row) (is_of kind old row (slice_get rows (r + 1))) (is_none old) (λ res. refl) t)
 
 given_there : (b : Bool) (f : Finding) → b ≡ true → Has (given b f) f
 given_there true f e = inl refl
 given_there false f e = cc
 
-row_there : (i r : ℕ) (kind : Kind) (old : Option Row) (row : Row) (next : Option Row) → row_test kind old row next ≡ true → Has (of_row i r old row next row_kinds) (the_finding i kind r)
-row_there i r kind old row next t =
-    has_flat_map (λ (k : Kind). given (row_test k old row next) (the_finding i k r)) row_kinds kind (the_finding i kind r) (kind_there kind old row next t) (given_there (row_test kind old row next) (the_finding i kind r) t)
+row_there : (i r : ℕ) (kind : Kind) (old : Option Row) (rows : List Row) (row : Row) → row_test kind old rows r row ≡ true → Has (of_row i old rows r row row_kinds) (the_finding i kind r)
+row_there i r kind old rows row t =
+    has_flat_map (λ (k : Kind). given (row_test k old rows r row) (the_finding i k r)) row_kinds kind (the_finding i kind r) (kind_there kind old rows r row t) (given_there (row_test kind old rows r row) (the_finding i kind r) t)
 
 -- what an event shows of rows, its record does
 pub shown_there : (i : ℕ) (before behind : Machine) (cs : List Change) (kind : Kind) (r : ℕ) → Exact (view before) (view behind) cs → ends kind before behind r ≡ true
-    → Has (flat_map (of_change i (view behind)) cs) (the_finding i kind r)
-shown_there i before behind cs kind r x h = by (slice_get behind.table r) refl
+    → Has (flat_map (of_change i behind.table) cs) (the_finding i kind r)
+shown_there i before behind cs kind r x h = by (slice_get behind.table r) refl h
   where
-    with_row : (row : Row) → slice_get behind.table r ≡ Some row → row_test kind (slice_get before.table r) row (slice_get behind.table (r + 1)) ≡ true → Has (flat_map (of_change i (view behind)) cs) (the_finding i kind r)
+    with_row : (row : Row) → slice_get behind.table r ≡ Some row → row_test kind (slice_get before.table r) behind.table r row ≡ true → Has (flat_map (of_change i behind.table) cs) (the_finding i kind r)
     with_row row k t =
         let differs : view before (Request r) ≡ view behind (Request r) → ⊥ = λ e.
         let same : slice_get before.table r ≡ Some row = sym (row_in_requested (slice_get before.table r)) ∙ ap row_in e ∙ row_in_requested (slice_get behind.table r) ∙ k in
-        false_true (sym (stays_untold kind row (slice_get behind.table (r + 1))) ∙ ap (λ o. row_test kind o row (slice_get behind.table (r + 1))) (sym same) ∙ t)
+        false_true (sym (stays_untold kind behind.table r row) ∙ ap (λ o. row_test kind o behind.table r row) (sym same) ∙ t)
         in
         let noted = change_there cs (Request r) (view before (Request r)) (is_named (view before) (view behind) cs (Request r) x differs) in
         let old : row_in (view before (Request r)) ≡ slice_get before.table r = row_in_requested (slice_get before.table r) in
-        let next : row_in (view behind (Request (r + 1))) ≡ slice_get behind.table (r + 1) = row_in_requested (slice_get behind.table (r + 1)) in
-        let told : Has (of_row i r (row_in (view before (Request r))) row (row_in (view behind (Request (r + 1)))) row_kinds) (the_finding i kind r) =
-        row_there i r kind (row_in (view before (Request r))) row (row_in (view behind (Request (r + 1))))
-        (ap (λ o. row_test kind o row (row_in (view behind (Request (r + 1))))) old ∙ ap (row_test kind (slice_get before.table r) row) next ∙ t)
+        let told : Has (of_row i (row_in (view before (Request r))) behind.table r row row_kinds) (the_finding i kind r) =
+        row_there i r kind (row_in (view before (Request r))) behind.table row (ap (λ o. row_test kind o behind.table r row) old ∙ t)
         in
-        let placed : Has (of_place i (view behind) (view before (Request r)) (Request r)) (the_finding i kind r) =
-        subst (λ (o : Option Row). Has (option_map_or (λ (y : Row). of_row i r (row_in (view before (Request r))) y (row_in (view behind (Request (r + 1)))) row_kinds) (row_in (option_map Requested o)) []) (the_finding i kind r)) (sym k) told
+        let placed : Has (of_place i behind.table (view before (Request r)) (Request r)) (the_finding i kind r) =
+        subst (λ (o : Option Row). Has (option_map_or (λ (y : Row). of_row i (row_in (view before (Request r))) behind.table r y row_kinds) o []) (the_finding i kind r)) (sym k) told
         in
-        has_flat_map (of_change i (view behind)) cs (record { place = Request r; old = view before (Request r) }) (the_finding i kind r) noted placed
+        has_flat_map (of_change i behind.table) cs (record { place = Request r; old = view before (Request r) }) (the_finding i kind r) noted placed
 
-    by : (o : Option Row) → slice_get behind.table r ≡ o → Has (flat_map (of_change i (view behind)) cs) (the_finding i kind r)
-    by None k = absurd (false_true (sym (ap (λ (o : Option Row). option_map_or (λ (y : Row). row_test kind (slice_get before.table r) y (slice_get behind.table (r + 1))) o false) k) ∙ h))
-    by (Some row) k = with_row row k (sym (ap (λ (o : Option Row). option_map_or (λ (y : Row). row_test kind (slice_get before.table r) y (slice_get behind.table (r + 1))) o false) k) ∙ h)
+    by : (o : Option Row) → slice_get behind.table r ≡ o → option_map_or (row_test kind (slice_get before.table r) behind.table r) o false ≡ true → Has (flat_map (of_change i behind.table) cs) (the_finding i kind r)
+    by None k t = absurd (false_true t)
+    by (Some row) k t = with_row row k t
 
 -- ---- rings and threads
 
@@ -187,20 +184,39 @@ instruction_rung s i before t behind x (kind ∷ kinds) d =
     (instruction_rung s i before t behind x kinds d)
   where
     told : is_of_step kind (changes_slot before x) x behind t ≡ true → shows s kind before (Step t) behind t ≡ true
-    told h = or_second (ring_shows kind before behind t) (step_shows s kind before (Step t) behind t)
+    told h = or_second (ring_shows kind before behind t) (step_shows s kind before (Step t) behind t || cancel_shows kind before (Step t) behind t)
+        (or_first (step_shows s kind before (Step t) behind t) (cancel_shows kind before (Step t) behind t)
         (and_from (t == t) (option_map_or (λ (y : Instruction). is_of_step kind (changes_slot before y) y behind t) (done_by s before (Step t)) false) (eq-eqb t t refl)
-        (ap (λ (o : Option Instruction). option_map_or (λ (y : Instruction). is_of_step kind (changes_slot before y) y behind t) o false) d ∙ h))
+        (ap (λ (o : Option Instruction). option_map_or (λ (y : Instruction). is_of_step kind (changes_slot before y) y behind t) o false) d ∙ h)))
 
 step_rung : (s : Setup) (i : ℕ) (before : Machine) (e : Event) (behind : Machine) (o : Option Instruction) → done_by s before e ≡ o → All (IsRung s i before e behind) (of_step i (changes_at before o) o e behind)
 step_rung s i before e behind None d = All-nil (IsRung s i before e behind)
 step_rung s i before (Step t) behind (Some x) d = instruction_rung s i before t behind x step_kinds d
 step_rung s i before _ behind (Some x) d = All-nil _
 
+kinds_rung : (s : Setup) (i : ℕ) (before : Machine) (e : Event) (behind : Machine) (x : Cancel) (kinds : List Kind) → cancel_before before e ≡ Some x → All (IsRung s i before e behind) (of_kinds i x behind.table kinds)
+kinds_rung s i before e behind x [] d = All-nil (IsRung s i before e behind)
+kinds_rung s i before e behind x (kind ∷ kinds) d =
+    All-append (IsRung s i before e behind) (given (is_of_cancel kind x behind.table) (the_finding i kind x.number)) (of_kinds i x behind.table kinds)
+    (rung_if s i before e behind (is_of_cancel kind x behind.table) kind x.number told)
+    (kinds_rung s i before e behind x kinds d)
+  where
+    told : is_of_cancel kind x behind.table ≡ true → shows s kind before e behind x.number ≡ true
+    told h = or_second (ring_shows kind before behind x.number) (step_shows s kind before e behind x.number || cancel_shows kind before e behind x.number)
+        (or_second (step_shows s kind before e behind x.number) (cancel_shows kind before e behind x.number)
+        (ap (λ (o : Option Cancel). option_map_or (λ (y : Cancel). (y.number == x.number) && is_of_cancel kind y behind.table) o false) d
+        ∙ and_from (x.number == x.number) (is_of_cancel kind x behind.table) (eq-eqb x.number x.number refl) h))
+
+cancel_rung : (s : Setup) (i : ℕ) (before : Machine) (e : Event) (behind : Machine) (o : Option Cancel) → cancel_before before e ≡ o → All (IsRung s i before e behind) (of_cancel i o behind.table)
+cancel_rung s i before e behind None d = All-nil (IsRung s i before e behind)
+cancel_rung s i before e behind (Some x) d = kinds_rung s i before e behind x cancel_kinds d
+
 pub event_rung : (s : Setup) (i : ℕ) (before : Machine) (e : Event) (behind : Machine) → All (IsRung s i before e behind) (of_event s i before e behind)
 event_rung s i before e behind =
-    All-append (IsRung s i before e behind) (of_overflow i (overflows before) (overflows behind)) (of_step i (changes_at before (done_by s before e)) (done_by s before e) e behind)
-    (rung_if s i before e behind (not (overflows before) && overflows behind) Overflow zero (λ h. or_first (not (overflows before) && overflows behind) (step_shows s Overflow before e behind zero) h))
-    (step_rung s i before e behind (done_by s before e) refl)
+    All-append (IsRung s i before e behind) (of_overflow i (overflows before) (overflows behind)) (of_step i (changes_at before (done_by s before e)) (done_by s before e) e behind ++ of_cancel i (cancel_before before e) behind.table)
+    (rung_if s i before e behind (not (overflows before) && overflows behind) Overflow zero (λ h. or_first (not (overflows before) && overflows behind) (step_shows s Overflow before e behind zero || cancel_shows Overflow before e behind zero) h))
+    (All-append (IsRung s i before e behind) (of_step i (changes_at before (done_by s before e)) (done_by s before e) e behind) (of_cancel i (cancel_before before e) behind.table)
+    (step_rung s i before e behind (done_by s before e) refl) (cancel_rung s i before e behind (cancel_before before e) refl))
 
 -- the kinds that are about steps
 enter_kind : (kind : Kind) (n : ℕ) (m : Machine) (t : ℕ) → is_of_enter kind n m t ≡ true → Has step_kinds kind
@@ -250,12 +266,28 @@ overflow_there i before behind Overflow n h =
     subst (λ (k : ℕ). Has (of_overflow i (overflows before) (overflows behind)) (the_finding i Overflow k)) (sym same) (given_there (not (overflows before) && overflows behind) (the_finding i Overflow zero) parts.1)
 overflow_there i before behind _ n h = absurd (false_true h)
 
+cancel_kind : (kind : Kind) (x : Cancel) (rows : List Row) → is_of_cancel kind x rows ≡ true → Has cancel_kinds kind
+cancel_kind Several x rows h = inl refl
+cancel_kind LeftRunning x rows h = inr (inl refl)
+cancel_kind _ x rows h = absurd (false_true h)
+
+cancel_there : (i : ℕ) (kind : Kind) (o : Option Cancel) (rows : List Row) (n : ℕ) → option_map_or (λ (x : Cancel). (x.number == n) && is_of_cancel kind x rows) o false ≡ true → Has (of_cancel i o rows) (the_finding i kind n)
+cancel_there i kind None rows n h = absurd (false_true h)
+cancel_there i kind (Some x) rows n h =
+    let parts = and_parts (x.number == n) (is_of_cancel kind x rows) h in
+    subst (λ (k : ℕ). Has (of_cancel i (Some x) rows) (the_finding i kind k)) (eqb-true x.number n parts.0)
+    (has_flat_map (λ (k : Kind). given (is_of_cancel k x rows) (the_finding i k x.number)) cancel_kinds kind (the_finding i kind x.number) (cancel_kind kind x rows parts.1) (given_there (is_of_cancel kind x rows) (the_finding i kind x.number) parts.1))
+
 -- and all of it
 pub rung_there : (s : Setup) (i : ℕ) (before : Machine) (e : Event) (behind : Machine) (kind : Kind) (n : ℕ) → shows s kind before e behind n ≡ true → Has (of_event s i before e behind) (the_finding i kind n)
 rung_there s i before e behind kind n h =
-    elim (or_cases (ring_shows kind before behind n) (step_shows s kind before e behind n) h) [
-      | inl ring ↦ has_left (of_overflow i (overflows before) (overflows behind)) (of_step i (changes_at before (done_by s before e)) (done_by s before e) e behind) (the_finding i kind n) (overflow_there i before behind kind n ring)
-      | inr step ↦
-          let parts = and_parts (is_step_of n e) (option_map_or (λ (x : Instruction). is_of_step kind (changes_slot before x) x behind n) (done_by s before e) false) step in
-          has_right (of_overflow i (overflows before) (overflows behind)) (of_step i (changes_at before (done_by s before e)) (done_by s before e) e behind) (the_finding i kind n) (step_there i kind before (done_by s before e) e behind n parts.0 parts.1)
+    elim (or_cases (ring_shows kind before behind n) (step_shows s kind before e behind n || cancel_shows kind before e behind n) h) [
+      | inl ring ↦ has_left (of_overflow i (overflows before) (overflows behind)) (of_step i (changes_at before (done_by s before e)) (done_by s before e) e behind ++ of_cancel i (cancel_before before e) behind.table) (the_finding i kind n) (overflow_there i before behind kind n ring)
+      | inr more ↦ has_right (of_overflow i (overflows before) (overflows behind)) (of_step i (changes_at before (done_by s before e)) (done_by s before e) e behind ++ of_cancel i (cancel_before before e) behind.table) (the_finding i kind n)
+          (elim (or_cases (step_shows s kind before e behind n) (cancel_shows kind before e behind n) more) [
+            | inl step ↦
+                let parts = and_parts (is_step_of n e) (option_map_or (λ (x : Instruction). is_of_step kind (changes_slot before x) x behind n) (done_by s before e) false) step in
+                has_left (of_step i (changes_at before (done_by s before e)) (done_by s before e) e behind) (of_cancel i (cancel_before before e) behind.table) (the_finding i kind n) (step_there i kind before (done_by s before e) e behind n parts.0 parts.1)
+            | inr cancel ↦ has_right (of_step i (changes_at before (done_by s before e)) (done_by s before e) e behind) (of_cancel i (cancel_before before e) behind.table) (the_finding i kind n) (cancel_there i kind (cancel_before before e) behind.table n cancel)
+          ])
     ]

@@ -2,6 +2,9 @@
 use Rattle.std.specs.Prelude.{◌≡◌, ℕ, ℤ, pos, ◌+◌, ◌≤◌, ◌==◌, Bool, true, false, not, ◌&&◌, ◌||◌, nat_lt, if◌then◌else◌, Option, Some, None, is_none, option_map, slice_get, length}
 use Rattle.std.specs.Option.{option_map_or, option_and_then}
 use Rattle.std.specs.Ordering.{int_eq}
+use Rattle.std.specs.Str.{bytes_eq}
+use Rattle.model_files.specs.Files.{FileState, content, durable_content}
+use Rattle.model_files.specs.Worlds.{WorldState, file_of}
 use Rattle.places.specs.declared.value.Stage.{Stage}
 use Rattle.places.specs.declared.value.Stage.TheVariants.{Ready, Waiting}
 use Rattle.scenario.specs.declared.event.Event.{Event}
@@ -14,7 +17,7 @@ use Rattle.links_drains.specs.Units.{is_open}
 use Rattle.machine.specs.declared.whole.Machine.{Machine}
 use Rattle.machine.specs.Threads.{ThreadState}
 use Rattle.findings.specs.declared.kind.Kind.{Kind}
-use Rattle.findings.specs.declared.kind.Kind.TheVariants.{Busy, Waits, LostWakeUp, NotTaken, NotReaped, Unfinished, TakenShort, NoSuchSlot, RefusedFlags}
+use Rattle.findings.specs.declared.kind.Kind.TheVariants.{Busy, Waits, LostWakeUp, NotTaken, NotReaped, Unfinished, TakenShort, NoSuchSlot, RefusedFlags, NotDurable}
 use Rattle.findings.specs.Endings.{is_error, is_less}
 use Rattle.findings.specs.Uses.{is_of_put, is_of_number}
 
@@ -114,10 +117,22 @@ stands s NotReaped m n = (n == 0) && (overflows m || has_completions m)
 stands s Waits m t = waits s m t
 stands s kind m n = false
 
--- whether the row of a number hasn't ended, which is a finding at the end
-abbrev pub is_left : Kind → Machine → ℕ → Bool
-is_left Unfinished m r = option_map_or is_open (slice_get m.table r) false
-is_left kind m r = false
+-- ---- the end
+
+-- whether what a file has isn't what the device has of it (fsync(2))
+abbrev pub is_unsynced : FileState → Bool
+is_unsynced f = not (bytes_eq (content f) (durable_content f))
+
+abbrev pub has_unsynced : WorldState → ℕ → Bool
+has_unsynced w o = option_map_or is_unsynced (file_of w o) false
+
+-- Whether a row or a setup's object of a number is a finding at the end:
+--   Unfinished: the row hasn't ended;
+--   NotDurable: the object is a file of which bytes were written that aren't durable.
+abbrev pub is_left : Setup → Kind → Machine → ℕ → Bool
+is_left s Unfinished m r = option_map_or is_open (slice_get m.table r) false
+is_left s NotDurable m o = nat_lt o (length s.objects) && has_unsynced m.world o
+is_left s kind m n = false
 
 -- A condition has held up to a moment from another one on, and not just before that.
 pub record Began (holds : ℕ → Bool) (now since : ℕ) : Type 0 where

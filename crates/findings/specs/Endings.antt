@@ -1,5 +1,5 @@
 -- What the end of a request is a finding of.
-use Rattle.std.specs.Prelude.{ℕ, ℤ, pos, negsuc, ◌==◌, Bool, false, not, ◌&&◌, ◌||◌, nat_lt, unsigned_abs, if◌then◌else◌, Option, Some, None, is_some, is_none}
+use Rattle.std.specs.Prelude.{ℕ, ℤ, pos, negsuc, ◌+◌, ◌==◌, Bool, false, not, ◌&&◌, ◌||◌, nat_lt, unsigned_abs, if◌then◌else◌, Option, Some, None, is_some, is_none, slice_get, List}
 use Rattle.std.specs.Option.{option_map_or}
 use Rattle.entries.specs.declared.entry.Sqe.{Sqe}
 use Rattle.entries.specs.declared.row.Phase.{Phase}
@@ -7,10 +7,12 @@ use Rattle.entries.specs.declared.row.Phase.TheVariants.{Queued, Issued, Ended}
 use Rattle.entries.specs.declared.row.Row.{Row}
 use Rattle.opcodes.specs.Opcodes.{is_cancel, is_timer}
 use Rattle.links_drains.specs.Links.{has_flag, is_guard, is_linked, is_soft_linked}
+use Rattle.links_drains.specs.Numbered.{any_numbered}
 use Rattle.links_drains.specs.Phases.{is_ended, is_issued}
+use Rattle.links_drains.specs.Units.{is_open}
 use Rattle.timeouts_cancel.specs.Falls.{is_bad, is_negative, is_transfer}
 use Rattle.findings.specs.declared.kind.Kind.{Kind}
-use Rattle.findings.specs.declared.kind.Kind.TheVariants.{Failed, Short, Severed, Canceled, TimedOut, Expired, NotFound, TooLate, WentOn, CutOff, NoEffect}
+use Rattle.findings.specs.declared.kind.Kind.TheVariants.{Failed, Short, Severed, Canceled, TimedOut, Expired, NotFound, TooLate, WentOn, CutOff, NoEffect, SameUserData}
 
 -- ---- ends
 
@@ -85,14 +87,24 @@ is_of _ before row next res = false
 abbrev pub has_idle_field : Sqe → Bool
 has_idle_field entry = not (entry.ioprio == 0) || (not (entry.buf_index == 0) || (not (entry.personality == 0) || not (unsigned_abs entry.splice_fd_in == 0)))
 
--- Whether a row that comes by an event, with the one behind it if there is one, is a finding of a kind (io_uring_enter(2)):
---   CutOff: it is linked to an entry that didn't become a row with it;
---   NoEffect: a field of its entry has no effect.
-abbrev pub comes_as : Kind → Row → Option Row → Bool
-comes_as CutOff row next = is_linked row.entry && is_none next
-comes_as NoEffect row next = has_idle_field row.entry
-comes_as kind row next = false
+-- whether a row stands before one of a number, hasn't ended, and has a user_data
+abbrev pub is_twin : ℕ → ℕ → ℕ → Row → Bool
+is_twin r user q other = nat_lt q r && (is_open other && (other.entry.user_data == user))
 
--- whether a row, as it was before an event and is behind it, ends by it, and that is a finding of a kind; or it comes by it, and that is
-abbrev pub row_test : Kind → Option Row → Row → Option Row → Bool
-row_test kind before row next = option_map_or (is_of kind before row next) (ending_of before row) false || (is_none before && comes_as kind row next)
+-- whether some row has that of the row of a number; 0 is left out, which an entry has that gives none
+abbrev pub has_twin : List Row → ℕ → Row → Bool
+has_twin rows r row = not (row.entry.user_data == 0) && any_numbered (is_twin r row.entry.user_data) rows
+
+-- Whether a row that comes by an event, among all rows behind it, is a finding of a kind (io_uring_enter(2)):
+--   CutOff: it is linked to an entry that didn't become a row with it;
+--   NoEffect: a field of its entry has no effect;
+--   SameUserData: an earlier row that hasn't ended has its user_data, so that their completions can't be told apart.
+abbrev pub comes_as : Kind → List Row → ℕ → Row → Bool
+comes_as CutOff rows r row = is_linked row.entry && is_none (slice_get rows (r + 1))
+comes_as NoEffect rows r row = has_idle_field row.entry
+comes_as SameUserData rows r row = has_twin rows r row
+comes_as kind rows r row = false
+
+-- whether a row, as it was before an event and is among all rows behind it, ends by it, and that is a finding of a kind; or it comes by it, and that is
+abbrev pub row_test : Kind → Option Row → List Row → ℕ → Row → Bool
+row_test kind before rows r row = option_map_or (is_of kind before row (slice_get rows (r + 1))) (ending_of before row) false || (is_none before && comes_as kind rows r row)

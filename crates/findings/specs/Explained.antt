@@ -7,7 +7,7 @@ use Rattle.script.specs.Scripts.{Scenario, Reads}
 use Rattle.traces.specs.Setups.{IsTrace2}
 use Rattle.findings.specs.declared.finding.Finding.{Finding}
 use Rattle.findings.specs.declared.kind.Kind.{Kind}
-use Rattle.findings.specs.declared.kind.Kind.TheVariants.{Failed, Short, Severed, Canceled, TimedOut, Expired, NotFound, TooLate, Overflow, Busy, Waits, LostWakeUp, NotTaken, NotReaped, Unfinished, BufferInUse, Unordered, SharedPosition, FsyncEarly, TakenShort, NoSuchSlot, CutOff, WentOn, NoEffect, SlotInUse, ClosedEarly, ClosedWhileHeld, RefusedFlags}
+use Rattle.findings.specs.declared.kind.Kind.TheVariants.{Failed, Short, Severed, Canceled, TimedOut, Expired, NotFound, TooLate, Overflow, Busy, Waits, LostWakeUp, NotTaken, NotReaped, Unfinished, BufferInUse, Unordered, SharedPosition, FsyncEarly, TakenShort, NoSuchSlot, CutOff, WentOn, NoEffect, SlotInUse, ClosedEarly, ClosedWhileHeld, Several, LeftRunning, SameUserData, NotDurable, RefusedFlags}
 use Rattle.findings.specs.Findings.{number_of, IsToldOf}
 
 -- whether a kind is a fault, and no note
@@ -39,6 +39,10 @@ is_fault NoEffect = false
 is_fault SlotInUse = true
 is_fault ClosedEarly = true
 is_fault ClosedWhileHeld = false
+is_fault Several = false
+is_fault LeftRunning = false
+is_fault SameUserData = false
+is_fault NotDurable = false
 is_fault RefusedFlags = true
 
 -- whether a kind is asked for: one alone, or each

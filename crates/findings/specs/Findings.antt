@@ -8,11 +8,12 @@ use Rattle.machine.specs.declared.whole.Machine.{Machine}
 use Rattle.machine.specs.Steps.{after}
 use Rattle.machine.specs.Runs.{moment as machine_at}
 use Rattle.findings.specs.declared.kind.Kind.{Kind}
-use Rattle.findings.specs.declared.kind.Kind.TheVariants.{Failed, Short, Severed, Canceled, TimedOut, Expired, NotFound, TooLate, Overflow, Busy, Waits, LostWakeUp, NotTaken, NotReaped, Unfinished, BufferInUse, Unordered, SharedPosition, FsyncEarly, TakenShort, NoSuchSlot, CutOff, WentOn, NoEffect, SlotInUse, ClosedEarly, ClosedWhileHeld, RefusedFlags}
+use Rattle.findings.specs.declared.kind.Kind.TheVariants.{Failed, Short, Severed, Canceled, TimedOut, Expired, NotFound, TooLate, Overflow, Busy, Waits, LostWakeUp, NotTaken, NotReaped, Unfinished, BufferInUse, Unordered, SharedPosition, FsyncEarly, TakenShort, NoSuchSlot, CutOff, WentOn, NoEffect, SlotInUse, ClosedEarly, ClosedWhileHeld, Several, LeftRunning, SameUserData, NotDurable, RefusedFlags}
 use Rattle.findings.specs.declared.finding.Finding.{Finding}
 use Rattle.findings.specs.Endings.{row_test}
 use Rattle.findings.specs.Conditions.{overflows, done_by, is_of_step, is_step_of, stands, is_left, Began}
 use Rattle.findings.specs.Conflicts.{clashes}
+use Rattle.findings.specs.Canceling.{cancel_shows}
 use Rattle.findings.specs.Uses.{changes_slot}
 
 -- ---- order
@@ -46,6 +47,10 @@ number_of NoEffect = 23
 number_of SlotInUse = 24
 number_of ClosedEarly = 25
 number_of ClosedWhileHeld = 26
+number_of Several = 27
+number_of LeftRunning = 28
+number_of SameUserData = 29
+number_of NotDurable = 30
 number_of RefusedFlags = 31
 
 -- where a finding stands among all: by its moment, its kind, and the number of what it is about
@@ -61,7 +66,7 @@ Rises least (f ∷ fs) = (least ≤ rank f) × Rises (rank f + 1) fs
 
 -- whether the row of a number ends by an event that leads from one machine to another, or comes by it, and that is a finding of a kind
 abbrev pub ends : Kind → Machine → Machine → ℕ → Bool
-ends kind before behind r = option_map_or (λ row. row_test kind (slice_get before.table r) row (slice_get behind.table (r + 1))) (slice_get behind.table r) false
+ends kind before behind r = option_map_or (row_test kind (slice_get before.table r) behind.table r) (slice_get behind.table r) false
 
 -- Whether an event is a finding about the rings, with 0:
 --   Overflow: completions are kept, and none was before it.
@@ -74,7 +79,7 @@ abbrev pub step_shows : Setup → Kind → Machine → Event → Machine → ℕ
 step_shows s kind before e behind t = is_step_of t e && option_map_or (λ x. is_of_step kind (changes_slot before x) x behind t) (done_by s before e) false
 
 abbrev pub shows : Setup → Kind → Machine → Event → Machine → ℕ → Bool
-shows s kind before e behind n = ring_shows kind before behind n || step_shows s kind before e behind n
+shows s kind before e behind n = ring_shows kind before behind n || (step_shows s kind before e behind n || cancel_shows kind before e behind n)
 
 -- whether an event that leads from one machine to another is a finding of a kind
 abbrev pub occurs : Setup → Kind → Machine → Event → Machine → ℕ → Bool
@@ -89,11 +94,11 @@ occurs_at s es i kind n =
 abbrev pub stands_at : Setup → List Event → Kind → ℕ → ℕ → Bool
 stands_at s es kind n i = stands s kind (machine_at s es i) n
 
--- a row that is unfinished at the end
+-- a row that is unfinished at the end, or a file that isn't durable
 abbrev pub IsLeft : Setup → List Event → Finding → Type 0
-IsLeft s es f = (f.moment ≡ length es) × (is_left f.kind (machine_at s es (length es)) f.subject ≡ true)
+IsLeft s es f = (f.moment ≡ length es) × (is_left s f.kind (machine_at s es (length es)) f.subject ≡ true)
 
--- A finding: the event at its moment is one; or a condition holds from its moment on up to the end, and not before; or its moment is the end, where a row is unfinished.
+-- A finding: the event at its moment is one; or a condition holds from its moment on up to the end, and not before; or its moment is the end, where a row is unfinished, or a file not durable.
 abbrev pub IsFinding : Setup → List Event → Finding → Type 0
 IsFinding s es f = (occurs_at s es f.moment f.kind f.subject ≡ true) ⊎ (Began (stands_at s es f.kind f.subject) (length es) f.moment ⊎ IsLeft s es f)
 

@@ -8,8 +8,9 @@ use Rattle.places.specs.declared.place.Place.{Place}
 use Rattle.places.specs.declared.place.Place.TheVariants.{Request}
 use Rattle.places.specs.declared.value.Change.{Change}
 use Rattle.places.specs.declared.value.Value.{Value}
-use Rattle.places.specs.declared.value.Value.TheVariants.{Requested}
+use Rattle.places.specs.declared.value.Value.TheVariants.{Number, Byte, Requested}
 use Rattle.places.specs.View.{View, Exact, NamesOnce}
+use Rattle.model_files.specs.Worlds.{WorldState}
 use Rattle.scenario.specs.declared.event.Event.{Event}
 use Rattle.scenario.specs.declared.event.Event.TheVariants.{Step}
 use Rattle.scenario.specs.declared.setup.Instruction.{Instruction}
@@ -21,15 +22,18 @@ use Rattle.machine.specs.Whole.{view}
 use Rattle.run_log.specs.declared.fault.LogFault.{LogFault}
 use Rattle.run_log.specs.declared.fault.LogFault.TheVariants.{Script, Trace, Schedule, Write, Memory}
 use Rattle.findings.specs.declared.kind.Kind.{Kind}
-use Rattle.findings.specs.declared.kind.Kind.TheVariants.{Failed, Short, Severed, Canceled, TimedOut, Expired, NotFound, TooLate, Overflow, Busy, Unfinished, BufferInUse, Unordered, SharedPosition, FsyncEarly, TakenShort, NoSuchSlot, CutOff, WentOn, NoEffect, SlotInUse, ClosedEarly, ClosedWhileHeld, RefusedFlags}
+use Rattle.findings.specs.declared.kind.Kind.TheVariants.{Failed, Short, Severed, Canceled, TimedOut, Expired, NotFound, TooLate, Overflow, Busy, Unfinished, BufferInUse, Unordered, SharedPosition, FsyncEarly, TakenShort, NoSuchSlot, CutOff, WentOn, NoEffect, SlotInUse, ClosedEarly, ClosedWhileHeld, Several, LeftRunning, SameUserData, NotDurable, RefusedFlags}
+use Rattle.findings.specs.declared.canceling.Cancel.{Cancel}
 use Rattle.findings.specs.declared.deed.Deed.{Deed}
 use Rattle.findings.specs.declared.deed.Deed.TheVariants.{Nothing}
 use Rattle.findings.specs.declared.finding.Finding.{Finding}
 use Rattle.findings.specs.Endings.{row_test}
-use Rattle.findings.specs.Conditions.{overflows, done_by, is_of_step, Began}
+use Rattle.findings.specs.Canceling.{cancel_before, is_of_cancel}
+use Rattle.findings.specs.Conditions.{overflows, done_by, is_of_step, has_unsynced, Began}
 use Rattle.findings.specs.Conflicts.{done_at, is_candidate, conflicts}
 use Rattle.findings.specs.Uses.{changes_at}
 use Rattle.findings.specs.Findings.{rank, occurs_at, stands_at, IsLeft, IsFinding}
+use Rattle.findings.specs.Watched.{numbers_below}
 
 -- ---- one record
 
@@ -39,23 +43,23 @@ given test f = if test then f ∷ [] else []
 
 -- the kinds that are about rows which come or end
 abbrev pub row_kinds : List Kind
-row_kinds = Failed ∷ Short ∷ Severed ∷ Canceled ∷ TimedOut ∷ Expired ∷ NotFound ∷ TooLate ∷ CutOff ∷ WentOn ∷ NoEffect ∷ []
+row_kinds = Failed ∷ Short ∷ Severed ∷ Canceled ∷ TimedOut ∷ Expired ∷ NotFound ∷ TooLate ∷ CutOff ∷ WentOn ∷ NoEffect ∷ SameUserData ∷ []
 
-abbrev pub of_row : ℕ → ℕ → Option Row → Row → Option Row → List Kind → List Finding
-of_row i r before row next kinds = flat_map (λ (kind : Kind). given (row_test kind before row next) (record { moment = i; kind = kind; subject = r })) kinds
+abbrev pub of_row : ℕ → Option Row → List Row → ℕ → Row → List Kind → List Finding
+of_row i before rows r row kinds = flat_map (λ (kind : Kind). given (row_test kind before rows r row) (record { moment = i; kind = kind; subject = r })) kinds
 
 -- the row that a value is, if it is one
 abbrev pub row_in : Option Value → Option Row
 row_in (Some (Requested row)) = Some row
 row_in _ = None
 
--- the findings of what a record names
-abbrev pub of_place : ℕ → View → Option Value → Place → List Finding
-of_place i behind before (Request r) = option_map_or (λ (row : Row). of_row i r (row_in before) row (row_in (behind (Request (r + 1)))) row_kinds) (row_in (behind (Request r))) []
-of_place i behind before _ = []
+-- the findings of what a record names, among all rows
+abbrev pub of_place : ℕ → List Row → Option Value → Place → List Finding
+of_place i rows before (Request r) = option_map_or (λ (row : Row). of_row i (row_in before) rows r row row_kinds) (slice_get rows r) []
+of_place i rows before _ = []
 
-abbrev pub of_change : ℕ → View → Change → List Finding
-of_change i behind c = of_place i behind c.old c.place
+abbrev pub of_change : ℕ → List Row → Change → List Finding
+of_change i rows c = of_place i rows c.old c.place
 
 abbrev pub is_row : Place → Bool
 is_row (Request r) = true
@@ -84,9 +88,21 @@ abbrev pub of_step : ℕ → Bool → Option Instruction → Event → Machine �
 of_step i changes (Some x) (Step t) behind = of_instruction i changes x behind t step_kinds
 of_step i changes x e behind = []
 
--- what an event shows of rings and threads
+-- the kinds that are about cancels and removals, by what they match
+abbrev pub cancel_kinds : List Kind
+cancel_kinds = Several ∷ LeftRunning ∷ []
+
+abbrev pub of_kinds : ℕ → Cancel → List Row → List Kind → List Finding
+of_kinds i x rows kinds = flat_map (λ (kind : Kind). given (is_of_cancel kind x rows) (record { moment = i; kind = kind; subject = x.number })) kinds
+
+-- what one shows that has ended
+abbrev pub of_cancel : ℕ → Option Cancel → List Row → List Finding
+of_cancel i None rows = []
+of_cancel i (Some x) rows = of_kinds i x rows cancel_kinds
+
+-- what an event shows of rings and threads, and of a cancel or a removal
 abbrev pub of_event : Setup → ℕ → Machine → Event → Machine → List Finding
-of_event s i before e behind = of_overflow i (overflows before) (overflows behind) ++ of_step i (changes_at before (done_by s before e)) (done_by s before e) e behind
+of_event s i before e behind = of_overflow i (overflows before) (overflows behind) ++ (of_step i (changes_at before (done_by s before e)) (done_by s before e) e behind ++ of_cancel i (cancel_before before e) behind.table)
 
 -- ---- requests beside others
 
@@ -137,7 +153,7 @@ pub record Adds (s : Setup) (i : ℕ) (before : Machine) (e : Event) (behind : M
   pub past : List Change
   pub exact : Exact (view before) (view behind) past
   pub once : NamesOnce past
-  pub added : gs ≡ ((fs ++ flat_map (of_change i (view behind)) past) ++ of_event s i before e behind) ++ of_deed i s behind.table (done_at s before e behind) now
+  pub added : gs ≡ ((fs ++ flat_map (of_change i behind.table) past) ++ of_event s i before e behind) ++ of_deed i s behind.table (done_at s before e behind) now
   pub further : now ≡ after_notes (view behind) numbers past
 
 -- The findings of the first n events.
@@ -157,7 +173,27 @@ of_left n p = given (is_open p.1) (record { moment = n; kind = Unfinished; subje
 abbrev pub all_left : ℕ → List Row → List Finding
 all_left n rows = flat_map (of_left n) (enumerate_from 0 rows)
 
--- Just the rows that are unfinished at the end.
+-- the number, or the byte, that a value is, if it is one
+abbrev pub number_in : Option Value → Option ℕ
+number_in (Some (Number n)) = Some n
+number_in _ = None
+
+abbrev pub byte_in : Option Value → Option ℕ
+byte_in (Some (Byte b)) = Some b
+byte_in _ = None
+
+abbrev pub differ : Option ℕ → Option ℕ → Bool
+differ (Some a) (Some b) = not (a == b)
+differ _ _ = false
+
+-- what a setup's object shows at the end
+abbrev pub of_object : ℕ → WorldState → ℕ → List Finding
+of_object n w o = given (has_unsynced w o) (record { moment = n; kind = NotDurable; subject = o })
+
+abbrev pub all_unsynced : Setup → ℕ → WorldState → List Finding
+all_unsynced s n w = flat_map (of_object n w) (numbers_below (length s.objects))
+
+-- Just the rows that are unfinished at the end, and the files that aren't durable.
 pub record AreLeft (s : Setup) (es : List Event) (fs : List Finding) : Type 0 where
   pub only : All (IsLeft s es) fs
   pub whole : (f : Finding) → IsLeft s es f → Contains fs f

@@ -26,7 +26,7 @@ fn look_at_row(
     state: &State,
 ) -> Result<(), AllocError>
     ensures added { OnOk result (found.new.items ≡ found.old.items
-        ++ of_place moment (view state.now) old (Place.Request number)) }
+        ++ of_place moment state.now.table old (Place.Request number)) }
     ensures further { OnOk result (numbers.new.items
         ≡ after_note (view state.now) numbers.old.items old (Place.Request number)) }
 {
@@ -36,8 +36,7 @@ fn look_at_row(
     };
     follow(numbers, number, was, is_candidate(&row))?;
     note_row(times, moment, number, row.phase)?;
-    let next = row_at(state, number + 1);
-    add_of_any_kind(found, moment, number, &row_in(old), &row, &next)
+    add_of_any_kind(found, moment, &row_in(old), state, number, &row)
 }
 
 fn look_at_change(
@@ -49,7 +48,7 @@ fn look_at_change(
     state: &State,
 ) -> Result<(), AllocError>
     ensures added { OnOk result (found.new.items
-        ≡ found.old.items ++ of_change moment (view state.now) change) }
+        ≡ found.old.items ++ of_change moment state.now.table change) }
     ensures further { OnOk result (numbers.new.items
         ≡ after_note (view state.now) numbers.old.items change.old change.place) }
 {
@@ -68,7 +67,7 @@ fn look_at_changes(
     state: &State,
 ) -> Result<(), AllocError>
     ensures added { OnOk result (found.new.items
-        ≡ found.old.items ++ flat_map (of_change moment (view state.now)) rest.old) }
+        ≡ found.old.items ++ flat_map (of_change moment state.now.table) rest.old) }
     ensures further { OnOk result (numbers.new.items
         ≡ after_notes (view state.now) numbers.old.items rest.old) }
 {
@@ -96,7 +95,7 @@ pub(crate) fn look_at_record(
     state: &State,
 ) -> Result<(), AllocError>
     ensures added { OnOk result (found.new.items ≡ found.old.items
-        ++ flat_map (of_change moment (view state.now)) past.now) }
+        ++ flat_map (of_change moment state.now.table) past.now) }
     ensures once { OnOk result (NamesOnce past.now) }
     ensures further { OnOk result (numbers.new.items
         ≡ after_notes (view state.now) numbers.old.items past.now) }

@@ -3,9 +3,11 @@ ghost use Rattle.std.specs.Prelude.{◌≡◌};
 ghost use Rattle.std.specs.Option.{option_copied};
 ghost use Rattle.links_drains.specs.Links.{has_flag};
 ghost use Rattle.findings.specs.Conditions.{needs_wake_up, overflows, has_entries, has_completions, counter_of, instruction_at, done_by, answer_of, is_of_enter, is_of_push, has_closed, is_of_close, is_of_step, waits, stands};
+ghost use Rattle.findings.specs.Canceling.{cancel_before};
 ghost use Rattle.findings.specs.Endings.{is_error, is_less};
 ghost use Rattle.findings.specs.Uses.{changes_at};
 
+use crate::canceling::{Cancel, cancel_before};
 use crate::files::number_in;
 use crate::kind::Kind;
 use crate::uses::{
@@ -21,7 +23,7 @@ const NEED_WAKEUP: u64 = 1;
 /// IORING_SQ_CQ_OVERFLOW.
 const CQ_OVERFLOW: u64 = 2;
 
-/// What is to be known of the rings and the threads before an event.
+/// What is to be known of the rings, the threads and a cancel before an event.
 #[derive(Clone, Copy)]
 pub(crate) struct Before {
     /// Completions are kept.
@@ -30,6 +32,8 @@ pub(crate) struct Before {
     pub counter: Option<u64>,
     /// The event is a Put of other bytes than its slot has.
     pub changes: bool,
+    /// The cancel or the removal that the event is to end.
+    pub cancel: Option<Cancel>,
 }
 
 impl Before {
@@ -38,12 +42,14 @@ impl Before {
         ensures counter { result.counter ≡ counter_of state.now event }
         ensures changes { result.changes ≡ changes_at state.now
             (done_by setup.now state.now event) }
+        ensures cancel { result.cancel ≡ cancel_before state.now event }
     {
         let counter = counter_of(state, event);
         Before {
             overflows: overflows(state),
             counter,
             changes: changes_at(state, instruction_at(setup, event, counter)),
+            cancel: cancel_before(state, event),
         }
     }
 }

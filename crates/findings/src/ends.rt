@@ -1,13 +1,16 @@
 //! What the end of a request is a finding of (io_uring_enter(2)).
-ghost use Rattle.std.specs.Prelude.{◌≡◌, ◌&&◌, None, false};
+ghost use Rattle.std.specs.Prelude.{◌≡◌, ◌+◌, ◌&&◌, None, false, slice_get};
 ghost use Rattle.timeouts_cancel.specs.Falls.{is_bad, is_transfer};
 ghost use Rattle.std.specs.Option.{option_map_or};
 ghost use Rattle.links_drains.specs.Links.{has_flag, is_linked};
 ghost use Rattle.findings.specs.Endings.{had_ended, was_issued, ending_of, is_error, is_less, is_told_apart, has_next, leaves_chain, is_of, has_idle_field, comes_as, row_test};
 
 use crate::kind::Kind;
+use crate::leftover::row_at;
+use crate::twins::has_twin;
 use entries::{Phase, Row, Sqe};
 use links_drains::{is_guard, is_soft_linked};
+use machine::State;
 use opcodes::{EALREADY, ECANCELED, ENOENT, ETIME, Op, is_cancel, is_timer};
 
 /// IOSQE_IO_LINK.
@@ -115,12 +118,23 @@ fn severs(before: &Option<Row>, row: &Row, res: i32) -> bool
     is_soft_linked(row) && (is_bad(row, res) && (was_issued(before) || !is_canceled(res)))
 }
 
-// Whether another row that is no guard stands just behind a row in its chain.
-fn has_next(row: &Row, next: &Option<Row>) -> bool
-    ensures { result ≡ has_next row.now next.now }
+// The row behind one of a number.
+fn row_behind(state: &State, number: u32) -> Option<Row>
+    ensures { result ≡ slice_get state.now.table (number + 1) }
 {
-    match next {
-        Some(other) => other.unit == row.unit && !is_guard(other),
+    let _row = row_at(state, number);
+    match number.checked_add(1) {
+        Some(next) => row_at(state, next),
+        None => None,
+    }
+}
+
+// Whether another row that is no guard stands just behind a row in its chain.
+fn has_next(row: &Row, state: &State, number: u32) -> bool
+    ensures { result ≡ has_next row.now (slice_get state.now.table (number + 1)) }
+{
+    match row_behind(state, number) {
+        Some(other) => other.unit == row.unit && !is_guard(&other),
         None => false,
     }
 }
@@ -140,8 +154,8 @@ fn leaves_chain(before: &Option<Row>, row: &Row, res: i32) -> bool
 }
 
 // Whether a row that ends with a result is a finding of a kind.
-fn is_of(kind: Kind, before: &Option<Row>, row: &Row, next: &Option<Row>, res: i32) -> bool
-    ensures { result ≡ is_of kind before.now row.now next.now res }
+fn is_of(kind: Kind, before: &Option<Row>, state: &State, number: u32, row: &Row, res: i32) -> bool
+    ensures { result ≡ is_of kind before.now row.now (slice_get state.now.table (number + 1)) res }
 {
     match kind {
         Kind::Failed => res < 0 && !is_told_apart(row, res),
@@ -152,7 +166,7 @@ fn is_of(kind: Kind, before: &Option<Row>, row: &Row, next: &Option<Row>, res: i
         Kind::Expired => row.entry.opcode == Op::Timeout as u8 && is_out_of_time(res),
         Kind::NotFound => is_cancel(row.entry.opcode) && is_not_there(res),
         Kind::TooLate => is_cancel(row.entry.opcode) && is_under_way(res),
-        Kind::WentOn => leaves_chain(before, row, res) && has_next(row, next),
+        Kind::WentOn => leaves_chain(before, row, res) && has_next(row, state, number),
         _ => false,
     }
 }
@@ -172,31 +186,40 @@ fn is_linked(entry: &Sqe) -> bool
     entry.flags & IO_LINK != 0 || entry.flags & IO_HARDLINK != 0
 }
 
-// Whether a row that comes, with the one behind it, is a finding of a kind.
-fn comes_as(kind: Kind, row: &Row, next: &Option<Row>) -> bool
-    ensures { result ≡ comes_as kind row.now next.now }
+// Whether a row that comes, among all rows behind the event, is a finding of a kind.
+fn comes_as(kind: Kind, state: &State, number: u32, row: &Row) -> bool
+    ensures { result ≡ comes_as kind state.now.table number row.now }
 {
     match kind {
-        Kind::CutOff => is_linked(&row.entry) && next.is_none(),
+        Kind::CutOff => is_linked(&row.entry) && row_behind(state, number).is_none(),
         Kind::NoEffect => has_idle_field(&row.entry),
+        Kind::SameUserData => has_twin(state, number, row),
         _ => false,
     }
 }
 
-fn ends_as(kind: Kind, before: &Option<Row>, row: &Row, next: &Option<Row>) -> bool
-    ensures { result ≡ option_map_or (is_of kind before.now row.now next.now)
+fn ends_as(kind: Kind, before: &Option<Row>, state: &State, number: u32, row: &Row) -> bool
+    ensures { result ≡ option_map_or
+        (is_of kind before.now row.now (slice_get state.now.table (number + 1)))
         (ending_of before.now row.now) false }
 {
     match ending_of(before, row) {
-        Some(res) => is_of(kind, before, row, next, res),
+        Some(res) => is_of(kind, before, state, number, row, res),
         None => false,
     }
 }
 
-/// Whether a row, as it was before an event and is behind it, ends by it, and that is a finding of
-/// a kind; or it comes by it, and that is.
-pub(crate) fn row_test(kind: Kind, before: &Option<Row>, row: &Row, next: &Option<Row>) -> bool
-    ensures { result ≡ row_test kind before.now row.now next.now }
+/// Whether a row, as it was before an event and is among all rows behind it, ends by it, and that
+/// is a finding of a kind; or it comes by it, and that is.
+pub(crate) fn row_test(
+    kind: Kind,
+    before: &Option<Row>,
+    state: &State,
+    number: u32,
+    row: &Row,
+) -> bool
+    ensures { result ≡ row_test kind before.now state.now.table number row.now }
 {
-    ends_as(kind, before, row, next) || (before.is_none() && comes_as(kind, row, next))
+    ends_as(kind, before, state, number, row)
+        || (before.is_none() && comes_as(kind, state, number, row))
 }

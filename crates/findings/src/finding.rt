@@ -10,14 +10,14 @@ pub struct Finding {
     /// The moment before the event that shows it, counted from 0.
     pub moment: u32,
     pub kind: Kind,
-    /// The number of the row that it is about.
+    /// The number of the row, the thread or the object that it is about, or 0.
     pub subject: u32,
 }
 
 /// More than the numbers of kinds.
 const KINDS: u128 = 32;
 
-/// More than the numbers of rows and threads.
+/// More than the numbers of rows, threads and objects.
 const SUBJECTS: u128 = 4294967296;
 
 /// Where a finding stands among all.

@@ -61,12 +61,20 @@ pub enum Kind {
     ClosedEarly = 25,
     /// A Close closed a descriptor that an issued request holds.
     ClosedWhileHeld = 26,
+    /// A cancel or a removal of one request matched more than one.
+    Several = 27,
+    /// A cancel of all left requests that were running.
+    LeftRunning = 28,
+    /// A request came with the user_data of an earlier one that hadn't ended.
+    SameUserData = 29,
+    /// At the end the device hasn't a file as it is.
+    NotDurable = 30,
     /// An Enter was answered EINVAL.
     RefusedFlags = 31,
 }
 
 /// All kinds.
-const KINDS: [Kind; 28] = [
+const KINDS: [Kind; 32] = [
     Kind::Failed,
     Kind::Short,
     Kind::Severed,
@@ -94,6 +102,10 @@ const KINDS: [Kind; 28] = [
     Kind::SlotInUse,
     Kind::ClosedEarly,
     Kind::ClosedWhileHeld,
+    Kind::Several,
+    Kind::LeftRunning,
+    Kind::SameUserData,
+    Kind::NotDurable,
     Kind::RefusedFlags,
 ];
 
@@ -138,6 +150,10 @@ impl Kind {
             Kind::SlotInUse => "slot-in-use",
             Kind::ClosedEarly => "closed-early",
             Kind::ClosedWhileHeld => "closed-while-held",
+            Kind::Several => "several",
+            Kind::LeftRunning => "left-running",
+            Kind::SameUserData => "same-user-data",
+            Kind::NotDurable => "not-durable",
             Kind::RefusedFlags => "refused-flags",
         }
     }
@@ -155,6 +171,10 @@ impl Kind {
                 | Kind::WentOn
                 | Kind::NoEffect
                 | Kind::ClosedWhileHeld
+                | Kind::Several
+                | Kind::LeftRunning
+                | Kind::SameUserData
+                | Kind::NotDurable
         )
     }
 
@@ -178,7 +198,11 @@ impl Kind {
         !self.is_of_thread()
             && !matches!(
                 self,
-                Kind::Overflow | Kind::LostWakeUp | Kind::NotTaken | Kind::NotReaped
+                Kind::Overflow
+                    | Kind::LostWakeUp
+                    | Kind::NotTaken
+                    | Kind::NotReaped
+                    | Kind::NotDurable
             )
     }
 

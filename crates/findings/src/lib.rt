@@ -2,6 +2,7 @@
 //! told in sentences.
 #![tactic(auto)]
 
+mod canceling;
 mod changes;
 mod conditions;
 mod conflicts;
@@ -22,6 +23,8 @@ mod searching;
 mod sentences;
 mod telling;
 mod times;
+mod twins;
+mod unsynced;
 mod uses;
 mod watching;
 

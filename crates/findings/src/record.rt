@@ -4,8 +4,9 @@ ghost use Rattle.std.specs.List.{flat_map};
 ghost use Rattle.std.specs.Option.{option_copied};
 ghost use Rattle.findings.specs.Endings.{row_test};
 ghost use Rattle.findings.specs.Conditions.{overflows, instruction_at};
-ghost use Rattle.findings.specs.Records.{given, row_kinds, of_row, row_in, of_overflow, of_instruction, of_step, of_candidate, of_number, of_deed};
+ghost use Rattle.findings.specs.Records.{given, row_kinds, of_row, row_in, of_overflow, of_instruction, of_step, of_kinds, of_cancel, of_candidate, of_number, of_deed};
 
+use crate::canceling::{Cancel, is_of_cancel};
 use crate::conditions::{Before, instruction_at, is_of_step, overflows};
 use crate::conflicts::conflicts;
 use crate::deed::Deed;
@@ -19,7 +20,7 @@ use places::Value;
 use std::alloc::AllocError;
 
 /// The kinds that are about rows which come or end.
-const ROW_KINDS: [Kind; 11] = [
+const ROW_KINDS: [Kind; 12] = [
     Kind::Failed,
     Kind::Short,
     Kind::Severed,
@@ -31,6 +32,7 @@ const ROW_KINDS: [Kind; 11] = [
     Kind::CutOff,
     Kind::WentOn,
     Kind::NoEffect,
+    Kind::SameUserData,
 ];
 
 /// The kinds that are about steps of threads.
@@ -43,6 +45,9 @@ const STEP_KINDS: [Kind; 7] = [
     Kind::ClosedWhileHeld,
     Kind::RefusedFlags,
 ];
+
+/// The kinds that are about cancels and removals, by what they match.
+const CANCEL_KINDS: [Kind; 2] = [Kind::Several, Kind::LeftRunning];
 
 /// The kinds that are about a READ or a WRITE which hasn't ended, beside what an event does.
 const CONFLICT_KINDS: [Kind; 4] = [
@@ -70,14 +75,14 @@ pub(crate) fn add_if(
 fn add_of_row(
     found: &mut Vec<Finding>,
     moment: u32,
-    number: u32,
     before: &Option<Row>,
+    state: &State,
+    number: u32,
     row: &Row,
-    next: &Option<Row>,
     kinds: &[Kind],
 ) -> Result<(), AllocError>
-    ensures { OnOk result (found.new.items ≡
-        found.old.items ++ of_row moment number before.now row.now next.now kinds.now) }
+    ensures { OnOk result (found.new.items ≡ found.old.items
+        ++ of_row moment before.now state.now.table number row.now kinds.now) }
 {
     for kind in kinds {
         let finding = Finding {
@@ -85,7 +90,7 @@ fn add_of_row(
             kind: *kind,
             subject: number,
         };
-        add_if(found, row_test(*kind, before, row, next), finding)?;
+        add_if(found, row_test(*kind, before, state, number, row), finding)?;
     }
     Ok(())
 }
@@ -94,15 +99,15 @@ fn add_of_row(
 pub(crate) fn add_of_any_kind(
     found: &mut Vec<Finding>,
     moment: u32,
-    number: u32,
     before: &Option<Row>,
+    state: &State,
+    number: u32,
     row: &Row,
-    next: &Option<Row>,
 ) -> Result<(), AllocError>
-    ensures { OnOk result (found.new.items ≡
-        found.old.items ++ of_row moment number before.now row.now next.now row_kinds) }
+    ensures { OnOk result (found.new.items ≡ found.old.items
+        ++ of_row moment before.now state.now.table number row.now row_kinds) }
 {
-    add_of_row(found, moment, number, before, row, next, &ROW_KINDS)
+    add_of_row(found, moment, before, state, number, row, &ROW_KINDS)
 }
 
 /// The row that a value is, if it is one.
@@ -188,7 +193,45 @@ fn add_of_step(
     }
 }
 
-/// Adds what an event shows of rings and threads, by the state behind it.
+// Adds what a cancel or a removal that has ended shows of some kinds.
+fn add_of_kinds(
+    found: &mut Vec<Finding>,
+    moment: u32,
+    cancel: &Cancel,
+    state: &State,
+    kinds: &[Kind],
+) -> Result<(), AllocError>
+    ensures { OnOk result (found.new.items ≡
+        found.old.items ++ of_kinds moment cancel.now state.now.table kinds.now) }
+{
+    for kind in kinds {
+        let finding = Finding {
+            moment,
+            kind: *kind,
+            subject: cancel.number,
+        };
+        add_if(found, is_of_cancel(*kind, cancel, state), finding)?;
+    }
+    Ok(())
+}
+
+fn add_of_cancel(
+    found: &mut Vec<Finding>,
+    moment: u32,
+    cancel: Option<Cancel>,
+    state: &State,
+) -> Result<(), AllocError>
+    ensures { OnOk result (found.new.items ≡
+        found.old.items ++ of_cancel moment cancel state.now.table) }
+{
+    match cancel {
+        Some(cancel) => add_of_kinds(found, moment, &cancel, state, &CANCEL_KINDS),
+        None => Ok(()),
+    }
+}
+
+/// Adds what an event shows of rings and threads, and of a cancel or a removal, by the state behind
+/// it.
 pub(crate) fn add_of_event(
     found: &mut Vec<Finding>,
     setup: &Setup,
@@ -199,12 +242,13 @@ pub(crate) fn add_of_event(
 ) -> Result<(), AllocError>
     ensures { OnOk result (found.new.items ≡ found.old.items ++
         (of_overflow moment before.overflows (overflows state.now)
-        ++ of_step moment before.changes (instruction_at setup.now event before.counter) event
-        state.now)) }
+        ++ (of_step moment before.changes (instruction_at setup.now event before.counter) event
+        state.now ++ of_cancel moment before.cancel state.now.table))) }
 {
     add_overflow(found, moment, before.overflows, overflows(state))?;
     let instruction = instruction_at(setup, event, before.counter);
-    add_of_step(found, moment, before.changes, instruction, event, state)
+    add_of_step(found, moment, before.changes, instruction, event, state)?;
+    add_of_cancel(found, moment, before.cancel, state)
 }
 
 // Adds what a deed shows beside a READ or a WRITE.

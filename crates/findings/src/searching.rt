@@ -9,7 +9,7 @@ ghost use Rattle.run_log.specs.Logs.{fault_by};
 ghost use Rattle.findings.specs.Findings.{IsToldOf, Rises};
 ghost use Rattle.findings.specs.Conditions.{overflows, instruction_at};
 ghost use Rattle.findings.specs.Conflicts.{done_as};
-ghost use Rattle.findings.specs.Records.{of_change, of_overflow, of_step, of_deed, after_notes, Adds, FoundBefore, IsLasting, AreLeft, all_left, IsAll, SameFindings, HaltsAt, Halted};
+ghost use Rattle.findings.specs.Records.{of_change, of_overflow, of_step, of_cancel, of_deed, after_notes, Adds, FoundBefore, IsLasting, AreLeft, all_left, all_unsynced, IsAll, SameFindings, HaltsAt, Halted};
 ghost use Rattle.findings.specs.Watched.{advanced, watched, of_lasting};
 
 use crate::changes::look_at_record;
@@ -20,6 +20,7 @@ use crate::leftover::add_all_left;
 use crate::ordering::in_order;
 use crate::record::{add_of_deed, add_of_event};
 use crate::times::{History, note_counter, note_slot};
+use crate::unsynced::add_all_unsynced;
 use crate::watching::{Watch, add_all_lasting, advance, watches_of};
 use machine::{Event, Refusal, Setup, State};
 use places::Record;
@@ -68,10 +69,10 @@ fn look(
     history: &mut History,
 ) -> Result<(), AllocError>
     ensures added { OnOk result (found.new.items
-        ≡ ((found.old.items ++ flat_map (of_change moment (view state.now)) past.now)
+        ≡ ((found.old.items ++ flat_map (of_change moment state.now.table) past.now)
         ++ (of_overflow moment before.overflows (overflows state.now)
-        ++ of_step moment before.changes (instruction_at setup.now event before.counter) event
-        state.now))
+        ++ (of_step moment before.changes (instruction_at setup.now event before.counter) event
+        state.now ++ of_cancel moment before.cancel state.now.table)))
         ++ of_deed moment setup.now state.now.table
         (done_as event
         (instruction_at setup.now event before.counter) state.now) numbers.new.items) }
@@ -134,7 +135,8 @@ fn find_all(
     ensures lasting { OnOk result
         (IsLasting setup.now events.now (flat_map of_lasting watches.new)) }
     ensures left { OnOk result
-        (AreLeft setup.now events.now (all_left (length events.now) state.new.table)) }
+        (AreLeft setup.now events.now (all_left (length events.now) state.new.table
+        ++ all_unsynced setup.now (length events.now) state.new.world)) }
     ensures err { IfErr result (Halted setup.now events.now) }
 {
     for i in 0..events.len() {
@@ -156,18 +158,22 @@ fn ordered(alloc: Global, found: Vec<Finding>) -> Result<Vec<Finding>, LogFault>
     }
 }
 
-// Adds what is found at the end: the conditions that hold, and the rows that are unfinished.
+// Adds what is found at the end: the conditions that hold, the rows that are unfinished, and the
+// files that aren't durable.
 fn add_end(
     found: &mut Vec<Finding>,
     watches: &[Watch],
+    setup: &Setup,
     moment: u32,
     state: &State,
 ) -> Result<(), AllocError>
     ensures { OnOk result (found.new.items ≡
-        (found.old.items ++ flat_map of_lasting watches.now) ++ all_left moment state.now.table) }
+        (found.old.items ++ flat_map of_lasting watches.now)
+        ++ (all_left moment state.now.table ++ all_unsynced setup.now moment state.now.world)) }
 {
     add_all_lasting(found, watches)?;
-    add_all_left(found, moment, state)
+    add_all_left(found, moment, state)?;
+    add_all_unsynced(found, setup, moment, state)
 }
 
 // Does some events from the start, and tells what they show and what is found at their end, in
@@ -198,7 +204,7 @@ fn find(
         watches,
         history,
     )?;
-    match add_end(&mut found, watches, events.len() as u32, state) {
+    match add_end(&mut found, watches, setup, events.len() as u32, state) {
         Ok(()) => Ok(found),
         Err(_) => Err(LogFault::Memory),
     }

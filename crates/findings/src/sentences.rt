@@ -3,9 +3,11 @@
 mod cancels;
 mod chains;
 mod conflicts;
+mod durable;
 mod errors;
 mod left;
 mod listing;
+mod matches;
 mod rings;
 mod uses;
 
@@ -92,6 +94,9 @@ fn row_sentence(
         Kind::CutOff => chains::cut_off(alloc, run, about),
         Kind::WentOn => chains::went_on(alloc, run, about),
         Kind::NoEffect => errors::no_effect(alloc, about),
+        Kind::Several => matches::several(alloc, run, about),
+        Kind::LeftRunning => matches::left_running(alloc, run, about),
+        Kind::SameUserData => matches::same_user_data(alloc, run, about),
         _ => beside_sentence(alloc, run, kind, about),
     }
 }
@@ -152,6 +157,7 @@ pub(crate) fn sentence(alloc: Global, run: &Run<'_>, index: usize) -> Result<Str
         Kind::NotTaken => rings::not_taken(alloc, run),
         Kind::NotReaped => rings::not_reaped(alloc, run),
         Kind::Unfinished => left::unfinished(alloc, run, finding.subject),
+        Kind::NotDurable => durable::not_durable(alloc, run, finding.subject),
         _ => sentence_of_row(alloc, run, *finding, index),
     }
 }

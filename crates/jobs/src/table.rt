@@ -130,6 +130,10 @@ pub const KINDS: &[&str] = &[
     "slot-in-use",
     "closed-early",
     "closed-while-held",
+    "several",
+    "left-running",
+    "same-user-data",
+    "not-durable",
     "refused-flags",
 ];
 

@@ -119,9 +119,9 @@ pub(crate) fn not_found(alloc: Global, run: &Run<'_>, about: &About) -> Result<S
     format!(in alloc; "Row {name} ended with -2 (ENOENT): {reason} {rule}.")
 }
 
-// The row that was running, by the cancel's user_data or descriptor.
-fn found_running(run: &Run<'_>, about: &About) -> Option<u32> {
-    for number in 0..run.times.len().min(65536) as u32 {
+/// The first row from a number on that a cancel found as it ended, by its user_data or descriptor.
+pub(super) fn next_found(run: &Run<'_>, about: &About, from: u32) -> Option<u32> {
+    for number in from..run.times.len().min(65536) as u32 {
         if let Some(row) = run.row(number) {
             if is_found(run, about, number, &row) {
                 return Some(number);
@@ -173,7 +173,7 @@ fn advice_of(run: &Run<'_>, number: u32) -> &'static str {
 pub(crate) fn too_late(alloc: Global, run: &Run<'_>, about: &About) -> Result<String, AllocError> {
     let name = about.name();
     let rule = rule_of(&about.row.entry);
-    let Some(number) = found_running(run, about) else {
+    let Some(number) = next_found(run, about, 0) else {
         return format!(in alloc; "Row {name} ended with -114 (EALREADY) {rule}.");
     };
     let Some(of) = run.name(number) else {

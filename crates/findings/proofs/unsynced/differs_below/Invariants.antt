@@ -1,0 +1,8 @@
+use Rattle.std.proofs.Common.{◌≡◌, ◌<◌, ℕ, false}
+use Rattle.places.specs.declared.place.Place.TheVariants.{FileByte, DurableByte}
+use Rattle.machine.specs.Whole.{view}
+use Rattle.findings.specs.Records.{byte_in, differ}
+use Rattle.findings.proofs.unsynced.differs_below.Given as goal
+
+abbrev pub invariant-loop-at : goal.invariant-loop-at
+invariant-loop-at l = (i : ℕ) → i < l.at → differ (byte_in (view l.state (FileByte l.object i))) (byte_in (view l.state (DurableByte l.object i))) ≡ false

@@ -1,0 +1,40 @@
+//! Rows whose completions can't be told apart.
+ghost use Rattle.std.specs.Prelude.{◌≡◌, ◌==◌, false, slice_get};
+ghost use Rattle.std.specs.Option.{option_map_or};
+ghost use Rattle.entries.specs.declared.row.Row.{Row};
+ghost use Rattle.findings.specs.Endings.{has_twin};
+
+use crate::leftover::row_at;
+use entries::Row;
+use machine::State;
+
+fn has_user_data(state: &State, number: u32, user_data: u64) -> bool
+    ensures { result ≡ option_map_or (λ (row : Row). row.entry.user_data == user_data)
+        (slice_get state.now.table number) false }
+{
+    match row_at(state, number) {
+        Some(row) => row.entry.user_data == user_data,
+        None => false,
+    }
+}
+
+/// Whether a row that hasn't ended, and stands before one of a number, has its user_data, which
+/// isn't 0. It looks at no row that ended.
+pub(crate) fn has_twin(state: &State, number: u32, row: &Row) -> bool
+    ensures { result ≡ has_twin state.now.table number row.now }
+{
+    if row.entry.user_data == 0 {
+        return false;
+    }
+    let mut from = 0;
+    while let Some(other) = state.next_unfinished(from) {
+        if other >= number {
+            return false;
+        }
+        if has_user_data(state, other, row.entry.user_data) {
+            return true;
+        }
+        from = other + 1;
+    }
+    false
+}

@@ -1,0 +1,116 @@
+//! Files of which bytes were written that aren't durable at the end of a run (fsync(2)).
+ghost use Rattle.std.specs.Prelude.{◌≡◌, ℕ, ◌++◌, ◌<◌, ◌≤◌, true, false, OnOk, MatchBool};
+ghost use Rattle.places.specs.declared.place.Place.TheVariants.{FileByte, DurableByte};
+ghost use Rattle.machine.specs.Whole.{view, WellFormed};
+ghost use Rattle.findings.specs.Conditions.{has_unsynced};
+ghost use Rattle.findings.specs.Records.{number_in, byte_in, differ, of_object, all_unsynced};
+
+use crate::finding::Finding;
+use crate::kind::Kind;
+use crate::record::add_if;
+use machine::{Setup, State};
+use places::{Place, Value};
+use std::alloc::AllocError;
+
+/// The number that stands in a place, if one does.
+pub(crate) fn number_at(state: &State, place: Place) -> Option<u64>
+    ensures value { result ≡ number_in (view state.now place) }
+    ensures formed { WellFormed state.now }
+{
+    match state.value(place) {
+        Some(Value::Number(number)) => Some(number),
+        _ => None,
+    }
+}
+
+fn byte_at(state: &State, place: Place) -> Option<u8>
+    ensures { result ≡ byte_in (view state.now place) }
+{
+    match state.value(place) {
+        Some(Value::Byte(byte)) => Some(byte),
+        _ => None,
+    }
+}
+
+/// Whether the device hasn't a byte of a file as it is.
+pub(crate) fn differs_at(state: &State, object: u32, at: u32) -> bool
+    ensures { result ≡ differ (byte_in (view state.now (FileByte object at)))
+        (byte_in (view state.now (DurableByte object at))) }
+{
+    match (
+        byte_at(state, Place::FileByte(object, at)),
+        byte_at(state, Place::DurableByte(object, at)),
+    ) {
+        (Some(byte), Some(durable)) => byte != durable,
+        _ => false,
+    }
+}
+
+// Whether the device hasn't one of the first bytes of a file as it is.
+fn differs_below(state: &State, object: u32, len: u64) -> bool
+    requires { len ≤ 65536 }
+    ensures { MatchBool result
+        ((i : ℕ) × (i < len) × (differ (byte_in (view state.now (FileByte object i)))
+        (byte_in (view state.now (DurableByte object i))) ≡ true))
+        ((i : ℕ) → i < len → differ (byte_in (view state.now (FileByte object i)))
+        (byte_in (view state.now (DurableByte object i))) ≡ false) }
+{
+    for at in 0..len {
+        if differs_at(state, object, at as u32) {
+            return true;
+        }
+    }
+    false
+}
+
+fn has_unsynced(state: &State, object: u32) -> bool
+    ensures { result ≡ has_unsynced state.now.world object }
+{
+    let Some(len) = number_at(state, Place::FileLength(object)) else {
+        return false;
+    };
+    let Some(durable) = number_at(state, Place::DurableLength(object)) else {
+        return false;
+    };
+    if len != durable {
+        return true;
+    }
+    differs_below(state, object, len)
+}
+
+// Adds a setup's object that is a file and not durable.
+fn add_unsynced(
+    found: &mut Vec<Finding>,
+    moment: u32,
+    state: &State,
+    object: u32,
+) -> Result<(), AllocError>
+    ensures { OnOk result (found.new.items ≡
+        found.old.items ++ of_object moment state.now.world object) }
+{
+    let finding = Finding {
+        moment,
+        kind: Kind::NotDurable,
+        subject: object,
+    };
+    add_if(found, has_unsynced(state, object), finding)
+}
+
+/// Adds all files of which bytes were written that aren't durable.
+pub(crate) fn add_all_unsynced(
+    found: &mut Vec<Finding>,
+    setup: &Setup,
+    moment: u32,
+    state: &State,
+) -> Result<(), AllocError>
+    ensures { OnOk result (found.new.items ≡
+        found.old.items ++ all_unsynced setup.now moment state.now.world) }
+{
+    let Ok(objects) = u32::try_from(setup.objects.as_slice().len()) else {
+        return Err(AllocError);
+    };
+    for object in 0..objects {
+        add_unsynced(found, moment, state, object)?;
+    }
+    Ok(())
+}
