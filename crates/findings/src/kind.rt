@@ -162,20 +162,40 @@ impl Kind {
     pub fn is_fault(self) -> bool
         ensures { result ≡ is_fault self }
     {
-        !matches!(
-            self,
+        match self {
+            Kind::Failed
+            | Kind::Short
+            | Kind::Severed
+            | Kind::TimedOut
+            | Kind::NotFound
+            | Kind::TooLate
+            | Kind::Overflow
+            | Kind::Busy
+            | Kind::Waits
+            | Kind::LostWakeUp
+            | Kind::NotTaken
+            | Kind::Unfinished
+            | Kind::BufferInUse
+            | Kind::Unordered
+            | Kind::SharedPosition
+            | Kind::TakenShort
+            | Kind::NoSuchSlot
+            | Kind::CutOff
+            | Kind::SlotInUse
+            | Kind::ClosedEarly
+            | Kind::RefusedFlags => true,
             Kind::Canceled
-                | Kind::Expired
-                | Kind::NotReaped
-                | Kind::FsyncEarly
-                | Kind::WentOn
-                | Kind::NoEffect
-                | Kind::ClosedWhileHeld
-                | Kind::Several
-                | Kind::LeftRunning
-                | Kind::SameUserData
-                | Kind::NotDurable
-        )
+            | Kind::Expired
+            | Kind::NotReaped
+            | Kind::FsyncEarly
+            | Kind::WentOn
+            | Kind::NoEffect
+            | Kind::ClosedWhileHeld
+            | Kind::Several
+            | Kind::LeftRunning
+            | Kind::SameUserData
+            | Kind::NotDurable => false,
+        }
     }
 
     /// Whether it is about a thread.
