@@ -7,11 +7,11 @@ use std::process::Abort;
 use std::test::Fail;
 
 /// What a record keeps that names nothing.
-const LEAST: usize = 88;
+const LEAST: usize = 56;
 
 /// What the record of an event keeps at most beside the bytes that it names: those of a request
 /// that ends, or of a thread's step.
-const BESIDE: usize = 320;
+const BESIDE: usize = 288;
 
 /// Of a page of zeros that is written over zeros, and read over zeros, one byte is another.
 const PAGE_WRITTEN_AND_READ: &str =
@@ -94,7 +94,7 @@ fn check_syncs(rt: &(impl Abort + AllocGlobal)) -> Result<(), Fail> {
 fn records_keep_little(rt: HostRuntime) -> Result<(), Fail> {
     assert_eq!(rt; kept(rt.alloc(), ONE_NOP, &[Event::Tick(0)])?, LEAST);
     let finish = kept(rt.alloc(), ONE_NOP, &REQUEST_AND_STEP[..5])?;
-    assert!(rt; finish > 200 && finish <= BESIDE);
+    assert!(rt; finish > LEAST && finish <= 144, "{finish} bytes of a request that ends");
     assert!(rt; kept(rt.alloc(), PAGE_WRITTEN_AND_READ, &TWO_REQUESTS[..7])? <= 512);
     assert!(rt; kept(rt.alloc(), PAGE_WRITTEN_AND_READ, &TWO_REQUESTS)? <= 512);
     check_stores(&rt)?;
