@@ -6,11 +6,14 @@ use std::alloc::{AllocError, Global};
 use std::test::Fail;
 
 /// What a record keeps that names nothing.
-const LEAST: usize = 88;
+const LEAST: usize = 56;
+
+/// What the record of a NOP's end keeps at most.
+const END_OF_A_NOP: usize = 144;
 
 /// What the record of an event keeps at most beside the bytes that it names: those of a request
 /// that ends, or of a thread's step.
-const BESIDE: usize = 320;
+const BESIDE: usize = 288;
 
 /// Of a page of zeros that is written over zeros, and read over zeros, one byte is another.
 const PAGE_WRITTEN_AND_READ: &str =
@@ -112,7 +115,8 @@ fn are_events_little(alloc: Global) -> Result<bool, Fail> {
     let finish = kept(alloc, ONE_NOP, &REQUEST_AND_STEP[..5])?;
     let write = kept(alloc, PAGE_WRITTEN_AND_READ, &TWO_REQUESTS[..7])?;
     let read = kept(alloc, PAGE_WRITTEN_AND_READ, &TWO_REQUESTS)?;
-    Ok(tick == LEAST && finish > 200 && finish <= BESIDE && write <= 512 && read <= 512)
+    let is_finish_little = finish > LEAST && finish <= END_OF_A_NOP;
+    Ok(tick == LEAST && is_finish_little && write <= 512 && read <= 512)
 }
 
 #[test]
