@@ -269,6 +269,7 @@ overflow_there i before behind _ n h = absurd (false_true h)
 cancel_kind : (kind : Kind) (x : Cancel) (rows : List Row) → is_of_cancel kind x rows ≡ true → Has cancel_kinds kind
 cancel_kind Several x rows h = inl refl
 cancel_kind LeftRunning x rows h = inr (inl refl)
+cancel_kind NotFound x rows h = inr (inr (inl refl))
 cancel_kind _ x rows h = absurd (false_true h)
 
 cancel_there : (i : ℕ) (kind : Kind) (o : Option Cancel) (rows : List Row) (n : ℕ) → option_map_or (λ (x : Cancel). (x.number == n) && is_of_cancel kind x rows) o false ≡ true → Has (of_cancel i o rows) (the_finding i kind n)

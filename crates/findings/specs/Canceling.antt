@@ -10,7 +10,7 @@ use Rattle.machine.specs.Cancels.{key_of, takes_all}
 use Rattle.machine.specs.declared.whole.Machine.{Machine}
 use Rattle.findings.specs.declared.canceling.Cancel.{Cancel}
 use Rattle.findings.specs.declared.kind.Kind.{Kind}
-use Rattle.findings.specs.declared.kind.Kind.TheVariants.{Several, LeftRunning}
+use Rattle.findings.specs.declared.kind.Kind.TheVariants.{Several, LeftRunning, NotFound}
 
 -- a row, if it is a cancel or a removal, with how many rows it matches
 abbrev pub cancel_in : List Row → ℕ → Row → Option Cancel
@@ -26,11 +26,13 @@ abbrev pub matches_some : Cancel → List Row → Bool
 matches_some x rows = nat_lt 0 (length (matches_of rows (key_of x.entry) x.number))
 
 -- Whether the end of a cancel or a removal is a finding about it, by all rows behind it:
---   Several: it ends one alone, and more than one matched: the least number decided;
---   LeftRunning: it ends all that wait (IORING_ASYNC_CANCEL_ALL), and some match still: those that run go on.
+--   Several: it looks at one match alone, and more than one matched: the least number decided;
+--   LeftRunning: it ends all that wait (IORING_ASYNC_CANCEL_ALL), and some match still: those that run go on;
+--   NotFound: it ends all that wait, and none matched.
 abbrev pub is_of_cancel : Kind → Cancel → List Row → Bool
 is_of_cancel Several x rows = not (takes_all x.entry) && nat_lt 1 x.matched
 is_of_cancel LeftRunning x rows = takes_all x.entry && matches_some x rows
+is_of_cancel NotFound x rows = takes_all x.entry && (x.matched == 0)
 is_of_cancel kind x rows = false
 
 -- whether an event that finishes one is a finding about its row

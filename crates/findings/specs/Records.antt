@@ -90,7 +90,7 @@ of_step i changes x e behind = []
 
 -- the kinds that are about cancels and removals, by what they match
 abbrev pub cancel_kinds : List Kind
-cancel_kinds = Several ∷ LeftRunning ∷ []
+cancel_kinds = Several ∷ LeftRunning ∷ NotFound ∷ []
 
 abbrev pub of_kinds : ℕ → Cancel → List Row → List Kind → List Finding
 of_kinds i x rows kinds = flat_map (λ (kind : Kind). given (is_of_cancel kind x rows) (record { moment = i; kind = kind; subject = x.number })) kinds

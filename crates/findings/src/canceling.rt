@@ -58,6 +58,7 @@ pub(crate) fn is_of_cancel(kind: Kind, cancel: &Cancel, state: &State) -> bool
     match kind {
         Kind::Several => !takes_all(&cancel.entry) && cancel.matched > 1,
         Kind::LeftRunning => takes_all(&cancel.entry) && matches_some(cancel, state),
+        Kind::NotFound => takes_all(&cancel.entry) && cancel.matched == 0,
         _ => false,
     }
 }

@@ -191,6 +191,7 @@ fn tell_found<W: Write>(
         times: &history.rows,
         counters: &history.counters,
         slots: &history.slots,
+        emptied: &history.emptied,
         found,
     };
     tell(alloc, &run, asked, writer)

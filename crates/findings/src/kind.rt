@@ -18,7 +18,7 @@ pub enum Kind {
     TimedOut = 4,
     /// A TIMEOUT expired.
     Expired = 5,
-    /// A cancel or a removal found no request.
+    /// A cancel or a removal found no request; of all, too.
     NotFound = 6,
     /// A cancel or a removal found one that was running.
     TooLate = 7,
@@ -57,7 +57,7 @@ pub enum Kind {
     NoEffect = 23,
     /// A Put changed an entry that was pushed and not yet taken.
     SlotInUse = 24,
-    /// A Close closed a descriptor that a request was still to use.
+    /// A Close closed a descriptor that a request names which is still to be issued.
     ClosedEarly = 25,
     /// A Close closed a descriptor that an issued request holds.
     ClosedWhileHeld = 26,

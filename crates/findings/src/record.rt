@@ -47,7 +47,7 @@ const STEP_KINDS: [Kind; 7] = [
 ];
 
 /// The kinds that are about cancels and removals, by what they match.
-const CANCEL_KINDS: [Kind; 2] = [Kind::Several, Kind::LeftRunning];
+const CANCEL_KINDS: [Kind; 3] = [Kind::Several, Kind::LeftRunning, Kind::NotFound];
 
 /// The kinds that are about a READ or a WRITE which hasn't ended, beside what an event does.
 const CONFLICT_KINDS: [Kind; 4] = [

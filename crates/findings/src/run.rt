@@ -21,6 +21,7 @@ pub(crate) struct Run<'a> {
     /// Of each event, where the program of the thread stood that did it.
     pub counters: &'a [Option<u32>],
     pub slots: &'a [Met],
+    pub emptied: &'a [u32],
     pub found: &'a [Finding],
 }
 
@@ -70,6 +71,16 @@ impl Run<'_> {
         for met in self.slots {
             if met.moment == moment {
                 return Some(met.slot);
+            }
+        }
+        None
+    }
+
+    /// The first moment behind one at which the backlog was empty again.
+    pub fn emptied_behind(&self, moment: u32) -> Option<u32> {
+        for emptied in self.emptied {
+            if *emptied > moment {
+                return Some(*emptied);
             }
         }
         None

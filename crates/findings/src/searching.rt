@@ -13,13 +13,13 @@ ghost use Rattle.findings.specs.Records.{of_change, of_overflow, of_step, of_can
 ghost use Rattle.findings.specs.Watched.{advanced, watched, of_lasting};
 
 use crate::changes::look_at_record;
-use crate::conditions::{Before, slot_met};
+use crate::conditions::{Before, overflows, slot_met};
 use crate::deed::done_as;
 use crate::finding::Finding;
 use crate::leftover::add_all_left;
 use crate::ordering::in_order;
 use crate::record::{add_of_deed, add_of_event};
-use crate::times::{History, note_counter, note_slot};
+use crate::times::{History, note_counter, note_emptied, note_slot};
 use crate::unsynced::add_all_unsynced;
 use crate::watching::{Watch, add_all_lasting, advance, watches_of};
 use machine::{Event, Refusal, Setup, State};
@@ -83,6 +83,8 @@ fn look(
     note_counter(&mut history.counters, before.counter)?;
     let slot = slot_met(setup, state, event, before);
     note_slot(&mut history.slots, moment, slot)?;
+    let is_emptied = before.overflows && !overflows(state);
+    note_emptied(&mut history.emptied, moment.saturating_add(1), is_emptied)?;
     look_at_record(found, numbers, &mut history.rows, moment, past, state)?;
     add_of_event(found, setup, moment, before, event, state)?;
     look_beside(setup, state, moment, event, before, found, numbers)

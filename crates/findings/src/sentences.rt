@@ -9,6 +9,7 @@ mod left;
 mod listing;
 mod matches;
 mod rings;
+mod submitting;
 mod uses;
 
 use crate::finding::Finding;
@@ -142,7 +143,7 @@ pub(crate) fn sentence(alloc: Global, run: &Run<'_>, index: usize) -> Result<Str
         return Ok(String::new(alloc));
     };
     match finding.kind {
-        Kind::Overflow => rings::overflow(alloc, run),
+        Kind::Overflow => rings::overflow(alloc, run, finding.moment),
         Kind::Busy => rings::busy(alloc, finding.subject),
         Kind::TakenShort => rings::taken_short(alloc, run, finding.subject, finding.moment),
         Kind::NoSuchSlot => rings::no_such_slot(alloc, run, finding.subject, finding.moment),

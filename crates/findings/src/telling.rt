@@ -66,6 +66,7 @@ pub fn told_of(alloc: Global, setup: &Setup, events: &[Event]) -> Result<Vec<Tol
         times: &history.rows,
         counters: &history.counters,
         slots: &history.slots,
+        emptied: &history.emptied,
         found: &found,
     };
     match all_told(alloc, &run, &found) {

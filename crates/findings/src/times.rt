@@ -59,6 +59,8 @@ pub(crate) struct History {
     /// did.
     pub counters: Vec<Option<u32>>,
     pub slots: Vec<Met>,
+    /// The moments at which the backlog was empty again.
+    pub emptied: Vec<u32>,
 }
 
 impl Drop for History {
@@ -67,6 +69,7 @@ impl Drop for History {
             rows: _,
             counters: _,
             slots: _,
+            emptied: _,
         } = self;
     }
 }
@@ -77,6 +80,7 @@ impl History {
             rows: Vec::new(alloc),
             counters: Vec::new(alloc),
             slots: Vec::new(alloc),
+            emptied: Vec::new(alloc),
         }
     }
 }
@@ -111,6 +115,18 @@ pub(crate) fn note_counter(
         None => None,
     };
     counters.push(place)?;
+    Ok(())
+}
+
+/// Notes a moment, if the backlog is empty again there.
+pub(crate) fn note_emptied(
+    emptied: &mut Vec<u32>,
+    moment: u32,
+    is_emptied: bool,
+) -> Result<(), AllocError> {
+    if is_emptied {
+        emptied.push(moment)?;
+    }
     Ok(())
 }
 

@@ -105,18 +105,28 @@ fn reason_by_user_data(alloc: Global, run: &Run<'_>, about: &About) -> Result<St
     }
 }
 
+// What the result of a cancel of all that found nothing says.
+fn what_counts(res: i32) -> &'static str {
+    if res < 0 {
+        return "";
+    }
+    ", as it counts what it ended"
+}
+
 /// A cancel or a removal that found nothing.
 pub(crate) fn not_found(alloc: Global, run: &Run<'_>, about: &About) -> Result<String, AllocError> {
     let name = about.name();
     let rule = rule_of(&about.row.entry);
+    let told = ResultName(about.result(run));
+    let count = what_counts(about.result(run));
     if is_by_descriptor(&about.row.entry) {
         let fd = about.row.entry.fd;
         return format!(in alloc;
-            "Row {name} ended with -2 (ENOENT): no issued request held descriptor {fd} {rule}."
+            "Row {name} ended with {told}{count}: no issued request held descriptor {fd} {rule}."
         );
     }
     let reason = reason_by_user_data(alloc, run, about)?;
-    format!(in alloc; "Row {name} ended with -2 (ENOENT): {reason} {rule}.")
+    format!(in alloc; "Row {name} ended with {told}{count}: {reason} {rule}.")
 }
 
 /// The first row from a number on that a cancel found as it ended, by its user_data or descriptor.

@@ -64,6 +64,6 @@ pub(crate) fn not_durable(alloc: Global, run: &Run<'_>, object: u32) -> Result<S
     };
     let name = String::from_utf8_lossy(alloc, file.name.as_slice())?;
     format!(in alloc;
-        "The file {name} is not durable. Bytes that the device does not have as they were written: {count}, the first at {first}, the last at {last}; the file has {len} bytes, the device {durable}. Only an FSYNC that ends behind a WRITE makes its bytes durable {SYNC_RULE}."
+        "The file {name} is not durable. Bytes that the device does not have as they are: {count}, the first at {first}, the last at {last}; the file has {len} bytes, the device {durable}. Only an FSYNC that ends behind a WRITE makes its bytes durable {SYNC_RULE}."
     )
 }

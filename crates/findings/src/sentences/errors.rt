@@ -1,17 +1,15 @@
 //! Sentences about requests that ended with an error, or short.
 
 use super::About;
+use super::submitting::reason_of_entry;
 use crate::names::ResultName;
 use crate::run::Run;
-use entries::{Row, Sqe};
+use entries::Sqe;
 use machine::Event;
 use opcodes::{Choice, Op};
 use std::alloc::{AllocError, Global};
 
 const RULE: &str = "(io_uring_enter(2), CQE ERRORS)";
-
-/// IO_DRAIN, IO_LINK, IO_HARDLINK and ASYNC.
-const KNOWN_FLAGS: u8 = 30;
 
 /// EBADF, EFAULT, EINVAL, EFBIG and EPIPE, negated.
 const BAD_DESCRIPTOR: i32 = -9;
@@ -23,20 +21,6 @@ const INVALID: i32 = -22;
 const TOO_LARGE: i32 = -27;
 
 const BROKEN_PIPE: i32 = -32;
-
-// What a submission has against an entry.
-fn reason_of_entry(row: &Row, res: i32) -> &'static str {
-    if Op::of(row.entry.opcode).is_none() {
-        return "its opcode is none that is modelled here";
-    }
-    if row.entry.flags & !KNOWN_FLAGS != 0 {
-        return "its flags have a bit other than IO_DRAIN (2), IO_LINK (4), IO_HARDLINK (8) and ASYNC (16)";
-    }
-    if res == BAD_ADDRESS {
-        return "its time leaves memory";
-    }
-    "a field of its entry has a value that its opcode refuses, its time is negative, or it guards no row"
-}
 
 // What a request met as it was carried out.
 fn reason_of_end(res: i32) -> &'static str {
@@ -58,11 +42,11 @@ fn reason_of_end(res: i32) -> &'static str {
     "it could not be carried out"
 }
 
-fn reason(run: &Run<'_>, about: &About, res: i32) -> &'static str {
+fn reason(alloc: Global, run: &Run<'_>, about: &About, res: i32) -> Result<String, AllocError> {
     match run.event(about.moment) {
-        Some(Event::Step(_) | Event::Take(_)) => reason_of_entry(&about.row, res),
-        Some(Event::Finish(_, Choice::Eio)) => "the device failed",
-        _ => reason_of_end(res),
+        Some(Event::Step(_) | Event::Take(_)) => reason_of_entry(alloc, run, about, res),
+        Some(Event::Finish(_, Choice::Eio)) => String::from_str(alloc, "the device failed"),
+        _ => String::from_str(alloc, reason_of_end(res)),
     }
 }
 
@@ -81,7 +65,7 @@ pub(crate) fn failed(alloc: Global, run: &Run<'_>, about: &About) -> Result<Stri
     let res = about.result(run);
     let told = ResultName(res);
     let stage = stage(run, about.moment);
-    let reason = reason(run, about, res);
+    let reason = reason(alloc, run, about, res)?;
     format!(in alloc; "Row {name} ended with {told}{stage}: {reason} {RULE}.")
 }
 

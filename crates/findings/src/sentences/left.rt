@@ -190,6 +190,7 @@ pub fn why_unfinished(
         times: &[],
         counters: &[],
         slots: &[],
+        emptied: &[],
         found: &[],
     };
     match run.row(number) {

@@ -63,7 +63,7 @@ pub(crate) fn left_running(
     let count = about.result(run);
     let rows = left_rows(alloc, run, about)?;
     format!(in alloc;
-        "Row {name} ended with {count}, as many as it ended. What was running goes on: {rows} {ALL_RULE}."
+        "Row {name} ended with {count}, as many matches as it ended. What was running goes on: {rows} {ALL_RULE}."
     )
 }
 

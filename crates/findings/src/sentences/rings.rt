@@ -39,11 +39,10 @@ fn is_overflowing(run: &Run<'_>) -> bool {
 }
 
 /// Completions that began to be kept.
-pub(crate) fn overflow(alloc: Global, run: &Run<'_>) -> Result<String, AllocError> {
-    let outlook = if is_overflowing(run) {
-        "At the end of the run some are kept"
-    } else {
-        "At the end of the run none is kept"
+pub(crate) fn overflow(alloc: Global, run: &Run<'_>, moment: u32) -> Result<String, AllocError> {
+    let outlook = match run.emptied_behind(moment) {
+        Some(emptied) => format!(in alloc; "The backlog was empty again at {emptied}")?,
+        None => String::from_str(alloc, "At the end of the run some are kept")?,
     };
     format!(in alloc;
         "The completion ring was full, and a completion was put into the backlog, with CQ_OVERFLOW in sq.flags. Reap, and enter with IORING_ENTER_GETEVENTS to have it moved into the ring. {outlook} {BACKLOG_RULE}."

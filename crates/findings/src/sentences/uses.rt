@@ -1,4 +1,4 @@
-//! Sentences about slots and descriptors that were still to be used.
+//! Sentences about slots that wait, and descriptors that requests name or hold.
 
 use super::listing::Listing;
 use crate::run::Run;
@@ -62,8 +62,11 @@ fn users(
     rows.finish(alloc)
 }
 
-// Names the slot whose entry was still to use a descriptor, behind rows.
+// Names the slot whose entry names a descriptor, behind queued rows that do.
 fn with_slot(alloc: Global, mut rows: String, slot: Option<u32>) -> Result<String, AllocError> {
+    if !rows.is_empty() {
+        rows.push_str(", still queued")?;
+    }
     let Some(slot) = slot else {
         return Ok(rows);
     };
@@ -95,7 +98,7 @@ pub(crate) fn closed_early(
     let rows = users(alloc, run, fd, moment, Standing::Queued)?;
     let users = with_slot(alloc, rows, run.slot(moment))?;
     format!(in alloc;
-        "The close of thread {thread}, instruction {counter}, closed descriptor {fd}, which is still to be used by {users}. A request whose descriptor is not open ends with -9 (EBADF) as it is issued {RULE}."
+        "The close of thread {thread}, instruction {counter}, closed descriptor {fd}, which is named by {users}. A request whose descriptor is not open ends with -9 (EBADF) as it is issued {RULE}."
     )
 }
 
