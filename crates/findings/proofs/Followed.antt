@@ -10,7 +10,6 @@ use Rattle.scenario.specs.declared.event.Event.{Event}
 use Rattle.scenario.specs.declared.setup.Setup.{Setup}
 use Rattle.places.specs.declared.value.Change.{Change}
 use Rattle.machine.specs.declared.whole.Machine.{Machine}
-use Rattle.machine.specs.Whole.{view}
 use Rattle.machine.specs.Steps.{after, refusal, Next}
 use Rattle.machine.specs.Runs.{start, moment as machine_at, Accepts, IsRefused}
 use Rattle.run_log.specs.declared.fault.LogFault.{LogFault}

@@ -196,7 +196,7 @@ fn is_of_close(kind: Kind, fd: i32, state: &State, thread: u32) -> bool
     has_closed(state, thread) && is_of_number(kind, state, fd)
 }
 
-/// The first slot whose entry, pushed and not yet taken, was to use a descriptor that an event closed.
+/// The first slot whose entry, pushed and not yet taken, names a descriptor that an event closed.
 pub(crate) fn slot_met(setup: &Setup, state: &State, event: Event, before: Before) -> Option<u32> {
     let Event::Step(thread) = event else {
         return None;

@@ -3,7 +3,7 @@ ghost use Rattle.std.specs.Prelude.{◌≡◌, ◌==◌};
 ghost use Rattle.opcodes.specs.Outcomes.{is_at_position};
 ghost use Rattle.links_drains.specs.Links.{asks_to_drain};
 ghost use Rattle.links_drains.specs.Eligible.{drains, is_before_in_unit, is_before_in_drain};
-ghost use Rattle.findings.specs.Conflicts.{meet, moved, is_good, is_in_buffer, is_same_file, is_one_write, is_over, is_by_position, is_between, is_behind_barrier, is_behind, is_candidate, is_beside, is_stored_over, is_conflict, conflicts};
+ghost use Rattle.findings.specs.Conflicts.{meet, moved, is_good, is_in_buffer, is_same_file, is_over, is_by_position, is_between, is_behind_barrier, is_behind, is_candidate, is_beside, is_stored_over, is_conflict, conflicts};
 
 use crate::deed::{Deed, is_transfer};
 use crate::files::{is_same_descriptor, is_same_file};
@@ -129,8 +129,8 @@ fn is_between(state: &State, row: &Row, before: &Row, other: &Row) -> bool
         && (is_unfinished(other) && drains(state, other.unit))
 }
 
-// Whether a row waits for a chain that drains, which waits for another row. Those rows stand behind the
-// first of the other's chain.
+// Whether a row waits for a chain that drains, which waits for another row. Those rows stand behind
+// the first of the other's chain.
 fn is_behind_barrier(state: &State, row: &Row, before: &Row) -> bool
     ensures { result ≡ is_behind_barrier state.now.table row.now before.now }
 {

@@ -1,5 +1,5 @@
 //! Findings by the record of an event.
-ghost use Rattle.std.specs.Prelude.{◌≡◌, ◌++◌, length, OnOk};
+ghost use Rattle.std.specs.Prelude.{◌≡◌, ◌++◌, OnOk};
 ghost use Rattle.std.specs.List.{flat_map};
 ghost use Rattle.std.specs.Option.{option_copied};
 ghost use Rattle.findings.specs.Endings.{row_test};
@@ -147,8 +147,8 @@ fn add_of_instruction(
     thread: u32,
     kinds: &[Kind],
 ) -> Result<(), AllocError>
-    ensures { OnOk result (found.new.items ≡
-        found.old.items ++ of_instruction moment changes instruction.now state.now thread kinds.now) }
+    ensures { OnOk result (found.new.items ≡ found.old.items
+        ++ of_instruction moment changes instruction.now state.now thread kinds.now) }
 {
     for kind in kinds {
         let finding = Finding {
@@ -174,8 +174,8 @@ fn add_of_step(
     event: Event,
     state: &State,
 ) -> Result<(), AllocError>
-    ensures { OnOk result (found.new.items ≡
-        found.old.items ++ of_step moment changes (option_copied instruction.entry) event state.now) }
+    ensures { OnOk result (found.new.items ≡ found.old.items
+        ++ of_step moment changes (option_copied instruction.entry) event state.now) }
 {
     match (instruction, event) {
         (Some(instruction), Event::Step(thread)) => {

@@ -66,7 +66,7 @@ impl Run<'_> {
         instruction_at(self.setup, self.event(moment)?, Some(u64::from(counter)))
     }
 
-    /// The first slot whose entry was still to use a descriptor that the event at a moment closed.
+    /// The first slot whose entry names a descriptor that the event at a moment closed.
     pub fn slot(&self, moment: u32) -> Option<u32> {
         for met in self.slots {
             if met.moment == moment {

@@ -1,5 +1,5 @@
 //! What a run shows, each finding with its sentence, for those who show it elsewhere.
-ghost use Rattle.std.specs.Prelude.{◌≡◌, ◌≤◌, ◌∷◌, ◌++◌, [], None, IfOk, IfErr, OnOk, map, length};
+ghost use Rattle.std.specs.Prelude.{◌≡◌, ◌≤◌, ◌∷◌, ◌++◌, [], None, IfOk, IfErr, OnOk, length};
 ghost use Rattle.scenario.specs.Setups.{setup_refusal};
 ghost use Rattle.findings.specs.Findings.{IsToldOf};
 ghost use Rattle.findings.specs.Records.{Halted};

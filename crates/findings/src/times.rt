@@ -43,7 +43,7 @@ impl Times {
     }
 }
 
-/// A slot whose entry, pushed and not yet taken, was to use a descriptor that the event at a moment
+/// A slot whose entry, pushed and not yet taken, names a descriptor that the event at a moment
 /// closed.
 #[derive(Clone, Copy, Debug)]
 pub(crate) struct Met {

@@ -1,5 +1,7 @@
 //! Sentences about requests that haven't ended at the end.
 
+use super::{LINK_TIMEOUT_RULE, TIMEOUT_RULE};
+use crate::leftover::MOST_ROWS;
 use crate::names::RowName;
 use crate::run::Run;
 use entries::{Phase, Row};
@@ -12,17 +14,10 @@ const LINK_RULE: &str = "(io_uring_enter(2), IOSQE_IO_LINK)";
 
 const DRAIN_RULE: &str = "(io_uring_enter(2), IOSQE_IO_DRAIN)";
 
-const GUARD_RULE: &str = "(io_uring_enter(2), IORING_OP_LINK_TIMEOUT)";
-
 const WAIT_RULE: &str = "(pipe(7), eventfd(2), poll(2))";
 
 /// IOSQE_IO_DRAIN.
 const IO_DRAIN: u8 = 2;
-
-/// The most rows of a run.
-const MOST_ROWS: u32 = 65536;
-
-const TIMEOUT_RULE: &str = "(io_uring_enter(2), IORING_OP_TIMEOUT)";
 
 // Whether a row of a number is unfinished, no guard, and before another in its chain.
 fn is_before_in_chain(run: &Run<'_>, number: u32, unit: u32) -> bool {
@@ -101,7 +96,9 @@ fn held_back(alloc: Global, run: &Run<'_>, number: u32, row: &Row) -> Result<Str
 fn queued_guard(alloc: Global, run: &Run<'_>, row: &Row) -> Result<String, AllocError> {
     match run.name(row.target.unwrap_or(0)) {
         Some(name) => {
-            format!(in alloc; "It is queued, and starts with its target, row {name} {GUARD_RULE}.")
+            format!(in alloc;
+                "It is queued, and starts with its target, row {name} {LINK_TIMEOUT_RULE}."
+            )
         }
         None => String::from_str(alloc, "It is queued."),
     }
@@ -140,7 +137,7 @@ fn waits(alloc: Global, row: &Row) -> Result<String, AllocError> {
 fn issued(alloc: Global, run: &Run<'_>, number: u32, row: &Row) -> Result<String, AllocError> {
     if is_timer(row.entry.opcode) {
         let rule = if is_guard(row) {
-            GUARD_RULE
+            LINK_TIMEOUT_RULE
         } else {
             TIMEOUT_RULE
         };
