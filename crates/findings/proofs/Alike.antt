@@ -1,8 +1,8 @@
 -- Rows that have the user_data of another, among those that haven't ended.
-use Rattle.std.proofs.Common.{◌≡◌, ◌⊎◌, inl, inr, ℕ, ◌<◌, ◌≤◌, ◌+◌, Bool, true, false, List, refl, sym, ap, ◌∙◌, arith}
+use Rattle.std.proofs.Common.{◌≡◌, ◌⊎◌, inl, inr, ℕ, ◌<◌, ◌≤◌, ◌+◌, ◌-◌, Bool, true, false, List, refl, sym, ap, ◌∙◌, arith}
 use Rattle.std.proofs.lemmas.Bool.{and_from, and_left, cases_lt, lt-ltb, ne_eqb}
 use Rattle.std.proofs.lemmas.Bool.Decides.{nat_tests}
-use Rattle.std.specs.Prelude.{Option, Some, option_map, slice_get, nat_lt, not, ◌==◌, ◌&&◌}
+use Rattle.std.specs.Prelude.{Option, Some, option_map, slice_get, nat_lt, nat_le, not, ◌==◌, ◌&&◌}
 use Rattle.std.specs.Option.{option_map_or}
 use Rattle.std.specs.List.{enumerate_from}
 use Rattle.entries.specs.declared.row.Row.{Row}
@@ -20,6 +20,13 @@ has_user rows user q = option_map_or (λ (row : Row). row.entry.user_data == use
 abbrev twin_test : ℕ → ℕ → ℕ × Row → Bool
 twin_test r user p = is_twin r user p.0 p.1
 
+-- whether a number is one of the 64 before another
+abbrev is_near : ℕ → ℕ → Bool
+is_near r q = nat_lt q r && nat_le r (q + 64)
+
+near : (q r : ℕ) → q < r → r ≤ q + 64 → is_near r q ≡ true
+near q r l m = and_from _ _ (lt-ltb q r l) (grind (arith, nat_tests, m))
+
 -- none of the rows before a number is a twin
 abbrev pub NoTwin : List Row → ℕ → ℕ → ℕ → Type 0
 NoTwin rows r user k = (q : ℕ) (x : Row) → q < k → slice_get rows q ≡ Some x → is_twin r user q x ≡ false
@@ -33,6 +40,10 @@ not_third true true c e = e
 not_third true false c e = refl
 not_third false b c e = refl
 
+none_anywhere : (a b : Bool) → b ≡ false → (a && b) ≡ false
+none_anywhere true b e = e
+none_anywhere false b e = refl
+
 has_user_at : (rows : List Row) (user q : ℕ) (x : Row) → slice_get rows q ≡ Some x → has_user rows user q ≡ (x.entry.user_data == user)
 has_user_at rows user q x e = ap (λ (o : Option Row). option_map_or (λ (row : Row). row.entry.user_data == user) o false) e
 
@@ -42,30 +53,33 @@ twin_on rows r user from q none next other k x l e =
     elim (cases_lt k from) [
       | inl before ↦ none k x before e
       | inr behind ↦ elim (cases_lt k q) [
-        | inl less ↦ not_second (nat_lt k r) (is_open x) (x.entry.user_data == user) (next.least k x behind less e)
+        | inl less ↦ not_second (is_near r k) (is_open x) (x.entry.user_data == user) (next.least k x behind less e)
         | inr last ↦
             let same : q ≡ k = omega (arith, l, last) in
-            not_third (nat_lt k r) (is_open x) (x.entry.user_data == user) (sym (has_user_at rows user k x e) ∙ ap (has_user rows user) (sym same) ∙ other)
+            not_third (is_near r k) (is_open x) (x.entry.user_data == user) (sym (has_user_at rows user k x e) ∙ ap (has_user rows user) (sym same) ∙ other)
       ]
     ]
 
 -- it is one
-pub twin_found : (rows : List Row) (r from q : ℕ) (row : Row) → IsNextWhere is_open rows from q → q < r → (row.entry.user_data ≡ 0 → ⊥) → has_user rows row.entry.user_data q ≡ true → has_twin rows r row ≡ true
-twin_found rows r from q row next l user h =
+pub twin_found : (rows : List Row) (r from q : ℕ) (row : Row) → IsNextWhere is_open rows from q → q < r → r ≤ from + 64 → (row.entry.user_data ≡ 0 → ⊥) → has_user rows row.entry.user_data q ≡ true → has_twin rows r row ≡ true
+twin_found rows r from q row next l m user h =
     let own : (next.row.entry.user_data == row.entry.user_data) ≡ true = sym (has_user_at rows row.entry.user_data q next.row next.there) ∙ h in
     and_from _ _ (ap not (ne_eqb row.entry.user_data 0 user)) (any_true (twin_test r row.entry.user_data) (enumerate_from 0 rows) q (q, next.row)
     (enumerated rows q ∙ ap (option_map (λ (y : Row). (q, y))) next.there)
-    (and_from _ _ (lt-ltb q r l) (and_from _ _ next.passes own)))
+    (and_from _ _ (near q r l (omega (arith, m, next.after))) (and_from _ _ next.passes own)))
 
 no_twin : (rows : List Row) (r : ℕ) (row : Row) → ((q : ℕ) (x : Row) → slice_get rows q ≡ Some x → is_twin r row.entry.user_data q x ≡ false) → any_numbered (is_twin r row.entry.user_data) rows ≡ false
 no_twin rows r row none = any_false (twin_test r row.entry.user_data) (enumerate_from 0 rows) (λ i p e. numbered (twin_test r row.entry.user_data) rows i p (λ x g. none i x g) e)
 
-none_anywhere : (a b : Bool) → b ≡ false → (a && b) ≡ false
-none_anywhere true b e = e
-none_anywhere false b e = refl
-
 not_before : (q r : ℕ) → r ≤ q → nat_lt q r ≡ false
 not_before q r l = grind (arith, nat_tests, l)
+
+not_near : (q r : ℕ) → q + 64 < r → nat_le r (q + 64) ≡ false
+not_near q r l = grind (arith, nat_tests, l)
+
+-- nor are those that stand further back
+pub twins_near : (rows : List Row) (r user from : ℕ) → from ≤ r - 64 → NoTwin rows r user from
+twins_near rows r user from l q x b e = and_left _ _ (none_anywhere (nat_lt q r) (nat_le r (q + 64)) (not_near q r (omega (arith, l, b))))
 
 -- the rows behind are of no matter
 pub twin_past : (rows : List Row) (r from q : ℕ) (row : Row) → NoTwin rows r row.entry.user_data from → IsNextWhere is_open rows from q → r ≤ q → has_twin rows r row ≡ false
@@ -73,8 +87,8 @@ twin_past rows r from q row none next l = none_anywhere _ _ (no_twin rows r row 
     elim (cases_lt k from) [
       | inl before ↦ none k x before e
       | inr behind ↦ elim (cases_lt k q) [
-        | inl less ↦ not_second (nat_lt k r) (is_open x) (x.entry.user_data == row.entry.user_data) (next.least k x behind less e)
-        | inr late ↦ and_left _ _ (not_before k r (omega (arith, l, late)))
+        | inl less ↦ not_second (is_near r k) (is_open x) (x.entry.user_data == row.entry.user_data) (next.least k x behind less e)
+        | inr late ↦ and_left _ _ (and_left _ _ (not_before k r (omega (arith, l, late))))
       ]
     ]))
 
@@ -83,5 +97,5 @@ pub twin_none : (rows : List Row) (r from : ℕ) (row : Row) → NoTwin rows r r
 twin_none rows r from row none absent = none_anywhere _ _ (no_twin rows r row (λ k x e.
     elim (cases_lt k from) [
       | inl before ↦ none k x before e
-      | inr behind ↦ not_second (nat_lt k r) (is_open x) (x.entry.user_data == row.entry.user_data) (absent k x behind e)
+      | inr behind ↦ not_second (is_near r k) (is_open x) (x.entry.user_data == row.entry.user_data) (absent k x behind e)
     ]))

@@ -1,9 +1,11 @@
 -- The words that wait in the submission ring, place by place, and how many words the ring has.
-use Rattle.std.proofs.Common.{◌≡◌, inl, inr, ℕ, zero, suc, ◌+◌, ◌%◌, ◌<◌, ◌≤◌, Bool, true, false, List, [], ◌∷◌, length, drop, get_or, nat_lt, refl, sym, subst, ap, ◌∙◌, arith, add-one}
+use Rattle.std.proofs.Common.{◌≡◌, inl, inr, ℕ, zero, suc, ◌+◌, ◌-◌, ◌%◌, ◌<◌, ◌≤◌, Bool, true, false, List, [], ◌∷◌, length, drop, get_or, nat_lt, refl, sym, subst, ap, ◌∙◌, arith, add-one}
 use Rattle.std.proofs.Math.Seq.{drop-cons}
+use Rattle.std.proofs.lemmas.Grind.{common_steps}
+use Rattle.std.proofs.lemmas.List.{length-drop}
 use Rattle.std.proofs.lemmas.Bool.{and_parts, cases_lt, eqb-true}
 use Rattle.std.proofs.lemmas.Bool.Decides.{nat_tests}
-use Rattle.std.proofs.lemmas.Option.{none-some, slice_get_past}
+use Rattle.std.proofs.lemmas.Option.{gets, none-some, slice_get_past}
 use Rattle.std.specs.Prelude.{Option, Some, None, slice_get, ◌==◌}
 use Rattle.std.specs.Option.{option_map_or}
 use Rattle.std.specs.List.{list_all}
@@ -62,10 +64,17 @@ pub waiting_length : (w : SubWords) → 0 < length w.array → length (sub_list 
 unfolding sub_list
 waiting_length w s = items_length w.array w.head (waiting w.head w.tail) s
 
+-- how many there are behind some
+pub behind_length : (w : SubWords) (passed : ℕ) → 0 < length w.array → length (drop passed (sub_list w)) ≡ waiting w.head w.tail - passed
+behind_length w passed s = length-drop passed (sub_list w) ∙ ap (λ n. n - passed) (waiting_length w s)
+
+behind_at : (xs : List ℕ) (n k : ℕ) → slice_get (drop n xs) k ≡ slice_get xs (n + k)
+behind_at xs n k = grind (arith, common_steps, gets)
+
 -- a word that was looked at is one that waits
-pub looked_at : (w : SubWords) (test : ℕ → Bool) (h size k : ℕ) (o : Option ℕ) (b : Bool) → h ≡ w.head → size ≡ length w.array → 0 < size → k < waiting w.head w.tail → o ≡ slice_get w.array ((h + k) % size) → option_map_or test o false ≡ b
-    → passes test (sub_list w) k ≡ b
-looked_at w test h size k o b e f s l there t =
+pub looked_at : (w : SubWords) (test : ℕ → Bool) (start passed size k : ℕ) (o : Option ℕ) (b : Bool) → start ≡ w.head + passed → size ≡ length w.array → 0 < size → passed + k < waiting w.head w.tail → o ≡ slice_get w.array ((start + k) % size)
+    → option_map_or test o false ≡ b → passes test (drop passed (sub_list w)) k ≡ b
+looked_at w test start passed size k o b e f s l there t =
     let some : 0 < length w.array = subst (λ n. 0 < n) f s in
-    let place : (w.head + k) % length w.array ≡ (h + k) % size = ap (λ a. (a + k) % length w.array) (sym e) ∙ ap (λ n. (h + k) % n) (sym f) in
-    ap (λ x. option_map_or test x false) (waiting_at w k some l ∙ ap (slice_get w.array) place ∙ sym there) ∙ t
+    let place : (w.head + (passed + k)) % length w.array ≡ (start + k) % size = ap (λ a. a % length w.array) {x = w.head + (passed + k)} {y = start + k} (omega (arith, e)) ∙ ap (λ n. (start + k) % n) (sym f) in
+    ap (λ x. option_map_or test x false) (behind_at (sub_list w) passed k ∙ waiting_at w (passed + k) some l ∙ ap (slice_get w.array) place ∙ sym there) ∙ t

@@ -8,6 +8,9 @@ use crate::leftover::row_at;
 use entries::Row;
 use machine::State;
 
+/// How many rows before one are looked at, so that each costs the same however many haven't ended.
+pub(crate) const LOOKED_BACK: u32 = 64;
+
 fn has_user_data(state: &State, number: u32, user_data: u64) -> bool
     ensures { result ≡ option_map_or (λ (row : Row). row.entry.user_data == user_data)
         (slice_get state.now.table number) false }
@@ -18,15 +21,15 @@ fn has_user_data(state: &State, number: u32, user_data: u64) -> bool
     }
 }
 
-/// Whether a row that hasn't ended, and stands before one of a number, has its user_data, which
-/// isn't 0. It looks at no row that ended.
+/// Whether one of the 64 rows before that of a number hasn't ended, and has its user_data, which
+/// isn't 0.
 pub(crate) fn has_twin(state: &State, number: u32, row: &Row) -> bool
     ensures { result ≡ has_twin state.now.table number row.now }
 {
     if row.entry.user_data == 0 {
         return false;
     }
-    let mut from = 0;
+    let mut from = number.saturating_sub(LOOKED_BACK);
     while let Some(other) = state.next_unfinished(from) {
         if other >= number {
             return false;

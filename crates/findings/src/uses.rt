@@ -1,10 +1,10 @@
 //! What is still to use a slot, or a descriptor.
-ghost use Rattle.std.specs.Prelude.{◌≡◌, ◌<◌, ◌^◌, false, is_some, length, slice_get};
+ghost use Rattle.std.specs.Prelude.{◌≡◌, ◌<◌, ◌≤◌, ◌^◌, false, is_some, length, slice_get, drop};
 ghost use Rattle.std.specs.Option.{option_copied, option_map_or};
 ghost use Rattle.std.specs.List.{list_any};
-ghost use Rattle.ring_words.specs.Rings.{waiting};
+ghost use Rattle.ring_words.specs.Rings.{waiting, sub_list};
 ghost use Rattle.links_drains.specs.Holding.{is_number};
-ghost use Rattle.findings.specs.Uses.{changes_slot, changes_at, names_descriptor, is_sought, is_pushed, is_of_put, is_met, is_of_closed, is_of_number};
+ghost use Rattle.findings.specs.Uses.{changes_slot, changes_at, names_descriptor, is_sought, is_pushed, pushed_last, is_of_put, is_met, is_of_closed, is_of_number};
 
 use crate::files::number_in;
 use crate::kind::Kind;
@@ -23,6 +23,10 @@ const SIZES: [u32; 14] = [
 
 /// Ring words are free-running, of 32 bits.
 const WORDS: u64 = 4294967296;
+
+/// How many of the words that were pushed last a Put looks at, so that each costs the same in
+/// whatever ring.
+const LOOKED_AT: u64 = 64;
 
 /// What is looked for among the words that wait in the submission ring.
 #[derive(Clone, Copy, Debug)]
@@ -54,10 +58,11 @@ pub(crate) fn changes_at(state: &State, instruction: Option<&Instruction>) -> bo
 
 // ---- words that wait
 
-/// The head of the submission ring.
+/// The head of the submission ring, which has some words.
 pub(crate) fn submission_head(state: &State) -> u64
     ensures value { result ≡ state.now.submissions.head }
     ensures within { result < 2 ^ 32 }
+    ensures some { 0 < length state.now.submissions.array }
 {
     let Some(Value::Number(head)) = state.value(Place::SubmissionHead) else {
         unreachable!()
@@ -80,6 +85,7 @@ pub(crate) fn submission_tail(state: &State) -> u64
 fn waiting_count(state: &State) -> u64
     ensures value { result ≡ waiting state.now.submissions.head state.now.submissions.tail }
     ensures within { result < 2 ^ 32 }
+    ensures listed { result ≡ length (sub_list state.now.submissions) }
 {
     (submission_tail(state) + (WORDS - submission_head(state))) % WORDS
 }
@@ -148,19 +154,37 @@ fn is_sought(state: &State, sought: Sought, word: Option<u32>) -> bool
     }
 }
 
-/// The first of the words that wait which is sought.
-pub(crate) fn first_pushed(state: &State, sought: Sought) -> Option<u32>
-    ensures { is_some result ≡ is_pushed state.now.submissions sought }
+// The first of the words that wait which is sought, behind some that are passed over.
+fn first_behind(state: &State, sought: Sought, passed: u64) -> Option<u32>
+    requires { passed ≤ waiting state.now.submissions.head state.now.submissions.tail }
+    ensures { is_some result ≡ list_any (is_sought state.now.submissions.slots sought)
+        (drop passed (sub_list state.now.submissions)) }
 {
-    let head = submission_head(state);
+    let start = submission_head(state) + passed;
     let size = u64::from(array_size(state));
-    for place in 0..waiting_count(state) {
-        let word = word_at(state, ((head + place) % size) as u32);
+    for place in 0..waiting_count(state) - passed {
+        let word = word_at(state, ((start + place) % size) as u32);
         if is_sought(state, sought, word) {
             return word;
         }
     }
     None
+}
+
+/// The first of the words that wait which is sought.
+pub(crate) fn first_pushed(state: &State, sought: Sought) -> Option<u32>
+    ensures { is_some result ≡ is_pushed state.now.submissions sought }
+{
+    first_behind(state, sought, 0)
+}
+
+// Whether one of the words that were pushed last, and wait, is a slot's.
+fn is_pushed_last(state: &State, slot: u32) -> bool
+    ensures { result ≡ list_any (is_sought state.now.submissions.slots (Sought.Named slot))
+        (pushed_last state.now.submissions) }
+{
+    let passed = waiting_count(state).saturating_sub(LOOKED_AT);
+    first_behind(state, Sought::Named(slot), passed).is_some()
 }
 
 // Whether a row is one that a Close of a descriptor is a finding of.
@@ -201,7 +225,7 @@ pub(crate) fn is_of_put(kind: Kind, changes: bool, slot: u32, state: &State) -> 
     ensures { result ≡ is_of_put kind changes slot state.now }
 {
     match kind {
-        Kind::SlotInUse => changes && first_pushed(state, Sought::Named(slot)).is_some(),
+        Kind::SlotInUse => changes && is_pushed_last(state, slot),
         _ => false,
     }
 }

@@ -5,6 +5,7 @@ use super::cancels::{next_found, rule_of};
 use super::listing::Listing;
 use crate::names::ResultName;
 use crate::run::Run;
+use crate::twins::LOOKED_BACK;
 use opcodes::Op;
 use std::alloc::{AllocError, Global};
 
@@ -95,7 +96,7 @@ fn is_alike(run: &Run<'_>, number: u32, moment: u32, user_data: u64) -> bool {
 
 // The last earlier row that looks like one.
 fn alike(run: &Run<'_>, about: &About) -> Option<u32> {
-    for back in 0..about.number {
+    for back in 0..about.number.min(LOOKED_BACK) {
         let number = about.number - 1 - back;
         if is_alike(run, number, about.moment, about.row.entry.user_data) {
             return Some(number);

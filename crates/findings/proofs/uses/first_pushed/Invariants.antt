@@ -1,7 +1,0 @@
-use Rattle.ring_words.specs.Rings.{sub_list}
-use Rattle.findings.specs.Uses.{is_sought}
-use Rattle.findings.proofs.Looking.{NonePasses}
-use Rattle.findings.proofs.uses.first_pushed.Given as goal
-
-abbrev pub invariant-loop-place : goal.invariant-loop-place
-invariant-loop-place l = NonePasses (is_sought l.state.submissions.slots l.sought) (sub_list l.state.submissions) l.place
