@@ -51,16 +51,19 @@ fn is_candidate(run: &Run<'_>, about: &About, number: u32, row: &Row) -> bool {
     came && number != about.number && row.entry.user_data == about.row.entry.addr
 }
 
-// The first row from a number on that is one.
-fn next_candidate(run: &Run<'_>, about: &About, from: u32) -> Option<u32> {
-    for number in from..run.times.len().min(65536) as u32 {
+// Of those the last one of an opcode that the entry can cancel or remove; where there is none, the
+// first.
+fn nearest_candidate(run: &Run<'_>, about: &About) -> Option<u32> {
+    let mut nearest = None;
+    for number in 0..run.times.len().min(65536) as u32 {
         if let Some(row) = run.row(number) {
-            if is_candidate(run, about, number, &row) {
-                return Some(number);
+            let fits = fits_opcode(&about.row.entry, &row);
+            if is_candidate(run, about, number, &row) && (fits || nearest.is_none()) {
+                nearest = Some(number);
             }
         }
     }
-    None
+    nearest
 }
 
 // Why a cancel found no row of a number.
@@ -93,7 +96,7 @@ fn reason_of(
 
 fn reason_by_user_data(alloc: Global, run: &Run<'_>, about: &About) -> Result<String, AllocError> {
     let sought = about.row.entry.addr;
-    let Some(number) = next_candidate(run, about, 0) else {
+    let Some(number) = nearest_candidate(run, about) else {
         if about.row.entry.user_data == sought {
             return format!(in alloc; "no other request had user_data {sought}");
         }
