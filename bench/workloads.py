@@ -183,6 +183,22 @@ def transfers(events):
     return cut(trace, events)
 
 
+def reads(count):
+    """So many READs of a page of a file, each with a user_data of its own, taken at once and issued; none ends."""
+    trace = Trace(4096, 8192)
+    descriptor = trace.file(b"f", bytes(range(256)) * (PAGE // 256))
+    for batch in range(0, count, 4096):
+        slots = range(min(4096, count - batch))
+        for slot in slots:
+            trace.do(b"\1" + struct.pack("<I", slot) + entry(READ, fd=descriptor, length=PAGE, user_data=batch + slot + 1))
+            trace.push([slot])
+        trace.enter(len(slots))
+        trace.round(len(slots))
+    for row in range(count):
+        trace.issue(row)
+    return trace
+
+
 def mixed(events):
     """Files, pipes, links, guards, timeouts and cancels, eleven rows a round."""
     trace = Trace(16, 32)
@@ -260,5 +276,6 @@ WORKLOADS = {
     "chains": ("chains of 64, cut in the middle", chains),
     "rows": ("rows, one in sixty of which ends", rows),
     "transfers": ("4,096-byte transfers, file and pipe", transfers),
+    "reads": ("4,096 READs that don't end", lambda events: reads(4096)),
     "mixed": ("mixed: files, pipes, links, guards, timeouts, cancels", mixed),
 }
