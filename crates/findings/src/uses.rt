@@ -26,7 +26,7 @@ const WORDS: u64 = 4294967296;
 
 /// How many of the words that were pushed last a Put looks at, so that each costs the same in
 /// whatever ring.
-const LOOKED_AT: u64 = 64;
+const LOOKED_AT: u64 = 8;
 
 /// What is looked for among the words that wait in the submission ring.
 #[derive(Clone, Copy, Debug)]
