@@ -4,6 +4,7 @@ mod rows;
 
 use crate::whole::Machine;
 use places::{At, Place, Record, Recorder, Value};
+use ring_words::SubRing;
 use scenario::{Event, Refusal, Setup, SetupRefusal, setup_refusal};
 use std::alloc::{AllocError, Global};
 use std::marker::Model;
@@ -87,6 +88,13 @@ impl State {
         ensures formed { WellFormed self.now }
     {
         self.machine.at(place)
+    }
+
+    /// The submission ring.
+    pub fn submissions(&self) -> &SubRing
+        ensures { result.now ≡ self.now.submissions }
+    {
+        &self.machine.submissions
     }
 
     /// Why an event is refused, if it is. It takes no memory.
