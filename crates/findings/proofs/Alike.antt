@@ -22,9 +22,9 @@ twin_test r user p = is_twin r user p.0 p.1
 
 -- whether a number is one of the 8 before another
 abbrev is_near : ℕ → ℕ → Bool
-is_near r q = nat_lt q r && nat_le r (q + 8)
+is_near r q = nat_lt q r && nat_le r (q + 32)
 
-near : (q r : ℕ) → q < r → r ≤ q + 8 → is_near r q ≡ true
+near : (q r : ℕ) → q < r → r ≤ q + 32 → is_near r q ≡ true
 near q r l m = and_from _ _ (lt-ltb q r l) (grind (arith, nat_tests, m))
 
 -- none of the rows before a number is a twin
@@ -61,7 +61,7 @@ twin_on rows r user from q none next other k x l e =
     ]
 
 -- it is one
-pub twin_found : (rows : List Row) (r from q : ℕ) (row : Row) → IsNextWhere is_open rows from q → q < r → r ≤ from + 8 → (row.entry.user_data ≡ 0 → ⊥) → has_user rows row.entry.user_data q ≡ true → has_twin rows r row ≡ true
+pub twin_found : (rows : List Row) (r from q : ℕ) (row : Row) → IsNextWhere is_open rows from q → q < r → r ≤ from + 32 → (row.entry.user_data ≡ 0 → ⊥) → has_user rows row.entry.user_data q ≡ true → has_twin rows r row ≡ true
 twin_found rows r from q row next l m user h =
     let own : (next.row.entry.user_data == row.entry.user_data) ≡ true = sym (has_user_at rows row.entry.user_data q next.row next.there) ∙ h in
     and_from _ _ (ap not (ne_eqb row.entry.user_data 0 user)) (any_true (twin_test r row.entry.user_data) (enumerate_from 0 rows) q (q, next.row)
@@ -74,12 +74,12 @@ no_twin rows r row none = any_false (twin_test r row.entry.user_data) (enumerate
 not_before : (q r : ℕ) → r ≤ q → nat_lt q r ≡ false
 not_before q r l = grind (arith, nat_tests, l)
 
-not_near : (q r : ℕ) → q + 8 < r → nat_le r (q + 8) ≡ false
+not_near : (q r : ℕ) → q + 32 < r → nat_le r (q + 32) ≡ false
 not_near q r l = grind (arith, nat_tests, l)
 
 -- nor are those that stand further back
 pub twins_near : (rows : List Row) (r user from : ℕ) → from ≤ r - 8 → NoTwin rows r user from
-twins_near rows r user from l q x b e = and_left _ _ (none_anywhere (nat_lt q r) (nat_le r (q + 8)) (not_near q r (omega (arith, l, b))))
+twins_near rows r user from l q x b e = and_left _ _ (none_anywhere (nat_lt q r) (nat_le r (q + 32)) (not_near q r (omega (arith, l, b))))
 
 -- the rows behind are of no matter
 pub twin_past : (rows : List Row) (r from q : ℕ) (row : Row) → NoTwin rows r row.entry.user_data from → IsNextWhere is_open rows from q → r ≤ q → has_twin rows r row ≡ false

@@ -35,7 +35,3 @@ any_none test xs k none l = any_false test xs (λ j x e.
       | inl below ↦ sym (ap (λ o. option_map_or test o false) e) ∙ none j below
       | inr past ↦ absurd (none_past xs k j x l past e)
     ])
-
-pub some_passes : {X : Type 0} (test : X → Bool) (o : Option X) → option_map_or test o false ≡ true → is_some o ≡ true
-some_passes test None h = cc
-some_passes test (Some x) h = refl

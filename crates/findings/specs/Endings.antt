@@ -87,9 +87,9 @@ is_of _ before row next res = false
 abbrev pub has_idle_field : Sqe → Bool
 has_idle_field entry = not (entry.ioprio == 0) || (not (entry.buf_index == 0) || (not (entry.personality == 0) || not (unsigned_abs entry.splice_fd_in == 0)))
 
--- whether a row is one of the 8 before that of a number, hasn't ended, and has a user_data
+-- whether a row is one of the 32 before that of a number, hasn't ended, and has a user_data
 abbrev pub is_twin : ℕ → ℕ → ℕ → Row → Bool
-is_twin r user q other = (nat_lt q r && nat_le r (q + 8)) && (is_open other && (other.entry.user_data == user))
+is_twin r user q other = (nat_lt q r && nat_le r (q + 32)) && (is_open other && (other.entry.user_data == user))
 
 -- whether some row has that of the row of a number; 0 is left out, which an entry has that gives none
 abbrev pub has_twin : List Row → ℕ → Row → Bool
@@ -98,7 +98,7 @@ has_twin rows r row = not (row.entry.user_data == 0) && any_numbered (is_twin r 
 -- Whether a row that comes by an event, among all rows behind it, is a finding of a kind (io_uring_enter(2)):
 --   CutOff: it is linked to an entry that didn't become a row with it;
 --   NoEffect: a field of its entry has no effect;
---   SameUserData: one of the 8 rows before it hasn't ended, and has its user_data, so that their completions can't be told apart.
+--   SameUserData: one of the 32 rows before it hasn't ended, and has its user_data, so that their completions can't be told apart.
 abbrev pub comes_as : Kind → List Row → ℕ → Row → Bool
 comes_as CutOff rows r row = is_linked row.entry && is_none (slice_get rows (r + 1))
 comes_as NoEffect rows r row = has_idle_field row.entry

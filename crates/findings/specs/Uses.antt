@@ -48,14 +48,14 @@ is_sought slots (Naming fd) word = option_map_or (names_descriptor fd) (slice_ge
 abbrev pub is_pushed : SubWords → Sought → Bool
 is_pushed w sought = list_any (is_sought w.slots sought) (sub_list w)
 
--- those of them that were pushed last, at most 8
+-- those of them that were pushed last, at most 64
 abbrev pub pushed_last : SubWords → List ℕ
-pushed_last w = drop (length (sub_list w) - 8) (sub_list w)
+pushed_last w = drop (length (sub_list w) - 64) (sub_list w)
 
 -- ---- kinds
 
 -- Whether a Put into a slot, that changes it or doesn't, is a finding (io_uring(7)):
---   SlotInUse: it changes an entry that was pushed, among the last 8, and not yet taken.
+--   SlotInUse: it changes an entry that was pushed, among the last 64, and not yet taken.
 abbrev pub is_of_put : Kind → Bool → ℕ → Machine → Bool
 is_of_put SlotInUse changes slot m = changes && list_any (is_sought m.submissions.slots (Named slot)) (pushed_last m.submissions)
 is_of_put kind changes slot m = false

@@ -10,9 +10,7 @@ ghost use Rattle.findings.specs.Uses.{changes_at};
 use crate::canceling::{Cancel, cancel_before};
 use crate::files::number_in;
 use crate::kind::Kind;
-use crate::uses::{
-    Sought, changes_at, first_pushed, is_of_number, is_of_put, submission_head, submission_tail,
-};
+use crate::uses::{Sought, changes_at, first_pushed, is_of_number, is_of_put};
 use machine::{Event, Instruction, Setup, State};
 use opcodes::{EBUSY, EINVAL};
 use places::{Place, Stage, Value};
@@ -57,10 +55,7 @@ impl Before {
 fn flags_of(state: &State) -> u64
     ensures { result ≡ state.now.submissions.flags }
 {
-    let Some(Value::Number(flags)) = state.value(Place::SubmissionFlags) else {
-        unreachable!()
-    };
-    flags
+    u64::from(state.submissions().flags())
 }
 
 fn has_flag(flags: u64, bit: u64) -> bool
@@ -85,7 +80,8 @@ pub(crate) fn overflows(state: &State) -> bool
 fn has_entries(state: &State) -> bool
     ensures { result ≡ has_entries state.now }
 {
-    !(submission_head(state) == submission_tail(state))
+    let ring = state.submissions();
+    !(ring.head() == ring.tail())
 }
 
 fn has_completions(state: &State) -> bool

@@ -9,7 +9,6 @@ use crate::record::add_if;
 use entries::Row;
 use links_drains::is_unfinished;
 use machine::State;
-use places::{Place, Value};
 use std::alloc::AllocError;
 
 /// The most rows of a run.
@@ -22,10 +21,7 @@ pub(crate) fn row_at(state: &State, number: u32) -> Option<Row>
     ensures few { length state.now.table ≤ 65536 }
     ensures below { IfSome result (λ row. number < 65536) }
 {
-    match state.value(Place::Request(number)) {
-        Some(Value::Requested(row)) => Some(row),
-        _ => None,
-    }
+    state.row(number)
 }
 
 // Adds a row that hasn't ended.

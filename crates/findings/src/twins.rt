@@ -9,7 +9,7 @@ use entries::Row;
 use machine::State;
 
 /// How many rows before one are looked at, so that each costs the same however many haven't ended.
-pub(crate) const LOOKED_BACK: u32 = 8;
+pub(crate) const LOOKED_BACK: u32 = 32;
 
 fn has_user_data(state: &State, number: u32, user_data: u64) -> bool
     ensures { result ≡ option_map_or (λ (row : Row). row.entry.user_data == user_data)
@@ -21,7 +21,7 @@ fn has_user_data(state: &State, number: u32, user_data: u64) -> bool
     }
 }
 
-/// Whether one of the 8 rows before that of a number hasn't ended, and has its user_data, which
+/// Whether one of the 32 rows before that of a number hasn't ended, and has its user_data, which
 /// isn't 0.
 pub(crate) fn has_twin(state: &State, number: u32, row: &Row) -> bool
     ensures { result ≡ has_twin state.now.table number row.now }

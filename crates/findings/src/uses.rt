@@ -1,5 +1,5 @@
 //! What is still to use a slot, or a descriptor.
-ghost use Rattle.std.specs.Prelude.{◌≡◌, ◌<◌, ◌≤◌, ◌^◌, false, is_some, length, slice_get, drop};
+ghost use Rattle.std.specs.Prelude.{◌≡◌, ◌≤◌, false, is_some, slice_get, drop};
 ghost use Rattle.std.specs.Option.{option_copied, option_map_or};
 ghost use Rattle.std.specs.List.{list_any};
 ghost use Rattle.ring_words.specs.Rings.{waiting, sub_list};
@@ -15,18 +15,11 @@ use machine::{Instruction, State};
 use opcodes::uses_descriptor;
 use places::value::is_same;
 use places::{Place, Value};
-
-/// The sizes of rings.
-const SIZES: [u32; 14] = [
-    1, 2, 4, 8, 16, 32, 64, 128, 256, 512, 1024, 2048, 4096, 8192,
-];
-
-/// Ring words are free-running, of 32 bits.
-const WORDS: u64 = 4294967296;
+use ring_words::SubRing;
 
 /// How many of the words that were pushed last a Put looks at, so that each costs the same in
 /// whatever ring.
-const LOOKED_AT: u64 = 8;
+const LOOKED_AT: u32 = 64;
 
 /// What is looked for among the words that wait in the submission ring.
 #[derive(Clone, Copy, Debug)]
@@ -56,65 +49,6 @@ pub(crate) fn changes_at(state: &State, instruction: Option<&Instruction>) -> bo
     }
 }
 
-// ---- words that wait
-
-/// The head of the submission ring, which has some words.
-pub(crate) fn submission_head(state: &State) -> u64
-    ensures value { result ≡ state.now.submissions.head }
-    ensures within { result < 2 ^ 32 }
-    ensures some { 0 < length state.now.submissions.array }
-{
-    let Some(Value::Number(head)) = state.value(Place::SubmissionHead) else {
-        unreachable!()
-    };
-    head
-}
-
-/// Its tail.
-pub(crate) fn submission_tail(state: &State) -> u64
-    ensures value { result ≡ state.now.submissions.tail }
-    ensures within { result < 2 ^ 32 }
-{
-    let Some(Value::Number(tail)) = state.value(Place::SubmissionTail) else {
-        unreachable!()
-    };
-    tail
-}
-
-// How many words wait.
-fn waiting_count(state: &State) -> u64
-    ensures value { result ≡ waiting state.now.submissions.head state.now.submissions.tail }
-    ensures within { result < 2 ^ 32 }
-    ensures listed { result ≡ length (sub_list state.now.submissions) }
-{
-    (submission_tail(state) + (WORDS - submission_head(state))) % WORDS
-}
-
-// A word of the ring.
-fn word_at(state: &State, index: u32) -> Option<u32>
-    ensures { result ≡ slice_get state.now.submissions.array index }
-{
-    match state.value(Place::Array(index)) {
-        Some(Value::Number(word)) => Some(word as u32),
-        _ => None,
-    }
-}
-
-// How many words the ring has.
-fn array_size(state: &State) -> u32
-    ensures value { result ≡ length state.now.submissions.array }
-    ensures some { 0 < result }
-{
-    let _head = state.value(Place::SubmissionHead);
-    for size in &SIZES {
-        match word_at(state, *size) {
-            Some(_) => {}
-            None => return *size,
-        }
-    }
-    unreachable!()
-}
-
 // ---- descriptors
 
 fn is_number(number: Option<u32>, fd: u32) -> bool
@@ -134,38 +68,34 @@ fn names_descriptor(fd: u32, entry: &Sqe) -> bool
 
 // ---- looking for one
 
-fn slot_names(state: &State, fd: u32, slot: u32) -> bool
-    ensures { result ≡ option_map_or (names_descriptor fd)
-        (slice_get state.now.submissions.slots slot) false }
+fn slot_names(ring: &SubRing, fd: u32, slot: u32) -> bool
+    ensures { result ≡ option_map_or (names_descriptor fd) (slice_get ring.now.slots slot) false }
 {
-    match state.value(Place::Slot(slot)) {
-        Some(Value::Entry(entry)) => names_descriptor(fd, &entry),
-        _ => false,
+    match ring.entry(slot) {
+        Some(entry) => names_descriptor(fd, &entry),
+        None => false,
     }
 }
 
-fn is_sought(state: &State, sought: Sought, word: Option<u32>) -> bool
-    ensures { result ≡ option_map_or (is_sought state.now.submissions.slots sought) word false }
+fn is_sought(ring: &SubRing, sought: Sought, word: u32) -> bool
+    ensures { result ≡ is_sought ring.now.slots sought word }
 {
-    match (sought, word) {
-        (Sought::Named(slot), Some(word)) => word == slot,
-        (Sought::Naming(fd), Some(word)) => slot_names(state, fd, word),
-        _ => false,
+    match sought {
+        Sought::Named(slot) => word == slot,
+        Sought::Naming(fd) => slot_names(ring, fd, word),
     }
 }
 
 // The first of the words that wait which is sought, behind some that are passed over.
-fn first_behind(state: &State, sought: Sought, passed: u64) -> Option<u32>
-    requires { passed ≤ waiting state.now.submissions.head state.now.submissions.tail }
-    ensures { is_some result ≡ list_any (is_sought state.now.submissions.slots sought)
-        (drop passed (sub_list state.now.submissions)) }
+fn first_behind(ring: &SubRing, sought: Sought, passed: u32) -> Option<u32>
+    requires { passed ≤ waiting ring.now.head ring.now.tail }
+    ensures { is_some result ≡ list_any (is_sought ring.now.slots sought)
+        (drop passed (sub_list ring.now)) }
 {
-    let start = submission_head(state) + passed;
-    let size = u64::from(array_size(state));
-    for place in 0..waiting_count(state) - passed {
-        let word = word_at(state, ((start + place) % size) as u32);
-        if is_sought(state, sought, word) {
-            return word;
+    for place in 0..ring.waiting() - passed {
+        let word = ring.word(passed + place);
+        if is_sought(ring, sought, word) {
+            return Some(word);
         }
     }
     None
@@ -175,16 +105,16 @@ fn first_behind(state: &State, sought: Sought, passed: u64) -> Option<u32>
 pub(crate) fn first_pushed(state: &State, sought: Sought) -> Option<u32>
     ensures { is_some result ≡ is_pushed state.now.submissions sought }
 {
-    first_behind(state, sought, 0)
+    first_behind(state.submissions(), sought, 0)
 }
 
 // Whether one of the words that were pushed last, and wait, is a slot's.
-fn is_pushed_last(state: &State, slot: u32) -> bool
-    ensures { result ≡ list_any (is_sought state.now.submissions.slots (Sought.Named slot))
-        (pushed_last state.now.submissions) }
+fn is_pushed_last(ring: &SubRing, slot: u32) -> bool
+    ensures { result ≡ list_any (is_sought ring.now.slots (Sought.Named slot))
+        (pushed_last ring.now) }
 {
-    let passed = waiting_count(state).saturating_sub(LOOKED_AT);
-    first_behind(state, Sought::Named(slot), passed).is_some()
+    let passed = ring.waiting().saturating_sub(LOOKED_AT);
+    first_behind(ring, Sought::Named(slot), passed).is_some()
 }
 
 // Whether a row is one that a Close of a descriptor is a finding of.
@@ -225,7 +155,7 @@ pub(crate) fn is_of_put(kind: Kind, changes: bool, slot: u32, state: &State) -> 
     ensures { result ≡ is_of_put kind changes slot state.now }
 {
     match kind {
-        Kind::SlotInUse => changes && is_pushed_last(state, slot),
+        Kind::SlotInUse => changes && is_pushed_last(state.submissions(), slot),
         _ => false,
     }
 }

@@ -1,19 +1,28 @@
 //! What a state tells of its rows.
-ghost use Rattle.std.specs.Prelude.{◌≡◌, ◌<◌, IfSome, IfNone, length};
+ghost use Rattle.std.specs.Prelude.{◌≡◌, ◌<◌, IfSome, IfNone, length, slice_get};
 ghost use Rattle.links_drains.specs.Numbered.{IsNextWhere, NoneWhere};
 ghost use Rattle.links_drains.specs.Queued.{next_queued, IsNextQueued, NoneQueuedFrom};
 ghost use Rattle.links_drains.specs.Units.{is_open, next_issued, IsNextIssued, NoneIssuedFrom};
 ghost use Rattle.timeouts_cancel.specs.Matches.{matches_of};
 ghost use Rattle.machine.specs.Cancels.{key_of};
 ghost use Rattle.machine.specs.Deadlines.{deadline_at};
+ghost use Rattle.machine.specs.Whole.{WellFormed};
 
 use super::State;
 use crate::cancelling::key_of;
-use entries::Sqe;
+use entries::{Row, Sqe};
 use links_drains::is_issued;
 use timeouts_cancel::count_by;
 
 impl State {
+    /// The row of a number, if there is one. It takes no memory.
+    pub fn row(&self, number: u32) -> Option<Row>
+        ensures row { result ≡ slice_get self.now.table number }
+        ensures formed { WellFormed self.now }
+    {
+        self.machine.table.get(number)
+    }
+
     /// The least queued row from a number on. It takes no memory, and looks at no row that ended.
     pub fn next_queued(&self, from: u32) -> Option<u32>
         ensures value { result ≡ next_queued self.now.table from }

@@ -5,4 +5,4 @@ use Rattle.findings.proofs.Looking.{NonePasses}
 use Rattle.findings.proofs.uses.first_behind.Given as goal
 
 abbrev pub invariant-loop-place : goal.invariant-loop-place
-invariant-loop-place l = NonePasses (is_sought l.state.submissions.slots l.sought) (drop l.passed (sub_list l.state.submissions)) l.place
+invariant-loop-place l = NonePasses (is_sought l.ring.slots l.sought) (drop l.passed (sub_list l.ring)) l.place
