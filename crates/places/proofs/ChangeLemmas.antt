@@ -8,17 +8,19 @@ use Rattle.entries.specs.declared.completion.Cqe.{Cqe}
 use Rattle.entries.specs.declared.entry.Sqe.{Sqe}
 use Rattle.entries.specs.declared.row.Row.{Row}
 use Rattle.places.specs.declared.place.Place.{Place}
-use Rattle.places.specs.declared.place.Place.TheVariants.{SubmissionHead, SubmissionTail, SubmissionFlags, SubmissionDropped, CompletionHead, CompletionTail, Array, Slot, Completion, MemoryByte, FileByte, DurableByte, FileLength, DurableLength, Position, OpenMark, PipeByte, PutCount, TakenCount, EventCount, Request, Backlog, BacklogFront, Clock, Counted, PollerStage, ProgramCounter, ThreadStage, Last, Got}
+use Rattle.places.specs.declared.place.Place.TheVariants.{ProgramCounter, Got}
 use Rattle.places.specs.declared.value.Stage.{Stage}
 use Rattle.places.specs.declared.value.Stage.TheVariants.{Ready, Waiting}
 use Rattle.places.specs.declared.value.Value.{Value}
 use Rattle.places.specs.declared.value.Value.TheVariants.{Number, Signed, Entry, Completed, Requested, Staged, Reaped, Awake}
 use Rattle.places.specs.declared.value.Change.{Change}
-use Rattle.places.specs.Places.{kind_of, index_of, second_of}
-use Rattle.places.specs.PlaceNumbers.{place_of, place_again}
+use Rattle.places.specs.Places.{kind_of}
+use Rattle.places.specs.PlaceNumbers.{place_of}
+use Rattle.places.specs.Slots.{number_places, number_place, other_places, other_place}
+use Rattle.places.specs.SlotLaws.{kind_small, AllOf, behind_of}
 use Rattle.places.specs.Reading.{read_all, Puts}
 use Rattle.places.specs.Numerals.{number_of, after, behind, word_of}
-use Rattle.places.specs.Packed.{StageFits, stage_list, stage_of, reaped_of, completion_of, entry_of, row_of, shape_of, size_of_shape, value_of_shape, kind_from, shape_from, change_of, after_change, packed}
+use Rattle.places.specs.Packed.{StageFits, stage_list, stage_of, reaped_of, completion_of, entry_of, row_of, size_of_shape, value_of_shape, kind_from, shape_from, change_of, after_change, packed}
 use Rattle.places.proofs.ReadingLemmas.{read_all_of}
 
 same_word : {m n : ℕ} → m ≡ n → n < 2 ^ 32 → m % 2 ^ 32 ≡ n
@@ -99,37 +101,11 @@ none_put old rest = record { put = rest; joined = refl; reads = (refl, refl) }
 
 -- ---- changes
 
-kind_small : (p : Place) → kind_of p < 30
-kind_small SubmissionHead = omega arith
-kind_small SubmissionTail = omega arith
-kind_small SubmissionFlags = omega arith
-kind_small SubmissionDropped = omega arith
-kind_small CompletionHead = omega arith
-kind_small CompletionTail = omega arith
-kind_small (Array i) = omega arith
-kind_small (Slot i) = omega arith
-kind_small (Completion i) = omega arith
-kind_small (MemoryByte a) = omega arith
-kind_small (FileByte o i) = omega arith
-kind_small (DurableByte o i) = omega arith
-kind_small (FileLength i) = omega arith
-kind_small (DurableLength i) = omega arith
-kind_small (Position i) = omega arith
-kind_small (OpenMark i) = omega arith
-kind_small (PipeByte o i) = omega arith
-kind_small (PutCount i) = omega arith
-kind_small (TakenCount i) = omega arith
-kind_small (EventCount i) = omega arith
-kind_small (Request i) = omega arith
-kind_small (Backlog i) = omega arith
-kind_small BacklogFront = omega arith
-kind_small Clock = omega arith
-kind_small Counted = omega arith
-kind_small PollerStage = omega arith
-kind_small (ProgramCounter i) = omega arith
-kind_small (ThreadStage i) = omega arith
-kind_small (Last i) = omega arith
-kind_small (Got i) = omega arith
+abbrev change_at : Place → Option Value → Change
+change_at p x = record { place = p; old = x }
+
+made : {p q : Place} {x y : Option Value} → p ≡ q → x ≡ y → change_at p x ≡ change_at q y
+made e f = rw (e, f) refl
 
 kind_again : (k s : ℕ) → k < 30 → kind_from (k + 30 * s) ≡ k
 kind_again k s h = omega arith
@@ -137,32 +113,63 @@ kind_again k s h = omega arith
 shape_again : (k s : ℕ) → k < 30 → shape_from (k + 30 * s) ≡ s
 shape_again k s h = omega arith
 
-abbrev change_at : Place → Option Value → Change
-change_at p x = record { place = p; old = x }
+-- What begins with a kind and a shape, an index, and a value of that shape is a change.
+module _ (bs : List ℕ) (p : Place) (x : Option Value) (s i : ℕ) (again : place_of (kind_of p) i 0 ≡ p) (fits : i < 2 ^ 32) (head : number_of bs ≡ kind_of p + 30 * s) (index : number_of (after bs) ≡ i) where
+  first_shape : shape_from (number_of bs) ≡ s
+  first_shape = ap shape_from head ∙ shape_again (kind_of p) s (kind_small p)
 
-made : {p q : Place} {x y : Option Value} → p ≡ q → x ≡ y → change_at p x ≡ change_at q y
-made e f = rw (e, f) refl
+  first_change : value_of_shape s (behind 2 bs) ≡ x → change_of bs ≡ change_at p x
+  unfolding change_of
+  first_change e =
+      let k : kind_from (number_of bs) ≡ kind_of p = ap kind_from head ∙ kind_again (kind_of p) s (kind_small p) in
+      let n : word_of (behind 1 bs) ≡ i = same_word index fits in
+      made (rw (k, n) again) (rw (first_shape) e)
 
-pub change_put : (c : Change) (old mid new : List ℕ) → second_of c.place ≡ 0 → index_of c.place < 2 ^ 32 → Puts number_of after old ((kind_of c.place + 30 * shape_of c.old) ∷ index_of c.place ∷ []) mid → Puts (value_of_shape (shape_of c.old)) (behind (size_of_shape (shape_of c.old))) mid (c.old ∷ []) new → Puts change_of after_change old (c ∷ []) new
-unfolding change_of after_change
-change_put c old mid new z l g h rest =
-    let q = h rest in
-    let p = g q.put in
-    let k : kind_from (number_of p.put) ≡ kind_of c.place = ap kind_from p.reads.0 ∙ kind_again (kind_of c.place) (shape_of c.old) (kind_small c.place) in
-    let s : shape_from (number_of p.put) ≡ shape_of c.old = ap shape_from p.reads.0 ∙ shape_again (kind_of c.place) (shape_of c.old) (kind_small c.place) in
-    let i : word_of (behind 1 p.put) ≡ index_of c.place = same_word p.reads.1.0 l in
-    let m : behind 2 p.put ≡ q.put = p.reads.1.1 in
-    let a : place_of (kind_from (number_of p.put)) (word_of (behind 1 p.put)) 0 ≡ c.place =
-    ap (λ n. place_of n (word_of (behind 1 p.put)) 0) k ∙ ap (λ n. place_of (kind_of c.place) n 0) i ∙ ap (place_of (kind_of c.place) (index_of c.place)) (sym z) ∙ place_again c.place in
-    let b : value_of_shape (shape_from (number_of p.put)) (behind 2 p.put) ≡ c.old = ap (λ n. value_of_shape n (behind 2 p.put)) s ∙ ap (value_of_shape (shape_of c.old)) m ∙ q.reads.0 in
-    let d : behind (size_of_shape (shape_from (number_of p.put))) (behind 2 p.put) ≡ rest = ap (λ n. behind (size_of_shape n) (behind 2 p.put)) s ∙ ap (behind (size_of_shape (shape_of c.old))) m ∙ q.reads.1 in
-    record { put = p.put; joined = q.joined ∙ p.joined; reads = (made a b, d) }
+  first_behind : after_change bs ≡ behind (size_of_shape s) (behind 2 bs)
+  unfolding after_change
+  first_behind = rw (first_shape) refl
+
+module _ (p : Place) (x : Option Value) (s i : ℕ) (old new : List ℕ) (again : place_of (kind_of p) i 0 ≡ p) (fits : i < 2 ^ 32) where
+  pub change_put : (mid : List ℕ) → Puts number_of after old ((kind_of p + 30 * s) ∷ i ∷ []) mid → Puts (value_of_shape s) (behind (size_of_shape s)) mid (x ∷ []) new → Puts change_of after_change old (change_at p x ∷ []) new
+  change_put mid g h rest =
+      let q = h rest in
+      let b = g q.put in
+      let m : behind 2 b.put ≡ q.put = b.reads.1.1 in
+      let e = first_change b.put p x s i again fits b.reads.0 b.reads.1.0 (ap (value_of_shape s) m ∙ q.reads.0) in
+      let f = first_behind b.put p x s i again fits b.reads.0 b.reads.1.0 in
+      record { put = b.put; joined = q.joined ∙ b.joined; reads = (e, f ∙ ap (behind (size_of_shape s)) m ∙ q.reads.1) }
+
+pub number_change_put : (p : Place) (i n : ℕ) (old new : List ℕ) → place_of (kind_of p) i 0 ≡ p → i < 2 ^ 32 → Puts number_of after old ((kind_of p + 30) ∷ i ∷ n ∷ []) new → Puts change_of after_change old (change_at p (Some (Number n)) ∷ []) new
+unfolding value_of_shape
+number_change_put p i n old new again fits g rest =
+    let q = g rest in
+    let e = first_change q.put p (Some (Number n)) 1 i again fits q.reads.0 q.reads.1.0 (ap (λ m. Some (Number m)) q.reads.1.1.0) in
+    let f = first_behind q.put p (Some (Number n)) 1 i again fits q.reads.0 q.reads.1.0 in
+    record { put = q.put; joined = q.joined; reads = (e, f ∙ q.reads.1.1.1) }
+
+-- ---- the places of notes, by their kinds
+
+-- a place of its kind and an index
+abbrev IsAt : ℕ → Place → Type 0
+IsAt i p = place_of (kind_of p) i 0 ≡ p
+
+all_numbers_at : (i : ℕ) → AllOf (IsAt i) (number_places i)
+unfolding AllOf place_of
+all_numbers_at i = (refl, (refl, (refl, (refl, (refl, (refl, (refl, (refl, (refl, (refl, (refl, (refl, (refl, (refl, (refl, (refl, (refl, tt)))))))))))))))))
+
+pub number_at : (k i : ℕ) → IsAt i (number_place k i)
+unfolding number_place place_of
+number_at k i = behind_of (IsAt i) k (number_places i) (ProgramCounter i) (all_numbers_at i) refl
+
+all_others_at : (i : ℕ) → AllOf (IsAt i) (other_places i)
+unfolding AllOf place_of
+all_others_at i = (refl, (refl, (refl, (refl, (refl, tt)))))
+
+pub other_at : (k i : ℕ) → IsAt i (other_place k i)
+unfolding other_place place_of
+other_at k i = behind_of (IsAt i) k (other_places i) (Got i) (all_others_at i) refl
 
 -- ---- packed changes
-
--- what stood there is put where it is known to be this
-pub put_is : (old x : Option Value) (a b : List ℕ) → old ≡ x → Puts (value_of_shape (shape_of x)) (behind (size_of_shape (shape_of x))) a (x ∷ []) b → Puts (value_of_shape (shape_of old)) (behind (size_of_shape (shape_of old))) a (old ∷ []) b
-put_is old x a b e h = rw (e) h
 
 -- what is read behind a count
 pub packed_put : (old mid new : List ℕ) (n : ℕ) (cs : List Change) → old ≡ [] → length cs ≡ n → Puts number_of after old (n ∷ []) mid → Puts change_of after_change mid cs new → packed new ≡ cs

@@ -13,6 +13,8 @@ pub mod RestList
 pub mod RestOf
 pub mod WideList
 pub mod WideOf
+pub mod MoreList
+pub mod MoreOf
 pub mod All
 pub mod Reading
 pub mod Numerals

@@ -10,7 +10,7 @@ use Rattle.entries.specs.declared.row.Row.{Row}
 use Rattle.places.specs.declared.value.Stage.{Stage}
 use Rattle.places.specs.declared.value.Stage.TheVariants.{Ready, Waiting}
 use Rattle.places.specs.declared.value.Value.{Value}
-use Rattle.places.specs.declared.value.Value.TheVariants.{Number, Signed, Byte, Entry, Completed, Requested, Staged, Reaped, Awake}
+use Rattle.places.specs.declared.value.Value.TheVariants.{Number, Signed, Entry, Completed, Requested, Staged, Reaped, Awake}
 use Rattle.places.specs.declared.value.Change.{Change}
 use Rattle.places.specs.PlaceNumbers.{place_of}
 use Rattle.places.specs.Reading.{read_all}
@@ -123,19 +123,6 @@ size_of_shape s =
     if s == 5 then 21 else (
     if s == 6 then 2 else (
     if s == 7 then 4 else 1)))))))
-
--- the shape of what stood there; a byte has none
-abbrev pub shape_of : Option Value → ℕ
-shape_of None = 0
-shape_of (Some (Number n)) = 1
-shape_of (Some (Signed n)) = 2
-shape_of (Some (Entry e)) = 3
-shape_of (Some (Completed c)) = 4
-shape_of (Some (Requested r)) = 5
-shape_of (Some (Staged s)) = 6
-shape_of (Some (Reaped c)) = 7
-shape_of (Some (Awake a)) = 8
-shape_of (Some (Byte b)) = 9
 
 -- what stood there, by its shape
 unfoldable pub value_of_shape : ℕ → List ℕ → Option Value

@@ -12,7 +12,7 @@ use Rattle.places.specs.Places.{kind_of, index_of, second_of, is_number, InLimit
 use Rattle.places.specs.Slots.{number_places, place_behind, number_place, number_slot, number_slot_of, number_change, completion_slot_of, completion_change, row_slot_of, row_change, other_places, other_place, slot_at}
 use Rattle.places.specs.PlaceNumbers.{same_numbers}
 
-kind_small : (p : Place) → kind_of p < 30
+pub kind_small : (p : Place) → kind_of p < 30
 kind_small SubmissionHead = omega arith
 kind_small SubmissionTail = omega arith
 kind_small SubmissionFlags = omega arith
@@ -54,34 +54,36 @@ same_slot p q e = by (kind_of p == 6) (kind_of q == 6) refl refl e
     by false true h k f = absurd (omega arith)
     by false false h k f = let m = kind_small p in let n = kind_small q in (omega arith, omega arith)
 
+-- what holds of each place of a list
+unfoldable pub AllOf : (Place → Type 0) → List (ℕ × Place) → Type 0
+AllOf P [] = Unit {0}
+AllOf P (c ∷ cs) = P c.1 × AllOf P cs
+
+either : (P : Place → Type 0) (b : Bool) (p q : Place) → P p → P q → P (cond b p q)
+either P true p q h k = h
+either P false p q h k = k
+
+-- holds of the one behind a number
+pub behind_of : (P : Place → Type 0) (k : ℕ) (cs : List (ℕ × Place)) (p : Place) → AllOf P cs → P p → P (place_behind k cs p)
+unfolding AllOf
+behind_of P k [] p a h = h
+behind_of P k (c ∷ cs) p a h = either P (k == c.0) c.1 (place_behind k cs p) a.0 (behind_of P k cs p a.1 h)
+
 -- a number's place, with no second index
 pub record IsPlain (p : Place) : Type 0 where
   pub number : is_number p ≡ true
   pub second : second_of p ≡ 0
 
-either : (b : Bool) (p q : Place) → IsPlain p → IsPlain q → IsPlain (cond b p q)
-either true p q h k = h
-either false p q h k = k
-
 plain : {p : Place} → is_number p ≡ true → second_of p ≡ 0 → IsPlain p
 plain n s = record { number = n; second = s }
 
-AllPlain : List (ℕ × Place) → Type 0
-AllPlain [] = Unit {0}
-AllPlain (c ∷ cs) = IsPlain c.1 × AllPlain cs
-
-behind_plain : (k : ℕ) (cs : List (ℕ × Place)) (p : Place) → AllPlain cs → IsPlain p → IsPlain (place_behind k cs p)
-unfolding AllPlain
-behind_plain k [] p a h = h
-behind_plain k (c ∷ cs) p a h = either (k == c.0) c.1 (place_behind k cs p) a.0 (behind_plain k cs p a.1 h)
-
-all_plain : (i : ℕ) → AllPlain (number_places i)
-unfolding AllPlain
+all_plain : (i : ℕ) → AllOf IsPlain (number_places i)
+unfolding AllOf
 all_plain i = (plain refl refl, (plain refl refl, (plain refl refl, (plain refl refl, (plain refl refl, (plain refl refl, (plain refl refl, (plain refl refl, (plain refl refl, (plain refl refl, (plain refl refl, (plain refl refl, (plain refl refl, (plain refl refl, (plain refl refl, (plain refl refl, (plain refl refl, tt)))))))))))))))))
 
 pub number_plain : (k i : ℕ) → IsPlain (number_place k i)
 unfolding number_place
-number_plain k i = behind_plain k (number_places i) (ProgramCounter i) (all_plain i) (plain refl refl)
+number_plain k i = behind_of IsPlain k (number_places i) (ProgramCounter i) (all_plain i) (plain refl refl)
 
 pub one_number : (x y : NumberNote) → number_slot_of x ≡ number_slot_of y → (number_change x).place ≡ (number_change y).place
 one_number x y e =
@@ -105,26 +107,13 @@ pub record IsLone (p : Place) : Type 0 where
 lone : {p : Place} → is_other p ≡ true → second_of p ≡ 0 → IsLone p
 lone n s = record { other = n; second = s }
 
-AllLone : List (ℕ × Place) → Type 0
-AllLone [] = Unit {0}
-AllLone (c ∷ cs) = IsLone c.1 × AllLone cs
-
-either_lone : (b : Bool) (p q : Place) → IsLone p → IsLone q → IsLone (cond b p q)
-either_lone true p q h k = h
-either_lone false p q h k = k
-
-behind_lone : (k : ℕ) (cs : List (ℕ × Place)) (p : Place) → AllLone cs → IsLone p → IsLone (place_behind k cs p)
-unfolding AllLone
-behind_lone k [] p a h = h
-behind_lone k (c ∷ cs) p a h = either_lone (k == c.0) c.1 (place_behind k cs p) a.0 (behind_lone k cs p a.1 h)
-
-all_lone : (i : ℕ) → AllLone (other_places i)
-unfolding AllLone
+all_lone : (i : ℕ) → AllOf IsLone (other_places i)
+unfolding AllOf
 all_lone i = (lone refl refl, (lone refl refl, (lone refl refl, (lone refl refl, (lone refl refl, tt)))))
 
 pub other_lone : (k i : ℕ) → IsLone (other_place k i)
 unfolding other_place
-other_lone k i = behind_lone k (other_places i) (Got i) (all_lone i) (lone refl refl)
+other_lone k i = behind_of IsLone k (other_places i) (Got i) (all_lone i) (lone refl refl)
 
 same_slot_at : (p q : Place) → slot_at p ≡ slot_at q → (kind_of p ≡ kind_of q) × (index_of p ≡ index_of q)
 unfolding slot_at

@@ -3,6 +3,7 @@
 pub mod clearing;
 pub mod completions;
 pub mod leaving;
+pub mod more;
 pub mod numbers;
 pub mod odd;
 pub mod rest;

@@ -9,6 +9,7 @@ ghost use Rattle.places.specs.All.{record_changes};
 use crate::listed::Listed;
 use crate::notes::completions::CompletionNote;
 use crate::notes::leaving::left_after;
+use crate::notes::more::More;
 use crate::notes::numbers::NumberNote;
 use crate::notes::rest::Rest;
 use crate::notes::rows::RowNote;
@@ -26,8 +27,7 @@ use std::marker::Model;
 #[derive(Drop)]
 pub struct Record {
     packed: Packed,
-    wide: Wide,
-    rest: Rest,
+    more: More,
 }
 
 impl Model for Record {
@@ -38,9 +38,9 @@ impl Model for Record {
 
     ghost Value = { List Change };
 
-    ghost view = { λ a. record_changes a.packed a.wide a.rest };
+    ghost view = { λ a. record_changes a.packed a.more.wide a.more.rest };
 
-    ghost invariant = { λ a. NamesOnce (record_changes a.packed a.wide a.rest) };
+    ghost invariant = { λ a. NamesOnce (record_changes a.packed a.more.wide a.more.rest) };
 }
 
 /// The changes of a record that are left, one after the other.
@@ -104,7 +104,10 @@ impl Record {
         requires { NamesOnce (record_changes packed wide rest) }
         ensures { result ≡ record_changes packed wide rest }
     {
-        Record { packed, wide, rest }
+        Record {
+            packed,
+            more: More::of(wide, rest),
+        }
     }
 
     /// The changes, each of another place.
@@ -114,11 +117,11 @@ impl Record {
     {
         Changes {
             packed: self.packed.changes(),
-            numbers: self.wide.numbers(),
-            completions: self.wide.completions(),
-            rows: self.wide.rows(),
-            bytes: self.rest.bytes(),
-            odd: self.rest.odd(),
+            numbers: self.more.numbers(),
+            completions: self.more.completions(),
+            rows: self.more.rows(),
+            bytes: self.more.bytes(),
+            odd: self.more.odd(),
         }
     }
 
@@ -130,9 +133,9 @@ impl Record {
     {
         let kinds = Changes {
             packed: self.packed.changes(),
-            numbers: self.wide.numbers(),
-            completions: self.wide.completions(),
-            rows: self.wide.rows(),
+            numbers: self.more.numbers(),
+            completions: self.more.completions(),
+            rows: self.more.rows(),
             bytes: ByteChanges::of(&[], &[], &[]),
             odd: &[],
         };
@@ -142,9 +145,9 @@ impl Record {
             completions: &[],
             rows: &[],
             bytes: ByteChanges::of(&[], &[], &[]),
-            odd: self.rest.odd(),
+            odd: self.more.odd(),
         };
-        (kinds, self.rest.stretches(), others)
+        (kinds, self.more.stretches(), others)
     }
 
     /// Whether a place is named.
@@ -152,15 +155,15 @@ impl Record {
         ensures { result ≡ is_some (named self.now place) }
     {
         let by_slot = either(
-            names_place(self.wide.completions(), place),
-            names_place(self.wide.rows(), place),
+            names_place(self.more.completions(), place),
+            names_place(self.more.rows(), place),
         );
         let by_kind = either(
-            self.rest.names_byte(place),
-            either(names_place(self.wide.numbers(), place), by_slot),
+            self.more.names_byte(place),
+            either(names_place(self.more.numbers(), place), by_slot),
         );
         let mut packed = self.packed.changes();
-        either(packed.names(place), either(self.rest.names(place), by_kind))
+        either(packed.names(place), either(self.more.names(place), by_kind))
     }
 
     /// Lets the record go.
@@ -187,16 +190,15 @@ impl Record {
         ensures { IsLeft list self.now n result }
     {
         let mut packed = self.packed.changes();
-        let left = left_of(list, self.wide.rows(), packed.left(list, n));
-        left_by(list, self.rest.odd(), left)
+        let left = left_of(list, self.more.rows(), packed.left(list, n));
+        left_by(list, self.more.odd(), left)
     }
 
     /// What the record keeps in memory, itself included, in bytes.
     pub fn kept_bytes(&self) -> usize {
         size_of::<Record>()
             .saturating_add(self.packed.kept_bytes())
-            .saturating_add(self.wide.kept_bytes())
-            .saturating_add(self.rest.kept_bytes())
+            .saturating_add(self.more.kept_bytes())
     }
 }
 

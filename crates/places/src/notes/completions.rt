@@ -1,10 +1,13 @@
 //! Notes of completions in the ring.
 
 use crate::notes::slots::{Slotted, differs};
+use crate::packing::changes::{COMPLETION, put_place};
+use crate::packing::values::put_completion;
 use crate::part::At;
 use crate::place::Place;
 use crate::value::{Change, Value};
 use entries::Cqe;
+use std::alloc::AllocError;
 
 /// A slot of the completion ring, and what stood there.
 #[derive(Clone, Copy)]
@@ -38,6 +41,12 @@ impl Slotted for CompletionNote {
             place: self.place(),
             old: Some(Value::Completed(self.old)),
         }
+    }
+
+    fn put(&self, out: &mut Vec<u8>) -> Result<(), AllocError> {
+        put_place(out, self.place(), self.slot, COMPLETION)?;
+        put_completion(out, &self.old)?;
+        Ok(())
     }
 
     fn differs<A: At>(&self, whole: &A) -> bool {

@@ -5,9 +5,11 @@ ghost use Rattle.places.specs.Places.{is_number};
 ghost use Rattle.places.specs.Slots.{number_place, number_slot, number_change};
 
 use crate::notes::slots::{Slotted, differs};
+use crate::packing::changes::put_number_change;
 use crate::part::At;
 use crate::place::Place;
 use crate::value::{Change, Value};
+use std::alloc::AllocError;
 
 /// The place of a number by its kind and its index, and what stood there.
 #[derive(Clone, Copy)]
@@ -97,6 +99,10 @@ impl Slotted for NumberNote {
             place: self.place(),
             old: Some(Value::Number(self.old)),
         }
+    }
+
+    fn put(&self, out: &mut Vec<u8>) -> Result<(), AllocError> {
+        put_number_change(out, self.place(), self.index, self.old)
     }
 
     fn differs<A: At>(&self, whole: &A) -> bool {

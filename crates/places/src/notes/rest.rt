@@ -17,14 +17,23 @@ use std::mem;
 /// Notes of bytes, and of places one at a time.
 #[derive(Drop)]
 pub struct Inner {
-    bytes: ByteNotes,
-    odd: Odd,
+    pub(crate) bytes: ByteNotes,
+    pub(crate) odd: Odd,
+}
+
+impl Inner {
+    /// What the notes keep in memory, in bytes.
+    pub fn kept_bytes(&self) -> usize {
+        size_of::<Inner>()
+            .saturating_add(self.bytes.kept_bytes())
+            .saturating_add(self.odd.kept_bytes())
+    }
 }
 
 /// The notes of bytes and of the other places, which take a word while there are none.
 #[derive(Drop)]
 pub struct Rest {
-    inner: Option<Box<Inner>>,
+    pub(crate) inner: Option<Box<Inner>>,
 }
 
 impl Model for Rest {
@@ -137,14 +146,6 @@ impl Rest {
         }
     }
 
-    /// Whether a byte that is kept is of a place.
-    pub fn names_byte(&self, place: Place) -> bool
-        ensures { result ≡ is_some (named (run_changes self.now.runs self.now.olds) place) }
-    {
-        let mut stretches = self.stretches();
-        stretches.names(place)
-    }
-
     /// Takes out the notes whose place has another value now. None stay here, but their memory does
     /// where none was taken.
     pub fn close<A: At>(&mut self, whole: &A) -> Rest
@@ -204,9 +205,7 @@ impl Rest {
     pub fn kept_bytes(&self) -> usize {
         match &self.inner {
             None => 0,
-            Some(inner) => size_of::<Inner>()
-                .saturating_add(inner.bytes.kept_bytes())
-                .saturating_add(inner.odd.kept_bytes()),
+            Some(inner) => inner.kept_bytes(),
         }
     }
 }

@@ -1,18 +1,28 @@
 //! Notes of rows, and of the places that are neither numbers, bytes nor completions of the ring.
-ghost use Rattle.std.specs.Prelude.{◌≡◌, option_map, true, MatchOption};
+ghost use Rattle.std.specs.Prelude.{◌≡◌, ◌==◌, ◌∷◌, [], Some, option_map, true, MatchOption, OnOk};
+ghost use Rattle.std.specs.Int.{w64, cast_unsigned};
 ghost use Rattle.entries.specs.declared.row.Row.{Row};
 ghost use Rattle.places.specs.declared.value.Value.TheVariants.{Requested};
 ghost use Rattle.places.specs.declared.place.Place.TheVariants.{Request};
 ghost use Rattle.places.specs.Slots.{row_change, value_of, other_place, slot_at};
-ghost use Rattle.places.specs.Places.{is_other};
+ghost use Rattle.places.specs.Places.{is_other, kind_of};
+ghost use Rattle.places.specs.PlaceNumbers.{place_of};
 ghost use Rattle.places.specs.Notes.{after_change};
+ghost use Rattle.places.specs.Reading.{Puts};
+ghost use Rattle.places.specs.Packed.{change_of, after_change as after_packed};
 
 use crate::listed::Listed;
 use crate::notes::slots::{Slotted, differs};
+use crate::packing::changes::{
+    AWAKE, COMPLETION, ENTRY, NOTHING, REAPED, ROW, SIGNED, STAGE, put_number_change, put_place,
+};
+use crate::packing::numerals::put_numbers;
+use crate::packing::values::{put_completion, put_entry, put_reaped, put_row, put_stage};
 use crate::part::At;
 use crate::place::Place;
 use crate::value::{Change, Stage, Value};
 use entries::{Cqe, Row, Sqe};
+use std::alloc::AllocError;
 
 /// A value that is no row.
 #[derive(Clone, Copy)]
@@ -144,6 +154,86 @@ fn small_value(old: Option<Small>) -> Option<Value>
     }
 }
 
+fn long_number(number: i64) -> u64
+    ensures { result ≡ cast_unsigned w64 number }
+{
+    number.cast_unsigned()
+}
+
+fn awake_number(awake: bool) -> u64
+    ensures { (result == 1) ≡ awake }
+{
+    if awake { 1 } else { 0 }
+}
+
+/// Puts the change of a place behind bytes, by what stood there. A byte has no shape.
+fn put_small(out: &mut Vec<u8>, place: Place, index: u32, old: &Small) -> Result<(), AllocError>
+    requires { place_of (kind_of place) index 0 ≡ place }
+    ensures { OnOk result (Puts change_of after_packed out.old.items
+        (record { place = place; old = Some (value_of old.now) } ∷ []) out.new.items) }
+{
+    match old {
+        Small::Amount(number) => {
+            put_number_change(out, place, index, *number)?;
+            Ok(())
+        }
+        Small::Answer(number) => {
+            put_place(out, place, index, SIGNED)?;
+            put_numbers(out, &[long_number(*number)])?;
+            Ok(())
+        }
+        Small::Octet(_) => Err(AllocError),
+        Small::Submitted(entry) => {
+            put_place(out, place, index, ENTRY)?;
+            put_entry(out, entry)?;
+            Ok(())
+        }
+        Small::Posted(completion) => {
+            put_place(out, place, index, COMPLETION)?;
+            put_completion(out, completion)?;
+            Ok(())
+        }
+        Small::Next(stage) => {
+            put_place(out, place, index, STAGE)?;
+            put_stage(out, stage)?;
+            Ok(())
+        }
+        Small::Taken(reaped) => {
+            put_place(out, place, index, REAPED)?;
+            put_reaped(out, reaped)?;
+            Ok(())
+        }
+        Small::Up(awake) => {
+            put_place(out, place, index, AWAKE)?;
+            put_numbers(out, &[awake_number(*awake)])?;
+            Ok(())
+        }
+    }
+}
+
+/// Puts the change of a place behind bytes, by what stood there, if anything did.
+fn put_other(
+    out: &mut Vec<u8>,
+    place: Place,
+    index: u32,
+    old: &Option<Small>,
+) -> Result<(), AllocError>
+    requires { place_of (kind_of place) index 0 ≡ place }
+    ensures { OnOk result (Puts change_of after_packed out.old.items
+        (record { place = place; old = option_map value_of old.now } ∷ []) out.new.items) }
+{
+    match old {
+        None => {
+            put_place(out, place, index, NOTHING)?;
+            Ok(())
+        }
+        Some(small) => {
+            put_small(out, place, index, small)?;
+            Ok(())
+        }
+    }
+}
+
 impl Slotted for RowNote {
     ghost use Rattle.places.specs.Slots.{row_slot_of, row_change};
     ghost use Rattle.places.specs.SlotLaws.{one_row, one_row_slot};
@@ -181,6 +271,24 @@ impl Slotted for RowNote {
                 place: place_of_other(*kind, *index),
                 old: small_value(*old),
             },
+        }
+    }
+
+    fn put(&self, out: &mut Vec<u8>) -> Result<(), AllocError> {
+        match self {
+            RowNote::Absent(row) => {
+                put_place(out, Place::Request(*row), *row, NOTHING)?;
+                Ok(())
+            }
+            RowNote::Was(row, old) => {
+                put_place(out, Place::Request(*row), *row, ROW)?;
+                put_row(out, old)?;
+                Ok(())
+            }
+            RowNote::Other(kind, index, old) => {
+                put_other(out, place_of_other(*kind, *index), *index, old)?;
+                Ok(())
+            }
         }
     }
 

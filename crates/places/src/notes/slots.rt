@@ -6,6 +6,8 @@ ghost use Rattle.places.specs.Places.{same_place};
 ghost use Rattle.places.specs.View.{View, Noted, NamesOnce, named};
 ghost use Rattle.places.specs.Closed.{KeptOf};
 ghost use Rattle.places.specs.Marks.{Marked, IsMarked};
+ghost use Rattle.places.specs.Reading.{Puts};
+ghost use Rattle.places.specs.Packed.{change_of, after_change};
 
 use crate::part::At;
 use crate::place::Place;
@@ -36,6 +38,11 @@ pub trait Slotted {
 
     fn change(&self) -> Change
         ensures { result ≡ change self.now };
+
+    /// Puts its change behind bytes, unless it takes more than it may.
+    fn put(&self, out: &mut Vec<u8>) -> Result<(), AllocError>
+        ensures { OnOk result
+            (Puts change_of after_change out.old.items (change self.now ∷ []) out.new.items) };
 
     /// Whether another value stands in its place now.
     fn differs<A: At>(&self, whole: &A) -> bool

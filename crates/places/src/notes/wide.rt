@@ -4,6 +4,7 @@ ghost use Rattle.std.specs.Prelude.{◌≡◌, [], OnOk, IsOk, true, false};
 
 use crate::notes::completions::CompletionNote;
 use crate::notes::numbers::NumberNote;
+use crate::notes::rest::Rest;
 use crate::notes::rows::RowNote;
 use std::alloc::{AllocError, Global};
 use std::marker::Model;
@@ -11,15 +12,28 @@ use std::marker::Model;
 /// Notes of each kind.
 #[derive(Drop)]
 pub struct Kinds {
-    numbers: Vec<NumberNote>,
-    completions: Vec<CompletionNote>,
-    rows: Vec<RowNote>,
+    pub(crate) numbers: Vec<NumberNote>,
+    pub(crate) completions: Vec<CompletionNote>,
+    pub(crate) rows: Vec<RowNote>,
+    /// Notes that few steps make, where a record keeps both.
+    pub(crate) rest: Rest,
+}
+
+impl Kinds {
+    /// What the notes keep in memory, in bytes.
+    pub fn kept_bytes(&self) -> usize {
+        size_of::<Kinds>()
+            .saturating_add(size_of::<NumberNote>().saturating_mul(self.numbers.capacity()))
+            .saturating_add(size_of::<CompletionNote>().saturating_mul(self.completions.capacity()))
+            .saturating_add(size_of::<RowNote>().saturating_mul(self.rows.capacity()))
+            .saturating_add(self.rest.kept_bytes())
+    }
 }
 
 /// Notes of each kind, which take a word while there are none.
 #[derive(Drop)]
 pub struct Wide {
-    kinds: Option<Box<Kinds>>,
+    pub(crate) kinds: Option<Box<Kinds>>,
 }
 
 impl Model for Wide {
@@ -53,18 +67,19 @@ impl Wide {
                 numbers: Vec::new(alloc),
                 completions: Vec::new(alloc),
                 rows: Vec::new(alloc),
+                rest: Rest::new(),
             };
             self.kinds = Some(Box::new(alloc, kinds)?);
         }
         Ok(())
     }
 
-    /// The same memory, with notes in it.
+    /// The same memory, with notes in it, which keep no more than they take.
     pub fn with(
         self,
-        numbers: Vec<NumberNote>,
-        completions: Vec<CompletionNote>,
-        rows: Vec<RowNote>,
+        mut numbers: Vec<NumberNote>,
+        mut completions: Vec<CompletionNote>,
+        mut rows: Vec<RowNote>,
     ) -> Wide
         ensures numbers { (self.is_ready ≡ false → numbers.items ≡ [])
             → result.numbers ≡ numbers.items }
@@ -75,53 +90,17 @@ impl Wide {
         match self.kinds {
             None => Wide { kinds: None },
             Some(mut kinds) => {
+                numbers.shrink_to_fit();
+                completions.shrink_to_fit();
+                rows.shrink_to_fit();
                 *kinds = Kinds {
                     numbers,
                     completions,
                     rows,
+                    rest: Rest::new(),
                 };
                 Wide { kinds: Some(kinds) }
             }
-        }
-    }
-
-    pub fn numbers(&self) -> &[NumberNote]
-        ensures { result.now ≡ self.now.numbers }
-    {
-        match &self.kinds {
-            None => &[],
-            Some(kinds) => &kinds.numbers,
-        }
-    }
-
-    pub fn completions(&self) -> &[CompletionNote]
-        ensures { result.now ≡ self.now.completions }
-    {
-        match &self.kinds {
-            None => &[],
-            Some(kinds) => &kinds.completions,
-        }
-    }
-
-    pub fn rows(&self) -> &[RowNote]
-        ensures { result.now ≡ self.now.rows }
-    {
-        match &self.kinds {
-            None => &[],
-            Some(kinds) => &kinds.rows,
-        }
-    }
-
-    /// What the notes keep in memory besides themselves, in bytes.
-    pub fn kept_bytes(&self) -> usize {
-        match &self.kinds {
-            None => 0,
-            Some(kinds) => size_of::<Kinds>()
-                .saturating_add(size_of::<NumberNote>().saturating_mul(kinds.numbers.capacity()))
-                .saturating_add(size_of::<CompletionNote>().saturating_mul(
-                    kinds.completions.capacity(),
-                ))
-                .saturating_add(size_of::<RowNote>().saturating_mul(kinds.rows.capacity())),
         }
     }
 }

@@ -1,21 +1,19 @@
 //! Changes in bytes.
-ghost use Rattle.std.specs.Prelude.{◌≡◌, ◌==◌, ◌∷◌, [], None, Some, OnOk, MatchOption, is_some};
-ghost use Rattle.std.specs.Int.{w64, cast_unsigned};
+ghost use Rattle.std.specs.Prelude.{◌≡◌, ◌+◌, ◌*◌, ◌^◌, ◌<◌, ◌≤◌, ◌∷◌, [], None, Some, OnOk, MatchOption, is_some};
+ghost use Rattle.places.specs.declared.value.Value.TheVariants.{Number};
+ghost use Rattle.places.specs.Places.{kind_of};
 ghost use Rattle.places.specs.View.{named};
 ghost use Rattle.places.specs.Notes.{left};
 ghost use Rattle.places.specs.PlaceNumbers.{place_of};
 ghost use Rattle.places.specs.Reading.{read_all, Puts};
-ghost use Rattle.places.specs.Numerals.{behind};
-ghost use Rattle.places.specs.Packed.{shape_of, size_of_shape, value_of_shape, change_of, after_change, packed};
+ghost use Rattle.places.specs.Numerals.{number_of, after, behind};
+ghost use Rattle.places.specs.Packed.{size_of_shape, value_of_shape, change_of, after_change, packed};
 
 use crate::listed::Listed;
 use crate::notes::leaving::left_after;
 use crate::notes::slots::is_same_place;
 use crate::packing::numerals::{Numerals, put_numbers};
-use crate::packing::values::{
-    put_completion, put_entry, put_reaped, put_row, put_stage, read_completion, read_entry,
-    read_reaped, read_row, read_stage,
-};
+use crate::packing::values::{read_completion, read_entry, read_reaped, read_row, read_stage};
 use crate::place::Place;
 use crate::value::{Change, Value};
 use std::alloc::AllocError;
@@ -24,106 +22,55 @@ use std::marker::Model;
 /// How many kinds of place there are.
 const KINDS: u64 = 30;
 
-/// The shape of what stood in a place.
-fn shape_of(old: Option<Value>) -> u64
-    ensures { result ≡ shape_of old }
+/// The shapes of what stood in a place: nothing, a number, and so on.
+pub const NOTHING: u64 = 0;
+
+pub const NUMBER: u64 = 1;
+
+pub const SIGNED: u64 = 2;
+
+pub const ENTRY: u64 = 3;
+
+pub const COMPLETION: u64 = 4;
+
+pub const ROW: u64 = 5;
+
+pub const STAGE: u64 = 6;
+
+pub const REAPED: u64 = 7;
+
+pub const AWAKE: u64 = 8;
+
+fn head_of(place: Place, shape: u64) -> u64
+    requires { shape ≤ 8 }
+    ensures { result ≡ kind_of place + 30 * shape }
 {
-    match old {
-        None => 0,
-        Some(Value::Number(_)) => 1,
-        Some(Value::Signed(_)) => 2,
-        Some(Value::Entry(_)) => 3,
-        Some(Value::Completed(_)) => 4,
-        Some(Value::Requested(_)) => 5,
-        Some(Value::Staged(_)) => 6,
-        Some(Value::Reaped(_)) => 7,
-        Some(Value::Awake(_)) => 8,
-        Some(Value::Byte(_)) => 9,
-    }
+    place.kind() as u64 + KINDS * shape
 }
 
-fn long_number(number: i64) -> u64
-    ensures { result ≡ cast_unsigned w64 number }
+/// Puts the kind of a place behind bytes, with the shape of what stood there, and an index.
+pub fn put_place(out: &mut Vec<u8>, place: Place, index: u32, shape: u64) -> Result<(), AllocError>
+    requires { shape ≤ 8 }
+    ensures put { OnOk result (Puts number_of after out.old.items
+        ((kind_of place + 30 * shape) ∷ index ∷ []) out.new.items) }
+    ensures fits { index < 2 ^ 32 }
 {
-    number.cast_unsigned()
+    put_numbers(out, &[head_of(place, shape), index as u64])?;
+    Ok(())
 }
 
-fn awake_number(awake: bool) -> u64
-    ensures { (result == 1) ≡ awake }
+/// Puts the change of a place where a number stood behind bytes.
+pub fn put_number_change(
+    out: &mut Vec<u8>,
+    place: Place,
+    index: u32,
+    old: u64,
+) -> Result<(), AllocError>
+    requires { place_of (kind_of place) index 0 ≡ place }
+    ensures { OnOk result (Puts change_of after_change out.old.items
+        (record { place = place; old = Some (Number old) } ∷ []) out.new.items) }
 {
-    if awake { 1 } else { 0 }
-}
-
-/// Puts a value behind bytes, by its shape. A byte has none.
-fn put_value(out: &mut Vec<u8>, value: Value) -> Result<(), AllocError>
-    ensures { OnOk result
-        (Puts (value_of_shape (shape_of (Some value))) (behind (size_of_shape (shape_of (Some value))))
-        out.old.items (Some value ∷ []) out.new.items) }
-{
-    match value {
-        Value::Number(number) => {
-            put_numbers(out, &[number])?;
-            Ok(())
-        }
-        Value::Signed(number) => {
-            put_numbers(out, &[long_number(number)])?;
-            Ok(())
-        }
-        Value::Entry(entry) => {
-            put_entry(out, entry)?;
-            Ok(())
-        }
-        Value::Completed(completion) => {
-            put_completion(out, completion)?;
-            Ok(())
-        }
-        Value::Requested(row) => {
-            put_row(out, row)?;
-            Ok(())
-        }
-        Value::Staged(stage) => {
-            put_stage(out, stage)?;
-            Ok(())
-        }
-        Value::Reaped(reaped) => {
-            put_reaped(out, reaped)?;
-            Ok(())
-        }
-        Value::Awake(awake) => {
-            put_numbers(out, &[awake_number(awake)])?;
-            Ok(())
-        }
-        Value::Byte(_) => Err(AllocError),
-    }
-}
-
-/// Puts what stood in a place behind bytes, by its shape.
-fn put_old(out: &mut Vec<u8>, old: Option<Value>) -> Result<(), AllocError>
-    ensures { OnOk result
-        (Puts (value_of_shape (shape_of old)) (behind (size_of_shape (shape_of old)))
-        out.old.items (old ∷ []) out.new.items) }
-{
-    match old {
-        None => Ok(()),
-        Some(value) => {
-            put_value(out, value)?;
-            Ok(())
-        }
-    }
-}
-
-/// Puts a change of a place with one index behind bytes, unless it takes more than it may.
-pub fn put_change(out: &mut Vec<u8>, change: Change) -> Result<(), AllocError>
-    ensures { OnOk result
-        (Puts change_of after_change out.old.items (change ∷ []) out.new.items) }
-{
-    let place = change.place;
-    if place.second() != 0 {
-        return Err(AllocError);
-    }
-    let head = place.kind() as u64 + KINDS * shape_of(change.old);
-    put_numbers(out, &[head, place.index() as u64])?;
-    put_old(out, change.old)?;
+    put_numbers(out, &[head_of(place, NUMBER), index as u64, old])?;
     Ok(())
 }
 
@@ -134,14 +81,14 @@ fn read_value(bytes: &mut Numerals<'_>, shape: u64) -> Option<Value>
     ensures left { bytes.new ≡ behind (size_of_shape shape) bytes.old }
 {
     match shape {
-        0 => None,
-        1 => Some(Value::Number(bytes.number())),
-        2 => Some(Value::Signed(bytes.long())),
-        3 => Some(Value::Entry(read_entry(bytes))),
-        4 => Some(Value::Completed(read_completion(bytes))),
-        5 => Some(Value::Requested(read_row(bytes))),
-        6 => Some(Value::Staged(read_stage(bytes))),
-        7 => Some(Value::Reaped(read_reaped(bytes))),
+        NOTHING => None,
+        NUMBER => Some(Value::Number(bytes.number())),
+        SIGNED => Some(Value::Signed(bytes.long())),
+        ENTRY => Some(Value::Entry(read_entry(bytes))),
+        COMPLETION => Some(Value::Completed(read_completion(bytes))),
+        ROW => Some(Value::Requested(read_row(bytes))),
+        STAGE => Some(Value::Staged(read_stage(bytes))),
+        REAPED => Some(Value::Reaped(read_reaped(bytes))),
         _ => Some(Value::Awake(bytes.number() == 1)),
     }
 }

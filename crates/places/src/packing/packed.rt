@@ -8,7 +8,7 @@ use crate::notes::completions::CompletionNote;
 use crate::notes::numbers::NumberNote;
 use crate::notes::rows::RowNote;
 use crate::notes::slots::Slotted;
-use crate::packing::changes::{PackedChanges, put_change};
+use crate::packing::changes::PackedChanges;
 use crate::packing::numerals::put_number;
 use std::alloc::{AllocError, Global};
 use std::marker::Model;
@@ -89,7 +89,7 @@ fn put_notes<N: Slotted>(out: &mut Vec<u8>, notes: &[N]) -> Result<(), AllocErro
         (Puts change_of after_change out.old.items (map N.change notes.now) out.new.items) }
 {
     for note in notes {
-        put_change(out, note.change())?;
+        note.put(out)?;
     }
     Ok(())
 }

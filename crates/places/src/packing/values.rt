@@ -139,31 +139,32 @@ fn row_numbers(row: Row) -> Option<[u64; 7]>
 }
 
 /// Puts a completion behind bytes.
-pub fn put_completion(out: &mut Vec<u8>, completion: Cqe) -> Result<(), AllocError>
+pub fn put_completion(out: &mut Vec<u8>, completion: &Cqe) -> Result<(), AllocError>
     ensures { OnOk result
-        (Puts completion_of (behind 3) out.old.items (completion ∷ []) out.new.items) }
+        (Puts completion_of (behind 3) out.old.items (completion.now ∷ []) out.new.items) }
 {
-    put_numbers(out, &completion_numbers(completion))?;
+    put_numbers(out, &completion_numbers(*completion))?;
     Ok(())
 }
 
 /// Puts an entry behind bytes.
-pub fn put_entry(out: &mut Vec<u8>, entry: Sqe) -> Result<(), AllocError>
-    ensures { OnOk result (Puts entry_of (behind 14) out.old.items (entry ∷ []) out.new.items) }
+pub fn put_entry(out: &mut Vec<u8>, entry: &Sqe) -> Result<(), AllocError>
+    ensures { OnOk result
+        (Puts entry_of (behind 14) out.old.items (entry.now ∷ []) out.new.items) }
 {
-    put_numbers(out, &entry_numbers(entry))?;
+    put_numbers(out, &entry_numbers(*entry))?;
     Ok(())
 }
 
 /// Puts a row behind bytes, unless one of its times takes more than one number.
-pub fn put_row(out: &mut Vec<u8>, row: Row) -> Result<(), AllocError>
-    ensures { OnOk result (Puts row_of (behind 21) out.old.items (row ∷ []) out.new.items) }
+pub fn put_row(out: &mut Vec<u8>, row: &Row) -> Result<(), AllocError>
+    ensures { OnOk result (Puts row_of (behind 21) out.old.items (row.now ∷ []) out.new.items) }
 {
-    let Some(numbers) = row_numbers(row) else {
+    let Some(numbers) = row_numbers(*row) else {
         return Err(AllocError);
     };
     put_numbers(out, &numbers)?;
-    put_entry(out, row.entry)?;
+    put_entry(out, &row.entry)?;
     Ok(())
 }
 
@@ -178,16 +179,18 @@ fn stage_numbers(stage: Stage) -> [u64; 2]
 }
 
 /// Puts a stage behind bytes.
-pub fn put_stage(out: &mut Vec<u8>, stage: Stage) -> Result<(), AllocError>
-    ensures { OnOk result (Puts stage_of (behind 2) out.old.items (stage ∷ []) out.new.items) }
+pub fn put_stage(out: &mut Vec<u8>, stage: &Stage) -> Result<(), AllocError>
+    ensures { OnOk result
+        (Puts stage_of (behind 2) out.old.items (stage.now ∷ []) out.new.items) }
 {
-    put_numbers(out, &stage_numbers(stage))?;
+    put_numbers(out, &stage_numbers(*stage))?;
     Ok(())
 }
 
 /// Puts what was reaped behind bytes.
-pub fn put_reaped(out: &mut Vec<u8>, reaped: Option<Cqe>) -> Result<(), AllocError>
-    ensures { OnOk result (Puts reaped_of (behind 4) out.old.items (reaped ∷ []) out.new.items) }
+pub fn put_reaped(out: &mut Vec<u8>, reaped: &Option<Cqe>) -> Result<(), AllocError>
+    ensures { OnOk result
+        (Puts reaped_of (behind 4) out.old.items (reaped.now ∷ []) out.new.items) }
 {
     match reaped {
         None => {

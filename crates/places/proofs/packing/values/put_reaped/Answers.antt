@@ -8,10 +8,10 @@ use Rattle.places.proofs.packing.values.put_reaped.Goals as goal
 
 pub returns-in_ok-put_numbers-in-None : goal.returns-in_ok-put_numbers-in-None
 returns-in_ok-put_numbers-in-None c =
-    let e : c.args.reaped ≡ None = let i = c.in-None.is in cc in
+    let e : c.args.reaped.now ≡ None = let i = c.in-None.is in cc in
     subst (λ r. Puts reaped_of (behind 4) c.args.out.now.items (r ∷ []) c.put_numbers.new.out.items) (sym e) (nothing_reaped _ _ c.in_ok-put_numbers-in-None.ensures)
 
 pub returns-in_ok-put_completion-in-Some : goal.returns-in_ok-put_completion-in-Some
 returns-in_ok-put_completion-in-Some c =
-    let e : c.args.reaped ≡ Some c.in-Some.completion = let i = c.in-Some.is in cc in
+    let e : c.args.reaped.now ≡ Some c.in-Some.completion = let i = c.in-Some.is in cc in
     subst (λ r. Puts reaped_of (behind 4) c.args.out.now.items (r ∷ []) c.put_completion.new.out.items) (sym e) (reaped_put _ _ _ _ c.in_ok-put_numbers-in-Some.ensures c.in_ok-put_completion-in-Some.ensures)

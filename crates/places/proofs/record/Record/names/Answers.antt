@@ -5,6 +5,6 @@ use Rattle.places.proofs.record.Record.names.Goals as goal
 
 pub returns : goal.returns
 returns c =
-    let e = is_named_all c.self.inside.wide.numbers c.self.inside.wide.completions c.self.inside.wide.rows c.self.inside.rest c.args.place in
-    let f = named_either c.self.inside.packed (all_changes c.self.inside.wide.numbers c.self.inside.wide.completions c.self.inside.wide.rows c.self.inside.rest) c.args.place in
+    let e = is_named_all c.self.inside.more.wide.numbers c.self.inside.more.wide.completions c.self.inside.more.wide.rows c.self.inside.more.rest c.args.place in
+    let f = named_either c.self.inside.packed (all_changes c.self.inside.more.wide.numbers c.self.inside.more.wide.completions c.self.inside.more.wide.rows c.self.inside.more.rest) c.args.place in
     rw (← c.self.view_is) (cc)

@@ -1,0 +1,152 @@
+//! What a record keeps besides what is packed.
+ghost use Rattle.std.specs.Prelude.{◌≡◌, is_some};
+ghost use Rattle.places.specs.View.{named};
+ghost use Rattle.places.specs.Runs.{run_changes};
+
+use crate::notes::completions::CompletionNote;
+use crate::notes::numbers::NumberNote;
+use crate::notes::rest::{Inner, Rest};
+use crate::notes::rows::RowNote;
+use crate::notes::telling::{ByteChanges, Stretches};
+use crate::notes::wide::{Kinds, Wide};
+use crate::place::Place;
+use crate::value::Change;
+use std::marker::Model;
+
+/// Nothing, notes that few steps make, or notes of each kind with these.
+#[derive(Drop)]
+pub enum Held {
+    Nothing,
+    Few(Box<Inner>),
+    Each(Box<Kinds>),
+}
+
+/// Notes as they were made, in one box at most.
+#[derive(Drop)]
+pub struct More {
+    held: Held,
+}
+
+impl Model for More {
+    ghost use Rattle.places.specs.MoreList.{MoreList};
+
+    ghost Value = { MoreList };
+
+    ghost use Rattle.places.specs.MoreOf.{more_of};
+
+    ghost view = { λ a. more_of a.held };
+}
+
+impl More {
+    /// Notes of each kind, and those that few steps make. It takes no memory.
+    pub fn of(wide: Wide, rest: Rest) -> More
+        ensures wide { result.wide ≡ wide }
+        ensures rest { result.rest ≡ rest }
+    {
+        match wide.kinds {
+            Some(mut kinds) => {
+                kinds.rest = rest;
+                More {
+                    held: Held::Each(kinds),
+                }
+            }
+            None => match rest.inner {
+                Some(inner) => More {
+                    held: Held::Few(inner),
+                },
+                None => More {
+                    held: Held::Nothing,
+                },
+            },
+        }
+    }
+
+    pub fn numbers(&self) -> &[NumberNote]
+        ensures { result.now ≡ self.now.wide.numbers }
+    {
+        match &self.held {
+            Held::Each(kinds) => &kinds.numbers,
+            _ => &[],
+        }
+    }
+
+    pub fn completions(&self) -> &[CompletionNote]
+        ensures { result.now ≡ self.now.wide.completions }
+    {
+        match &self.held {
+            Held::Each(kinds) => &kinds.completions,
+            _ => &[],
+        }
+    }
+
+    pub fn rows(&self) -> &[RowNote]
+        ensures { result.now ≡ self.now.wide.rows }
+    {
+        match &self.held {
+            Held::Each(kinds) => &kinds.rows,
+            _ => &[],
+        }
+    }
+
+    /// The old bytes, one after the other.
+    pub fn bytes(&self) -> ByteChanges<'_>
+        ensures { result.left ≡ run_changes self.now.rest.runs self.now.rest.olds }
+    {
+        match &self.held {
+            Held::Nothing => ByteChanges::of(&[], &[], &[]),
+            Held::Few(inner) => inner.bytes.changes(),
+            Held::Each(kinds) => kinds.rest.bytes(),
+        }
+    }
+
+    /// The runs, one after the other.
+    pub fn stretches(&self) -> Stretches<'_>
+        ensures { result.left ≡ run_changes self.now.rest.runs self.now.rest.olds }
+    {
+        match &self.held {
+            Held::Nothing => Stretches::of(&[], &[], &[]),
+            Held::Few(inner) => inner.bytes.stretches(),
+            Held::Each(kinds) => kinds.rest.stretches(),
+        }
+    }
+
+    /// The notes of other places.
+    pub fn odd(&self) -> &[Change]
+        ensures { result.now ≡ self.now.rest.odd }
+    {
+        match &self.held {
+            Held::Nothing => &[],
+            Held::Few(inner) => inner.odd.as_slice(),
+            Held::Each(kinds) => kinds.rest.odd(),
+        }
+    }
+
+    /// Whether one of these is of a place.
+    pub fn names(&self, place: Place) -> bool
+        ensures { result ≡ is_some (named self.now.rest.odd place) }
+    {
+        match &self.held {
+            Held::Nothing => false,
+            Held::Few(inner) => inner.odd.names(place),
+            Held::Each(kinds) => kinds.rest.names(place),
+        }
+    }
+
+    /// Whether a byte that is kept is of a place.
+    pub fn names_byte(&self, place: Place) -> bool
+        ensures { result
+            ≡ is_some (named (run_changes self.now.rest.runs self.now.rest.olds) place) }
+    {
+        let mut stretches = self.stretches();
+        stretches.names(place)
+    }
+
+    /// What the notes keep in memory besides themselves, in bytes.
+    pub fn kept_bytes(&self) -> usize {
+        match &self.held {
+            Held::Nothing => 0,
+            Held::Few(inner) => inner.kept_bytes(),
+            Held::Each(kinds) => kinds.kept_bytes(),
+        }
+    }
+}
