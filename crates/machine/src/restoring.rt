@@ -16,8 +16,9 @@ impl Machine {
         ensures back { (s : Machine) → GoesBack s self.old past.now → self.new ≡ s }
     {
         let (mut kinds, mut stretches, mut others) = past.parts();
-        self.table.truncate(past.rows_left(self.table.len()));
-        self.backlog.truncate(past.backlog_left(self.backlog.len()));
+        let (rows, overflowed) = past.lengths_left(self.table.len(), self.backlog.len());
+        self.table.truncate(rows);
+        self.backlog.truncate(overflowed);
         self.overwrite(&mut kinds);
         self.overwrite_bytes(&mut stretches);
         self.overwrite(&mut others);

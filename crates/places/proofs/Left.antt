@@ -23,7 +23,7 @@ left-append l [] ds n = refl
 left-append l (c ∷ cs) ds n = left-append l cs ds (after_change l c.place c.old n)
 
 -- a note with an old value takes nothing back
-after_some : (l : Listed) (p : Place) (v : Value) (n : ℕ) → after_change l p (Some v) n ≡ n
+pub after_some : (l : Listed) (p : Place) (v : Value) (n : ℕ) → after_change l p (Some v) n ≡ n
 after_some l p v n = by (number_in l p)
   where
     by : (i : Option ℕ) → cut_off i (Some v) n ≡ n

@@ -21,3 +21,4 @@ pub mod ValueLemmas
 pub mod ChangeLemmas
 pub mod Recording
 pub mod PackedLemmas
+pub mod HeadLemmas

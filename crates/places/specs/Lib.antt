@@ -19,6 +19,7 @@ pub mod All
 pub mod Reading
 pub mod Numerals
 pub mod Packed
+pub mod Heads
 pub mod SlotLaws
 pub mod Text
 pub mod Sameness

@@ -4,7 +4,7 @@ ghost use Rattle.places.specs.View.{named, NamesOnce};
 ghost use Rattle.places.specs.declared.listed.Listed.TheVariants.{Requests, Overflowed};
 ghost use Rattle.places.specs.Notes.{IsLeft, left};
 ghost use Rattle.places.specs.Slots.{row_change};
-ghost use Rattle.places.specs.All.{record_changes};
+ghost use Rattle.places.specs.All.{all_changes, record_changes};
 
 use crate::listed::Listed;
 use crate::notes::completions::CompletionNote;
@@ -171,27 +171,18 @@ impl Record {
         drop(self);
     }
 
-    /// How many of n rows stay once those go that are named as absent, with all behind them.
-    pub fn rows_left(&self, n: usize) -> usize
-        ensures { IsLeft Requests self.now n result }
-    {
-        self.left(Listed::Requests, n)
-    }
-
-    /// How many of n completions that did not fit into the ring stay once those go that are named
-    /// as absent, with all behind them.
-    pub fn backlog_left(&self, n: usize) -> usize
-        ensures { IsLeft Overflowed self.now n result }
-    {
-        self.left(Listed::Overflowed, n)
-    }
-
-    fn left(&self, list: Listed, n: usize) -> usize
-        ensures { IsLeft list self.now n result }
+    /// How many of so many rows, and of so many completions that did not fit into the ring, stay
+    /// once those go that are named as absent, with all behind them.
+    pub fn lengths_left(&self, rows: usize, backlog: usize) -> (usize, usize)
+        ensures rows { IsLeft Requests self.now rows result.0 }
+        ensures backlog { IsLeft Overflowed self.now backlog result.1 }
     {
         let mut packed = self.packed.changes();
-        let left = left_of(list, self.more.rows(), packed.left(list, n));
-        left_by(list, self.more.odd(), left)
+        let (rows_left, backlog_left) = packed.lengths_left(rows, backlog);
+        (
+            left_unpacked(Listed::Requests, &self.more, rows_left),
+            left_unpacked(Listed::Overflowed, &self.more, backlog_left),
+        )
     }
 
     /// What the record keeps in memory, itself included, in bytes.
@@ -200,6 +191,13 @@ impl Record {
             .saturating_add(self.packed.kept_bytes())
             .saturating_add(self.more.kept_bytes())
     }
+}
+
+fn left_unpacked(list: Listed, more: &More, n: usize) -> usize
+    ensures { result ≡ left list (all_changes more.now.wide.numbers more.now.wide.completions
+        more.now.wide.rows more.now.rest) n }
+{
+    left_by(list, more.odd(), left_of(list, more.rows(), n))
 }
 
 fn left_of(list: Listed, rows: &[RowNote], n: usize) -> usize

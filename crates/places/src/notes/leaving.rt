@@ -11,9 +11,19 @@ use crate::value::Change;
 pub fn left_after(list: Listed, change: Change, left: usize) -> usize
     ensures { result ≡ after_change list change.place change.old left }
 {
-    match (number_in(list, change.place), change.old) {
-        (Some(i), None) => left.min(i as usize),
-        _ => left,
+    match change.old {
+        None => left_without(list, change.place, left),
+        Some(_) => left,
+    }
+}
+
+/// How many of so many elements of a list stay once the one in a place goes, with all behind it.
+pub fn left_without(list: Listed, place: Place, left: usize) -> usize
+    ensures { result ≡ after_change list place None left }
+{
+    match number_in(list, place) {
+        Some(i) => left.min(i as usize),
+        None => left,
     }
 }
 

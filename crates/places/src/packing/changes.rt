@@ -1,16 +1,18 @@
 //! Changes in bytes.
-ghost use Rattle.std.specs.Prelude.{◌≡◌, ◌+◌, ◌*◌, ◌^◌, ◌<◌, ◌≤◌, ◌∷◌, [], None, Some, OnOk, MatchOption, is_some};
+ghost use Rattle.std.specs.Prelude.{◌≡◌, ◌+◌, ◌*◌, ◌^◌, ◌<◌, ◌≤◌, ◌==◌, ◌∷◌, [], None, Some, OnOk, MatchOption, is_some};
+ghost use Rattle.places.specs.declared.listed.Listed.TheVariants.{Requests, Overflowed};
 ghost use Rattle.places.specs.declared.value.Value.TheVariants.{Number};
-ghost use Rattle.places.specs.Places.{kind_of};
+ghost use Rattle.places.specs.Places.{kind_of, same_place};
 ghost use Rattle.places.specs.View.{named};
 ghost use Rattle.places.specs.Notes.{left};
 ghost use Rattle.places.specs.PlaceNumbers.{place_of};
+ghost use Rattle.places.specs.Heads.{IsHead, IsFirst};
 ghost use Rattle.places.specs.Reading.{read_all, Puts};
 ghost use Rattle.places.specs.Numerals.{number_of, after, behind};
 ghost use Rattle.places.specs.Packed.{size_of_shape, value_of_shape, change_of, after_change, packed};
 
 use crate::listed::Listed;
-use crate::notes::leaving::left_after;
+use crate::notes::leaving::left_without;
 use crate::notes::slots::is_same_place;
 use crate::packing::numerals::{Numerals, put_numbers};
 use crate::packing::values::{read_completion, read_entry, read_reaped, read_row, read_stage};
@@ -147,6 +149,55 @@ fn read_change(bytes: &mut Numerals<'_>) -> Change
     }
 }
 
+/// What a change begins with: its place's kind and index, and whether anything stood there.
+#[derive(Clone, Copy)]
+pub struct Head {
+    kind: u8,
+    index: u32,
+    stood: bool,
+}
+
+/// How many numbers stand behind a shape.
+fn size_of_shape(shape: u64) -> u64
+    ensures { result ≡ size_of_shape shape }
+{
+    match shape {
+        0 => 0,
+        1 | 2 => 1,
+        3 => 14,
+        4 => 3,
+        5 => 21,
+        6 => 2,
+        7 => 4,
+        _ => 1,
+    }
+}
+
+/// The head of the change that stands first. The numbers of what stood there are not read.
+#[tactic(auto, unfolding(crate::specs::Packed::change_of, crate::specs::Packed::after_change))]
+fn read_head(bytes: &mut Numerals<'_>) -> Head
+    ensures value { IsHead result (change_of bytes.old) }
+    ensures left { bytes.new ≡ after_change bytes.old }
+{
+    let head = bytes.number();
+    let index = bytes.word();
+    let shape = head / KINDS;
+    bytes.skip(size_of_shape(shape));
+    Head {
+        kind: (head % KINDS) as u8,
+        index,
+        stood: shape != 0,
+    }
+}
+
+/// Whether a change with this head is of a place.
+fn is_of(head: Head, place: Place) -> bool
+    requires { head.kind < 30 }
+    ensures { result ≡ same_place (place_of head.kind head.index 0) place }
+{
+    head.kind == place.kind() && is_same_place(place_of(head.kind, head.index), place)
+}
+
 /// Packed changes that are left to read.
 #[derive(Drop)]
 pub struct PackedChanges<'a> {
@@ -201,27 +252,41 @@ impl<'a> PackedChanges<'a> {
         Some(read_change(&mut self.bytes))
     }
 
+    /// The head of the next change, if one is left.
+    fn next_head(&mut self) -> Option<Head>
+        ensures { MatchOption result (self.old ≡ []) (λ h. IsFirst h self.old self.new) }
+    {
+        self.left = self.left.checked_sub(1)?;
+        Some(read_head(&mut self.bytes))
+    }
+
     /// Whether one of the changes that are left names a place.
     pub fn names(&mut self, place: Place) -> bool
         ensures { result ≡ is_some (named self.old place) }
     {
-        while let Some(change) = self.next() {
-            if is_same_place(change.place, place) {
+        while let Some(head) = self.next_head() {
+            if is_of(head, place) {
                 return true;
             }
         }
         false
     }
 
-    /// How many of n elements of a list stay once those go that are named as absent, with all behind
-    /// them.
-    pub fn left(&mut self, list: Listed, n: usize) -> usize
-        ensures { result ≡ left list self.old n }
+    /// How many of so many rows, and of so many completions that did not fit into the ring, stay
+    /// once those go that are named as absent, with all behind them.
+    pub fn lengths_left(&mut self, rows: usize, backlog: usize) -> (usize, usize)
+        ensures rows { result.0 ≡ left Requests self.old rows }
+        ensures backlog { result.1 ≡ left Overflowed self.old backlog }
     {
-        let mut left = n;
-        while let Some(change) = self.next() {
-            left = left_after(list, change, left);
+        let mut rows_left = rows;
+        let mut backlog_left = backlog;
+        while let Some(head) = self.next_head() {
+            if !head.stood {
+                let place = place_of(head.kind, head.index);
+                rows_left = left_without(Listed::Requests, place, rows_left);
+                backlog_left = left_without(Listed::Overflowed, place, backlog_left);
+            }
         }
-        left
+        (rows_left, backlog_left)
     }
 }

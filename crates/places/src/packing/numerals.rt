@@ -2,7 +2,7 @@
 ghost use Rattle.std.specs.Prelude.{◌≡◌, ◌<◌, ◌^◌, ◌∷◌, ◌++◌, [], drop, OnOk};
 ghost use Rattle.byteorder.specs.Endian.{little_bytes};
 ghost use Rattle.places.specs.Reading.{Puts};
-ghost use Rattle.places.specs.Numerals.{number_of, after, width_of, wide_number, byte_of, half_of, word_of, signed_of, long_of};
+ghost use Rattle.places.specs.Numerals.{number_of, after, behind, width_of, wide_number, byte_of, half_of, word_of, signed_of, long_of};
 
 use byteorder::{ByteOrder, LittleEndian};
 use std::alloc::AllocError;
@@ -80,6 +80,13 @@ impl<'a> Numerals<'a> {
     {
         self.number().cast_signed()
     }
+
+    /// Goes past so many numbers, which are not read.
+    pub fn skip(&mut self, count: u64)
+        ensures { self.new ≡ behind count self.old }
+    {
+        self.bytes = past_numbers(self.bytes, count);
+    }
 }
 
 #[tactic(auto, unfolding(crate::specs::Numerals::number_of, crate::specs::Numerals::after))]
@@ -90,12 +97,39 @@ fn first_number(bytes: &[u8]) -> (u64, &[u8])
     match bytes {
         [] => (0, bytes),
         [first, rest @ ..] => match *first {
-            TWO => (two_of(rest), behind(rest, 2)),
-            FOUR => (four_of(rest), behind(rest, 4)),
-            EIGHT => (eight_of(rest), behind(rest, 8)),
+            TWO => (two_of(rest), past(rest, 2)),
+            FOUR => (four_of(rest), past(rest, 4)),
+            EIGHT => (eight_of(rest), past(rest, 8)),
             _ => (u64::from(*first), rest),
         },
     }
+}
+
+#[tactic(auto, unfolding(crate::specs::Numerals::after))]
+fn past_number(bytes: &[u8]) -> &[u8]
+    ensures { result.now ≡ after bytes.now }
+{
+    match bytes {
+        [] => bytes,
+        [first, rest @ ..] => match *first {
+            TWO => past(rest, 2),
+            FOUR => past(rest, 4),
+            EIGHT => past(rest, 8),
+            _ => rest,
+        },
+    }
+}
+
+fn past_numbers(bytes: &[u8], count: u64) -> &[u8]
+    ensures { result.now ≡ behind count bytes.now }
+{
+    let mut rest = bytes;
+    let mut left = count;
+    while left > 0 {
+        rest = past_number(rest);
+        left -= 1;
+    }
+    rest
 }
 
 fn two_of(bytes: &[u8]) -> u64
@@ -128,7 +162,7 @@ fn eight_of(bytes: &[u8]) -> u64
     }
 }
 
-fn behind(bytes: &[u8], n: usize) -> &[u8]
+fn past(bytes: &[u8], n: usize) -> &[u8]
     ensures { result.now ≡ drop n bytes.now }
 {
     if bytes.len() < n { &[] } else { &bytes[n..] }

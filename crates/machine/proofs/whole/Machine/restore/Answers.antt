@@ -8,7 +8,7 @@ use Rattle.machine.proofs.whole.Machine.restore.Goals as goal
 pub overwrite-requires-clause-stood : goal.overwrite-requires-clause-stood
 overwrite-requires-clause-stood c =
     rw (c.truncate-2.ensures, c.truncate.ensures)
-    (c.requires.0, first_part _ _ _ c.parts-kinds.result.0 c.parts-kinds.result.1.left c.parts-kinds.result.2 c.parts-kinds.ensures.value c.parts-kinds.ensures.once (remains _ _ _ _ _ _ _ c.len.ensures.len c.len-2.ensures.len c.rows_left.ensures c.backlog_left.ensures c.requires.1))
+    (c.requires.0, first_part _ _ _ c.parts-kinds.result.0 c.parts-kinds.result.1.left c.parts-kinds.result.2 c.parts-kinds.ensures.value c.parts-kinds.ensures.once (remains _ _ _ _ _ _ _ c.len.ensures.len c.len-2.ensures.len c.lengths_left-rows.ensures.rows c.lengths_left-rows.ensures.backlog c.requires.1))
 
 pub overwrite-requires-clause-once : goal.overwrite-requires-clause-once
 overwrite-requires-clause-once c = once_front _ _ (rw c.parts-kinds.ensures.value at c.parts-kinds.ensures.once)
@@ -16,7 +16,7 @@ overwrite-requires-clause-once c = once_front _ _ (rw c.parts-kinds.ensures.valu
 pub overwrite_bytes-requires-clause-stood : goal.overwrite_bytes-requires-clause-stood
 overwrite_bytes-requires-clause-stood c =
     let x = rw (c.truncate-2.ensures, c.truncate.ensures) at c.overwrite.ensures in
-    (c.requires.0, second_part _ _ _ c.parts-kinds.result.0 c.parts-kinds.result.1.left c.parts-kinds.result.2 c.parts-kinds.ensures.value c.parts-kinds.ensures.once (remains _ _ _ _ _ _ _ c.len.ensures.len c.len-2.ensures.len c.rows_left.ensures c.backlog_left.ensures c.requires.1) _ x)
+    (c.requires.0, second_part _ _ _ c.parts-kinds.result.0 c.parts-kinds.result.1.left c.parts-kinds.result.2 c.parts-kinds.ensures.value c.parts-kinds.ensures.once (remains _ _ _ _ _ _ _ c.len.ensures.len c.len-2.ensures.len c.lengths_left-rows.ensures.rows c.lengths_left-rows.ensures.backlog c.requires.1) _ x)
 
 pub overwrite_bytes-requires-clause-once : goal.overwrite_bytes-requires-clause-once
 overwrite_bytes-requires-clause-once c = once_front _ _ (once_back _ _ (rw c.parts-kinds.ensures.value at c.parts-kinds.ensures.once))
@@ -24,7 +24,7 @@ overwrite_bytes-requires-clause-once c = once_front _ _ (once_back _ _ (rw c.par
 pub overwrite-requires-2-clause-stood : goal.overwrite-requires-2-clause-stood
 overwrite-requires-2-clause-stood c =
     let x = rw (c.truncate-2.ensures, c.truncate.ensures) at c.overwrite.ensures in
-    (c.requires.0, third_part _ _ _ c.parts-kinds.result.0 c.parts-kinds.result.1.left c.parts-kinds.result.2 c.parts-kinds.ensures.value c.parts-kinds.ensures.once (remains _ _ _ _ _ _ _ c.len.ensures.len c.len-2.ensures.len c.rows_left.ensures c.backlog_left.ensures c.requires.1) _ _ x c.overwrite_bytes.ensures)
+    (c.requires.0, third_part _ _ _ c.parts-kinds.result.0 c.parts-kinds.result.1.left c.parts-kinds.result.2 c.parts-kinds.ensures.value c.parts-kinds.ensures.once (remains _ _ _ _ _ _ _ c.len.ensures.len c.len-2.ensures.len c.lengths_left-rows.ensures.rows c.lengths_left-rows.ensures.backlog c.requires.1) _ _ x c.overwrite_bytes.ensures)
 
 pub overwrite-requires-2-clause-once : goal.overwrite-requires-2-clause-once
 overwrite-requires-2-clause-once c =
@@ -33,9 +33,9 @@ overwrite-requires-2-clause-once c =
 pub returns-clause-back : goal.returns-clause-back
 returns-clause-back c s g =
     let x = rw (c.truncate-2.ensures, c.truncate.ensures) at c.overwrite.ensures in
-    went_back _ _ _ c.parts-kinds.result.0 c.parts-kinds.result.1.left c.parts-kinds.result.2 c.parts-kinds.ensures.value c.parts-kinds.ensures.once (remains _ _ _ _ _ _ _ c.len.ensures.len c.len-2.ensures.len c.rows_left.ensures c.backlog_left.ensures g) _ _ _ x c.overwrite_bytes.ensures c.overwrite-2.ensures
+    went_back _ _ _ c.parts-kinds.result.0 c.parts-kinds.result.1.left c.parts-kinds.result.2 c.parts-kinds.ensures.value c.parts-kinds.ensures.once (remains _ _ _ _ _ _ _ c.len.ensures.len c.len-2.ensures.len c.lengths_left-rows.ensures.rows c.lengths_left-rows.ensures.backlog g) _ _ _ x c.overwrite_bytes.ensures c.overwrite-2.ensures
 
 pub returns-clause-undone : goal.returns-clause-undone
 returns-clause-undone c p =
     let x = rw (c.truncate-2.ensures, c.truncate.ensures) at c.overwrite.ensures in
-    ap (λ m. view m p) (went_back _ _ _ c.parts-kinds.result.0 c.parts-kinds.result.1.left c.parts-kinds.result.2 c.parts-kinds.ensures.value c.parts-kinds.ensures.once (remains _ _ _ _ _ _ _ c.len.ensures.len c.len-2.ensures.len c.rows_left.ensures c.backlog_left.ensures c.requires.1) _ _ _ x c.overwrite_bytes.ensures c.overwrite-2.ensures) ∙ sym (c.requires.1.back p)
+    ap (λ m. view m p) (went_back _ _ _ c.parts-kinds.result.0 c.parts-kinds.result.1.left c.parts-kinds.result.2 c.parts-kinds.ensures.value c.parts-kinds.ensures.once (remains _ _ _ _ _ _ _ c.len.ensures.len c.len-2.ensures.len c.lengths_left-rows.ensures.rows c.lengths_left-rows.ensures.backlog c.requires.1) _ _ _ x c.overwrite_bytes.ensures c.overwrite-2.ensures) ∙ sym (c.requires.1.back p)

@@ -1,0 +1,17 @@
+-- What a packed change begins with.
+use Rattle.std.specs.Prelude.{◌≡◌, ◌<◌, List, ◌∷◌, is_some}
+use Rattle.places.specs.declared.value.Change.{Change}
+use Rattle.places.specs.declared.packing.changes.Head.{Head}
+use Rattle.places.specs.PlaceNumbers.{place_of}
+
+-- A head is that of a change.
+pub record IsHead (h : Head) (c : Change) : Type 0 where
+  pub kind : h.kind < 30
+  pub place : c.place ≡ place_of h.kind h.index 0
+  pub stood : is_some c.old ≡ h.stood
+
+-- A head is that of the first of some changes, before the others.
+pub record IsFirst (h : Head) (cs ds : List Change) : Type 0 where
+  pub change : Change
+  pub first : cs ≡ change ∷ ds
+  pub head : IsHead h change
