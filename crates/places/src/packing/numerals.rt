@@ -175,7 +175,17 @@ pub fn put_number(out: &mut Vec<u8>, number: u64) -> Result<(), AllocError>
     if number < u64::from(TWO) {
         out.push(number as u8)?;
         Ok(())
-    } else if number < 65_536 {
+    } else {
+        put_wide(out, number)
+    }
+}
+
+/// Puts a number behind bytes in two, four or eight. Apart, so that the test for one is inlined.
+#[inline(never)]
+fn put_wide(out: &mut Vec<u8>, number: u64) -> Result<(), AllocError>
+    ensures { OnOk result (Puts number_of after out.old.items (number ∷ []) out.new.items) }
+{
+    if number < 65_536 {
         put_two(out, number as u16)?;
         Ok(())
     } else if number < 4_294_967_296 {

@@ -1,15 +1,6 @@
 use Rattle.std.proofs.Common.{arith}
-use Rattle.places.proofs.NumeralLemmas.{put_small, put_two_bytes, put_four_bytes, put_eight_bytes}
+use Rattle.places.proofs.NumeralLemmas.{put_small}
 use Rattle.places.proofs.packing.numerals.put_number.Goals as goal
 
 pub returns-in_ok-push : goal.returns-in_ok-push
 returns-in_ok-push c = rw (c.in_ok-push.ensures.items) (put_small c.args.out.now.items c.args.number (let h = c.if-number-from.true in let e = c.from.ensures in omega arith))
-
-pub returns-in_ok-put_two : goal.returns-in_ok-put_two
-returns-in_ok-put_two c = rw (c.in_ok-put_two.ensures) (put_two_bytes c.args.out.now.items c.args.number (let h = c.if-number-lt65536.true in omega arith))
-
-pub returns-in_ok-put_four : goal.returns-in_ok-put_four
-returns-in_ok-put_four c = rw (c.in_ok-put_four.ensures) (put_four_bytes c.args.out.now.items c.args.number (let h = c.if-number-lt4294967296.true in omega arith))
-
-pub returns-in_ok-put_eight : goal.returns-in_ok-put_eight
-returns-in_ok-put_eight c = rw (c.in_ok-put_eight.ensures) (put_eight_bytes c.args.out.now.items c.args.number (let h = c.ranges.number.fits in omega arith))
