@@ -1,12 +1,13 @@
 //! Going back by a record.
-ghost use Rattle.std.specs.Prelude.{◌≡◌};
+ghost use Rattle.std.specs.Prelude.{◌≡◌, Some, IfSome};
 ghost use Rattle.places.specs.View.{undo, NamesOnce};
 ghost use Rattle.places.specs.declared.place.Place.{Place};
+ghost use Rattle.places.specs.declared.value.Value.TheVariants.{Number};
 ghost use Rattle.machine.specs.Whole.{view, GoesBack, Overwrites, Overwritten};
 ghost use Rattle.machine.specs.declared.whole.Machine.{Machine};
 
 use crate::whole::Machine;
-use places::{Changes, Part, Record, Stretches};
+use places::{Changes, Part, Record, Stretches, Value};
 
 impl Machine {
     /// Puts back what stood in the places that a record names. It takes no memory.
@@ -31,7 +32,9 @@ impl Machine {
         ensures { Overwritten self.old self.new rest.old }
     {
         while let Some(change) = rest.next() {
-            if change.old.is_some() {
+            if let Some(number) = number_in(&change.old) {
+                self.put_number(change.place, number);
+            } else if change.old.is_some() {
                 self.put(change.place, change.old);
             }
         }
@@ -46,5 +49,15 @@ impl Machine {
         while let Some(stretch) = rest.next() {
             self.world.put_back(stretch);
         }
+    }
+}
+
+// The number that stood in a place, if one did.
+fn number_in(old: &Option<Value>) -> Option<u64>
+    ensures { IfSome result (λ n. old.now ≡ Some (Number n)) }
+{
+    match old {
+        Some(Value::Number(number)) => Some(*number),
+        _ => None,
     }
 }

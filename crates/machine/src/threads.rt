@@ -173,8 +173,21 @@ impl Part for Threads {
 }
 
 impl Threads {
-    ghost use Rattle.machine.specs.Threads.{ThreadState, program_of, threads_owns, threads_seen};
+    ghost use Rattle.machine.specs.Threads.{ThreadState, program_of, threads_owns, threads_seen, threads_can_put};
+    ghost use Rattle.places.specs.declared.place.Place.TheVariants.{ProgramCounter};
+    ghost use Rattle.places.specs.declared.value.Value.TheVariants.{Number};
     ghost use Rattle.std.specs.Prelude.{FitsSigned};
+
+    /// Sets the index of a thread's next instruction.
+    pub(crate) fn put_counter(&mut self, t: u32, counter: u64)
+        requires { threads_can_put self.old (ProgramCounter t) (Some (Number counter)) }
+        ensures put { (q : Place) → threads_seen self.new q
+            ≡ put_at (threads_seen self.old) (ProgramCounter t) (Some (Number counter)) q }
+        ensures programs { map program_of self.new ≡ map program_of self.old }
+    {
+        let thread = &mut self.threads[t as usize];
+        thread.counter = counter as u32;
+    }
 
     /// The threads, in order.
     pub fn of(threads: Vec<Thread>) -> Threads

@@ -1,5 +1,6 @@
 //! The parts of the machine together.
-ghost use Rattle.std.specs.Prelude.{◌≡◌, OnSome, length, map, false};
+ghost use Rattle.std.specs.Prelude.{◌≡◌, OnSome, Some, length, map, false};
+ghost use Rattle.places.specs.declared.value.Value.TheVariants.{Number};
 ghost use Rattle.ring_words.specs.Rings.{sub_owns, com_owns};
 ghost use Rattle.links_drains.specs.Rows.{fixed_of, table_owns};
 ghost use Rattle.model_files.specs.Worlds.{world_owns};
@@ -149,6 +150,23 @@ impl Part for Machine {
 
 impl Machine {
     ghost use Rattle.machine.specs.Whole.{view, can_put, OneSetup};
+
+    /// Sets a number.
+    pub(crate) fn put_number(&mut self, place: Place, number: u64)
+        requires { can_put self.old place (Some (Number number)) }
+        ensures put { (q : Place)
+            → view self.new q ≡ put_at (view self.old) place (Some (Number number)) q }
+        ensures setup { OneSetup self.old self.new }
+        ensures rows { map fixed_of self.new.table ≡ map fixed_of self.old.table }
+        ensures backlog { length self.new.backlog.items ≡ length self.old.backlog.items }
+    {
+        match place {
+            Place::Clock => self.clock = number,
+            Place::Counted => self.counted = number as u32,
+            Place::ProgramCounter(t) => self.threads.put_counter(t, number),
+            _ => self.put(place, Some(Value::Number(number))),
+        }
+    }
 
     // Sets a number that no part owns, or what the poller does.
     fn put_other(&mut self, place: Place, value: Option<Value>)

@@ -5,6 +5,18 @@ use Rattle.machine.proofs.whole.Machine.overwrite.Goals as goal
 pub loop-change-init : goal.loop-change-init
 loop-change-init c = restored_from _ _ c.requires.once
 
+pub put_number-requires : goal.put_number-requires
+put_number-requires c =
+    let at = subst (Restored c.args.self.now c.args.rest.now c.loop-change.self) c.in-Some.ensures.told c.loop-change.invariant in
+    let e = c.in-Some-number_in.ensures in
+    rw e at (next_can_put c.requires.stood.0 _ _ _ c.in-Some.change _ _ e c.requires.stood.1 at)
+
+pub loop-change-preserved-in-Some-number_in : goal.loop-change-preserved-in-Some-number_in
+loop-change-preserved-in-Some-number_in c =
+    let at = subst (Restored c.args.self.now c.args.rest.now c.loop-change.self) c.in-Some.ensures.told c.loop-change.invariant in
+    let put = rw (← c.in-Some-number_in.ensures) at c.put_number.ensures.put in
+    restored_on _ _ _ _ c.in-Some.change _ c.put_number.ensures.setup (sym c.put_number.ensures.rows) (sym c.put_number.ensures.backlog) put at
+
 pub put-requires : goal.put-requires
 put-requires c =
     let at = subst (Restored c.args.self.now c.args.rest.now c.loop-change.self) c.in-Some.ensures.told c.loop-change.invariant in
