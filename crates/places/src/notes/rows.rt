@@ -173,10 +173,7 @@ fn put_small(out: &mut Vec<u8>, place: Place, index: u32, old: &Small) -> Result
         (record { place = place; old = Some (value_of old.now) } ∷ []) out.new.items) }
 {
     match old {
-        Small::Amount(number) => {
-            put_number_change(out, place, index, *number)?;
-            Ok(())
-        }
+        Small::Amount(number) => put_number_change(out, place, index, *number),
         Small::Answer(number) => {
             put_place(out, place, index, SIGNED)?;
             put_numbers(out, &[long_number(*number)])?;

@@ -5,8 +5,8 @@ use Rattle.places.specs.declared.value.Value.TheVariants.{Signed, Entry, Complet
 use Rattle.places.proofs.ChangeLemmas.{change_put, signed_put, entry_value_put, completion_value_put, stage_value_put, reaped_value_put, awake_put}
 use Rattle.places.proofs.notes.rows.put_small.Goals as goal
 
-pub returns-in_ok-put_number_change-in-Amount : goal.returns-in_ok-put_number_change-in-Amount
-returns-in_ok-put_number_change-in-Amount c = rw (c.in-Amount.is) c.in_ok-put_number_change-in-Amount.ensures
+pub returns-in-Amount : goal.returns-in-Amount
+returns-in-Amount c = rw (c.in-Amount.is) c.put_number_change.ensures
 
 pub returns-in_ok-put_numbers-in-Answer : goal.returns-in_ok-put_numbers-in-Answer
 returns-in_ok-put_numbers-in-Answer c = rw (c.in-Answer.is) (change_put c.args.place (Some (Signed c.in-Answer.number)) 2 c.args.index _ _ c.requires c.ranges.index.fits _ c.in_ok-put_place-in-Answer.ensures.put (signed_put _ _ c.in-Answer.number (search rules) (rw (c.long_number.ensures, to_z-of_z w64 c.in-Answer.number (search rules)) at c.in_ok-put_numbers-in-Answer.ensures)))
