@@ -1,13 +1,12 @@
 //! Going back by a record.
-ghost use Rattle.std.specs.Prelude.{◌≡◌, Some, IfSome};
+ghost use Rattle.std.specs.Prelude.{◌≡◌};
 ghost use Rattle.places.specs.View.{undo, NamesOnce};
 ghost use Rattle.places.specs.declared.place.Place.{Place};
-ghost use Rattle.places.specs.declared.value.Value.TheVariants.{Number};
 ghost use Rattle.machine.specs.Whole.{view, GoesBack, Overwrites, Overwritten};
 ghost use Rattle.machine.specs.declared.whole.Machine.{Machine};
 
 use crate::whole::Machine;
-use places::{Changes, Part, Record, Stretches, Value};
+use places::{Changes, Part, Record, Stretches};
 
 impl Machine {
     /// Puts back what stood in the places that a record names. It takes no memory.
@@ -31,10 +30,11 @@ impl Machine {
         requires once { NamesOnce rest.old }
         ensures { Overwritten self.old self.new rest.old }
     {
+        while let Some((place, number)) = rest.next_number() {
+            self.put_number(place, number);
+        }
         while let Some(change) = rest.next() {
-            if let Some(number) = number_in(&change.old) {
-                self.put_number(change.place, number);
-            } else if change.old.is_some() {
+            if change.old.is_some() {
                 self.put(change.place, change.old);
             }
         }
@@ -49,15 +49,5 @@ impl Machine {
         while let Some(stretch) = rest.next() {
             self.world.put_back(stretch);
         }
-    }
-}
-
-// The number that stood in a place, if one did.
-fn number_in(old: &Option<Value>) -> Option<u64>
-    ensures { IfSome result (λ n. old.now ≡ Some (Number n)) }
-{
-    match old {
-        Some(Value::Number(number)) => Some(*number),
-        _ => None,
     }
 }

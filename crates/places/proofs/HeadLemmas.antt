@@ -11,9 +11,9 @@ use Rattle.places.specs.Places.{kind_of, same_place}
 use Rattle.places.specs.PlaceNumbers.{place_of}
 use Rattle.places.specs.View.{named}
 use Rattle.places.specs.Notes.{left, after_change}
-use Rattle.places.specs.Numerals.{number_of, behind, word_of}
-use Rattle.places.specs.Packed.{value_of_shape, change_of}
-use Rattle.places.specs.Heads.{IsHead, IsFirst}
+use Rattle.places.specs.Numerals.{number_of, after, behind, word_of}
+use Rattle.places.specs.Packed.{value_of_shape, change_of, after_change as after_packed}
+use Rattle.places.specs.Heads.{IsHead, IsFirst, number_was}
 use Rattle.places.proofs.Left.{after_some}
 
 -- ---- the head that stands first
@@ -39,6 +39,15 @@ head_read bytes n i e f = record {
   place = rw (e, f) refl;
   stood = rw e (some_by_shape (number_of bytes / 30) (behind 2 bytes));
 }
+
+-- by its shape, a number stood there
+number_first : (bytes : List ℕ) → number_of bytes / 30 ≡ 1 → (change_of bytes ≡ number_was (place_of (number_of bytes % 30) (word_of (behind 1 bytes)) 0) (number_of (behind 2 bytes))) × (after_packed bytes ≡ behind 3 bytes)
+unfolding change_of after_packed value_of_shape
+number_first bytes e = (rw e refl, rw e refl)
+
+-- its head, index and number, read one after the other
+pub number_read : (bytes a b c : List ℕ) (h i n : ℕ) (p : Place) → h ≡ number_of bytes → h / 30 ≡ 1 → a ≡ after bytes → i ≡ word_of a → b ≡ after a → n ≡ number_of b → c ≡ after b → p ≡ place_of (h % 30) i 0 → (change_of bytes ≡ number_was p n) × (after_packed bytes ≡ c)
+number_read bytes a b c h i n p eh one ea ei eb en ec ep = rw (ep, en, ec, ei, eb, ea, eh) (number_first bytes (ap (λ k. k / 30) (sym eh) ∙ one))
 
 -- ---- places of two kinds are two
 

@@ -1,5 +1,7 @@
 -- What a packed change begins with.
-use Rattle.std.specs.Prelude.{◌≡◌, ◌<◌, List, ◌∷◌, is_some}
+use Rattle.std.specs.Prelude.{◌≡◌, ℕ, ◌<◌, List, ◌∷◌, Some, is_some}
+use Rattle.places.specs.declared.place.Place.{Place}
+use Rattle.places.specs.declared.value.Value.TheVariants.{Number}
 use Rattle.places.specs.declared.value.Change.{Change}
 use Rattle.places.specs.declared.packing.changes.Head.{Head}
 use Rattle.places.specs.PlaceNumbers.{place_of}
@@ -15,3 +17,7 @@ pub record IsFirst (h : Head) (cs ds : List Change) : Type 0 where
   pub change : Change
   pub first : cs ≡ change ∷ ds
   pub head : IsHead h change
+
+-- the change of a place where a number stood
+abbrev pub number_was : Place → ℕ → Change
+number_was p n = record { place = p; old = Some (Number n) }

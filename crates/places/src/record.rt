@@ -1,6 +1,7 @@
 //! Records: the places that differ, with what stood there.
 ghost use Rattle.std.specs.Prelude.{◌≡◌, ◌∷◌, ◌++◌, [], map, is_some, MatchOption, None};
 ghost use Rattle.places.specs.View.{named, NamesOnce};
+ghost use Rattle.places.specs.Heads.{number_was};
 ghost use Rattle.places.specs.declared.listed.Listed.TheVariants.{Requests, Overflowed};
 ghost use Rattle.places.specs.Notes.{IsLeft, left};
 ghost use Rattle.places.specs.Slots.{row_change};
@@ -96,6 +97,15 @@ impl<'a> Changes<'a> {
                 Some(*first)
             }
         }
+    }
+
+    /// The place and the number of the next change, where it is packed and a number stood there.
+    /// Another change stays the next.
+    pub fn next_number(&mut self) -> Option<(Place, u64)>
+        ensures { MatchOption result (self.new ≡ self.old)
+            (λ n. self.old ≡ number_was n.0 n.1 ∷ self.new) }
+    {
+        self.packed.next_number()
     }
 }
 

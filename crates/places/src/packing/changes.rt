@@ -6,7 +6,7 @@ ghost use Rattle.places.specs.Places.{kind_of, same_place};
 ghost use Rattle.places.specs.View.{named};
 ghost use Rattle.places.specs.Notes.{left};
 ghost use Rattle.places.specs.PlaceNumbers.{place_of};
-ghost use Rattle.places.specs.Heads.{IsHead, IsFirst};
+ghost use Rattle.places.specs.Heads.{IsHead, IsFirst, number_was};
 ghost use Rattle.places.specs.Reading.{read_all, Puts};
 ghost use Rattle.places.specs.Numerals.{number_of, after, behind};
 ghost use Rattle.places.specs.Packed.{size_of_shape, value_of_shape, change_of, after_change, packed};
@@ -190,6 +190,22 @@ fn read_head(bytes: &mut Numerals<'_>) -> Head
     }
 }
 
+/// The place and the number of the change that stands first, where a number stood there. Where
+/// another change stands first, nothing is read.
+fn read_number(bytes: &mut Numerals<'_>) -> Option<(Place, u64)>
+    ensures { MatchOption result (bytes.new ≡ bytes.old)
+        (λ n. (change_of bytes.old ≡ number_was n.0 n.1) × (after_change bytes.old ≡ bytes.new)) }
+{
+    let head = bytes.first();
+    if head / KINDS != 1 {
+        return None;
+    }
+    bytes.skip(1);
+    let index = bytes.word();
+    let number = bytes.number();
+    Some((place_of((head % KINDS) as u8, index), number))
+}
+
 /// Whether a change with this head is of a place.
 fn is_of(head: Head, place: Place) -> bool
     requires { head.kind < 30 }
@@ -250,6 +266,18 @@ impl<'a> PackedChanges<'a> {
         }
         self.left -= 1;
         Some(read_change(&mut self.bytes))
+    }
+
+    /// The place and the number of the next change, if one is left and a number stood there. Another
+    /// change stays the next.
+    pub fn next_number(&mut self) -> Option<(Place, u64)>
+        ensures { MatchOption result (self.new ≡ self.old)
+            (λ n. self.old ≡ number_was n.0 n.1 ∷ self.new) }
+    {
+        let left = self.left.checked_sub(1)?;
+        let (place, number) = read_number(&mut self.bytes)?;
+        self.left = left;
+        Some((place, number))
     }
 
     /// The head of the next change, if one is left.

@@ -36,6 +36,13 @@ impl<'a> Numerals<'a> {
         Numerals { bytes }
     }
 
+    /// The next number, or 0 where none is left. It stays the next.
+    pub fn first(&self) -> u64
+        ensures { result ≡ number_of self.now }
+    {
+        first_number(self.bytes).0
+    }
+
     /// The next number, or 0 where none is left.
     pub fn number(&mut self) -> u64
         ensures value { result ≡ number_of self.old }

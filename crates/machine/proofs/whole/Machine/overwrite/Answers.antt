@@ -1,31 +1,32 @@
-use Rattle.std.proofs.Common.{sym, subst, ◌∙◌, rules}
+use Rattle.std.proofs.Common.{refl, sym, subst, ◌∙◌, rules}
 use Rattle.machine.proofs.Restored.{Restored, restored_from, next_can_put, restored_on, restored_skip, restored_all, some_of, none_of}
 use Rattle.machine.proofs.whole.Machine.overwrite.Goals as goal
 
-pub loop-change-init : goal.loop-change-init
-loop-change-init c = restored_from _ _ c.requires.once
+pub loop-place-init : goal.loop-place-init
+loop-place-init c = restored_from _ _ c.requires.once
 
 pub put_number-requires : goal.put_number-requires
 put_number-requires c =
-    let at = subst (Restored c.args.self.now c.args.rest.now c.loop-change.self) c.in-Some.ensures.told c.loop-change.invariant in
-    let e = c.in-Some-number_in.ensures in
-    rw e at (next_can_put c.requires.stood.0 _ _ _ c.in-Some.change _ _ e c.requires.stood.1 at)
+    let at = subst (Restored c.args.self.now c.args.rest.now c.loop-place.self) c.in-Some.ensures c.loop-place.invariant in
+    next_can_put c.requires.stood.0 _ _ _ _ _ _ refl c.requires.stood.1 at
 
-pub loop-change-preserved-in-Some-number_in : goal.loop-change-preserved-in-Some-number_in
-loop-change-preserved-in-Some-number_in c =
-    let at = subst (Restored c.args.self.now c.args.rest.now c.loop-change.self) c.in-Some.ensures.told c.loop-change.invariant in
-    let put = rw (← c.in-Some-number_in.ensures) at c.put_number.ensures.put in
-    restored_on _ _ _ _ c.in-Some.change _ c.put_number.ensures.setup (sym c.put_number.ensures.rows) (sym c.put_number.ensures.backlog) put at
+pub loop-place-preserved : goal.loop-place-preserved
+loop-place-preserved c =
+    let at = subst (Restored c.args.self.now c.args.rest.now c.loop-place.self) c.in-Some.ensures c.loop-place.invariant in
+    restored_on _ _ _ _ _ _ c.put_number.ensures.setup (sym c.put_number.ensures.rows) (sym c.put_number.ensures.backlog) c.put_number.ensures.put at
+
+pub loop-change-init : goal.loop-change-init
+loop-change-init c = subst (Restored c.args.self.now c.args.rest.now c.loop-place.self) (sym c.in_default.ensures) c.loop-place.invariant
 
 pub put-requires : goal.put-requires
 put-requires c =
-    let at = subst (Restored c.args.self.now c.args.rest.now c.loop-change.self) c.in-Some.ensures.told c.loop-change.invariant in
+    let at = subst (Restored c.args.self.now c.args.rest.now c.loop-change.self) c.in-Some-next.ensures.told c.loop-change.invariant in
     let k = some_of _ (sym c.is_some.ensures ∙ c.if-is_some.true) in
     next_can_put c.requires.stood.0 _ _ _ _ _ k.0 k.1 c.requires.stood.1 at
 
 pub loop-change-preserved-then-is_some : goal.loop-change-preserved-then-is_some
 loop-change-preserved-then-is_some c =
-    let at = subst (Restored c.args.self.now c.args.rest.now c.loop-change.self) c.in-Some.ensures.told c.loop-change.invariant in
+    let at = subst (Restored c.args.self.now c.args.rest.now c.loop-change.self) c.in-Some-next.ensures.told c.loop-change.invariant in
     let k = some_of _ (sym c.is_some.ensures ∙ c.if-is_some.true) in
     let rows = rw k.1 at c.put.ensures.rows in
     let items = rw k.1 at c.put.ensures.backlog in
@@ -33,7 +34,7 @@ loop-change-preserved-then-is_some c =
 
 pub loop-change-preserved : goal.loop-change-preserved
 loop-change-preserved c =
-    let at = subst (Restored c.args.self.now c.args.rest.now c.loop-change.self) c.in-Some.ensures.told c.loop-change.invariant in
+    let at = subst (Restored c.args.self.now c.args.rest.now c.loop-change.self) c.in-Some-next.ensures.told c.loop-change.invariant in
     restored_skip c.requires.stood.0 _ _ _ _ _ (none_of _ (sym c.is_some.ensures ∙ c.if-is_some.false)) c.requires.stood.1 at
 
 pub returns : goal.returns
