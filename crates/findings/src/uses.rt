@@ -8,7 +8,7 @@ ghost use Rattle.findings.specs.Uses.{changes_slot, changes_at, names_descriptor
 
 use crate::files::number_in;
 use crate::kind::Kind;
-use crate::leftover::{MOST_ROWS, row_at};
+use crate::leftover::row_at;
 use entries::{Phase, Row, Sqe};
 use links_drains::is_issued;
 use machine::{Instruction, State};
@@ -160,9 +160,13 @@ fn first_behind(state: &State, sought: Sought, passed: u64) -> Option<u32>
     ensures { is_some result ≡ list_any (is_sought state.now.submissions.slots sought)
         (drop passed (sub_list state.now.submissions)) }
 {
+    let count = waiting_count(state) - passed;
+    if count == 0 {
+        return None;
+    }
     let start = submission_head(state) + passed;
     let size = u64::from(array_size(state));
-    for place in 0..waiting_count(state) - passed {
+    for place in 0..count {
         let word = word_at(state, ((start + place) % size) as u32);
         if is_sought(state, sought, word) {
             return word;
@@ -200,20 +204,25 @@ fn is_met(kind: Kind, fd: u32, row: &Row) -> bool
     }
 }
 
-// Whether some row is. A descriptor closes once, so that a run goes over its rows some 64 times.
+fn meets_at(state: &State, kind: Kind, fd: u32, number: u32) -> bool
+    ensures { result ≡ option_map_or (is_met kind fd) (slice_get state.now.table number) false }
+{
+    match row_at(state, number) {
+        Some(row) => is_met(kind, fd, &row),
+        None => false,
+    }
+}
+
+// Whether some row is; none that has ended is.
 fn meets(state: &State, kind: Kind, fd: u32) -> bool
     ensures { result ≡ list_any (is_met kind fd) state.now.table }
 {
-    let _first = row_at(state, 0);
-    for number in 0..MOST_ROWS {
-        match row_at(state, number) {
-            Some(row) => {
-                if is_met(kind, fd, &row) {
-                    return true;
-                }
-            }
-            None => return false,
+    let mut from = 0;
+    while let Some(number) = state.next_unfinished(from) {
+        if meets_at(state, kind, fd, number) {
+            return true;
         }
+        from = number + 1;
     }
     false
 }
