@@ -14,7 +14,7 @@ use Rattle.machine.specs.Steps.{after, refusal, Next}
 use Rattle.machine.specs.Runs.{start, moment as machine_at, Accepts, IsRefused}
 use Rattle.run_log.specs.declared.fault.LogFault.{LogFault}
 use Rattle.run_log.specs.declared.fault.LogFault.TheVariants.{Script, Trace, Schedule, Write, Memory}
-use Rattle.findings.proofs.Longer.{accepts_more, moment_more}
+use Rattle.machine.proofs.Longer.{accepts_more, moment_more}
 use Rattle.findings.specs.declared.finding.Finding.{Finding}
 use Rattle.findings.specs.declared.kind.Kind.{Kind}
 use Rattle.findings.specs.Conflicts.{done_at}
