@@ -263,7 +263,7 @@ fn add_of_candidate(
     kinds: &[Kind],
 ) -> Result<(), AllocError>
     ensures { OnOk result (found.new.items ≡ found.old.items
-        ++ of_candidate moment setup.now state.now.table deed.now number row.now kinds.now) }
+        ++ of_candidate moment setup.now state.now deed.now number row.now kinds.now) }
 {
     for kind in kinds {
         let finding = Finding {
@@ -286,7 +286,7 @@ fn add_of_number(
     number: u32,
 ) -> Result<(), AllocError>
     ensures { OnOk result (found.new.items ≡
-        found.old.items ++ of_number moment setup.now state.now.table deed.now number) }
+        found.old.items ++ of_number moment setup.now state.now deed.now number) }
 {
     match row_at(state, number) {
         Some(row) => add_of_candidate(
@@ -312,7 +312,7 @@ fn add_of_numbers(
     numbers: &[u32],
 ) -> Result<(), AllocError>
     ensures { OnOk result (found.new.items ≡ found.old.items
-        ++ flat_map (of_number moment setup.now state.now.table deed.now) numbers.now) }
+        ++ flat_map (of_number moment setup.now state.now deed.now) numbers.now) }
 {
     for number in numbers {
         add_of_number(found, moment, setup, state, deed, *number)?;
@@ -330,7 +330,7 @@ pub(crate) fn add_of_deed(
     numbers: &[u32],
 ) -> Result<(), AllocError>
     ensures { OnOk result (found.new.items ≡
-        found.old.items ++ of_deed moment setup.now state.now.table deed.now numbers.now) }
+        found.old.items ++ of_deed moment setup.now state.now deed.now numbers.now) }
 {
     match deed {
         Deed::Nothing => Ok(()),

@@ -48,7 +48,7 @@ fn look_beside(
     numbers: &[u32],
 ) -> Result<(), AllocError>
     ensures { OnOk result (found.new.items ≡ found.old.items
-        ++ of_deed moment setup.now state.now.table
+        ++ of_deed moment setup.now state.now
         (done_as event
         (instruction_at setup.now event before.counter) state.now) numbers.now) }
 {
@@ -73,7 +73,7 @@ fn look(
         ++ (of_overflow moment before.overflows (overflows state.now)
         ++ (of_step moment before.changes (instruction_at setup.now event before.counter) event
         state.now ++ of_cancel moment before.cancel state.now.table)))
-        ++ of_deed moment setup.now state.now.table
+        ++ of_deed moment setup.now state.now
         (done_as event
         (instruction_at setup.now event before.counter) state.now) numbers.new.items) }
     ensures once { OnOk result (NamesOnce past.now) }
