@@ -1,5 +1,5 @@
 -- Looking at the rows that haven't ended alone, for one that passes a test which no other passes.
-use Rattle.std.proofs.Common.{◌≡◌, inl, inr, ℕ, ◌+◌, ◌<◌, ◌≤◌, Bool, true, false, List, refl, sym, ap, ◌∙◌, arith}
+use Rattle.std.proofs.Common.{◌≡◌, inl, inr, ℕ, ◌+◌, ◌<◌, ◌≤◌, Bool, false, List, refl, sym, ap, ◌∙◌, arith}
 use Rattle.std.proofs.lemmas.Bool.{and_left, cases_lt}
 use Rattle.std.specs.Prelude.{Option, Some, None, slice_get}
 use Rattle.std.specs.Option.{option_map_or}
@@ -13,7 +13,7 @@ use Rattle.links_drains.specs.Units.{is_open}
 use Rattle.links_drains.proofs.Units.{any_false}
 use Rattle.findings.specs.declared.kind.Kind.{Kind}
 use Rattle.findings.specs.declared.kind.Kind.TheVariants.{ClosedEarly, ClosedWhileHeld}
-use Rattle.findings.specs.Uses.{names_descriptor, is_met}
+use Rattle.findings.specs.Uses.{is_met}
 use Rattle.findings.proofs.Looking.{passes, NonePasses}
 
 -- no row that has ended passes a test

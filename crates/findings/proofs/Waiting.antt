@@ -1,5 +1,5 @@
 -- The words that wait in the submission ring, place by place, and how many words the ring has.
-use Rattle.std.proofs.Common.{◌≡◌, inl, inr, ℕ, zero, suc, ◌+◌, ◌-◌, ◌%◌, ◌<◌, ◌≤◌, Bool, true, false, List, [], ◌∷◌, length, drop, get_or, nat_lt, refl, sym, subst, ap, ◌∙◌, arith, add-one}
+use Rattle.std.proofs.Common.{◌≡◌, inl, inr, ℕ, ◌+◌, ◌-◌, ◌%◌, ◌<◌, ◌≤◌, Bool, true, false, List, [], ◌∷◌, length, drop, get_or, nat_lt, refl, sym, subst, ap, ◌∙◌, arith, add-one}
 use Rattle.std.proofs.Math.Seq.{drop-cons}
 use Rattle.std.proofs.lemmas.Grind.{common_steps}
 use Rattle.std.proofs.lemmas.List.{length-drop}
@@ -9,7 +9,7 @@ use Rattle.std.proofs.lemmas.Option.{gets, none-some, slice_get_past}
 use Rattle.std.specs.Prelude.{Option, Some, None, slice_get, ◌==◌}
 use Rattle.std.specs.Option.{option_map_or}
 use Rattle.std.specs.List.{list_all}
-use Rattle.ring_words.specs.Rings.{SubWords, IsSize, sizes, first_not_below, rounded, waiting, sub_list}
+use Rattle.ring_words.specs.Rings.{SubWords, IsSize, sizes, first_not_below, waiting, sub_list}
 use Rattle.ring_words.proofs.Order.{items_get, items_length}
 use Rattle.findings.proofs.Looking.{passes}
 use Rattle.findings.proofs.Members.{Has, contains_has, none_behind}

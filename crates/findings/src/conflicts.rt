@@ -9,6 +9,7 @@ use crate::deed::{Deed, is_transfer};
 use crate::files::{is_same_descriptor, is_same_file, number_in};
 use crate::kind::Kind;
 use crate::leftover::{MOST_ROWS, row_at};
+use crate::transition::Transition;
 use entries::{Phase, Row, Sqe};
 use links_drains::{is_guard, is_issued, is_unfinished};
 use machine::{Setup, State};
@@ -219,16 +220,9 @@ fn is_synced_early(setup: &Setup, number: u32, done: &Row, other: u32, row: &Row
 }
 
 // Whether the end of a row is a finding about another.
-fn is_beside(
-    kind: Kind,
-    setup: &Setup,
-    state: &State,
-    number: u32,
-    done: &Row,
-    other: u32,
-    row: &Row,
-) -> bool
-    ensures { result ≡ is_beside kind setup.now state.now number done.now other row.now }
+fn is_beside(kind: Kind, at: Transition<'_>, number: u32, done: &Row, other: u32, row: &Row) -> bool
+    ensures { result ≡ is_beside kind at.entry.setup.now at.entry.state.now number done.now other
+        row.now }
 {
     let count = moved(done.phase);
     match kind {
@@ -237,13 +231,13 @@ fn is_beside(
         }
         Kind::Unordered => {
             (is_write(&done.entry) || is_write(&row.entry))
-                && (is_over(setup, state, count, &done.entry, row)
-                    && is_same_file(setup, &done.entry, &row.entry))
+                && (is_over(at.setup, at.state, count, &done.entry, row)
+                    && is_same_file(at.setup, &done.entry, &row.entry))
         }
         Kind::SharedPosition => {
-            (0 < count && 0 < row.entry.len) && is_by_position(setup, &done.entry, &row.entry)
+            (0 < count && 0 < row.entry.len) && is_by_position(at.setup, &done.entry, &row.entry)
         }
-        Kind::FsyncEarly => is_synced_early(setup, number, done, other, row),
+        Kind::FsyncEarly => is_synced_early(at.setup, number, done, other, row),
         _ => false,
     }
 }
@@ -258,36 +252,24 @@ fn is_stored_over(kind: Kind, address: u64, count: u64, row: &Row) -> bool
     }
 }
 
-fn is_conflict(
-    kind: Kind,
-    setup: &Setup,
-    state: &State,
-    deed: &Deed,
-    number: u32,
-    row: &Row,
-) -> bool
-    ensures { result ≡ is_conflict kind setup.now state.now deed.now number row.now }
+fn is_conflict(kind: Kind, at: Transition<'_>, deed: &Deed, number: u32, row: &Row) -> bool
+    ensures { result ≡ is_conflict kind at.entry.setup.now at.entry.state.now deed.now number
+        row.now }
 {
     match deed {
         Deed::Nothing => false,
         Deed::Stored(address, count) => is_stored_over(kind, *address, *count, row),
         Deed::Finished(by, done) => {
-            is_beside(kind, setup, state, *by, done, number, row)
-                && !is_behind(state, number, row, *by, done)
+            is_beside(kind, at, *by, done, number, row)
+                && !is_behind(at.state, number, row, *by, done)
         }
     }
 }
 
 /// Whether what an event does is a finding of a kind about a READ or a WRITE that hasn't ended.
-pub(crate) fn conflicts(
-    kind: Kind,
-    setup: &Setup,
-    state: &State,
-    deed: &Deed,
-    number: u32,
-    row: &Row,
-) -> bool
-    ensures { result ≡ conflicts kind setup.now state.now deed.now number row.now }
+pub(crate) fn conflicts(kind: Kind, at: Transition<'_>, deed: &Deed, number: u32, row: &Row) -> bool
+    ensures { result ≡ conflicts kind at.entry.setup.now at.entry.state.now deed.now number
+        row.now }
 {
-    is_candidate(row) && is_conflict(kind, setup, state, deed, number, row)
+    is_candidate(row) && is_conflict(kind, at, deed, number, row)
 }
