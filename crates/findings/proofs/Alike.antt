@@ -1,5 +1,5 @@
 -- Rows that have the user_data of another, among those that haven't ended.
-use Rattle.std.proofs.Common.{◌≡◌, ◌⊎◌, inl, inr, ℕ, ◌<◌, ◌≤◌, ◌+◌, ◌-◌, Bool, true, false, List, refl, sym, ap, ◌∙◌, arith}
+use Rattle.std.proofs.Common.{◌≡◌, inl, inr, ℕ, ◌<◌, ◌≤◌, ◌+◌, ◌-◌, Bool, true, false, List, refl, sym, ap, ◌∙◌, arith}
 use Rattle.std.proofs.lemmas.Bool.{and_from, and_left, cases_lt, lt-ltb, ne_eqb}
 use Rattle.std.proofs.lemmas.Bool.Decides.{nat_tests}
 use Rattle.std.specs.Prelude.{Option, Some, option_map, slice_get, nat_lt, nat_le, not, ◌==◌, ◌&&◌}
@@ -20,7 +20,7 @@ has_user rows user q = option_map_or (λ (row : Row). row.entry.user_data == use
 abbrev twin_test : ℕ → ℕ → ℕ × Row → Bool
 twin_test r user p = is_twin r user p.0 p.1
 
--- whether a number is one of the 8 before another
+-- whether a number is one of the 32 before another
 abbrev is_near : ℕ → ℕ → Bool
 is_near r q = nat_lt q r && nat_le r (q + 32)
 
@@ -78,7 +78,7 @@ not_near : (q r : ℕ) → q + 32 < r → nat_le r (q + 32) ≡ false
 not_near q r l = grind (arith, nat_tests, l)
 
 -- nor are those that stand further back
-pub twins_near : (rows : List Row) (r user from : ℕ) → from ≤ r - 8 → NoTwin rows r user from
+pub twins_near : (rows : List Row) (r user from : ℕ) → from ≤ r - 32 → NoTwin rows r user from
 twins_near rows r user from l q x b e = and_left _ _ (none_anywhere (nat_lt q r) (nat_le r (q + 32)) (not_near q r (omega (arith, l, b))))
 
 -- the rows behind are of no matter

@@ -7,6 +7,7 @@ use Rattle.std.specs.Option.{option_map_or}
 use Rattle.std.specs.List.{All, flat_map}
 use Rattle.entries.specs.declared.row.Row.{Row}
 use Rattle.scenario.specs.declared.setup.Setup.{Setup}
+use Rattle.machine.specs.declared.whole.Machine.{Machine}
 use Rattle.findings.specs.declared.deed.Deed.{Deed}
 use Rattle.findings.specs.declared.deed.Deed.TheVariants.{Nothing, Stored, Finished}
 use Rattle.findings.specs.declared.finding.Finding.{Finding}
@@ -20,88 +21,88 @@ false_true : false ≡ true → ⊥
 false_true e = cc
 
 -- whether a deed is a finding about the row of a number
-abbrev pub is_done : Setup → List Row → Deed → Kind → ℕ → Bool
-is_done s rows d kind q = option_map_or (conflicts kind s rows d q) (slice_get rows q) false
+abbrev pub is_done : Setup → Machine → Deed → Kind → ℕ → Bool
+is_done s m d kind q = option_map_or (conflicts kind s m d q) (slice_get m.table q) false
 
-abbrev pub IsDone : ℕ → Setup → List Row → Deed → Finding → Type 0
-IsDone i s rows d f = (f.moment ≡ i) × (is_done s rows d f.kind f.subject ≡ true)
+abbrev pub IsDone : ℕ → Setup → Machine → Deed → Finding → Type 0
+IsDone i s m d f = (f.moment ≡ i) × (is_done s m d f.kind f.subject ≡ true)
 
 -- ---- nothing else
 
-given_done : (i : ℕ) (s : Setup) (rows : List Row) (d : Deed) (q : ℕ) (row : Row) (kind : Kind) → slice_get rows q ≡ Some row → All (IsDone i s rows d) (given (conflicts kind s rows d q row) (record { moment = i; kind = kind; subject = q }))
-given_done i s rows d q row kind e = by (conflicts kind s rows d q row) refl
+given_done : (i : ℕ) (s : Setup) (m : Machine) (d : Deed) (q : ℕ) (row : Row) (kind : Kind) → slice_get m.table q ≡ Some row → All (IsDone i s m d) (given (conflicts kind s m d q row) (record { moment = i; kind = kind; subject = q }))
+given_done i s m d q row kind e = by (conflicts kind s m d q row) refl
   where
-    by : (b : Bool) → conflicts kind s rows d q row ≡ b → All (IsDone i s rows d) (given b (record { moment = i; kind = kind; subject = q }))
-    by true t = All-cons (IsDone i s rows d) (record { moment = i; kind = kind; subject = q }) [] (refl, ap (λ (o : Option Row). option_map_or (conflicts kind s rows d q) o false) e ∙ t) (All-nil (IsDone i s rows d))
-    by false t = All-nil (IsDone i s rows d)
+    by : (b : Bool) → conflicts kind s m d q row ≡ b → All (IsDone i s m d) (given b (record { moment = i; kind = kind; subject = q }))
+    by true t = All-cons (IsDone i s m d) (record { moment = i; kind = kind; subject = q }) [] (refl, ap (λ (o : Option Row). option_map_or (conflicts kind s m d q) o false) e ∙ t) (All-nil (IsDone i s m d))
+    by false t = All-nil (IsDone i s m d)
 
-kinds_done : (i : ℕ) (s : Setup) (rows : List Row) (d : Deed) (q : ℕ) (row : Row) (kinds : List Kind) → slice_get rows q ≡ Some row → All (IsDone i s rows d) (of_candidate i s rows d q row kinds)
-kinds_done i s rows d q row [] e = All-nil (IsDone i s rows d)
-kinds_done i s rows d q row (kind ∷ kinds) e =
-    All-append (IsDone i s rows d) (given (conflicts kind s rows d q row) (record { moment = i; kind = kind; subject = q })) (of_candidate i s rows d q row kinds) (given_done i s rows d q row kind e) (kinds_done i s rows d q row kinds e)
+kinds_done : (i : ℕ) (s : Setup) (m : Machine) (d : Deed) (q : ℕ) (row : Row) (kinds : List Kind) → slice_get m.table q ≡ Some row → All (IsDone i s m d) (of_candidate i s m d q row kinds)
+kinds_done i s m d q row [] e = All-nil (IsDone i s m d)
+kinds_done i s m d q row (kind ∷ kinds) e =
+    All-append (IsDone i s m d) (given (conflicts kind s m d q row) (record { moment = i; kind = kind; subject = q })) (of_candidate i s m d q row kinds) (given_done i s m d q row kind e) (kinds_done i s m d q row kinds e)
 
-number_done : (i : ℕ) (s : Setup) (rows : List Row) (d : Deed) (q : ℕ) → All (IsDone i s rows d) (of_number i s rows d q)
-number_done i s rows d q = by (slice_get rows q) refl
+number_done : (i : ℕ) (s : Setup) (m : Machine) (d : Deed) (q : ℕ) → All (IsDone i s m d) (of_number i s m d q)
+number_done i s m d q = by (slice_get m.table q) refl
   where
-    by : (o : Option Row) → slice_get rows q ≡ o → All (IsDone i s rows d) (option_map_or (λ (row : Row). of_candidate i s rows d q row conflict_kinds) o [])
-    by None e = All-nil (IsDone i s rows d)
-    by (Some row) e = kinds_done i s rows d q row conflict_kinds e
+    by : (o : Option Row) → slice_get m.table q ≡ o → All (IsDone i s m d) (option_map_or (λ (row : Row). of_candidate i s m d q row conflict_kinds) o [])
+    by None e = All-nil (IsDone i s m d)
+    by (Some row) e = kinds_done i s m d q row conflict_kinds e
 
-numbers_done : (i : ℕ) (s : Setup) (rows : List Row) (d : Deed) (numbers : List ℕ) → All (IsDone i s rows d) (flat_map (of_number i s rows d) numbers)
-numbers_done i s rows d [] = All-nil (IsDone i s rows d)
-numbers_done i s rows d (q ∷ numbers) = All-append (IsDone i s rows d) (of_number i s rows d q) (flat_map (of_number i s rows d) numbers) (number_done i s rows d q) (numbers_done i s rows d numbers)
+numbers_done : (i : ℕ) (s : Setup) (m : Machine) (d : Deed) (numbers : List ℕ) → All (IsDone i s m d) (flat_map (of_number i s m d) numbers)
+numbers_done i s m d [] = All-nil (IsDone i s m d)
+numbers_done i s m d (q ∷ numbers) = All-append (IsDone i s m d) (of_number i s m d q) (flat_map (of_number i s m d) numbers) (number_done i s m d q) (numbers_done i s m d numbers)
 
-pub deed_done : (i : ℕ) (s : Setup) (rows : List Row) (d : Deed) (numbers : List ℕ) → All (IsDone i s rows d) (of_deed i s rows d numbers)
-deed_done i s rows Nothing numbers = All-nil (IsDone i s rows Nothing)
-deed_done i s rows (Stored address n) numbers = numbers_done i s rows (Stored address n) numbers
-deed_done i s rows (Finished r row) numbers = numbers_done i s rows (Finished r row) numbers
+pub deed_done : (i : ℕ) (s : Setup) (m : Machine) (d : Deed) (numbers : List ℕ) → All (IsDone i s m d) (of_deed i s m d numbers)
+deed_done i s m Nothing numbers = All-nil (IsDone i s m Nothing)
+deed_done i s m (Stored address n) numbers = numbers_done i s m (Stored address n) numbers
+deed_done i s m (Finished r row) numbers = numbers_done i s m (Finished r row) numbers
 
 -- ---- nothing left out
 
-beside_kind : (kind : Kind) (s : Setup) (r : ℕ) (done : Row) (q : ℕ) (row : Row) → is_beside kind s r done q row ≡ true → Has conflict_kinds kind
-beside_kind BufferInUse s r done q row h = inl refl
-beside_kind Unordered s r done q row h = inr (inl refl)
-beside_kind SharedPosition s r done q row h = inr (inr (inl refl))
-beside_kind FsyncEarly s r done q row h = inr (inr (inr (inl refl)))
-beside_kind _ s r done q row h = absurd (false_true h)
+beside_kind : (kind : Kind) (s : Setup) (m : Machine) (r : ℕ) (done : Row) (q : ℕ) (row : Row) → is_beside kind s m r done q row ≡ true → Has conflict_kinds kind
+beside_kind BufferInUse s m r done q row h = inl refl
+beside_kind Unordered s m r done q row h = inr (inl refl)
+beside_kind SharedPosition s m r done q row h = inr (inr (inl refl))
+beside_kind FsyncEarly s m r done q row h = inr (inr (inr (inl refl)))
+beside_kind _ s m r done q row h = absurd (false_true h)
 
 stored_kind : (kind : Kind) (address n : ℕ) (row : Row) → is_stored_over kind address n row ≡ true → Has conflict_kinds kind
 stored_kind BufferInUse address n row h = inl refl
 stored_kind _ address n row h = absurd (false_true h)
 
-conflict_kind : (kind : Kind) (s : Setup) (rows : List Row) (d : Deed) (q : ℕ) (row : Row) → is_conflict kind s rows d q row ≡ true → Has conflict_kinds kind
-conflict_kind kind s rows Nothing q row h = absurd (false_true h)
-conflict_kind kind s rows (Stored address n) q row h = stored_kind kind address n row h
-conflict_kind kind s rows (Finished r done) q row h = beside_kind kind s r done q row (and_parts (is_beside kind s r done q row) (not (is_behind rows q row r done)) h).0
+conflict_kind : (kind : Kind) (s : Setup) (m : Machine) (d : Deed) (q : ℕ) (row : Row) → is_conflict kind s m d q row ≡ true → Has conflict_kinds kind
+conflict_kind kind s m Nothing q row h = absurd (false_true h)
+conflict_kind kind s m (Stored address n) q row h = stored_kind kind address n row h
+conflict_kind kind s m (Finished r done) q row h = beside_kind kind s m r done q row (and_parts (is_beside kind s m r done q row) (not (is_behind m.table q row r done)) h).0
 
 given_there : (b : Bool) (f : Finding) → b ≡ true → Has (given b f) f
 given_there true f e = inl refl
 given_there false f e = cc
 
-number_there : (i : ℕ) (s : Setup) (rows : List Row) (d : Deed) (numbers : List ℕ) (kind : Kind) (q : ℕ) → Covers rows numbers → is_done s rows d kind q ≡ true → Has (flat_map (of_number i s rows d) numbers) (record { moment = i; kind = kind; subject = q })
-number_there i s rows d numbers kind q covers h = by (slice_get rows q) refl h
+number_there : (i : ℕ) (s : Setup) (m : Machine) (d : Deed) (numbers : List ℕ) (kind : Kind) (q : ℕ) → Covers m.table numbers → is_done s m d kind q ≡ true → Has (flat_map (of_number i s m d) numbers) (record { moment = i; kind = kind; subject = q })
+number_there i s m d numbers kind q covers h = by (slice_get m.table q) refl h
   where
-    by : (o : Option Row) → slice_get rows q ≡ o → option_map_or (conflicts kind s rows d q) o false ≡ true → Has (flat_map (of_number i s rows d) numbers) (record { moment = i; kind = kind; subject = q })
+    by : (o : Option Row) → slice_get m.table q ≡ o → option_map_or (conflicts kind s m d q) o false ≡ true → Has (flat_map (of_number i s m d) numbers) (record { moment = i; kind = kind; subject = q })
     by None e t = absurd (false_true t)
     by (Some row) e t =
-        let parts = and_parts (is_candidate row) (is_conflict kind s rows d q row) t in
-        let candidate : option_map_or is_candidate (slice_get rows q) false ≡ true = ap (λ (o : Option Row). option_map_or is_candidate o false) e ∙ parts.0 in
-        let told : Has (of_candidate i s rows d q row conflict_kinds) (record { moment = i; kind = kind; subject = q }) =
-        has_flat_map (λ (k : Kind). given (conflicts k s rows d q row) (record { moment = i; kind = k; subject = q })) conflict_kinds kind (record { moment = i; kind = kind; subject = q }) (conflict_kind kind s rows d q row parts.1) (given_there (conflicts kind s rows d q row) (record { moment = i; kind = kind; subject = q }) t)
+        let parts = and_parts (is_candidate row) (is_conflict kind s m d q row) t in
+        let candidate : option_map_or is_candidate (slice_get m.table q) false ≡ true = ap (λ (o : Option Row). option_map_or is_candidate o false) e ∙ parts.0 in
+        let told : Has (of_candidate i s m d q row conflict_kinds) (record { moment = i; kind = kind; subject = q }) =
+        has_flat_map (λ (k : Kind). given (conflicts k s m d q row) (record { moment = i; kind = k; subject = q })) conflict_kinds kind (record { moment = i; kind = kind; subject = q }) (conflict_kind kind s m d q row parts.1) (given_there (conflicts kind s m d q row) (record { moment = i; kind = kind; subject = q }) t)
         in
-        let there : Has (of_number i s rows d q) (record { moment = i; kind = kind; subject = q }) =
-        subst (λ (o : Option Row). Has (option_map_or (λ (y : Row). of_candidate i s rows d q y conflict_kinds) o []) (record { moment = i; kind = kind; subject = q })) (sym e) told
+        let there : Has (of_number i s m d q) (record { moment = i; kind = kind; subject = q }) =
+        subst (λ (o : Option Row). Has (option_map_or (λ (y : Row). of_candidate i s m d q y conflict_kinds) o []) (record { moment = i; kind = kind; subject = q })) (sym e) told
         in
-        has_flat_map (of_number i s rows d) numbers q (record { moment = i; kind = kind; subject = q }) (contains_has numbers q (covers q candidate)) there
+        has_flat_map (of_number i s m d) numbers q (record { moment = i; kind = kind; subject = q }) (contains_has numbers q (covers q candidate)) there
 
-nothing_done : (s : Setup) (rows : List Row) (kind : Kind) (q : ℕ) → is_done s rows Nothing kind q ≡ true → ⊥
-nothing_done s rows kind q h = by (slice_get rows q) h
+nothing_done : (s : Setup) (m : Machine) (kind : Kind) (q : ℕ) → is_done s m Nothing kind q ≡ true → ⊥
+nothing_done s m kind q h = by (slice_get m.table q) h
   where
-    by : (o : Option Row) → option_map_or (conflicts kind s rows Nothing q) o false ≡ true → ⊥
+    by : (o : Option Row) → option_map_or (conflicts kind s m Nothing q) o false ≡ true → ⊥
     by None t = false_true t
     by (Some row) t = false_true (and_parts (is_candidate row) false t).1
 
-pub deed_there : (i : ℕ) (s : Setup) (rows : List Row) (d : Deed) (numbers : List ℕ) (kind : Kind) (q : ℕ) → Covers rows numbers → is_done s rows d kind q ≡ true → Has (of_deed i s rows d numbers) (record { moment = i; kind = kind; subject = q })
-deed_there i s rows Nothing numbers kind q covers h = absurd (nothing_done s rows kind q h)
-deed_there i s rows (Stored address n) numbers kind q covers h = number_there i s rows (Stored address n) numbers kind q covers h
-deed_there i s rows (Finished r row) numbers kind q covers h = number_there i s rows (Finished r row) numbers kind q covers h
+pub deed_there : (i : ℕ) (s : Setup) (m : Machine) (d : Deed) (numbers : List ℕ) (kind : Kind) (q : ℕ) → Covers m.table numbers → is_done s m d kind q ≡ true → Has (of_deed i s m d numbers) (record { moment = i; kind = kind; subject = q })
+deed_there i s m Nothing numbers kind q covers h = absurd (nothing_done s m kind q h)
+deed_there i s m (Stored address n) numbers kind q covers h = number_there i s m (Stored address n) numbers kind q covers h
+deed_there i s m (Finished r row) numbers kind q covers h = number_there i s m (Finished r row) numbers kind q covers h

@@ -1,6 +1,6 @@
 -- Chains that drain, found row by row.
-use Rattle.std.proofs.Common.{◌≡◌, inl, inr, ℕ, ◌+◌, ◌<◌, ◌≤◌, Bool, true, false, List, length, refl, sym, ap, ◌∙◌, arith}
-use Rattle.std.proofs.lemmas.Option.{none-some, same_Some, slice_get_past}
+use Rattle.std.proofs.Common.{◌≡◌, inl, inr, ℕ, ◌<◌, ◌≤◌, Bool, true, false, List, length, refl, sym, ◌∙◌, arith}
+use Rattle.std.proofs.lemmas.Option.{none-some, slice_get_past}
 use Rattle.std.proofs.lemmas.Bool.{cases_lt, and_parts, and_from, eqb-true, eq-eqb}
 use Rattle.std.specs.Prelude.{Some, slice_get, ◌==◌, ◌&&◌}
 use Rattle.entries.specs.declared.row.Row.{Row}
@@ -53,14 +53,3 @@ drains_other rows unit k y c none u there other = any_false (is_draining unit) r
         | inr past ↦ not_draining unit row (λ same. other (c.run k j y row there e past (omega (arith, same, u)) ∙ same))
       ]
     ])
-
--- one row more
-pub drains_more : (rows : List Row) (unit k : ℕ) (row : Row) → NoneDrains rows unit k → slice_get rows k ≡ Some row → is_draining unit row ≡ false → NoneDrains rows unit (k + 1)
-drains_more rows unit k row none there h = λ j x low high e.
-    elim (cases_lt j k) [
-      | inl below ↦ none j x low below e
-      | inr past ↦
-          let same : k ≡ j = omega arith in
-          let one : row ≡ x = same_Some row x (sym there ∙ ap (slice_get rows) same ∙ e) in
-          ap (is_draining unit) (sym one) ∙ h
-    ]

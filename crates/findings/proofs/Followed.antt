@@ -14,7 +14,7 @@ use Rattle.machine.specs.Steps.{after, refusal, Next}
 use Rattle.machine.specs.Runs.{start, moment as machine_at, Accepts, IsRefused}
 use Rattle.run_log.specs.declared.fault.LogFault.{LogFault}
 use Rattle.run_log.specs.declared.fault.LogFault.TheVariants.{Script, Trace, Schedule, Write, Memory}
-use Rattle.findings.proofs.Longer.{accepts_more, moment_more}
+use Rattle.machine.proofs.Longer.{accepts_more, moment_more}
 use Rattle.findings.specs.declared.finding.Finding.{Finding}
 use Rattle.findings.specs.declared.kind.Kind.{Kind}
 use Rattle.findings.specs.Conflicts.{done_at}
@@ -71,7 +71,7 @@ abbrev of_rows : ℕ → Machine → List Change → List Finding
 of_rows i behind cs = flat_map (of_change i behind.table) cs
 
 abbrev of_deeds : Setup → ℕ → Machine → Event → Machine → List ℕ → List Finding
-of_deeds s i before e behind numbers = of_deed i s behind.table (done_at s before e behind) numbers
+of_deeds s i before e behind numbers = of_deed i s behind (done_at s before e behind) numbers
 
 found_more : (s : Setup) (es : List Event) (i : ℕ) (e : Event) (fs gs : List Finding) (numbers now : List ℕ) → slice_get es i ≡ Some e → FoundBefore s es i fs → Covers (after (machine_at s es i) e).table now
     → Adds s i (machine_at s es i) e (after (machine_at s es i) e) fs gs numbers now → FoundBefore s es (i + 1) gs
@@ -101,8 +101,8 @@ found_more s es i e fs gs numbers now there h covered adds = record {
 
     deeds_told : All (IsEarly s es (i + 1)) (of_deeds s i (machine_at s es i) e (after (machine_at s es i) e) now)
     deeds_told =
-        All-weaker (IsDone i s (after (machine_at s es i) e).table (done_at s (machine_at s es i) e (after (machine_at s es i) e))) (IsEarly s es (i + 1)) (λ f p. told f p.0 (or_second _ _ p.1)) _
-        (deed_done i s (after (machine_at s es i) e).table (done_at s (machine_at s es i) e (after (machine_at s es i) e)) now)
+        All-weaker (IsDone i s (after (machine_at s es i) e) (done_at s (machine_at s es i) e (after (machine_at s es i) e))) (IsEarly s es (i + 1)) (λ f p. told f p.0 (or_second _ _ p.1)) _
+        (deed_done i s (after (machine_at s es i) e) (done_at s (machine_at s es i) e (after (machine_at s es i) e)) now)
 
     back : (f : Finding) → f.moment ≡ i → (xs : List Finding) → Has xs (record { moment = i; kind = f.kind; subject = f.subject }) → Has xs f
     back f same xs has = subst (λ (k : ℕ). Has xs (record { moment = k; kind = f.kind; subject = f.subject })) (sym same) has
@@ -121,7 +121,7 @@ found_more s es i e fs gs numbers now there h covered adds = record {
                     (back f same _ (rung_there s i (machine_at s es i) e (after (machine_at s es i) e) f.kind f.subject ring))
               ])
           | inr beside ↦ has_right ((fs ++ of_rows i (after (machine_at s es i) e) adds.past) ++ of_event s i (machine_at s es i) e (after (machine_at s es i) e)) (of_deeds s i (machine_at s es i) e (after (machine_at s es i) e) now) f
-              (back f same _ (deed_there i s (after (machine_at s es i) e).table (done_at s (machine_at s es i) e (after (machine_at s es i) e)) now f.kind f.subject covered beside))
+              (back f same _ (deed_there i s (after (machine_at s es i) e) (done_at s (machine_at s es i) e (after (machine_at s es i) e)) now f.kind f.subject covered beside))
         ]
 
     member : (f : Finding) → f.moment < i + 1 → occurs_at s es f.moment f.kind f.subject ≡ true

@@ -138,12 +138,6 @@ mapped_read f [] i d h = absurd (omega arith)
 mapped_read f (x ∷ xs) zero d h = refl
 mapped_read f (x ∷ xs) (suc i) d h = mapped_read f xs i d (omega arith)
 
-pub mapped_whole : {X : Type 0} (f : X → X) (xs : List X) (i : ℕ) → length xs ≤ i → map f (take i xs) ++ drop i xs ≡ map f xs
-mapped_whole f [] zero h = refl
-mapped_whole f [] (suc i) h = refl
-mapped_whole f (x ∷ xs) zero h = absurd (omega arith)
-mapped_whole f (x ∷ xs) (suc i) h = ap (λ ys. f x ∷ ys) (mapped_whole f xs i (omega arith))
-
 pub mapped_step : {X : Type 0} (f : X → X) (xs ys : List X) (i : ℕ) (d r : X) → i < length xs → ys ≡ map f (take i xs) ++ drop i xs → r ≡ f (get_or ys i d) → set ys i r ≡ map f (take (i + 1) xs) ++ drop (i + 1) xs
 mapped_step f xs ys i d r l h e =
     let up : suc i ≡ i + 1 = omega arith in

@@ -1,4 +1,3 @@
-pub mod Longer
 pub mod Members
 pub mod Notes
 pub mod Shown
@@ -7,6 +6,7 @@ pub mod Passing
 pub mod Beside
 pub mod Draining
 pub mod Looking
+pub mod Unfinished
 pub mod Waiting
 pub mod Barriers
 pub mod Ranks

@@ -1,5 +1,5 @@
 -- The words that wait in the submission ring, behind some that are passed over.
-use Rattle.std.proofs.Common.{◌≡◌, ℕ, ◌+◌, Bool, false, List, length, drop, ap, ◌∙◌, arith}
+use Rattle.std.proofs.Common.{◌≡◌, ℕ, ◌+◌, Bool, false, List, drop, ap, ◌∙◌, arith}
 use Rattle.std.proofs.lemmas.Grind.{common_steps}
 use Rattle.std.proofs.lemmas.Option.{gets}
 use Rattle.std.specs.Prelude.{Some, slice_get}

@@ -10,16 +10,21 @@ use Rattle.places.specs.declared.object.Contents.{Contents}
 use Rattle.places.specs.declared.object.Contents.TheVariants.{File}
 use Rattle.places.specs.declared.object.Descriptor.{Descriptor}
 use Rattle.places.specs.declared.object.Object.{Object}
+use Rattle.places.specs.declared.place.Place.TheVariants.{Position}
+use Rattle.places.specs.declared.value.Value.{Value}
+use Rattle.places.specs.declared.value.Value.TheVariants.{Number}
 use Rattle.scenario.specs.declared.event.Event.{Event}
 use Rattle.scenario.specs.declared.event.Event.TheVariants.{Finish}
 use Rattle.scenario.specs.declared.setup.Instruction.{Instruction}
 use Rattle.scenario.specs.declared.setup.Instruction.TheVariants.{Store}
 use Rattle.scenario.specs.declared.setup.Setup.{Setup}
 use Rattle.opcodes.specs.Outcomes.{is_at_position}
+use Rattle.links_drains.specs.Phases.{is_issued}
 use Rattle.links_drains.specs.Eligible.{drains, is_before_in_unit, is_before_in_drain}
 use Rattle.links_drains.specs.Units.{is_open}
 use Rattle.timeouts_cancel.specs.Falls.{is_transfer}
 use Rattle.machine.specs.Steps.{number_in}
+use Rattle.machine.specs.Whole.{view}
 use Rattle.machine.specs.declared.whole.Machine.{Machine}
 use Rattle.findings.specs.declared.deed.Deed.{Deed}
 use Rattle.findings.specs.declared.deed.Deed.TheVariants.{Nothing, Stored, Finished}
@@ -98,13 +103,29 @@ is_same_file s a b = are_one (file_of s a.fd) (file_of s b.fd)
 abbrev pub is_one_write : Sqe → Sqe → Bool
 is_one_write a b = (a.opcode == 23) || (b.opcode == 23)
 
--- whether bytes that a request moved are among those that another asks for, both at offsets of their own (pread(2), pwrite(2))
-abbrev pub is_over : ℕ → Sqe → Sqe → Bool
-is_over n done entry = not (is_at_position done) && (not (is_at_position entry) && meet done.off n entry.off entry.len)
-
 -- whether two entries go by one position: of one descriptor of a file (lseek(2))
 abbrev pub is_by_position : Setup → Sqe → Sqe → Bool
 is_by_position s a b = is_at_position a && (is_at_position b && (are_one (number_in a.fd) (number_in b.fd) && is_same_file s a b))
+
+abbrev pub number_or_zero : Option Value → ℕ
+number_or_zero (Some (Number n)) = n
+number_or_zero _ = 0
+
+-- the position of the descriptor that an entry names
+abbrev pub position_at : Machine → Sqe → ℕ
+position_at m entry = option_map_or (λ (fd : ℕ). number_or_zero (view m (Position fd))) (number_in entry.fd) 0
+
+-- where a transfer begins that has moved some bytes: at its offset, or so far before the position (pread(2), pwrite(2))
+abbrev pub begins : Machine → ℕ → Sqe → ℕ
+begins m n entry = if is_at_position entry then position_at m entry - n else entry.off
+
+-- whether it is told where a row is to begin: one without an offset begins where the position stands once it is issued
+abbrev pub is_placed : Row → Bool
+is_placed row = not (is_at_position row.entry) || is_issued row.phase
+
+-- whether bytes that a request moved are among those that a row asks for, and both don't go by one position
+abbrev pub is_over : Setup → Machine → ℕ → Sqe → Row → Bool
+is_over s m n done row = (is_placed row && not (is_by_position s done row.entry)) && meet (begins m n done) n (begins m 0 row.entry) row.entry.len
 
 -- ---- order
 
@@ -125,17 +146,21 @@ is_behind rows q row r other = is_before_in_unit q row r other || (is_before_in_
 abbrev pub is_candidate : Row → Bool
 is_candidate row = is_transfer row.entry.opcode && is_open row
 
+-- an FSYNC that ended well, and an earlier WRITE of some bytes of its file (fsync(2))
+abbrev pub is_synced_early : Setup → ℕ → Row → ℕ → Row → Bool
+is_synced_early s r done q row = (done.entry.opcode == 3) && (is_good done.phase && (nat_lt q r && ((row.entry.opcode == 23) && (nat_lt 0 row.entry.len && is_same_file s done.entry row.entry))))
+
 -- Whether the end of row r, as it is then, is a finding about another READ or WRITE that hasn't ended:
 --   BufferInUse: a READ moved bytes into its buffer;
---   Unordered: bytes of a file were moved that it asks for, and one of both is a WRITE;
+--   Unordered: bytes of a file were moved that it asks for, as far as it is told where it begins, and one of both is a WRITE;
 --   SharedPosition: bytes were moved at the position at which it begins, and it asks for some;
 --   FsyncEarly: an FSYNC of its file ended well, and it is an earlier WRITE of some bytes.
-abbrev pub is_beside : Kind → Setup → ℕ → Row → ℕ → Row → Bool
-is_beside BufferInUse s r done q row = (done.entry.opcode == 22) && is_in_buffer done.entry.addr (moved done.phase) row
-is_beside Unordered s r done q row = is_one_write done.entry row.entry && (is_over (moved done.phase) done.entry row.entry && is_same_file s done.entry row.entry)
-is_beside SharedPosition s r done q row = (nat_lt 0 (moved done.phase) && nat_lt 0 row.entry.len) && is_by_position s done.entry row.entry
-is_beside FsyncEarly s r done q row = (done.entry.opcode == 3) && (is_good done.phase && (nat_lt q r && ((row.entry.opcode == 23) && (nat_lt 0 row.entry.len && is_same_file s done.entry row.entry))))
-is_beside kind s r done q row = false
+abbrev pub is_beside : Kind → Setup → Machine → ℕ → Row → ℕ → Row → Bool
+is_beside BufferInUse s m r done q row = (done.entry.opcode == 22) && is_in_buffer done.entry.addr (moved done.phase) row
+is_beside Unordered s m r done q row = is_one_write done.entry row.entry && (is_over s m (moved done.phase) done.entry row && is_same_file s done.entry row.entry)
+is_beside SharedPosition s m r done q row = (nat_lt 0 (moved done.phase) && nat_lt 0 row.entry.len) && is_by_position s done.entry row.entry
+is_beside FsyncEarly s m r done q row = is_synced_early s r done q row
+is_beside kind s m r done q row = false
 
 -- Whether bytes that a Store writes are a finding about a READ or a WRITE that hasn't ended:
 --   BufferInUse: they are in its buffer.
@@ -144,14 +169,14 @@ is_stored_over BufferInUse address n row = is_in_buffer address n row
 is_stored_over kind address n row = false
 
 -- whether what an event does is a finding about such a row, which is in no order with it
-abbrev pub is_conflict : Kind → Setup → List Row → Deed → ℕ → Row → Bool
-is_conflict kind s rows Nothing q row = false
-is_conflict kind s rows (Stored address n) q row = is_stored_over kind address n row
-is_conflict kind s rows (Finished r done) q row = is_beside kind s r done q row && not (is_behind rows q row r done)
+abbrev pub is_conflict : Kind → Setup → Machine → Deed → ℕ → Row → Bool
+is_conflict kind s m Nothing q row = false
+is_conflict kind s m (Stored address n) q row = is_stored_over kind address n row
+is_conflict kind s m (Finished r done) q row = is_beside kind s m r done q row && not (is_behind m.table q row r done)
 
-abbrev pub conflicts : Kind → Setup → List Row → Deed → ℕ → Row → Bool
-conflicts kind s rows deed q row = is_candidate row && is_conflict kind s rows deed q row
+abbrev pub conflicts : Kind → Setup → Machine → Deed → ℕ → Row → Bool
+conflicts kind s m deed q row = is_candidate row && is_conflict kind s m deed q row
 
 -- whether an event that leads from one machine to another is a finding about the row of a number
 abbrev pub clashes : Setup → Kind → Machine → Event → Machine → ℕ → Bool
-clashes s kind before e behind q = option_map_or (conflicts kind s behind.table (done_at s before e behind) q) (slice_get behind.table q) false
+clashes s kind before e behind q = option_map_or (conflicts kind s behind (done_at s before e behind) q) (slice_get behind.table q) false

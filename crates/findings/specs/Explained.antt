@@ -45,6 +45,41 @@ is_fault SameUserData = false
 is_fault NotDurable = false
 is_fault RefusedFlags = true
 
+-- whether the number of a finding of a kind is that of a thread
+abbrev pub is_of_thread : Kind → Bool
+is_of_thread Busy = true
+is_of_thread Waits = true
+is_of_thread TakenShort = true
+is_of_thread NoSuchSlot = true
+is_of_thread SlotInUse = true
+is_of_thread ClosedEarly = true
+is_of_thread ClosedWhileHeld = true
+is_of_thread RefusedFlags = true
+is_of_thread kind = false
+
+-- whether it is that of a row
+abbrev pub is_of_row : Kind → Bool
+is_of_row Failed = true
+is_of_row Short = true
+is_of_row Severed = true
+is_of_row Canceled = true
+is_of_row TimedOut = true
+is_of_row Expired = true
+is_of_row NotFound = true
+is_of_row TooLate = true
+is_of_row Unfinished = true
+is_of_row BufferInUse = true
+is_of_row Unordered = true
+is_of_row SharedPosition = true
+is_of_row FsyncEarly = true
+is_of_row CutOff = true
+is_of_row WentOn = true
+is_of_row NoEffect = true
+is_of_row Several = true
+is_of_row LeftRunning = true
+is_of_row SameUserData = true
+is_of_row kind = false
+
 -- whether a kind is asked for: one alone, or each
 abbrev pub is_asked : Option Kind → Kind → Bool
 is_asked None kind = true

@@ -110,16 +110,16 @@ of_event s i before e behind = of_overflow i (overflows before) (overflows behin
 abbrev pub conflict_kinds : List Kind
 conflict_kinds = BufferInUse ∷ Unordered ∷ SharedPosition ∷ FsyncEarly ∷ []
 
-abbrev pub of_candidate : ℕ → Setup → List Row → Deed → ℕ → Row → List Kind → List Finding
-of_candidate i s rows deed q row kinds = flat_map (λ (kind : Kind). given (conflicts kind s rows deed q row) (record { moment = i; kind = kind; subject = q })) kinds
+abbrev pub of_candidate : ℕ → Setup → Machine → Deed → ℕ → Row → List Kind → List Finding
+of_candidate i s m deed q row kinds = flat_map (λ (kind : Kind). given (conflicts kind s m deed q row) (record { moment = i; kind = kind; subject = q })) kinds
 
-abbrev pub of_number : ℕ → Setup → List Row → Deed → ℕ → List Finding
-of_number i s rows deed q = option_map_or (λ (row : Row). of_candidate i s rows deed q row conflict_kinds) (slice_get rows q) []
+abbrev pub of_number : ℕ → Setup → Machine → Deed → ℕ → List Finding
+of_number i s m deed q = option_map_or (λ (row : Row). of_candidate i s m deed q row conflict_kinds) (slice_get m.table q) []
 
 -- what an event does, beside the rows of some numbers
-abbrev pub of_deed : ℕ → Setup → List Row → Deed → List ℕ → List Finding
-of_deed i s rows Nothing numbers = []
-of_deed i s rows deed numbers = flat_map (of_number i s rows deed) numbers
+abbrev pub of_deed : ℕ → Setup → Machine → Deed → List ℕ → List Finding
+of_deed i s m Nothing numbers = []
+of_deed i s m deed numbers = flat_map (of_number i s m deed) numbers
 
 -- ---- which rows these are
 
@@ -153,7 +153,7 @@ pub record Adds (s : Setup) (i : ℕ) (before : Machine) (e : Event) (behind : M
   pub past : List Change
   pub exact : Exact (view before) (view behind) past
   pub once : NamesOnce past
-  pub added : gs ≡ ((fs ++ flat_map (of_change i behind.table) past) ++ of_event s i before e behind) ++ of_deed i s behind.table (done_at s before e behind) now
+  pub added : gs ≡ ((fs ++ flat_map (of_change i behind.table) past) ++ of_event s i before e behind) ++ of_deed i s behind (done_at s before e behind) now
   pub further : now ≡ after_notes (view behind) numbers past
 
 -- The findings of the first n events.

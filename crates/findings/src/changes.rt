@@ -11,7 +11,7 @@ use crate::following::{follow, is_candidate_in};
 use crate::leftover::row_at;
 use crate::record::{add_of_any_kind, row_in};
 use crate::times::{Times, note_row};
-use machine::State;
+use crate::transition::Transition;
 use places::{Change, Changes, Place, Record, Stretches, Value};
 use std::alloc::AllocError;
 
@@ -20,59 +20,56 @@ fn look_at_row(
     found: &mut Vec<Finding>,
     numbers: &mut Vec<u32>,
     times: &mut Vec<Times>,
-    moment: u32,
+    at: Transition<'_>,
     number: u32,
     old: Option<Value>,
-    state: &State,
 ) -> Result<(), AllocError>
     ensures added { OnOk result (found.new.items ≡ found.old.items
-        ++ of_place moment state.now.table old (Place.Request number)) }
+        ++ of_place at.entry.moment at.entry.state.now.table old (Place.Request number)) }
     ensures further { OnOk result (numbers.new.items
-        ≡ after_note (view state.now) numbers.old.items old (Place.Request number)) }
+        ≡ after_note (view at.entry.state.now) numbers.old.items old (Place.Request number)) }
 {
     let was = is_candidate_in(old);
-    let Some(row) = row_at(state, number) else {
+    let Some(row) = row_at(at.state, number) else {
         return follow(numbers, number, was, false);
     };
     follow(numbers, number, was, is_candidate(&row))?;
-    note_row(times, moment, number, row.phase)?;
-    add_of_any_kind(found, moment, &row_in(old), state, number, &row)
+    note_row(times, at.moment, number, row.phase)?;
+    add_of_any_kind(found, at, &row_in(old), number, &row)
 }
 
 fn look_at_change(
     found: &mut Vec<Finding>,
     numbers: &mut Vec<u32>,
     times: &mut Vec<Times>,
-    moment: u32,
+    at: Transition<'_>,
     change: Change,
-    state: &State,
 ) -> Result<(), AllocError>
     ensures added { OnOk result (found.new.items
-        ≡ found.old.items ++ of_change moment state.now.table change) }
+        ≡ found.old.items ++ of_change at.entry.moment at.entry.state.now.table change) }
     ensures further { OnOk result (numbers.new.items
-        ≡ after_note (view state.now) numbers.old.items change.old change.place) }
+        ≡ after_note (view at.entry.state.now) numbers.old.items change.old change.place) }
 {
     let Place::Request(number) = change.place else {
         return Ok(());
     };
-    look_at_row(found, numbers, times, moment, number, change.old, state)
+    look_at_row(found, numbers, times, at, number, change.old)
 }
 
 fn look_at_changes(
     found: &mut Vec<Finding>,
     numbers: &mut Vec<u32>,
     times: &mut Vec<Times>,
-    moment: u32,
+    at: Transition<'_>,
     rest: &mut Changes<'_>,
-    state: &State,
 ) -> Result<(), AllocError>
-    ensures added { OnOk result (found.new.items
-        ≡ found.old.items ++ flat_map (of_change moment state.now.table) rest.old) }
+    ensures added { OnOk result (found.new.items ≡ found.old.items
+        ++ flat_map (of_change at.entry.moment at.entry.state.now.table) rest.old) }
     ensures further { OnOk result (numbers.new.items
-        ≡ after_notes (view state.now) numbers.old.items rest.old) }
+        ≡ after_notes (view at.entry.state.now) numbers.old.items rest.old) }
 {
     while let Some(change) = rest.next() {
-        look_at_change(found, numbers, times, moment, change, state)?;
+        look_at_change(found, numbers, times, at, change)?;
     }
     Ok(())
 }
@@ -84,24 +81,23 @@ fn pass_over(rest: &mut Stretches<'_>)
     while let Some(_run) = rest.next() {}
 }
 
-/// Adds what an event shows of rows, by its record and the state behind it, notes when they came
-/// and ended, and follows them.
+/// Adds what an event shows of rows, by its record, notes when they came and ended, and follows
+/// them.
 pub(crate) fn look_at_record(
     found: &mut Vec<Finding>,
     numbers: &mut Vec<u32>,
     times: &mut Vec<Times>,
-    moment: u32,
+    at: Transition<'_>,
     past: &Record,
-    state: &State,
 ) -> Result<(), AllocError>
     ensures added { OnOk result (found.new.items ≡ found.old.items
-        ++ flat_map (of_change moment state.now.table) past.now) }
+        ++ flat_map (of_change at.entry.moment at.entry.state.now.table) past.now) }
     ensures once { OnOk result (NamesOnce past.now) }
     ensures further { OnOk result (numbers.new.items
-        ≡ after_notes (view state.now) numbers.old.items past.now) }
+        ≡ after_notes (view at.entry.state.now) numbers.old.items past.now) }
 {
     let (mut first, mut bytes, mut last) = past.parts();
     pass_over(&mut bytes);
-    look_at_changes(found, numbers, times, moment, &mut first, state)?;
-    look_at_changes(found, numbers, times, moment, &mut last, state)
+    look_at_changes(found, numbers, times, at, &mut first)?;
+    look_at_changes(found, numbers, times, at, &mut last)
 }

@@ -1,6 +1,6 @@
 //! What rings and threads show.
-ghost use Rattle.std.specs.Prelude.{◌≡◌};
-ghost use Rattle.std.specs.Option.{option_copied};
+ghost use Rattle.std.specs.Prelude.{◌≡◌, false};
+ghost use Rattle.std.specs.Option.{option_copied, option_map_or};
 ghost use Rattle.links_drains.specs.Links.{has_flag};
 ghost use Rattle.findings.specs.Conditions.{needs_wake_up, overflows, has_entries, has_completions, counter_of, instruction_at, done_by, answer_of, is_of_enter, is_of_push, has_closed, is_of_close, is_of_step, waits, stands};
 ghost use Rattle.findings.specs.Canceling.{cancel_before};
@@ -152,17 +152,34 @@ fn is_less(answer: i64, number: u32) -> bool
     answer >= 0 && (answer as u64) < number as u64
 }
 
+// Whether a thread was answered with an error.
+fn is_refused(errno: u64, state: &State, thread: u32) -> bool
+    ensures { result ≡ option_map_or (is_error errno) (answer_of state.now thread) false }
+{
+    match answer(state, thread) {
+        Some(answer) => is_error(errno, answer),
+        None => false,
+    }
+}
+
+// Whether it was answered with less than a number.
+fn is_answered_less(number: u32, state: &State, thread: u32) -> bool
+    ensures { result ≡ option_map_or (λ n. is_less n number) (answer_of state.now thread) false }
+{
+    match answer(state, thread) {
+        Some(answer) => is_less(answer, number),
+        None => false,
+    }
+}
+
 // Whether an Enter that is to submit a number of entries is a finding about its thread.
 fn is_of_enter(kind: Kind, to_submit: u32, state: &State, thread: u32) -> bool
     ensures { result ≡ is_of_enter kind to_submit state.now thread }
 {
-    let Some(answer) = answer(state, thread) else {
-        return false;
-    };
     match kind {
-        Kind::Busy => is_error(EBUSY as u64, answer),
-        Kind::TakenShort => is_less(answer, to_submit),
-        Kind::RefusedFlags => is_error(EINVAL as u64, answer),
+        Kind::Busy => is_refused(EBUSY as u64, state, thread),
+        Kind::TakenShort => is_answered_less(to_submit, state, thread),
+        Kind::RefusedFlags => is_refused(EINVAL as u64, state, thread),
         _ => false,
     }
 }

@@ -3,16 +3,18 @@ ghost use Rattle.std.specs.Prelude.{◌≡◌, ◌==◌};
 ghost use Rattle.opcodes.specs.Outcomes.{is_at_position};
 ghost use Rattle.links_drains.specs.Links.{asks_to_drain};
 ghost use Rattle.links_drains.specs.Eligible.{drains, is_before_in_unit, is_before_in_drain};
-ghost use Rattle.findings.specs.Conflicts.{meet, moved, is_good, is_in_buffer, is_same_file, is_over, is_by_position, is_between, is_behind_barrier, is_behind, is_candidate, is_beside, is_stored_over, is_conflict, conflicts};
+ghost use Rattle.findings.specs.Conflicts.{meet, moved, is_good, is_in_buffer, is_same_file, number_or_zero, position_at, begins, is_placed, is_over, is_by_position, is_between, is_behind_barrier, is_behind, is_candidate, is_synced_early, is_beside, is_stored_over, is_conflict, conflicts};
 
 use crate::deed::{Deed, is_transfer};
-use crate::files::{is_same_descriptor, is_same_file};
+use crate::files::{is_same_descriptor, is_same_file, number_in};
 use crate::kind::Kind;
 use crate::leftover::{MOST_ROWS, row_at};
+use crate::transition::Transition;
 use entries::{Phase, Row, Sqe};
-use links_drains::{is_guard, is_unfinished};
+use links_drains::{is_guard, is_issued, is_unfinished};
 use machine::{Setup, State};
 use opcodes::Op;
+use places::{Place, Value};
 
 /// IOSQE_IO_DRAIN.
 const IO_DRAIN: u8 = 2;
@@ -66,14 +68,6 @@ fn is_at_position(entry: &Sqe) -> bool
     entry.off == AT_POSITION
 }
 
-// Whether bytes that a request moved are among those that another asks for.
-fn is_over(count: u64, done: &Sqe, entry: &Sqe) -> bool
-    ensures { result ≡ is_over count done.now entry.now }
-{
-    !is_at_position(done)
-        && (!is_at_position(entry) && meet(done.off, count, entry.off, entry.len as u64))
-}
-
 // Whether two entries go by one position.
 fn is_by_position(setup: &Setup, first: &Sqe, second: &Sqe) -> bool
     ensures { result ≡ is_by_position setup.now first.now second.now }
@@ -81,6 +75,55 @@ fn is_by_position(setup: &Setup, first: &Sqe, second: &Sqe) -> bool
     is_at_position(first)
         && (is_at_position(second)
             && (is_same_descriptor(first, second) && is_same_file(setup, first, second)))
+}
+
+fn number_or_zero(value: Option<Value>) -> u64
+    ensures { result ≡ number_or_zero value }
+{
+    match value {
+        Some(Value::Number(number)) => number,
+        _ => 0,
+    }
+}
+
+// The position of the descriptor that an entry names.
+fn position_at(state: &State, entry: &Sqe) -> u64
+    ensures { result ≡ position_at state.now entry.now }
+{
+    match number_in(entry.fd) {
+        Some(fd) => number_or_zero(state.value(Place::Position(fd))),
+        None => 0,
+    }
+}
+
+// Where a transfer begins that has moved some bytes.
+fn begins(state: &State, count: u64, entry: &Sqe) -> u64
+    ensures { result ≡ begins state.now count entry.now }
+{
+    if is_at_position(entry) {
+        position_at(state, entry).saturating_sub(count)
+    } else {
+        entry.off
+    }
+}
+
+// Whether it is told where a row is to begin.
+fn is_placed(row: &Row) -> bool
+    ensures { result ≡ is_placed row.now }
+{
+    !is_at_position(&row.entry) || is_issued(row)
+}
+
+// Whether bytes that a request moved are among those that a row asks for.
+fn is_over(setup: &Setup, state: &State, count: u64, done: &Sqe, row: &Row) -> bool
+    ensures { result ≡ is_over setup.now state.now count done.now row.now }
+{
+    if !is_placed(row) || is_by_position(setup, done, &row.entry) {
+        return false;
+    }
+    let first = begins(state, count, done);
+    let other = begins(state, 0, &row.entry);
+    meet(first, count, other, row.entry.len as u64)
 }
 
 // ---- order
@@ -167,7 +210,7 @@ pub(crate) fn is_candidate(row: &Row) -> bool
 
 // An FSYNC that ended well, and an earlier WRITE of some bytes of its file.
 fn is_synced_early(setup: &Setup, number: u32, done: &Row, other: u32, row: &Row) -> bool
-    ensures { result ≡ is_beside Kind.FsyncEarly setup.now number done.now other row.now }
+    ensures { result ≡ is_synced_early setup.now number done.now other row.now }
 {
     done.entry.opcode == Op::Fsync as u8
         && (is_good(done.phase)
@@ -177,8 +220,9 @@ fn is_synced_early(setup: &Setup, number: u32, done: &Row, other: u32, row: &Row
 }
 
 // Whether the end of a row is a finding about another.
-fn is_beside(kind: Kind, setup: &Setup, number: u32, done: &Row, other: u32, row: &Row) -> bool
-    ensures { result ≡ is_beside kind setup.now number done.now other row.now }
+fn is_beside(kind: Kind, at: Transition<'_>, number: u32, done: &Row, other: u32, row: &Row) -> bool
+    ensures { result ≡ is_beside kind at.entry.setup.now at.entry.state.now number done.now other
+        row.now }
 {
     let count = moved(done.phase);
     match kind {
@@ -187,13 +231,13 @@ fn is_beside(kind: Kind, setup: &Setup, number: u32, done: &Row, other: u32, row
         }
         Kind::Unordered => {
             (is_write(&done.entry) || is_write(&row.entry))
-                && (is_over(count, &done.entry, &row.entry)
-                    && is_same_file(setup, &done.entry, &row.entry))
+                && (is_over(at.setup, at.state, count, &done.entry, row)
+                    && is_same_file(at.setup, &done.entry, &row.entry))
         }
         Kind::SharedPosition => {
-            (0 < count && 0 < row.entry.len) && is_by_position(setup, &done.entry, &row.entry)
+            (0 < count && 0 < row.entry.len) && is_by_position(at.setup, &done.entry, &row.entry)
         }
-        Kind::FsyncEarly => is_synced_early(setup, number, done, other, row),
+        Kind::FsyncEarly => is_synced_early(at.setup, number, done, other, row),
         _ => false,
     }
 }
@@ -208,36 +252,24 @@ fn is_stored_over(kind: Kind, address: u64, count: u64, row: &Row) -> bool
     }
 }
 
-fn is_conflict(
-    kind: Kind,
-    setup: &Setup,
-    state: &State,
-    deed: &Deed,
-    number: u32,
-    row: &Row,
-) -> bool
-    ensures { result ≡ is_conflict kind setup.now state.now.table deed.now number row.now }
+fn is_conflict(kind: Kind, at: Transition<'_>, deed: &Deed, number: u32, row: &Row) -> bool
+    ensures { result ≡ is_conflict kind at.entry.setup.now at.entry.state.now deed.now number
+        row.now }
 {
     match deed {
         Deed::Nothing => false,
         Deed::Stored(address, count) => is_stored_over(kind, *address, *count, row),
         Deed::Finished(by, done) => {
-            is_beside(kind, setup, *by, done, number, row)
-                && !is_behind(state, number, row, *by, done)
+            is_beside(kind, at, *by, done, number, row)
+                && !is_behind(at.state, number, row, *by, done)
         }
     }
 }
 
 /// Whether what an event does is a finding of a kind about a READ or a WRITE that hasn't ended.
-pub(crate) fn conflicts(
-    kind: Kind,
-    setup: &Setup,
-    state: &State,
-    deed: &Deed,
-    number: u32,
-    row: &Row,
-) -> bool
-    ensures { result ≡ conflicts kind setup.now state.now.table deed.now number row.now }
+pub(crate) fn conflicts(kind: Kind, at: Transition<'_>, deed: &Deed, number: u32, row: &Row) -> bool
+    ensures { result ≡ conflicts kind at.entry.setup.now at.entry.state.now deed.now number
+        row.now }
 {
-    is_candidate(row) && is_conflict(kind, setup, state, deed, number, row)
+    is_candidate(row) && is_conflict(kind, at, deed, number, row)
 }

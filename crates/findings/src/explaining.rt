@@ -168,33 +168,15 @@ fn explain_events<W: Write>(
     };
     let mut history = History::new(alloc);
     let found = search(alloc, &mut state, setup, events, &mut history)?;
-    tell_found(
-        alloc, setup, &state, events, &history, &found, asked, writer,
-    )?;
-    Ok(has_fault(asked.kind, &found))
-}
-
-fn tell_found<W: Write>(
-    alloc: Global,
-    setup: &Setup,
-    state: &State,
-    events: &[Event],
-    history: &History,
-    found: &[Finding],
-    asked: Asked,
-    writer: &mut W,
-) -> Result<(), LogFault> {
     let run = Run {
         setup,
-        state,
+        state: &state,
         events,
-        times: &history.rows,
-        counters: &history.counters,
-        slots: &history.slots,
-        emptied: &history.emptied,
-        found,
+        history: &history,
+        found: &found,
     };
-    tell(alloc, &run, asked, writer)
+    tell(alloc, &run, asked, writer)?;
+    Ok(has_fault(asked.kind, &found))
 }
 
 // The same of a script's schedule.

@@ -8,7 +8,7 @@ use machine::Setup;
 use places::{Contents, Descriptor};
 
 /// The number of the first descriptor.
-const FIRST: u32 = 3;
+pub(crate) const FIRST: u32 = 3;
 
 /// The number that an entry has as its descriptor, if it is one.
 pub(crate) fn number_in(fd: i32) -> Option<u32>

@@ -1,6 +1,6 @@
 //! Kinds of findings.
 ghost use Rattle.std.specs.Prelude.{◌≡◌, ◌<◌};
-ghost use Rattle.findings.specs.Explained.{is_fault};
+ghost use Rattle.findings.specs.Explained.{is_fault, is_of_thread, is_of_row};
 ghost use Rattle.findings.specs.Findings.{number_of};
 
 /// What a finding is of. Those of one moment are told in this order.
@@ -199,7 +199,9 @@ impl Kind {
     }
 
     /// Whether it is about a thread.
-    pub(crate) fn is_of_thread(self) -> bool {
+    pub(crate) fn is_of_thread(self) -> bool
+        ensures { result ≡ is_of_thread self }
+    {
         matches!(
             self,
             Kind::Busy
@@ -214,16 +216,31 @@ impl Kind {
     }
 
     /// Whether it is about a row.
-    pub(crate) fn is_of_row(self) -> bool {
-        !self.is_of_thread()
-            && !matches!(
-                self,
-                Kind::Overflow
-                    | Kind::LostWakeUp
-                    | Kind::NotTaken
-                    | Kind::NotReaped
-                    | Kind::NotDurable
-            )
+    pub(crate) fn is_of_row(self) -> bool
+        ensures { result ≡ is_of_row self }
+    {
+        matches!(
+            self,
+            Kind::Failed
+                | Kind::Short
+                | Kind::Severed
+                | Kind::Canceled
+                | Kind::TimedOut
+                | Kind::Expired
+                | Kind::NotFound
+                | Kind::TooLate
+                | Kind::Unfinished
+                | Kind::BufferInUse
+                | Kind::Unordered
+                | Kind::SharedPosition
+                | Kind::FsyncEarly
+                | Kind::CutOff
+                | Kind::WentOn
+                | Kind::NoEffect
+                | Kind::Several
+                | Kind::LeftRunning
+                | Kind::SameUserData
+        )
     }
 
     pub(crate) fn number(self) -> u32

@@ -23,6 +23,7 @@ mod searching;
 mod sentences;
 mod telling;
 mod times;
+mod transition;
 mod twins;
 mod unsynced;
 mod uses;

@@ -7,15 +7,16 @@ ghost use Rattle.findings.specs.Conditions.{overflows, instruction_at};
 ghost use Rattle.findings.specs.Records.{given, row_kinds, of_row, row_in, of_overflow, of_instruction, of_step, of_kinds, of_cancel, of_candidate, of_number, of_deed};
 
 use crate::canceling::{Cancel, is_of_cancel};
-use crate::conditions::{Before, instruction_at, is_of_step, overflows};
+use crate::conditions::{instruction_at, is_of_step, overflows};
 use crate::conflicts::conflicts;
 use crate::deed::Deed;
 use crate::ends::row_test;
 use crate::finding::Finding;
 use crate::kind::Kind;
 use crate::leftover::row_at;
+use crate::transition::Transition;
 use entries::Row;
-use machine::{Event, Instruction, Setup, State};
+use machine::{Event, Instruction, State};
 use places::Value;
 use std::alloc::AllocError;
 
@@ -74,23 +75,23 @@ pub(crate) fn add_if(
 // Adds what a row shows of some kinds.
 fn add_of_row(
     found: &mut Vec<Finding>,
-    moment: u32,
+    at: Transition<'_>,
     before: &Option<Row>,
-    state: &State,
     number: u32,
     row: &Row,
     kinds: &[Kind],
 ) -> Result<(), AllocError>
-    ensures { OnOk result (found.new.items ≡ found.old.items
-        ++ of_row moment before.now state.now.table number row.now kinds.now) }
+    ensures { OnOk result (found.new.items ≡ found.old.items ++ of_row at.entry.moment before.now
+        at.entry.state.now.table number row.now kinds.now) }
 {
     for kind in kinds {
         let finding = Finding {
-            moment,
+            moment: at.moment,
             kind: *kind,
             subject: number,
         };
-        add_if(found, row_test(*kind, before, state, number, row), finding)?;
+        let test = row_test(*kind, before, at.state, number, row);
+        add_if(found, test, finding)?;
     }
     Ok(())
 }
@@ -98,16 +99,15 @@ fn add_of_row(
 /// Adds what a row shows.
 pub(crate) fn add_of_any_kind(
     found: &mut Vec<Finding>,
-    moment: u32,
+    at: Transition<'_>,
     before: &Option<Row>,
-    state: &State,
     number: u32,
     row: &Row,
 ) -> Result<(), AllocError>
-    ensures { OnOk result (found.new.items ≡ found.old.items
-        ++ of_row moment before.now state.now.table number row.now row_kinds) }
+    ensures { OnOk result (found.new.items ≡ found.old.items ++ of_row at.entry.moment before.now
+        at.entry.state.now.table number row.now row_kinds) }
 {
-    add_of_row(found, moment, before, state, number, row, &ROW_KINDS)
+    add_of_row(found, at, before, number, row, &ROW_KINDS)
 }
 
 /// The row that a value is, if it is one.
@@ -140,27 +140,22 @@ fn add_overflow(
 // Adds what an instruction that a thread did shows.
 fn add_of_instruction(
     found: &mut Vec<Finding>,
-    moment: u32,
-    changes: bool,
+    at: Transition<'_>,
     instruction: &Instruction,
-    state: &State,
     thread: u32,
     kinds: &[Kind],
 ) -> Result<(), AllocError>
-    ensures { OnOk result (found.new.items ≡ found.old.items
-        ++ of_instruction moment changes instruction.now state.now thread kinds.now) }
+    ensures { OnOk result (found.new.items ≡ found.old.items ++ of_instruction at.entry.moment
+        at.entry.before.changes instruction.now at.entry.state.now thread kinds.now) }
 {
     for kind in kinds {
         let finding = Finding {
-            moment,
+            moment: at.moment,
             kind: *kind,
             subject: thread,
         };
-        add_if(
-            found,
-            is_of_step(*kind, changes, instruction, state, thread),
-            finding,
-        )?;
+        let test = is_of_step(*kind, at.before.changes, instruction, at.state, thread);
+        add_if(found, test, finding)?;
     }
     Ok(())
 }
@@ -168,26 +163,16 @@ fn add_of_instruction(
 // Adds what a step of a thread shows.
 fn add_of_step(
     found: &mut Vec<Finding>,
-    moment: u32,
-    changes: bool,
+    at: Transition<'_>,
     instruction: Option<&Instruction>,
-    event: Event,
-    state: &State,
 ) -> Result<(), AllocError>
-    ensures { OnOk result (found.new.items ≡ found.old.items
-        ++ of_step moment changes (option_copied instruction.entry) event state.now) }
+    ensures { OnOk result (found.new.items ≡ found.old.items ++ of_step at.entry.moment
+        at.entry.before.changes (option_copied instruction.entry) at.entry.event
+        at.entry.state.now) }
 {
-    match (instruction, event) {
+    match (instruction, at.event) {
         (Some(instruction), Event::Step(thread)) => {
-            add_of_instruction(
-                found,
-                moment,
-                changes,
-                instruction,
-                state,
-                thread,
-                &STEP_KINDS,
-            )
+            add_of_instruction(found, at, instruction, thread, &STEP_KINDS)
         }
         _ => Ok(()),
     }
@@ -230,48 +215,40 @@ fn add_of_cancel(
     }
 }
 
-/// Adds what an event shows of rings and threads, and of a cancel or a removal, by the state behind
-/// it.
-pub(crate) fn add_of_event(
-    found: &mut Vec<Finding>,
-    setup: &Setup,
-    moment: u32,
-    before: Before,
-    event: Event,
-    state: &State,
-) -> Result<(), AllocError>
+/// Adds what an event shows of rings and threads, and of a cancel or a removal.
+pub(crate) fn add_of_event(found: &mut Vec<Finding>, at: Transition<'_>) -> Result<(), AllocError>
     ensures { OnOk result (found.new.items ≡ found.old.items ++
-        (of_overflow moment before.overflows (overflows state.now)
-        ++ (of_step moment before.changes (instruction_at setup.now event before.counter) event
-        state.now ++ of_cancel moment before.cancel state.now.table))) }
+        (of_overflow at.entry.moment at.entry.before.overflows (overflows at.entry.state.now)
+        ++ (of_step at.entry.moment at.entry.before.changes
+        (instruction_at at.entry.setup.now at.entry.event at.entry.before.counter)
+        at.entry.event at.entry.state.now
+        ++ of_cancel at.entry.moment at.entry.before.cancel at.entry.state.now.table))) }
 {
-    add_overflow(found, moment, before.overflows, overflows(state))?;
-    let instruction = instruction_at(setup, event, before.counter);
-    add_of_step(found, moment, before.changes, instruction, event, state)?;
-    add_of_cancel(found, moment, before.cancel, state)
+    add_overflow(found, at.moment, at.before.overflows, overflows(at.state))?;
+    let instruction = instruction_at(at.setup, at.event, at.before.counter);
+    add_of_step(found, at, instruction)?;
+    add_of_cancel(found, at.moment, at.before.cancel, at.state)
 }
 
 // Adds what a deed shows beside a READ or a WRITE.
 fn add_of_candidate(
     found: &mut Vec<Finding>,
-    moment: u32,
-    setup: &Setup,
-    state: &State,
+    at: Transition<'_>,
     deed: &Deed,
     number: u32,
     row: &Row,
     kinds: &[Kind],
 ) -> Result<(), AllocError>
-    ensures { OnOk result (found.new.items ≡ found.old.items
-        ++ of_candidate moment setup.now state.now.table deed.now number row.now kinds.now) }
+    ensures { OnOk result (found.new.items ≡ found.old.items ++ of_candidate at.entry.moment
+        at.entry.setup.now at.entry.state.now deed.now number row.now kinds.now) }
 {
     for kind in kinds {
         let finding = Finding {
-            moment,
+            moment: at.moment,
             kind: *kind,
             subject: number,
         };
-        let test = conflicts(*kind, setup, state, deed, number, row);
+        let test = conflicts(*kind, at, deed, number, row);
         add_if(found, test, finding)?;
     }
     Ok(())
@@ -279,61 +256,47 @@ fn add_of_candidate(
 
 fn add_of_number(
     found: &mut Vec<Finding>,
-    moment: u32,
-    setup: &Setup,
-    state: &State,
+    at: Transition<'_>,
     deed: &Deed,
     number: u32,
 ) -> Result<(), AllocError>
-    ensures { OnOk result (found.new.items ≡
-        found.old.items ++ of_number moment setup.now state.now.table deed.now number) }
+    ensures { OnOk result (found.new.items ≡ found.old.items ++ of_number at.entry.moment
+        at.entry.setup.now at.entry.state.now deed.now number) }
 {
-    match row_at(state, number) {
-        Some(row) => add_of_candidate(
-            found,
-            moment,
-            setup,
-            state,
-            deed,
-            number,
-            &row,
-            &CONFLICT_KINDS,
-        ),
+    match row_at(at.state, number) {
+        Some(row) => add_of_candidate(found, at, deed, number, &row, &CONFLICT_KINDS),
         None => Ok(()),
     }
 }
 
 fn add_of_numbers(
     found: &mut Vec<Finding>,
-    moment: u32,
-    setup: &Setup,
-    state: &State,
+    at: Transition<'_>,
     deed: &Deed,
     numbers: &[u32],
 ) -> Result<(), AllocError>
     ensures { OnOk result (found.new.items ≡ found.old.items
-        ++ flat_map (of_number moment setup.now state.now.table deed.now) numbers.now) }
+        ++ flat_map (of_number at.entry.moment at.entry.setup.now at.entry.state.now deed.now)
+        numbers.now) }
 {
     for number in numbers {
-        add_of_number(found, moment, setup, state, deed, *number)?;
+        add_of_number(found, at, deed, *number)?;
     }
     Ok(())
 }
 
-/// Adds what an event does beside the READs and WRITEs that haven't ended, by the state behind it.
+/// Adds what an event does beside the READs and WRITEs that haven't ended.
 pub(crate) fn add_of_deed(
     found: &mut Vec<Finding>,
-    moment: u32,
-    setup: &Setup,
-    state: &State,
+    at: Transition<'_>,
     deed: &Deed,
     numbers: &[u32],
 ) -> Result<(), AllocError>
-    ensures { OnOk result (found.new.items ≡
-        found.old.items ++ of_deed moment setup.now state.now.table deed.now numbers.now) }
+    ensures { OnOk result (found.new.items ≡ found.old.items ++ of_deed at.entry.moment
+        at.entry.setup.now at.entry.state.now deed.now numbers.now) }
 {
     match deed {
         Deed::Nothing => Ok(()),
-        _ => add_of_numbers(found, moment, setup, state, deed, numbers),
+        _ => add_of_numbers(found, at, deed, numbers),
     }
 }

@@ -4,7 +4,7 @@ use crate::conditions::instruction_at;
 use crate::finding::Finding;
 use crate::kind::Kind;
 use crate::names::RowName;
-use crate::times::{Met, Times};
+use crate::times::{History, Times};
 use entries::{Phase, Row};
 use machine::{Event, Instruction, Setup, State};
 use places::{Place, Value};
@@ -16,12 +16,7 @@ pub(crate) struct Run<'a> {
     /// Its end.
     pub state: &'a State,
     pub events: &'a [Event],
-    /// Of each row.
-    pub times: &'a [Times],
-    /// Of each event, where the program of the thread stood that did it.
-    pub counters: &'a [Option<u32>],
-    pub slots: &'a [Met],
-    pub emptied: &'a [u32],
+    pub history: &'a History,
     pub found: &'a [Finding],
 }
 
@@ -48,7 +43,7 @@ impl Run<'_> {
     }
 
     pub fn times_of(&self, number: u32) -> Option<Times> {
-        self.times.get(number as usize).copied()
+        self.history.rows.get(number as usize).copied()
     }
 
     pub fn event(&self, moment: u32) -> Option<Event> {
@@ -57,7 +52,7 @@ impl Run<'_> {
 
     /// Where the program of the thread stood that did the event at a moment, if one did.
     pub fn counter(&self, moment: u32) -> Option<u32> {
-        self.counters.get(moment as usize).copied()?
+        self.history.counters.get(moment as usize).copied()?
     }
 
     /// The instruction that a thread did at a moment, if one did.
@@ -68,7 +63,7 @@ impl Run<'_> {
 
     /// The first slot whose entry names a descriptor that the event at a moment closed.
     pub fn slot(&self, moment: u32) -> Option<u32> {
-        for met in self.slots {
+        for met in &self.history.slots {
             if met.moment == moment {
                 return Some(met.slot);
             }
@@ -78,7 +73,7 @@ impl Run<'_> {
 
     /// The first moment behind one at which the backlog was empty again.
     pub fn emptied_behind(&self, moment: u32) -> Option<u32> {
-        for emptied in self.emptied {
+        for emptied in &self.history.emptied {
             if *emptied > moment {
                 return Some(*emptied);
             }

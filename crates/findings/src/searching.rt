@@ -20,12 +20,21 @@ use crate::leftover::add_all_left;
 use crate::ordering::in_order;
 use crate::record::{add_of_deed, add_of_event};
 use crate::times::{History, note_counter, note_emptied, note_slot};
+use crate::transition::Transition;
 use crate::unsynced::add_all_unsynced;
 use crate::watching::{Watch, add_all_lasting, advance, watches_of};
 use machine::{Event, Refusal, Setup, State};
 use places::Record;
 use run_log::LogFault;
 use std::alloc::{AllocError, Global};
+
+/// What a search has gathered so far.
+#[derive(Drop)]
+struct Gathered {
+    found: Vec<Finding>,
+    /// The numbers of the READs and WRITEs that haven't ended.
+    numbers: Vec<u32>,
+}
 
 // What an event that is refused ends a search by.
 fn fault_by(index: u32, refusal: Refusal) -> LogFault
@@ -39,55 +48,61 @@ fn fault_by(index: u32, refusal: Refusal) -> LogFault
 
 // Adds what an event shows beside the READs and WRITEs that haven't ended.
 fn look_beside(
-    setup: &Setup,
-    state: &State,
-    moment: u32,
-    event: Event,
-    before: Before,
+    at: Transition<'_>,
     found: &mut Vec<Finding>,
     numbers: &[u32],
 ) -> Result<(), AllocError>
     ensures { OnOk result (found.new.items ≡ found.old.items
-        ++ of_deed moment setup.now state.now.table
-        (done_as event
-        (instruction_at setup.now event before.counter) state.now) numbers.now) }
+        ++ of_deed at.entry.moment at.entry.setup.now at.entry.state.now
+        (done_as at.entry.event
+        (instruction_at at.entry.setup.now at.entry.event at.entry.before.counter)
+        at.entry.state.now) numbers.now) }
 {
-    let deed = done_as(setup, before, event, state);
-    add_of_deed(found, moment, setup, state, &deed, numbers)
+    let deed = done_as(at.setup, at.before, at.event, at.state);
+    add_of_deed(found, at, &deed, numbers)
+}
+
+// Notes what sentences look back at.
+fn note(at: Transition<'_>, history: &mut History) -> Result<(), AllocError> {
+    note_counter(&mut history.counters, at.before.counter)?;
+    let slot = slot_met(at.setup, at.state, at.event, at.before);
+    note_slot(&mut history.slots, at.moment, slot)?;
+    let is_emptied = at.before.overflows && !overflows(at.state);
+    note_emptied(
+        &mut history.emptied,
+        at.moment.saturating_add(1),
+        is_emptied,
+    )
 }
 
 // Adds what an event shows, and notes when its rows came and ended.
 fn look(
-    setup: &Setup,
-    state: &State,
-    moment: u32,
-    event: Event,
-    before: Before,
+    at: Transition<'_>,
     past: &Record,
-    found: &mut Vec<Finding>,
-    numbers: &mut Vec<u32>,
+    gathered: &mut Gathered,
     history: &mut History,
 ) -> Result<(), AllocError>
-    ensures added { OnOk result (found.new.items
-        ≡ ((found.old.items ++ flat_map (of_change moment state.now.table) past.now)
-        ++ (of_overflow moment before.overflows (overflows state.now)
-        ++ (of_step moment before.changes (instruction_at setup.now event before.counter) event
-        state.now ++ of_cancel moment before.cancel state.now.table)))
-        ++ of_deed moment setup.now state.now.table
-        (done_as event
-        (instruction_at setup.now event before.counter) state.now) numbers.new.items) }
+    ensures added { OnOk result (gathered.new.found.items
+        ≡ ((gathered.old.found.items
+        ++ flat_map (of_change at.entry.moment at.entry.state.now.table) past.now)
+        ++ (of_overflow at.entry.moment at.entry.before.overflows (overflows at.entry.state.now)
+        ++ (of_step at.entry.moment at.entry.before.changes
+        (instruction_at at.entry.setup.now at.entry.event at.entry.before.counter)
+        at.entry.event at.entry.state.now
+        ++ of_cancel at.entry.moment at.entry.before.cancel at.entry.state.now.table)))
+        ++ of_deed at.entry.moment at.entry.setup.now at.entry.state.now
+        (done_as at.entry.event
+        (instruction_at at.entry.setup.now at.entry.event at.entry.before.counter)
+        at.entry.state.now) gathered.new.numbers.items) }
     ensures once { OnOk result (NamesOnce past.now) }
-    ensures further { OnOk result (numbers.new.items
-        ≡ after_notes (view state.now) numbers.old.items past.now) }
+    ensures further { OnOk result (gathered.new.numbers.items
+        ≡ after_notes (view at.entry.state.now) gathered.old.numbers.items past.now) }
 {
-    note_counter(&mut history.counters, before.counter)?;
-    let slot = slot_met(setup, state, event, before);
-    note_slot(&mut history.slots, moment, slot)?;
-    let is_emptied = before.overflows && !overflows(state);
-    note_emptied(&mut history.emptied, moment.saturating_add(1), is_emptied)?;
-    look_at_record(found, numbers, &mut history.rows, moment, past, state)?;
-    add_of_event(found, setup, moment, before, event, state)?;
-    look_beside(setup, state, moment, event, before, found, numbers)
+    note(at, history)?;
+    let rows = &mut history.rows;
+    look_at_record(&mut gathered.found, &mut gathered.numbers, rows, at, past)?;
+    add_of_event(&mut gathered.found, at)?;
+    look_beside(at, &mut gathered.found, &gathered.numbers)
 }
 
 // Does an event, and adds what it shows.
@@ -96,13 +111,13 @@ fn find_at(
     setup: &Setup,
     moment: u32,
     event: Event,
-    found: &mut Vec<Finding>,
-    numbers: &mut Vec<u32>,
+    gathered: &mut Gathered,
     history: &mut History,
 ) -> Result<(), LogFault>
     ensures next { OnOk result (Next state.old event state.new) }
     ensures added { OnOk result (Adds setup.now moment state.old event state.new
-        found.old.items found.new.items numbers.old.items numbers.new.items) }
+        gathered.old.found.items gathered.new.found.items gathered.old.numbers.items
+        gathered.new.numbers.items) }
     ensures err { IfErr result (HaltsAt moment state.old event) }
 {
     let before = Before::of(setup, state, event);
@@ -110,9 +125,14 @@ fn find_at(
         Ok(past) => past,
         Err(refusal) => return Err(fault_by(moment, refusal)),
     };
-    match look(
-        setup, state, moment, event, before, &past, found, numbers, history,
-    ) {
+    let at = Transition {
+        setup,
+        moment,
+        event,
+        before,
+        state,
+    };
+    match look(at, &past, gathered, history) {
         Ok(()) => Ok(()),
         Err(_) => Err(LogFault::Memory),
     }
@@ -123,17 +143,16 @@ fn find_all(
     state: &mut State,
     setup: &Setup,
     events: &[Event],
-    found: &mut Vec<Finding>,
-    numbers: &mut Vec<u32>,
+    gathered: &mut Gathered,
     watches: &mut [Watch],
     history: &mut History,
 ) -> Result<(), LogFault>
     requires starts { state.old ≡ start setup.now }
     requires most { length events.now ≤ 1048576 }
-    requires none { found.old.items ≡ [] }
+    requires none { gathered.old.found.items ≡ [] }
     requires watched { watches.old ≡ map (advanced setup.now state.old 0) (watched setup.now) }
     ensures found { OnOk result
-        (FoundBefore setup.now events.now (length events.now) found.new.items) }
+        (FoundBefore setup.now events.now (length events.now) gathered.new.found.items) }
     ensures lasting { OnOk result
         (IsLasting setup.now events.now (flat_map of_lasting watches.new)) }
     ensures left { OnOk result
@@ -142,7 +161,7 @@ fn find_all(
     ensures err { IfErr result (Halted setup.now events.now) }
 {
     for i in 0..events.len() {
-        find_at(state, setup, i as u32, events[i], found, numbers, history)?;
+        find_at(state, setup, i as u32, events[i], gathered, history)?;
         advance(setup, state, i as u32 + 1, watches);
     }
     Ok(())
@@ -195,17 +214,12 @@ fn find(
     ensures err { IfErr result (Halted setup.now events.now) }
 {
     advance(setup, state, 0, watches);
-    let mut found = Vec::new(alloc);
-    let mut numbers = Vec::new(alloc);
-    find_all(
-        state,
-        setup,
-        events,
-        &mut found,
-        &mut numbers,
-        watches,
-        history,
-    )?;
+    let mut gathered = Gathered {
+        found: Vec::new(alloc),
+        numbers: Vec::new(alloc),
+    };
+    find_all(state, setup, events, &mut gathered, watches, history)?;
+    let Gathered { mut found, .. } = gathered;
     match add_end(&mut found, watches, setup, events.len() as u32, state) {
         Ok(()) => Ok(found),
         Err(_) => Err(LogFault::Memory),

@@ -11,6 +11,7 @@ mod matches;
 mod rings;
 mod submitting;
 mod uses;
+mod waiting;
 
 use crate::finding::Finding;
 use crate::kind::Kind;
@@ -19,6 +20,7 @@ use crate::run::Run;
 use entries::Row;
 pub use left::why_unfinished;
 use std::alloc::{AllocError, Global};
+use uses::Standing;
 
 const READ_RULE: &str = "A READ or WRITE may move fewer bytes than it asks for (read(2), write(2))";
 
@@ -148,9 +150,13 @@ pub(crate) fn sentence(alloc: Global, run: &Run<'_>, index: usize) -> Result<Str
         Kind::TakenShort => rings::taken_short(alloc, run, finding.subject, finding.moment),
         Kind::NoSuchSlot => rings::no_such_slot(alloc, run, finding.subject, finding.moment),
         Kind::SlotInUse => uses::slot_in_use(alloc, run, finding.subject, finding.moment),
-        Kind::ClosedEarly => uses::closed_early(alloc, run, finding.subject, finding.moment),
+        Kind::ClosedEarly => {
+            let stood = Standing::Queued;
+            uses::closed(alloc, run, finding.subject, finding.moment, stood)
+        }
         Kind::ClosedWhileHeld => {
-            uses::closed_while_held(alloc, run, finding.subject, finding.moment)
+            let stood = Standing::Issued;
+            uses::closed(alloc, run, finding.subject, finding.moment, stood)
         }
         Kind::RefusedFlags => rings::refused_flags(alloc, run, finding.subject, finding.moment),
         Kind::Waits => rings::waits(alloc, run, finding.subject),

@@ -63,10 +63,7 @@ pub fn told_of(alloc: Global, setup: &Setup, events: &[Event]) -> Result<Vec<Tol
         setup,
         state: &state,
         events,
-        times: &history.rows,
-        counters: &history.counters,
-        slots: &history.slots,
-        emptied: &history.emptied,
+        history: &history,
         found: &found,
     };
     match all_told(alloc, &run, &found) {

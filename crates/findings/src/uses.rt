@@ -8,7 +8,7 @@ ghost use Rattle.findings.specs.Uses.{changes_slot, changes_at, names_descriptor
 
 use crate::files::number_in;
 use crate::kind::Kind;
-use crate::leftover::{MOST_ROWS, row_at};
+use crate::leftover::row_at;
 use entries::{Phase, Row, Sqe};
 use links_drains::is_issued;
 use machine::{Instruction, State};
@@ -130,20 +130,25 @@ fn is_met(kind: Kind, fd: u32, row: &Row) -> bool
     }
 }
 
-// Whether some row is. A descriptor closes once, so that a run goes over its rows some 64 times.
+fn meets_at(state: &State, kind: Kind, fd: u32, number: u32) -> bool
+    ensures { result ≡ option_map_or (is_met kind fd) (slice_get state.now.table number) false }
+{
+    match row_at(state, number) {
+        Some(row) => is_met(kind, fd, &row),
+        None => false,
+    }
+}
+
+// Whether some row is; none that has ended is.
 fn meets(state: &State, kind: Kind, fd: u32) -> bool
     ensures { result ≡ list_any (is_met kind fd) state.now.table }
 {
-    let _first = row_at(state, 0);
-    for number in 0..MOST_ROWS {
-        match row_at(state, number) {
-            Some(row) => {
-                if is_met(kind, fd, &row) {
-                    return true;
-                }
-            }
-            None => return false,
+    let mut from = 0;
+    while let Some(number) = state.next_unfinished(from) {
+        if meets_at(state, kind, fd, number) {
+            return true;
         }
+        from = number + 1;
     }
     false
 }

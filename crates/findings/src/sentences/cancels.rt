@@ -55,7 +55,7 @@ fn is_candidate(run: &Run<'_>, about: &About, number: u32, row: &Row) -> bool {
 // first.
 fn nearest_candidate(run: &Run<'_>, about: &About) -> Option<u32> {
     let mut nearest = None;
-    for number in 0..run.times.len().min(65536) as u32 {
+    for number in 0..run.history.rows.len().min(65536) as u32 {
         if let Some(row) = run.row(number) {
             let fits = fits_opcode(&about.row.entry, &row);
             if is_candidate(run, about, number, &row) && (fits || nearest.is_none()) {
@@ -134,7 +134,7 @@ pub(crate) fn not_found(alloc: Global, run: &Run<'_>, about: &About) -> Result<S
 
 /// The first row from a number on that a cancel found as it ended, by its user_data or descriptor.
 pub(super) fn next_found(run: &Run<'_>, about: &About, from: u32) -> Option<u32> {
-    for number in from..run.times.len().min(65536) as u32 {
+    for number in from..run.history.rows.len().min(65536) as u32 {
         if let Some(row) = run.row(number) {
             if is_found(run, about, number, &row) {
                 return Some(number);

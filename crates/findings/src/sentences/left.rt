@@ -1,20 +1,20 @@
 //! Sentences about requests that haven't ended at the end.
 
+use super::waiting::waits;
 use super::{LINK_TIMEOUT_RULE, TIMEOUT_RULE};
 use crate::leftover::MOST_ROWS;
 use crate::names::RowName;
 use crate::run::Run;
+use crate::times::History;
 use entries::{Phase, Row};
 use links_drains::{is_guard, is_unfinished};
 use machine::{Event, Refusal, Setup, State};
-use opcodes::{Choice, Op, is_timer};
+use opcodes::{Choice, is_timer};
 use std::alloc::{AllocError, Global};
 
 const LINK_RULE: &str = "(io_uring_enter(2), IOSQE_IO_LINK)";
 
 const DRAIN_RULE: &str = "(io_uring_enter(2), IOSQE_IO_DRAIN)";
-
-const WAIT_RULE: &str = "(pipe(7), eventfd(2), poll(2))";
 
 /// IOSQE_IO_DRAIN.
 const IO_DRAIN: u8 = 2;
@@ -53,10 +53,16 @@ fn is_before_drain(run: &Run<'_>, number: u32, unit: u32, own: bool) -> bool {
 
 // The row of its chain that a row waits for, if it does for one.
 fn held_by_link(run: &Run<'_>, number: u32, row: &Row) -> Option<u32> {
-    for before in row.unit..number {
+    let mut from = row.unit;
+    for _row in row.unit..number {
+        let before = run.state.next_unfinished(from)?;
+        if before >= number {
+            return None;
+        }
         if is_before_in_chain(run, before, row.unit) {
             return Some(before);
         }
+        from = before.saturating_add(1);
     }
     None
 }
@@ -64,10 +70,16 @@ fn held_by_link(run: &Run<'_>, number: u32, row: &Row) -> Option<u32> {
 // The first row that a drain has it wait for.
 fn held_by_drain(run: &Run<'_>, row: &Row) -> Option<u32> {
     let own = drains(run, row.unit);
-    for before in 0..row.unit {
+    let mut from = 0;
+    for _row in 0..row.unit {
+        let before = run.state.next_unfinished(from)?;
+        if before >= row.unit {
+            return None;
+        }
         if is_before_drain(run, before, row.unit, own) {
             return Some(before);
         }
+        from = before.saturating_add(1);
     }
     None
 }
@@ -117,23 +129,6 @@ fn queued(alloc: Global, run: &Run<'_>, number: u32, row: &Row) -> Result<String
     }
 }
 
-// What an issued row that isn't ready waits for.
-fn wanted(row: &Row) -> &'static str {
-    if row.entry.opcode == Op::Read as u8 {
-        return "for bytes, or for a counter above 0";
-    }
-    if row.entry.opcode == Op::Write as u8 {
-        return "for room";
-    }
-    "for what it polls"
-}
-
-fn waits(alloc: Global, row: &Row) -> Result<String, AllocError> {
-    let wanted = wanted(row);
-    let fd = row.entry.fd;
-    format!(in alloc; "It is issued, and waits at descriptor {fd} {wanted} {WAIT_RULE}.")
-}
-
 fn issued(alloc: Global, run: &Run<'_>, number: u32, row: &Row) -> Result<String, AllocError> {
     if is_timer(row.entry.opcode) {
         let rule = if is_guard(row) {
@@ -147,7 +142,7 @@ fn issued(alloc: Global, run: &Run<'_>, number: u32, row: &Row) -> Result<String
         };
     }
     match run.state.refuses(Event::Finish(number, Choice::Full)) {
-        Some(Refusal::NotReady) => waits(alloc, row),
+        Some(Refusal::NotReady) => waits(alloc, run, row),
         _ => String::from_str(
             alloc,
             "It is issued, and nothing keeps it from ending: the schedule just ends.",
@@ -180,14 +175,12 @@ pub fn why_unfinished(
     state: &State,
     number: u32,
 ) -> Result<String, AllocError> {
+    let history = History::new(alloc);
     let run = Run {
         setup,
         state,
         events: &[],
-        times: &[],
-        counters: &[],
-        slots: &[],
-        emptied: &[],
+        history: &history,
         found: &[],
     };
     match run.row(number) {

@@ -17,7 +17,7 @@ const USER_RULE: &str = "(io_uring_enter(2), user_data)";
 fn count_found(run: &Run<'_>, about: &About) -> u32 {
     let mut count: u32 = 0;
     let mut from = 0;
-    for _row in 0..run.times.len() {
+    for _row in 0..run.history.rows.len() {
         let Some(number) = next_found(run, about, from) else {
             break;
         };
@@ -72,7 +72,7 @@ pub(crate) fn left_running(
 fn left_rows(alloc: Global, run: &Run<'_>, about: &About) -> Result<String, AllocError> {
     let mut rows = Listing::new(alloc);
     let mut from = 0;
-    for _row in 0..run.times.len() {
+    for _row in 0..run.history.rows.len() {
         let Some(number) = next_found(run, about, from) else {
             break;
         };

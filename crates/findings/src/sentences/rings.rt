@@ -80,11 +80,13 @@ pub(crate) fn refused_flags(
 // How many rows came by the event at a moment, and whether one of them failed by it.
 fn came_at(run: &Run<'_>, moment: u32) -> (usize, bool) {
     let came = run
-        .times
+        .history
+        .rows
         .iter()
         .filter(|times| times.came == moment)
         .count();
-    let failed = run.times.iter().any(|times| times.came == moment && times.ended == Some(moment));
+    let failed = run.history.rows.iter().any(|times| times.came == moment
+        && times.ended == Some(moment));
     (came, failed)
 }
 

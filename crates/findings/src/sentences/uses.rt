@@ -26,11 +26,33 @@ pub(crate) fn slot_in_use(
     )
 }
 
-// How far a row was as its descriptor was closed.
+/// How far a row was as its descriptor was closed.
 #[derive(Clone, Copy)]
-enum Standing {
+pub(crate) enum Standing {
     Queued,
     Issued,
+}
+
+impl Standing {
+    // What such a row does with its descriptor.
+    fn verb(self) -> &'static str {
+        match self {
+            Standing::Queued => "named",
+            Standing::Issued => "held",
+        }
+    }
+
+    // What comes of it.
+    fn outcome(self) -> &'static str {
+        match self {
+            Standing::Queued => {
+                "A request whose descriptor is not open ends with -9 (EBADF) as it is issued"
+            }
+            Standing::Issued => {
+                "An issued request goes on, and the object stays for it until it ends"
+            }
+        }
+    }
 }
 
 // Whether a row of a number stood so before the event at a moment, and uses a descriptor.
@@ -52,7 +74,7 @@ fn users(
     stood: Standing,
 ) -> Result<String, AllocError> {
     let mut rows = Listing::new(alloc);
-    for number in 0..run.times.len().min(65536) as u32 {
+    for number in 0..run.history.rows.len().min(65536) as u32 {
         if let Some(row) = run.row(number) {
             if is_user(run, number, &row, fd, moment, stood) {
                 rows.add(alloc, run, number)?;
@@ -86,33 +108,24 @@ fn closed_at(run: &Run<'_>, moment: u32) -> i32 {
     }
 }
 
-/// A descriptor that was closed before it was used.
-pub(crate) fn closed_early(
+/// A descriptor that was closed before it was used, or while it was held.
+pub(crate) fn closed(
     alloc: Global,
     run: &Run<'_>,
     thread: u32,
     moment: u32,
+    stood: Standing,
 ) -> Result<String, AllocError> {
     let fd = closed_at(run, moment);
     let counter = run.counter(moment).unwrap_or(0);
-    let rows = users(alloc, run, fd, moment, Standing::Queued)?;
-    let users = with_slot(alloc, rows, run.slot(moment))?;
+    let used = stood.verb();
+    let rows = users(alloc, run, fd, moment, stood)?;
+    let users = match stood {
+        Standing::Queued => with_slot(alloc, rows, run.slot(moment))?,
+        Standing::Issued => rows,
+    };
+    let outcome = stood.outcome();
     format!(in alloc;
-        "The close of thread {thread}, instruction {counter}, closed descriptor {fd}, which is named by {users}. A request whose descriptor is not open ends with -9 (EBADF) as it is issued {RULE}."
-    )
-}
-
-/// A descriptor that was closed while it was held.
-pub(crate) fn closed_while_held(
-    alloc: Global,
-    run: &Run<'_>,
-    thread: u32,
-    moment: u32,
-) -> Result<String, AllocError> {
-    let fd = closed_at(run, moment);
-    let counter = run.counter(moment).unwrap_or(0);
-    let rows = users(alloc, run, fd, moment, Standing::Issued)?;
-    format!(in alloc;
-        "The close of thread {thread}, instruction {counter}, closed descriptor {fd}, which is held by {rows}. An issued request goes on, and the object stays for it until it ends {RULE}."
+        "The close of thread {thread}, instruction {counter}, closed descriptor {fd}, which is {used} by {users}. {outcome} {RULE}."
     )
 }

@@ -5,8 +5,8 @@ use Rattle.findings.specs.Records.{of_change, after_notes}
 use Rattle.findings.proofs.changes.look_at_changes.Given as goal
 
 abbrev pub invariant-loop-change : goal.invariant-loop-change
-invariant-loop-change l = (l.found.items ++ flat_map (of_change l.moment l.state.table) l.rest ≡ l.fn.found.items ++ flat_map (of_change l.moment l.state.table) l.fn.rest)
-    × (after_notes (view l.state) l.numbers.items l.rest ≡ after_notes (view l.state) l.fn.numbers.items l.fn.rest)
+invariant-loop-change l = (l.found.items ++ flat_map (of_change l.at.moment l.at.state.now.table) l.rest ≡ l.fn.found.items ++ flat_map (of_change l.at.moment l.at.state.now.table) l.fn.rest)
+    × (after_notes (view l.at.state.now) l.numbers.items l.rest ≡ after_notes (view l.at.state.now) l.fn.numbers.items l.fn.rest)
 
 abbrev pub decreases-loop-change : goal.decreases-loop-change
 decreases-loop-change l = length l.rest

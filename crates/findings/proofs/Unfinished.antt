@@ -1,0 +1,60 @@
+-- Looking at the rows that haven't ended alone, for one that passes a test which no other passes.
+use Rattle.std.proofs.Common.{◌≡◌, inl, inr, ℕ, ◌+◌, ◌<◌, ◌≤◌, Bool, false, List, refl, sym, ap, ◌∙◌, arith}
+use Rattle.std.proofs.lemmas.Bool.{and_left, cases_lt}
+use Rattle.std.specs.Prelude.{Option, Some, None, slice_get}
+use Rattle.std.specs.Option.{option_map_or}
+use Rattle.std.specs.List.{list_any}
+use Rattle.entries.specs.declared.row.Phase.{Phase}
+use Rattle.entries.specs.declared.row.Phase.TheVariants.{Queued, Issued, Ended}
+use Rattle.entries.specs.declared.row.Row.{Row}
+use Rattle.links_drains.specs.Numbered.{IsNextWhere, NoneWhere}
+use Rattle.links_drains.specs.Phases.{is_queued, is_issued, is_unfinished}
+use Rattle.links_drains.specs.Units.{is_open}
+use Rattle.links_drains.proofs.Units.{any_false}
+use Rattle.findings.specs.declared.kind.Kind.{Kind}
+use Rattle.findings.specs.declared.kind.Kind.TheVariants.{ClosedEarly, ClosedWhileHeld}
+use Rattle.findings.specs.Uses.{is_met}
+use Rattle.findings.proofs.Looking.{passes, NonePasses}
+
+-- no row that has ended passes a test
+abbrev pub PassOpen : (Row → Bool) → Type 0
+PassOpen test = (row : Row) → is_open row ≡ false → test row ≡ false
+
+-- the next row that hasn't ended doesn't
+pub none_on : (test : Row → Bool) (rows : List Row) (from q : ℕ) → PassOpen test → NonePasses test rows from → IsNextWhere is_open rows from q → passes test rows q ≡ false → NonePasses test rows (q + 1)
+none_on test rows from q closed none next other = λ j l.
+    elim (cases_lt j from) [
+      | inl before ↦ none j before
+      | inr behind ↦ elim (cases_lt j q) [
+        | inl less ↦ by j behind less (slice_get rows j) refl
+        | inr last ↦ let same : j ≡ q = omega (arith, l, last) in ap (passes test rows) same ∙ other
+      ]
+    ]
+  where
+    by : (j : ℕ) → from ≤ j → j < q → (o : Option Row) → slice_get rows j ≡ o → passes test rows j ≡ false
+    by j behind less None e = ap (λ (o : Option Row). option_map_or test o false) e
+    by j behind less (Some x) e = ap (λ (o : Option Row). option_map_or test o false) e ∙ closed x (next.least j x behind less e)
+
+-- there is no further one
+pub none_further : (test : Row → Bool) (rows : List Row) (from : ℕ) → PassOpen test → NonePasses test rows from → NoneWhere is_open rows from → list_any test rows ≡ false
+none_further test rows from closed none absent = any_false test rows (λ j x e.
+    elim (cases_lt j from) [
+      | inl before ↦ sym (ap (λ (o : Option Row). option_map_or test o false) e) ∙ none j before
+      | inr behind ↦ closed x (absent j x behind e)
+    ])
+
+not_queued : (p : Phase) → is_unfinished p ≡ false → is_queued p ≡ false
+not_queued Queued e = cc
+not_queued Issued e = refl
+not_queued (Ended res) e = refl
+
+not_issued : (p : Phase) → is_unfinished p ≡ false → is_issued p ≡ false
+not_issued Queued e = refl
+not_issued Issued e = cc
+not_issued (Ended res) e = refl
+
+-- a Close meets rows that haven't ended alone
+pub met_open : (kind : Kind) (fd : ℕ) → PassOpen (is_met kind fd)
+met_open ClosedEarly fd row e = and_left _ _ (not_queued row.phase e)
+met_open ClosedWhileHeld fd row e = and_left _ _ (not_issued row.phase e)
+met_open _ fd row e = refl
