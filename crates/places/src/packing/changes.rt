@@ -162,13 +162,13 @@ fn size_of_shape(shape: u64) -> u64
     ensures { result ≡ size_of_shape shape }
 {
     match shape {
-        0 => 0,
-        1 | 2 => 1,
-        3 => 14,
-        4 => 3,
-        5 => 21,
-        6 => 2,
-        7 => 4,
+        NOTHING => 0,
+        NUMBER | SIGNED => 1,
+        ENTRY => 14,
+        COMPLETION => 3,
+        ROW => 21,
+        STAGE => 2,
+        REAPED => 4,
         _ => 1,
     }
 }
@@ -186,7 +186,7 @@ fn read_head(bytes: &mut Numerals<'_>) -> Head
     Head {
         kind: (head % KINDS) as u8,
         index,
-        stood: shape != 0,
+        stood: shape != NOTHING,
     }
 }
 
@@ -197,7 +197,7 @@ fn read_number(bytes: &mut Numerals<'_>) -> Option<(Place, u64)>
         (λ n. (change_of bytes.old ≡ number_was n.0 n.1) × (after_change bytes.old ≡ bytes.new)) }
 {
     let head = bytes.first();
-    if head / KINDS != 1 {
+    if head / KINDS != NUMBER {
         return None;
     }
     bytes.skip(1);
