@@ -1,12 +1,12 @@
 -- What a walk over events comes to, by how its session replied.
-use Rattle.std.proofs.Common.{◌≡◌, ℕ, false, List, [], ◌∷◌, Result, Ok, Err, refl, sym, ◌∙◌}
+use Rattle.std.proofs.Common.{◌≡◌, ℕ, true, false, List, [], ◌∷◌, Result, Ok, Err, refl, sym, ◌∙◌}
 use Rattle.std.specs.Prelude.{OnOk, IfErr}
 use Rattle.scenario.specs.declared.event.Event.{Event}
 use Rattle.scenario.specs.declared.event.Refusal.{Refusal}
 use Rattle.scenario.specs.declared.setup.Setup.{Setup}
 use Rattle.machine.specs.Runs.{start, Accepts}
 use Rattle.debug_server.specs.SessionStates.{SessionState, SessionValue}
-use Rattle.debug_server.specs.Kinds.{IsOf, OfSchedule, OfServing, OfMemory}
+use Rattle.debug_server.specs.Kinds.{IsOf, is_kind, OfSchedule, OfServing, OfMemory}
 use Rattle.debug_server.specs.Schedules.{state_over}
 use Rattle.debug_server.specs.Transcripts.{Streams}
 use Rattle.debug_server.specs.Walked.{Replied, BrokenBy, Walked, BrokenOff}
@@ -42,6 +42,13 @@ no_schedule v before after (Err e) X h = λ i n k. let same : Schedule i n ≡ S
 pub no_memory : {A : Type 0} (v : SessionState) (before after : Streams) (r : Result A RunFault) (X : Type 0) → IfErr r (BrokenBy v before after) → IfErr r (λ e. e ≡ Memory → X)
 no_memory v before after (Ok x) X h = h
 no_memory v before after (Err e) X h = λ k. let same : Memory ≡ Serve h.fault = sym k ∙ h.told in absurd (cc)
+
+is_serving : (e : RunFault) (f : ServeFault) → e ≡ Serve f → is_kind e OfServing ≡ true
+is_serving e f k = rw k refl
+
+pub no_other : {A : Type 0} (v : SessionState) (before after : Streams) (r : Result A RunFault) (X : Type 0) → IfErr r (BrokenBy v before after) → IfErr r (λ e. is_kind e OfServing ≡ false → X)
+no_other v before after (Ok x) X h = h
+no_other v before after (Err e) X h = λ k. let same : true ≡ false = sym (is_serving e h.fault h.told) ∙ k in absurd (cc)
 
 served : (e : RunFault) (f : ServeFault) → e ≡ Serve f → IsOf (OfSchedule ∷ OfServing ∷ OfMemory ∷ []) e
 served e f k = rw k refl

@@ -1,5 +1,5 @@
 //! Runs that threads make together from a script's setup.
-ghost use Rattle.std.specs.Prelude.{◌≡◌, ◌≢◌, ◌≤◌, ◌∷◌, [], Ok, Err, IfOk, IfErr, OnOk, length};
+ghost use Rattle.std.specs.Prelude.{◌≡◌, ◌≢◌, ◌≤◌, ◌∷◌, [], false, Ok, Err, IfOk, IfErr, OnOk, length};
 ghost use Rattle.std.specs.Io.KnownBytes.{Keeps};
 ghost use Rattle.live_runner.specs.Actors.{actors};
 ghost use Rattle.live_runner.specs.History.{Whole};
@@ -9,7 +9,7 @@ ghost use Rattle.traces.specs.Setups.{canonical, IsTrace2};
 ghost use Rattle.debug_server.specs.declared.faults.ServeFault.{ServeFault};
 ghost use Rattle.debug_server.specs.declared.faults.ServeFault.TheVariants.{Closed as WasClosed};
 ghost use Rattle.debug_server.specs.Living.{IsOfLive, IsOfRunning};
-ghost use Rattle.debug_server.specs.Kinds.{IsOf, OfServing, OfMemory};
+ghost use Rattle.debug_server.specs.Kinds.{IsOf, is_kind, OfServing, OfMemory};
 ghost use Rattle.debug_server.specs.Transcripts.{streams};
 ghost use Rattle.debug_server.specs.Walked.{Walked, BrokenOff};
 
@@ -85,6 +85,9 @@ pub fn answer_closed<R: Read, W: Write>(
         (streams (R.remaining reader.new) (W.contents writer.new))) }
     ensures memory { IfErr result (λ e. e ≡ RunFault.Memory
         → Keeps (W.contents writer.old) (W.contents writer.new)) }
+    // At any other fault than one of serving nothing was read.
+    ensures unread { IfErr result (λ e. is_kind e OfServing ≡ false
+        → Keeps (R.remaining reader.old) (R.remaining reader.new)) }
     // At a fault of serving a beginning of that output was written.
     ensures begins { IfErr result (λ e. (f : ServeFault) → e ≡ RunFault.Serve f
         → BrokenOff closed.now.setup closed.now.events

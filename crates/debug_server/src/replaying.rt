@@ -1,5 +1,5 @@
 //! Walking a trace of the second form.
-ghost use Rattle.std.specs.Prelude.{◌≡◌, ◌≢◌, ℕ, List, Err, OnOk, IfErr, ◌∷◌, []};
+ghost use Rattle.std.specs.Prelude.{◌≡◌, ◌≢◌, ℕ, false, List, Err, OnOk, IfErr, ◌∷◌, []};
 ghost use Rattle.std.specs.Io.KnownBytes.{Keeps};
 ghost use Rattle.machine.specs.Runs.{IsRefused};
 ghost use Rattle.scenario.specs.declared.event.Event.{Event};
@@ -8,7 +8,7 @@ ghost use Rattle.scenario.specs.declared.setup.Setup.{Setup};
 ghost use Rattle.traces.specs.Reading.{IsFault2};
 ghost use Rattle.traces.specs.Setups.{IsTrace2};
 ghost use Rattle.traces.specs.declared.fault.TraceFault.{TraceFault};
-ghost use Rattle.debug_server.specs.Kinds.{IsOf, OfSchedule, OfServing, OfMemory, OfTrace};
+ghost use Rattle.debug_server.specs.Kinds.{IsOf, is_kind, OfSchedule, OfServing, OfMemory, OfTrace};
 ghost use Rattle.debug_server.specs.declared.faults.ServeFault.{ServeFault};
 ghost use Rattle.debug_server.specs.declared.faults.ServeFault.TheVariants.{Closed};
 ghost use Rattle.debug_server.specs.Transcripts.{streams};
@@ -43,6 +43,9 @@ pub fn replay<R: Read, W: Write>(
         × IsRefused setup events i n × Keeps (W.contents writer.old) (W.contents writer.new)) }
     ensures memory { IfErr result (λ e. e ≡ RunFault.Memory
         → Keeps (W.contents writer.old) (W.contents writer.new)) }
+    // At any other fault than one of serving nothing was read.
+    ensures unread { IfErr result (λ e. is_kind e OfServing ≡ false
+        → Keeps (R.remaining reader.old) (R.remaining reader.new)) }
     // At a fault of serving a beginning of that output was written.
     ensures begins { IfErr result (λ e. (f : ServeFault) → e ≡ RunFault.Serve f → (setup : Setup)
         × (events : List Event) × IsTrace2 setup events trace.now × BrokenOff setup events

@@ -6,7 +6,7 @@ ghost use Rattle.scenario.specs.Setups.{setup_refusal};
 ghost use Rattle.scenario.specs.declared.event.Refusal.{Refusal};
 ghost use Rattle.script.specs.Scripts.{Scenario, Reads};
 ghost use Rattle.script.specs.declared.fault.ScriptFault.{ScriptFault};
-ghost use Rattle.debug_server.specs.Kinds.{IsOf, OfScript, OfSchedule, OfServing, OfMemory};
+ghost use Rattle.debug_server.specs.Kinds.{IsOf, is_kind, OfScript, OfSchedule, OfServing, OfMemory};
 ghost use Rattle.debug_server.specs.declared.faults.ServeFault.{ServeFault};
 ghost use Rattle.debug_server.specs.declared.faults.ServeFault.TheVariants.{Closed};
 ghost use Rattle.debug_server.specs.Transcripts.{streams};
@@ -42,6 +42,9 @@ pub fn walk<R: Read, W: Write>(
         × Keeps (W.contents writer.old) (W.contents writer.new)) }
     ensures memory { IfErr result (λ e. e ≡ RunFault.Memory
         → Keeps (W.contents writer.old) (W.contents writer.new)) }
+    // At any other fault than one of serving nothing was read.
+    ensures unread { IfErr result (λ e. is_kind e OfServing ≡ false
+        → Keeps (R.remaining reader.old) (R.remaining reader.new)) }
     // At a fault of serving a beginning of that output was written.
     ensures begins { IfErr result (λ e. (f : ServeFault) → e ≡ RunFault.Serve f → (p : Scenario)
         × Reads text.now (Ok p) × BrokenOff p.setup p.schedule
@@ -75,6 +78,8 @@ fn walk_script<R: Read, W: Write>(
         × Keeps (W.contents writer.old) (W.contents writer.new)) }
     ensures memory { IfErr result (λ e. e ≡ RunFault.Memory
         → Keeps (W.contents writer.old) (W.contents writer.new)) }
+    ensures unread { IfErr result (λ e. is_kind e OfServing ≡ false
+        → Keeps (R.remaining reader.old) (R.remaining reader.new)) }
     ensures begins { IfErr result (λ e. (f : ServeFault) → e ≡ RunFault.Serve f
         → BrokenOff script.now.setup script.now.schedule
         (streams (R.remaining reader.old) (W.contents writer.old))
@@ -103,6 +108,8 @@ pub(crate) fn walk_events<R: Read, W: Write>(
         × Keeps (W.contents writer.old) (W.contents writer.new)) }
     ensures memory { IfErr result (λ e. e ≡ RunFault.Memory
         → Keeps (W.contents writer.old) (W.contents writer.new)) }
+    ensures unread { IfErr result (λ e. is_kind e OfServing ≡ false
+        → Keeps (R.remaining reader.old) (R.remaining reader.new)) }
     ensures begins { IfErr result (λ e. (f : ServeFault) → e ≡ RunFault.Serve f
         → BrokenOff setup.now events.now
         (streams (R.remaining reader.old) (W.contents writer.old))

@@ -1,7 +1,7 @@
 use Rattle.std.proofs.KnownBytes.{Keeps-refl}
 use Rattle.std.proofs.lemmas.Result.{err_from_is_err_and}
 use Rattle.debug_server.proofs.Alone.{open_at}
-use Rattle.debug_server.proofs.Walks.{walked_at, broken_at, no_schedule, no_memory, of_run}
+use Rattle.debug_server.proofs.Walks.{walked_at, broken_at, no_schedule, no_memory, no_other, of_run}
 use Rattle.debug_server.proofs.walking.walk_events.Goals as goal
 
 pub returns-in_err-session-clause-schedule : goal.returns-in_err-session-clause-schedule
@@ -21,6 +21,9 @@ returns-clause-schedule g c = no_schedule _ _ _ c.reply_to_all.result _ c.reply_
 
 pub returns-clause-memory : goal.returns-clause-memory
 returns-clause-memory g c = no_memory _ _ _ c.reply_to_all.result _ c.reply_to_all.ensures.err
+
+pub returns-clause-unread : goal.returns-clause-unread
+returns-clause-unread g c = no_other _ _ _ c.reply_to_all.result _ c.reply_to_all.ensures.err
 
 pub returns-clause-begins : goal.returns-clause-begins
 returns-clause-begins g c =
