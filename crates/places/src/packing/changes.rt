@@ -1,5 +1,5 @@
 //! Changes in bytes.
-ghost use Rattle.std.specs.Prelude.{◌≡◌, ◌+◌, ◌*◌, ◌^◌, ◌<◌, ◌≤◌, ◌==◌, ◌∷◌, [], None, Some, OnOk, MatchOption, is_some};
+ghost use Rattle.std.specs.Prelude.{◌≡◌, ◌+◌, ◌*◌, ◌^◌, ◌<◌, ◌≤◌, ◌∷◌, [], None, Some, OnOk, MatchOption, is_some};
 ghost use Rattle.places.specs.declared.listed.Listed.TheVariants.{Requests, Overflowed};
 ghost use Rattle.places.specs.declared.value.Value.TheVariants.{Number};
 ghost use Rattle.places.specs.Places.{kind_of, same_place};
