@@ -101,11 +101,11 @@ impl Run<'_> {
         }
     }
 
-    /// Whether a finding is that a later row of a row's chain was cancelled at a moment.
+    /// Whether a finding is that another row of a row's chain was cancelled at a moment.
     fn is_cut(&self, finding: &Finding, number: u32, moment: u32) -> bool {
         finding.moment == moment
             && matches!(finding.kind, Kind::Canceled)
-            && number < finding.subject
+            && number != finding.subject
             && self.are_of_one_chain(number, finding.subject)
     }
 
@@ -123,19 +123,37 @@ impl Run<'_> {
         None
     }
 
-    /// The row that broke the chain of another at a moment: it is told before it in the list.
-    pub fn severing(&self, index: usize, number: u32, moment: u32) -> Option<u32> {
+    /// The row of another's chain, below a number, of which a kind was told last at a moment, before
+    /// a place in the list.
+    fn told_before(
+        &self,
+        index: usize,
+        kind: Kind,
+        number: u32,
+        moment: u32,
+        below: u32,
+    ) -> Option<u32> {
         for finding in self.found[..index.min(self.found.len())].iter().rev() {
             if finding.moment != moment {
                 return None;
             }
-            if matches!(finding.kind, Kind::Severed)
-                && finding.subject < number
+            if finding.kind.number() == kind.number()
+                && finding.subject < below
                 && self.are_of_one_chain(finding.subject, number)
             {
                 return Some(finding.subject);
             }
         }
         None
+    }
+
+    /// The row before another that broke its chain at a moment: it is told before it in the list.
+    pub fn severing(&self, index: usize, number: u32, moment: u32) -> Option<u32> {
+        self.told_before(index, Kind::Severed, number, moment, number)
+    }
+
+    /// The row that failed at a moment, and with it the chain of another.
+    pub fn failing(&self, index: usize, number: u32, moment: u32) -> Option<u32> {
+        self.told_before(index, Kind::Failed, number, moment, u32::MAX)
     }
 }

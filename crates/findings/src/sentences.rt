@@ -8,6 +8,7 @@ mod errors;
 mod left;
 mod listing;
 mod matches;
+mod objects;
 mod rings;
 mod submitting;
 mod uses;
@@ -146,7 +147,7 @@ pub(crate) fn sentence(alloc: Global, run: &Run<'_>, index: usize) -> Result<Str
     };
     match finding.kind {
         Kind::Overflow => rings::overflow(alloc, run, finding.moment),
-        Kind::Busy => rings::busy(alloc, finding.subject),
+        Kind::Busy => rings::busy(alloc, run, finding.subject, finding.moment),
         Kind::TakenShort => rings::taken_short(alloc, run, finding.subject, finding.moment),
         Kind::NoSuchSlot => rings::no_such_slot(alloc, run, finding.subject, finding.moment),
         Kind::SlotInUse => uses::slot_in_use(alloc, run, finding.subject, finding.moment),

@@ -42,6 +42,11 @@ fn fits_opcode(entry: &Sqe, row: &Row) -> bool {
     row.entry.opcode != Op::LinkTimeout as u8
 }
 
+// Whether a row uses the descriptor that an entry names.
+fn names_descriptor(entry: &Sqe, row: &Row) -> bool {
+    uses_descriptor(row.entry.opcode) && row.entry.fd == entry.fd
+}
+
 // Whether a row that had come by a moment has the user_data that an entry looks for.
 fn is_candidate(run: &Run<'_>, about: &About, number: u32, row: &Row) -> bool {
     let came = match run.times_of(number) {
@@ -51,15 +56,36 @@ fn is_candidate(run: &Run<'_>, about: &About, number: u32, row: &Row) -> bool {
     came && number != about.number && row.entry.user_data == about.row.entry.addr
 }
 
-// Of those the last one of an opcode that the entry can cancel or remove; where there is none, the
-// first.
+fn is_queued(run: &Run<'_>, number: u32, moment: u32) -> bool {
+    match run.times_of(number) {
+        Some(times) => times.is_queued_at(moment),
+        None => false,
+    }
+}
+
+// How near such a row is to one that the entry finds: of another opcode, ended, or queued still.
+fn nearness(run: &Run<'_>, about: &About, number: u32, row: &Row) -> u8 {
+    if !is_candidate(run, about, number, row) {
+        return 0;
+    }
+    if !fits_opcode(&about.row.entry, row) {
+        return 1;
+    }
+    if is_queued(run, number, about.moment) {
+        3
+    } else {
+        2
+    }
+}
+
+// The nearest of them. Of several it is the last one; of another opcode, the first.
 fn nearest_candidate(run: &Run<'_>, about: &About) -> Option<u32> {
-    let mut nearest = None;
+    let (mut nearest, mut most) = (None, 0);
     for number in 0..run.history.rows.len().min(65536) as u32 {
         if let Some(row) = run.row(number) {
-            let fits = fits_opcode(&about.row.entry, &row);
-            if is_candidate(run, about, number, &row) && (fits || nearest.is_none()) {
-                nearest = Some(number);
+            let near = nearness(run, about, number, &row);
+            if near > most || (near == most && near > 1) {
+                (nearest, most) = (Some(number), near);
             }
         }
     }
@@ -108,6 +134,35 @@ fn reason_by_user_data(alloc: Global, run: &Run<'_>, about: &About) -> Result<St
     }
 }
 
+// The first queued row that names the descriptor of which a cancel found no request.
+fn queued_user(run: &Run<'_>, about: &About) -> Option<u32> {
+    for number in 0..run.history.rows.len().min(65536) as u32 {
+        if let Some(row) = run.row(number) {
+            if number != about.number
+                && names_descriptor(&about.row.entry, &row)
+                && is_queued(run, number, about.moment)
+            {
+                return Some(number);
+            }
+        }
+    }
+    None
+}
+
+fn reason_by_descriptor(alloc: Global, run: &Run<'_>, about: &About) -> Result<String, AllocError> {
+    let fd = about.row.entry.fd;
+    let queued = match queued_user(run, about) {
+        Some(number) => run.name(number),
+        None => None,
+    };
+    match queued {
+        Some(name) => format!(in alloc;
+            "no issued request held descriptor {fd}; row {name} names it, but was queued still, and a cancel finds issued requests alone"
+        ),
+        None => format!(in alloc; "no issued request held descriptor {fd}"),
+    }
+}
+
 // What the result of a cancel of all that found nothing says.
 fn what_counts(res: i32) -> &'static str {
     if res < 0 {
@@ -122,13 +177,11 @@ pub(crate) fn not_found(alloc: Global, run: &Run<'_>, about: &About) -> Result<S
     let rule = rule_of(&about.row.entry);
     let told = ResultName(about.result(run));
     let count = what_counts(about.result(run));
-    if is_by_descriptor(&about.row.entry) {
-        let fd = about.row.entry.fd;
-        return format!(in alloc;
-            "Row {name} ended with {told}{count}: no issued request held descriptor {fd} {rule}."
-        );
-    }
-    let reason = reason_by_user_data(alloc, run, about)?;
+    let reason = if is_by_descriptor(&about.row.entry) {
+        reason_by_descriptor(alloc, run, about)?
+    } else {
+        reason_by_user_data(alloc, run, about)?
+    };
     format!(in alloc; "Row {name} ended with {told}{count}: {reason} {rule}.")
 }
 
@@ -150,7 +203,7 @@ fn is_found(run: &Run<'_>, about: &About, number: u32, row: &Row) -> bool {
         None => false,
     };
     let fits = if is_by_descriptor(&about.row.entry) {
-        uses_descriptor(row.entry.opcode) && row.entry.fd == about.row.entry.fd
+        names_descriptor(&about.row.entry, row)
     } else {
         row.entry.user_data == about.row.entry.addr
     };

@@ -5,6 +5,7 @@ use super::cancels::rule_of;
 use super::listing::Listing;
 use crate::names::ResultName;
 use crate::run::Run;
+use entries::Row;
 use machine::Event;
 use std::alloc::{AllocError, Global};
 
@@ -12,9 +13,20 @@ const HARD_RULE: &str = "(io_uring_enter(2), IOSQE_IO_HARDLINK)";
 
 const RULE: &str = "(io_uring_enter(2), IOSQE_IO_LINK)";
 
+/// IOSQE_IO_HARDLINK.
+const IO_HARDLINK: u8 = 8;
+
 const GUARD_RULE: &str = "(io_uring_enter(2), IORING_OP_LINK_TIMEOUT)";
 
 const ERROR_RULE: &str = "(io_uring_enter(2), CQE ERRORS)";
+
+// The rule of a row's link.
+fn rule_of_link(row: Option<Row>) -> &'static str {
+    match row {
+        Some(row) if row.entry.flags & IO_HARDLINK != 0 => HARD_RULE,
+        _ => RULE,
+    }
+}
 
 // Names the rows that ended with a chain, the first of them and how many there were.
 fn cut_rows(alloc: Global, run: &Run<'_>, about: &About) -> Result<String, AllocError> {
@@ -58,8 +70,8 @@ enum Cause {
     Cancel(u32),
     /// This LINK_TIMEOUT, whose target it is, expired.
     Guard(u32),
-    /// An entry of its chain failed as it was submitted.
-    Submission,
+    /// This row of its chain failed as it was submitted.
+    Failure(u32),
     None,
 }
 
@@ -68,14 +80,24 @@ fn cause_in_event(run: &Run<'_>, about: &About) -> Cause {
     match run.event(about.moment) {
         Some(Event::Finish(by, _)) if by != about.number => Cause::Cancel(by),
         Some(Event::Expire(by)) if by != about.number => Cause::Guard(by),
-        Some(Event::Step(_) | Event::Take(_)) => Cause::Submission,
         _ => Cause::None,
     }
+}
+
+// The row that failed as its chain was submitted.
+fn failing(run: &Run<'_>, about: &About) -> Option<u32> {
+    if run.times_of(about.number)?.came != about.moment {
+        return None;
+    }
+    run.failing(about.index, about.number, about.moment)
 }
 
 fn cause_of(run: &Run<'_>, about: &About) -> Cause {
     if let Some(by) = run.severing(about.index, about.number, about.moment) {
         return Cause::Chain(by);
+    }
+    if let Some(by) = failing(run, about) {
+        return Cause::Failure(by);
     }
     match about.row.target {
         Some(target) if run.ends_at(target, about.moment) => Cause::Target(target),
@@ -86,8 +108,12 @@ fn cause_of(run: &Run<'_>, about: &About) -> Cause {
 // The row that a cause names.
 fn row_of(cause: Cause) -> Option<u32> {
     match cause {
-        Cause::Chain(by) | Cause::Target(by) | Cause::Cancel(by) | Cause::Guard(by) => Some(by),
-        Cause::Submission | Cause::None => None,
+        Cause::Chain(by)
+        | Cause::Target(by)
+        | Cause::Cancel(by)
+        | Cause::Guard(by)
+        | Cause::Failure(by) => Some(by),
+        Cause::None => None,
     }
 }
 
@@ -98,15 +124,17 @@ fn deed_of(cause: Cause) -> &'static str {
         Cause::Target(_) => ", its target, ended first",
         Cause::Cancel(_) => " cancelled it",
         Cause::Guard(_) => " expired",
-        Cause::Submission => "an entry of its chain failed as it was submitted",
+        Cause::Failure(_) => ", of its chain, failed as it was submitted",
         Cause::None => "it was cancelled",
     }
 }
 
-// The rule that it did it by.
-fn rule_of_cause(run: &Run<'_>, cause: Cause) -> &'static str {
+// The rule that it did it by, to a row.
+fn rule_of_cause(run: &Run<'_>, cause: Cause, number: u32) -> &'static str {
     match cause {
-        Cause::Chain(_) | Cause::Submission => RULE,
+        Cause::Chain(_) => RULE,
+        Cause::Failure(by) if by < number => rule_of_link(run.row(number.saturating_sub(1))),
+        Cause::Failure(_) => rule_of_link(run.row(number)),
         Cause::Target(_) | Cause::Guard(_) => GUARD_RULE,
         Cause::Cancel(by) => match run.row(by) {
             Some(row) => rule_of(&row.entry),
@@ -121,7 +149,7 @@ pub(crate) fn canceled(alloc: Global, run: &Run<'_>, about: &About) -> Result<St
     let name = about.name();
     let cause = cause_of(run, about);
     let deed = deed_of(cause);
-    let rule = rule_of_cause(run, cause);
+    let rule = rule_of_cause(run, cause, about.number);
     let by = match row_of(cause) {
         Some(number) => run.name(number),
         None => None,
@@ -155,7 +183,8 @@ pub(crate) fn cut_off(alloc: Global, run: &Run<'_>, about: &About) -> Result<Str
     } else {
         "no further entry was taken with it"
     };
+    let rule = rule_of_link(Some(about.row));
     format!(in alloc;
-        "Row {name} is linked to the next entry, but is the last of its submission: {reason}. A chain ends with its submission, so what is taken later does not wait for it by this link {RULE}."
+        "Row {name} is linked to the next entry, but is the last of its submission: {reason}. A chain ends with its submission, so what is taken later does not wait for it by this link {rule}."
     )
 }

@@ -1,6 +1,7 @@
 //! Sentences about requests that ended with an error, or short.
 
 use super::About;
+use super::objects::{reason_of_descriptor, reason_of_object};
 use super::submitting::reason_of_entry;
 use crate::names::ResultName;
 use crate::run::Run;
@@ -22,16 +23,9 @@ const TOO_LARGE: i32 = -27;
 
 const BROKEN_PIPE: i32 = -32;
 
-// What a request met as it was carried out.
-fn reason_of_end(res: i32) -> &'static str {
-    if res == BAD_DESCRIPTOR {
-        return "its descriptor is not open, or is the other end of a pipe";
-    }
+fn word_of_end(res: i32) -> &'static str {
     if res == BAD_ADDRESS {
         return "its buffer leaves memory";
-    }
-    if res == INVALID {
-        return "its object refuses such a request, its offset or its length";
     }
     if res == TOO_LARGE {
         return "a file cannot grow so far";
@@ -42,11 +36,27 @@ fn reason_of_end(res: i32) -> &'static str {
     "it could not be carried out"
 }
 
+// What a request met as it was carried out.
+fn reason_of_end(
+    alloc: Global,
+    run: &Run<'_>,
+    entry: &Sqe,
+    res: i32,
+) -> Result<String, AllocError> {
+    if res == BAD_DESCRIPTOR {
+        return reason_of_descriptor(alloc, run, entry);
+    }
+    if res == INVALID {
+        return reason_of_object(alloc, run, entry);
+    }
+    String::from_str(alloc, word_of_end(res))
+}
+
 fn reason(alloc: Global, run: &Run<'_>, about: &About, res: i32) -> Result<String, AllocError> {
     match run.event(about.moment) {
         Some(Event::Step(_) | Event::Take(_)) => reason_of_entry(alloc, run, about, res),
         Some(Event::Finish(_, Choice::Eio)) => String::from_str(alloc, "the device failed"),
-        _ => String::from_str(alloc, reason_of_end(res)),
+        _ => reason_of_end(alloc, run, &about.row.entry, res),
     }
 }
 
@@ -83,25 +93,40 @@ pub(crate) fn reason_of_short(run: &Run<'_>, about: &About) -> &'static str {
     }
 }
 
-// The first field that nothing looks at and that isn't 0, with its value.
-fn idle_field(entry: &Sqe) -> (&'static str, i64) {
-    if entry.ioprio != 0 {
-        return ("ioprio", i64::from(entry.ioprio));
-    }
-    if entry.buf_index != 0 {
-        return ("buf_index", i64::from(entry.buf_index));
-    }
-    if entry.personality != 0 {
-        return ("personality", i64::from(entry.personality));
-    }
-    ("splice_fd_in", i64::from(entry.splice_fd_in))
+// The fields that nothing looks at, with their values.
+fn idle_fields(entry: &Sqe) -> [(&'static str, i64); 4] {
+    [
+        ("ioprio", i64::from(entry.ioprio)),
+        ("buf_index", i64::from(entry.buf_index)),
+        ("personality", i64::from(entry.personality)),
+        ("splice_fd_in", i64::from(entry.splice_fd_in)),
+    ]
 }
 
-/// A field that has no effect.
+// Names those that aren't 0, and says whether they are several.
+fn named_fields(alloc: Global, entry: &Sqe) -> Result<(String, bool), AllocError> {
+    let mut text = String::new(alloc);
+    let mut are_several = false;
+    for (field, value) in idle_fields(entry) {
+        if value != 0 {
+            are_several = !text.is_empty();
+            let before = if are_several { ", " } else { "" };
+            text.push_str(format!(in alloc; "{before}{field} {value}")?.as_str())?;
+        }
+    }
+    Ok((text, are_several))
+}
+
+/// Fields that have no effect.
 pub(crate) fn no_effect(alloc: Global, about: &About) -> Result<String, AllocError> {
     let name = about.name();
-    let (field, value) = idle_field(&about.row.entry);
+    let (fields, are_several) = named_fields(alloc, &about.row.entry)?;
+    let (verb, object) = if are_several {
+        ("have", "them")
+    } else {
+        ("has", "it")
+    };
     format!(in alloc;
-        "Row {name} has {field} {value}, which has no effect here: no request of this profile looks at it (io_uring_enter(2))."
+        "Row {name} has {fields}, which {verb} no effect here: no request of this profile looks at {object} (io_uring_enter(2))."
     )
 }

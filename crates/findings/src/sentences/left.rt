@@ -10,6 +10,7 @@ use entries::{Phase, Row};
 use links_drains::{is_guard, is_unfinished};
 use machine::{Event, Refusal, Setup, State};
 use opcodes::{Choice, is_timer};
+use places::{Place, Value};
 use std::alloc::{AllocError, Global};
 
 const LINK_RULE: &str = "(io_uring_enter(2), IOSQE_IO_LINK)";
@@ -129,17 +130,36 @@ fn queued(alloc: Global, run: &Run<'_>, number: u32, row: &Row) -> Result<String
     }
 }
 
+// What an issued TIMEOUT lacks of the completions that it waits for beside its time.
+fn lacking(alloc: Global, run: &Run<'_>, row: &Row) -> Result<String, AllocError> {
+    let wanted = row.entry.off;
+    if is_guard(row) || wanted == 0 {
+        return Ok(String::new(alloc));
+    }
+    let counted = match run.state.value(Place::Counted) {
+        Some(Value::Number(counted)) => counted.saturating_sub(u64::from(row.base)),
+        _ => 0,
+    };
+    let lacks = wanted.saturating_sub(counted);
+    format!(in alloc; "; it waits for {wanted} completions too, and lacks {lacks}")
+}
+
+fn timer(alloc: Global, run: &Run<'_>, number: u32, row: &Row) -> Result<String, AllocError> {
+    let rule = if is_guard(row) {
+        LINK_TIMEOUT_RULE
+    } else {
+        TIMEOUT_RULE
+    };
+    let lacking = lacking(alloc, run, row)?;
+    match run.state.refuses(Event::Expire(number)) {
+        Some(_) => format!(in alloc; "It is issued, and its time is not up{lacking} {rule}."),
+        None => String::from_str(alloc, "It is issued and due: the schedule just ends."),
+    }
+}
+
 fn issued(alloc: Global, run: &Run<'_>, number: u32, row: &Row) -> Result<String, AllocError> {
     if is_timer(row.entry.opcode) {
-        let rule = if is_guard(row) {
-            LINK_TIMEOUT_RULE
-        } else {
-            TIMEOUT_RULE
-        };
-        return match run.state.refuses(Event::Expire(number)) {
-            Some(_) => format!(in alloc; "It is issued, and its time is not up {rule}."),
-            None => String::from_str(alloc, "It is issued and due: the schedule just ends."),
-        };
+        return timer(alloc, run, number, row);
     }
     match run.state.refuses(Event::Finish(number, Choice::Full)) {
         Some(Refusal::NotReady) => waits(alloc, run, row),

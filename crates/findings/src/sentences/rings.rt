@@ -1,7 +1,8 @@
 //! Sentences about rings, and threads at them.
 
+use crate::conditions::instruction_at;
 use crate::run::Run;
-use machine::Instruction;
+use machine::{Event, Instruction};
 use places::{Place, Stage, Value};
 use std::alloc::{AllocError, Global};
 
@@ -50,9 +51,15 @@ pub(crate) fn overflow(alloc: Global, run: &Run<'_>, moment: u32) -> Result<Stri
 }
 
 /// An Enter that was answered EBUSY.
-pub(crate) fn busy(alloc: Global, thread: u32) -> Result<String, AllocError> {
+pub(crate) fn busy(
+    alloc: Global,
+    run: &Run<'_>,
+    thread: u32,
+    moment: u32,
+) -> Result<String, AllocError> {
+    let counter = run.counter(moment).unwrap_or(0);
     format!(in alloc;
-        "The enter of thread {thread} was answered -16 (EBUSY), and took no entry: completions are kept, and the ring has no room for all of them. Reap, then enter again {BACKLOG_RULE}."
+        "The enter of thread {thread}, instruction {counter}, was answered -16 (EBUSY), and took no entry: completions are kept, and the ring has no room for all of them. Reap, then enter again {BACKLOG_RULE}."
     )
 }
 
@@ -105,6 +112,8 @@ pub(crate) fn taken_short(
     let (came, failed) = came_at(run, moment);
     let reason = if failed && !run.setup.submit_all {
         "an entry failed, and the submission halts behind one"
+    } else if number(run, Place::SubmissionDropped) == 0 {
+        "no more waited in the ring"
     } else {
         "no more waited in the ring, or an index that names no slot used one up"
     };
@@ -130,6 +139,22 @@ pub(crate) fn no_such_slot(
     )
 }
 
+// What an Enter asked for, where the ring can't hold as many completions.
+fn beyond_ring(
+    alloc: Global,
+    run: &Run<'_>,
+    thread: u32,
+    counter: u64,
+    wanted: u32,
+) -> Result<String, AllocError> {
+    match instruction_at(run.setup, Event::Step(thread), Some(counter)) {
+        Some(Instruction::Enter { min_complete, .. }) if *min_complete > wanted => {
+            format!(in alloc; " (min_complete is {min_complete}, and the ring holds {wanted})")
+        }
+        _ => Ok(String::new(alloc)),
+    }
+}
+
 /// A thread that waits.
 pub(crate) fn waits(alloc: Global, run: &Run<'_>, thread: u32) -> Result<String, AllocError> {
     let counter = number(run, Place::ProgramCounter(thread));
@@ -138,8 +163,13 @@ pub(crate) fn waits(alloc: Global, run: &Run<'_>, thread: u32) -> Result<String,
         Some(Value::Staged(Stage::Waiting(_, wanted))) => wanted,
         _ => 0,
     };
+    let beyond = beyond_ring(alloc, run, thread, counter, wanted)?;
+    let outlook = match run.state.refuses(Event::Step(thread)) {
+        Some(_) => "",
+        None => ". It has what it wants, and could go on: the schedule just ends",
+    };
     format!(in alloc;
-        "Thread {thread} waits in its enter, instruction {counter}, to the end. It wants completions: {wanted}; in the ring: {ready} {WAIT_RULE}."
+        "Thread {thread} waits in its enter, instruction {counter}, to the end. It wants completions: {wanted}{beyond}; in the ring: {ready}{outlook} {WAIT_RULE}."
     )
 }
 
