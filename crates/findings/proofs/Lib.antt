@@ -16,3 +16,4 @@ pub mod Left
 pub mod Alike
 pub mod OnDevice
 pub mod Followed
+pub mod Unexplained

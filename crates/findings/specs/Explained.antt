@@ -1,10 +1,14 @@
 -- What is told of a script's run, or a trace's.
-use Rattle.std.specs.Prelude.{◌≡◌, ◌==◌, Bool, true, false, ◌&&◌, Option, Some, None, Ok, List, ℕ}
+use Rattle.std.specs.Prelude.{◌≡◌, ◌==◌, Bool, true, false, ◌&&◌, Option, Some, None, Ok, Err, List, ℕ}
 use Rattle.std.specs.List.{list_any}
 use Rattle.scenario.specs.declared.event.Event.{Event}
 use Rattle.scenario.specs.declared.setup.Setup.{Setup}
+use Rattle.machine.specs.Runs.{IsRefused}
 use Rattle.script.specs.Scripts.{Scenario, Reads}
+use Rattle.traces.specs.Reading.{IsFault2}
 use Rattle.traces.specs.Setups.{IsTrace2}
+use Rattle.run_log.specs.declared.fault.LogFault.{LogFault}
+use Rattle.run_log.specs.declared.fault.LogFault.TheVariants.{Script, Trace, Schedule, Write, Memory}
 use Rattle.findings.specs.declared.finding.Finding.{Finding}
 use Rattle.findings.specs.declared.kind.Kind.{Kind}
 use Rattle.findings.specs.declared.kind.Kind.TheVariants.{Failed, Short, Severed, Canceled, TimedOut, Expired, NotFound, TooLate, Overflow, Busy, Waits, LostWakeUp, NotTaken, NotReaped, Unfinished, BufferInUse, Unordered, SharedPosition, FsyncEarly, TakenShort, NoSuchSlot, CutOff, WentOn, NoEffect, SlotInUse, ClosedEarly, ClosedWhileHeld, Several, LeftRunning, SameUserData, NotDurable, RefusedFlags}
@@ -106,3 +110,33 @@ ExplainsTrace trace asked some = (s : Setup) × (es : List Event) × IsTrace2 s 
 abbrev pub ExplainsRun : Bool → List ℕ → Option Kind → Bool → Type 0
 ExplainsRun true bytes asked some = ExplainsTrace bytes asked some
 ExplainsRun false bytes asked some = ExplainsScript bytes asked some
+
+-- ---- why a run isn't explained
+
+-- the first event that is refused, want of memory, or what writes
+abbrev pub Unexplained : Setup → List Event → LogFault → Type 0
+Unexplained s es (Schedule i n) = IsRefused s es i n
+Unexplained s es Memory = Unit {0}
+Unexplained s es Write = Unit {0}
+Unexplained s es (Script f) = ⊥
+Unexplained s es (Trace f) = ⊥
+
+-- the same of a script, or the first fault of its text
+abbrev pub UnexplainedScript : List ℕ → LogFault → Type 0
+UnexplainedScript text (Schedule i n) = (p : Scenario) × Reads text (Ok p) × IsRefused p.setup p.schedule i n
+UnexplainedScript text Memory = Unit {0}
+UnexplainedScript text Write = Unit {0}
+UnexplainedScript text (Script f) = Reads text (Err f)
+UnexplainedScript text (Trace f) = ⊥
+
+-- the same of a trace, or the first fault of its bytes
+abbrev pub UnexplainedTrace : List ℕ → LogFault → Type 0
+UnexplainedTrace trace (Schedule i n) = (s : Setup) × (es : List Event) × IsTrace2 s es trace × IsRefused s es i n
+UnexplainedTrace trace Memory = Unit {0}
+UnexplainedTrace trace Write = Unit {0}
+UnexplainedTrace trace (Script f) = ⊥
+UnexplainedTrace trace (Trace f) = IsFault2 trace f
+
+abbrev pub UnexplainedRun : Bool → List ℕ → LogFault → Type 0
+UnexplainedRun true bytes f = UnexplainedTrace bytes f
+UnexplainedRun false bytes f = UnexplainedScript bytes f

@@ -1,9 +1,9 @@
 //! Explaining a script or a trace.
-ghost use Rattle.std.specs.Prelude.{◌≡◌, ◌≤◌, None, IfOk, length};
+ghost use Rattle.std.specs.Prelude.{◌≡◌, ◌⊎◌, ◌≤◌, None, IfOk, IfErr, length};
 ghost use Rattle.std.specs.List.{list_any};
 ghost use Rattle.scenario.specs.Setups.{setup_refusal};
 ghost use Rattle.run_log.specs.Logs.{is_trace};
-ghost use Rattle.findings.specs.Explained.{is_asked, counts, Explains, ExplainsScript, ExplainsTrace, ExplainsRun};
+ghost use Rattle.findings.specs.Explained.{is_asked, counts, Explains, ExplainsScript, ExplainsTrace, ExplainsRun, Unexplained, UnexplainedScript, UnexplainedTrace, UnexplainedRun};
 
 use crate::finding::Finding;
 use crate::json::add_object;
@@ -141,7 +141,9 @@ fn tell<W: Write>(
     run: &Run<'_>,
     asked: Asked,
     writer: &mut W,
-) -> Result<(), LogFault> {
+) -> Result<(), LogFault>
+    ensures { IfErr result (λ f. (f ≡ LogFault.Memory) ⊎ (f ≡ LogFault.Write)) }
+{
     let Ok(text) = text_of(alloc, run, asked) else {
         return Err(LogFault::Memory);
     };
@@ -152,6 +154,7 @@ fn tell<W: Write>(
 }
 
 // Runs some events from a setup, and tells what they show. Says whether some of it is a fault.
+#[tactic(auto, using(crate::proofs::Unexplained::unexplained_halted, crate::proofs::Unexplained::unexplained_untold))]
 fn explain_events<W: Write>(
     alloc: Global,
     setup: &Setup,
@@ -161,13 +164,17 @@ fn explain_events<W: Write>(
 ) -> Result<bool, LogFault>
     requires starts { setup_refusal setup.now ≡ None }
     requires most { length events.now ≤ 1048576 }
-    ensures { IfOk result (Explains setup.now events.now asked.kind) }
+    ensures ok { IfOk result (Explains setup.now events.now asked.kind) }
+    ensures err { IfErr result (Unexplained setup.now events.now) }
 {
     let Ok(mut state) = State::new(alloc, setup) else {
         return Err(LogFault::Memory);
     };
     let mut history = History::new(alloc);
-    let found = search(alloc, &mut state, setup, events, &mut history)?;
+    let found = match search(alloc, &mut state, setup, events, &mut history) {
+        Ok(found) => found,
+        Err(fault) => return Err(fault),
+    };
     let run = Run {
         setup,
         state: &state,
@@ -175,8 +182,10 @@ fn explain_events<W: Write>(
         history: &history,
         found: &found,
     };
-    tell(alloc, &run, asked, writer)?;
-    Ok(has_fault(asked.kind, &found))
+    match tell(alloc, &run, asked, writer) {
+        Ok(()) => Ok(has_fault(asked.kind, &found)),
+        Err(fault) => Err(fault),
+    }
 }
 
 // The same of a script's schedule.
@@ -186,43 +195,52 @@ fn explain_plan<W: Write>(
     asked: Asked,
     writer: &mut W,
 ) -> Result<bool, LogFault>
-    ensures { IfOk result (Explains script.now.setup script.now.schedule asked.kind) }
+    ensures ok { IfOk result (Explains script.now.setup script.now.schedule asked.kind) }
+    ensures err { IfErr result (Unexplained script.now.setup script.now.schedule) }
 {
     explain_events(alloc, script.setup(), script.schedule(), asked, writer)
 }
 
+#[tactic(auto, using(crate::proofs::Unexplained::unexplained_script))]
 fn explain_script<W: Write>(
     alloc: Global,
     text: &[u8],
     asked: Asked,
     writer: &mut W,
 ) -> Result<bool, LogFault>
-    ensures { IfOk result (ExplainsScript text.now asked.kind) }
+    ensures ok { IfOk result (ExplainsScript text.now asked.kind) }
+    ensures err { IfErr result (UnexplainedScript text.now) }
 {
     let script = match read_script(alloc, text) {
         Ok(script) => script,
         Err(ScriptFault::Memory) => return Err(LogFault::Memory),
         Err(fault) => return Err(LogFault::Script(fault)),
     };
-    let faults = explain_plan(alloc, &script, asked, writer)?;
-    Ok(faults)
+    match explain_plan(alloc, &script, asked, writer) {
+        Ok(faults) => Ok(faults),
+        Err(fault) => Err(fault),
+    }
 }
 
+#[tactic(auto, using(crate::proofs::Unexplained::unexplained_trace))]
 fn explain_trace<W: Write>(
     alloc: Global,
     trace: &[u8],
     asked: Asked,
     writer: &mut W,
 ) -> Result<bool, LogFault>
-    ensures { IfOk result (ExplainsTrace trace.now asked.kind) }
+    ensures ok { IfOk result (ExplainsTrace trace.now asked.kind) }
+    ensures err { IfErr result (UnexplainedTrace trace.now) }
 {
     let (setup, events) = match read_trace2(alloc, trace) {
         Ok(found) => found,
         Err(TraceFault::Memory) => return Err(LogFault::Memory),
         Err(fault) => return Err(LogFault::Trace(fault)),
     };
-    let faults = explain_events(alloc, &setup, &events, asked, writer)?;
-    Ok(faults)
+    match explain_events(alloc, &setup, &events, asked, writer) {
+        Ok(faults) => Ok(faults),
+        Err(fault) => Err(fault),
+    }
 }
 
 /// Runs what the bytes are, a trace where the first one is a `U`, and else a script, and tells what
@@ -234,7 +252,8 @@ pub fn explain_run<W: Write>(
     asked: Asked,
     writer: &mut W,
 ) -> Result<bool, LogFault>
-    ensures { IfOk result (ExplainsRun (is_trace bytes.now) bytes.now asked.kind) }
+    ensures ok { IfOk result (ExplainsRun (is_trace bytes.now) bytes.now asked.kind) }
+    ensures err { IfErr result (UnexplainedRun (is_trace bytes.now) bytes.now) }
 {
     match bytes {
         [TRACE_MARK, ..] => explain_trace(alloc, bytes, asked, writer),
