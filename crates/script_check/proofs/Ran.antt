@@ -9,7 +9,7 @@ use Rattle.scenario.specs.declared.setup.Setup.{Setup}
 use Rattle.machine.specs.declared.whole.Machine.{Machine}
 use Rattle.machine.specs.Steps.{after, refusal, Next}
 use Rattle.machine.specs.Runs.{start, moment, Accepts}
-use Rattle.findings.proofs.Longer.{accepts_more, moment_more}
+use Rattle.machine.proofs.Longer.{accepts_more, moment_more}
 use Rattle.script_check.specs.Verdicts.{Stops}
 
 -- the first i events have run
