@@ -6,10 +6,10 @@ use std::alloc::{AllocError, Global};
 use std::test::Fail;
 
 /// What a record keeps that names nothing.
-const LEAST: usize = 56;
+const LEAST: usize = 40;
 
 /// What the record of a NOP's end keeps at most.
-const END_OF_A_NOP: usize = 144;
+const END_OF_A_NOP: usize = 128;
 
 /// What the record of an event keeps at most beside the bytes that it names: those of a request
 /// that ends, or of a thread's step.
