@@ -7,7 +7,7 @@ use Rattle.std.proofs.lemmas.Bool.Decides.{nat_tests}
 use Rattle.std.proofs.lemmas.Nat.Bits.{bit_at_and, bit_at_not, bit_at-lt}
 use Rattle.links_drains.specs.Sets.{has, IsNext, NoneFrom, IsNextBit}
 use Rattle.links_drains.specs.Beside.{is_beside, IsNextBeside, NoneBeside}
-use Rattle.links_drains.proofs.Numbers.{has_is, has_past}
+use Rattle.places.proofs.Bits.{has_is, has_past}
 
 abbrev beside_word : List ℕ → List ℕ → ℕ → ℕ
 beside_word words others w = bit_and (get_or words w 0) (bit_not w64 (get_or others w 0))

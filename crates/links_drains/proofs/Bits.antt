@@ -1,22 +1,10 @@
 -- Bits of a word.
-use Rattle.std.proofs.Common.{◌≡◌, ℕ, ◌-◌, ◌*◌, ◌%◌, ◌^◌, ◌<◌, ◌≤◌, Bool, true, false, not, cond, ◌==◌, eqb, refl, sym, ap, ◌∙◌, inl, inr, arith, bit_and, bit_or, w64}
+use Rattle.std.proofs.Common.{◌≡◌, ℕ, ◌-◌, ◌*◌, ◌%◌, ◌^◌, ◌<◌, ◌≤◌, Bool, true, false, cond, ◌==◌, refl, sym, ap, ◌∙◌, inl, inr, arith, bit_and, w64}
 use Rattle.std.specs.Int.{bit_at, bit_not, trailing_zeros}
 use Rattle.std.proofs.lemmas.Bool.{cases_eq, cases_lt, eq-eqb, ne_eqb}
-use Rattle.std.proofs.lemmas.Bool.Decides.{nat_tests}
-use Rattle.std.proofs.lemmas.Nat.{one_shl, pow_pos, and_le_l}
-use Rattle.std.proofs.lemmas.Nat.Bits.{bit_at_and, and_pow, bit_at-zero, bit_at-lt, ones_shl, bit_at_mask_inside, bit_at_mask_below, bit_at_above, bit_at-trailing_zeros, bit_at_set_same, bit_at_set_other, bit_at_clear_same, bit_at_clear_other}
+use Rattle.std.proofs.lemmas.Nat.{and_le_l}
+use Rattle.std.proofs.lemmas.Nat.Bits.{bit_at_and, bit_at-zero, bit_at-lt, ones_shl, bit_at_mask_inside, bit_at_mask_below, bit_at_above, bit_at-trailing_zeros, bit_at_clear_same, bit_at_clear_other}
 use Rattle.links_drains.specs.Sets.{IsNextBit}
-
--- the test of a bit
-pub tested_bit : (word bit : ℕ) → bit < 64 → not (eqb (bit_and word (1 * 2 ^ bit % 2 ^ 64)) 0) ≡ (bit_at word bit == 1)
-tested_bit word bit h = grind (arith, nat_tests, one_shl bit 64 h, and_pow word bit, pow_pos bit, bit_at-lt word bit)
-
--- a bit is set
-pub bit_set : (word bit b : ℕ) (member : Bool) → bit < 64 → member ≡ true → (bit_at (bit_or word (1 * 2 ^ bit % 2 ^ 64)) b == 1) ≡ cond (b == bit) member (bit_at word b == 1)
-bit_set word bit b member h m = elim (cases_eq b bit) [
-  | inl same ↦ rw (same, bit_at_set_same w64 word bit h, eq-eqb bit bit refl) (sym m)
-  | inr other ↦ rw (bit_at_set_other w64 word bit h b other, ne_eqb b bit other) refl
-]
 
 -- a bit is cleared
 pub bit_cleared : (word bit b : ℕ) (member : Bool) → bit < 64 → b < 64 → member ≡ false → (bit_at (bit_and word (bit_not w64 (1 * 2 ^ bit % 2 ^ 64))) b == 1) ≡ cond (b == bit) member (bit_at word b == 1)

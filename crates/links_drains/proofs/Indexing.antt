@@ -15,7 +15,7 @@ use Rattle.links_drains.specs.Thresholds.{threshold_at}
 use Rattle.links_drains.specs.Units.{passes_at, is_going, is_open, is_barrier}
 use Rattle.links_drains.specs.declared.index.Index.{Index}
 use Rattle.links_drains.proofs.Chains.{chained-none, chained-take, chained-updated}
-use Rattle.links_drains.proofs.Numbers.{has_past}
+use Rattle.places.proofs.Bits.{has_past}
 use Rattle.links_drains.proofs.RowsKept.{length-push}
 use Rattle.links_drains.proofs.Units.{any_of_set, any_of_push, any_of_take, any_of_none}
 

@@ -5,17 +5,10 @@ use Rattle.std.proofs.lemmas.Bool.{cases_eq, cases_lt, not-false, not-true, eqb-
 use Rattle.std.proofs.lemmas.Bool.Decides.{nat_tests}
 use Rattle.std.proofs.lemmas.List.{get_or-set_same, get_or-set_other, get_or_past, get_or_append_left, get_or_push, get_or-replicate, length-replicate, length-set, length_push}
 use Rattle.std.proofs.lemmas.Nat.Bits.{bit_at-zero, same_from_bits}
+use Rattle.places.proofs.Bits.{none_in_zero}
 use Rattle.links_drains.specs.Sets.{has, IsNextBit, IsNext, NoneFrom, Summed}
 
 -- ---- one number
-
-pub has_is : (words : List ℕ) (k : ℕ) → (bit_at (get_or words (k / 64) 0) (k % 64) == 1) ≡ has words k
-unfolding has
-has_is words k = refl
-
-pub has_past : (words : List ℕ) (k : ℕ) → 64 * length words ≤ k → has words k ≡ false
-unfolding has
-has_past words k h = let e : get_or words (k / 64) 0 ≡ 0 = get_or_past words (k / 64) 0 (omega arith) in rw (e, bit_at-zero (k % 64)) refl
 
 has_in : (words : List ℕ) (w b : ℕ) → b < 64 → has words (w * 64 + b) ≡ (bit_at (get_or words w 0) b == 1)
 unfolding has
@@ -24,28 +17,7 @@ has_in words w b h =
     let bit : (w * 64 + b) % 64 ≡ b = omega arith in
     rw (word, bit) refl
 
--- a word that is 0 has none
-none_in_zero : (words : List ℕ) (k : ℕ) → get_or words (k / 64) 0 ≡ 0 → has words k ≡ false
-unfolding has
-none_in_zero words k e = rw (e, bit_at-zero (k % 64)) refl
-
 -- ---- changes
-
--- one bit of a word is written
-pub has_written : (words : List ℕ) (k word : ℕ) (member : Bool) → k < 64 * length words
-    → ((b : ℕ) → b < 64 → (bit_at word b == 1) ≡ cond (b == k % 64) member (bit_at (get_or words (k / 64) 0) b == 1))
-    → (i : ℕ) → has (set words (k / 64) word) i ≡ cond (i == k) member (has words i)
-unfolding has
-has_written words k word member within bits i = elim (cases_eq (i / 64) (k / 64)) [
-  | inl same ↦
-      let here : get_or (set words (k / 64) word) (k / 64) 0 ≡ word = get_or-set_same words (k / 64) word 0 (omega arith) in
-      let tests : (i % 64 == k % 64) ≡ (i == k) = grind (arith, nat_tests) in
-      rw (same, here, bits (i % 64) (omega arith), tests) refl
-  | inr other ↦
-      let there : get_or (set words (k / 64) word) (i / 64) 0 ≡ get_or words (i / 64) 0 = get_or-set_other words (k / 64) (i / 64) word 0 other in
-      let differ : (i == k) ≡ false = ne_eqb i k (λ e. other (ap (λ n. n / 64) e)) in
-      rw (there, differ) refl
-]
 
 -- a word of zeros is added
 same_word : (words : List ℕ) (w : ℕ) → get_or (words ++ 0 ∷ []) w 0 ≡ get_or words w 0

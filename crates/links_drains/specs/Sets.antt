@@ -1,10 +1,7 @@
 -- Sets of numbers, as bits of words.
-use Rattle.std.specs.Prelude.{◌≡◌, ℕ, Bool, true, false, not, List, ◌/◌, ◌%◌, ◌==◌, ◌≤◌, ◌<◌, length, slice_index}
+use Rattle.std.specs.Prelude.{◌≡◌, ℕ, true, false, not, List, ◌==◌, ◌≤◌, ◌<◌, length, slice_index}
 use Rattle.std.specs.Int.{bit_at}
-
--- whether words have a number: 64 to a word, from the lowest bit on
-unfoldable pub has : List ℕ → ℕ → Bool
-has words k = bit_at (slice_index words (k / 64)) (k % 64) == 1
+unfoldable pub use Rattle.places.specs.Bits.{has}
 
 -- k is the least bit of a word from a bit on.
 pub record IsNextBit (word from k : ℕ) : Type 0 where

@@ -1,7 +1,7 @@
 -- What notes of memory and an object say as bytes come from the one into the other.
 use Rattle.std.proofs.Common.{◌≡◌, ℕ, Bool, true, false, cond, refl, sym, ◌∙◌, ap, subst, List, ◌++◌, length, take, drop, append_assoc, ◌+◌, ◌-◌, ◌<◌, ◌≤◌, ◌⊎◌, inl, inr, get_or, arith}
 use Rattle.std.specs.Int.{w64, to_le_bytes}
-use Rattle.std.specs.Prelude.{Option, Some, None, IsSome, IsSomeAnd, is_some, slice_get, slice_set, Result, Ok, Err, OnOk, ◌==◌}
+use Rattle.std.specs.Prelude.{Option, Some, None, IsSome, slice_get}
 use Rattle.std.specs.Option.{option_and_then}
 use Rattle.std.proofs.lemmas.Bool.{eqb-true}
 use Rattle.std.proofs.lemmas.Grind.{common_steps}

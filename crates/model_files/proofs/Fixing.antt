@@ -1,12 +1,11 @@
 -- What changes of a world leave as the setup fixed it.
 use Rattle.std.proofs.Common.{◌≡◌, ℕ, zero, suc, true, false, refl, sym, ◌∙◌, ap, List, [], ◌∷◌, length, ◌+◌, ◌-◌, ◌≤◌, drop, length-take, arith}
 use Rattle.std.specs.Prelude.{Option, Some, None, IsSome, IsSomeAnd, is_some, option_map, slice_get, map}
-use Rattle.std.specs.Option.{option_and_then}
 use Rattle.places.specs.Lists.{updated}
 use Rattle.model_files.specs.declared.body.Body.{Body}
 use Rattle.model_files.specs.declared.body.Body.TheVariants.{File, Pipe, EventFd}
 use Rattle.model_files.specs.declared.descriptor.DescriptorState.{DescriptorState}
-use Rattle.model_files.specs.Files.{FileState, part, written, synced}
+use Rattle.model_files.specs.Files.{part, written, synced}
 use Rattle.model_files.specs.Pipes.{GivesOut, put_in, taken_out}
 use Rattle.model_files.specs.Worlds.{WorldState, WorldFormed, OneSetup, kind_of_body, fixed_of, on_file, on_pipe, on_counter, pipe_of, world_taken, world_put, world_added, world_cleared, world_read, world_written, world_synced, world_at, world_closed, world_stored}
 use Rattle.model_files.proofs.Wrapping.{length-slots_with}

@@ -1,6 +1,6 @@
 -- Worlds stay well formed.
 use Rattle.std.proofs.Common.{◌≡◌, ℕ, zero, suc, false, refl, sym, ◌∙◌, ap, subst, List, [], ◌∷◌, length, take, drop, ◌+◌, ◌-◌, ◌≤◌, length-append, length-take, arith}
-use Rattle.std.specs.Prelude.{Option, Some, None, IsSomeAnd, slice_get, map, replicate, ◌<◌, ◌^◌}
+use Rattle.std.specs.Prelude.{Option, Some, None, IsSomeAnd, slice_get, map, ◌<◌, ◌^◌}
 use Rattle.std.specs.Option.{option_and_then}
 use Rattle.std.proofs.lemmas.List.{take_at, length-map, length-replicate}
 use Rattle.places.specs.Lists.{updated}

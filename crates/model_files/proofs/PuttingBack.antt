@@ -1,6 +1,6 @@
 -- What is seen of objects and of the world once bytes were put back.
-use Rattle.std.proofs.Common.{◌≡◌, ℕ, ◌<◌, ◌≤◌, ◌+◌, Bool, true, false, cond, refl, sym, ◌∙◌, ap, subst, List, length, arith, inl, inr}
-use Rattle.std.specs.Prelude.{Option, Some, None, IsSome, is_some, option_map, slice_get, unwrap_or, ◌==◌, ◌⊎◌}
+use Rattle.std.proofs.Common.{◌≡◌, ℕ, ◌≤◌, ◌+◌, Bool, true, false, cond, refl, sym, ◌∙◌, ap, subst, List, length, arith, inl, inr}
+use Rattle.std.specs.Prelude.{Option, Some, None, IsSome, option_map, slice_get, unwrap_or, ◌⊎◌}
 use Rattle.std.specs.Option.{option_and_then}
 use Rattle.std.proofs.lemmas.Option.{slice_get_within, slice_get_past}
 use Rattle.places.specs.declared.place.Place.{Place}

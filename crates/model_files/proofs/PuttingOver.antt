@@ -1,16 +1,16 @@
 -- Kept bytes are written over others.
-use Rattle.std.proofs.Common.{◌≡◌, ◌≢◌, ℕ, ◌<◌, ◌≤◌, ◌+◌, ◌-◌, ◌*◌, min, Bool, true, false, cond, refl, sym, ◌∙◌, ap, subst, List, length, arith, inl, inr}
-use Rattle.std.specs.Prelude.{Option, Some, None, option_map, slice_get, slice_set, unwrap_or, ◌==◌, ◌⊎◌}
+use Rattle.std.proofs.Common.{◌≡◌, ◌≢◌, ℕ, ◌<◌, ◌≤◌, ◌+◌, ◌-◌, ◌*◌, min, Bool, true, false, cond, refl, sym, ◌∙◌, ap, subst, List, length, take, arith, inl, inr}
+use Rattle.std.specs.Prelude.{Option, Some, None, map, option_map, slice_get, slice_set, slice_index_or, unwrap_or, ◌==◌, ◌⊎◌}
 use Rattle.std.proofs.lemmas.Bool.{eqb-true, eqb-false, ne_eqb}
-use Rattle.std.proofs.lemmas.List.{length-set}
-use Rattle.std.proofs.lemmas.Option.{slice_get_past}
+use Rattle.std.proofs.lemmas.List.{length-set, length-map, length-take-le, get_or-take}
+use Rattle.std.proofs.lemmas.Option.{slice_get_past, slice_get-map, slice_get-get_or}
 use Rattle.places.proofs.ListLemmas.{slice_get-set}
-use Rattle.places.specs.Masked.{masked, kept_byte, kept_at, PutOver}
-use Rattle.places.proofs.MaskedLemmas.{masked_here}
+use Rattle.places.specs.Masked.{kept_at, PutOver}
 use Rattle.places.proofs.KeptAt.{kept_before, kept_here, kept_past}
-use Rattle.model_files.specs.Files.{FileState, FileSized}
-use Rattle.model_files.specs.Pages.{Agree, FileTracked}
-use Rattle.model_files.proofs.Noting.{below_or_not}
+use Rattle.model_files.specs.Files.{FileState, overwritten}
+use Rattle.model_files.specs.Pages.{FileTracked}
+use Rattle.model_files.proofs.Comparing.{get-overwritten}
+use Rattle.model_files.proofs.Noting.{below_or_not, get-overwritten_other}
 
 over_none : (x : Option ℕ) → option_map (unwrap_or None) x ≡ x
 over_none None = refl
@@ -52,13 +52,13 @@ putting_one before now s os next o y p w k h = record {
     at j l true e = subst (λ i. Some (unwrap_or o y) ≡ option_map (unwrap_or (kept_at s os i)) (slice_get before i)) (eqb-true next j e) here
     at j l false e = p.done j (let n : next ≢ j = eqb-false next j e in omega arith)
 
--- one byte more, by its mark
-pub putting_on : (before now olds : List ℕ) (kept : List Bool) (s from i b y : ℕ) (k : Bool) → PuttingOver before now s (masked olds kept) (from + i) → from ≡ s → from + i < length now
-    → slice_get olds i ≡ Some b → slice_get kept i ≡ Some k → slice_get now (from + i) ≡ Some y → PuttingOver before (slice_set now (from + i) (unwrap_or (kept_byte k b) y)) s (masked olds kept) (from + (i + 1))
-putting_on before now olds kept s from i b y k p e w f g h =
-    let a : kept_at s (masked olds kept) (from + i) ≡ kept_byte k b = ap (λ z. kept_at s (masked olds kept) (z + i)) e ∙ kept_here s (masked olds kept) i (kept_byte k b) (masked_here olds kept i b k f g) in
+-- one byte more
+pub putting_on : (before now : List ℕ) (os : List (Option ℕ)) (s from i y : ℕ) (o : Option ℕ) → PuttingOver before now s os (from + i) → from ≡ s → from + i < length now
+    → slice_get os i ≡ Some o → slice_get now (from + i) ≡ Some y → PuttingOver before (slice_set now (from + i) (unwrap_or o y)) s os (from + (i + 1))
+putting_on before now os s from i y o p e w f h =
+    let a : kept_at s os (from + i) ≡ o = ap (λ z. kept_at s os (z + i)) e ∙ kept_here s os i o f in
     let n : (from + i) + 1 ≡ from + (i + 1) = omega arith in
-    subst (PuttingOver before (slice_set now (from + i) (unwrap_or (kept_byte k b) y)) s (masked olds kept)) n (putting_one before now s (masked olds kept) (from + i) (kept_byte k b) y p w a h)
+    subst (PuttingOver before (slice_set now (from + i) (unwrap_or o y)) s os) n (putting_one before now s os (from + i) o y p w a h)
 
 -- once no byte is left, or no kept one
 pub putting_all : (before now : List ℕ) (s : ℕ) (os : List (Option ℕ)) (next : ℕ) → PuttingOver before now s os next → (length before ≤ next) ⊎ (s + length os ≤ next) → PutOver before s os now
@@ -78,6 +78,41 @@ far_enough len start many from n i e f l = by (below_or_not (from + i) len)
     by : (from + i < len) ⊎ (len ≤ from + i) → (len ≤ from + i) ⊎ (start + many ≤ from + i)
     by (inl a) = inr (omega arith)
     by (inr a) = inl a
+
+-- ---- bytes that are all kept
+
+put_here : (xs others : List ℕ) (s from n i d : ℕ) → from + n ≤ length xs → n ≤ length others → from ≡ s → i ≡ from + d → d < n → slice_get (overwritten xs from (take n others)) i ≡ option_map (unwrap_or (kept_at s (map (λ b. Some b) others) i)) (slice_get xs i)
+put_here xs others s from n i d within few start at below =
+    let len : length (take n others) ≡ n = length-take-le n others few in
+    let b : ℕ = slice_index_or others d 0 in
+    let first : slice_get (overwritten xs from (take n others)) i ≡ slice_get (take n others) d = ap (slice_get (overwritten xs from (take n others))) at ∙ get-overwritten xs (take n others) from d (omega arith) (omega arith) in
+    let old : slice_get (take n others) d ≡ Some b = slice_get-get_or (take n others) d 0 (omega arith) ∙ ap (λ x. Some x) (get_or-take n others d 0 below) in
+    let kept : kept_at s (map (λ b. Some b) others) i ≡ Some b = ap (kept_at s (map (λ b. Some b) others)) (at ∙ ap (λ z. z + d) start) ∙ kept_here s (map (λ b. Some b) others) d (Some b) (slice_get-map (λ b. Some b) others d ∙ ap (option_map (λ b. Some b)) (slice_get-get_or others d 0 (omega arith))) in
+    let there : slice_get xs i ≡ Some (slice_index_or xs i 0) = slice_get-get_or xs i 0 (omega arith) in
+    first ∙ old ∙ sym (ap (λ k. option_map (unwrap_or k) (slice_get xs i)) kept ∙ ap (option_map (unwrap_or (Some b))) there)
+
+pub put_all : (xs others : List ℕ) (s from n : ℕ) → from ≡ min s (length xs) → n ≡ min (length others) (length xs - from) → PutOver xs s (map (λ b. Some b) others) (overwritten xs from (take n others))
+put_all xs others s from n e f i = by (below_or_not i from) (below_or_not i (from + n)) (below_or_not i (length xs))
+  where
+    few : n ≤ length others
+    few = omega arith
+
+    within : from + n ≤ length xs
+    within = omega arith
+
+    len : from + length (take n others) ≤ length xs
+    len = let l = length-take-le n others few in omega arith
+
+    by : (i < from) ⊎ (from ≤ i) → (i < from + n) ⊎ (from + n ≤ i) → (i < length xs) ⊎ (length xs ≤ i) → slice_get (overwritten xs from (take n others)) i ≡ option_map (unwrap_or (kept_at s (map (λ b. Some b) others) i)) (slice_get xs i)
+    by (inl a) b c = get-overwritten_other xs from (take n others) i len (inl a) ∙ sym (stays s (map (λ b. Some b) others) i (slice_get xs i) (kept_before s (map (λ b. Some b) others) i (omega arith)))
+    by (inr a) (inl b) c = put_here xs others s from n i (i - from) within few (omega arith) (omega arith) (omega arith)
+    by (inr a) (inr b) (inl c) =
+        get-overwritten_other xs from (take n others) i len (inr (let l = length-take-le n others few in omega arith))
+        ∙ sym (stays s (map (λ b. Some b) others) i (slice_get xs i) (kept_past s (map (λ b. Some b) others) i (let l = length-map others (λ (b : ℕ). Some b) in omega arith)))
+    by (inr a) (inr b) (inr c) =
+        let none : slice_get xs i ≡ None = slice_get_past xs i c in
+        get-overwritten_other xs from (take n others) i len (inr (let l = length-take-le n others few in omega arith))
+        ∙ none ∙ sym (ap (λ (x : Option ℕ). option_map (unwrap_or (kept_at s (map (λ b. Some b) others) i)) x) none)
 
 -- ---- the pages of a file
 

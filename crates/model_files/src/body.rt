@@ -4,7 +4,8 @@ ghost use Rattle.places.specs.View.{Keeps, named};
 ghost use Rattle.places.specs.declared.place.Place.{Place};
 ghost use Rattle.places.specs.declared.place.Place.TheVariants.{FileByte, DurableByte, PipeByte};
 ghost use Rattle.model_files.specs.Pipes.{put_in, taken_out, GivesOut, TakesIn};
-ghost use Rattle.places.specs.Masked.{masked, BytesStand};
+ghost use Rattle.places.specs.Masked.{BytesStand};
+ghost use Rattle.places.specs.Stretched.{kept_of, CanCount};
 ghost use Rattle.model_files.specs.Objects.{CanPut, PutsIn, PutsBack, object_owns};
 ghost use Rattle.model_files.specs.Files.{synced, written, FileFormed};
 
@@ -93,12 +94,12 @@ impl Body {
 
     /// Puts back the bytes of a stretch.
     pub(crate) fn put_back(&mut self, stretch: Stretch<'_>)
-        requires paired { length stretch.kept.now ≡ length stretch.olds.now }
+        requires count { CanCount stretch }
         requires stand { BytesStand (body_seen self.old) stretch.region stretch.start
-            (masked stretch.olds.now stretch.kept.now) }
+            (kept_of stretch) }
         ensures put { PutsBack (body_seen self.old)
             (body_seen self.new) stretch.entry.region stretch.entry.start
-            (masked stretch.entry.olds.now stretch.entry.kept.now) }
+            (kept_of stretch.entry) }
         ensures kind { kind_of_body self.new ≡ kind_of_body self.old }
     {
         match self {

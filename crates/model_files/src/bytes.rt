@@ -1,8 +1,10 @@
 //! Bytes in bulk.
-ghost use Rattle.std.specs.Prelude.{◌≡◌, ◌+◌, ◌-◌, ◌≤◌, ◌++◌, length, unwrap_or, IfOk};
-ghost use Rattle.places.specs.Masked.{masked, kept_byte, PutOver};
+ghost use Rattle.std.specs.Prelude.{◌≡◌, ◌+◌, ◌-◌, ◌≤◌, ◌++◌, length, map, Some, IfOk};
+ghost use Rattle.places.specs.Masked.{PutOver};
+ghost use Rattle.places.specs.Stretched.{kept_of, CanCount};
 ghost use Rattle.model_files.specs.Files.{overwritten, padded, zeros};
 
+use places::Stretch;
 use std::alloc::{AllocError, Global};
 
 /// The most bytes that a file or the memory can have.
@@ -18,34 +20,41 @@ pub fn overwrite(bytes: &mut Vec<u8>, at: usize, others: &[u8])
     bytes[at..end].copy_from_slice(others);
 }
 
-/// Writes those bytes over others, from an index on, that are kept, as far as the others reach.
-pub fn put_over(bytes: &mut Vec<u8>, start: u32, olds: &[u8], kept: &[bool])
-    requires { length kept.now ≡ length olds.now }
-    ensures over { PutOver bytes.old.items start (masked olds.now kept.now) bytes.new.items }
+/// Writes the kept bytes of a stretch over others, as far as these reach.
+pub fn put_over(bytes: &mut Vec<u8>, stretch: &Stretch<'_>)
+    requires { CanCount stretch.now }
+    ensures over { PutOver bytes.old.items stretch.now.start (kept_of stretch.now)
+        bytes.new.items }
     ensures len { length bytes.new.items ≡ length bytes.old.items }
 {
-    put_over_slice(bytes, start as usize, olds, kept);
-}
-
-fn put_over_slice(bytes: &mut [u8], start: usize, olds: &[u8], kept: &[bool])
-    requires { length kept.now ≡ length olds.now }
-    ensures over { PutOver bytes.old start (masked olds.now kept.now) bytes.new }
-    ensures len { length bytes.new ≡ length bytes.old }
-{
-    let from = start.min(bytes.len());
-    let most = bytes.len() - from;
-    let n = olds.len().min(most);
-    for i in 0..n {
-        let at = from + i;
-        bytes[at] = chosen(kept[i], olds[i], bytes[at]);
+    if stretch.gone.is_empty() {
+        put_all_over(bytes, stretch.start as usize, stretch.olds);
+    } else {
+        put_over_slice(bytes, stretch);
     }
 }
 
-// An old byte, if it is kept, and else what stands there.
-fn chosen(is_kept: bool, old: u8, now: u8) -> u8
-    ensures { result ≡ unwrap_or (kept_byte is_kept old) now }
+fn put_all_over(bytes: &mut Vec<u8>, start: usize, olds: &[u8])
+    ensures over { PutOver bytes.old.items start (map Some olds.now) bytes.new.items }
+    ensures len { length bytes.new.items ≡ length bytes.old.items }
 {
-    if is_kept { old } else { now }
+    let from = start.min(bytes.len());
+    let n = olds.len().min(bytes.len() - from);
+    overwrite(bytes, from, &olds[..n]);
+}
+
+fn put_over_slice(bytes: &mut [u8], stretch: &Stretch<'_>)
+    requires { CanCount stretch.now }
+    ensures over { PutOver bytes.old stretch.now.start (kept_of stretch.now) bytes.new }
+    ensures len { length bytes.new ≡ length bytes.old }
+{
+    let from = (stretch.start as usize).min(bytes.len());
+    let most = bytes.len() - from;
+    let n = stretch.olds.len().min(most);
+    for i in 0..n {
+        let at = from + i;
+        bytes[at] = stretch.kept(i).unwrap_or(bytes[at]);
+    }
 }
 
 /// The bytes, and zeros behind them up to the most.

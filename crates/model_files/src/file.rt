@@ -1,6 +1,7 @@
 //! Regular files.
 ghost use Rattle.std.specs.Prelude.{◌≡◌, ◌+◌, ◌*◌, ◌≤◌, ◌<◌, ℕ, false, slice_get, IfOk, length};
-ghost use Rattle.places.specs.Masked.{masked, BytesStand};
+ghost use Rattle.places.specs.Masked.{BytesStand};
+ghost use Rattle.places.specs.Stretched.{kept_of, CanCount};
 ghost use Rattle.model_files.specs.Objects.{CanPut, PutsIn, PutsBack};
 ghost use Rattle.model_files.specs.Files.{file_seen, file_start, synced, written, FileFormed, FileSized};
 
@@ -165,29 +166,25 @@ impl RegularFile {
 
     /// Puts back the bytes of a stretch.
     pub(crate) fn put_back(&mut self, stretch: Stretch<'_>)
-        requires paired { length stretch.kept.now ≡ length stretch.olds.now }
+        requires count { CanCount stretch }
         requires stand { BytesStand (file_seen self.old) stretch.region stretch.start
-            (masked stretch.olds.now stretch.kept.now) }
+            (kept_of stretch) }
         ensures put { PutsBack (file_seen self.old)
             (file_seen self.new) stretch.entry.region stretch.entry.start
-            (masked stretch.entry.olds.now stretch.entry.kept.now) }
+            (kept_of stretch.entry) }
         ensures bytes { length self.new.bytes ≡ length self.old.bytes }
         ensures durable { length self.new.durable ≡ length self.old.durable }
     {
-        let Stretch {
-            region,
-            start,
-            olds,
-            kept,
-        } = stretch;
-        match region {
+        let start = stretch.start as usize;
+        let len = stretch.olds.len();
+        match stretch.region {
             Region::File(_) => {
-                self.dirty.mark_within(start as usize, olds.len());
-                put_over(&mut self.bytes, start, olds, kept);
+                self.dirty.mark_within(start, len);
+                put_over(&mut self.bytes, &stretch);
             }
             Region::Durable(_) => {
-                self.dirty.mark_within(start as usize, olds.len());
-                put_over(&mut self.durable, start, olds, kept);
+                self.dirty.mark_within(start, len);
+                put_over(&mut self.durable, &stretch);
             }
             Region::Memory | Region::Pipe(_) => {}
         }

@@ -1,7 +1,8 @@
 //! Pipes.
 ghost use Rattle.std.specs.Prelude.{◌≡◌, ◌+◌, ◌-◌, ◌%◌, ◌<◌, ◌≤◌, ◌^◌, ◌++◌, min, IfOk, Some, length, take, drop};
 ghost use Rattle.model_files.specs.Files.{overwritten, part};
-ghost use Rattle.places.specs.Masked.{masked, BytesStand};
+ghost use Rattle.places.specs.Masked.{BytesStand};
+ghost use Rattle.places.specs.Stretched.{kept_of, CanCount};
 ghost use Rattle.model_files.specs.Objects.{CanPut, PutsIn, PutsBack};
 ghost use Rattle.model_files.specs.Pipes.{pipe_seen, pipe_start, bytes_from, filled, room_in, put_in, taken_out, GivesOut};
 
@@ -147,22 +148,16 @@ impl PipeBuffer {
 
     /// Puts back the bytes of a stretch.
     pub(crate) fn put_back(&mut self, stretch: Stretch<'_>)
-        requires paired { length stretch.kept.now ≡ length stretch.olds.now }
+        requires count { CanCount stretch }
         requires stand { BytesStand (pipe_seen self.old) stretch.region stretch.start
-            (masked stretch.olds.now stretch.kept.now) }
+            (kept_of stretch) }
         ensures put { PutsBack (pipe_seen self.old)
             (pipe_seen self.new) stretch.entry.region stretch.entry.start
-            (masked stretch.entry.olds.now stretch.entry.kept.now) }
+            (kept_of stretch.entry) }
         ensures size { length self.new.slots ≡ length self.old.slots }
     {
-        let Stretch {
-            region,
-            start,
-            olds,
-            kept,
-        } = stretch;
-        match region {
-            Region::Pipe(_) => put_over(&mut self.slots, start, olds, kept),
+        match stretch.region {
+            Region::Pipe(_) => put_over(&mut self.slots, &stretch),
             Region::Memory | Region::File(_) | Region::Durable(_) => {}
         }
     }

@@ -2,7 +2,8 @@
 ghost use Rattle.std.specs.Prelude.{◌≡◌, ◌+◌, ◌<◌, ◌≤◌, ◌^◌, ℕ, IsSome, IfOk, IfSome, IsSomeAnd, None, OnErr, OnOk, IsOk, Some, length, option_map, slice_get};
 ghost use Rattle.places.specs.View.{Keeps, named, put_at, undo};
 ghost use Rattle.places.specs.Runs.{place_in, old_bytes};
-ghost use Rattle.places.specs.Masked.{masked, BytesStand};
+ghost use Rattle.places.specs.Masked.{BytesStand};
+ghost use Rattle.places.specs.Stretched.{kept_of, CanCount};
 ghost use Rattle.places.specs.declared.place.Place.{Place};
 ghost use Rattle.places.specs.declared.place.Place.TheVariants.{MemoryByte, FileByte, DurableByte, PipeByte, Position};
 ghost use Rattle.places.specs.declared.notes.runs.Region.TheVariants.{Memory};
@@ -156,34 +157,34 @@ impl World {
 
     /// Puts back the bytes of a stretch that are kept. It takes no memory.
     pub fn put_back(&mut self, stretch: Stretch<'_>)
-        requires paired { length stretch.kept.now ≡ length stretch.olds.now }
+        requires count { CanCount stretch }
         requires stand { BytesStand (world_seen self.old) stretch.region stretch.start
-            (masked stretch.olds.now stretch.kept.now) }
+            (kept_of stretch) }
         ensures put { (q : Place)
             → world_seen self.new q
             ≡ undo (world_seen self.old)
             (old_bytes stretch.entry.region stretch.entry.start
-            (masked stretch.entry.olds.now stretch.entry.kept.now)) q }
+            (kept_of stretch.entry)) q }
         ensures setup { OneSetup self.old self.new }
     {
         if let Some(object) = object_in(stretch.region.place(stretch.start)) {
             self.put_object_back(object, stretch);
             return;
         }
-        put_over(&mut self.memory, stretch.start, stretch.olds, stretch.kept);
+        put_over(&mut self.memory, &stretch);
     }
 
     // Puts back the bytes of a stretch of an object, if it is there.
     fn put_object_back(&mut self, object: u32, stretch: Stretch<'_>)
         requires its { object_in (place_in stretch.region stretch.start) ≡ Some object }
-        requires paired { length stretch.kept.now ≡ length stretch.olds.now }
+        requires count { CanCount stretch }
         requires stand { BytesStand (world_seen self.old) stretch.region stretch.start
-            (masked stretch.olds.now stretch.kept.now) }
+            (kept_of stretch) }
         ensures put { (q : Place)
             → world_seen self.new q
             ≡ undo (world_seen self.old)
             (old_bytes stretch.entry.region stretch.entry.start
-            (masked stretch.entry.olds.now stretch.entry.kept.now)) q }
+            (kept_of stretch.entry)) q }
         ensures setup { OneSetup self.old self.new }
     {
         let index = object as usize;

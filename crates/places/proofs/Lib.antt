@@ -12,6 +12,8 @@ pub mod Sound
 pub mod Left
 pub mod Restored
 pub mod SameValue
+pub mod Bits
+pub mod MarkLemmas
 pub mod MaskedLemmas
 pub mod Undoing
 pub mod KeptAt

@@ -1,18 +1,19 @@
 -- Old bytes beside marks.
-use Rattle.std.proofs.Common.{◌≡◌, ◌≢◌, ℕ, zero, suc, ◌<◌, ◌≤◌, ◌+◌, Bool, true, false, cond, refl, sym, ◌∙◌, ap, subst, List, [], ◌∷◌, ◌++◌, inl, inr, length, take, drop, ◌-◌, ◌^◌, arith, length-append}
-use Rattle.std.specs.Prelude.{Option, Some, None, map, is_some, slice_get, option_map, replicate, slice_set, slice_index_or, ◌==◌}
+use Rattle.std.proofs.Common.{◌≡◌, ◌≢◌, ℕ, zero, suc, not, ◌<◌, ◌≤◌, ◌+◌, Bool, true, false, refl, sym, ◌∙◌, ap, subst, List, [], ◌∷◌, ◌++◌, inl, inr, length, take, drop, ◌-◌, ◌^◌, arith, length-append}
+use Rattle.std.specs.Prelude.{Option, Some, None, map, is_some, slice_get, option_map, replicate, slice_index_or}
 use Rattle.std.specs.List.{list_any}
-use Rattle.std.proofs.lemmas.List.{take_all, take-append-drop}
-use Rattle.std.proofs.lemmas.Bool.{eqb-true, eq-eqb}
-use Rattle.places.proofs.ListLemmas.{slice_get-set}
+use Rattle.std.proofs.lemmas.List.{take_all, take-append-drop, length-take-le, length-drop}
 use Rattle.places.proofs.ByteLemmas.{runs_once}
+use Rattle.places.specs.declared.value.Value.{Value}
 use Rattle.places.specs.declared.value.Value.TheVariants.{Byte}
 use Rattle.places.specs.declared.notes.runs.Region.{Region}
 use Rattle.places.specs.declared.notes.runs.Run.{Run}
 use Rattle.places.specs.View.{View, named}
 use Rattle.places.specs.Closed.{KeptOf, LeftOf}
-use Rattle.places.specs.Runs.{place_in, old_bytes, run_changes, RunsOnce}
-use Rattle.places.specs.Masked.{masked, kept_byte, LeftMark, MaskedOnce}
+use Rattle.places.specs.Runs.{place_in, old_bytes, run_changes, run_total, RunsOnce}
+use Rattle.places.specs.Masked.{is_kept, marks_from, SameOutside, masked, kept_byte, LeftMark, MaskedOnce}
+use Rattle.places.proofs.Bits.{has_past}
+use Rattle.places.proofs.MarkLemmas.{length_marks, mark_is, marks_front, marks_back, marks_more, same_marks, all_marks}
 use Rattle.places.proofs.Kept.{kept_bytes, kept_runs, runs_closed}
 
 pub length-masked : (bs : List ℕ) (ks : List Bool) → length ks ≡ length bs → length (masked bs ks) ≡ length bs
@@ -46,9 +47,23 @@ pub masked-all : (bs : List ℕ) → masked bs (replicate (length bs) true) ≡ 
 masked-all [] = refl
 masked-all (b ∷ bs) = ap (λ os. Some b ∷ os) (masked-all bs)
 
--- bytes that are appended with marks, all of them set
-pub masked_more : (bs cs : List ℕ) (ks : List Bool) → length ks ≡ length bs → masked (bs ++ cs) (ks ++ replicate (length cs) true) ≡ masked bs ks ++ map Some cs
-masked_more bs cs ks h = masked-append bs cs ks (replicate (length cs) true) h ∙ ap (λ os. masked bs ks ++ os) (masked-all cs)
+pub length_kept : (bs gone : List ℕ) (i : ℕ) → length (masked bs (marks_from gone i (length bs))) ≡ length bs
+length_kept bs gone i = length-masked bs (marks_from gone i (length bs)) (length_marks gone i (length bs))
+
+-- bytes that are appended, all of them kept
+pub masked_more : (bs cs before after : List ℕ) → ((q : ℕ) → is_kept after q ≡ is_kept before q) → ((q : ℕ) → length bs ≤ q → is_kept before q ≡ true)
+    → masked (bs ++ cs) (marks_from after 0 (length (bs ++ cs))) ≡ masked bs (marks_from before 0 (length bs)) ++ map Some cs
+masked_more bs cs before after same fresh =
+    ap (λ n. masked (bs ++ cs) (marks_from after 0 n)) (length-append bs cs)
+    ∙ ap (masked (bs ++ cs)) (marks_more after 0 (length bs) (length cs))
+    ∙ masked-append bs cs (marks_from after 0 (length bs)) (marks_from after (0 + length bs) (length cs)) (length_marks after 0 (length bs))
+    ∙ ap (λ ks. masked bs ks ++ masked cs (marks_from after (0 + length bs) (length cs))) (same_marks before after 0 (length bs) (λ q l m. same q))
+    ∙ ap (λ ks. masked bs (marks_from before 0 (length bs)) ++ masked cs ks) (all_marks after (0 + length bs) (length cs) (λ q l. same q ∙ fresh q (omega arith)))
+    ∙ ap (λ os. masked bs (marks_from before 0 (length bs)) ++ os) (masked-all cs)
+
+-- bytes of which none has gone
+pub masked_whole : (bs : List ℕ) (mark : ℕ) → masked bs (marks_from [] mark (length bs)) ≡ map (λ b. Some b) bs
+masked_whole bs mark = ap (masked bs) (all_marks [] mark (length bs) (λ q h. ap not (has_past [] q (omega arith)))) ∙ masked-all bs
 
 pub no_marks : (bs : List ℕ) (ks : List Bool) → list_any (λ k. k) ks ≡ false → list_any (λ o. is_some o) (masked bs ks) ≡ false
 no_marks [] ks h = refl
@@ -79,38 +94,44 @@ mark_left x b false l (inr h) = rw (h.0) refl
 mark_left x b true l (inl h) = rw (h.0) (inl (refl, some_other x b h.1))
 mark_left x b true l (inr h) = rw (h.0, h.1) (inr (refl, refl))
 
--- what is left of bytes whose marks were taken where the bytes of a slice are the same
-pub marks_left : (v : View) (g : Region) (s : ℕ) (bs now : List ℕ) (ks ls : List Bool) → length ks ≡ length bs → length ls ≡ length ks → ((i : ℕ) → v (place_in g i) ≡ option_map Byte (slice_get now i))
-    → ((i b : ℕ) (k l : Bool) → slice_get bs i ≡ Some b → slice_get ks i ≡ Some k → slice_get ls i ≡ Some l → LeftMark (slice_get now (s + i)) b k l) → KeptOf v (old_bytes g s (masked bs ks)) (old_bytes g s (masked bs ls))
-marks_left v g s bs now ks ls p q seen h =
-    kept_bytes v g s (masked bs ks) (masked bs ls) (length-masked bs ls (q ∙ p) ∙ sym (length-masked bs ks p)) at
+-- what is left of bytes, by their marks
+pub each_left : (v : View) (g : Region) (s : ℕ) (bs before after : List ℕ) (mark : ℕ)
+    → ((i b : ℕ) → slice_get bs i ≡ Some b → LeftOf (v (place_in g (s + i))) (kept_byte (is_kept before (mark + i)) b) (kept_byte (is_kept after (mark + i)) b))
+    → KeptOf v (old_bytes g s (masked bs (marks_from before mark (length bs)))) (old_bytes g s (masked bs (marks_from after mark (length bs))))
+each_left v g s bs before after mark h =
+    kept_bytes v g s (masked bs ks) (masked bs ls) (length_kept bs after mark ∙ sym (length_kept bs before mark)) at
   where
-    at : (i : ℕ) (o r : Option ℕ) → slice_get (masked bs ks) i ≡ Some o → slice_get (masked bs ls) i ≡ Some r → LeftOf (v (place_in g (s + i))) o r
-    at i o r e f =
-        let a = masked_at bs ks i o e in
-        let b = masked_at bs ls i r f in
-        let same : b.0 ≡ a.0 = let x = a.2 in let y = b.2 in cc in
-        let r' : r ≡ kept_byte b.1 a.0 = b.4 ∙ ap (kept_byte b.1) same in
-        subst (λ x. LeftOf x o r) (sym (seen (s + i)))
-        (subst (λ x. LeftOf (option_map Byte (slice_get now (s + i))) x r) (sym a.4)
-        (subst (λ x. LeftOf (option_map Byte (slice_get now (s + i))) (kept_byte a.1 a.0) x) (sym r')
-        (mark_left (slice_get now (s + i)) a.0 a.1 b.1 (h i a.0 a.1 b.1 a.2 a.3 b.3))))
+    ks : List Bool
+    ks = marks_from before mark (length bs)
 
--- the same, asked one by one
-pub each_left : (v : View) (g : Region) (s : ℕ) (bs : List ℕ) (ks ls : List Bool) → length ks ≡ length bs → length ls ≡ length ks
-    → ((i b : ℕ) (k l : Bool) → slice_get bs i ≡ Some b → slice_get ks i ≡ Some k → slice_get ls i ≡ Some l → LeftOf (v (place_in g (s + i))) (kept_byte k b) (kept_byte l b)) → KeptOf v (old_bytes g s (masked bs ks)) (old_bytes g s (masked bs ls))
-each_left v g s bs ks ls p q h =
-    kept_bytes v g s (masked bs ks) (masked bs ls) (length-masked bs ls (q ∙ p) ∙ sym (length-masked bs ks p)) at
-  where
+    ls : List Bool
+    ls = marks_from after mark (length bs)
+
     at : (i : ℕ) (o r : Option ℕ) → slice_get (masked bs ks) i ≡ Some o → slice_get (masked bs ls) i ≡ Some r → LeftOf (v (place_in g (s + i))) o r
     at i o r e f =
         let a = masked_at bs ks i o e in
         let b = masked_at bs ls i r f in
         let same : b.0 ≡ a.0 = let x = a.2 in let y = b.2 in cc in
-        let r' : r ≡ kept_byte b.1 a.0 = b.4 ∙ ap (kept_byte b.1) same in
-        subst (λ x. LeftOf (v (place_in g (s + i))) x r) (sym a.4)
-        (subst (λ x. LeftOf (v (place_in g (s + i))) (kept_byte a.1 a.0) x) (sym r')
-        (h i a.0 a.1 b.1 a.2 a.3 b.3))
+        let o' : kept_byte (is_kept before (mark + i)) a.0 ≡ o = sym (a.4 ∙ ap (λ k. kept_byte k a.0) (mark_is before mark (length bs) i a.1 a.3)) in
+        let r' : kept_byte (is_kept after (mark + i)) a.0 ≡ r = sym (b.4 ∙ ap (kept_byte b.1) same ∙ ap (λ k. kept_byte k a.0) (mark_is after mark (length bs) i b.1 b.3)) in
+        subst (λ x. LeftOf (v (place_in g (s + i))) x r) o' (subst (λ x. LeftOf (v (place_in g (s + i))) (kept_byte (is_kept before (mark + i)) a.0) x) r' (h i a.0 a.2))
+
+-- the same, where marks were taken from the bytes that are the same as those of a slice
+pub marks_left : (v : View) (g : Region) (s : ℕ) (bs now before after : List ℕ) (mark : ℕ) → ((i : ℕ) → v (place_in g i) ≡ option_map Byte (slice_get now i))
+    → ((i b : ℕ) → slice_get bs i ≡ Some b → LeftMark (slice_get now (s + i)) b (is_kept before (mark + i)) (is_kept after (mark + i)))
+    → KeptOf v (old_bytes g s (masked bs (marks_from before mark (length bs)))) (old_bytes g s (masked bs (marks_from after mark (length bs))))
+marks_left v g s bs now before after mark seen h =
+    each_left v g s bs before after mark
+    (λ i b e. subst (λ x. LeftOf x (kept_byte (is_kept before (mark + i)) b) (kept_byte (is_kept after (mark + i)) b)) (sym (seen (s + i))) (mark_left (slice_get now (s + i)) b (is_kept before (mark + i)) (is_kept after (mark + i)) (h i b e)))
+
+-- what stands there decides
+pub left_gone : (x : Option Value) (b : ℕ) (k : Bool) → x ≡ Some (Byte b) → LeftOf x (kept_byte k b) (kept_byte false b)
+left_gone x b false h = refl
+left_gone x b true h = inr (refl, sym h)
+
+pub left_kept : (x : Option Value) (b : ℕ) (k : Bool) → x ≢ Some (Byte b) → LeftOf x (kept_byte k b) (kept_byte k b)
+left_kept x b false h = refl
+left_kept x b true h = inl (refl, λ e. h (sym e))
 
 -- what is left of a run and of the runs behind it
 pub masked_runs : (v : View) (r : Run) (rs : List Run) (bs fb bb : List ℕ) (ks fk bk fl bl : List Bool) → fb ≡ take r.len bs → bb ≡ drop r.len bs → fk ≡ take r.len ks → bk ≡ drop r.len ks → length fb ≡ r.len → length fl ≡ length fb
@@ -121,60 +142,88 @@ masked_runs v r rs bs fb bb ks fk bk fl bl a b c d e f h k =
     (subst (λ os. KeptOf v (old_bytes r.region r.start os) (old_bytes r.region r.start (masked fb fl))) (sym (masked-take r.len bs ks ∙ ap (λ x. masked x (take r.len ks)) (sym a) ∙ ap (masked fb) (sym c))) h)
     (subst (λ os. KeptOf v (run_changes rs os) (run_changes rs (masked bb bl))) (sym (masked-drop r.len bs ks ∙ ap (λ x. masked x (drop r.len ks)) (sym b) ∙ ap (masked bb) (sym d))) k))
 
--- a byte that is kept comes first
-pub first_kept : (g : Region) (s n : ℕ) (os : List ℕ) (ks : List Bool) (rs : List Run) (b : ℕ) (d : Bool) → 1 ≤ n → 1 ≤ length os → 1 ≤ length ks → slice_index_or ks 0 d ≡ true
-    → old_bytes g s (take n (masked os ks)) ++ run_changes rs (drop n (masked os ks)) ≡ record { place = place_in g s; old = Some (Byte (slice_index_or os 0 b)) } ∷ (old_bytes g (s + 1) (take (n - 1) (masked (take (length os - 1) (drop 1 os)) (take (length ks - 1) (drop 1 ks)))) ++ run_changes rs (drop (n - 1) (masked (take (length os - 1) (drop 1 os)) (take (length ks - 1) (drop 1 ks)))))
-first_kept g s zero os ks rs b d h i j k = absurd (omega arith)
-first_kept g s (suc n) [] ks rs b d h i j k = absurd (omega arith)
-first_kept g s (suc n) (o ∷ os) [] rs b d h i j k = absurd (omega arith)
-first_kept g s (suc n) (o ∷ os) (false ∷ ks) rs b d h i j k = absurd cc
-first_kept g s (suc n) (o ∷ os) (true ∷ ks) rs b d h i j k =
-    let e : suc n - 1 ≡ n = omega arith in
+-- the same, by the marks that begin at one
+pub marked_runs : (v : View) (r : Run) (rs : List Run) (bs fb bb before mid after : List ℕ) (mark : ℕ) → fb ≡ take r.len bs → bb ≡ drop r.len bs → length fb ≡ r.len → length bs ≡ length fb + length bb
+    → SameOutside before mid mark (length fb) → SameOutside mid after (mark + r.len) (length bb)
+    → KeptOf v (old_bytes r.region r.start (masked fb (marks_from before mark (length fb)))) (old_bytes r.region r.start (masked fb (marks_from mid mark (length fb))))
+    → KeptOf v (run_changes rs (masked bb (marks_from mid (mark + r.len) (length bb)))) (run_changes rs (masked bb (marks_from after (mark + r.len) (length bb))))
+    → KeptOf v (run_changes (r ∷ rs) (masked bs (marks_from before mark (length bs)))) (run_changes (r ∷ rs) (masked bs (marks_from after mark (length bs))))
+marked_runs v r rs bs fb bb before mid after mark a b e n o p h k =
+    subst (λ ls. KeptOf v (run_changes (r ∷ rs) (masked bs (marks_from before mark (length bs)))) (run_changes (r ∷ rs) (masked bs ls))) (sym whole)
+    (masked_runs v r rs bs fb bb (marks_from before mark (length bs)) (marks_from before mark (length fb)) (marks_from before (mark + r.len) (length bb)) (marks_from after mark (length fb)) (marks_from after (mark + r.len) (length bb))
+    a b front back e (length_marks after mark (length fb))
+    (subst (λ ls. KeptOf v (old_bytes r.region r.start (masked fb (marks_from before mark (length fb)))) (old_bytes r.region r.start (masked fb ls))) (sym first) h)
+    (subst (λ ls. KeptOf v (run_changes rs (masked bb ls)) (run_changes rs (masked bb (marks_from after (mark + r.len) (length bb))))) others k))
+  where
+    whole : marks_from after mark (length bs) ≡ marks_from after mark (length fb) ++ marks_from after (mark + r.len) (length bb)
+    whole = ap (marks_from after mark) n ∙ marks_more after mark (length fb) (length bb) ∙ ap (λ m. marks_from after mark (length fb) ++ marks_from after (mark + m) (length bb)) e
+
+    front : marks_from before mark (length fb) ≡ take r.len (marks_from before mark (length bs))
+    front = ap (marks_from before mark) e ∙ marks_front before mark (length bs) r.len (omega arith)
+
+    back : marks_from before (mark + r.len) (length bb) ≡ drop r.len (marks_from before mark (length bs))
+    back = ap (marks_from before (mark + r.len)) (let m : length bb ≡ length bs - r.len = omega arith in m) ∙ marks_back before mark (length bs) r.len (omega arith)
+
+    first : marks_from after mark (length fb) ≡ marks_from mid mark (length fb)
+    first = same_marks mid after mark (length fb) (λ q l m. p q (inl (omega arith)))
+
+    others : marks_from mid (mark + r.len) (length bb) ≡ marks_from before (mark + r.len) (length bb)
+    others = same_marks before mid (mark + r.len) (length bb) (λ q l m. o q (inr (omega arith)))
+
+-- a first byte that is kept, and those behind it
+first_is : (g : Region) (s n b : ℕ) (os : List ℕ) (k : Bool) (ks : List Bool) (rs : List Run) → 1 ≤ n → k ≡ true
+    → old_bytes g s (take n (masked (b ∷ os) (k ∷ ks))) ++ run_changes rs (drop n (masked (b ∷ os) (k ∷ ks))) ≡ record { place = place_in g s; old = Some (Byte b) } ∷ (old_bytes g (s + 1) (take (n - 1) (masked os ks)) ++ run_changes rs (drop (n - 1) (masked os ks)))
+first_is g s zero b os k ks rs h e = absurd (omega arith)
+first_is g s (suc n) b os false ks rs h e = absurd cc
+first_is g s (suc n) b os true ks rs h e = let m : suc n - 1 ≡ n = omega arith in rw (m) refl
+
+-- and one that isn't
+first_was : (g : Region) (s n b : ℕ) (os : List ℕ) (k : Bool) (ks : List Bool) (rs : List Run) → 1 ≤ n → k ≡ false
+    → old_bytes g s (take n (masked (b ∷ os) (k ∷ ks))) ++ run_changes rs (drop n (masked (b ∷ os) (k ∷ ks))) ≡ old_bytes g (s + 1) (take (n - 1) (masked os ks)) ++ run_changes rs (drop (n - 1) (masked os ks))
+first_was g s zero b os k ks rs h e = absurd (omega arith)
+first_was g s (suc n) b os true ks rs h e = absurd cc
+first_was g s (suc n) b os false ks rs h e = let m : suc n - 1 ≡ n = omega arith in rw (m) refl
+
+pub first_kept : (g : Region) (s n : ℕ) (os gone : List ℕ) (mark : ℕ) (rs : List Run) (b : ℕ) → 1 ≤ n → 1 ≤ length os → is_kept gone mark ≡ true
+    → old_bytes g s (take n (masked os (marks_from gone mark (length os)))) ++ run_changes rs (drop n (masked os (marks_from gone mark (length os))))
+    ≡ record { place = place_in g s; old = Some (Byte (slice_index_or os 0 b)) } ∷ (old_bytes g (s + 1) (take (n - 1) (masked (take (length os - 1) (drop 1 os)) (marks_from gone (mark + 1) (length (take (length os - 1) (drop 1 os)))))) ++ run_changes rs (drop (n - 1) (masked (take (length os - 1) (drop 1 os)) (marks_from gone (mark + 1) (length (take (length os - 1) (drop 1 os)))))))
+first_kept g s n [] gone mark rs b h i k = absurd (omega arith)
+first_kept g s n (o ∷ os) gone mark rs b h i k =
     let l : suc (length os) - 1 ≡ length os = omega arith in
-    let m : suc (length ks) - 1 ≡ length ks = omega arith in
-    rw (e, l, m, take_all (length os) os (omega arith), take_all (length ks) ks (omega arith)) refl
+    rw (l, take_all (length os) os (omega arith)) (first_is g s n o os (is_kept gone mark) (marks_from gone (mark + 1) (length os)) rs h k)
 
-length_all : (n : ℕ) → length (replicate n true) ≡ n
-length_all zero = refl
-length_all (suc n) = ap suc (length_all n)
+pub first_gone : (g : Region) (s n : ℕ) (os gone : List ℕ) (mark : ℕ) (rs : List Run) → 1 ≤ n → 1 ≤ length os → is_kept gone mark ≡ false
+    → old_bytes g s (take n (masked os (marks_from gone mark (length os)))) ++ run_changes rs (drop n (masked os (marks_from gone mark (length os))))
+    ≡ old_bytes g (s + 1) (take (n - 1) (masked (take (length os - 1) (drop 1 os)) (marks_from gone (mark + 1) (length (take (length os - 1) (drop 1 os)))))) ++ run_changes rs (drop (n - 1) (masked (take (length os - 1) (drop 1 os)) (marks_from gone (mark + 1) (length (take (length os - 1) (drop 1 os))))))
+first_gone g s n [] gone mark rs h i k = absurd (omega arith)
+first_gone g s n (o ∷ os) gone mark rs h i k =
+    let l : suc (length os) - 1 ≡ length os = omega arith in
+    rw (l, take_all (length os) os (omega arith)) (first_was g s n o os (is_kept gone mark) (marks_from gone (mark + 1) (length os)) rs h k)
 
--- a run behind the others, with its bytes and marks
-pub masked_once : (rs : List Run) (r : Run) (os : List ℕ) (ks : List Bool) (bs : List ℕ) → MaskedOnce rs os ks → r.len ≡ length bs → r.start + r.len ≤ 2 ^ 32 → ((i : ℕ) → i < length bs → named (run_changes rs (masked os ks)) (place_in r.region (r.start + i)) ≡ None) → MaskedOnce (rs ++ r ∷ []) (os ++ bs) (ks ++ replicate (length bs) true)
-masked_once rs r os ks bs o l w fresh = record {
-  once = subst (λ ps. RunsOnce (rs ++ r ∷ []) ps) (sym (masked_more os bs ks o.paired)) (runs_once rs r (masked os ks) bs o.once l w fresh);
-  paired = (let p = o.paired in omega (arith, length-append ks (replicate (length bs) true), length-append os bs, length_all (length bs)));
+-- a run behind the others, with its bytes
+pub masked_once : (rs : List Run) (r : Run) (os before after bs : List ℕ) → MaskedOnce rs os before → ((q : ℕ) → is_kept after q ≡ is_kept before q) → r.len ≡ length bs → r.start + r.len ≤ 2 ^ 32
+    → ((i : ℕ) → i < length bs → named (run_changes rs (masked os (marks_from before 0 (length os)))) (place_in r.region (r.start + i)) ≡ None) → MaskedOnce (rs ++ r ∷ []) (os ++ bs) after
+masked_once rs r os before after bs o same l w fresh = record {
+  once = subst (λ ps. RunsOnce (rs ++ r ∷ []) ps) (sym (masked_more os bs before after same o.fresh)) (runs_once rs r (masked os (marks_from before 0 (length os))) bs o.once l w fresh);
+  fresh = λ q h. same q ∙ o.fresh q (omega (arith, length-append os bs));
 }
 
--- marks, where one more is settled
-pub settled : (x : ℕ → ℕ → Bool → Bool → Type 0) (os : List ℕ) (before ks : List Bool) (i b : ℕ) (k m : Bool) → i < length ks → slice_get os i ≡ Some b → slice_get before i ≡ Some k → x i b k m
-    → ((j c : ℕ) (l n : Bool) → j < i → slice_get os j ≡ Some c → slice_get before j ≡ Some l → slice_get ks j ≡ Some n → x j c l n)
-    → (j c : ℕ) (l n : Bool) → j < i + 1 → slice_get os j ≡ Some c → slice_get before j ≡ Some l → slice_get (slice_set ks i m) j ≡ Some n → x j c l n
-settled x os before ks i b k m w e f h done j c l n below e' f' g = by (i == j) refl
-  where
-    got : (t : Bool) → (i == j) ≡ t → cond t (Some m) (slice_get ks j) ≡ Some n
-    got t q = ap (λ u. cond u (Some m) (slice_get ks j)) (sym q) ∙ sym (slice_get-set ks i j m w) ∙ g
+-- runs, once some of their bytes went
+pub marks_closed : (v : View) (rs : List Run) (bs before after : List ℕ) → MaskedOnce rs bs before → ((q : ℕ) → length bs ≤ q → is_kept after q ≡ is_kept before q)
+    → KeptOf v (run_changes rs (masked bs (marks_from before 0 (length bs)))) (run_changes rs (masked bs (marks_from after 0 (length bs)))) → MaskedOnce rs bs after
+marks_closed v rs bs before after o same k = record {
+  once = runs_closed v rs (masked bs (marks_from before 0 (length bs))) (masked bs (marks_from after 0 (length bs))) o.once (length_kept bs after 0 ∙ sym (length_kept bs before 0)) k;
+  fresh = λ q h. same q h ∙ o.fresh q h;
+}
 
-    by : (t : Bool) → (i == j) ≡ t → x j c l n
-    by true q =
-        let p : i ≡ j = eqb-true i j q in
-        let one : b ≡ c = let r = ap (slice_get os) p in cc in
-        let two : k ≡ l = let r = ap (slice_get before) p in cc in
-        let three : m ≡ n = let r = got true q in cc in
-        subst (λ y. x y c l n) p (subst (λ y. x i y l n) one (subst (λ y. x i b y n) two (subst (λ y. x i b k y) three h)))
-    by false q = done j c l n (let p : i ≢ j = λ d. absurd (let r = eq-eqb i j d in let s : true ≡ false = sym r ∙ q in cc) in omega arith) e' f' (got false q)
+pub masked_nothing : MaskedOnce [] [] []
+masked_nothing = record { once = record { fits = refl; within = tt; once = tt }; fresh = λ q h. ap not (has_past [] q (omega arith)) }
 
-pub unsettled : (ks : List Bool) (i : ℕ) (m : Bool) (j : ℕ) → i < length ks → i + 1 ≤ j → slice_get (slice_set ks i m) j ≡ slice_get ks j
-unsettled ks i m j w l = slice_get-set ks i j m w ∙ by (i == j) refl
-  where
-    by : (t : Bool) → (i == j) ≡ t → cond t (Some m) (slice_get ks j) ≡ slice_get ks j
-    by true q = absurd (let n = eqb-true i j q in omega arith)
-    by false q = refl
-
--- runs, once some of their marks went
-pub marks_closed : (v : View) (rs : List Run) (bs : List ℕ) (ks ls : List Bool) → MaskedOnce rs bs ks → length ls ≡ length ks → KeptOf v (run_changes rs (masked bs ks)) (run_changes rs (masked bs ls)) → MaskedOnce rs bs ls
-marks_closed v rs bs ks ls o l k = record {
-  once = runs_closed v rs (masked bs ks) (masked bs ls) o.once (length-masked bs ls (l ∙ o.paired) ∙ sym (length-masked bs ks o.paired)) k;
-  paired = l ∙ o.paired;
+-- the same bytes, where their marks are kept otherwise
+pub masked_same : (rs : List Run) (bs before after : List ℕ) → MaskedOnce rs bs before → ((q : ℕ) → is_kept after q ≡ is_kept before q) → MaskedOnce rs bs after
+masked_same rs bs before after o same = record {
+  once = subst (λ ks. RunsOnce rs (masked bs ks)) (sym (same_marks before after 0 (length bs) (λ q l m. same q))) o.once;
+  fresh = λ q h. same q ∙ o.fresh q h;
 }
 
 -- the first run, and those behind it
@@ -184,3 +233,18 @@ first_run [] d bs fb bb ks fk bk h a b e f = absurd (omega arith)
 first_run (r ∷ rs) d bs fb bb ks fk bk h a b e f =
     let l : suc (length rs) - 1 ≡ length rs = omega arith in
     rw (a, b, e, f, l, take_all (length rs) rs (omega arith), masked-take r.len bs ks, masked-drop r.len bs ks) refl
+
+first_fits : (rs : List Run) (d : Run) → 1 ≤ length rs → (slice_index_or rs 0 d).len ≤ run_total rs
+first_fits [] d h = absurd (omega arith)
+first_fits (r ∷ rs) d h = omega arith
+
+-- the same, by the marks that begin at one
+pub first_stretch : (rs : List Run) (d : Run) (bs fb bb gone : List ℕ) (mark : ℕ) → 1 ≤ length rs → run_total rs ≡ length bs → fb ≡ take (slice_index_or rs 0 d).len bs → bb ≡ drop (slice_index_or rs 0 d).len bs
+    → run_changes rs (masked bs (marks_from gone mark (length bs))) ≡ old_bytes (slice_index_or rs 0 d).region (slice_index_or rs 0 d).start (masked fb (marks_from gone mark (length fb))) ++ run_changes (take (length rs - 1) (drop 1 rs)) (masked bb (marks_from gone (mark + (slice_index_or rs 0 d).len) (length bb)))
+first_stretch rs d bs fb bb gone mark h total a b =
+    let w : (slice_index_or rs 0 d).len ≤ length bs = omega (arith, first_fits rs d h) in
+    let front : length fb ≡ (slice_index_or rs 0 d).len = ap length a ∙ length-take-le (slice_index_or rs 0 d).len bs w in
+    let back : length bb ≡ length bs - (slice_index_or rs 0 d).len = ap length b ∙ length-drop (slice_index_or rs 0 d).len bs in
+    first_run rs d bs fb bb (marks_from gone mark (length bs)) (marks_from gone mark (length fb)) (marks_from gone (mark + (slice_index_or rs 0 d).len) (length bb)) h a b
+    (ap (marks_from gone mark) front ∙ marks_front gone mark (length bs) (slice_index_or rs 0 d).len w)
+    (ap (marks_from gone (mark + (slice_index_or rs 0 d).len)) back ∙ marks_back gone mark (length bs) (slice_index_or rs 0 d).len w)

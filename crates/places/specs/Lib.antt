@@ -7,7 +7,9 @@ pub mod Marks
 pub mod Closed
 pub mod Slots
 pub mod Runs
+pub mod Bits
 pub mod Masked
+pub mod Stretched
 pub mod Turns
 pub mod RestList
 pub mod RestOf

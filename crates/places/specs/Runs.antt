@@ -32,10 +32,11 @@ offset_in (File o) p = second_of p
 offset_in (Durable o) p = second_of p
 offset_in (Pipe o) p = second_of p
 
--- runs of bytes, and what is kept of their old bytes
+-- runs of bytes, what is kept of their old bytes, and whether each of these can go
 pub record ByteList : Type 0 where
   pub runs : List Run
   pub olds : List (Option ℕ)
+  pub is_open : Bool
 
 -- how many bytes the runs have in all
 abbrev pub run_total : List Run → ℕ

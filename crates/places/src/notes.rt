@@ -2,7 +2,9 @@
 
 pub mod clearing;
 pub mod completions;
+pub mod kept;
 pub mod leaving;
+pub mod marks;
 pub mod more;
 pub mod numbers;
 pub mod odd;

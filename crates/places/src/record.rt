@@ -9,10 +9,10 @@ ghost use Rattle.places.specs.All.{all_changes, record_changes};
 
 use crate::listed::Listed;
 use crate::notes::completions::CompletionNote;
+use crate::notes::kept::Kept;
 use crate::notes::leaving::left_after;
 use crate::notes::more::More;
 use crate::notes::numbers::NumberNote;
-use crate::notes::rest::Rest;
 use crate::notes::rows::RowNote;
 use crate::notes::slots::{Slotted, either, names_place};
 use crate::notes::telling::{ByteChanges, Stretches};
@@ -110,7 +110,7 @@ impl<'a> Changes<'a> {
 }
 
 impl Record {
-    pub(crate) fn of(packed: Packed, wide: Wide, rest: Rest) -> Record
+    pub(crate) fn of(packed: Packed, wide: Wide, rest: Kept) -> Record
         requires { NamesOnce (record_changes packed wide rest) }
         ensures { result ≡ record_changes packed wide rest }
     {
@@ -146,7 +146,7 @@ impl Record {
             numbers: self.more.numbers(),
             completions: self.more.completions(),
             rows: self.more.rows(),
-            bytes: ByteChanges::of(&[], &[], &[]),
+            bytes: ByteChanges::none(),
             odd: &[],
         };
         let others = Changes {
@@ -154,7 +154,7 @@ impl Record {
             numbers: &[],
             completions: &[],
             rows: &[],
-            bytes: ByteChanges::of(&[], &[], &[]),
+            bytes: ByteChanges::none(),
             odd: self.more.odd(),
         };
         (kinds, self.more.stretches(), others)

@@ -23,16 +23,16 @@ const PAGE_WRITTEN_AND_READ: &str =
 /// record keeps of them at most. Of a page one differs, each second, all, none.
 const STORED: [(&str, &str, usize, usize); 4] = [
     ("01", "00", 4095, 200),
-    ("", "0001", 2048, 8400),
-    ("", "01", 4096, 8400),
+    ("", "0001", 2048, 4850),
+    ("", "01", 4096, 4300),
     ("", "00", 4096, 0),
 ];
 
 /// The same of a whole file.
 const SYNCED: [(&str, &str, usize, usize); 3] = [
     ("01", "00", 65535, 200),
-    ("", "0100", 32768, 131600),
-    ("", "01", 65536, 131600),
+    ("", "0100", 32768, 74300),
+    ("", "01", 65536, 66000),
 ];
 
 // What the record of the last of some events keeps.

@@ -1,15 +1,19 @@
 //! What stays of old bytes when notes are closed.
-ghost use Rattle.std.specs.Prelude.{◌≡◌, ◌≢◌, ◌+◌, ◌<◌, ◌≤◌, ◌^◌, ℕ, Bool, length, Some, slice_get, MatchBool};
+ghost use Rattle.std.specs.Prelude.{◌≡◌, ◌≢◌, ◌+◌, ◌-◌, ◌*◌, ◌<◌, ◌≤◌, ◌^◌, ℕ, false, length, Some, slice_get, MatchBool};
 ghost use Rattle.places.specs.declared.value.Value.{Value};
 ghost use Rattle.places.specs.declared.value.Value.TheVariants.{Byte};
-ghost use Rattle.places.specs.Closed.{KeptOf, LeftOf};
-ghost use Rattle.places.specs.Masked.{masked, kept_byte, LeftMark};
+ghost use Rattle.places.specs.Closed.{KeptOf};
+ghost use Rattle.places.specs.Masked.{is_kept, marks_from, SameOutside, masked, LeftMark};
 ghost use Rattle.places.specs.Runs.{old_bytes, run_changes, run_total, RunsFit};
 
+use crate::notes::marks::let_go;
 use crate::notes::runs::{Region, Run};
 use crate::part::At;
 use crate::place::Place;
 use crate::value::Value;
+
+/// How many bytes are compared at once.
+const AT_ONCE: usize = 64;
 
 /// Whether a byte stands somewhere.
 fn is_byte(now: Option<Value>, byte: u8) -> bool
@@ -21,73 +25,130 @@ fn is_byte(now: Option<Value>, byte: u8) -> bool
     }
 }
 
-/// Takes the marks from the bytes of a slice that stand in another from an index on.
-fn clear_alike(olds: &[u8], kept: &mut [bool], start: usize, now: &[u8])
-    requires paired { length kept.old ≡ length olds.now }
-    ensures len { length kept.new ≡ length kept.old }
-    ensures marks { (i b : ℕ) (k l : Bool) → slice_get olds.now i ≡ Some b
-        → slice_get kept.old i ≡ Some k → slice_get kept.new i ≡ Some l
-        → LeftMark (slice_get now.now (start + i)) b k l }
+/// Takes the marks, which begin at one, from the bytes of a slice that stand in another from an
+/// index on.
+fn clear_alike(olds: &[u8], gone: &mut [u64], mark: usize, start: usize, now: &[u8])
+    requires room { mark + length olds.now ≤ 64 * length gone.old }
+    requires few { mark + length olds.now < 2 ^ 64 }
+    ensures len { length gone.new ≡ length gone.old }
+    ensures others { SameOutside gone.old gone.new mark (length olds.now) }
+    ensures marks { (i b : ℕ) → slice_get olds.now i ≡ Some b
+        → LeftMark (slice_get now.now (start + i)) b (is_kept gone.old (mark + i))
+        (is_kept gone.new (mark + i)) }
 {
     let from = start.min(now.len());
     let there = &now[from..];
     let n = olds.len().min(there.len());
-    for i in 0..n {
-        kept[i] &= olds[i] != there[i];
+    let mut at = 0;
+    while at < n {
+        let end = at + AT_ONCE.min(n - at);
+        clear_between(olds, there, gone, mark, at, end);
+        at = end;
     }
 }
 
-/// Whether an old byte stays kept.
-fn stays<A: At>(kept: bool, old: u8, place: Place, whole: &A) -> bool
-    ensures { LeftOf (A.seen whole.now place) (kept_byte kept old) (kept_byte result old) }
+/// Takes the marks, which begin at one, from the bytes of some indexes that stand there.
+fn clear_between(olds: &[u8], there: &[u8], gone: &mut [u64], mark: usize, at: usize, end: usize)
+    requires order { at ≤ end }
+    requires olds { end ≤ length olds.now }
+    requires there { end ≤ length there.now }
+    requires room { mark + end ≤ 64 * length gone.old }
+    requires few { mark + end < 2 ^ 64 }
+    ensures len { length gone.new ≡ length gone.old }
+    ensures others { SameOutside gone.old gone.new (mark + at) (end - at) }
+    ensures marks { (i b : ℕ) → at ≤ i → i < end → slice_get olds.now i ≡ Some b
+        → LeftMark (slice_get there.now i) b (is_kept gone.old (mark + i))
+        (is_kept gone.new (mark + i)) }
 {
-    if kept {
-        !is_byte(whole.at(place), old)
-    } else {
-        false
+    if !is_any_alike(olds, there, at, end) {
+        return;
     }
+    for i in at..end {
+        if olds[i] == there[i] {
+            let_go(gone, mark + i);
+        }
+    }
+}
+
+/// Whether two slices have the same byte somewhere between two indexes. It looks at each, so that
+/// many are compared at once.
+fn is_any_alike(olds: &[u8], there: &[u8], at: usize, end: usize) -> bool
+    requires olds { end ≤ length olds.now }
+    requires there { end ≤ length there.now }
+    ensures { result ≡ false → (i b : ℕ) → at ≤ i → i < end → slice_get olds.now i ≡ Some b
+        → slice_get there.now i ≢ Some b }
+{
+    let mut found = false;
+    for i in at..end {
+        found |= olds[i] == there[i];
+    }
+    found
 }
 
 /// The same, where the bytes that stand there are asked for one by one.
-fn clear_each<A: At>(olds: &[u8], kept: &mut [bool], region: Region, start: u32, whole: &A)
-    requires paired { length kept.old ≡ length olds.now }
+fn clear_each<A: At>(
+    olds: &[u8],
+    gone: &mut [u64],
+    mark: usize,
+    region: Region,
+    start: u32,
+    whole: &A,
+)
+    requires room { mark + length olds.now ≤ 64 * length gone.old }
+    requires few { mark + length olds.now < 2 ^ 64 }
     requires within { start + length olds.now ≤ 2 ^ 32 }
-    ensures len { length kept.new ≡ length kept.old }
-    ensures kept { KeptOf (A.seen whole.now) (old_bytes region start (masked olds.now kept.old))
-        (old_bytes region start (masked olds.now kept.new)) }
+    ensures len { length gone.new ≡ length gone.old }
+    ensures others { SameOutside gone.old gone.new mark (length olds.now) }
+    ensures kept { KeptOf (A.seen whole.now)
+        (old_bytes region start (masked olds.now (marks_from gone.old mark (length olds.now))))
+        (old_bytes region start (masked olds.now (marks_from gone.new mark (length olds.now)))) }
 {
     for i in 0..olds.len() {
-        kept[i] = stays(kept[i], olds[i], region.place(start + i as u32), whole);
+        if is_byte(whole.at(region.place(start + i as u32)), olds[i]) {
+            let_go(gone, mark + i);
+        }
     }
 }
 
 /// Takes the marks from the old bytes of a run that stand there now.
-fn clear_run<A: At>(olds: &[u8], kept: &mut [bool], region: Region, start: u32, whole: &A)
-    requires paired { length kept.old ≡ length olds.now }
+fn clear_run<A: At>(
+    olds: &[u8],
+    gone: &mut [u64],
+    mark: usize,
+    region: Region,
+    start: u32,
+    whole: &A,
+)
+    requires room { mark + length olds.now ≤ 64 * length gone.old }
+    requires few { mark + length olds.now < 2 ^ 64 }
     requires within { start + length olds.now ≤ 2 ^ 32 }
-    ensures len { length kept.new ≡ length kept.old }
-    ensures kept { KeptOf (A.seen whole.now) (old_bytes region start (masked olds.now kept.old))
-        (old_bytes region start (masked olds.now kept.new)) }
+    ensures len { length gone.new ≡ length gone.old }
+    ensures others { SameOutside gone.old gone.new mark (length olds.now) }
+    ensures kept { KeptOf (A.seen whole.now)
+        (old_bytes region start (masked olds.now (marks_from gone.old mark (length olds.now))))
+        (old_bytes region start (masked olds.now (marks_from gone.new mark (length olds.now)))) }
 {
     match whole.bytes_in(region) {
-        Some(now) => clear_alike(olds, kept, start as usize, now),
-        None => clear_each(olds, kept, region, start, whole),
+        Some(now) => clear_alike(olds, gone, mark, start as usize, now),
+        None => clear_each(olds, gone, mark, region, start, whole),
     }
 }
 
-/// Takes the marks from the old bytes of runs that stand there now.
-pub fn clear_runs<A: At>(runs: &[Run], olds: &[u8], kept: &mut [bool], whole: &A)
-    requires paired { length kept.old ≡ length olds.now }
+/// Takes the marks, which begin at one, from the old bytes of runs that stand there now.
+pub fn clear_runs<A: At>(runs: &[Run], olds: &[u8], gone: &mut [u64], mark: usize, whole: &A)
+    requires room { mark + length olds.now ≤ 64 * length gone.old }
+    requires few { mark + length olds.now < 2 ^ 64 }
     requires fits { run_total runs.now ≡ length olds.now }
     requires within { RunsFit runs.now }
-    ensures len { length kept.new ≡ length kept.old }
-    ensures kept { KeptOf (A.seen whole.now) (run_changes runs.now (masked olds.now kept.old))
-        (run_changes runs.now (masked olds.now kept.new)) }
+    ensures len { length gone.new ≡ length gone.old }
+    ensures others { SameOutside gone.old gone.new mark (length olds.now) }
+    ensures kept { KeptOf (A.seen whole.now)
+        (run_changes runs.now (masked olds.now (marks_from gone.old mark (length olds.now))))
+        (run_changes runs.now (masked olds.now (marks_from gone.new mark (length olds.now)))) }
 {
     if let Some((run, rest)) = runs.split_first() {
-        let (old_front, old_back) = olds.split_at(run.len);
-        let (front, back) = kept.split_at_mut(run.len);
-        clear_run(old_front, front, run.region, run.start, whole);
-        clear_runs(rest, old_back, back, whole);
+        let (front, back) = olds.split_at(run.len);
+        clear_run(front, gone, mark, run.region, run.start, whole);
+        clear_runs(rest, back, gone, mark + run.len, whole);
     }
 }

@@ -4,8 +4,8 @@ ghost use Rattle.places.specs.View.{named};
 ghost use Rattle.places.specs.Runs.{run_changes};
 
 use crate::notes::completions::CompletionNote;
+use crate::notes::kept::{Inner, Kept};
 use crate::notes::numbers::NumberNote;
-use crate::notes::rest::{Inner, Rest};
 use crate::notes::rows::RowNote;
 use crate::notes::telling::{ByteChanges, Stretches};
 use crate::notes::wide::{Kinds, Wide};
@@ -39,7 +39,7 @@ impl Model for More {
 
 impl More {
     /// Notes of each kind, and those that few steps make. It takes no memory.
-    pub fn of(wide: Wide, rest: Rest) -> More
+    pub fn of(wide: Wide, rest: Kept) -> More
         ensures wide { result.wide ≡ wide }
         ensures rest { result.rest ≡ rest }
     {
@@ -93,7 +93,7 @@ impl More {
         ensures { result.left ≡ run_changes self.now.rest.runs self.now.rest.olds }
     {
         match &self.held {
-            Held::Nothing => ByteChanges::of(&[], &[], &[]),
+            Held::Nothing => ByteChanges::none(),
             Held::Few(inner) => inner.bytes.changes(),
             Held::Each(kinds) => kinds.rest.bytes(),
         }
@@ -104,7 +104,7 @@ impl More {
         ensures { result.left ≡ run_changes self.now.rest.runs self.now.rest.olds }
     {
         match &self.held {
-            Held::Nothing => Stretches::of(&[], &[], &[]),
+            Held::Nothing => Stretches::none(),
             Held::Few(inner) => inner.bytes.stretches(),
             Held::Each(kinds) => kinds.rest.stretches(),
         }

@@ -4,31 +4,15 @@ ghost use Rattle.places.specs.View.{View, named, NamesOnce};
 ghost use Rattle.places.specs.Closed.{KeptOf};
 ghost use Rattle.places.specs.Runs.{place_in, run_changes, NotedBytes, AllKept};
 
+use crate::notes::kept::{Inner, Kept};
 use crate::notes::odd::Odd;
 use crate::notes::runs::{ByteNotes, Region};
-use crate::notes::telling::{ByteChanges, Stretches};
 use crate::part::At;
 use crate::place::Place;
 use crate::value::{Change, Value};
 use std::alloc::{AllocError, Global};
 use std::marker::Model;
 use std::mem;
-
-/// Notes of bytes, and of places one at a time.
-#[derive(Drop)]
-pub struct Inner {
-    pub(crate) bytes: ByteNotes,
-    pub(crate) odd: Odd,
-}
-
-impl Inner {
-    /// What the notes keep in memory, in bytes.
-    pub fn kept_bytes(&self) -> usize {
-        size_of::<Inner>()
-            .saturating_add(self.bytes.kept_bytes())
-            .saturating_add(self.odd.kept_bytes())
-    }
-}
 
 /// The notes of bytes and of the other places, which take a word while there are none.
 #[derive(Drop)]
@@ -41,9 +25,11 @@ impl Model for Rest {
 
     ghost Value = { RestList };
 
-    ghost use Rattle.places.specs.RestOf.{rest_of};
+    ghost use Rattle.places.specs.RestOf.{rest_of, IsOpen};
 
     ghost view = { λ a. rest_of a.inner };
+
+    ghost invariant = { λ a. IsOpen a.inner };
 }
 
 impl Rest {
@@ -148,7 +134,7 @@ impl Rest {
 
     /// Takes out the notes whose place has another value now. None stay here, but their memory does
     /// where none was taken.
-    pub fn close<A: At>(&mut self, whole: &A) -> Rest
+    pub fn close<A: At>(&mut self, whole: &A) -> Kept
         ensures bytes { KeptOf (A.seen whole.now) (run_changes self.old.runs self.old.olds)
             (run_changes result.runs result.olds) }
         ensures odd { KeptOf (A.seen whole.now) self.old.odd result.odd }
@@ -163,49 +149,9 @@ impl Rest {
             inner.odd.close(whole);
             if inner.bytes.is_empty() && inner.odd.is_empty() {
                 inner.bytes.clear();
-                return Rest::new();
+                return Kept::new();
             }
-            inner.bytes.shrink();
-            inner.odd.shrink();
         }
-        mem::replace(self, Rest::new())
-    }
-
-    /// The old bytes, one after the other.
-    pub fn bytes(&self) -> ByteChanges<'_>
-        ensures { result.left ≡ run_changes self.now.runs self.now.olds }
-    {
-        match &self.inner {
-            None => ByteChanges::of(&[], &[], &[]),
-            Some(inner) => inner.bytes.changes(),
-        }
-    }
-
-    /// The runs, one after the other.
-    pub fn stretches(&self) -> Stretches<'_>
-        ensures { result.left ≡ run_changes self.now.runs self.now.olds }
-    {
-        match &self.inner {
-            None => Stretches::of(&[], &[], &[]),
-            Some(inner) => inner.bytes.stretches(),
-        }
-    }
-
-    /// The notes that were pushed.
-    pub fn odd(&self) -> &[Change]
-        ensures { result.now ≡ self.now.odd }
-    {
-        match &self.inner {
-            None => &[],
-            Some(inner) => inner.odd.as_slice(),
-        }
-    }
-
-    /// What the notes keep in memory besides themselves, in bytes.
-    pub fn kept_bytes(&self) -> usize {
-        match &self.inner {
-            None => 0,
-            Some(inner) => inner.kept_bytes(),
-        }
+        Kept::of(mem::replace(&mut self.inner, None))
     }
 }

@@ -1,12 +1,13 @@
 //! Notes of bytes, a slice at a time.
-ghost use Rattle.std.specs.Prelude.{◌≡◌, ◌≢◌, ◌+◌, ◌<◌, ◌≤◌, ◌^◌, ◌∷◌, ◌++◌, [], ℕ, length, map, Some, None, OnOk, OnErr, MatchBool, is_some, replicate, true};
+ghost use Rattle.std.specs.Prelude.{◌≡◌, ◌≢◌, ◌+◌, ◌*◌, ◌<◌, ◌≤◌, ◌^◌, ◌∷◌, ◌++◌, [], ℕ, length, map, Some, None, OnOk, OnErr, MatchBool, is_some, true};
 ghost use Rattle.std.specs.List.{list_any};
 ghost use Rattle.places.specs.View.{View, named, NamesOnce};
 ghost use Rattle.places.specs.Closed.{KeptOf};
 ghost use Rattle.places.specs.Runs.{place_in, is_in, offset_in, covers, run_changes, run_total, RunsFit, RunsOnce, NotedBytes, AllKept};
-ghost use Rattle.places.specs.Masked.{masked, MaskedOnce};
+ghost use Rattle.places.specs.Masked.{is_kept, marks_from, masked, MaskedOnce};
 
 use crate::notes::clearing::clear_runs;
+use crate::notes::marks::{is_any_kept, make_room, trim};
 use crate::notes::telling::{ByteChanges, Stretches};
 use crate::part::At;
 use crate::place::Place;
@@ -67,24 +68,29 @@ pub struct Run {
     pub len: usize,
 }
 
-/// Runs, their old bytes in a row, and marks of those that are kept. A byte that has its old value
-/// again as the notes are closed is let go.
+/// Runs, their old bytes in a row, and a bit for each that isn't kept. A byte that has its old
+/// value again as the notes are closed is let go.
 #[derive(Drop)]
 pub struct ByteNotes {
     runs: Vec<Run>,
     olds: Vec<u8>,
-    kept: Vec<bool>,
+    gone: Vec<u64>,
 }
 
 impl Model for ByteNotes {
+    ghost use Rattle.std.specs.Prelude.{◌*◌, length, nat_le};
     ghost use Rattle.places.specs.Runs.{ByteList};
-    ghost use Rattle.places.specs.Masked.{masked, MaskedOnce};
+    ghost use Rattle.places.specs.Masked.{marks_from, masked, MaskedOnce};
 
     ghost Value = { ByteList };
 
-    ghost view = { λ a. record { runs = a.runs.items; olds = masked a.olds.items a.kept.items } };
+    ghost view = { λ a. record {
+      runs = a.runs.items;
+      olds = masked a.olds.items (marks_from a.gone.items 0 (length a.olds.items));
+      is_open = nat_le (length a.olds.items) (64 * length a.gone.items);
+    } };
 
-    ghost invariant = { λ a. MaskedOnce a.runs.items a.olds.items a.kept.items };
+    ghost invariant = { λ a. MaskedOnce a.runs.items a.olds.items a.gone.items };
 }
 
 impl ByteNotes {
@@ -92,11 +98,12 @@ impl ByteNotes {
     pub fn new(alloc: Global) -> ByteNotes
         ensures runs { result.runs ≡ [] }
         ensures olds { result.olds ≡ [] }
+        ensures open { result.is_open ≡ true }
     {
         ByteNotes {
             runs: Vec::new(alloc),
             olds: Vec::new(alloc),
-            kept: Vec::new(alloc),
+            gone: Vec::new(alloc),
         }
     }
 
@@ -109,11 +116,12 @@ impl ByteNotes {
             (NotedBytes (run_changes self.old.runs self.old.olds)
             (run_changes self.new.runs self.new.olds) region start old.now) }
         ensures err { OnErr result (self.new ≡ self.old) }
+        ensures open { OnOk result (self.new.is_open ≡ true) }
         ensures kept { AllKept self.old.olds → AllKept self.new.olds }
     {
         let len = old.len();
         self.runs.reserve(1)?;
-        append(&mut self.olds, &mut self.kept, old)?;
+        append(&mut self.olds, &mut self.gone, old)?;
         match self.runs.push(Run { region, start, len }) {
             Ok(()) => {}
             Err(_) => unreachable!(),
@@ -131,30 +139,34 @@ impl ByteNotes {
 
     /// Lets the old bytes go that stand there now.
     pub fn close<A: At>(&mut self, whole: &A)
+        requires { self.old.is_open ≡ true }
+        ensures open { self.new.is_open ≡ true }
         ensures kept { KeptOf (A.seen whole.now) (run_changes self.old.runs self.old.olds)
             (run_changes self.new.runs self.new.olds) }
         ensures once { NamesOnce (run_changes self.old.runs self.old.olds) }
     {
-        close_runs(&mut self.runs, &mut self.olds, &mut self.kept, whole);
+        close_runs(&mut self.runs, &mut self.olds, &mut self.gone, whole);
     }
 
-    /// Lets the memory go that no note takes.
+    /// Lets the memory go that no note takes. No byte can go from then on.
     pub fn shrink(&mut self)
-        ensures { self.new ≡ self.old }
+        ensures runs { self.new.runs ≡ self.old.runs }
+        ensures olds { self.new.olds ≡ self.old.olds }
     {
         self.runs.shrink_to_fit();
         self.olds.shrink_to_fit();
-        self.kept.shrink_to_fit();
+        trim(&mut self.gone);
     }
 
     /// Lets all notes go. Their memory stays.
     pub fn clear(&mut self)
         ensures runs { self.new.runs ≡ [] }
         ensures olds { self.new.olds ≡ [] }
+        ensures open { self.new.is_open ≡ true }
     {
         self.runs.clear();
         self.olds.clear();
-        self.kept.clear();
+        self.gone.clear();
     }
 
     /// Whether there is no run.
@@ -169,14 +181,14 @@ impl ByteNotes {
         ensures value { result.left ≡ run_changes self.now.runs self.now.olds }
         ensures once { NamesOnce (run_changes self.now.runs self.now.olds) }
     {
-        ByteChanges::of(&self.runs, &self.olds, &self.kept)
+        ByteChanges::of(&self.runs, &self.olds, &self.gone)
     }
 
     /// The runs, one after the other.
     pub fn stretches(&self) -> Stretches<'_>
         ensures { result.left ≡ run_changes self.now.runs self.now.olds }
     {
-        Stretches::of(&self.runs, &self.olds, &self.kept)
+        Stretches::of(&self.runs, &self.olds, &self.gone)
     }
 
     /// What the notes keep in memory besides themselves, in bytes.
@@ -184,43 +196,44 @@ impl ByteNotes {
         size_of::<Run>()
             .saturating_mul(self.runs.capacity())
             .saturating_add(self.olds.capacity())
-            .saturating_add(self.kept.capacity())
+            .saturating_add(size_of::<u64>().saturating_mul(self.gone.capacity()))
     }
 }
 
 /// Lets the old bytes of runs go that stand there now, and the runs once no old byte is left.
-fn close_runs<A: At>(runs: &mut Vec<Run>, olds: &mut Vec<u8>, kept: &mut Vec<bool>, whole: &A)
-    requires { MaskedOnce runs.old.items olds.old.items kept.old.items }
-    ensures once { MaskedOnce runs.new.items olds.new.items kept.new.items }
+fn close_runs<A: At>(runs: &mut Vec<Run>, olds: &mut Vec<u8>, gone: &mut Vec<u64>, whole: &A)
+    requires once { MaskedOnce runs.old.items olds.old.items gone.old.items }
+    requires room { length olds.old.items ≤ 64 * length gone.old.items }
+    ensures once { MaskedOnce runs.new.items olds.new.items gone.new.items }
+    ensures room { length olds.new.items ≤ 64 * length gone.new.items }
     ensures kept { KeptOf (A.seen whole.now)
-        (run_changes runs.old.items (masked olds.old.items kept.old.items))
-        (run_changes runs.new.items (masked olds.new.items kept.new.items)) }
+        (run_changes runs.old.items
+        (masked olds.old.items (marks_from gone.old.items 0 (length olds.old.items))))
+        (run_changes runs.new.items
+        (masked olds.new.items (marks_from gone.new.items 0 (length olds.new.items)))) }
 {
-    clear_marks(runs, olds, kept, whole);
-    if is_any_kept(kept) {
+    clear_marks(runs, olds, gone, whole);
+    if is_any_kept(gone, olds.len()) {
         return;
     }
     runs.clear();
     olds.clear();
-    kept.clear();
+    gone.clear();
 }
 
 /// Takes the marks from the old bytes that stand there now.
-fn clear_marks<A: At>(runs: &[Run], olds: &[u8], kept: &mut Vec<bool>, whole: &A)
-    requires paired { length kept.old.items ≡ length olds.now }
+fn clear_marks<A: At>(runs: &[Run], olds: &[u8], gone: &mut Vec<u64>, whole: &A)
+    requires room { length olds.now ≤ 64 * length gone.old.items }
     requires fits { run_total runs.now ≡ length olds.now }
     requires within { RunsFit runs.now }
-    ensures len { length kept.new.items ≡ length kept.old.items }
-    ensures kept { KeptOf (A.seen whole.now) (run_changes runs.now (masked olds.now kept.old.items))
-        (run_changes runs.now (masked olds.now kept.new.items)) }
+    ensures len { length gone.new.items ≡ length gone.old.items }
+    ensures others { (i : ℕ) → length olds.now ≤ i
+        → is_kept gone.new.items i ≡ is_kept gone.old.items i }
+    ensures kept { KeptOf (A.seen whole.now)
+        (run_changes runs.now (masked olds.now (marks_from gone.old.items 0 (length olds.now))))
+        (run_changes runs.now (masked olds.now (marks_from gone.new.items 0 (length olds.now)))) }
 {
-    clear_runs(runs, olds, kept, whole);
-}
-
-fn is_any_kept(kept: &[bool]) -> bool
-    ensures { result ≡ list_any (λ k. k) kept.now }
-{
-    kept.iter().any(|is_kept| *is_kept)
+    clear_runs(runs, olds, gone, 0, whole);
 }
 
 fn is_covered(runs: &[Run], place: Place) -> bool
@@ -237,20 +250,19 @@ fn covers_place(run: Run, place: Place) -> bool
     run.region.has(place) && (start <= offset && offset - start < run.len)
 }
 
-/// Appends bytes, each with its mark.
-fn append(olds: &mut Vec<u8>, kept: &mut Vec<bool>, bytes: &[u8]) -> Result<(), AllocError>
-    requires { length kept.old.items ≡ length olds.old.items }
+/// Appends bytes, with room for their marks.
+fn append(olds: &mut Vec<u8>, gone: &mut Vec<u64>, bytes: &[u8]) -> Result<(), AllocError>
     ensures olds { OnOk result (olds.new.items ≡ olds.old.items ++ bytes.now) }
-    ensures kept { OnOk result (kept.new.items ≡ kept.old.items
-        ++ replicate (length bytes.now) true) }
+    ensures room { OnOk result (length olds.new.items ≤ 64 * length gone.new.items) }
+    ensures kept { (i : ℕ) → is_kept gone.new.items i ≡ is_kept gone.old.items i }
     ensures err { OnErr result (olds.new.items ≡ olds.old.items) }
-    ensures err_kept { OnErr result (kept.new.items ≡ kept.old.items) }
+    ensures err_gone { OnErr result (gone.new.items ≡ gone.old.items) }
 {
     olds.reserve(bytes.len())?;
-    let Some(len) = kept.len().checked_add(bytes.len()) else {
+    let Some(len) = olds.len().checked_add(bytes.len()) else {
         return Err(AllocError);
     };
-    kept.resize(len, true)?;
+    make_room(gone, len)?;
     match olds.extend_from_slice(bytes) {
         Ok(()) => Ok(()),
         Err(_) => unreachable!(),

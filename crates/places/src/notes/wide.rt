@@ -3,8 +3,8 @@
 ghost use Rattle.std.specs.Prelude.{◌≡◌, [], OnOk, IsOk, true, false};
 
 use crate::notes::completions::CompletionNote;
+use crate::notes::kept::Kept;
 use crate::notes::numbers::NumberNote;
-use crate::notes::rest::Rest;
 use crate::notes::rows::RowNote;
 use std::alloc::{AllocError, Global};
 use std::marker::Model;
@@ -16,7 +16,7 @@ pub struct Kinds {
     pub(crate) completions: Vec<CompletionNote>,
     pub(crate) rows: Vec<RowNote>,
     /// Notes that few steps make, where a record keeps both.
-    pub(crate) rest: Rest,
+    pub(crate) rest: Kept,
 }
 
 impl Kinds {
@@ -67,7 +67,7 @@ impl Wide {
                 numbers: Vec::new(alloc),
                 completions: Vec::new(alloc),
                 rows: Vec::new(alloc),
-                rest: Rest::new(),
+                rest: Kept::new(),
             };
             self.kinds = Some(Box::new(alloc, kinds)?);
         }
@@ -97,7 +97,7 @@ impl Wide {
                     numbers,
                     completions,
                     rows,
-                    rest: Rest::new(),
+                    rest: Kept::new(),
                 };
                 Wide { kinds: Some(kinds) }
             }

@@ -1,12 +1,12 @@
 use Rattle.std.proofs.Common.{sym, subst}
-use Rattle.places.specs.Masked.{masked}
+use Rattle.places.specs.Stretched.{kept_of}
 use Rattle.findings.specs.Records.{OfNoRow}
 use Rattle.findings.proofs.Passing.{bytes_no_row}
 use Rattle.findings.proofs.changes.pass_over.Goals as goal
 
 pub loop-run-preserved : goal.loop-run-preserved
 loop-run-preserved c = λ h.
-    c.loop-run.invariant (subst OfNoRow (sym c.in-Some.ensures.told) (bytes_no_row c.in-Some._run.region c.in-Some._run.start (masked c.in-Some._run.olds.now c.in-Some._run.kept.now) _ h))
+    c.loop-run.invariant (subst OfNoRow (sym c.in-Some.ensures.told) (bytes_no_row c.in-Some._run.region c.in-Some._run.start (kept_of c.in-Some._run) _ h))
 
 pub returns : goal.returns
 returns c = c.loop-run.invariant (subst OfNoRow (sym c.in_default.ensures.told) tt)

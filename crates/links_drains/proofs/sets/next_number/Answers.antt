@@ -1,6 +1,7 @@
 use Rattle.std.proofs.Common.{arith, ◌/◌, ◌%◌, ◌*◌, inl, inr}
 use Rattle.std.proofs.lemmas.Bool.{cases_lt}
-use Rattle.links_drains.proofs.Numbers.{has_past, next_in_word, none_further, none_more}
+use Rattle.places.proofs.Bits.{has_past}
+use Rattle.links_drains.proofs.Numbers.{next_in_word, none_further, none_more}
 use Rattle.links_drains.proofs.sets.next_number.Goals as goal
 
 pub returns-then-first-words-clause-none : goal.returns-then-first-words-clause-none

@@ -1,4 +1,5 @@
-use Rattle.links_drains.proofs.Bits.{bit_set, bit_cleared}
+use Rattle.places.proofs.Bits.{bit_set}
+use Rattle.links_drains.proofs.Bits.{bit_cleared}
 use Rattle.links_drains.proofs.sets.with_bit.Goals as goal
 
 pub returns-then-member : goal.returns-then-member

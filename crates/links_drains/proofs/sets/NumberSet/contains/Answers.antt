@@ -1,8 +1,7 @@
 use Rattle.std.proofs.Common.{◌≡◌, ◌/◌, ◌%◌, ◌∙◌, get_or, sym, arith}
 use Rattle.std.proofs.lemmas.Bool.{ltb-true}
 use Rattle.std.proofs.lemmas.List.{get_or_read}
-use Rattle.links_drains.proofs.Bits.{tested_bit}
-use Rattle.links_drains.proofs.Numbers.{has_is, has_past}
+use Rattle.places.proofs.Bits.{tested_bit, has_is, has_past}
 use Rattle.links_drains.proofs.sets.NumberSet.contains.Goals as goal
 
 pub returns-in-Some : goal.returns-in-Some

@@ -1,6 +1,7 @@
 use Rattle.std.proofs.Common.{◌≡◌, ◌/◌, ◌%◌, arith, get_or}
 use Rattle.std.proofs.lemmas.List.{get_or_read}
-use Rattle.links_drains.proofs.Numbers.{has_past, next_in_word, none_by_summary, next_by_summary, word_there, word_not_zero}
+use Rattle.places.proofs.Bits.{has_past}
+use Rattle.links_drains.proofs.Numbers.{next_in_word, none_by_summary, next_by_summary, word_there, word_not_zero}
 use Rattle.links_drains.proofs.sets.NumberSet.next.Goals as goal
 
 pub returns-then-first-len-clause-none : goal.returns-then-first-len-clause-none

@@ -1,6 +1,7 @@
 use Rattle.std.proofs.Common.{◌≡◌, ◌/◌, get_or, arith}
 use Rattle.std.proofs.lemmas.List.{get_or_read, length-set}
-use Rattle.links_drains.proofs.Numbers.{has_written, summed_written}
+use Rattle.places.proofs.Bits.{has_written}
+use Rattle.links_drains.proofs.Numbers.{summed_written}
 use Rattle.links_drains.proofs.sets.NumberSet.write.Goals as goal
 
 pub invariant_of-self : goal.invariant_of-self

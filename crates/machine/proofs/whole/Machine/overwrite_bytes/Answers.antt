@@ -1,5 +1,5 @@
 use Rattle.std.proofs.Common.{subst}
-use Rattle.places.specs.Masked.{masked}
+use Rattle.places.specs.Stretched.{kept_of}
 use Rattle.machine.proofs.Restored.{Restored, restored_from, restored_over, restored_all, stretch_stands, world_put_back}
 use Rattle.machine.proofs.whole.Machine.overwrite_bytes.Goals as goal
 
@@ -14,7 +14,7 @@ put_back-requires-clause-stand c =
 pub loop-stretch-preserved : goal.loop-stretch-preserved
 loop-stretch-preserved c =
     let at = subst (Restored c.args.self.now c.args.rest.now.left c.loop-stretch.self) c.in-Some.ensures.told c.loop-stretch.invariant in
-    restored_over _ _ _ _ _ _ (world_put_back _ _ c.in-Some.stretch.region c.in-Some.stretch.start (masked c.in-Some.stretch.olds.now c.in-Some.stretch.kept.now) c.put_back.ensures.setup c.put_back.ensures.put) at
+    restored_over _ _ _ _ _ _ (world_put_back _ _ c.in-Some.stretch.region c.in-Some.stretch.start (kept_of c.in-Some.stretch) c.put_back.ensures.setup c.put_back.ensures.put) at
 
 pub returns : goal.returns
 returns c = restored_all _ _ _ _ c.in_default.ensures.told c.loop-stretch.invariant

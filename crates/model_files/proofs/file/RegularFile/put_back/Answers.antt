@@ -1,18 +1,18 @@
-use Rattle.std.proofs.Common.{◌≡◌, ◌≤◌, refl, length, arith}
-use Rattle.places.specs.Masked.{masked}
-use Rattle.places.proofs.MaskedLemmas.{length-masked}
+use Rattle.std.proofs.Common.{◌≤◌, length, arith}
+use Rattle.places.specs.Stretched.{kept_of}
+use Rattle.places.proofs.MaskedLemmas.{length_kept}
 use Rattle.model_files.proofs.PuttingOver.{tracked_bytes, tracked_durable}
 use Rattle.model_files.proofs.PuttingBack.{put_file_bytes, put_durable_bytes, put_no_file_bytes}
 use Rattle.model_files.proofs.file.RegularFile.put_back.Goals as goal
 
 pub invariant_of-self : goal.invariant_of-self
 invariant_of-self c =
-    let few : length (masked c.args.stretch.olds.now c.args.stretch.kept.now) ≤ length c.args.stretch.olds.now = let m = length-masked c.args.stretch.olds.now c.args.stretch.kept.now c.requires.paired in omega arith in
+    let few : length (kept_of c.args.stretch) ≤ length c.args.stretch.olds.now = let m = length_kept c.args.stretch.olds.now c.args.stretch.gone.now c.args.stretch.mark in omega arith in
     tracked_bytes _ _ _ _ _ (length c.args.stretch.olds.now) _ c.self.invariant c.put_over.ensures.over c.put_over.ensures.len few c.mark_within.ensures.kept c.mark_within.ensures.apart
 
 pub invariant_of-self-in-Durable : goal.invariant_of-self-in-Durable
 invariant_of-self-in-Durable c =
-    let few : length (masked c.args.stretch.olds.now c.args.stretch.kept.now) ≤ length c.args.stretch.olds.now = let m = length-masked c.args.stretch.olds.now c.args.stretch.kept.now c.requires.paired in omega arith in
+    let few : length (kept_of c.args.stretch) ≤ length c.args.stretch.olds.now = let m = length_kept c.args.stretch.olds.now c.args.stretch.gone.now c.args.stretch.mark in omega arith in
     tracked_durable _ _ _ _ _ (length c.args.stretch.olds.now) _ c.self.invariant c.put_over-in-Durable.ensures.over c.put_over-in-Durable.ensures.len few c.mark_within-in-Durable.ensures.kept c.mark_within-in-Durable.ensures.apart
 
 pub returns-in-File-clause-put : goal.returns-in-File-clause-put

@@ -1,4 +1,4 @@
-use Rattle.std.proofs.Common.{◌≡◌, ◌≤◌, ◌-◌, min, arith}
+use Rattle.std.proofs.Common.{arith}
 use Rattle.model_files.proofs.PuttingOver.{cut_apart, cut_nothing}
 use Rattle.model_files.proofs.pages.Pages.mark_within.Goals as goal
 

@@ -1,9 +1,8 @@
-use Rattle.std.proofs.Common.{◌≡◌, ℕ, refl, ap, ◌∙◌, ◌%◌, ◌≤◌, length, arith}
-use Rattle.places.specs.View.{Keeps}
+use Rattle.std.proofs.Common.{ap, ◌∙◌, ◌%◌, length, arith}
 use Rattle.places.proofs.Keeping.{keeps_then}
 use Rattle.std.proofs.lemmas.Result.{on_ok_weaker}
 use Rattle.model_files.specs.Objects.{object_owns}
-use Rattle.model_files.specs.Pipes.{PipeState, pipe_seen}
+use Rattle.model_files.specs.Pipes.{pipe_seen}
 use Rattle.model_files.proofs.Piping.{Lies, keeps_slots, second_fresh, slots_stay}
 use Rattle.model_files.proofs.pipe.PipeBuffer.note_slots.Goals as goal
 

@@ -1,4 +1,4 @@
-use Rattle.std.proofs.Common.{◌≡◌, ◌∙◌, ◌<◌, ◌≤◌, length}
+use Rattle.std.proofs.Common.{◌∙◌, ◌<◌, ◌≤◌, length}
 use Rattle.model_files.proofs.Wrapping.{oldest_is}
 use Rattle.model_files.proofs.pipe.PipeBuffer.oldest.Goals as goal
 

@@ -1,11 +1,10 @@
-use Rattle.std.proofs.Common.{◌≡◌, ◌-◌, ◌<◌, ◌∙◌, ap, length, ◌+◌, ◌≤◌, arith}
+use Rattle.std.proofs.Common.{◌≡◌, ◌∙◌, ap, length, ◌+◌, ◌≤◌, arith}
 use Rattle.std.specs.Prelude.{Some, IsSomeAnd, slice_get}
 use Rattle.model_files.specs.declared.body.Body.TheVariants.{Pipe}
 use Rattle.model_files.specs.Pipes.{GivesOut}
 use Rattle.model_files.specs.Worlds.{WorldState, pipe_in, pipe_of}
 use Rattle.model_files.proofs.Lifting.{found_body, some_and}
 use Rattle.places.proofs.Keeping.{keeps_then}
-use Rattle.places.specs.View.{Noted}
 use Rattle.model_files.specs.Worlds.{world_owns, world_seen}
 use Rattle.model_files.proofs.Bringing.{keeps_count, keeps_two, names_taken, second_part_fresh}
 use Rattle.model_files.proofs.Remembering.{keeps_memory_bytes}

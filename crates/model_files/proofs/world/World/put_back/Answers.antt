@@ -1,6 +1,6 @@
 use Rattle.std.proofs.Common.{◌≡◌, sym, ◌∙◌, ap}
-use Rattle.std.specs.Prelude.{Some, None}
-use Rattle.places.specs.Masked.{masked}
+use Rattle.std.specs.Prelude.{None}
+use Rattle.places.specs.Stretched.{kept_of}
 use Rattle.places.specs.Runs.{place_in}
 use Rattle.places.specs.declared.notes.runs.Region.TheVariants.{Memory}
 use Rattle.model_files.specs.Objects.{object_in}
@@ -14,4 +14,4 @@ returns-clause-put c =
     let none : object_in (place_in c.args.stretch.region c.args.stretch.start) ≡ None = ap object_in (sym c.place.ensures) ∙ sym c.object_in.ensures ∙ c.in_default.is in
     let m : c.args.stretch.region ≡ Memory = is_memory c.args.stretch.region c.args.stretch.start none in
     let stand = rw (← c.self.view_is, m) at c.requires.stand in
-    rw (← c.self.view_is, m) (put_memory_bytes w c.args.stretch.start (masked c.args.stretch.olds.now c.args.stretch.kept.now) _ c.put_over.ensures.over stand)
+    rw (← c.self.view_is, m) (put_memory_bytes w c.args.stretch.start (kept_of c.args.stretch) _ c.put_over.ensures.over stand)

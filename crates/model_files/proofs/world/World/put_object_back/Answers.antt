@@ -1,7 +1,7 @@
-use Rattle.std.proofs.Common.{◌≡◌, ◌<◌, ◌≤◌, refl, sym, ◌∙◌, length, arith}
+use Rattle.std.proofs.Common.{◌≡◌, ◌<◌, refl, length, arith}
 use Rattle.std.specs.Prelude.{Some, slice_get}
 use Rattle.std.proofs.lemmas.Option.{slice_get_read}
-use Rattle.places.specs.Masked.{masked}
+use Rattle.places.specs.Stretched.{kept_of}
 use Rattle.places.specs.Runs.{place_in}
 use Rattle.model_files.specs.Worlds.{WorldState}
 use Rattle.model_files.proofs.Lifting.{owns_own, one_setup_body}
@@ -15,7 +15,7 @@ put_back-requires-clause-stand c =
     let within : c.args.object < length w.objects = omega arith in
     let found : slice_get w.objects c.args.object ≡ Some c.index_mut.result.now = slice_get_read w.objects (length w.objects) c.args.object c.index_mut.result.now refl within c.index_mut.ensures.value in
     let stand = rw (← c.self.view_is) at c.requires.stand in
-    stand_body w c.args.object c.index_mut.result.now c.args.stretch.region c.args.stretch.start (masked c.args.stretch.olds.now c.args.stretch.kept.now) found own stand
+    stand_body w c.args.object c.index_mut.result.now c.args.stretch.region c.args.stretch.start (kept_of c.args.stretch) found own stand
 
 pub returns-then-index-len-clause-put : goal.returns-then-index-len-clause-put
 returns-then-index-len-clause-put c =
@@ -23,7 +23,7 @@ returns-then-index-len-clause-put c =
     let own = owns_own (place_in c.args.stretch.region c.args.stretch.start) c.args.object c.requires.its in
     let within : c.args.object < length w.objects = omega arith in
     let found : slice_get w.objects c.args.object ≡ Some c.index_mut.result.now = slice_get_read w.objects (length w.objects) c.args.object c.index_mut.result.now refl within c.index_mut.ensures.value in
-    rw (← c.self.view_is) (put_body_bytes w c.args.object c.index_mut.result.now c.put_back.new.self c.args.stretch.region c.args.stretch.start (masked c.args.stretch.olds.now c.args.stretch.kept.now) found own c.put_back.ensures.put)
+    rw (← c.self.view_is) (put_body_bytes w c.args.object c.index_mut.result.now c.put_back.new.self c.args.stretch.region c.args.stretch.start (kept_of c.args.stretch) found own c.put_back.ensures.put)
 
 pub returns-then-index-len-clause-setup : goal.returns-then-index-len-clause-setup
 returns-then-index-len-clause-setup c =
@@ -36,4 +36,4 @@ pub returns-else-index-len-clause-put : goal.returns-else-index-len-clause-put
 returns-else-index-len-clause-put c =
     let w : WorldState = record { memory = c.self.inside.memory.items; objects = c.self.inside.objects.items; descriptors = c.self.inside.descriptors.items } in
     let stand = rw (← c.self.view_is) at c.requires.stand in
-    rw (← c.self.view_is) (put_absent w c.args.object c.args.stretch.region c.args.stretch.start (masked c.args.stretch.olds.now c.args.stretch.kept.now) c.requires.its (omega arith) stand)
+    rw (← c.self.view_is) (put_absent w c.args.object c.args.stretch.region c.args.stretch.start (kept_of c.args.stretch) c.requires.its (omega arith) stand)

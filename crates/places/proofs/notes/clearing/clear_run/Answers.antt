@@ -4,4 +4,4 @@ use Rattle.places.proofs.notes.clearing.clear_run.Goals as goal
 
 pub returns-in-Some-clause-kept : goal.returns-in-Some-clause-kept
 returns-in-Some-clause-kept g c =
-    marks_left _ c.args.region c.args.start c.args.olds.now c.in-Some.now.now c.args.kept.now c.clear_alike.new.kept c.requires.paired c.clear_alike.ensures.len (search rules) c.clear_alike.ensures.marks
+    marks_left _ c.args.region c.args.start c.args.olds.now c.in-Some.now.now c.args.gone.now c.clear_alike.new.gone c.args.mark (search rules) c.clear_alike.ensures.marks

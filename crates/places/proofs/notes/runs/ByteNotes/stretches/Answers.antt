@@ -1,6 +1,6 @@
 use Rattle.std.proofs.Common.{◌∙◌}
-use Rattle.places.proofs.MaskedLemmas.{length-masked}
+use Rattle.places.proofs.MaskedLemmas.{length_kept}
 use Rattle.places.proofs.notes.runs.ByteNotes.stretches.Goals as goal
 
 pub of-requires-clause-fits : goal.of-requires-clause-fits
-of-requires-clause-fits c = rw (c.deref.ensures.value, c.deref-2.ensures.value) (c.self.invariant.once.fits ∙ length-masked c.self.inside.olds.items c.self.inside.kept.items c.self.invariant.paired)
+of-requires-clause-fits c = rw (c.deref.ensures.value, c.deref-2.ensures.value) (c.self.invariant.once.fits ∙ length_kept c.self.inside.olds.items c.self.inside.gone.items 0)

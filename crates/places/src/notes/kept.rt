@@ -1,0 +1,116 @@
+//! What stays of notes that few steps make, once they are closed.
+ghost use Rattle.std.specs.Prelude.{◌≡◌, [], is_some};
+ghost use Rattle.places.specs.View.{named};
+ghost use Rattle.places.specs.Runs.{run_changes};
+ghost use Rattle.places.specs.RestOf.{rest_of};
+
+use crate::notes::odd::Odd;
+use crate::notes::runs::ByteNotes;
+use crate::notes::telling::{ByteChanges, Stretches};
+use crate::place::Place;
+use crate::value::Change;
+use std::marker::Model;
+
+/// Notes of bytes, and of places one at a time.
+#[derive(Drop)]
+pub struct Inner {
+    pub(crate) bytes: ByteNotes,
+    pub(crate) odd: Odd,
+}
+
+impl Inner {
+    /// What the notes keep in memory, in bytes.
+    pub fn kept_bytes(&self) -> usize {
+        size_of::<Inner>()
+            .saturating_add(self.bytes.kept_bytes())
+            .saturating_add(self.odd.kept_bytes())
+    }
+}
+
+/// What stays of them, which takes a word where that is nothing.
+#[derive(Drop)]
+pub struct Kept {
+    pub(crate) inner: Option<Box<Inner>>,
+}
+
+impl Model for Kept {
+    ghost use Rattle.places.specs.RestList.{RestList};
+
+    ghost Value = { RestList };
+
+    ghost use Rattle.places.specs.RestOf.{rest_of};
+
+    ghost view = { λ a. rest_of a.inner };
+}
+
+impl Kept {
+    /// Nothing. It takes no memory.
+    pub fn new() -> Kept
+        ensures runs { result.runs ≡ [] }
+        ensures olds { result.olds ≡ [] }
+        ensures odd { result.odd ≡ [] }
+    {
+        Kept { inner: None }
+    }
+
+    /// Notes that were closed. The memory that they don't take goes.
+    pub fn of(mut inner: Option<Box<Inner>>) -> Kept
+        ensures runs { result.runs ≡ (rest_of inner).runs }
+        ensures olds { result.olds ≡ (rest_of inner).olds }
+        ensures odd { result.odd ≡ (rest_of inner).odd }
+    {
+        if let Some(inner) = &mut inner {
+            inner.bytes.shrink();
+            inner.odd.shrink();
+        }
+        Kept { inner }
+    }
+
+    /// The old bytes, one after the other.
+    pub fn bytes(&self) -> ByteChanges<'_>
+        ensures { result.left ≡ run_changes self.now.runs self.now.olds }
+    {
+        match &self.inner {
+            None => ByteChanges::none(),
+            Some(inner) => inner.bytes.changes(),
+        }
+    }
+
+    /// The runs, one after the other.
+    pub fn stretches(&self) -> Stretches<'_>
+        ensures { result.left ≡ run_changes self.now.runs self.now.olds }
+    {
+        match &self.inner {
+            None => Stretches::none(),
+            Some(inner) => inner.bytes.stretches(),
+        }
+    }
+
+    /// The notes that were pushed.
+    pub fn odd(&self) -> &[Change]
+        ensures { result.now ≡ self.now.odd }
+    {
+        match &self.inner {
+            None => &[],
+            Some(inner) => inner.odd.as_slice(),
+        }
+    }
+
+    /// Whether one of these is of a place.
+    pub fn names(&self, place: Place) -> bool
+        ensures { result ≡ is_some (named self.now.odd place) }
+    {
+        match &self.inner {
+            None => false,
+            Some(inner) => inner.odd.names(place),
+        }
+    }
+
+    /// What the notes keep in memory besides themselves, in bytes.
+    pub fn kept_bytes(&self) -> usize {
+        match &self.inner {
+            None => 0,
+            Some(inner) => inner.kept_bytes(),
+        }
+    }
+}
