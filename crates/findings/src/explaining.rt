@@ -216,10 +216,8 @@ fn explain_script<W: Write>(
         Err(ScriptFault::Memory) => return Err(LogFault::Memory),
         Err(fault) => return Err(LogFault::Script(fault)),
     };
-    match explain_plan(alloc, &script, asked, writer) {
-        Ok(faults) => Ok(faults),
-        Err(fault) => Err(fault),
-    }
+    let explained = explain_plan(alloc, &script, asked, writer);
+    explained
 }
 
 #[tactic(auto, using(crate::proofs::Unexplained::unexplained_trace))]
@@ -237,10 +235,8 @@ fn explain_trace<W: Write>(
         Err(TraceFault::Memory) => return Err(LogFault::Memory),
         Err(fault) => return Err(LogFault::Trace(fault)),
     };
-    match explain_events(alloc, &setup, &events, asked, writer) {
-        Ok(faults) => Ok(faults),
-        Err(fault) => Err(fault),
-    }
+    let explained = explain_events(alloc, &setup, &events, asked, writer);
+    explained
 }
 
 /// Runs what the bytes are, a trace where the first one is a `U`, and else a script, and tells what

@@ -29,6 +29,14 @@ impl Run<'_> {
         }
     }
 
+    /// A ring word, a counter or a flag word at the end, or 0.
+    pub fn number(&self, place: Place) -> u64 {
+        match self.state.value(place) {
+            Some(Value::Number(number)) => number,
+            _ => 0,
+        }
+    }
+
     pub fn name(&self, number: u32) -> Option<RowName> {
         let row = self.row(number)?;
         Some(RowName::of(number, &row))
@@ -81,6 +89,18 @@ impl Run<'_> {
         None
     }
 
+    /// How many indexes the event at a moment dropped.
+    pub fn dropped_at(&self, moment: u32) -> u32 {
+        let mut before = 0;
+        for (at, count) in &self.history.dropped {
+            if *at == moment {
+                return count.saturating_sub(before);
+            }
+            before = *count;
+        }
+        0
+    }
+
     /// Whether a row ended by the event at a moment.
     pub fn ends_at(&self, number: u32, moment: u32) -> bool {
         match self.times_of(number) {
@@ -123,8 +143,8 @@ impl Run<'_> {
         None
     }
 
-    /// The row of another's chain, below a number, of which a kind was told last at a moment, before
-    /// a place in the list.
+    /// The row of another's chain, below a number, of which a kind was told last at a moment,
+    /// before a place in the list.
     fn told_before(
         &self,
         index: usize,

@@ -19,7 +19,7 @@ use crate::finding::Finding;
 use crate::leftover::add_all_left;
 use crate::ordering::in_order;
 use crate::record::{add_of_deed, add_of_event};
-use crate::times::{History, note_counter, note_emptied, note_slot};
+use crate::times::{History, note_counter, note_dropped, note_emptied, note_slot};
 use crate::transition::Transition;
 use crate::unsynced::add_all_unsynced;
 use crate::watching::{Watch, add_all_lasting, advance, watches_of};
@@ -67,6 +67,8 @@ fn note(at: Transition<'_>, history: &mut History) -> Result<(), AllocError> {
     note_counter(&mut history.counters, at.before.counter)?;
     let slot = slot_met(at.setup, at.state, at.event, at.before);
     note_slot(&mut history.slots, at.moment, slot)?;
+    let dropped = at.state.submissions().dropped();
+    note_dropped(&mut history.dropped, at.moment, dropped)?;
     let is_emptied = at.before.overflows && !overflows(at.state);
     note_emptied(
         &mut history.emptied,

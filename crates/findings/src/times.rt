@@ -61,6 +61,8 @@ pub(crate) struct History {
     pub slots: Vec<Met>,
     /// The moments at which the backlog was empty again.
     pub emptied: Vec<u32>,
+    /// Of each event that dropped indexes its moment, and sq.dropped behind it.
+    pub dropped: Vec<(u32, u32)>,
 }
 
 impl Drop for History {
@@ -70,6 +72,7 @@ impl Drop for History {
             counters: _,
             slots: _,
             emptied: _,
+            dropped: _,
         } = self;
     }
 }
@@ -81,8 +84,25 @@ impl History {
             counters: Vec::new(alloc),
             slots: Vec::new(alloc),
             emptied: Vec::new(alloc),
+            dropped: Vec::new(alloc),
         }
     }
+}
+
+/// Notes sq.dropped behind the event at a moment, if it isn't as before.
+pub(crate) fn note_dropped(
+    dropped: &mut Vec<(u32, u32)>,
+    moment: u32,
+    now: u32,
+) -> Result<(), AllocError> {
+    let before = match dropped.last() {
+        Some((_, count)) => *count,
+        None => 0,
+    };
+    if now != before {
+        dropped.push((moment, now))?;
+    }
+    Ok(())
 }
 
 /// Notes what an event made of a row.

@@ -42,6 +42,17 @@ fn fits_opcode(entry: &Sqe, row: &Row) -> bool {
     row.entry.opcode != Op::LinkTimeout as u8
 }
 
+// What such a row is not.
+fn word_of_misfit(entry: &Sqe) -> &'static str {
+    if entry.opcode == Op::PollRemove as u8 {
+        return "is no POLL_ADD, and it looks for these alone";
+    }
+    if entry.opcode == Op::TimeoutRemove as u8 {
+        return "is no TIMEOUT, and it looks for these alone";
+    }
+    "is a LINK_TIMEOUT, which a cancel does not look for"
+}
+
 // Whether a row uses the descriptor that an entry names.
 fn names_descriptor(entry: &Sqe, row: &Row) -> bool {
     uses_descriptor(row.entry.opcode) && row.entry.fd == entry.fd
@@ -102,7 +113,8 @@ fn reason_of(
 ) -> Result<String, AllocError> {
     let name = RowName::of(number, row);
     if !fits_opcode(&about.row.entry, row) {
-        return format!(in alloc; "row {name} is of an opcode that it does not look for");
+        let misfit = word_of_misfit(&about.row.entry);
+        return format!(in alloc; "row {name} {misfit}");
     }
     let ended = match run.times_of(number) {
         Some(times) => times.ended,
@@ -110,7 +122,7 @@ fn reason_of(
     };
     match ended {
         Some(moment) if moment < about.moment => {
-            format!(in alloc; "row {name} had ended at {moment}")
+            format!(in alloc; "row {name} had ended by event {moment}")
         }
         _ => {
             format!(in alloc;
@@ -219,7 +231,7 @@ fn became(alloc: Global, run: &Run<'_>, number: u32) -> Result<String, AllocErro
     match (ended, run.result(number)) {
         (Some(moment), Some(res)) => {
             let told = ResultName(res);
-            format!(in alloc; "it ended at {moment} with {told}")
+            format!(in alloc; "it ended by event {moment} with {told}")
         }
         _ => String::from_str(alloc, "it has not ended"),
     }

@@ -10,7 +10,7 @@ use entries::{Phase, Row};
 use links_drains::{is_guard, is_unfinished};
 use machine::{Event, Refusal, Setup, State};
 use opcodes::{Choice, is_timer};
-use places::{Place, Value};
+use places::Place;
 use std::alloc::{AllocError, Global};
 
 const LINK_RULE: &str = "(io_uring_enter(2), IOSQE_IO_LINK)";
@@ -136,10 +136,9 @@ fn lacking(alloc: Global, run: &Run<'_>, row: &Row) -> Result<String, AllocError
     if is_guard(row) || wanted == 0 {
         return Ok(String::new(alloc));
     }
-    let counted = match run.state.value(Place::Counted) {
-        Some(Value::Number(counted)) => counted.saturating_sub(u64::from(row.base)),
-        _ => 0,
-    };
+    let counted = run
+        .number(Place::Counted)
+        .saturating_sub(u64::from(row.base));
     let lacks = wanted.saturating_sub(counted);
     format!(in alloc; "; it waits for {wanted} completions too, and lacks {lacks}")
 }

@@ -3,6 +3,7 @@
 use crate::files::{FIRST, number_in};
 use crate::run::Run;
 use entries::Sqe;
+use machine::Setup;
 use opcodes::{Op, fits_end};
 use places::{Contents, Descriptor, End};
 use std::alloc::{AllocError, Global};
@@ -10,9 +11,10 @@ use std::alloc::{AllocError, Global};
 /// The fewest bytes that a READ or a WRITE of an eventfd has (eventfd(2)).
 const EVENT_BYTES: u32 = 8;
 
-fn descriptor_of(run: &Run<'_>, entry: &Sqe) -> Option<Descriptor> {
-    let index = number_in(entry.fd)?.checked_sub(FIRST)?;
-    run.setup.fds.as_slice().get(index as usize).copied()
+/// A descriptor of the setup by its number.
+pub(super) fn descriptor_at(setup: &Setup, fd: i32) -> Option<Descriptor> {
+    let index = number_in(fd)?.checked_sub(FIRST)?;
+    setup.fds.as_slice().get(index as usize).copied()
 }
 
 // What keeps a request from an end, which is of another use, or was closed.
@@ -31,7 +33,7 @@ pub(super) fn reason_of_descriptor(
     entry: &Sqe,
 ) -> Result<String, AllocError> {
     let fd = entry.fd;
-    let reason = match descriptor_of(run, entry) {
+    let reason = match descriptor_at(run.setup, entry.fd) {
         Some(Descriptor { end, .. }) => word_of_end(fits_end(entry.opcode, end), end),
         None => "is not open",
     };
@@ -78,7 +80,7 @@ pub(super) fn reason_of_object(
     run: &Run<'_>,
     entry: &Sqe,
 ) -> Result<String, AllocError> {
-    let object = match descriptor_of(run, entry) {
+    let object = match descriptor_at(run.setup, entry.fd) {
         Some(descriptor) => run.setup.objects.as_slice().get(descriptor.object as usize),
         None => None,
     };

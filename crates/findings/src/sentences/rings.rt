@@ -14,17 +14,9 @@ const SUBMIT_RULE: &str = "(io_uring_enter(2), to_submit)";
 
 const POLLER_RULE: &str = "(io_uring_setup(2), IORING_SETUP_SQPOLL)";
 
-// A ring word, a counter or a flag word at the end.
-fn number(run: &Run<'_>, place: Place) -> u64 {
-    match run.state.value(place) {
-        Some(Value::Number(number)) => number,
-        _ => 0,
-    }
-}
-
 // How many wait between a head and a tail, which are free-running words of 32 bits.
 fn waiting(run: &Run<'_>, head: Place, tail: Place) -> u64 {
-    number(run, tail).wrapping_sub(number(run, head)) & 0xffff_ffff
+    run.number(tail).wrapping_sub(run.number(head)) & 0xffff_ffff
 }
 
 fn entries(run: &Run<'_>) -> u64 {
@@ -36,13 +28,13 @@ fn completions(run: &Run<'_>) -> u64 {
 }
 
 fn is_overflowing(run: &Run<'_>) -> bool {
-    number(run, Place::SubmissionFlags) & 2 != 0
+    run.number(Place::SubmissionFlags) & 2 != 0
 }
 
 /// Completions that began to be kept.
 pub(crate) fn overflow(alloc: Global, run: &Run<'_>, moment: u32) -> Result<String, AllocError> {
     let outlook = match run.emptied_behind(moment) {
-        Some(emptied) => format!(in alloc; "The backlog was empty again at {emptied}")?,
+        Some(emptied) => format!(in alloc; "The backlog was empty again at moment {emptied}")?,
         None => String::from_str(alloc, "At the end of the run some are kept")?,
     };
     format!(in alloc;
@@ -97,6 +89,16 @@ fn came_at(run: &Run<'_>, moment: u32) -> (usize, bool) {
     (came, failed)
 }
 
+// A reason, and how many indexes were dropped.
+fn with_dropped(alloc: Global, reason: &str, dropped: u32) -> Result<String, AllocError> {
+    if dropped == 0 {
+        return String::from_str(alloc, reason);
+    }
+    format!(in alloc;
+        "{reason}; beside these, indexes that name no slot were taken and dropped: {dropped}"
+    )
+}
+
 /// An Enter that took fewer entries than it was to submit.
 pub(crate) fn taken_short(
     alloc: Global,
@@ -110,13 +112,15 @@ pub(crate) fn taken_short(
     };
     let counter = run.counter(moment).unwrap_or(0);
     let (came, failed) = came_at(run, moment);
+    let dropped = run.dropped_at(moment);
     let reason = if failed && !run.setup.submit_all {
         "an entry failed, and the submission halts behind one"
-    } else if number(run, Place::SubmissionDropped) == 0 {
+    } else if came.saturating_add(dropped as usize) < wanted as usize {
         "no more waited in the ring"
     } else {
-        "no more waited in the ring, or an index that names no slot used one up"
+        "there was no other entry among them"
     };
+    let reason = with_dropped(alloc, reason, dropped)?;
     format!(in alloc;
         "The enter of thread {thread}, instruction {counter}, was to submit {wanted} entries, and took {came}: {reason} {SUBMIT_RULE}."
     )
@@ -157,7 +161,7 @@ fn beyond_ring(
 
 /// A thread that waits.
 pub(crate) fn waits(alloc: Global, run: &Run<'_>, thread: u32) -> Result<String, AllocError> {
-    let counter = number(run, Place::ProgramCounter(thread));
+    let counter = run.number(Place::ProgramCounter(thread));
     let ready = completions(run);
     let wanted = match run.state.value(Place::ThreadStage(thread)) {
         Some(Value::Staged(Stage::Waiting(_, wanted))) => wanted,

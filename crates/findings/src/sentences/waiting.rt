@@ -1,9 +1,9 @@
 //! What an issued request waits for at its descriptor, and what could bring it.
 
-use crate::files::{FIRST, number_in};
+use super::objects::descriptor_at;
+use crate::files::FIRST;
 use crate::run::Run;
 use entries::{Row, Sqe};
-use machine::Setup;
 use opcodes::Op;
 use places::{Contents, Descriptor, End, Object, Place, Value};
 use std::alloc::{AllocError, Global};
@@ -120,11 +120,6 @@ impl Awaited {
             _ => "(pipe(7))",
         }
     }
-}
-
-fn descriptor_at(setup: &Setup, fd: i32) -> Option<Descriptor> {
-    let index = number_in(fd)?.checked_sub(FIRST)?;
-    setup.fds.as_slice().get(index as usize).copied()
 }
 
 fn is_open(run: &Run<'_>, number: u32) -> bool {
