@@ -45,10 +45,10 @@ fn fits_opcode(entry: &Sqe, row: &Row) -> bool {
 // What such a row is not.
 fn word_of_misfit(entry: &Sqe) -> &'static str {
     if entry.opcode == Op::PollRemove as u8 {
-        return "is no POLL_ADD, and it looks for these alone";
+        return "is no POLL_ADD, and a POLL_REMOVE looks for these alone";
     }
     if entry.opcode == Op::TimeoutRemove as u8 {
-        return "is no TIMEOUT, and it looks for these alone";
+        return "is no TIMEOUT, and a TIMEOUT_REMOVE looks for these alone";
     }
     "is a LINK_TIMEOUT, which a cancel does not look for"
 }

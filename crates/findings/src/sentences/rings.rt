@@ -89,13 +89,14 @@ fn came_at(run: &Run<'_>, moment: u32) -> (usize, bool) {
     (came, failed)
 }
 
-// A reason, and how many indexes were dropped.
+// A reason, if there is one, and how many indexes were dropped.
 fn with_dropped(alloc: Global, reason: &str, dropped: u32) -> Result<String, AllocError> {
     if dropped == 0 {
         return String::from_str(alloc, reason);
     }
+    let before = if reason.is_empty() { "" } else { "; " };
     format!(in alloc;
-        "{reason}; beside these, indexes that name no slot were taken and dropped: {dropped}"
+        "{reason}{before}of its indexes so many name no slot, and were dropped: {dropped}"
     )
 }
 
@@ -113,12 +114,12 @@ pub(crate) fn taken_short(
     let counter = run.counter(moment).unwrap_or(0);
     let (came, failed) = came_at(run, moment);
     let dropped = run.dropped_at(moment);
-    let reason = if failed && !run.setup.submit_all {
+    let reason = if came.saturating_add(dropped as usize) >= wanted as usize {
+        ""
+    } else if failed && !run.setup.submit_all {
         "an entry failed, and the submission halts behind one"
-    } else if came.saturating_add(dropped as usize) < wanted as usize {
-        "no more waited in the ring"
     } else {
-        "there was no other entry among them"
+        "no more waited in the ring"
     };
     let reason = with_dropped(alloc, reason, dropped)?;
     format!(in alloc;
