@@ -70,11 +70,6 @@ outside_one before now after i n m o w q side = w q ∙ ap (λ t. cond t m (is_k
     apart (inl l) e = absurd (omega arith)
     apart (inr l) e = absurd (omega arith)
 
--- of one run, and of those behind it
-pub outside_both : (before mid after : List ℕ) (i n m : ℕ) → SameOutside before mid i n → SameOutside mid after (i + n) m → SameOutside before after i (n + m)
-outside_both before mid after i n m o p q (inl l) = p q (inl (omega arith)) ∙ o q (inl l)
-outside_both before mid after i n m o p q (inr l) = p q (inr (omega arith)) ∙ o q (inr (omega arith))
-
 -- one more byte is settled
 pub settled : (x : ℕ → ℕ → Bool → Bool → Type 0) (olds before now after : List ℕ) (mark i b : ℕ) (m : Bool) → slice_get olds i ≡ Some b → ((q : ℕ) → is_kept after q ≡ cond (q == mark + i) m (is_kept now q)) → x i b (is_kept before (mark + i)) m
     → ((j c : ℕ) → j < i → slice_get olds j ≡ Some c → x j c (is_kept before (mark + j)) (is_kept now (mark + j)))

@@ -177,13 +177,6 @@ first_is g s zero b os k ks rs h e = absurd (omega arith)
 first_is g s (suc n) b os false ks rs h e = absurd cc
 first_is g s (suc n) b os true ks rs h e = let m : suc n - 1 ≡ n = omega arith in rw (m) refl
 
--- and one that isn't
-first_was : (g : Region) (s n b : ℕ) (os : List ℕ) (k : Bool) (ks : List Bool) (rs : List Run) → 1 ≤ n → k ≡ false
-    → old_bytes g s (take n (masked (b ∷ os) (k ∷ ks))) ++ run_changes rs (drop n (masked (b ∷ os) (k ∷ ks))) ≡ old_bytes g (s + 1) (take (n - 1) (masked os ks)) ++ run_changes rs (drop (n - 1) (masked os ks))
-first_was g s zero b os k ks rs h e = absurd (omega arith)
-first_was g s (suc n) b os true ks rs h e = absurd cc
-first_was g s (suc n) b os false ks rs h e = let m : suc n - 1 ≡ n = omega arith in rw (m) refl
-
 pub first_kept : (g : Region) (s n : ℕ) (os gone : List ℕ) (mark : ℕ) (rs : List Run) (b : ℕ) → 1 ≤ n → 1 ≤ length os → is_kept gone mark ≡ true
     → old_bytes g s (take n (masked os (marks_from gone mark (length os)))) ++ run_changes rs (drop n (masked os (marks_from gone mark (length os))))
     ≡ record { place = place_in g s; old = Some (Byte (slice_index_or os 0 b)) } ∷ (old_bytes g (s + 1) (take (n - 1) (masked (take (length os - 1) (drop 1 os)) (marks_from gone (mark + 1) (length (take (length os - 1) (drop 1 os)))))) ++ run_changes rs (drop (n - 1) (masked (take (length os - 1) (drop 1 os)) (marks_from gone (mark + 1) (length (take (length os - 1) (drop 1 os)))))))
@@ -191,14 +184,6 @@ first_kept g s n [] gone mark rs b h i k = absurd (omega arith)
 first_kept g s n (o ∷ os) gone mark rs b h i k =
     let l : suc (length os) - 1 ≡ length os = omega arith in
     rw (l, take_all (length os) os (omega arith)) (first_is g s n o os (is_kept gone mark) (marks_from gone (mark + 1) (length os)) rs h k)
-
-pub first_gone : (g : Region) (s n : ℕ) (os gone : List ℕ) (mark : ℕ) (rs : List Run) → 1 ≤ n → 1 ≤ length os → is_kept gone mark ≡ false
-    → old_bytes g s (take n (masked os (marks_from gone mark (length os)))) ++ run_changes rs (drop n (masked os (marks_from gone mark (length os))))
-    ≡ old_bytes g (s + 1) (take (n - 1) (masked (take (length os - 1) (drop 1 os)) (marks_from gone (mark + 1) (length (take (length os - 1) (drop 1 os)))))) ++ run_changes rs (drop (n - 1) (masked (take (length os - 1) (drop 1 os)) (marks_from gone (mark + 1) (length (take (length os - 1) (drop 1 os))))))
-first_gone g s n [] gone mark rs h i k = absurd (omega arith)
-first_gone g s n (o ∷ os) gone mark rs h i k =
-    let l : suc (length os) - 1 ≡ length os = omega arith in
-    rw (l, take_all (length os) os (omega arith)) (first_was g s n o os (is_kept gone mark) (marks_from gone (mark + 1) (length os)) rs h k)
 
 -- a run behind the others, with its bytes
 pub masked_once : (rs : List Run) (r : Run) (os before after bs : List ℕ) → MaskedOnce rs os before → ((q : ℕ) → is_kept after q ≡ is_kept before q) → r.len ≡ length bs → r.start + r.len ≤ 2 ^ 32
@@ -218,13 +203,6 @@ marks_closed v rs bs before after o same k = record {
 
 pub masked_nothing : MaskedOnce [] [] []
 masked_nothing = record { once = record { fits = refl; within = tt; once = tt }; fresh = λ q h. ap not (has_past [] q (omega arith)) }
-
--- the same bytes, where their marks are kept otherwise
-pub masked_same : (rs : List Run) (bs before after : List ℕ) → MaskedOnce rs bs before → ((q : ℕ) → is_kept after q ≡ is_kept before q) → MaskedOnce rs bs after
-masked_same rs bs before after o same = record {
-  once = subst (λ ks. RunsOnce rs (masked bs ks)) (sym (same_marks before after 0 (length bs) (λ q l m. same q))) o.once;
-  fresh = λ q h. same q ∙ o.fresh q h;
-}
 
 -- the first run, and those behind it
 pub first_run : (rs : List Run) (d : Run) (bs fb bb : List ℕ) (ks fk bk : List Bool) → 1 ≤ length rs → fb ≡ take (slice_index_or rs 0 d).len bs → bb ≡ drop (slice_index_or rs 0 d).len bs → fk ≡ take (slice_index_or rs 0 d).len ks → bk ≡ drop (slice_index_or rs 0 d).len ks
