@@ -1,11 +1,10 @@
 -- Numbers of a set, by the bits of its words.
-use Rattle.std.proofs.Common.{◌≡◌, ℕ, ◌+◌, ◌*◌, ◌/◌, ◌%◌, ◌<◌, ◌≤◌, Bool, true, false, not, cond, ◌==◌, List, [], ◌∷◌, ◌++◌, length, get_or, set, replicate, refl, sym, ap, ◌∙◌, inl, inr, arith}
+use Rattle.std.proofs.Common.{◌≡◌, ℕ, ◌+◌, ◌*◌, ◌/◌, ◌%◌, ◌<◌, ◌≤◌, true, false, not, cond, ◌==◌, List, [], ◌∷◌, ◌++◌, length, get_or, set, replicate, refl, sym, ap, ◌∙◌, inl, inr, arith}
 use Rattle.std.specs.Int.{bit_at}
 use Rattle.std.proofs.lemmas.Bool.{cases_eq, cases_lt, not-false, not-true, eqb-true, eqb-false, eq-eqb, ne_eqb}
-use Rattle.std.proofs.lemmas.Bool.Decides.{nat_tests}
-use Rattle.std.proofs.lemmas.List.{get_or-set_same, get_or-set_other, get_or_past, get_or_append_left, get_or_push, get_or-replicate, length-replicate, length-set, length_push}
+use Rattle.std.proofs.lemmas.List.{get_or-set_same, get_or-set_other, get_or_past, get_or-replicate, length-replicate, length-set, length_push}
 use Rattle.std.proofs.lemmas.Nat.Bits.{bit_at-zero, same_from_bits}
-use Rattle.places.proofs.Bits.{none_in_zero}
+use Rattle.places.proofs.Bits.{none_in_zero, grown_word, no_bits, has_grown as words_grown}
 use Rattle.links_drains.specs.Sets.{has, IsNextBit, IsNext, NoneFrom, Summed}
 
 -- ---- one number
@@ -21,17 +20,10 @@ has_in words w b h =
 
 -- a word of zeros is added
 same_word : (words : List ℕ) (w : ℕ) → get_or (words ++ 0 ∷ []) w 0 ≡ get_or words w 0
-same_word words w = elim (cases_lt w (length words)) [
-  | inl inside ↦ get_or_append_left words (0 ∷ []) 0 w inside
-  | inr past ↦ elim (cases_eq (length words) w) [
-    | inl last ↦ get_or_push words 0 0 w last ∙ sym (get_or_past words w 0 past)
-    | inr other ↦ get_or_past (words ++ 0 ∷ []) w 0 (omega (arith, length_push words 0)) ∙ sym (get_or_past words w 0 past)
-  ]
-]
+same_word words w = grown_word words (0 ∷ []) w (λ v. no_bits 1 0 v refl)
 
 pub has_grown : (words : List ℕ) (k : ℕ) → has (words ++ 0 ∷ []) k ≡ has words k
-unfolding has
-has_grown words k = rw (same_word words (k / 64)) refl
+has_grown words k = words_grown words (0 ∷ []) k (λ w. no_bits 1 0 w refl)
 
 -- ---- the summary
 

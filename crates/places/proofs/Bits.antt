@@ -54,15 +54,15 @@ has_written words k word member within bits i = elim (cases_eq (i / 64) (k / 64)
 ]
 
 -- words of zeros behind others
+pub grown_word : (words zeros : List ℕ) (w : ℕ) → ((v : ℕ) → get_or zeros v 0 ≡ 0) → get_or (words ++ zeros) w 0 ≡ get_or words w 0
+grown_word words zeros w none = elim (cases_lt w (length words)) [
+  | inl inside ↦ get_or_append_left words zeros 0 w inside
+  | inr past ↦ get_or-append_right words zeros (length words) w 0 refl past ∙ none _ ∙ sym (get_or_past words w 0 past)
+]
+
 pub has_grown : (words zeros : List ℕ) (k : ℕ) → ((w : ℕ) → get_or zeros w 0 ≡ 0) → has (words ++ zeros) k ≡ has words k
 unfolding has
-has_grown words zeros k none = rw (same (k / 64)) refl
-  where
-    same : (w : ℕ) → get_or (words ++ zeros) w 0 ≡ get_or words w 0
-    same w = elim (cases_lt w (length words)) [
-      | inl inside ↦ get_or_append_left words zeros 0 w inside
-      | inr past ↦ get_or-append_right words zeros (length words) w 0 refl past ∙ none _ ∙ sym (get_or_past words w 0 past)
-    ]
+has_grown words zeros k none = rw (grown_word words zeros (k / 64) none) refl
 
 pub no_bits : (n x w : ℕ) → x ≡ 0 → get_or (replicate n x) w 0 ≡ 0
 no_bits n x w e = elim (cases_lt w n) [
