@@ -20,7 +20,7 @@ use Rattle.machine.specs.Whole.{view}
 use Rattle.findings.specs.declared.finding.Finding.{Finding}
 use Rattle.findings.specs.declared.kind.Kind.{Kind}
 use Rattle.findings.specs.declared.kind.Kind.TheVariants.{Failed, Short, Severed, Canceled, TimedOut, Expired, NotFound, TooLate, Overflow, Busy, TakenShort, NoSuchSlot, CutOff, WentOn, NoEffect, SameUserData, SlotInUse, ClosedEarly, ClosedWhileHeld, Several, LeftRunning, RefusedFlags}
-use Rattle.findings.specs.Endings.{result_in, ending_of, is_of, comes_as, row_test}
+use Rattle.findings.specs.Endings.{result_in, ending_of, next_in, is_of, comes_as, row_test}
 use Rattle.scenario.specs.declared.event.Event.{Event}
 use Rattle.scenario.specs.declared.event.Event.TheVariants.{Step}
 use Rattle.scenario.specs.declared.setup.Instruction.{Instruction}
@@ -89,7 +89,7 @@ record_shown i before behind cs x o = changes_shown i before behind cs (true_not
 
 -- a row that stays as it is shows nothing
 stays_untold : (kind : Kind) (rows : List Row) (r : ℕ) (row : Row) → row_test kind (Some row) rows r row ≡ false
-stays_untold kind rows r row = by row.phase (is_of kind (Some row) row (slice_get rows (r + 1))) (comes_as kind rows r row)
+stays_untold kind rows r row = by row.phase (is_of kind (Some row) row (next_in rows r)) (comes_as kind rows r row)
   where
     by : (p : Phase) (f : ℤ → Bool) (c : Bool) → (option_map_or f (cond (is_ended p) None (result_in p)) false || (false && c)) ≡ false
     by Queued f c = refl
@@ -122,7 +122,7 @@ kind_there CutOff old rows r row t = inr (inr (inr (inr (inr (inr (inr (inr (inl
 kind_there WentOn old rows r row t = inr (inr (inr (inr (inr (inr (inr (inr (inr (inl refl)))))))))
 kind_there NoEffect old rows r row t = inr (inr (inr (inr (inr (inr (inr (inr (inr (inr (inl refl))))))))))
 kind_there SameUserData old rows r row t = inr (inr (inr (inr (inr (inr (inr (inr (inr (inr (inr (inl refl)))))))))))
-kind_there kind old rows r row t = absurd (no_row (ending_of old row) (is_of kind old row (slice_get rows (r + 1))) (is_none old) (λ res. refl) t)
+kind_there kind old rows r row t = absurd (no_row (ending_of old row) (is_of kind old row (next_in rows r)) (is_none old) (λ res. refl) t)
 
 given_there : (b : Bool) (f : Finding) → b ≡ true → Has (given b f) f
 given_there true f e = inl refl

@@ -53,7 +53,11 @@ is_told_apart row res =
 
 -- ---- kinds
 
--- whether another row that is no guard stands just behind it in its chain
+-- the row behind that of a number, but for the guard of that one
+abbrev pub next_in : List Row → ℕ → Option Row
+next_in rows r = if option_map_or is_guard (slice_get rows (r + 1)) false then slice_get rows (r + 2) else slice_get rows (r + 1)
+
+-- whether another row that is no guard is the next in its chain
 abbrev pub has_next : Row → Option Row → Bool
 has_next row next = option_map_or (λ (other : Row). (other.unit == row.unit) && not (is_guard other)) next false
 
@@ -68,7 +72,7 @@ leaves_chain before row res = has_flag row.entry.flags 8 && (is_bad row res && (
 --   Canceled: with ECANCELED;
 --   TimedOut, Expired: a LINK_TIMEOUT, a TIMEOUT with ETIME;
 --   NotFound, TooLate: a cancel or a removal with ENOENT, with EALREADY;
---   WentOn: a hard-linked row badly, and another, no guard, stands just behind it.
+--   WentOn: a hard-linked row badly, and another, no guard, is the next in its chain.
 abbrev pub is_of : Kind → Option Row → Row → Option Row → ℤ → Bool
 is_of Failed before row next res = is_negative res && not (is_told_apart row res)
 is_of Short before row next res = is_transfer row.entry.opcode && is_less res row.entry.len
@@ -107,4 +111,4 @@ comes_as kind rows r row = false
 
 -- whether a row, as it was before an event and is among all rows behind it, ends by it, and that is a finding of a kind; or it comes by it, and that is
 abbrev pub row_test : Kind → Option Row → List Row → ℕ → Row → Bool
-row_test kind before rows r row = option_map_or (is_of kind before row (slice_get rows (r + 1))) (ending_of before row) false || (is_none before && comes_as kind rows r row)
+row_test kind before rows r row = option_map_or (is_of kind before row (next_in rows r)) (ending_of before row) false || (is_none before && comes_as kind rows r row)

@@ -3,7 +3,7 @@ ghost use Rattle.std.specs.Prelude.{◌≡◌, ◌+◌, ◌&&◌, None, false, s
 ghost use Rattle.timeouts_cancel.specs.Falls.{is_bad, is_transfer};
 ghost use Rattle.std.specs.Option.{option_map_or};
 ghost use Rattle.links_drains.specs.Links.{has_flag, is_linked};
-ghost use Rattle.findings.specs.Endings.{had_ended, was_issued, ending_of, is_error, is_less, is_told_apart, has_next, leaves_chain, is_of, has_idle_field, comes_as, row_test};
+ghost use Rattle.findings.specs.Endings.{had_ended, was_issued, ending_of, is_error, is_less, is_told_apart, next_in, has_next, leaves_chain, is_of, has_idle_field, comes_as, row_test};
 
 use crate::kind::Kind;
 use crate::leftover::row_at;
@@ -118,22 +118,32 @@ fn severs(before: &Option<Row>, row: &Row, res: i32) -> bool
     is_soft_linked(row) && (is_bad(row, res) && (was_issued(before) || !is_canceled(res)))
 }
 
-// The row behind one of a number.
-fn row_behind(state: &State, number: u32) -> Option<Row>
-    ensures { result ≡ slice_get state.now.table (number + 1) }
+// The row that stands so many places behind one of a number.
+fn row_behind(state: &State, number: u32, count: u32) -> Option<Row>
+    ensures { result ≡ slice_get state.now.table (number + count) }
 {
     let _row = row_at(state, number);
-    match number.checked_add(1) {
+    match number.checked_add(count) {
         Some(next) => row_at(state, next),
         None => None,
     }
 }
 
-// Whether another row that is no guard stands just behind a row in its chain.
-fn has_next(row: &Row, state: &State, number: u32) -> bool
-    ensures { result ≡ has_next row.now (slice_get state.now.table (number + 1)) }
+// The row behind one of a number, but for its guard.
+fn next_in(state: &State, number: u32) -> Option<Row>
+    ensures { result ≡ next_in state.now.table number }
 {
-    match row_behind(state, number) {
+    match row_behind(state, number, 1) {
+        Some(row) if is_guard(&row) => row_behind(state, number, 2),
+        next => next,
+    }
+}
+
+// Whether another row that is no guard is the next in a row's chain.
+fn has_next(row: &Row, state: &State, number: u32) -> bool
+    ensures { result ≡ has_next row.now (next_in state.now.table number) }
+{
+    match next_in(state, number) {
         Some(other) => other.unit == row.unit && !is_guard(&other),
         None => false,
     }
@@ -155,7 +165,7 @@ fn leaves_chain(before: &Option<Row>, row: &Row, res: i32) -> bool
 
 // Whether a row that ends with a result is a finding of a kind.
 fn is_of(kind: Kind, before: &Option<Row>, state: &State, number: u32, row: &Row, res: i32) -> bool
-    ensures { result ≡ is_of kind before.now row.now (slice_get state.now.table (number + 1)) res }
+    ensures { result ≡ is_of kind before.now row.now (next_in state.now.table number) res }
 {
     match kind {
         Kind::Failed => res < 0 && !is_told_apart(row, res),
@@ -191,7 +201,7 @@ fn comes_as(kind: Kind, state: &State, number: u32, row: &Row) -> bool
     ensures { result ≡ comes_as kind state.now.table number row.now }
 {
     match kind {
-        Kind::CutOff => is_linked(&row.entry) && row_behind(state, number).is_none(),
+        Kind::CutOff => is_linked(&row.entry) && row_behind(state, number, 1).is_none(),
         Kind::NoEffect => has_idle_field(&row.entry),
         Kind::SameUserData => has_twin(state, number, row),
         _ => false,
@@ -200,7 +210,7 @@ fn comes_as(kind: Kind, state: &State, number: u32, row: &Row) -> bool
 
 fn ends_as(kind: Kind, before: &Option<Row>, state: &State, number: u32, row: &Row) -> bool
     ensures { result ≡ option_map_or
-        (is_of kind before.now row.now (slice_get state.now.table (number + 1)))
+        (is_of kind before.now row.now (next_in state.now.table number))
         (ending_of before.now row.now) false }
 {
     match ending_of(before, row) {

@@ -42,15 +42,26 @@ fn fits_opcode(entry: &Sqe, row: &Row) -> bool {
     row.entry.opcode != Op::LinkTimeout as u8
 }
 
-// What such a row is not.
-fn word_of_misfit(entry: &Sqe) -> &'static str {
+// What it finds of rows with the user_data.
+fn what_it_finds(entry: &Sqe) -> &'static str {
     if entry.opcode == Op::PollRemove as u8 {
-        return "is no POLL_ADD, and a POLL_REMOVE looks for these alone";
+        return "a POLL_REMOVE finds POLL_ADDs alone";
     }
     if entry.opcode == Op::TimeoutRemove as u8 {
-        return "is no TIMEOUT, and a TIMEOUT_REMOVE looks for these alone";
+        return "a TIMEOUT_REMOVE finds TIMEOUTs alone";
     }
-    "is a LINK_TIMEOUT, which a cancel does not look for"
+    "an ASYNC_CANCEL finds no LINK_TIMEOUT"
+}
+
+// What it finds of those by how far they are.
+fn what_it_finds_issued(entry: &Sqe) -> &'static str {
+    if entry.opcode == Op::PollRemove as u8 {
+        return "a POLL_REMOVE finds issued requests alone";
+    }
+    if entry.opcode == Op::TimeoutRemove as u8 {
+        return "a TIMEOUT_REMOVE finds issued requests alone";
+    }
+    "a cancel finds issued requests alone"
 }
 
 // Whether a row uses the descriptor that an entry names.
@@ -113,8 +124,8 @@ fn reason_of(
 ) -> Result<String, AllocError> {
     let name = RowName::of(number, row);
     if !fits_opcode(&about.row.entry, row) {
-        let misfit = word_of_misfit(&about.row.entry);
-        return format!(in alloc; "row {name} {misfit}");
+        let finds = what_it_finds(&about.row.entry);
+        return format!(in alloc; "row {name} does not count, as {finds}");
     }
     let ended = match run.times_of(number) {
         Some(times) => times.ended,
@@ -125,9 +136,8 @@ fn reason_of(
             format!(in alloc; "row {name} had ended by event {moment}")
         }
         _ => {
-            format!(in alloc;
-                "row {name} was queued still, and a cancel finds issued requests alone"
-            )
+            let finds = what_it_finds_issued(&about.row.entry);
+            format!(in alloc; "row {name} was queued still, and {finds}")
         }
     }
 }

@@ -6,6 +6,7 @@ use super::listing::Listing;
 use crate::names::ResultName;
 use crate::run::Run;
 use entries::Row;
+use links_drains::is_guard;
 use machine::Event;
 use std::alloc::{AllocError, Global};
 
@@ -162,12 +163,20 @@ pub(crate) fn canceled(alloc: Global, run: &Run<'_>, about: &About) -> Result<St
     }
 }
 
+// The number behind a row's, but for its guard.
+fn next_in(run: &Run<'_>, number: u32) -> u32 {
+    let next = number.saturating_add(1);
+    match run.row(next) {
+        Some(row) if is_guard(&row) => next.saturating_add(1),
+        _ => next,
+    }
+}
+
 /// A hard link that held behind a bad end.
 pub(crate) fn went_on(alloc: Global, run: &Run<'_>, about: &About) -> Result<String, AllocError> {
     let name = about.name();
     let told = ResultName(about.result(run));
-    let next = about.number.saturating_add(1);
-    match run.name(next) {
+    match run.name(next_in(run, about.number)) {
         Some(next) => format!(in alloc;
             "Row {name} ended with {told}, and its chain goes on with row {next}: its link is a hard one {HARD_RULE}."
         ),
