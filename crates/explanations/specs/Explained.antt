@@ -4,7 +4,7 @@ use Rattle.std.specs.List.{list_any}
 use Rattle.scenario.specs.declared.event.Event.{Event}
 use Rattle.scenario.specs.declared.setup.Setup.{Setup}
 use Rattle.machine.specs.Runs.{IsRefused}
-use Rattle.script.specs.Scripts.{Scenario, Reads}
+use Rattle.script.specs.Scripts.{Reads}
 use Rattle.traces.specs.Reading.{IsFault2}
 use Rattle.traces.specs.Setups.{IsTrace2}
 use Rattle.script.specs.declared.log_fault.LogFault.{LogFault}
@@ -12,7 +12,7 @@ use Rattle.script.specs.declared.log_fault.LogFault.TheVariants.{Script, Trace, 
 use Rattle.finding_kinds.specs.declared.finding.Finding.{Finding}
 use Rattle.finding_kinds.specs.declared.kind.Kind.{Kind}
 use Rattle.findings.specs.Findings.{IsToldOf}
-use Rattle.finding_kinds.specs.Kinds.{number_of}
+use Rattle.finding_kinds.specs.Kinds.{number_of, is_fault}
 
 -- whether a kind is asked for: one alone, or each
 abbrev pub is_asked : Option Kind → Kind → Bool
@@ -29,17 +29,14 @@ pub record Explains (s : Setup) (es : List Event) (asked : Option Kind) (some : 
   pub told : IsToldOf s es found
   pub faults : some ≡ list_any (counts asked) found
 
--- the same of the schedule of a script, and of a trace
-abbrev pub ExplainsScript : List ℕ → Option Kind → Bool → Type 0
-ExplainsScript text asked some = (p : Scenario) × Reads text (Ok p) × Explains p.setup p.schedule asked some
+-- what bytes hold, a trace, or else a script: a setup, and the events to run from it
+abbrev pub Holds : Bool → List ℕ → Setup → List Event → Type 0
+Holds true bytes s es = IsTrace2 s es bytes
+Holds false bytes s es = Reads bytes (Ok (record { setup = s; schedule = es }))
 
-abbrev pub ExplainsTrace : List ℕ → Option Kind → Bool → Type 0
-ExplainsTrace trace asked some = (s : Setup) × (es : List Event) × IsTrace2 s es trace × Explains s es asked some
-
--- bytes are a trace, or else a script
+-- the same of the run that bytes hold
 abbrev pub ExplainsRun : Bool → List ℕ → Option Kind → Bool → Type 0
-ExplainsRun true bytes asked some = ExplainsTrace bytes asked some
-ExplainsRun false bytes asked some = ExplainsScript bytes asked some
+ExplainsRun trace bytes asked some = (s : Setup) × (es : List Event) × Holds trace bytes s es × Explains s es asked some
 
 -- ---- why a run isn't explained
 
@@ -51,22 +48,16 @@ Unexplained s es Write = Unit {0}
 Unexplained s es (Script f) = ⊥
 Unexplained s es (Trace f) = ⊥
 
--- the same of a script, or the first fault of its text
-abbrev pub UnexplainedScript : List ℕ → LogFault → Type 0
-UnexplainedScript text (Schedule i n) = (p : Scenario) × Reads text (Ok p) × IsRefused p.setup p.schedule i n
-UnexplainedScript text Memory = Unit {0}
-UnexplainedScript text Write = Unit {0}
-UnexplainedScript text (Script f) = Reads text (Err f)
-UnexplainedScript text (Trace f) = ⊥
+-- the first fault of bytes that hold none
+abbrev pub IsFirstFault : Bool → List ℕ → LogFault → Type 0
+IsFirstFault true bytes (Trace f) = IsFault2 bytes f
+IsFirstFault false bytes (Script f) = Reads bytes (Err f)
+IsFirstFault trace bytes f = ⊥
 
--- the same of a trace, or the first fault of its bytes
-abbrev pub UnexplainedTrace : List ℕ → LogFault → Type 0
-UnexplainedTrace trace (Schedule i n) = (s : Setup) × (es : List Event) × IsTrace2 s es trace × IsRefused s es i n
-UnexplainedTrace trace Memory = Unit {0}
-UnexplainedTrace trace Write = Unit {0}
-UnexplainedTrace trace (Script f) = ⊥
-UnexplainedTrace trace (Trace f) = IsFault2 trace f
-
+-- the same of the run that bytes hold, or their first fault
 abbrev pub UnexplainedRun : Bool → List ℕ → LogFault → Type 0
-UnexplainedRun true bytes f = UnexplainedTrace bytes f
-UnexplainedRun false bytes f = UnexplainedScript bytes f
+UnexplainedRun trace bytes (Schedule i n) = (s : Setup) × (es : List Event) × Holds trace bytes s es × IsRefused s es i n
+UnexplainedRun trace bytes Memory = Unit {0}
+UnexplainedRun trace bytes Write = Unit {0}
+UnexplainedRun trace bytes (Script f) = IsFirstFault trace bytes (Script f)
+UnexplainedRun trace bytes (Trace f) = IsFirstFault trace bytes (Trace f)

@@ -1,9 +1,9 @@
 //! Explaining a script or a trace.
-ghost use Rattle.std.specs.Prelude.{◌≡◌, ◌⊎◌, ◌≤◌, None, IfOk, IfErr, length};
+ghost use Rattle.std.specs.Prelude.{◌≡◌, ◌⊎◌, ◌≤◌, true, false, None, IfOk, IfErr, length};
 ghost use Rattle.std.specs.List.{list_any};
 ghost use Rattle.scenario.specs.Setups.{setup_refusal};
 ghost use Rattle.script.specs.Logs.{is_trace};
-ghost use Rattle.explanations.specs.Explained.{is_asked, counts, Explains, ExplainsScript, ExplainsTrace, ExplainsRun, Unexplained, UnexplainedScript, UnexplainedTrace, UnexplainedRun};
+ghost use Rattle.explanations.specs.Explained.{is_asked, counts, Explains, ExplainsRun, Unexplained, UnexplainedRun};
 
 use crate::json::add_object;
 use finding_kinds::{Finding, History, Kind};
@@ -197,23 +197,22 @@ fn explain_plan<W: Write>(
     explain_events(alloc, script.setup(), script.schedule(), asked, writer)
 }
 
-#[tactic(auto, using(crate::proofs::Unexplained::unexplained_script))]
+#[tactic(auto, using(crate::proofs::Unexplained::explained_script, crate::proofs::Unexplained::unexplained_script))]
 fn explain_script<W: Write>(
     alloc: Global,
     text: &[u8],
     asked: Asked,
     writer: &mut W,
 ) -> Result<bool, LogFault>
-    ensures ok { IfOk result (ExplainsScript text.now asked.kind) }
-    ensures err { IfErr result (UnexplainedScript text.now) }
+    ensures ok { IfOk result (ExplainsRun false text.now asked.kind) }
+    ensures err { IfErr result (UnexplainedRun false text.now) }
 {
     let script = match read_script(alloc, text) {
         Ok(script) => script,
         Err(ScriptFault::Memory) => return Err(LogFault::Memory),
         Err(fault) => return Err(LogFault::Script(fault)),
     };
-    let explained = explain_plan(alloc, &script, asked, writer);
-    explained
+    explain_plan(alloc, &script, asked, writer)
 }
 
 #[tactic(auto, using(crate::proofs::Unexplained::unexplained_trace))]
@@ -223,16 +222,15 @@ fn explain_trace<W: Write>(
     asked: Asked,
     writer: &mut W,
 ) -> Result<bool, LogFault>
-    ensures ok { IfOk result (ExplainsTrace trace.now asked.kind) }
-    ensures err { IfErr result (UnexplainedTrace trace.now) }
+    ensures ok { IfOk result (ExplainsRun true trace.now asked.kind) }
+    ensures err { IfErr result (UnexplainedRun true trace.now) }
 {
     let (setup, events) = match read_trace2(alloc, trace) {
         Ok(found) => found,
         Err(TraceFault::Memory) => return Err(LogFault::Memory),
         Err(fault) => return Err(LogFault::Trace(fault)),
     };
-    let explained = explain_events(alloc, &setup, &events, asked, writer);
-    explained
+    explain_events(alloc, &setup, &events, asked, writer)
 }
 
 /// Runs what the bytes are, a trace where the first one is a `U`, and else a script, and tells what

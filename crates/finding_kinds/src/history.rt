@@ -49,10 +49,11 @@ pub struct History {
     /// Of each event the place in its program of the instruction that a thread did by it, if one
     /// did.
     pub counters: Vec<Option<u32>>,
+    /// In the order of their moments, at most one of each.
     pub slots: Vec<Met>,
-    /// The moments at which the backlog was empty again.
+    /// The moments at which the backlog was empty again, in order.
     pub emptied: Vec<u32>,
-    /// Of each event that dropped indexes its moment, and sq.dropped behind it.
+    /// Of each event that dropped indexes its moment, in order, and sq.dropped behind it.
     pub dropped: Vec<(u32, u32)>,
 }
 

@@ -6,11 +6,7 @@ ghost use Rattle.finding_kinds.specs.Programs.{instruction_at};
 use machine::{Event, Instruction, Setup};
 
 /// The instruction of a thread whose step an event is, at a place of its program.
-pub fn instruction_at(
-    setup: &Setup,
-    event: Event,
-    counter: Option<u64>,
-) -> Option<&Instruction>
+pub fn instruction_at(setup: &Setup, event: Event, counter: Option<u64>) -> Option<&Instruction>
     ensures { option_copied result ≡ instruction_at setup.now event counter }
 {
     let (Event::Step(thread), Some(counter)) = (event, counter) else {

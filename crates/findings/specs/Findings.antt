@@ -1,5 +1,5 @@
 -- Findings of runs, by the machines before and behind each event.
-use Rattle.std.specs.Prelude.{◌≡◌, ℕ, ◌+◌, ◌*◌, ◌^◌, ◌≤◌, ◌==◌, Bool, true, false, not, ◌&&◌, ◌||◌, ◌⊎◌, length, List, [], ◌∷◌, slice_get}
+use Rattle.std.specs.Prelude.{◌≡◌, ℕ, ◌+◌, ◌≤◌, ◌==◌, Bool, true, false, not, ◌&&◌, ◌||◌, ◌⊎◌, length, List, [], ◌∷◌, slice_get}
 use Rattle.std.specs.Option.{option_map_or}
 use Rattle.std.specs.List.{All, Contains}
 use Rattle.scenario.specs.declared.event.Event.{Event}
@@ -10,6 +10,7 @@ use Rattle.machine.specs.Runs.{moment as machine_at}
 use Rattle.finding_kinds.specs.declared.kind.Kind.{Kind}
 use Rattle.finding_kinds.specs.declared.kind.Kind.TheVariants.{Overflow}
 use Rattle.finding_kinds.specs.declared.finding.Finding.{Finding}
+use Rattle.finding_kinds.specs.Kinds.{rank}
 use Rattle.findings.specs.Endings.{row_test}
 use Rattle.findings.specs.Conditions.{overflows, done_by, is_of_step, is_step_of, stands, is_left, Began}
 use Rattle.findings.specs.Conflicts.{clashes}

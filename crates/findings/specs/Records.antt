@@ -8,7 +8,7 @@ use Rattle.places.specs.declared.place.Place.{Place}
 use Rattle.places.specs.declared.place.Place.TheVariants.{Request}
 use Rattle.places.specs.declared.value.Change.{Change}
 use Rattle.places.specs.declared.value.Value.{Value}
-use Rattle.places.specs.declared.value.Value.TheVariants.{Number, Byte, Requested}
+use Rattle.places.specs.declared.value.Value.TheVariants.{Requested}
 use Rattle.places.specs.View.{View, Exact, NamesOnce}
 use Rattle.model_files.specs.Worlds.{WorldState}
 use Rattle.scenario.specs.declared.event.Event.{Event}

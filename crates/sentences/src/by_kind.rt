@@ -4,9 +4,7 @@ use crate::about::About;
 use crate::rules::{LINK_TIMEOUT_RULE, TIMEOUT_RULE};
 use crate::run::Run;
 use crate::uses::Standing;
-use crate::{
-    cancels, chains, conflicts, durable, errors, left, matches, rings, uses,
-};
+use crate::{cancels, chains, conflicts, durable, errors, left, matches, rings, uses};
 use finding_kinds::{Finding, Kind};
 use std::alloc::{AllocError, Global};
 

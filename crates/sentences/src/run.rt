@@ -19,7 +19,7 @@ pub struct Run<'a> {
 
 impl Run<'_> {
     /// A row as it is at the end, if it is there.
-    pub fn row(&self, number: u32) -> Option<Row> {
+    pub(crate) fn row(&self, number: u32) -> Option<Row> {
         match self.state.value(Place::Request(number)) {
             Some(Value::Requested(row)) => Some(row),
             _ => None,
@@ -27,90 +27,87 @@ impl Run<'_> {
     }
 
     /// A ring word, a counter or a flag word at the end, or 0.
-    pub fn number(&self, place: Place) -> u64 {
+    pub(crate) fn number(&self, place: Place) -> u64 {
         match self.state.value(place) {
             Some(Value::Number(number)) => number,
             _ => 0,
         }
     }
 
-    pub fn name(&self, number: u32) -> Option<RowName> {
+    pub(crate) fn name(&self, number: u32) -> Option<RowName> {
         let row = self.row(number)?;
         Some(RowName::of(number, &row))
     }
 
     /// The result of a row that has ended.
-    pub fn result(&self, number: u32) -> Option<i32> {
+    pub(crate) fn result(&self, number: u32) -> Option<i32> {
         match self.row(number)?.phase {
             Phase::Ended(res) => Some(res),
             Phase::Queued | Phase::Issued => None,
         }
     }
 
-    pub fn times_of(&self, number: u32) -> Option<Times> {
+    pub(crate) fn times_of(&self, number: u32) -> Option<Times> {
         self.history.rows.get(number as usize).copied()
     }
 
-    pub fn event(&self, moment: u32) -> Option<Event> {
+    pub(crate) fn event(&self, moment: u32) -> Option<Event> {
         self.events.get(moment as usize).copied()
     }
 
     /// Where the program of the thread stood that did the event at a moment, if one did.
-    pub fn counter(&self, moment: u32) -> Option<u32> {
+    pub(crate) fn counter(&self, moment: u32) -> Option<u32> {
         self.history.counters.get(moment as usize).copied()?
     }
 
     /// The instruction that a thread did at a moment, if one did.
-    pub fn instruction(&self, moment: u32) -> Option<&Instruction> {
+    pub(crate) fn instruction(&self, moment: u32) -> Option<&Instruction> {
         let counter = self.counter(moment)?;
         instruction_at(self.setup, self.event(moment)?, Some(u64::from(counter)))
     }
 
     /// The first slot whose entry names a descriptor that the event at a moment closed.
-    pub fn slot(&self, moment: u32) -> Option<u32> {
-        for met in &self.history.slots {
-            if met.moment == moment {
-                return Some(met.slot);
-            }
+    pub(crate) fn slot(&self, moment: u32) -> Option<u32> {
+        let slots = &self.history.slots;
+        let met = slots.get(slots.partition_point(|met| met.moment < moment))?;
+        if met.moment == moment {
+            Some(met.slot)
+        } else {
+            None
         }
-        None
     }
 
     /// The first moment behind one at which the backlog was empty again.
-    pub fn emptied_behind(&self, moment: u32) -> Option<u32> {
-        for emptied in &self.history.emptied {
-            if *emptied > moment {
-                return Some(*emptied);
-            }
-        }
-        None
+    pub(crate) fn emptied_behind(&self, moment: u32) -> Option<u32> {
+        let emptied = &self.history.emptied;
+        let behind = emptied.partition_point(|emptied| *emptied <= moment);
+        emptied.get(behind).copied()
     }
 
     /// How many indexes the event at a moment dropped.
-    pub fn dropped_at(&self, moment: u32) -> u32 {
+    pub(crate) fn dropped_at(&self, moment: u32) -> u32 {
         let dropped = &self.history.dropped;
-        let at = dropped.partition_point(|(at, _)| *at < moment);
-        match dropped.get(at) {
-            Some((found, count)) if *found == moment => {
-                count.saturating_sub(self.dropped_before(at))
-            }
+        let index = dropped.partition_point(|(at, _)| *at < moment);
+        match dropped.get(index) {
+            Some((at, count)) if *at == moment => count.saturating_sub(self.dropped_before(index)),
             _ => 0,
         }
     }
 
-    // sq.dropped before an event that dropped indexes, by its place among those.
-    fn dropped_before(&self, place: usize) -> u32 {
-        match place.checked_sub(1) {
-            Some(last) => match self.history.dropped.get(last) {
-                Some((_, count)) => *count,
-                None => 0,
-            },
+    // sq.dropped before an event that dropped indexes, by its index among those.
+    fn dropped_before(&self, index: usize) -> u32 {
+        let count = match index.checked_sub(1) {
+            Some(last) => self.history.dropped.get(last),
+            None => None,
+        };
+        match count {
+            Some((_, count)) => *count,
             None => 0,
         }
     }
 
     /// Whether a row ended by the event at a moment.
-    pub fn ends_at(&self, number: u32, moment: u32) -> bool {
+    pub(crate) fn ends_at(&self, number: u32, moment: u32) -> bool {
         match self.times_of(number) {
             Some(times) => times.ended == Some(moment),
             None => false,
@@ -122,7 +119,7 @@ impl Run<'_> {
     }
 
     /// Whether two rows are of one chain.
-    pub fn are_of_one_chain(&self, first: u32, second: u32) -> bool {
+    pub(crate) fn are_of_one_chain(&self, first: u32, second: u32) -> bool {
         match (self.unit(first), self.unit(second)) {
             (Some(one), Some(other)) => one == other,
             _ => false,
@@ -138,7 +135,7 @@ impl Run<'_> {
     }
 
     /// The next row behind one, in a list of findings, that ended with a row's chain at a moment.
-    pub fn next_cut(&self, from: usize, number: u32, moment: u32) -> Option<usize> {
+    pub(crate) fn next_cut(&self, from: usize, number: u32, moment: u32) -> Option<usize> {
         for index in from..self.found.len() {
             let finding = &self.found[index];
             if finding.moment != moment {
@@ -176,12 +173,12 @@ impl Run<'_> {
     }
 
     /// The row before another that broke its chain at a moment: it is told before it in the list.
-    pub fn severing(&self, index: usize, number: u32, moment: u32) -> Option<u32> {
+    pub(crate) fn severing(&self, index: usize, number: u32, moment: u32) -> Option<u32> {
         self.told_before(index, Kind::Severed, number, moment, number)
     }
 
     /// The row that failed at a moment, and with it the chain of another.
-    pub fn failing(&self, index: usize, number: u32, moment: u32) -> Option<u32> {
+    pub(crate) fn failing(&self, index: usize, number: u32, moment: u32) -> Option<u32> {
         self.told_before(index, Kind::Failed, number, moment, u32::MAX)
     }
 }
