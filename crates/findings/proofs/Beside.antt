@@ -10,9 +10,9 @@ use Rattle.scenario.specs.declared.setup.Setup.{Setup}
 use Rattle.machine.specs.declared.whole.Machine.{Machine}
 use Rattle.findings.specs.declared.deed.Deed.{Deed}
 use Rattle.findings.specs.declared.deed.Deed.TheVariants.{Nothing, Stored, Finished}
-use Rattle.findings.specs.declared.finding.Finding.{Finding}
-use Rattle.findings.specs.declared.kind.Kind.{Kind}
-use Rattle.findings.specs.declared.kind.Kind.TheVariants.{BufferInUse, Unordered, SharedPosition, FsyncEarly}
+use Rattle.finding_kinds.specs.declared.finding.Finding.{Finding}
+use Rattle.finding_kinds.specs.declared.kind.Kind.{Kind}
+use Rattle.finding_kinds.specs.declared.kind.Kind.TheVariants.{BufferInUse, Unordered, SharedPosition, FsyncEarly}
 use Rattle.findings.specs.Conflicts.{is_behind, is_candidate, is_beside, is_stored_over, is_conflict, conflicts}
 use Rattle.findings.specs.Records.{given, conflict_kinds, of_candidate, of_number, of_deed, Covers}
 use Rattle.findings.proofs.Members.{Has, has_flat_map, contains_has}

@@ -8,8 +8,9 @@ use Rattle.std.proofs.lemmas.List.Sorted.{Contains-permutation, IsPermutation-sy
 use Rattle.std.specs.Prelude.{nat_le, Result, Ok, Err, IfOk}
 use Rattle.std.specs.List.{All, Contains}
 use Rattle.std.specs.List.Sorted.{IsNonDecreasingBy, IsPermutation}
-use Rattle.findings.specs.declared.finding.Finding.{Finding}
-use Rattle.findings.specs.Findings.{rank, Rises}
+use Rattle.finding_kinds.specs.declared.finding.Finding.{Finding}
+use Rattle.findings.specs.Findings.{Rises}
+use Rattle.finding_kinds.specs.Kinds.{rank}
 use Rattle.findings.specs.Records.{IsSmall, SameFindings, distinct_from}
 use Rattle.findings.proofs.Members.{Has, has_contains, contains_has}
 use Rattle.findings.proofs.Ranks.{rank_injective}

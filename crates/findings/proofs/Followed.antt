@@ -12,11 +12,11 @@ use Rattle.places.specs.declared.value.Change.{Change}
 use Rattle.machine.specs.declared.whole.Machine.{Machine}
 use Rattle.machine.specs.Steps.{after, refusal, Next}
 use Rattle.machine.specs.Runs.{start, moment as machine_at, Accepts, IsRefused}
-use Rattle.run_log.specs.declared.fault.LogFault.{LogFault}
-use Rattle.run_log.specs.declared.fault.LogFault.TheVariants.{Script, Trace, Schedule, Write, Memory}
+use Rattle.script.specs.declared.log_fault.LogFault.{LogFault}
+use Rattle.script.specs.declared.log_fault.LogFault.TheVariants.{Script, Trace, Schedule, Write, Memory}
 use Rattle.machine.proofs.Longer.{accepts_more, moment_more}
-use Rattle.findings.specs.declared.finding.Finding.{Finding}
-use Rattle.findings.specs.declared.kind.Kind.{Kind}
+use Rattle.finding_kinds.specs.declared.finding.Finding.{Finding}
+use Rattle.finding_kinds.specs.declared.kind.Kind.{Kind}
 use Rattle.findings.specs.Conflicts.{done_at}
 use Rattle.findings.specs.Findings.{occurs, occurs_at, stands_at, IsLeft, IsFinding, IsToldOf, Rises}
 use Rattle.findings.specs.Records.{of_change, of_event, of_deed, Covers, Adds, FoundBefore, IsLasting, AreLeft, IsAll, all_left, all_unsynced, SameFindings, HaltsAt, Halted}

@@ -14,9 +14,9 @@ use Rattle.scenario.specs.declared.event.Event.{Event}
 use Rattle.scenario.specs.declared.setup.Setup.{Setup}
 use Rattle.machine.specs.declared.whole.Machine.{Machine}
 use Rattle.machine.specs.Runs.{moment as machine_at}
-use Rattle.findings.specs.declared.finding.Finding.{Finding}
-use Rattle.findings.specs.declared.kind.Kind.{Kind}
-use Rattle.findings.specs.declared.kind.Kind.TheVariants.{Unfinished, NotDurable}
+use Rattle.finding_kinds.specs.declared.finding.Finding.{Finding}
+use Rattle.finding_kinds.specs.declared.kind.Kind.{Kind}
+use Rattle.finding_kinds.specs.declared.kind.Kind.TheVariants.{Unfinished, NotDurable}
 use Rattle.findings.specs.Conditions.{has_unsynced, is_left}
 use Rattle.findings.specs.Findings.{IsLeft}
 use Rattle.findings.specs.Records.{given, of_left, all_left, of_object, all_unsynced, AreLeft}

@@ -16,4 +16,3 @@ pub mod Left
 pub mod Alike
 pub mod OnDevice
 pub mod Followed
-pub mod Unexplained

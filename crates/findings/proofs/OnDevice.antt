@@ -18,7 +18,7 @@ use Rattle.model_files.specs.Worlds.{body_seen, file_in}
 use Rattle.machine.specs.declared.whole.Machine.{Machine}
 use Rattle.machine.specs.Whole.{view, WellFormed}
 use Rattle.findings.specs.Conditions.{is_unsynced, has_unsynced}
-use Rattle.findings.specs.Records.{number_in, byte_in, differ}
+use Rattle.finding_kinds.specs.Values.{number_in, byte_in, differ}
 
 -- an object is a file, with how many bytes the file and the device have
 abbrev pub IsFile : Machine → ℕ → ℕ → ℕ → Type 0

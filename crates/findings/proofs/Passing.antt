@@ -13,7 +13,7 @@ use Rattle.places.specs.declared.value.Change.{Change}
 use Rattle.places.specs.declared.value.Value.{Value}
 use Rattle.places.specs.Runs.{place_in, old_bytes}
 use Rattle.places.specs.View.{View}
-use Rattle.findings.specs.declared.finding.Finding.{Finding}
+use Rattle.finding_kinds.specs.declared.finding.Finding.{Finding}
 use Rattle.findings.specs.Records.{of_place, of_change, after_note, after_notes, is_row, OfNoRow}
 
 -- a byte is no row

@@ -1,10 +1,10 @@
 -- A rank is that of one finding alone.
 use Rattle.std.proofs.Common.{◌≡◌, ℕ, ◌+◌, ◌*◌, ◌<◌, lit<, refl, sym, ap, ◌∙◌, arith}
 use Rattle.std.specs.Prelude.{◌==◌, if◌then◌else◌}
-use Rattle.findings.specs.declared.finding.Finding.{Finding}
-use Rattle.findings.specs.declared.kind.Kind.{Kind}
-use Rattle.findings.specs.declared.kind.Kind.TheVariants.{Failed, Short, Severed, Canceled, TimedOut, Expired, NotFound, TooLate, Overflow, Busy, Waits, LostWakeUp, NotTaken, NotReaped, Unfinished, BufferInUse, Unordered, SharedPosition, FsyncEarly, TakenShort, NoSuchSlot, CutOff, WentOn, NoEffect, SlotInUse, ClosedEarly, ClosedWhileHeld, Several, LeftRunning, SameUserData, NotDurable, RefusedFlags}
-use Rattle.findings.specs.Findings.{number_of, rank}
+use Rattle.finding_kinds.specs.declared.finding.Finding.{Finding}
+use Rattle.finding_kinds.specs.declared.kind.Kind.{Kind}
+use Rattle.finding_kinds.specs.declared.kind.Kind.TheVariants.{Failed, Short, Severed, Canceled, TimedOut, Expired, NotFound, TooLate, Overflow, Busy, Waits, LostWakeUp, NotTaken, NotReaped, Unfinished, BufferInUse, Unordered, SharedPosition, FsyncEarly, TakenShort, NoSuchSlot, CutOff, WentOn, NoEffect, SlotInUse, ClosedEarly, ClosedWhileHeld, Several, LeftRunning, SameUserData, NotDurable, RefusedFlags}
+use Rattle.finding_kinds.specs.Kinds.{number_of, rank}
 use Rattle.findings.specs.Records.{IsSmall}
 
 number_small : (kind : Kind) → number_of kind < 32

@@ -17,9 +17,9 @@ use Rattle.places.specs.View.{Exact, NamesOnce}
 use Rattle.links_drains.specs.Phases.{is_ended}
 use Rattle.machine.specs.declared.whole.Machine.{Machine}
 use Rattle.machine.specs.Whole.{view}
-use Rattle.findings.specs.declared.finding.Finding.{Finding}
-use Rattle.findings.specs.declared.kind.Kind.{Kind}
-use Rattle.findings.specs.declared.kind.Kind.TheVariants.{Failed, Short, Severed, Canceled, TimedOut, Expired, NotFound, TooLate, Overflow, Busy, TakenShort, NoSuchSlot, CutOff, WentOn, NoEffect, SameUserData, SlotInUse, ClosedEarly, ClosedWhileHeld, Several, LeftRunning, RefusedFlags}
+use Rattle.finding_kinds.specs.declared.finding.Finding.{Finding}
+use Rattle.finding_kinds.specs.declared.kind.Kind.{Kind}
+use Rattle.finding_kinds.specs.declared.kind.Kind.TheVariants.{Failed, Short, Severed, Canceled, TimedOut, Expired, NotFound, TooLate, Overflow, Busy, TakenShort, NoSuchSlot, CutOff, WentOn, NoEffect, SameUserData, SlotInUse, ClosedEarly, ClosedWhileHeld, Several, LeftRunning, RefusedFlags}
 use Rattle.findings.specs.Endings.{result_in, ending_of, next_in, is_of, comes_as, row_test}
 use Rattle.scenario.specs.declared.event.Event.{Event}
 use Rattle.scenario.specs.declared.event.Event.TheVariants.{Step}

@@ -11,8 +11,8 @@ use Rattle.links_drains.specs.Numbered.{IsNextWhere, NoneWhere}
 use Rattle.links_drains.specs.Phases.{is_queued, is_issued, is_unfinished}
 use Rattle.links_drains.specs.Units.{is_open}
 use Rattle.links_drains.proofs.Units.{any_false}
-use Rattle.findings.specs.declared.kind.Kind.{Kind}
-use Rattle.findings.specs.declared.kind.Kind.TheVariants.{ClosedEarly, ClosedWhileHeld}
+use Rattle.finding_kinds.specs.declared.kind.Kind.{Kind}
+use Rattle.finding_kinds.specs.declared.kind.Kind.TheVariants.{ClosedEarly, ClosedWhileHeld}
 use Rattle.findings.specs.Uses.{is_met}
 use Rattle.findings.proofs.Looking.{passes, NonePasses}
 

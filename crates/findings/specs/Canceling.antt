@@ -9,8 +9,8 @@ use Rattle.timeouts_cancel.specs.Matches.{matches_of}
 use Rattle.machine.specs.Cancels.{key_of, takes_all}
 use Rattle.machine.specs.declared.whole.Machine.{Machine}
 use Rattle.findings.specs.declared.canceling.Cancel.{Cancel}
-use Rattle.findings.specs.declared.kind.Kind.{Kind}
-use Rattle.findings.specs.declared.kind.Kind.TheVariants.{Several, LeftRunning, NotFound}
+use Rattle.finding_kinds.specs.declared.kind.Kind.{Kind}
+use Rattle.finding_kinds.specs.declared.kind.Kind.TheVariants.{Several, LeftRunning, NotFound}
 
 -- a row, if it is a cancel or a removal, with how many rows it matches
 abbrev pub cancel_in : List Row → ℕ → Row → Option Cancel

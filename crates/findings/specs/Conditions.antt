@@ -16,10 +16,11 @@ use Rattle.links_drains.specs.Links.{has_flag}
 use Rattle.links_drains.specs.Units.{is_open}
 use Rattle.machine.specs.declared.whole.Machine.{Machine}
 use Rattle.machine.specs.Threads.{ThreadState}
-use Rattle.findings.specs.declared.kind.Kind.{Kind}
-use Rattle.findings.specs.declared.kind.Kind.TheVariants.{Busy, Waits, LostWakeUp, NotTaken, NotReaped, Unfinished, TakenShort, NoSuchSlot, RefusedFlags, NotDurable}
+use Rattle.finding_kinds.specs.declared.kind.Kind.{Kind}
+use Rattle.finding_kinds.specs.declared.kind.Kind.TheVariants.{Busy, Waits, LostWakeUp, NotTaken, NotReaped, Unfinished, TakenShort, NoSuchSlot, RefusedFlags, NotDurable}
 use Rattle.findings.specs.Endings.{is_error, is_less}
 use Rattle.findings.specs.Uses.{is_of_put, is_of_number}
+use Rattle.finding_kinds.specs.Programs.{instruction_at}
 
 -- ---- rings (io_uring_setup(2), io_uring(7))
 
@@ -45,11 +46,6 @@ has_completions m = not (m.completions.head == m.completions.tail)
 abbrev pub counter_of : Machine → Event → Option ℕ
 counter_of m (Step t) = option_map (λ (x : ThreadState). x.counter) (slice_get m.threads t)
 counter_of m e = None
-
--- the instruction of a setup's program, at a place of it
-abbrev pub instruction_at : Setup → Event → Option ℕ → Option Instruction
-instruction_at s (Step t) (Some counter) = option_and_then (λ program. slice_get program counter) (slice_get s.threads t)
-instruction_at s e _ = None
 
 -- the instruction that a thread stands at as an event is a step of it
 abbrev pub done_by : Setup → Machine → Event → Option Instruction

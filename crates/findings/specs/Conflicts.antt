@@ -28,8 +28,8 @@ use Rattle.machine.specs.Whole.{view}
 use Rattle.machine.specs.declared.whole.Machine.{Machine}
 use Rattle.findings.specs.declared.deed.Deed.{Deed}
 use Rattle.findings.specs.declared.deed.Deed.TheVariants.{Nothing, Stored, Finished}
-use Rattle.findings.specs.declared.kind.Kind.{Kind}
-use Rattle.findings.specs.declared.kind.Kind.TheVariants.{BufferInUse, Unordered, SharedPosition, FsyncEarly}
+use Rattle.finding_kinds.specs.declared.kind.Kind.{Kind}
+use Rattle.finding_kinds.specs.declared.kind.Kind.TheVariants.{BufferInUse, Unordered, SharedPosition, FsyncEarly}
 use Rattle.findings.specs.Conditions.{done_by}
 
 -- ---- what an event does

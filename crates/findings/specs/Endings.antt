@@ -11,8 +11,8 @@ use Rattle.links_drains.specs.Numbered.{any_numbered}
 use Rattle.links_drains.specs.Phases.{is_ended, is_issued}
 use Rattle.links_drains.specs.Units.{is_open}
 use Rattle.timeouts_cancel.specs.Falls.{is_bad, is_negative, is_transfer}
-use Rattle.findings.specs.declared.kind.Kind.{Kind}
-use Rattle.findings.specs.declared.kind.Kind.TheVariants.{Failed, Short, Severed, Canceled, TimedOut, Expired, NotFound, TooLate, WentOn, CutOff, NoEffect, SameUserData}
+use Rattle.finding_kinds.specs.declared.kind.Kind.{Kind}
+use Rattle.finding_kinds.specs.declared.kind.Kind.TheVariants.{Failed, Short, Severed, Canceled, TimedOut, Expired, NotFound, TooLate, WentOn, CutOff, NoEffect, SameUserData}
 
 -- ---- ends
 

@@ -1,5 +1,5 @@
 -- Findings of runs, by the machines before and behind each event.
-use Rattle.std.specs.Prelude.{◌≡◌, ℕ, ◌+◌, ◌*◌, ◌^◌, ◌≤◌, ◌==◌, Bool, true, false, not, ◌&&◌, ◌||◌, ◌⊎◌, length, List, [], ◌∷◌, slice_get}
+use Rattle.std.specs.Prelude.{◌≡◌, ℕ, ◌+◌, ◌≤◌, ◌==◌, Bool, true, false, not, ◌&&◌, ◌||◌, ◌⊎◌, length, List, [], ◌∷◌, slice_get}
 use Rattle.std.specs.Option.{option_map_or}
 use Rattle.std.specs.List.{All, Contains}
 use Rattle.scenario.specs.declared.event.Event.{Event}
@@ -7,9 +7,10 @@ use Rattle.scenario.specs.declared.setup.Setup.{Setup}
 use Rattle.machine.specs.declared.whole.Machine.{Machine}
 use Rattle.machine.specs.Steps.{after}
 use Rattle.machine.specs.Runs.{moment as machine_at}
-use Rattle.findings.specs.declared.kind.Kind.{Kind}
-use Rattle.findings.specs.declared.kind.Kind.TheVariants.{Failed, Short, Severed, Canceled, TimedOut, Expired, NotFound, TooLate, Overflow, Busy, Waits, LostWakeUp, NotTaken, NotReaped, Unfinished, BufferInUse, Unordered, SharedPosition, FsyncEarly, TakenShort, NoSuchSlot, CutOff, WentOn, NoEffect, SlotInUse, ClosedEarly, ClosedWhileHeld, Several, LeftRunning, SameUserData, NotDurable, RefusedFlags}
-use Rattle.findings.specs.declared.finding.Finding.{Finding}
+use Rattle.finding_kinds.specs.declared.kind.Kind.{Kind}
+use Rattle.finding_kinds.specs.declared.kind.Kind.TheVariants.{Overflow}
+use Rattle.finding_kinds.specs.declared.finding.Finding.{Finding}
+use Rattle.finding_kinds.specs.Kinds.{rank}
 use Rattle.findings.specs.Endings.{row_test}
 use Rattle.findings.specs.Conditions.{overflows, done_by, is_of_step, is_step_of, stands, is_left, Began}
 use Rattle.findings.specs.Conflicts.{clashes}
@@ -17,45 +18,6 @@ use Rattle.findings.specs.Canceling.{cancel_shows}
 use Rattle.findings.specs.Uses.{changes_slot}
 
 -- ---- order
-
--- the number of a kind, by which findings of one moment are ordered
-abbrev pub number_of : Kind → ℕ
-number_of Failed = 0
-number_of Short = 1
-number_of Severed = 2
-number_of Canceled = 3
-number_of TimedOut = 4
-number_of Expired = 5
-number_of NotFound = 6
-number_of TooLate = 7
-number_of Overflow = 8
-number_of Busy = 9
-number_of Waits = 10
-number_of LostWakeUp = 11
-number_of NotTaken = 12
-number_of NotReaped = 13
-number_of Unfinished = 14
-number_of BufferInUse = 15
-number_of Unordered = 16
-number_of SharedPosition = 17
-number_of FsyncEarly = 18
-number_of TakenShort = 19
-number_of NoSuchSlot = 20
-number_of CutOff = 21
-number_of WentOn = 22
-number_of NoEffect = 23
-number_of SlotInUse = 24
-number_of ClosedEarly = 25
-number_of ClosedWhileHeld = 26
-number_of Several = 27
-number_of LeftRunning = 28
-number_of SameUserData = 29
-number_of NotDurable = 30
-number_of RefusedFlags = 31
-
--- where a finding stands among all: by its moment, its kind, and the number of what it is about
-abbrev pub rank : Finding → ℕ
-rank f = (f.moment * 32 + number_of f.kind) * 2 ^ 32 + f.subject
 
 -- findings from a rank on, each above the one before
 abbrev pub Rises : ℕ → List Finding → Type 0

@@ -6,5 +6,3 @@ pub mod Canceling
 pub mod Watched
 pub mod Findings
 pub mod Records
-pub mod Explained
-pub mod Tellings

@@ -8,7 +8,7 @@ use Rattle.places.specs.declared.place.Place.{Place}
 use Rattle.places.specs.declared.place.Place.TheVariants.{Request}
 use Rattle.places.specs.declared.value.Change.{Change}
 use Rattle.places.specs.declared.value.Value.{Value}
-use Rattle.places.specs.declared.value.Value.TheVariants.{Number, Byte, Requested}
+use Rattle.places.specs.declared.value.Value.TheVariants.{Requested}
 use Rattle.places.specs.View.{View, Exact, NamesOnce}
 use Rattle.model_files.specs.Worlds.{WorldState}
 use Rattle.scenario.specs.declared.event.Event.{Event}
@@ -19,20 +19,21 @@ use Rattle.machine.specs.declared.whole.Machine.{Machine}
 use Rattle.machine.specs.Runs.{IsRefused}
 use Rattle.machine.specs.Steps.{refusal}
 use Rattle.machine.specs.Whole.{view}
-use Rattle.run_log.specs.declared.fault.LogFault.{LogFault}
-use Rattle.run_log.specs.declared.fault.LogFault.TheVariants.{Script, Trace, Schedule, Write, Memory}
-use Rattle.findings.specs.declared.kind.Kind.{Kind}
-use Rattle.findings.specs.declared.kind.Kind.TheVariants.{Failed, Short, Severed, Canceled, TimedOut, Expired, NotFound, TooLate, Overflow, Busy, Unfinished, BufferInUse, Unordered, SharedPosition, FsyncEarly, TakenShort, NoSuchSlot, CutOff, WentOn, NoEffect, SlotInUse, ClosedEarly, ClosedWhileHeld, Several, LeftRunning, SameUserData, NotDurable, RefusedFlags}
+use Rattle.script.specs.declared.log_fault.LogFault.{LogFault}
+use Rattle.script.specs.declared.log_fault.LogFault.TheVariants.{Script, Trace, Schedule, Write, Memory}
+use Rattle.finding_kinds.specs.declared.kind.Kind.{Kind}
+use Rattle.finding_kinds.specs.declared.kind.Kind.TheVariants.{Failed, Short, Severed, Canceled, TimedOut, Expired, NotFound, TooLate, Overflow, Busy, Unfinished, BufferInUse, Unordered, SharedPosition, FsyncEarly, TakenShort, NoSuchSlot, CutOff, WentOn, NoEffect, SlotInUse, ClosedEarly, ClosedWhileHeld, Several, LeftRunning, SameUserData, NotDurable, RefusedFlags}
 use Rattle.findings.specs.declared.canceling.Cancel.{Cancel}
 use Rattle.findings.specs.declared.deed.Deed.{Deed}
 use Rattle.findings.specs.declared.deed.Deed.TheVariants.{Nothing}
-use Rattle.findings.specs.declared.finding.Finding.{Finding}
+use Rattle.finding_kinds.specs.declared.finding.Finding.{Finding}
 use Rattle.findings.specs.Endings.{row_test}
 use Rattle.findings.specs.Canceling.{cancel_before, is_of_cancel}
 use Rattle.findings.specs.Conditions.{overflows, done_by, is_of_step, has_unsynced, Began}
 use Rattle.findings.specs.Conflicts.{done_at, is_candidate, conflicts}
 use Rattle.findings.specs.Uses.{changes_at}
-use Rattle.findings.specs.Findings.{rank, occurs_at, stands_at, IsLeft, IsFinding}
+use Rattle.findings.specs.Findings.{occurs_at, stands_at, IsLeft, IsFinding}
+use Rattle.finding_kinds.specs.Kinds.{rank}
 use Rattle.findings.specs.Watched.{numbers_below}
 
 -- ---- one record
@@ -172,19 +173,6 @@ of_left n p = given (is_open p.1) (record { moment = n; kind = Unfinished; subje
 
 abbrev pub all_left : ℕ → List Row → List Finding
 all_left n rows = flat_map (of_left n) (enumerate_from 0 rows)
-
--- the number, or the byte, that a value is, if it is one
-abbrev pub number_in : Option Value → Option ℕ
-number_in (Some (Number n)) = Some n
-number_in _ = None
-
-abbrev pub byte_in : Option Value → Option ℕ
-byte_in (Some (Byte b)) = Some b
-byte_in _ = None
-
-abbrev pub differ : Option ℕ → Option ℕ → Bool
-differ (Some a) (Some b) = not (a == b)
-differ _ _ = false
 
 -- what a setup's object shows at the end
 abbrev pub of_object : ℕ → WorldState → ℕ → List Finding

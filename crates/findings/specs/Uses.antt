@@ -16,8 +16,8 @@ use Rattle.links_drains.specs.Phases.{is_queued, is_issued}
 use Rattle.machine.specs.Steps.{number_in}
 use Rattle.machine.specs.Whole.{view}
 use Rattle.machine.specs.declared.whole.Machine.{Machine}
-use Rattle.findings.specs.declared.kind.Kind.{Kind}
-use Rattle.findings.specs.declared.kind.Kind.TheVariants.{SlotInUse, ClosedEarly, ClosedWhileHeld}
+use Rattle.finding_kinds.specs.declared.kind.Kind.{Kind}
+use Rattle.finding_kinds.specs.declared.kind.Kind.TheVariants.{SlotInUse, ClosedEarly, ClosedWhileHeld}
 use Rattle.findings.specs.declared.uses.Sought.{Sought}
 use Rattle.findings.specs.declared.uses.Sought.TheVariants.{Named, Naming}
 

@@ -2,9 +2,9 @@
 use Rattle.std.specs.Prelude.{ℕ, zero, suc, Bool, true, false, Option, Some, None, List, [], ◌∷◌, ◌++◌, length, map}
 use Rattle.scenario.specs.declared.setup.Setup.{Setup}
 use Rattle.machine.specs.declared.whole.Machine.{Machine}
-use Rattle.findings.specs.declared.finding.Finding.{Finding}
-use Rattle.findings.specs.declared.kind.Kind.{Kind}
-use Rattle.findings.specs.declared.kind.Kind.TheVariants.{Waits, LostWakeUp, NotTaken, NotReaped}
+use Rattle.finding_kinds.specs.declared.finding.Finding.{Finding}
+use Rattle.finding_kinds.specs.declared.kind.Kind.{Kind}
+use Rattle.finding_kinds.specs.declared.kind.Kind.TheVariants.{Waits, LostWakeUp, NotTaken, NotReaped}
 use Rattle.findings.specs.declared.watching.Watch.{Watch}
 use Rattle.findings.specs.Conditions.{stands}
 

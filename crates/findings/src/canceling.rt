@@ -2,9 +2,9 @@
 ghost use Rattle.std.specs.Prelude.{◌≡◌};
 ghost use Rattle.findings.specs.Canceling.{cancel_in, cancel_before, matches_some, is_of_cancel};
 
-use crate::kind::Kind;
 use crate::leftover::row_at;
 use entries::{Row, Sqe};
+use finding_kinds::Kind;
 use machine::{Event, State, takes_all};
 use opcodes::is_cancel;
 

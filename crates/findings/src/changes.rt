@@ -6,12 +6,12 @@ ghost use Rattle.places.specs.View.{NamesOnce};
 ghost use Rattle.findings.specs.Records.{of_place, of_change, after_note, after_notes, OfNoRow};
 
 use crate::conflicts::is_candidate;
-use crate::finding::Finding;
 use crate::following::{follow, is_candidate_in};
 use crate::leftover::row_at;
+use crate::noting::note_row;
 use crate::record::{add_of_any_kind, row_in};
-use crate::times::{Times, note_row};
 use crate::transition::Transition;
+use finding_kinds::{Finding, Times};
 use places::{Change, Changes, Place, Record, Stretches, Value};
 use std::alloc::AllocError;
 

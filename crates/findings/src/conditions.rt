@@ -1,16 +1,15 @@
 //! What rings and threads show.
 ghost use Rattle.std.specs.Prelude.{◌≡◌, false};
-ghost use Rattle.std.specs.Option.{option_copied, option_map_or};
+ghost use Rattle.std.specs.Option.{option_map_or};
 ghost use Rattle.links_drains.specs.Links.{has_flag};
-ghost use Rattle.findings.specs.Conditions.{needs_wake_up, overflows, has_entries, has_completions, counter_of, instruction_at, done_by, answer_of, is_of_enter, is_of_push, has_closed, is_of_close, is_of_step, waits, stands};
+ghost use Rattle.findings.specs.Conditions.{needs_wake_up, overflows, has_entries, has_completions, counter_of, done_by, answer_of, is_of_enter, is_of_push, has_closed, is_of_close, is_of_step, waits, stands};
 ghost use Rattle.findings.specs.Canceling.{cancel_before};
 ghost use Rattle.findings.specs.Endings.{is_error, is_less};
 ghost use Rattle.findings.specs.Uses.{changes_at};
 
 use crate::canceling::{Cancel, cancel_before};
-use crate::files::number_in;
-use crate::kind::Kind;
 use crate::uses::{Sought, changes_at, first_pushed, is_of_number, is_of_put};
+use finding_kinds::{Kind, instruction_at, number_in};
 use machine::{Event, Instruction, Setup, State};
 use opcodes::{EBUSY, EINVAL};
 use places::{Place, Stage, Value};
@@ -105,23 +104,6 @@ fn counter_of(state: &State, event: Event) -> Option<u64>
     match state.value(Place::ProgramCounter(thread)) {
         Some(Value::Number(counter)) => Some(counter),
         _ => None,
-    }
-}
-
-/// The instruction of a thread whose step an event is, at a place of its program.
-pub(crate) fn instruction_at(
-    setup: &Setup,
-    event: Event,
-    counter: Option<u64>,
-) -> Option<&Instruction>
-    ensures { option_copied result ≡ instruction_at setup.now event counter }
-{
-    let (Event::Step(thread), Some(counter)) = (event, counter) else {
-        return None;
-    };
-    match setup.threads.as_slice().get(thread as usize) {
-        Some(program) => program.as_slice().get(counter as usize),
-        None => None,
     }
 }
 

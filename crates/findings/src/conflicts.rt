@@ -6,11 +6,11 @@ ghost use Rattle.links_drains.specs.Eligible.{drains, is_before_in_unit, is_befo
 ghost use Rattle.findings.specs.Conflicts.{meet, moved, is_good, is_in_buffer, is_same_file, number_or_zero, position_at, begins, is_placed, is_over, is_by_position, is_between, is_behind_barrier, is_behind, is_candidate, is_synced_early, is_beside, is_stored_over, is_conflict, conflicts};
 
 use crate::deed::{Deed, is_transfer};
-use crate::files::{is_same_descriptor, is_same_file, number_in};
-use crate::kind::Kind;
-use crate::leftover::{MOST_ROWS, row_at};
+use crate::files::{is_same_descriptor, is_same_file};
+use crate::leftover::row_at;
 use crate::transition::Transition;
 use entries::{Phase, Row, Sqe};
+use finding_kinds::{Kind, MOST_ROWS, number_in};
 use links_drains::{is_guard, is_issued, is_unfinished};
 use machine::{Setup, State};
 use opcodes::Op;

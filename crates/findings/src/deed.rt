@@ -2,12 +2,13 @@
 ghost use Rattle.std.specs.Prelude.{◌≡◌};
 ghost use Rattle.std.specs.Option.{option_copied};
 ghost use Rattle.timeouts_cancel.specs.Falls.{is_transfer};
-ghost use Rattle.findings.specs.Conditions.{instruction_at};
+ghost use Rattle.finding_kinds.specs.Programs.{instruction_at};
 ghost use Rattle.findings.specs.Conflicts.{deed_of, finish_of, finished_in, done_as};
 
-use crate::conditions::{Before, instruction_at};
+use crate::conditions::Before;
 use crate::leftover::row_at;
 use entries::Row;
+use finding_kinds::instruction_at;
 use machine::{Event, Instruction, Setup, State};
 use opcodes::Op;
 

@@ -5,10 +5,10 @@ ghost use Rattle.std.specs.Option.{option_map_or};
 ghost use Rattle.links_drains.specs.Links.{has_flag, is_linked};
 ghost use Rattle.findings.specs.Endings.{had_ended, was_issued, ending_of, is_error, is_less, is_told_apart, next_in, has_next, leaves_chain, is_of, has_idle_field, comes_as, row_test};
 
-use crate::kind::Kind;
 use crate::leftover::row_at;
 use crate::twins::has_twin;
 use entries::{Phase, Row, Sqe};
+use finding_kinds::Kind;
 use links_drains::{is_guard, is_soft_linked};
 use machine::State;
 use opcodes::{EALREADY, ECANCELED, ENOENT, ETIME, Op, is_cancel, is_timer};

@@ -4,21 +4,9 @@ ghost use Rattle.machine.specs.Steps.{number_in};
 ghost use Rattle.findings.specs.Conflicts.{file_number, file_behind, file_numbered, file_of, are_one, is_same_file};
 
 use entries::Sqe;
+use finding_kinds::{FIRST_DESCRIPTOR, number_in};
 use machine::Setup;
 use places::{Contents, Descriptor};
-
-/// The number of the first descriptor.
-pub(crate) const FIRST: u32 = 3;
-
-/// The number that an entry has as its descriptor, if it is one.
-pub(crate) fn number_in(fd: i32) -> Option<u32>
-    ensures { result ≡ number_in fd }
-{
-    if fd < 0 {
-        return None;
-    }
-    Some(fd as u32)
-}
 
 fn file_number(object: u32, contents: &Contents) -> Option<u32>
     ensures { result ≡ file_number object contents.now }
@@ -42,10 +30,10 @@ fn file_behind(setup: &Setup, descriptor: Descriptor) -> Option<u32>
 fn file_numbered(setup: &Setup, fd: u32) -> Option<u32>
     ensures { result ≡ file_numbered setup.now fd }
 {
-    if fd < FIRST {
+    if fd < FIRST_DESCRIPTOR {
         return None;
     }
-    match setup.fds.as_slice().get((fd - FIRST) as usize) {
+    match setup.fds.as_slice().get((fd - FIRST_DESCRIPTOR) as usize) {
         Some(descriptor) => file_behind(setup, *descriptor),
         None => None,
     }

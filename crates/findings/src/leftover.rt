@@ -3,16 +3,12 @@ ghost use Rattle.std.specs.Prelude.{◌≡◌, ◌++◌, ◌<◌, ◌≤◌, OnO
 ghost use Rattle.machine.specs.Whole.{WellFormed};
 ghost use Rattle.findings.specs.Records.{of_left, all_left};
 
-use crate::finding::Finding;
-use crate::kind::Kind;
 use crate::record::add_if;
 use entries::Row;
+use finding_kinds::{Finding, Kind, MOST_ROWS};
 use links_drains::is_unfinished;
 use machine::State;
 use std::alloc::AllocError;
-
-/// The most rows of a run.
-pub(crate) const MOST_ROWS: u32 = 65536;
 
 /// A row, if it is there.
 pub(crate) fn row_at(state: &State, number: u32) -> Option<Row>

@@ -1,11 +1,12 @@
 //! Findings in order, one of each.
 ghost use Rattle.std.specs.Prelude.{◌≡◌, ◌∷◌, ◌++◌, ◌^◌, ◌≤◌, List, IfOk};
 ghost use Rattle.std.specs.List.Sorted.{IsNonDecreasingBy};
-ghost use Rattle.findings.specs.Findings.{rank, Rises};
+ghost use Rattle.findings.specs.Findings.{Rises};
+ghost use Rattle.finding_kinds.specs.Kinds.{rank};
 ghost use Rattle.findings.specs.Records.{IsSmall, SameFindings, distinct_from};
-ghost use Rattle.findings.specs.declared.finding.Finding.{Finding};
+ghost use Rattle.finding_kinds.specs.declared.finding.Finding.{Finding};
 
-use crate::finding::{Finding, rank};
+use finding_kinds::{Finding, rank};
 use std::alloc::{AllocError, Global};
 
 // Keeps a finding that has at least a rank, and says the least rank that the next one may have.

@@ -5,9 +5,9 @@ ghost use Rattle.places.specs.View.{NamesOnce};
 ghost use Rattle.machine.specs.Steps.{Next};
 ghost use Rattle.machine.specs.Runs.{start};
 ghost use Rattle.machine.specs.Whole.{view};
-ghost use Rattle.run_log.specs.Logs.{fault_by};
 ghost use Rattle.findings.specs.Findings.{IsToldOf, Rises};
-ghost use Rattle.findings.specs.Conditions.{overflows, instruction_at};
+ghost use Rattle.findings.specs.Conditions.{overflows};
+ghost use Rattle.finding_kinds.specs.Programs.{instruction_at};
 ghost use Rattle.findings.specs.Conflicts.{done_as};
 ghost use Rattle.findings.specs.Records.{of_change, of_overflow, of_step, of_cancel, of_deed, after_notes, Adds, FoundBefore, IsLasting, AreLeft, all_left, all_unsynced, IsAll, SameFindings, HaltsAt, Halted};
 ghost use Rattle.findings.specs.Watched.{advanced, watched, of_lasting};
@@ -15,17 +15,17 @@ ghost use Rattle.findings.specs.Watched.{advanced, watched, of_lasting};
 use crate::changes::look_at_record;
 use crate::conditions::{Before, overflows, slot_met};
 use crate::deed::done_as;
-use crate::finding::Finding;
 use crate::leftover::add_all_left;
+use crate::noting::{note_counter, note_dropped, note_emptied, note_slot};
 use crate::ordering::in_order;
 use crate::record::{add_of_deed, add_of_event};
-use crate::times::{History, note_counter, note_dropped, note_emptied, note_slot};
 use crate::transition::Transition;
 use crate::unsynced::add_all_unsynced;
 use crate::watching::{Watch, add_all_lasting, advance, watches_of};
-use machine::{Event, Refusal, Setup, State};
+use finding_kinds::{Finding, History};
+use machine::{Event, Setup, State};
 use places::Record;
-use run_log::LogFault;
+use script::{LogFault, fault_by};
 use std::alloc::{AllocError, Global};
 
 /// What a search has gathered so far.
@@ -34,16 +34,6 @@ struct Gathered {
     found: Vec<Finding>,
     /// The numbers of the READs and WRITEs that haven't ended.
     numbers: Vec<u32>,
-}
-
-// What an event that is refused ends a search by.
-fn fault_by(index: u32, refusal: Refusal) -> LogFault
-    ensures { result ≡ fault_by index refusal }
-{
-    match refusal {
-        Refusal::Memory => LogFault::Memory,
-        refusal => LogFault::Schedule(index, refusal),
-    }
 }
 
 // Adds what an event shows beside the READs and WRITEs that haven't ended.
@@ -229,7 +219,7 @@ fn find(
 }
 
 /// Runs some events from the start, and tells what they show, and when their rows came and ended.
-pub(crate) fn search(
+pub fn search(
     alloc: Global,
     state: &mut State,
     setup: &Setup,

@@ -6,10 +6,8 @@ ghost use Rattle.findings.specs.Endings.{has_twin};
 
 use crate::leftover::row_at;
 use entries::Row;
+use finding_kinds::LOOKED_BACK;
 use machine::State;
-
-/// How many rows before one are looked at, so that each costs the same however many haven't ended.
-pub(crate) const LOOKED_BACK: u32 = 32;
 
 fn has_user_data(state: &State, number: u32, user_data: u64) -> bool
     ensures { result ≡ option_map_or (λ (row : Row). row.entry.user_data == user_data)

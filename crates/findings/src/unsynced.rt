@@ -1,50 +1,16 @@
 //! Files of which bytes were written that aren't durable at the end of a run (fsync(2)).
 ghost use Rattle.std.specs.Prelude.{◌≡◌, ℕ, ◌++◌, ◌<◌, ◌≤◌, true, false, OnOk, MatchBool};
 ghost use Rattle.places.specs.declared.place.Place.TheVariants.{FileByte, DurableByte};
-ghost use Rattle.machine.specs.Whole.{view, WellFormed};
+ghost use Rattle.machine.specs.Whole.{view};
 ghost use Rattle.findings.specs.Conditions.{has_unsynced};
-ghost use Rattle.findings.specs.Records.{number_in, byte_in, differ, of_object, all_unsynced};
+ghost use Rattle.findings.specs.Records.{of_object, all_unsynced};
+ghost use Rattle.finding_kinds.specs.Values.{byte_in, differ};
 
-use crate::finding::Finding;
-use crate::kind::Kind;
 use crate::record::add_if;
+use finding_kinds::{Finding, Kind, differs_at, number_at};
 use machine::{Setup, State};
-use places::{Place, Value};
+use places::Place;
 use std::alloc::AllocError;
-
-/// The number that stands in a place, if one does.
-pub(crate) fn number_at(state: &State, place: Place) -> Option<u64>
-    ensures value { result ≡ number_in (view state.now place) }
-    ensures formed { WellFormed state.now }
-{
-    match state.value(place) {
-        Some(Value::Number(number)) => Some(number),
-        _ => None,
-    }
-}
-
-fn byte_at(state: &State, place: Place) -> Option<u8>
-    ensures { result ≡ byte_in (view state.now place) }
-{
-    match state.value(place) {
-        Some(Value::Byte(byte)) => Some(byte),
-        _ => None,
-    }
-}
-
-/// Whether the device hasn't a byte of a file as it is.
-pub(crate) fn differs_at(state: &State, object: u32, at: u32) -> bool
-    ensures { result ≡ differ (byte_in (view state.now (FileByte object at)))
-        (byte_in (view state.now (DurableByte object at))) }
-{
-    match (
-        byte_at(state, Place::FileByte(object, at)),
-        byte_at(state, Place::DurableByte(object, at)),
-    ) {
-        (Some(byte), Some(durable)) => byte != durable,
-        _ => false,
-    }
-}
 
 // Whether the device hasn't one of the first bytes of a file as it is.
 fn differs_below(state: &State, object: u32, len: u64) -> bool

@@ -6,10 +6,9 @@ ghost use Rattle.ring_words.specs.Rings.{waiting, sub_list};
 ghost use Rattle.links_drains.specs.Holding.{is_number};
 ghost use Rattle.findings.specs.Uses.{changes_slot, changes_at, names_descriptor, is_sought, is_pushed, pushed_last, is_of_put, is_met, is_of_closed, is_of_number};
 
-use crate::files::number_in;
-use crate::kind::Kind;
 use crate::leftover::row_at;
 use entries::{Phase, Row, Sqe};
+use finding_kinds::{Kind, number_in};
 use links_drains::is_issued;
 use machine::{Instruction, State};
 use opcodes::uses_descriptor;

@@ -5,8 +5,7 @@ ghost use Rattle.std.specs.List.{flat_map};
 ghost use Rattle.findings.specs.Watched.{continued, advanced, of_rings, watched, fresh, of_lasting};
 
 use crate::conditions::stands;
-use crate::finding::Finding;
-use crate::kind::Kind;
+use finding_kinds::{Finding, Kind};
 use machine::{Setup, State};
 use std::alloc::{AllocError, Global};
 

@@ -16,11 +16,12 @@ use Rattle.machine.specs.Steps.{after, refusal, Next}
 use Rattle.machine.specs.Runs.{start, moment, IsRefused}
 use Rattle.machine.proofs.Longer.{accepts_more, moment_more}
 use Rattle.whole_files.specs.Writes.{WritesFront}
-use Rattle.run_log.specs.declared.fault.LogFault.{LogFault}
-use Rattle.run_log.specs.declared.fault.LogFault.TheVariants.{Script, Trace, Schedule, Write, Memory}
+use Rattle.script.specs.declared.log_fault.LogFault.{LogFault}
+use Rattle.script.specs.declared.log_fault.LogFault.TheVariants.{Script, Trace, Schedule, Write, Memory}
 use Rattle.run_log.specs.declared.range.EventRange.{EventRange}
 use Rattle.run_log.specs.Ranges.{has}
-use Rattle.run_log.specs.Logs.{Shows, Reports, Tells, Reported, Halts, fault_by, Logs, Written, Stopped}
+use Rattle.run_log.specs.Logs.{Shows, Reports, Tells, Reported, Halts, Logs, Written, Stopped}
+use Rattle.script.specs.Logs.{fault_by}
 
 -- ---- one event
 

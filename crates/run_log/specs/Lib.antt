@@ -1,5 +1,4 @@
 pub mod Ranges
-pub mod EventTexts
 pub mod PlaceTexts
 pub mod Listings
 pub mod Lines

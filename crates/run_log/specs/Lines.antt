@@ -11,7 +11,7 @@ use Rattle.scenario.specs.Names.{fitting}
 use Rattle.scenario.specs.declared.event.Event.{Event}
 use Rattle.scenario.specs.declared.setup.Setup.{Setup}
 use Rattle.run_log.specs.declared.changed.Changed.{Changed}
-use Rattle.run_log.specs.EventTexts.{event_text}
+use Rattle.script.specs.EventTexts.{event_text}
 use Rattle.run_log.specs.PlaceTexts.{place_text, number_of, number_text}
 
 -- ---- rows of bytes

@@ -5,7 +5,6 @@ use Rattle.places.specs.declared.value.Change.{Change}
 use Rattle.places.specs.View.{View, Exact, NamesOnce}
 use Rattle.scenario.specs.declared.event.Event.{Event}
 use Rattle.scenario.specs.declared.event.Refusal.{Refusal}
-use Rattle.scenario.specs.declared.event.Refusal.TheVariants as refused
 use Rattle.scenario.specs.declared.setup.Setup.{Setup}
 use Rattle.machine.specs.declared.whole.Machine.{Machine}
 use Rattle.machine.specs.Whole.{view}
@@ -16,8 +15,8 @@ use Rattle.traces.specs.Reading.{IsFault2}
 use Rattle.traces.specs.Setups.{IsTrace2}
 use Rattle.whole_files.specs.Writes.{WritesFront}
 use Rattle.run_log.specs.declared.changed.Changed.{Changed}
-use Rattle.run_log.specs.declared.fault.LogFault.{LogFault}
-use Rattle.run_log.specs.declared.fault.LogFault.TheVariants.{Script, Trace, Schedule, Write, Memory}
+use Rattle.script.specs.declared.log_fault.LogFault.{LogFault}
+use Rattle.script.specs.declared.log_fault.LogFault.TheVariants.{Script, Trace, Schedule, Write, Memory}
 use Rattle.run_log.specs.declared.range.EventRange.{EventRange}
 use Rattle.run_log.specs.Ranges.{has}
 use Rattle.run_log.specs.Listings.{IsListing}
@@ -50,10 +49,6 @@ pub record Reported (told : Bool) (s : Setup) (i : ℕ) (m : Machine) (e : Event
   pub text : List ℕ
   pub tells : Tells told s i m e text
   pub appended : Appends held held' text
-
-abbrev pub fault_by : ℕ → Refusal → LogFault
-fault_by i refused.Memory = Memory
-fault_by i n = Schedule i n
 
 -- Why a log ends at an event: it is refused, or a beginning of what it tells was written.
 abbrev pub Halts : Bool → Setup → ℕ → Machine → Event → LogFault → Option (List ℕ) → Option (List ℕ)
@@ -103,11 +98,6 @@ Stopped s es r (Script f) held held' = ⊥
 Stopped s es r (Trace f) held held' = ⊥
 
 -- ---- scripts and traces
-
--- bytes that begin with a U
-abbrev pub is_trace : List ℕ → Bool
-is_trace [] = false
-is_trace (b ∷ bs) = b == 85
 
 -- the whole log of the schedule of a script was written
 abbrev pub LoggedScript : List ℕ → EventRange → Option (List ℕ) → Option (List ℕ) → Type 0

@@ -2,8 +2,6 @@
 #![tactic(auto)]
 
 mod changed;
-mod event_text;
-mod fault;
 mod joining;
 pub mod laws;
 mod line;
@@ -14,8 +12,6 @@ mod reading;
 mod writing;
 
 pub use changed::Changed;
-pub use event_text::EventText;
-pub use fault::LogFault;
 pub use logging::log_events;
 pub use range::EventRange;
 pub use reading::{log_run, log_script, log_trace};

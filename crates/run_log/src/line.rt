@@ -5,11 +5,11 @@ ghost use Rattle.run_log.specs.Lines.{value_shown, olds_text, news_text, end_tex
 ghost use Rattle.run_log.specs.PlaceTexts.{number_text};
 
 use crate::changed::Changed;
-use crate::event_text::EventText;
 use crate::joining::first_row;
 use crate::place_text::{number_of, put_number, put_place};
 use machine::{Event, Setup};
 use places::Value;
+use script::EventText;
 use std::alloc::{AllocError, Global};
 
 // Writes what stands in a place, if anything does.

@@ -7,27 +7,17 @@ ghost use Rattle.machine.specs.Steps.{Next};
 ghost use Rattle.machine.specs.Runs.{start, Accepts};
 ghost use Rattle.whole_files.specs.Writes.{WritesFront};
 ghost use Rattle.run_log.specs.Ranges.{has};
-ghost use Rattle.run_log.specs.Logs.{fault_by, Shows, Reported, Halts, Written, Stopped};
+ghost use Rattle.run_log.specs.Logs.{Shows, Reported, Halts, Written, Stopped};
 
 use crate::changed::changes_of;
-use crate::fault::LogFault;
 use crate::line::event_lines;
 use crate::range::EventRange;
 use crate::writing::write_out;
-use machine::{Event, Refusal, Setup, State};
+use machine::{Event, Setup, State};
 use places::Record;
+use script::{LogFault, fault_by};
 use std::alloc::{AllocError, Global};
 use std::io::Write;
-
-// What an event that is refused ends a log by.
-fn fault_by(index: u32, refusal: Refusal) -> LogFault
-    ensures { result ≡ fault_by index refusal }
-{
-    match refusal {
-        Refusal::Memory => LogFault::Memory,
-        refusal => LogFault::Schedule(index, refusal),
-    }
-}
 
 // The lines of the event that led to a state, by its record.
 fn report(

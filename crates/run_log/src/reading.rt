@@ -1,11 +1,11 @@
 //! Logging a script or a trace.
 ghost use Rattle.std.specs.Prelude.{OnOk, IfErr, length};
-ghost use Rattle.run_log.specs.Logs.{is_trace, Written, Stopped, LoggedScript, LoggedTrace, LoggedRun, FailsScript, FailsTrace, FailsRun};
+ghost use Rattle.run_log.specs.Logs.{Written, Stopped, LoggedScript, LoggedTrace, LoggedRun, FailsScript, FailsTrace, FailsRun};
+ghost use Rattle.script.specs.Logs.{is_trace};
 
-use crate::fault::LogFault;
 use crate::logging::log_events;
 use crate::range::EventRange;
-use script::{Script, ScriptFault, read_script};
+use script::{LogFault, Script, ScriptFault, read_script};
 use std::alloc::Global;
 use std::io::Write;
 use traces::{TraceFault, read_trace2};

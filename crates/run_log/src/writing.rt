@@ -3,7 +3,7 @@ ghost use Rattle.std.specs.Prelude.{◌≡◌, OnOk, OnErr, Err};
 ghost use Rattle.std.specs.Io.KnownBytes.{Appends};
 ghost use Rattle.whole_files.specs.Writes.{WritesFront};
 
-use crate::fault::LogFault;
+use script::LogFault;
 use std::io::Write;
 
 /// Writes all of the bytes, and flushes them. An `Err` may leave a beginning of them.

@@ -8,3 +8,5 @@ pub mod Objects
 pub mod Instructions
 pub mod Events
 pub mod Scripts
+pub mod EventTexts
+pub mod Logs

@@ -1,15 +1,17 @@
 //! Scripts: a JSON text that gives a setup and a schedule of events; and traces, given on from
-//! their crate.
+//! their crate. And what those that read either have in common: an event's words, and the faults.
 #![tactic(auto)]
 
 mod descriptor;
 mod entry;
 mod event;
+mod event_text;
 mod fault;
 mod instruction;
 pub mod items;
 mod keys;
 pub mod laws;
+mod log_fault;
 mod memory;
 mod names;
 mod number;
@@ -18,7 +20,9 @@ mod parts;
 mod reading;
 mod threads;
 
+pub use event_text::EventText;
 pub use fault::{Key, Path, ScriptFault};
+pub use log_fault::{LogFault, fault_by};
 pub use parts::Script;
 pub use reading::read_script;
 pub use traces::{TraceFault, migrate, read_trace, read_trace2, write_trace, write_trace2};

@@ -1,8 +1,8 @@
 -- What is told of a schedule is told of its script.
 use Rattle.std.proofs.Common.{ℕ, List, Ok}
 use Rattle.script.specs.Scripts.{Scenario, Reads}
-use Rattle.run_log.specs.declared.fault.LogFault.{LogFault}
-use Rattle.run_log.specs.declared.fault.LogFault.TheVariants as log
+use Rattle.script.specs.declared.log_fault.LogFault.{LogFault}
+use Rattle.script.specs.declared.log_fault.LogFault.TheVariants as log
 use Rattle.script_check.specs.declared.verdict.Verdict.{Verdict}
 use Rattle.script_check.specs.declared.verdict.Verdict.TheVariants.{Fine, Faulty, Refused}
 use Rattle.script_check.specs.Verdicts.{Ends, IsVerdict, IsOfOutput, IsUntold}

@@ -6,8 +6,8 @@ use Rattle.scenario.specs.declared.event.Refusal.TheVariants as refused
 use Rattle.scenario.specs.declared.setup.Setup.{Setup}
 use Rattle.machine.specs.Runs.{start, Accepts, IsRefused}
 use Rattle.script.specs.Scripts.{Scenario, Reads}
-use Rattle.run_log.specs.declared.fault.LogFault.{LogFault}
-use Rattle.run_log.specs.declared.fault.LogFault.TheVariants.{Script, Write, Memory}
+use Rattle.script.specs.declared.log_fault.LogFault.{LogFault}
+use Rattle.script.specs.declared.log_fault.LogFault.TheVariants.{Script, Write, Memory}
 use Rattle.script_check.specs.declared.verdict.Verdict.{Verdict}
 use Rattle.script_check.specs.declared.verdict.Verdict.TheVariants.{Fine, Faulty, Refused}
 

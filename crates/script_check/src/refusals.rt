@@ -1,12 +1,12 @@
 //! Sentences about events that are refused: why, and what would let them happen.
 
 use entries::{Phase, Row};
-use findings::{RowName, why_unfinished};
 use links_drains::is_guard;
 use machine::{Event, Refusal, Setup, State, ring_size};
 use opcodes::{Choice, is_timer};
 use places::{Place, Stage, Value};
-use run_log::EventText;
+use script::EventText;
+use sentences::{RowName, why_unfinished};
 use std::alloc::{AllocError, Global};
 
 /// The most rows of a run.

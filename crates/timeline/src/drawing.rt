@@ -2,14 +2,14 @@
 ghost use Rattle.std.specs.Prelude.{◌≡◌, ◌≤◌, None, length, nat_eq, IfOk, IfErr};
 ghost use Rattle.std.specs.List.{ends_with};
 ghost use Rattle.scenario.specs.Setups.{setup_refusal};
-ghost use Rattle.run_log.specs.Logs.{is_trace};
+ghost use Rattle.script.specs.Logs.{is_trace};
 ghost use Rattle.timeline.specs.Pictures.{is_long, fault_by, picture_of, DrawsScript, DrawsTrace, DrawsRun, IsUndrawn, FailsScript, FailsTrace, FailsRun, Draws};
 
 use crate::drawn::Drawn;
 use crate::fault::TimelineFault;
 use crate::writing::{page_bytes, trace_bytes};
 use courses::{Stop, follow};
-use findings::{Told, told_of};
+use explanations::{Told, told_of};
 use machine::{Event, Refusal, Setup};
 use run_log::{EventRange, log_events};
 use script::{Script, ScriptFault, read_script};

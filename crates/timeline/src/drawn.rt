@@ -1,7 +1,7 @@
 //! What is drawn.
 
 use courses::Followed;
-use findings::Told;
+use explanations::Told;
 use machine::Setup;
 use run_log::EventRange;
 

@@ -1,7 +1,7 @@
 //! Findings, as a picture marks them.
 
 use crate::parts::FindingPart;
-use findings::Told;
+use explanations::Told;
 use std::alloc::{AllocError, Global};
 
 // Whether a finding stands in a part of a run: at one of its events, or at the end where the part

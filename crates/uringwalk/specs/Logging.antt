@@ -3,8 +3,8 @@ use Rattle.debug_server.specs.declared.faults.Fault.{Fault}
 use Rattle.debug_server.specs.declared.faults.Fault.TheVariants.{Run}
 use Rattle.debug_server.specs.declared.faults.RunFault.TheVariants as run
 use Rattle.debug_server.specs.declared.faults.ServeFault.TheVariants as serve
-use Rattle.run_log.specs.declared.fault.LogFault.{LogFault}
-use Rattle.run_log.specs.declared.fault.LogFault.TheVariants.{Script, Trace, Schedule, Write, Memory}
+use Rattle.script.specs.declared.log_fault.LogFault.{LogFault}
+use Rattle.script.specs.declared.log_fault.LogFault.TheVariants.{Script, Trace, Schedule, Write, Memory}
 
 -- what a log that ended early is told as
 abbrev pub told_as : LogFault → Fault

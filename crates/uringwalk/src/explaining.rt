@@ -3,7 +3,8 @@
 use crate::logging::fault_of_log;
 use crate::{WHOLE_TRACE_AND_ONE, told};
 use debug_server::Fault;
-use findings::{Asked, Kind, explain_run};
+use explanations::{Asked, explain_run};
+use finding_kinds::Kind;
 use std::io;
 use std::process::ExitCode;
 use std::rt::Files;

@@ -4,7 +4,8 @@ ghost use Rattle.uringwalk.specs.Logging.{told_as};
 
 use crate::{WHOLE_TRACE_AND_ONE, told};
 use debug_server::{Fault, RunFault, ServeFault};
-use run_log::{EventRange, LogFault, log_run};
+use run_log::{EventRange, log_run};
+use script::LogFault;
 use std::io;
 use std::rt::Files;
 use whole_files::read_file;

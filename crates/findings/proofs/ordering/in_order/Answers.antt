@@ -1,6 +1,6 @@
 use Rattle.std.proofs.Common.{rules}
 use Rattle.std.proofs.lemmas.List.Sorted.{IsNonDecreasingBy-from_sort_by_key}
-use Rattle.findings.specs.Findings.{rank}
+use Rattle.finding_kinds.specs.Kinds.{rank}
 use Rattle.findings.proofs.Distinct.{sorted_same}
 use Rattle.findings.proofs.ordering.in_order.Goals as goal
 

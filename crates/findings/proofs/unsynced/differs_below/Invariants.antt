@@ -1,7 +1,7 @@
 use Rattle.std.proofs.Common.{◌≡◌, ◌<◌, ℕ, false}
 use Rattle.places.specs.declared.place.Place.TheVariants.{FileByte, DurableByte}
 use Rattle.machine.specs.Whole.{view}
-use Rattle.findings.specs.Records.{byte_in, differ}
+use Rattle.finding_kinds.specs.Values.{byte_in, differ}
 use Rattle.findings.proofs.unsynced.differs_below.Given as goal
 
 abbrev pub invariant-loop-at : goal.invariant-loop-at

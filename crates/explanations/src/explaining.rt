@@ -1,0 +1,252 @@
+//! Explaining a script or a trace.
+ghost use Rattle.std.specs.Prelude.{◌≡◌, ◌⊎◌, ◌≤◌, true, false, None, IfOk, IfErr, length};
+ghost use Rattle.std.specs.List.{list_any};
+ghost use Rattle.scenario.specs.Setups.{setup_refusal};
+ghost use Rattle.script.specs.Logs.{is_trace};
+ghost use Rattle.explanations.specs.Explained.{is_asked, counts, Explains, ExplainsRun, Unexplained, UnexplainedRun};
+
+use crate::json::add_object;
+use finding_kinds::{Finding, History, Kind};
+use findings::search;
+use machine::{Event, Setup, State};
+use script::{LogFault, Script, ScriptFault, read_script};
+use sentences::{Run, sentence};
+use std::alloc::{AllocError, Global};
+use std::io::Write;
+use traces::{TraceFault, read_trace2};
+use whole_files::write_out;
+
+/// What a trace begins with, and no script.
+const TRACE_MARK: u8 = b'U';
+
+/// What is asked for.
+#[derive(Clone, Copy, Debug, PartialEq, Eq)]
+pub struct Asked {
+    /// This kind alone; where there is none, all.
+    pub kind: Option<Kind>,
+    /// As JSON, and else as paragraphs.
+    pub json: bool,
+}
+
+fn is_asked(asked: Option<Kind>, kind: Kind) -> bool
+    ensures { result ≡ is_asked asked kind }
+{
+    match asked {
+        Some(only) => only.number() == kind.number(),
+        None => true,
+    }
+}
+
+// Whether a finding is a fault of a kind that is asked for.
+fn counts(asked: Option<Kind>, finding: &Finding) -> bool
+    ensures { result ≡ counts asked finding.now }
+{
+    is_asked(asked, finding.kind) && finding.kind.is_fault()
+}
+
+fn has_fault(asked: Option<Kind>, found: &[Finding]) -> bool
+    ensures { result ≡ list_any (counts asked) found.now }
+{
+    found.iter().any(|finding| counts(asked, finding))
+}
+
+// Adds a headline, and below it the sentence.
+fn add_paragraph(
+    alloc: Global,
+    out: &mut String,
+    run: &Run<'_>,
+    index: usize,
+    finding: Finding,
+) -> Result<(), AllocError> {
+    let kind = finding.kind.word();
+    let moment = finding.moment;
+    let text = sentence(alloc, run, index)?;
+    let paragraph = format!(in alloc; "{kind} at {moment}\n  {text}\n\n")?;
+    out.push_str(paragraph.as_str())
+}
+
+// Adds what is told of a finding, if its kind is asked for.
+fn add_finding(
+    alloc: Global,
+    out: &mut String,
+    run: &Run<'_>,
+    asked: Asked,
+    index: usize,
+    finding: Finding,
+) -> Result<(), AllocError> {
+    if !is_asked(asked.kind, finding.kind) {
+        return Ok(());
+    }
+    if asked.json {
+        add_object(alloc, out, run, index, finding)
+    } else {
+        add_paragraph(alloc, out, run, index, finding)
+    }
+}
+
+fn add_findings(
+    alloc: Global,
+    out: &mut String,
+    run: &Run<'_>,
+    asked: Asked,
+) -> Result<(), AllocError> {
+    for index in 0..run.found.len() {
+        add_finding(alloc, out, run, asked, index, run.found[index])?;
+    }
+    Ok(())
+}
+
+// How many findings of the kinds that are asked for there are, and how many of them are faults.
+fn counted(run: &Run<'_>, asked: Option<Kind>) -> (usize, usize) {
+    let told = run
+        .found
+        .iter()
+        .filter(|finding| is_asked(asked, finding.kind))
+        .count();
+    let faults = run
+        .found
+        .iter()
+        .filter(|finding| counts(asked, finding))
+        .count();
+    (told, faults)
+}
+
+fn add_sum(alloc: Global, out: &mut String, run: &Run<'_>, asked: Asked) -> Result<(), AllocError> {
+    let (told, faults) = counted(run, asked.kind);
+    let notes = told.saturating_sub(faults);
+    let sum = format!(in alloc; "faults {faults}, notes {notes}\n")?;
+    out.push_str(sum.as_str())
+}
+
+// What is told of a run.
+fn text_of(alloc: Global, run: &Run<'_>, asked: Asked) -> Result<String, AllocError> {
+    let mut out = String::new(alloc);
+    if asked.json {
+        out.push_str("[\n")?;
+        add_findings(alloc, &mut out, run, asked)?;
+        out.push_str("\n]\n")?;
+    } else {
+        add_findings(alloc, &mut out, run, asked)?;
+        add_sum(alloc, &mut out, run, asked)?;
+    }
+    Ok(out)
+}
+
+fn tell<W: Write>(
+    alloc: Global,
+    run: &Run<'_>,
+    asked: Asked,
+    writer: &mut W,
+) -> Result<(), LogFault>
+    ensures { IfErr result (λ f. (f ≡ LogFault.Memory) ⊎ (f ≡ LogFault.Write)) }
+{
+    let Ok(text) = text_of(alloc, run, asked) else {
+        return Err(LogFault::Memory);
+    };
+    match write_out(writer, text.as_str().as_bytes()) {
+        Ok(()) => Ok(()),
+        Err(_) => Err(LogFault::Write),
+    }
+}
+
+// Runs some events from a setup, and tells what they show. Says whether some of it is a fault.
+#[tactic(auto, using(crate::proofs::Unexplained::unexplained_halted, crate::proofs::Unexplained::unexplained_untold))]
+fn explain_events<W: Write>(
+    alloc: Global,
+    setup: &Setup,
+    events: &[Event],
+    asked: Asked,
+    writer: &mut W,
+) -> Result<bool, LogFault>
+    requires starts { setup_refusal setup.now ≡ None }
+    requires most { length events.now ≤ 1048576 }
+    ensures ok { IfOk result (Explains setup.now events.now asked.kind) }
+    ensures err { IfErr result (Unexplained setup.now events.now) }
+{
+    let Ok(mut state) = State::new(alloc, setup) else {
+        return Err(LogFault::Memory);
+    };
+    let mut history = History::new(alloc);
+    let found = match search(alloc, &mut state, setup, events, &mut history) {
+        Ok(found) => found,
+        Err(fault) => return Err(fault),
+    };
+    let run = Run {
+        setup,
+        state: &state,
+        events,
+        history: &history,
+        found: &found,
+    };
+    match tell(alloc, &run, asked, writer) {
+        Ok(()) => Ok(has_fault(asked.kind, &found)),
+        Err(fault) => Err(fault),
+    }
+}
+
+// The same of a script's schedule.
+fn explain_plan<W: Write>(
+    alloc: Global,
+    script: &Script,
+    asked: Asked,
+    writer: &mut W,
+) -> Result<bool, LogFault>
+    ensures ok { IfOk result (Explains script.now.setup script.now.schedule asked.kind) }
+    ensures err { IfErr result (Unexplained script.now.setup script.now.schedule) }
+{
+    explain_events(alloc, script.setup(), script.schedule(), asked, writer)
+}
+
+#[tactic(auto, using(crate::proofs::Unexplained::explained_script, crate::proofs::Unexplained::unexplained_script))]
+fn explain_script<W: Write>(
+    alloc: Global,
+    text: &[u8],
+    asked: Asked,
+    writer: &mut W,
+) -> Result<bool, LogFault>
+    ensures ok { IfOk result (ExplainsRun false text.now asked.kind) }
+    ensures err { IfErr result (UnexplainedRun false text.now) }
+{
+    let script = match read_script(alloc, text) {
+        Ok(script) => script,
+        Err(ScriptFault::Memory) => return Err(LogFault::Memory),
+        Err(fault) => return Err(LogFault::Script(fault)),
+    };
+    explain_plan(alloc, &script, asked, writer)
+}
+
+#[tactic(auto, using(crate::proofs::Unexplained::unexplained_trace))]
+fn explain_trace<W: Write>(
+    alloc: Global,
+    trace: &[u8],
+    asked: Asked,
+    writer: &mut W,
+) -> Result<bool, LogFault>
+    ensures ok { IfOk result (ExplainsRun true trace.now asked.kind) }
+    ensures err { IfErr result (UnexplainedRun true trace.now) }
+{
+    let (setup, events) = match read_trace2(alloc, trace) {
+        Ok(found) => found,
+        Err(TraceFault::Memory) => return Err(LogFault::Memory),
+        Err(fault) => return Err(LogFault::Trace(fault)),
+    };
+    explain_events(alloc, &setup, &events, asked, writer)
+}
+
+/// Runs what the bytes are, a trace where the first one is a `U`, and else a script, and tells what
+/// the run shows: a headline and a sentence of each finding of the kinds that are asked for, in
+/// order. Says whether some of them is a fault.
+pub fn explain_run<W: Write>(
+    alloc: Global,
+    bytes: &[u8],
+    asked: Asked,
+    writer: &mut W,
+) -> Result<bool, LogFault>
+    ensures ok { IfOk result (ExplainsRun (is_trace bytes.now) bytes.now asked.kind) }
+    ensures err { IfErr result (UnexplainedRun (is_trace bytes.now) bytes.now) }
+{
+    match bytes {
+        [TRACE_MARK, ..] => explain_trace(alloc, bytes, asked, writer),
+        _ => explain_script(alloc, bytes, asked, writer),
+    }
+}

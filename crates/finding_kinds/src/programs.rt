@@ -1,0 +1,19 @@
+//! Which instructions steps do.
+ghost use Rattle.std.specs.Prelude.{◌≡◌};
+ghost use Rattle.std.specs.Option.{option_copied};
+ghost use Rattle.finding_kinds.specs.Programs.{instruction_at};
+
+use machine::{Event, Instruction, Setup};
+
+/// The instruction of a thread whose step an event is, at a place of its program.
+pub fn instruction_at(setup: &Setup, event: Event, counter: Option<u64>) -> Option<&Instruction>
+    ensures { option_copied result ≡ instruction_at setup.now event counter }
+{
+    let (Event::Step(thread), Some(counter)) = (event, counter) else {
+        return None;
+    };
+    match setup.threads.as_slice().get(thread as usize) {
+        Some(program) => program.as_slice().get(counter as usize),
+        None => None,
+    }
+}

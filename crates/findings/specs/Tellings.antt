@@ -1,8 +1,0 @@
--- Findings with their sentences.
-use Rattle.std.specs.Prelude.{List, map}
-use Rattle.findings.specs.declared.finding.Finding.{Finding}
-use Rattle.findings.specs.declared.telling.Told.{Told}
-
--- the findings of some that are told
-abbrev pub findings_in : List Told → List Finding
-findings_in told = map (λ t. t.finding) told

@@ -1,0 +1,49 @@
+//! Events as text, in the words of a script's schedule.
+
+use opcodes::Choice;
+use scenario::Event;
+use std::fmt;
+
+/// An event as it stands in a schedule, without its marks.
+#[derive(Clone, Copy, Debug)]
+pub struct EventText(pub Event);
+
+impl fmt::Display for EventText {
+    ghost use Rattle.std.specs.Prelude.{Some};
+    ghost use Rattle.script.specs.EventTexts.{event_text};
+
+    ghost output = { λ text. Some (event_text text.0) };
+
+    fn fmt<W: fmt::Write>(&self, f: &mut fmt::Formatter<W>) -> fmt::Result {
+        let EventText(event) = self;
+        match event {
+            Event::Step(thread) => write!(f, "step {thread}"),
+            Event::Take(entries) => write!(f, "take {entries}"),
+            Event::Sleep => write!(f, "sleep"),
+            Event::Issue(row) => write!(f, "issue {row}"),
+            Event::Finish(row, choice) => write!(f, "finish {row}{}", ChoiceText(*choice)),
+            Event::Expire(row) => write!(f, "expire {row}"),
+            Event::Tick(nanoseconds) => write!(f, "tick {nanoseconds}"),
+        }
+    }
+}
+
+// A choice behind a space, or nothing where all goes well.
+#[derive(Clone, Copy)]
+struct ChoiceText(Choice);
+
+impl fmt::Display for ChoiceText {
+    ghost use Rattle.std.specs.Prelude.{Some};
+    ghost use Rattle.script.specs.EventTexts.{choice_text};
+
+    ghost output = { λ text. Some (choice_text text.0) };
+
+    fn fmt<W: fmt::Write>(&self, f: &mut fmt::Formatter<W>) -> fmt::Result {
+        let ChoiceText(choice) = self;
+        match choice {
+            Choice::Full => Ok(()),
+            Choice::Short(bytes) => write!(f, " short {bytes}"),
+            Choice::Eio => write!(f, " eio"),
+        }
+    }
+}

@@ -1,0 +1,275 @@
+//! Sentences about cancels and removals that ended nothing.
+
+use crate::about::About;
+use crate::names::{ResultName, RowName};
+use crate::run::Run;
+use entries::{Row, Sqe};
+use opcodes::{Op, uses_descriptor};
+use std::alloc::{AllocError, Global};
+
+const CANCEL_RULE: &str = "(io_uring_enter(2), IORING_OP_ASYNC_CANCEL)";
+
+const POLL_RULE: &str = "(io_uring_enter(2), IORING_OP_POLL_REMOVE)";
+
+const TIMEOUT_RULE: &str = "(io_uring_enter(2), IORING_OP_TIMEOUT_REMOVE)";
+
+/// IORING_ASYNC_CANCEL_FD.
+const BY_DESCRIPTOR: u32 = 2;
+
+fn is_by_descriptor(entry: &Sqe) -> bool {
+    entry.opcode == Op::AsyncCancel as u8 && entry.operation_flags & BY_DESCRIPTOR != 0
+}
+
+/// The rule of a cancel or a removal.
+pub(super) fn rule_of(entry: &Sqe) -> &'static str {
+    if entry.opcode == Op::PollRemove as u8 {
+        return POLL_RULE;
+    }
+    if entry.opcode == Op::TimeoutRemove as u8 {
+        return TIMEOUT_RULE;
+    }
+    CANCEL_RULE
+}
+
+// Whether a row is of an opcode that an entry can cancel or remove.
+fn fits_opcode(entry: &Sqe, row: &Row) -> bool {
+    if entry.opcode == Op::PollRemove as u8 {
+        return row.entry.opcode == Op::PollAdd as u8;
+    }
+    if entry.opcode == Op::TimeoutRemove as u8 {
+        return row.entry.opcode == Op::Timeout as u8;
+    }
+    row.entry.opcode != Op::LinkTimeout as u8
+}
+
+// What it finds of rows with the user_data.
+fn what_it_finds(entry: &Sqe) -> &'static str {
+    if entry.opcode == Op::PollRemove as u8 {
+        return "a POLL_REMOVE finds POLL_ADDs alone";
+    }
+    if entry.opcode == Op::TimeoutRemove as u8 {
+        return "a TIMEOUT_REMOVE finds TIMEOUTs alone";
+    }
+    "an ASYNC_CANCEL finds no LINK_TIMEOUT"
+}
+
+// What it finds of those by how far they are.
+fn what_it_finds_issued(entry: &Sqe) -> &'static str {
+    if entry.opcode == Op::PollRemove as u8 {
+        return "a POLL_REMOVE finds issued requests alone";
+    }
+    if entry.opcode == Op::TimeoutRemove as u8 {
+        return "a TIMEOUT_REMOVE finds issued requests alone";
+    }
+    "a cancel finds issued requests alone"
+}
+
+// Whether a row uses the descriptor that an entry names.
+fn names_descriptor(entry: &Sqe, row: &Row) -> bool {
+    uses_descriptor(row.entry.opcode) && row.entry.fd == entry.fd
+}
+
+// Whether a row that had come by a moment has the user_data that an entry looks for.
+fn is_candidate(run: &Run<'_>, about: &About, number: u32, row: &Row) -> bool {
+    let came = match run.times_of(number) {
+        Some(times) => times.came < about.moment,
+        None => false,
+    };
+    came && number != about.number && row.entry.user_data == about.row.entry.addr
+}
+
+fn is_queued(run: &Run<'_>, number: u32, moment: u32) -> bool {
+    match run.times_of(number) {
+        Some(times) => times.is_queued_at(moment),
+        None => false,
+    }
+}
+
+// How near such a row is to one that the entry finds: of another opcode, ended, or queued still.
+fn nearness(run: &Run<'_>, about: &About, number: u32, row: &Row) -> u8 {
+    if !is_candidate(run, about, number, row) {
+        return 0;
+    }
+    if !fits_opcode(&about.row.entry, row) {
+        return 1;
+    }
+    if is_queued(run, number, about.moment) {
+        3
+    } else {
+        2
+    }
+}
+
+// The nearest of them. Of several it is the last one; of another opcode, the first.
+fn nearest_candidate(run: &Run<'_>, about: &About) -> Option<u32> {
+    let (mut nearest, mut most) = (None, 0);
+    for number in 0..run.history.rows.len().min(65536) as u32 {
+        if let Some(row) = run.row(number) {
+            let near = nearness(run, about, number, &row);
+            if near > most || (near == most && near > 1) {
+                (nearest, most) = (Some(number), near);
+            }
+        }
+    }
+    nearest
+}
+
+// Why a cancel found no row of a number.
+fn reason_of(
+    alloc: Global,
+    run: &Run<'_>,
+    about: &About,
+    number: u32,
+    row: &Row,
+) -> Result<String, AllocError> {
+    let name = RowName::of(number, row);
+    if !fits_opcode(&about.row.entry, row) {
+        let finds = what_it_finds(&about.row.entry);
+        return format!(in alloc; "row {name} does not count, as {finds}");
+    }
+    let ended = match run.times_of(number) {
+        Some(times) => times.ended,
+        None => None,
+    };
+    match ended {
+        Some(moment) if moment < about.moment => {
+            format!(in alloc; "row {name} had ended by event {moment}")
+        }
+        _ => {
+            let finds = what_it_finds_issued(&about.row.entry);
+            format!(in alloc; "row {name} was queued still, and {finds}")
+        }
+    }
+}
+
+fn reason_by_user_data(alloc: Global, run: &Run<'_>, about: &About) -> Result<String, AllocError> {
+    let sought = about.row.entry.addr;
+    let Some(number) = nearest_candidate(run, about) else {
+        if about.row.entry.user_data == sought {
+            return format!(in alloc; "no other request had user_data {sought}");
+        }
+        return format!(in alloc; "no request had user_data {sought}");
+    };
+    match run.row(number) {
+        Some(row) => reason_of(alloc, run, about, number, &row),
+        None => format!(in alloc; "no request had user_data {sought}"),
+    }
+}
+
+// The first queued row that names the descriptor of which a cancel found no request.
+fn queued_user(run: &Run<'_>, about: &About) -> Option<u32> {
+    for number in 0..run.history.rows.len().min(65536) as u32 {
+        if let Some(row) = run.row(number) {
+            if number != about.number
+                && names_descriptor(&about.row.entry, &row)
+                && is_queued(run, number, about.moment)
+            {
+                return Some(number);
+            }
+        }
+    }
+    None
+}
+
+fn reason_by_descriptor(alloc: Global, run: &Run<'_>, about: &About) -> Result<String, AllocError> {
+    let fd = about.row.entry.fd;
+    let queued = match queued_user(run, about) {
+        Some(number) => run.name(number),
+        None => None,
+    };
+    match queued {
+        Some(name) => format!(in alloc;
+            "no issued request held descriptor {fd}; row {name} names it, but was queued still, and a cancel finds issued requests alone"
+        ),
+        None => format!(in alloc; "no issued request held descriptor {fd}"),
+    }
+}
+
+// What the result of a cancel of all that found nothing says.
+fn what_counts(res: i32) -> &'static str {
+    if res < 0 {
+        return "";
+    }
+    ", as it counts what it ended"
+}
+
+/// A cancel or a removal that found nothing.
+pub(crate) fn not_found(alloc: Global, run: &Run<'_>, about: &About) -> Result<String, AllocError> {
+    let name = about.name();
+    let rule = rule_of(&about.row.entry);
+    let told = ResultName(about.result(run));
+    let count = what_counts(about.result(run));
+    let reason = if is_by_descriptor(&about.row.entry) {
+        reason_by_descriptor(alloc, run, about)?
+    } else {
+        reason_by_user_data(alloc, run, about)?
+    };
+    format!(in alloc; "Row {name} ended with {told}{count}: {reason} {rule}.")
+}
+
+/// The first row from a number on that a cancel found as it ended, by its user_data or descriptor.
+pub(super) fn next_found(run: &Run<'_>, about: &About, from: u32) -> Option<u32> {
+    for number in from..run.history.rows.len().min(65536) as u32 {
+        if let Some(row) = run.row(number) {
+            if is_found(run, about, number, &row) {
+                return Some(number);
+            }
+        }
+    }
+    None
+}
+
+fn is_found(run: &Run<'_>, about: &About, number: u32, row: &Row) -> bool {
+    let issued = match run.times_of(number) {
+        Some(times) => times.is_issued_at(about.moment),
+        None => false,
+    };
+    let fits = if is_by_descriptor(&about.row.entry) {
+        names_descriptor(&about.row.entry, row)
+    } else {
+        row.entry.user_data == about.row.entry.addr
+    };
+    issued && number != about.number && fits && fits_opcode(&about.row.entry, row)
+}
+
+// What became of a row that was running.
+fn became(alloc: Global, run: &Run<'_>, number: u32) -> Result<String, AllocError> {
+    let ended = match run.times_of(number) {
+        Some(times) => times.ended,
+        None => None,
+    };
+    match (ended, run.result(number)) {
+        (Some(moment), Some(res)) => {
+            let told = ResultName(res);
+            format!(in alloc; "it ended by event {moment} with {told}")
+        }
+        _ => String::from_str(alloc, "it has not ended"),
+    }
+}
+
+// What to mind until a row's own completion.
+fn advice_of(run: &Run<'_>, number: u32) -> &'static str {
+    match run.row(number) {
+        Some(row) if row.entry.opcode == Op::Read as u8 || row.entry.opcode == Op::Write as u8 => {
+            ". Until its own completion its buffer is the kernel's"
+        }
+        _ => "",
+    }
+}
+
+/// A cancel that found a request that was running.
+pub(crate) fn too_late(alloc: Global, run: &Run<'_>, about: &About) -> Result<String, AllocError> {
+    let name = about.name();
+    let rule = rule_of(&about.row.entry);
+    let Some(number) = next_found(run, about, 0) else {
+        return format!(in alloc; "Row {name} ended with -114 (EALREADY) {rule}.");
+    };
+    let Some(of) = run.name(number) else {
+        return format!(in alloc; "Row {name} ended with -114 (EALREADY) {rule}.");
+    };
+    let became = became(alloc, run, number)?;
+    let advice = advice_of(run, number);
+    format!(in alloc;
+        "Row {name} ended with -114 (EALREADY): row {of} was running, and goes on; {became}{advice} {rule}."
+    )
+}

@@ -1,0 +1,132 @@
+//! Sentences about requests that ended with an error, or short.
+
+use crate::about::About;
+use crate::names::ResultName;
+use crate::objects::{reason_of_descriptor, reason_of_object};
+use crate::run::Run;
+use crate::submitting::reason_of_entry;
+use entries::Sqe;
+use machine::Event;
+use opcodes::{Choice, Op};
+use std::alloc::{AllocError, Global};
+
+const RULE: &str = "(io_uring_enter(2), CQE ERRORS)";
+
+/// EBADF, EFAULT, EINVAL, EFBIG and EPIPE, negated.
+const BAD_DESCRIPTOR: i32 = -9;
+
+const BAD_ADDRESS: i32 = -14;
+
+const INVALID: i32 = -22;
+
+const TOO_LARGE: i32 = -27;
+
+const BROKEN_PIPE: i32 = -32;
+
+fn word_of_end(res: i32) -> &'static str {
+    if res == BAD_ADDRESS {
+        return "its buffer leaves memory";
+    }
+    if res == TOO_LARGE {
+        return "a file cannot grow so far";
+    }
+    if res == BROKEN_PIPE {
+        return "no descriptor of the pipe's read end is left";
+    }
+    "it could not be carried out"
+}
+
+// What a request met as it was carried out.
+fn reason_of_end(
+    alloc: Global,
+    run: &Run<'_>,
+    entry: &Sqe,
+    res: i32,
+) -> Result<String, AllocError> {
+    if res == BAD_DESCRIPTOR {
+        return reason_of_descriptor(alloc, run, entry);
+    }
+    if res == INVALID {
+        return reason_of_object(alloc, run, entry);
+    }
+    String::from_str(alloc, word_of_end(res))
+}
+
+fn reason(alloc: Global, run: &Run<'_>, about: &About, res: i32) -> Result<String, AllocError> {
+    match run.event(about.moment) {
+        Some(Event::Step(_) | Event::Take(_)) => reason_of_entry(alloc, run, about, res),
+        Some(Event::Finish(_, Choice::Eio)) => String::from_str(alloc, "the device failed"),
+        _ => reason_of_end(alloc, run, &about.row.entry, res),
+    }
+}
+
+// When in its life it ended.
+fn stage(run: &Run<'_>, moment: u32) -> &'static str {
+    match run.event(moment) {
+        Some(Event::Step(_) | Event::Take(_)) => " as it was submitted",
+        Some(Event::Issue(_)) => " as it was issued",
+        _ => "",
+    }
+}
+
+/// A request that ended with an error.
+pub(crate) fn failed(alloc: Global, run: &Run<'_>, about: &About) -> Result<String, AllocError> {
+    let name = about.name();
+    let res = about.result(run);
+    let told = ResultName(res);
+    let stage = stage(run, about.moment);
+    let reason = reason(alloc, run, about, res)?;
+    format!(in alloc; "Row {name} ended with {told}{stage}: {reason} {RULE}.")
+}
+
+/// Why a transfer moved fewer bytes than it asked for.
+pub(crate) fn reason_of_short(run: &Run<'_>, about: &About) -> &'static str {
+    match run.event(about.moment) {
+        Some(Event::Finish(_, Choice::Short(_))) => "the schedule ends it short",
+        _ => {
+            if about.row.entry.opcode == Op::Read as u8 {
+                "no more could be read"
+            } else {
+                "no more could be written"
+            }
+        }
+    }
+}
+
+// The fields that nothing looks at, with their values.
+fn idle_fields(entry: &Sqe) -> [(&'static str, i64); 4] {
+    [
+        ("ioprio", i64::from(entry.ioprio)),
+        ("buf_index", i64::from(entry.buf_index)),
+        ("personality", i64::from(entry.personality)),
+        ("splice_fd_in", i64::from(entry.splice_fd_in)),
+    ]
+}
+
+// Names those that aren't 0, and says whether they are several.
+fn named_fields(alloc: Global, entry: &Sqe) -> Result<(String, bool), AllocError> {
+    let mut text = String::new(alloc);
+    let mut are_several = false;
+    for (field, value) in idle_fields(entry) {
+        if value != 0 {
+            are_several = !text.is_empty();
+            let before = if are_several { ", " } else { "" };
+            text.push_str(format!(in alloc; "{before}{field} {value}")?.as_str())?;
+        }
+    }
+    Ok((text, are_several))
+}
+
+/// Fields that have no effect.
+pub(crate) fn no_effect(alloc: Global, about: &About) -> Result<String, AllocError> {
+    let name = about.name();
+    let (fields, are_several) = named_fields(alloc, &about.row.entry)?;
+    let (verb, object) = if are_several {
+        ("have", "them")
+    } else {
+        ("has", "it")
+    };
+    format!(in alloc;
+        "Row {name} has {fields}, which {verb} no effect here: no request of this profile looks at {object} (io_uring_enter(2))."
+    )
+}

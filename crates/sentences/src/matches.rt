@@ -1,0 +1,125 @@
+//! Sentences about cancels that matched several requests, and requests that look alike.
+
+use crate::about::About;
+use crate::cancels::{next_found, rule_of};
+use crate::listing::Listing;
+use crate::names::ResultName;
+use crate::run::Run;
+use finding_kinds::LOOKED_BACK;
+use opcodes::Op;
+use std::alloc::{AllocError, Global};
+
+const ALL_RULE: &str = "(io_uring_prep_cancel(3), IORING_ASYNC_CANCEL_ALL)";
+
+const USER_RULE: &str = "(io_uring_enter(2), user_data)";
+
+// How many rows a cancel found as it ended.
+fn count_found(run: &Run<'_>, about: &About) -> u32 {
+    let mut count: u32 = 0;
+    let mut from = 0;
+    for _row in 0..run.history.rows.len() {
+        let Some(number) = next_found(run, about, from) else {
+            break;
+        };
+        count = count.saturating_add(1);
+        from = number.saturating_add(1);
+    }
+    count
+}
+
+// How all of them are reached.
+fn advice(opcode: u8) -> &'static str {
+    if opcode == Op::AsyncCancel as u8 {
+        return "IORING_ASYNC_CANCEL_ALL ends all that wait";
+    }
+    "Give each a user_data of its own"
+}
+
+/// A cancel or a removal of one request that matched more.
+pub(crate) fn several(alloc: Global, run: &Run<'_>, about: &About) -> Result<String, AllocError> {
+    let name = about.name();
+    let told = ResultName(about.result(run));
+    let count = count_found(run, about);
+    let least = match next_found(run, about, 0) {
+        Some(number) => run.name(number),
+        None => None,
+    };
+    let Some(least) = least else {
+        return Ok(String::new(alloc));
+    };
+    let advice = advice(about.row.entry.opcode);
+    let rule = rule_of(&about.row.entry);
+    format!(in alloc;
+        "Row {name} ended with {told}: it matched {count} issued requests, and looks at that of the least number alone, row {least}. {advice} {rule}."
+    )
+}
+
+/// A cancel of all that left requests which were running.
+pub(crate) fn left_running(
+    alloc: Global,
+    run: &Run<'_>,
+    about: &About,
+) -> Result<String, AllocError> {
+    let name = about.name();
+    let count = about.result(run);
+    let rows = left_rows(alloc, run, about)?;
+    format!(in alloc;
+        "Row {name} ended with {count}, as many matches as it ended. What was running goes on: {rows} {ALL_RULE}."
+    )
+}
+
+// Names the rows that a cancel found, and that did not end with it.
+fn left_rows(alloc: Global, run: &Run<'_>, about: &About) -> Result<String, AllocError> {
+    let mut rows = Listing::new(alloc);
+    let mut from = 0;
+    for _row in 0..run.history.rows.len() {
+        let Some(number) = next_found(run, about, from) else {
+            break;
+        };
+        if !run.ends_at(number, about.moment) {
+            rows.add(alloc, run, number)?;
+        }
+        from = number.saturating_add(1);
+    }
+    rows.finish(alloc)
+}
+
+// Whether a row had come by the event at a moment, hasn't ended by it, and has a user_data.
+fn is_alike(run: &Run<'_>, number: u32, moment: u32, user_data: u64) -> bool {
+    match (run.times_of(number), run.row(number)) {
+        (Some(times), Some(row)) => {
+            !times.has_ended_at(moment.saturating_add(1)) && row.entry.user_data == user_data
+        }
+        _ => false,
+    }
+}
+
+// The last earlier row that looks like one.
+fn alike(run: &Run<'_>, about: &About) -> Option<u32> {
+    for back in 0..about.number.min(LOOKED_BACK) {
+        let number = about.number - 1 - back;
+        if is_alike(run, number, about.moment, about.row.entry.user_data) {
+            return Some(number);
+        }
+    }
+    None
+}
+
+/// A request that came with the user_data of an earlier one that hadn't ended.
+pub(crate) fn same_user_data(
+    alloc: Global,
+    run: &Run<'_>,
+    about: &About,
+) -> Result<String, AllocError> {
+    let name = about.name();
+    let other = match alike(run, about) {
+        Some(number) => run.name(number),
+        None => None,
+    };
+    match other {
+        Some(other) => format!(in alloc;
+            "Row {name} came while row {other} had not ended, which has the same user_data: by that alone their completions can't be told apart {USER_RULE}."
+        ),
+        None => Ok(String::new(alloc)),
+    }
+}

@@ -1,0 +1,91 @@
+//! What a descriptor, or the object behind it, has against a request.
+
+use crate::run::Run;
+use entries::Sqe;
+use finding_kinds::{FIRST_DESCRIPTOR, number_in};
+use machine::Setup;
+use opcodes::{Op, fits_end};
+use places::{Contents, Descriptor, End};
+use std::alloc::{AllocError, Global};
+
+/// The fewest bytes that a READ or a WRITE of an eventfd has (eventfd(2)).
+const EVENT_BYTES: u32 = 8;
+
+/// A descriptor of the setup by its number.
+pub(super) fn descriptor_at(setup: &Setup, fd: i32) -> Option<Descriptor> {
+    let index = number_in(fd)?.checked_sub(FIRST_DESCRIPTOR)?;
+    setup.fds.as_slice().get(index as usize).copied()
+}
+
+// What keeps a request from an end, which is of another use, or was closed.
+fn word_of_end(fits: bool, end: End) -> &'static str {
+    match end {
+        End::Read if !fits => "is the read end of a pipe, which takes no WRITE",
+        End::Write if !fits => "is the write end of a pipe, which gives no READ",
+        _ => "is not open",
+    }
+}
+
+/// Why the descriptor of an entry can't be used.
+pub(super) fn reason_of_descriptor(
+    alloc: Global,
+    run: &Run<'_>,
+    entry: &Sqe,
+) -> Result<String, AllocError> {
+    let fd = entry.fd;
+    let reason = match descriptor_at(run.setup, entry.fd) {
+        Some(Descriptor { end, .. }) => word_of_end(fits_end(entry.opcode, end), end),
+        None => "is not open",
+    };
+    format!(in alloc; "its descriptor {fd} {reason}")
+}
+
+fn kind_of(contents: &Contents) -> &'static str {
+    match contents {
+        Contents::File(_) => "a file",
+        Contents::Pipe(_) => "a pipe",
+        Contents::EventFd(_) => "an eventfd",
+    }
+}
+
+// Why an object of these contents refuses an entry.
+fn reason_of_contents(
+    alloc: Global,
+    entry: &Sqe,
+    contents: &Contents,
+) -> Result<String, AllocError> {
+    let kind = kind_of(contents);
+    if entry.opcode == Op::Fsync as u8 {
+        return format!(in alloc; "its object is {kind}, and an FSYNC is of a file");
+    }
+    let len = entry.len;
+    match contents {
+        Contents::File(_) => String::from_str(alloc, "its offset is negative, and not -1"),
+        Contents::EventFd(_) if len < EVENT_BYTES => {
+            format!(in alloc; "its len is {len}, and an eventfd takes no fewer than 8 bytes")
+        }
+        Contents::EventFd(_) => {
+            String::from_str(
+                alloc,
+                "it adds 2^64 - 1, and an eventfd takes 2^64 - 2 at most",
+            )
+        }
+        Contents::Pipe(_) => String::from_str(alloc, "a pipe refuses such a request"),
+    }
+}
+
+/// Why the object of an entry's descriptor refuses it.
+pub(super) fn reason_of_object(
+    alloc: Global,
+    run: &Run<'_>,
+    entry: &Sqe,
+) -> Result<String, AllocError> {
+    let object = match descriptor_at(run.setup, entry.fd) {
+        Some(descriptor) => run.setup.objects.as_slice().get(descriptor.object as usize),
+        None => None,
+    };
+    match object {
+        Some(object) => reason_of_contents(alloc, entry, &object.contents),
+        None => String::from_str(alloc, "its object refuses such a request"),
+    }
+}

@@ -1,0 +1,171 @@
+//! Why an entry failed as it was submitted: its field, and what its opcode takes there.
+
+use crate::about::About;
+use crate::run::Run;
+use entries::Sqe;
+use opcodes::Op;
+use std::alloc::{AllocError, Global};
+
+/// The flags of an entry that are not modelled.
+const LEFT_OUT: [u8; 4] = [1, 32, 64, 128];
+
+/// EFAULT, negated.
+const BAD_ADDRESS: i32 = -14;
+
+/// A field that an opcode refuses.
+#[derive(Clone, Copy)]
+struct Refused {
+    field: &'static str,
+    value: u64,
+    taken: &'static str,
+}
+
+fn left_out(flags: u8) -> Option<u8> {
+    for flag in LEFT_OUT {
+        if flags & flag != 0 {
+            return Some(flag);
+        }
+    }
+    None
+}
+
+fn flag_name(flag: u8) -> &'static str {
+    match flag {
+        1 => " (IOSQE_FIXED_FILE)",
+        32 => " (IOSQE_BUFFER_SELECT)",
+        64 => " (IOSQE_CQE_SKIP_SUCCESS)",
+        _ => "",
+    }
+}
+
+// The length of an entry, if it isn't the one that is taken.
+fn refused_len(entry: &Sqe, len: u32, taken: &'static str) -> Option<Refused> {
+    if entry.len == len {
+        return None;
+    }
+    Some(Refused {
+        field: "len",
+        value: u64::from(entry.len),
+        taken,
+    })
+}
+
+// The flags of its operation, if they are above the largest that are taken.
+fn refused_flags(entry: &Sqe, most: u32, taken: &'static str) -> Option<Refused> {
+    if entry.operation_flags <= most {
+        return None;
+    }
+    Some(Refused {
+        field: "opflags",
+        value: u64::from(entry.operation_flags),
+        taken,
+    })
+}
+
+fn refused_of_timer(entry: &Sqe) -> Option<Refused> {
+    match refused_len(entry, 1, "1") {
+        Some(refused) => Some(refused),
+        None => refused_flags(entry, 1, "0 or IORING_TIMEOUT_ABS (1)"),
+    }
+}
+
+fn refused_of_guard(entry: &Sqe) -> Option<Refused> {
+    if entry.off == 0 {
+        return refused_of_timer(entry);
+    }
+    Some(Refused {
+        field: "off",
+        value: entry.off,
+        taken: "0",
+    })
+}
+
+fn refused_of_poll_remove(entry: &Sqe) -> Option<Refused> {
+    match refused_len(entry, 0, "0") {
+        Some(refused) => Some(refused),
+        None => refused_flags(entry, 0, "0"),
+    }
+}
+
+// The first field that an entry's opcode refuses, in the order of the tests.
+fn refused_field(entry: &Sqe, op: Op) -> Option<Refused> {
+    match op {
+        Op::Nop => None,
+        Op::Fsync => refused_flags(entry, 1, "0 or IORING_FSYNC_DATASYNC (1)"),
+        Op::PollAdd => refused_len(entry, 0, "0"),
+        Op::PollRemove => refused_of_poll_remove(entry),
+        Op::Timeout => refused_of_timer(entry),
+        Op::LinkTimeout => refused_of_guard(entry),
+        Op::AsyncCancel => refused_flags(
+            entry,
+            3,
+            "0, IORING_ASYNC_CANCEL_ALL (1), IORING_ASYNC_CANCEL_FD (2) or both",
+        ),
+        Op::TimeoutRemove | Op::Read | Op::Write => refused_flags(entry, 0, "0"),
+    }
+}
+
+// Whether the row before one of a number is of its chain, and no LINK_TIMEOUT.
+fn has_target(run: &Run<'_>, number: u32) -> bool {
+    let Some(before) = number.checked_sub(1) else {
+        return false;
+    };
+    match run.row(before) {
+        Some(row) => {
+            row.entry.opcode != Op::LinkTimeout as u8 && run.are_of_one_chain(before, number)
+        }
+        None => false,
+    }
+}
+
+// What an entry of an opcode was refused for.
+fn reason_of_op(
+    alloc: Global,
+    run: &Run<'_>,
+    about: &About,
+    op: Op,
+    res: i32,
+) -> Result<String, AllocError> {
+    if matches!(op, Op::LinkTimeout) && !has_target(run, about.number) {
+        return String::from_str(
+            alloc,
+            "no request that it could guard stands just before it in its chain",
+        );
+    }
+    if let Some(
+        Refused {
+            field,
+            value,
+            taken,
+        },
+    ) = refused_field(&about.row.entry, op)
+    {
+        return format!(in alloc; "its {field} is {value}, where its opcode takes {taken}");
+    }
+    if res == BAD_ADDRESS {
+        return String::from_str(alloc, "its time leaves memory");
+    }
+    String::from_str(
+        alloc,
+        "the seconds or the nanoseconds of its time are negative",
+    )
+}
+
+/// What a submission has against an entry, by the first test that it fails.
+pub(super) fn reason_of_entry(
+    alloc: Global,
+    run: &Run<'_>,
+    about: &About,
+    res: i32,
+) -> Result<String, AllocError> {
+    if let Some(flag) = left_out(about.row.entry.flags) {
+        let name = flag_name(flag);
+        return format!(in alloc;
+            "its flags have {flag}{name}, which is not modelled here: IO_DRAIN (2), IO_LINK (4), IO_HARDLINK (8) and ASYNC (16) are"
+        );
+    }
+    match Op::of(about.row.entry.opcode) {
+        Some(op) => reason_of_op(alloc, run, about, op, res),
+        None => String::from_str(alloc, "its opcode is none that is modelled here"),
+    }
+}

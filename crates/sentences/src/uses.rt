@@ -1,0 +1,131 @@
+//! Sentences about slots that wait, and descriptors that requests name or hold.
+
+use crate::listing::Listing;
+use crate::run::Run;
+use entries::Row;
+use machine::Instruction;
+use opcodes::uses_descriptor;
+use std::alloc::{AllocError, Global};
+
+const RULE: &str = "(close(2), io_uring_enter(2))";
+
+/// An entry that was changed before it was taken.
+pub(crate) fn slot_in_use(
+    alloc: Global,
+    run: &Run<'_>,
+    thread: u32,
+    moment: u32,
+) -> Result<String, AllocError> {
+    let slot = match run.instruction(moment) {
+        Some(Instruction::Put(slot, _)) => *slot,
+        _ => 0,
+    };
+    let counter = run.counter(moment).unwrap_or(0);
+    format!(in alloc;
+        "The put of thread {thread}, instruction {counter}, changes slot {slot}, whose entry was pushed and is not yet taken: what is taken is what stands there by then (io_uring(7))."
+    )
+}
+
+/// How far a row was as its descriptor was closed.
+#[derive(Clone, Copy)]
+pub(crate) enum Standing {
+    Queued,
+    Issued,
+}
+
+impl Standing {
+    // What such a row does with its descriptor.
+    fn verb(self) -> &'static str {
+        match self {
+            Standing::Queued => "named",
+            Standing::Issued => "held",
+        }
+    }
+
+    // What comes of it.
+    fn outcome(self) -> &'static str {
+        match self {
+            Standing::Queued => {
+                "A request whose descriptor is not open ends with -9 (EBADF) as it is issued"
+            }
+            Standing::Issued => {
+                "An issued request goes on, and the object stays for it until it ends"
+            }
+        }
+    }
+}
+
+// Whether a row of a number stood so before the event at a moment, and uses a descriptor.
+fn is_user(run: &Run<'_>, number: u32, row: &Row, fd: i32, moment: u32, stood: Standing) -> bool {
+    let stands = match (run.times_of(number), stood) {
+        (Some(times), Standing::Queued) => times.is_queued_at(moment),
+        (Some(times), Standing::Issued) => times.is_issued_at(moment),
+        (None, _) => false,
+    };
+    stands && uses_descriptor(row.entry.opcode) && row.entry.fd == fd
+}
+
+// Names those rows.
+fn users(
+    alloc: Global,
+    run: &Run<'_>,
+    fd: i32,
+    moment: u32,
+    stood: Standing,
+) -> Result<String, AllocError> {
+    let mut rows = Listing::new(alloc);
+    for number in 0..run.history.rows.len().min(65536) as u32 {
+        if let Some(row) = run.row(number) {
+            if is_user(run, number, &row, fd, moment, stood) {
+                rows.add(alloc, run, number)?;
+            }
+        }
+    }
+    rows.finish(alloc)
+}
+
+// Names the slot whose entry names a descriptor, behind queued rows that do.
+fn with_slot(alloc: Global, mut rows: String, slot: Option<u32>) -> Result<String, AllocError> {
+    if !rows.is_empty() {
+        rows.push_str(", still queued")?;
+    }
+    let Some(slot) = slot else {
+        return Ok(rows);
+    };
+    if !rows.is_empty() {
+        rows.push_str(", and by ")?;
+    }
+    let entry = format!(in alloc; "the entry in slot {slot}, pushed and not yet taken")?;
+    rows.push_str(entry.as_str())?;
+    Ok(rows)
+}
+
+// The descriptor that was closed at a moment.
+fn closed_at(run: &Run<'_>, moment: u32) -> i32 {
+    match run.instruction(moment) {
+        Some(Instruction::Close(fd)) => *fd,
+        _ => 0,
+    }
+}
+
+/// A descriptor that was closed before it was used, or while it was held.
+pub(crate) fn closed(
+    alloc: Global,
+    run: &Run<'_>,
+    thread: u32,
+    moment: u32,
+    stood: Standing,
+) -> Result<String, AllocError> {
+    let fd = closed_at(run, moment);
+    let counter = run.counter(moment).unwrap_or(0);
+    let used = stood.verb();
+    let rows = users(alloc, run, fd, moment, stood)?;
+    let users = match stood {
+        Standing::Queued => with_slot(alloc, rows, run.slot(moment))?,
+        Standing::Issued => rows,
+    };
+    let outcome = stood.outcome();
+    format!(in alloc;
+        "The close of thread {thread}, instruction {counter}, closed descriptor {fd}, which is {used} by {users}. {outcome} {RULE}."
+    )
+}

@@ -1,0 +1,188 @@
+//! What an issued request waits for at its descriptor, and what could bring it.
+
+use crate::objects::descriptor_at;
+use crate::run::Run;
+use entries::{Row, Sqe};
+use finding_kinds::FIRST_DESCRIPTOR;
+use opcodes::Op;
+use places::{Contents, Descriptor, End, Object, Place, Value};
+use std::alloc::{AllocError, Global};
+
+/// The most descriptors of a setup.
+const MOST_DESCRIPTORS: usize = 64;
+
+const POLLIN: u32 = 1;
+
+const POLLOUT: u32 = 4;
+
+/// What a request waits for at an object.
+#[derive(Clone, Copy)]
+enum Awaited {
+    /// Bytes in a pipe.
+    Bytes,
+    /// Room in a pipe.
+    Room,
+    /// A pipe without a writer (POLLHUP).
+    HangUp,
+    /// A pipe without a reader (POLLERR).
+    Error,
+    /// A counter of an eventfd above 0.
+    Counter,
+    /// A counter of an eventfd that a WRITE can add to.
+    CounterRoom,
+    /// Events that no object of its kind has.
+    Nothing,
+}
+
+impl Awaited {
+    // At an end of a pipe.
+    fn of_pipe(entry: &Sqe, end: End) -> Awaited {
+        let polls = entry.opcode == Op::PollAdd as u8;
+        match end {
+            End::Read if polls && entry.operation_flags & POLLIN == 0 => Awaited::HangUp,
+            End::Read => Awaited::Bytes,
+            End::Write if polls && entry.operation_flags & POLLOUT == 0 => Awaited::Error,
+            End::Write => Awaited::Room,
+            End::Whole => Awaited::Nothing,
+        }
+    }
+
+    fn of_eventfd(entry: &Sqe) -> Awaited {
+        if entry.opcode == Op::Read as u8 {
+            return Awaited::Counter;
+        }
+        if entry.opcode == Op::Write as u8 {
+            return Awaited::CounterRoom;
+        }
+        if entry.operation_flags & POLLIN != 0 {
+            return Awaited::Counter;
+        }
+        if entry.operation_flags & POLLOUT != 0 {
+            return Awaited::CounterRoom;
+        }
+        Awaited::Nothing
+    }
+
+    // A file is always ready for a READ and a WRITE.
+    fn of(entry: &Sqe, end: End, object: &Object) -> Awaited {
+        match &object.contents {
+            Contents::Pipe(_) => Awaited::of_pipe(entry, end),
+            Contents::EventFd(_) => Awaited::of_eventfd(entry),
+            Contents::File(_) => Awaited::Nothing,
+        }
+    }
+
+    // The words before the object's name.
+    fn words(self) -> &'static str {
+        match self {
+            Awaited::Bytes => "bytes of pipe",
+            Awaited::Room => "room in pipe",
+            Awaited::HangUp => "a hang-up of pipe",
+            Awaited::Error => "an error of pipe",
+            Awaited::Counter => "a counter above 0 of eventfd",
+            Awaited::CounterRoom => "room in the counter of eventfd",
+            Awaited::Nothing => "events that never come of",
+        }
+    }
+
+    // What brings it, before the number of a descriptor.
+    fn deed(self) -> &'static str {
+        match self {
+            Awaited::Bytes | Awaited::Counter => "a WRITE at descriptor ",
+            Awaited::Room | Awaited::CounterRoom => "a READ at descriptor ",
+            Awaited::HangUp | Awaited::Error | Awaited::Nothing => "a close of descriptor ",
+        }
+    }
+
+    fn verb(self) -> &'static str {
+        match self {
+            Awaited::Room | Awaited::CounterRoom => "make",
+            _ => "bring",
+        }
+    }
+
+    // Whether it comes through descriptors of an end.
+    fn comes_by(self, end: End) -> bool {
+        match end {
+            End::Whole => matches!(self, Awaited::Counter | Awaited::CounterRoom),
+            End::Read => matches!(self, Awaited::Room | Awaited::Error),
+            End::Write => matches!(self, Awaited::Bytes | Awaited::HangUp),
+        }
+    }
+
+    // The manual page that says so.
+    fn rule(self, entry: &Sqe) -> &'static str {
+        if entry.opcode == Op::PollAdd as u8 {
+            return "(poll(2))";
+        }
+        match self {
+            Awaited::Counter | Awaited::CounterRoom => "(eventfd(2))",
+            _ => "(pipe(7))",
+        }
+    }
+}
+
+fn is_open(run: &Run<'_>, number: u32) -> bool {
+    matches!(
+        run.state.value(Place::OpenMark(number)),
+        Some(Value::Number(1))
+    )
+}
+
+// Through which open descriptors of an object it could come.
+fn bringers(
+    alloc: Global,
+    run: &Run<'_>,
+    object: u32,
+    awaited: Awaited,
+) -> Result<String, AllocError> {
+    let descriptors = run.setup.fds.as_slice();
+    let mut text = String::new(alloc);
+    for index in 0..descriptors.len().min(MOST_DESCRIPTORS) {
+        let descriptor = descriptors[index];
+        let number = FIRST_DESCRIPTOR + index as u32;
+        if descriptor.object == object && awaited.comes_by(descriptor.end) && is_open(run, number) {
+            let before = if text.is_empty() {
+                awaited.deed()
+            } else {
+                " or "
+            };
+            text.push_str(format!(in alloc; "{before}{number}")?.as_str())?;
+        }
+    }
+    if text.is_empty() {
+        text.push_str("no open descriptor")?;
+    }
+    Ok(text)
+}
+
+// At a descriptor of an object.
+fn waits_at(
+    alloc: Global,
+    run: &Run<'_>,
+    entry: &Sqe,
+    descriptor: Descriptor,
+    object: &Object,
+) -> Result<String, AllocError> {
+    let awaited = Awaited::of(entry, descriptor.end, object);
+    let fd = entry.fd;
+    let words = awaited.words();
+    let name = String::from_utf8_lossy(alloc, object.name.as_slice())?;
+    let bringers = bringers(alloc, run, descriptor.object, awaited)?;
+    let verb = awaited.verb();
+    let rule = awaited.rule(entry);
+    format!(in alloc;
+        "It is issued, and waits at descriptor {fd} for {words} {name}, which {bringers} could {verb} {rule}."
+    )
+}
+
+/// Of an issued request that can't end yet.
+pub(super) fn waits(alloc: Global, run: &Run<'_>, row: &Row) -> Result<String, AllocError> {
+    let Some(descriptor) = descriptor_at(run.setup, row.entry.fd) else {
+        return String::from_str(alloc, "It is issued.");
+    };
+    match run.setup.objects.as_slice().get(descriptor.object as usize) {
+        Some(object) => waits_at(alloc, run, &row.entry, descriptor, object),
+        None => String::from_str(alloc, "It is issued."),
+    }
+}
