@@ -3,13 +3,13 @@
 
 mod checking;
 mod document;
+mod fault_sentences;
 mod further;
 mod locating;
 mod ranges;
 mod refusals;
 mod report;
 mod running;
-mod sentences;
 mod verdict;
 mod walk;
 

@@ -1,7 +1,7 @@
 //! Sentences about numbers that are out of their range, and names that aren't there.
 
 use crate::document::{shown, value_at};
-use crate::sentences::{form_of_key, word_of};
+use crate::fault_sentences::{form_of_key, word_of};
 use scenario::{is_name, ring_size};
 use script::{Key, Path};
 use serde_json::Value;

@@ -1,8 +1,8 @@
 //! The lines that tell of a script.
 
+use crate::fault_sentences::{is_unknown, sentence, unknown_key};
 use crate::further::{MOST_FAULTS, faults_of};
 use crate::locating::{Member, key_word, members_of, offset_of, position_of};
-use crate::sentences::{is_unknown, sentence, unknown_key};
 use script::items::{item_path, key_path};
 use script::{Key, Path, ScriptFault};
 use serde_json::{Error, Value};
