@@ -34,7 +34,7 @@ abbrev pub Holds : Bool → List ℕ → Setup → List Event → Type 0
 Holds true bytes s es = IsTrace2 s es bytes
 Holds false bytes s es = Reads bytes (Ok (record { setup = s; schedule = es }))
 
--- the same of the run that bytes hold
+-- whether some finding of the run that bytes hold is a fault of a kind that is asked for
 abbrev pub ExplainsRun : Bool → List ℕ → Option Kind → Bool → Type 0
 ExplainsRun trace bytes asked some = (s : Setup) × (es : List Event) × Holds trace bytes s es × Explains s es asked some
 
@@ -48,13 +48,13 @@ Unexplained s es Write = Unit {0}
 Unexplained s es (Script f) = ⊥
 Unexplained s es (Trace f) = ⊥
 
--- the first fault of bytes that hold none
+-- the first fault of bytes that hold no run
 abbrev pub IsFirstFault : Bool → List ℕ → LogFault → Type 0
 IsFirstFault true bytes (Trace f) = IsFault2 bytes f
 IsFirstFault false bytes (Script f) = Reads bytes (Err f)
 IsFirstFault trace bytes f = ⊥
 
--- the same of the run that bytes hold, or their first fault
+-- why the run that bytes hold isn't explained, or else their first fault
 abbrev pub UnexplainedRun : Bool → List ℕ → LogFault → Type 0
 UnexplainedRun trace bytes (Schedule i n) = (s : Setup) × (es : List Event) × Holds trace bytes s es × IsRefused s es i n
 UnexplainedRun trace bytes Memory = Unit {0}

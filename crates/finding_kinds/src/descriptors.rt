@@ -6,7 +6,7 @@ ghost use Rattle.machine.specs.Steps.{number_in};
 pub const FIRST_DESCRIPTOR: u32 = 3;
 
 /// The number that an entry has as its descriptor, if it is one.
-pub fn number_in(fd: i32) -> Option<u32>
+pub fn descriptor_number(fd: i32) -> Option<u32>
     ensures { result ≡ number_in fd }
 {
     if fd < 0 {

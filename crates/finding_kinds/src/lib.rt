@@ -10,7 +10,7 @@ mod limits;
 mod programs;
 mod values;
 
-pub use descriptors::{FIRST_DESCRIPTOR, number_in};
+pub use descriptors::{FIRST_DESCRIPTOR, descriptor_number};
 pub use finding::{Finding, rank};
 pub use history::{History, Met, Times};
 pub use kind::Kind;

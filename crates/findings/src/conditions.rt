@@ -9,7 +9,7 @@ ghost use Rattle.findings.specs.Uses.{changes_at};
 
 use crate::canceling::{Cancel, cancel_before};
 use crate::uses::{Sought, changes_at, first_pushed, is_of_number, is_of_put};
-use finding_kinds::{Kind, instruction_at, number_in};
+use finding_kinds::{Kind, descriptor_number, instruction_at};
 use machine::{Event, Instruction, Setup, State};
 use opcodes::{EBUSY, EINVAL};
 use places::{Place, Stage, Value};
@@ -198,7 +198,7 @@ pub(crate) fn slot_met(setup: &Setup, state: &State, event: Event, before: Befor
     };
     match instruction_at(setup, event, before.counter) {
         Some(Instruction::Close(fd)) if has_closed(state, thread) => {
-            first_pushed(state, Sought::Naming(number_in(*fd)?))
+            first_pushed(state, Sought::Naming(descriptor_number(*fd)?))
         }
         _ => None,
     }

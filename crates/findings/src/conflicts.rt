@@ -10,7 +10,7 @@ use crate::files::{is_same_descriptor, is_same_file};
 use crate::leftover::row_at;
 use crate::transition::Transition;
 use entries::{Phase, Row, Sqe};
-use finding_kinds::{Kind, MOST_ROWS, number_in};
+use finding_kinds::{Kind, MOST_ROWS, descriptor_number};
 use links_drains::{is_guard, is_issued, is_unfinished};
 use machine::{Setup, State};
 use opcodes::Op;
@@ -90,7 +90,7 @@ fn number_or_zero(value: Option<Value>) -> u64
 fn position_at(state: &State, entry: &Sqe) -> u64
     ensures { result ≡ position_at state.now entry.now }
 {
-    match number_in(entry.fd) {
+    match descriptor_number(entry.fd) {
         Some(fd) => number_or_zero(state.value(Place::Position(fd))),
         None => 0,
     }

@@ -4,7 +4,7 @@ ghost use Rattle.machine.specs.Steps.{number_in};
 ghost use Rattle.findings.specs.Conflicts.{file_number, file_behind, file_numbered, file_of, are_one, is_same_file};
 
 use entries::Sqe;
-use finding_kinds::{FIRST_DESCRIPTOR, number_in};
+use finding_kinds::{FIRST_DESCRIPTOR, descriptor_number};
 use machine::Setup;
 use places::{Contents, Descriptor};
 
@@ -43,7 +43,7 @@ fn file_numbered(setup: &Setup, fd: u32) -> Option<u32>
 pub(crate) fn file_of(setup: &Setup, fd: i32) -> Option<u32>
     ensures { result ≡ file_of setup.now fd }
 {
-    match number_in(fd) {
+    match descriptor_number(fd) {
         Some(number) => file_numbered(setup, number),
         None => None,
     }
@@ -62,7 +62,7 @@ fn are_one(first: Option<u32>, second: Option<u32>) -> bool
 pub(crate) fn is_same_descriptor(first: &Sqe, second: &Sqe) -> bool
     ensures { result ≡ are_one (number_in first.now.fd) (number_in second.now.fd) }
 {
-    are_one(number_in(first.fd), number_in(second.fd))
+    are_one(descriptor_number(first.fd), descriptor_number(second.fd))
 }
 
 /// Whether two entries name the same file, by whatever descriptors.

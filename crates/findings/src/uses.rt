@@ -8,7 +8,7 @@ ghost use Rattle.findings.specs.Uses.{changes_slot, changes_at, names_descriptor
 
 use crate::leftover::row_at;
 use entries::{Phase, Row, Sqe};
-use finding_kinds::{Kind, number_in};
+use finding_kinds::{Kind, descriptor_number};
 use links_drains::is_issued;
 use machine::{Instruction, State};
 use opcodes::uses_descriptor;
@@ -62,7 +62,7 @@ fn is_number(number: Option<u32>, fd: u32) -> bool
 fn names_descriptor(fd: u32, entry: &Sqe) -> bool
     ensures { result ≡ names_descriptor fd entry.now }
 {
-    uses_descriptor(entry.opcode) && is_number(number_in(entry.fd), fd)
+    uses_descriptor(entry.opcode) && is_number(descriptor_number(entry.fd), fd)
 }
 
 // ---- looking for one
@@ -180,7 +180,7 @@ fn is_of_closed(kind: Kind, state: &State, fd: u32) -> bool
 pub(crate) fn is_of_number(kind: Kind, state: &State, fd: i32) -> bool
     ensures { result ≡ is_of_number kind state.now fd }
 {
-    match number_in(fd) {
+    match descriptor_number(fd) {
         Some(number) => is_of_closed(kind, state, number),
         None => false,
     }

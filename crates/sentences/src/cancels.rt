@@ -4,14 +4,15 @@ use crate::about::About;
 use crate::names::{ResultName, RowName};
 use crate::run::Run;
 use entries::{Row, Sqe};
+use finding_kinds::MOST_ROWS;
 use opcodes::{Op, uses_descriptor};
 use std::alloc::{AllocError, Global};
 
 const CANCEL_RULE: &str = "(io_uring_enter(2), IORING_OP_ASYNC_CANCEL)";
 
-const POLL_RULE: &str = "(io_uring_enter(2), IORING_OP_POLL_REMOVE)";
+const POLL_REMOVE_RULE: &str = "(io_uring_enter(2), IORING_OP_POLL_REMOVE)";
 
-const TIMEOUT_RULE: &str = "(io_uring_enter(2), IORING_OP_TIMEOUT_REMOVE)";
+const TIMEOUT_REMOVE_RULE: &str = "(io_uring_enter(2), IORING_OP_TIMEOUT_REMOVE)";
 
 /// IORING_ASYNC_CANCEL_FD.
 const BY_DESCRIPTOR: u32 = 2;
@@ -23,10 +24,10 @@ fn is_by_descriptor(entry: &Sqe) -> bool {
 /// The rule of a cancel or a removal.
 pub(super) fn rule_of(entry: &Sqe) -> &'static str {
     if entry.opcode == Op::PollRemove as u8 {
-        return POLL_RULE;
+        return POLL_REMOVE_RULE;
     }
     if entry.opcode == Op::TimeoutRemove as u8 {
-        return TIMEOUT_RULE;
+        return TIMEOUT_REMOVE_RULE;
     }
     CANCEL_RULE
 }
@@ -103,7 +104,7 @@ fn nearness(run: &Run<'_>, about: &About, number: u32, row: &Row) -> u8 {
 // The nearest of them. Of several it is the last one; of another opcode, the first.
 fn nearest_candidate(run: &Run<'_>, about: &About) -> Option<u32> {
     let (mut nearest, mut most) = (None, 0);
-    for number in 0..run.history.rows.len().min(65536) as u32 {
+    for number in 0..run.history.rows.len().min(MOST_ROWS as usize) as u32 {
         if let Some(row) = run.row(number) {
             let near = nearness(run, about, number, &row);
             if near > most || (near == most && near > 1) {
@@ -158,7 +159,7 @@ fn reason_by_user_data(alloc: Global, run: &Run<'_>, about: &About) -> Result<St
 
 // The first queued row that names the descriptor of which a cancel found no request.
 fn queued_user(run: &Run<'_>, about: &About) -> Option<u32> {
-    for number in 0..run.history.rows.len().min(65536) as u32 {
+    for number in 0..run.history.rows.len().min(MOST_ROWS as usize) as u32 {
         if let Some(row) = run.row(number) {
             if number != about.number
                 && names_descriptor(&about.row.entry, &row)
@@ -209,7 +210,7 @@ pub(crate) fn not_found(alloc: Global, run: &Run<'_>, about: &About) -> Result<S
 
 /// The first row from a number on that a cancel found as it ended, by its user_data or descriptor.
 pub(super) fn next_found(run: &Run<'_>, about: &About, from: u32) -> Option<u32> {
-    for number in from..run.history.rows.len().min(65536) as u32 {
+    for number in from..run.history.rows.len().min(MOST_ROWS as usize) as u32 {
         if let Some(row) = run.row(number) {
             if is_found(run, about, number, &row) {
                 return Some(number);

@@ -4,6 +4,7 @@ use crate::about::About;
 use crate::cancels::rule_of;
 use crate::listing::Listing;
 use crate::names::ResultName;
+use crate::rules::{ERROR_RULE, LINK_RULE, LINK_TIMEOUT_RULE};
 use crate::run::Run;
 use entries::Row;
 use links_drains::is_guard;
@@ -12,20 +13,14 @@ use std::alloc::{AllocError, Global};
 
 const HARD_RULE: &str = "(io_uring_enter(2), IOSQE_IO_HARDLINK)";
 
-const RULE: &str = "(io_uring_enter(2), IOSQE_IO_LINK)";
-
 /// IOSQE_IO_HARDLINK.
 const IO_HARDLINK: u8 = 8;
-
-const GUARD_RULE: &str = "(io_uring_enter(2), IORING_OP_LINK_TIMEOUT)";
-
-const ERROR_RULE: &str = "(io_uring_enter(2), CQE ERRORS)";
 
 // The rule of a row's link.
 fn rule_of_link(row: Option<Row>) -> &'static str {
     match row {
         Some(row) if row.entry.flags & IO_HARDLINK != 0 => HARD_RULE,
-        _ => RULE,
+        _ => LINK_RULE,
     }
 }
 
@@ -52,11 +47,11 @@ pub(crate) fn severed(alloc: Global, run: &Run<'_>, about: &About) -> Result<Str
     let rows = cut_rows(alloc, run, about)?;
     if rows.is_empty() {
         return format!(in alloc;
-            "Row {name} ended with {told}, which breaks its soft link; no later row of its chain was left to end with it {RULE}."
+            "Row {name} ended with {told}, which breaks its soft link; no later row of its chain was left to end with it {LINK_RULE}."
         );
     }
     format!(in alloc;
-        "Row {name} ended with {told}, which breaks its soft link. With it ended, with -125 (ECANCELED): {rows} {RULE}."
+        "Row {name} ended with {told}, which breaks its soft link. With it ended, with -125 (ECANCELED): {rows} {LINK_RULE}."
     )
 }
 
@@ -133,10 +128,10 @@ fn deed_of(cause: Cause) -> &'static str {
 // The rule that it did it by, to a row.
 fn rule_of_cause(run: &Run<'_>, cause: Cause, number: u32) -> &'static str {
     match cause {
-        Cause::Chain(_) => RULE,
+        Cause::Chain(_) => LINK_RULE,
         Cause::Failure(by) if by < number => rule_of_link(run.row(number.saturating_sub(1))),
         Cause::Failure(_) => rule_of_link(run.row(number)),
-        Cause::Target(_) | Cause::Guard(_) => GUARD_RULE,
+        Cause::Target(_) | Cause::Guard(_) => LINK_TIMEOUT_RULE,
         Cause::Cancel(by) => match run.row(by) {
             Some(row) => rule_of(&row.entry),
             None => ERROR_RULE,

@@ -3,14 +3,13 @@
 use crate::about::About;
 use crate::names::ResultName;
 use crate::objects::{reason_of_descriptor, reason_of_object};
+use crate::rules::ERROR_RULE;
 use crate::run::Run;
 use crate::submitting::reason_of_entry;
 use entries::Sqe;
 use machine::Event;
 use opcodes::{Choice, Op};
 use std::alloc::{AllocError, Global};
-
-const RULE: &str = "(io_uring_enter(2), CQE ERRORS)";
 
 /// EBADF, EFAULT, EINVAL, EFBIG and EPIPE, negated.
 const BAD_DESCRIPTOR: i32 = -9;
@@ -76,7 +75,7 @@ pub(crate) fn failed(alloc: Global, run: &Run<'_>, about: &About) -> Result<Stri
     let told = ResultName(res);
     let stage = stage(run, about.moment);
     let reason = reason(alloc, run, about, res)?;
-    format!(in alloc; "Row {name} ended with {told}{stage}: {reason} {RULE}.")
+    format!(in alloc; "Row {name} ended with {told}{stage}: {reason} {ERROR_RULE}.")
 }
 
 /// Why a transfer moved fewer bytes than it asked for.

@@ -1,7 +1,7 @@
 //! Sentences about requests that haven't ended at the end.
 
 use crate::names::RowName;
-use crate::rules::{LINK_TIMEOUT_RULE, TIMEOUT_RULE};
+use crate::rules::{LINK_RULE, LINK_TIMEOUT_RULE, TIMEOUT_RULE};
 use crate::run::Run;
 use crate::waiting::waits;
 use entries::{Phase, Row};
@@ -11,8 +11,6 @@ use machine::{Event, Refusal, Setup, State};
 use opcodes::{Choice, is_timer};
 use places::Place;
 use std::alloc::{AllocError, Global};
-
-const LINK_RULE: &str = "(io_uring_enter(2), IOSQE_IO_LINK)";
 
 const DRAIN_RULE: &str = "(io_uring_enter(2), IOSQE_IO_DRAIN)";
 

@@ -1,4 +1,4 @@
-//! Findings of a run, told in sentences.
+//! Findings of a run, told in sentences; why a request hasn't ended; the names of rows.
 #![tactic(auto)]
 
 mod about;

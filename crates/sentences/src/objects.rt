@@ -2,7 +2,7 @@
 
 use crate::run::Run;
 use entries::Sqe;
-use finding_kinds::{FIRST_DESCRIPTOR, number_in};
+use finding_kinds::{FIRST_DESCRIPTOR, descriptor_number};
 use machine::Setup;
 use opcodes::{Op, fits_end};
 use places::{Contents, Descriptor, End};
@@ -13,7 +13,7 @@ const EVENT_BYTES: u32 = 8;
 
 /// A descriptor of the setup by its number.
 pub(super) fn descriptor_at(setup: &Setup, fd: i32) -> Option<Descriptor> {
-    let index = number_in(fd)?.checked_sub(FIRST_DESCRIPTOR)?;
+    let index = descriptor_number(fd)?.checked_sub(FIRST_DESCRIPTOR)?;
     setup.fds.as_slice().get(index as usize).copied()
 }
 

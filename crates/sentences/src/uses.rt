@@ -3,6 +3,7 @@
 use crate::listing::Listing;
 use crate::run::Run;
 use entries::Row;
+use finding_kinds::MOST_ROWS;
 use machine::Instruction;
 use opcodes::uses_descriptor;
 use std::alloc::{AllocError, Global};
@@ -74,7 +75,7 @@ fn users(
     stood: Standing,
 ) -> Result<String, AllocError> {
     let mut rows = Listing::new(alloc);
-    for number in 0..run.history.rows.len().min(65536) as u32 {
+    for number in 0..run.history.rows.len().min(MOST_ROWS as usize) as u32 {
         if let Some(row) = run.row(number) {
             if is_user(run, number, &row, fd, moment, stood) {
                 rows.add(alloc, run, number)?;
