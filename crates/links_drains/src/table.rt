@@ -333,8 +333,9 @@ impl Table {
     }
 }
 
-/// The same rows. In pieces they take as long as in one, and a tenth of the instructions that are
-/// counted: glibc moves more than 2,048 bytes by an instruction that counts once for each byte.
+/// The same rows, copied in pieces. callgrind counts `rep movsb` as an instruction a byte, and glibc
+/// copies by it from a length on that goes by the processor, 2,048 bytes at least. Pieces stay below
+/// it: they change what is counted, and not the time.
 fn copy_rows(alloc: Global, rows: &[Row]) -> Result<Vec<Row>, AllocError>
     ensures { IfOk result (λ copy. copy.items ≡ rows.now) }
 {
