@@ -1,3 +1,4 @@
+pub mod Chains
 pub mod Kinds
 pub mod Programs
 pub mod Values

@@ -2,6 +2,7 @@
 //! those who tell them both look at.
 #![tactic(auto)]
 
+mod chains;
 mod descriptors;
 mod finding;
 mod history;
@@ -10,6 +11,7 @@ mod limits;
 mod programs;
 mod values;
 
+pub use chains::distance_to_next;
 pub use descriptors::{FIRST_DESCRIPTOR, descriptor_number};
 pub use finding::{Finding, rank};
 pub use history::{History, Met, Times};

@@ -11,6 +11,7 @@ use Rattle.links_drains.specs.Numbered.{any_numbered}
 use Rattle.links_drains.specs.Phases.{is_ended, is_issued}
 use Rattle.links_drains.specs.Units.{is_open}
 use Rattle.timeouts_cancel.specs.Falls.{is_bad, is_negative, is_transfer}
+use Rattle.finding_kinds.specs.Chains.{distance_to_next}
 use Rattle.finding_kinds.specs.declared.kind.Kind.{Kind}
 use Rattle.finding_kinds.specs.declared.kind.Kind.TheVariants.{Failed, Short, Severed, Canceled, TimedOut, Expired, NotFound, TooLate, WentOn, CutOff, NoEffect, SameUserData}
 
@@ -55,7 +56,7 @@ is_told_apart row res =
 
 -- the row behind that of a number, but for the guard of that one
 abbrev pub next_in : List Row → ℕ → Option Row
-next_in rows r = if option_map_or is_guard (slice_get rows (r + 1)) false then slice_get rows (r + 2) else slice_get rows (r + 1)
+next_in rows r = slice_get rows (r + distance_to_next rows r)
 
 -- whether another row that is no guard is the next in its chain
 abbrev pub has_next : Row → Option Row → Bool

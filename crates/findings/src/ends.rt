@@ -8,7 +8,7 @@ ghost use Rattle.findings.specs.Endings.{had_ended, was_issued, ending_of, is_er
 use crate::leftover::row_at;
 use crate::twins::has_twin;
 use entries::{Phase, Row, Sqe};
-use finding_kinds::Kind;
+use finding_kinds::{Kind, distance_to_next};
 use links_drains::{is_guard, is_soft_linked};
 use machine::State;
 use opcodes::{EALREADY, ECANCELED, ENOENT, ETIME, Op, is_cancel, is_timer};
@@ -133,10 +133,7 @@ fn row_behind(state: &State, number: u32, count: u32) -> Option<Row>
 fn next_in(state: &State, number: u32) -> Option<Row>
     ensures { result ≡ next_in state.now.table number }
 {
-    match row_behind(state, number, 1) {
-        Some(row) if is_guard(&row) => row_behind(state, number, 2),
-        next => next,
-    }
+    row_behind(state, number, distance_to_next(state, number))
 }
 
 // Whether another row that is no guard is the next in a row's chain.

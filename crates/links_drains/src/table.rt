@@ -333,9 +333,9 @@ impl Table {
     }
 }
 
-/// The same rows, copied in pieces. callgrind counts `rep movsb` as an instruction a byte, and glibc
-/// copies by it from a length on that goes by the processor, 2,048 bytes at least. Pieces stay below
-/// it: they change what is counted, and not the time.
+/// The same rows, copied in pieces. callgrind counts `rep movsb` as an instruction a byte, by which
+/// glibc copies from a length on that goes by the processor, 2,048 bytes at least. Pieces stay
+/// below it: they change what is counted, and not the time.
 fn copy_rows(alloc: Global, rows: &[Row]) -> Result<Vec<Row>, AllocError>
     ensures { IfOk result (λ copy. copy.items ≡ rows.now) }
 {

@@ -1,7 +1,7 @@
 //! Sentences about cancels and removals that ended nothing.
 
 use crate::about::About;
-use crate::names::{ResultName, RowName};
+use crate::names::{OpcodeName, ResultName, RowName};
 use crate::run::Run;
 use entries::{Row, Sqe};
 use finding_kinds::MOST_ROWS;
@@ -46,23 +46,12 @@ fn fits_opcode(entry: &Sqe, row: &Row) -> bool {
 // What it finds of rows with the user_data.
 fn what_it_finds(entry: &Sqe) -> &'static str {
     if entry.opcode == Op::PollRemove as u8 {
-        return "a POLL_REMOVE finds POLL_ADDs alone";
+        return "POLL_REMOVE finds POLL_ADDs alone";
     }
     if entry.opcode == Op::TimeoutRemove as u8 {
-        return "a TIMEOUT_REMOVE finds TIMEOUTs alone";
+        return "TIMEOUT_REMOVE finds TIMEOUTs alone";
     }
-    "an ASYNC_CANCEL finds no LINK_TIMEOUT"
-}
-
-// What it finds of those by how far they are.
-fn what_it_finds_issued(entry: &Sqe) -> &'static str {
-    if entry.opcode == Op::PollRemove as u8 {
-        return "a POLL_REMOVE finds issued requests alone";
-    }
-    if entry.opcode == Op::TimeoutRemove as u8 {
-        return "a TIMEOUT_REMOVE finds issued requests alone";
-    }
-    "a cancel finds issued requests alone"
+    "ASYNC_CANCEL finds no LINK_TIMEOUT"
 }
 
 // Whether a row uses the descriptor that an entry names.
@@ -137,8 +126,10 @@ fn reason_of(
             format!(in alloc; "row {name} had ended by event {moment}")
         }
         _ => {
-            let finds = what_it_finds_issued(&about.row.entry);
-            format!(in alloc; "row {name} was queued still, and {finds}")
+            let operation = OpcodeName(about.row.entry.opcode);
+            format!(in alloc;
+                "row {name} was queued still, and {operation} finds issued requests alone"
+            )
         }
     }
 }
@@ -180,7 +171,7 @@ fn reason_by_descriptor(alloc: Global, run: &Run<'_>, about: &About) -> Result<S
     };
     match queued {
         Some(name) => format!(in alloc;
-            "no issued request held descriptor {fd}; row {name} names it, but was queued still, and a cancel finds issued requests alone"
+            "no issued request held descriptor {fd}; row {name} names it, but was queued still, and ASYNC_CANCEL finds issued requests alone"
         ),
         None => format!(in alloc; "no issued request held descriptor {fd}"),
     }

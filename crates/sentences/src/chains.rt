@@ -7,7 +7,7 @@ use crate::names::ResultName;
 use crate::rules::{ERROR_RULE, LINK_RULE, LINK_TIMEOUT_RULE};
 use crate::run::Run;
 use entries::Row;
-use links_drains::is_guard;
+use finding_kinds::distance_to_next;
 use machine::Event;
 use std::alloc::{AllocError, Global};
 
@@ -158,20 +158,12 @@ pub(crate) fn canceled(alloc: Global, run: &Run<'_>, about: &About) -> Result<St
     }
 }
 
-// The number behind a row's, but for its guard.
-fn next_in(run: &Run<'_>, number: u32) -> u32 {
-    let next = number.saturating_add(1);
-    match run.row(next) {
-        Some(row) if is_guard(&row) => next.saturating_add(1),
-        _ => next,
-    }
-}
-
 /// A hard link that held behind a bad end.
 pub(crate) fn went_on(alloc: Global, run: &Run<'_>, about: &About) -> Result<String, AllocError> {
     let name = about.name();
     let told = ResultName(about.result(run));
-    match run.name(next_in(run, about.number)) {
+    let distance = distance_to_next(run.state, about.number);
+    match run.name(about.number.saturating_add(distance)) {
         Some(next) => format!(in alloc;
             "Row {name} ended with {told}, and its chain goes on with row {next}: its link is a hard one {HARD_RULE}."
         ),

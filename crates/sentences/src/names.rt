@@ -6,7 +6,7 @@ use std::fmt;
 
 /// The name of an opcode (io_uring_enter(2)).
 #[derive(Clone, Copy)]
-struct OpcodeName(u8);
+pub(crate) struct OpcodeName(pub u8);
 
 fn opcode_word(op: Op) -> &'static str {
     match op {

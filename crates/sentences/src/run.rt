@@ -20,10 +20,7 @@ pub struct Run<'a> {
 impl Run<'_> {
     /// A row as it is at the end, if it is there.
     pub(crate) fn row(&self, number: u32) -> Option<Row> {
-        match self.state.value(Place::Request(number)) {
-            Some(Value::Requested(row)) => Some(row),
-            _ => None,
-        }
+        self.state.row(number)
     }
 
     /// A ring word, a counter or a flag word at the end, or 0.
