@@ -59,4 +59,5 @@ abbrev pub UnexplainedRun : Bool → List ℕ → LogFault → Type 0
 UnexplainedRun trace bytes (Schedule i n) = (s : Setup) × (es : List Event) × Holds trace bytes s es × IsRefused s es i n
 UnexplainedRun trace bytes Memory = Unit {0}
 UnexplainedRun trace bytes Write = Unit {0}
-UnexplainedRun trace bytes f = IsFirstFault trace bytes f
+UnexplainedRun trace bytes (Script f) = IsFirstFault trace bytes (Script f)
+UnexplainedRun trace bytes (Trace f) = IsFirstFault trace bytes (Trace f)
