@@ -11,7 +11,7 @@ use places::Record;
 use std::alloc::{AllocError, Global};
 
 /// What a run came to.
-#[derive(Debug, Drop)]
+#[derive(Drop)]
 pub struct Course {
     /// How full it was at each moment, from moment 0 on.
     pub fillings: Vec<Filling>,

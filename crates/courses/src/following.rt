@@ -18,7 +18,7 @@ use places::{Place, Value};
 use std::alloc::{AllocError, Global};
 
 /// A run that was followed to its end.
-#[derive(Debug, Drop)]
+#[derive(Drop)]
 pub struct Followed {
     pub course: Course,
     /// Its rows, as they stand at its end.
@@ -29,7 +29,7 @@ pub struct Followed {
 
 /// Why a run isn't followed to its end: the event at this index is refused, and why; want of memory
 /// among the reasons.
-#[derive(Clone, Copy, Debug, PartialEq, Eq)]
+#[derive(Clone, Copy, PartialEq, Eq)]
 pub struct Stop {
     pub index: u32,
     pub refusal: Refusal,

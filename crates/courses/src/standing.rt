@@ -8,7 +8,7 @@ use std::alloc::{AllocError, Global};
 const MOST_THREADS: u32 = 16;
 
 /// What each thread does next, and whether the poller is awake, if there is one.
-#[derive(Debug, Drop)]
+#[derive(Drop)]
 pub struct Standing {
     pub stages: Vec<Stage>,
     pub awake: Option<bool>,

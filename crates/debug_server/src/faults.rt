@@ -37,7 +37,7 @@ pub enum RunFault {
 }
 
 /// A path as it is printed: its key, and its indexes, each after a space.
-#[derive(Clone, Copy, Debug)]
+#[derive(Clone, Copy)]
 pub struct PathText(pub Path);
 
 impl fmt::Display for PathText {
@@ -105,7 +105,7 @@ impl fmt::Display for IndexText {
 }
 
 /// What the program prints as it fails.
-#[derive(Debug, Drop, Error)]
+#[derive(Drop, Error)]
 pub enum Fault {
     /// A file couldn't be read or written.
     File,
@@ -133,6 +133,12 @@ impl From<LiveFault> for Fault {
 
     fn from(fault: LiveFault) -> Fault {
         Fault::Live(fault)
+    }
+}
+
+impl fmt::Debug for Fault {
+    fn fmt<W: fmt::Write>(&self, f: &mut fmt::Formatter<W>) -> fmt::Result {
+        write!(f, "{self}")
     }
 }
 

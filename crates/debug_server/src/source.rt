@@ -21,7 +21,7 @@ pub trait Source {
 }
 
 /// No live run.
-#[derive(Clone, Copy, Debug)]
+#[derive(Clone, Copy)]
 pub struct NoSource;
 
 impl Source for NoSource {

@@ -23,7 +23,7 @@ use std::alloc::{AllocError, Global};
 use traces::{TraceFault, read_trace, write_trace, write_trace2};
 
 /// A trace that was made.
-#[derive(Debug, Drop)]
+#[derive(Drop)]
 pub struct Traced {
     /// How many events it has.
     pub events: u32,

@@ -4,7 +4,7 @@ ghost use Rattle.std.specs.Prelude.{◌≡◌, ◌↔◌, IsTrue};
 use crate::fields::{i32_at, put_i32, put_u32, put_u64, u32_at, u64_at};
 
 /// One completion.
-#[derive(Clone, Copy, Debug, PartialEq, Eq)]
+#[derive(Clone, Copy, PartialEq, Eq)]
 pub struct Cqe {
     pub user_data: u64,
     /// What the request came to: a count or a mask, or a negated error number.

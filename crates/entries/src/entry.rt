@@ -4,7 +4,7 @@ ghost use Rattle.std.specs.Prelude.{◌≡◌, ◌↔◌, IsTrue};
 use crate::fields::{i32_at, put_i32, put_u8, put_u16, put_u32, put_u64, u16_at, u32_at, u64_at};
 
 /// One entry of the submission ring.
-#[derive(Clone, Copy, Debug, PartialEq, Eq)]
+#[derive(Clone, Copy, PartialEq, Eq)]
 pub struct Sqe {
     pub opcode: u8,
     pub flags: u8,

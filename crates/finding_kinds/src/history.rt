@@ -3,7 +3,7 @@
 use std::alloc::Global;
 
 /// The moments before the events by which a row came, was issued and ended.
-#[derive(Clone, Copy, Debug)]
+#[derive(Clone, Copy)]
 pub struct Times {
     pub came: u32,
     pub issued: Option<u32>,
@@ -36,7 +36,7 @@ impl Times {
 
 /// A slot whose entry, pushed and not yet taken, names a descriptor that the event at a moment
 /// closed.
-#[derive(Clone, Copy, Debug)]
+#[derive(Clone, Copy)]
 pub struct Met {
     pub moment: u32,
     pub slot: u32,

@@ -13,7 +13,7 @@ use machine::{Event, Instruction, Setup, State};
 use opcodes::Op;
 
 /// What an event does.
-#[derive(Clone, Copy, Debug)]
+#[derive(Clone, Copy)]
 pub enum Deed {
     Nothing,
     /// It writes bytes of memory: the first address, and how many.

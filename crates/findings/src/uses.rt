@@ -21,7 +21,7 @@ use ring_words::SubRing;
 const LOOKED_AT: u32 = 64;
 
 /// What is looked for among the words that wait in the submission ring.
-#[derive(Clone, Copy, Debug)]
+#[derive(Clone, Copy)]
 pub enum Sought {
     /// The word of this slot.
     Named(u32),

@@ -10,7 +10,7 @@ use machine::{Setup, State};
 use std::alloc::{AllocError, Global};
 
 /// A condition, and the moment from which on it holds, if it does.
-#[derive(Clone, Copy, Debug)]
+#[derive(Clone, Copy)]
 pub struct Watch {
     pub kind: Kind,
     /// The thread that it is about, or 0.

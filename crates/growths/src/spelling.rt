@@ -1,16 +1,17 @@
 //! Calls that read scripts and traces, and write traces.
 
-use crate::comparing::Compared;
+use crate::comparing::{Compared, compare_made};
 use crate::fault::Fault;
 use crate::plan::Call;
 use crate::situation::{Answer, Given, Situation};
+use crate::stepping::run_first;
 use debug_server::{Form, Traced, trace_script};
-use machine::{Event, Setup};
+use machine::{Event, Setup, State};
 use script::{Script, migrate, read_script, read_trace, read_trace2, write_trace, write_trace2};
 use std::alloc::{AllocError, Global};
 
 /// What a call found or made.
-#[derive(Debug, Drop)]
+#[derive(Drop)]
 pub enum Found {
     Nothing,
     Scenario(Script),
@@ -61,7 +62,7 @@ impl Situation for Spelling {
 
     fn compare(&mut self, other: &mut Spelling) -> Compared {
         let mut compared = Compared::default();
-        compared.count(is_same(self.alloc, &self.found, &other.found));
+        compare_found(&mut compared, self.alloc, &self.found, &other.found);
         compared
     }
 }
@@ -83,16 +84,43 @@ fn spelling_over(given: &Given<'_>, script: Script) -> Result<Spelling, Fault> {
     })
 }
 
-// Whether two things that were found are told alike.
-fn is_same(alloc: Global, one: &Found, other: &Found) -> bool {
-    match (told(alloc, one), told(alloc, other)) {
-        (Ok(one), Ok(other)) => one.as_str() == other.as_str(),
-        _ => false,
+// Compares two things that were found; of a setup and its events, what they come to.
+fn compare_found(compared: &mut Compared, alloc: Global, one: &Found, other: &Found) {
+    match (one, other) {
+        (Found::Nothing, Found::Nothing) => compared.count(true),
+        (Found::Scenario(one), Found::Scenario(other)) => {
+            let (setup, others) = (one.setup(), other.setup());
+            compare_runs(compared, alloc, (setup, one.schedule()), (others, other.schedule()));
+        }
+        (Found::Run(one, events), Found::Run(other, others)) => {
+            compare_runs(compared, alloc, (one, events), (other, others));
+        }
+        (Found::Events(one), Found::Events(other)) => {
+            compared.count(one.as_slice() == other.as_slice());
+        }
+        (Found::Bytes(one), Found::Bytes(other)) => {
+            compared.count(one.as_slice() == other.as_slice());
+        }
+        _ => compared.count(false),
     }
 }
 
-fn told(alloc: Global, found: &Found) -> Result<String, AllocError> {
-    format!(in alloc; "{found:?}")
+fn compare_runs(
+    compared: &mut Compared,
+    alloc: Global,
+    (setup, events): (&Setup, &[Event]),
+    (other, others): (&Setup, &[Event]),
+) {
+    compared.count(events == others);
+    let (one, two) = (end_of(alloc, setup, events), end_of(alloc, other, others));
+    compare_made(compared, setup, &one, &two);
+}
+
+// The state behind events from a setup's start, if they run.
+fn end_of(alloc: Global, setup: &Setup, events: &[Event]) -> Option<State> {
+    let mut state = State::new(alloc, setup).ok()?;
+    run_first(&mut state, events, events.len()).ok()?;
+    Some(state)
 }
 
 impl Spelling {

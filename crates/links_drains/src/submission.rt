@@ -17,7 +17,7 @@ use places::Recorder;
 use std::alloc::AllocError;
 
 /// What became of a batch of entries.
-#[derive(Debug, Drop)]
+#[derive(Drop)]
 pub struct Batch {
     /// How many became rows.
     pub taken: u32,

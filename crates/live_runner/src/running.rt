@@ -23,7 +23,7 @@ use std::thread::{Promise, PromisedHandle, Scope, Threads};
 use std::time::Clock;
 
 /// Why a live run was not closed.
-#[derive(Debug, Drop)]
+#[derive(Drop)]
 pub enum LiveFault {
     /// There is no start, or no memory, or no thread.
     Setup(SetupRefusal),

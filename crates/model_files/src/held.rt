@@ -3,7 +3,7 @@ ghost use Rattle.std.specs.Prelude.{◌≡◌, ℕ, ◌+◌, ◌-◌, ◌<◌, �
 ghost use Rattle.model_files.specs.Holders.{counted, holders, is_descriptor_number, is_held};
 
 /// How many requests hold each of the 64 descriptors, numbered from 3.
-#[derive(Clone, Copy, Debug)]
+#[derive(Clone, Copy)]
 pub struct Held {
     counts: [u32; 64],
 }

@@ -1,7 +1,7 @@
 //! What a kernel can choose as a request ends.
 
 /// How much of its work a request does as it ends.
-#[derive(Clone, Copy, Debug, PartialEq, Eq)]
+#[derive(Clone, Copy, PartialEq, Eq)]
 pub enum Choice {
     /// All that it can do.
     Full,

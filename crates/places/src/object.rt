@@ -3,7 +3,7 @@
 use crate::items::Items;
 
 /// What an object is at the start.
-#[derive(Debug, Drop)]
+#[derive(Drop)]
 pub enum Contents {
     /// A regular file with these bytes, at most 65,536.
     File(Items<u8>),
@@ -14,14 +14,14 @@ pub enum Contents {
 }
 
 /// An object, and its name: 1 to 16 bytes of a to z, 0 to 9 and the underscore.
-#[derive(Debug, Drop)]
+#[derive(Drop)]
 pub struct Object {
     pub name: Items<u8>,
     pub contents: Contents,
 }
 
 /// Which side of its object a descriptor is.
-#[derive(Clone, Copy, Debug, PartialEq, Eq)]
+#[derive(Clone, Copy, PartialEq, Eq)]
 pub enum End {
     /// All of it: of a file or an eventfd.
     Whole,
@@ -32,7 +32,7 @@ pub enum End {
 }
 
 /// A descriptor, open at the start. They are numbered from 3 in the setup's order.
-#[derive(Clone, Copy, Debug, PartialEq, Eq)]
+#[derive(Clone, Copy, PartialEq, Eq)]
 pub struct Descriptor {
     /// The object's number in the setup, from 0.
     pub object: u32,

@@ -4,7 +4,7 @@ ghost use Rattle.places.specs.Places.{kind_of, index_of, second_of, same_place, 
 
 /// A place of a state. Objects and threads are numbered from 0 in the setup's order, descriptors by
 /// their own numbers.
-#[derive(Clone, Copy, Debug)]
+#[derive(Clone, Copy)]
 pub enum Place {
     SubmissionHead,
     SubmissionTail,

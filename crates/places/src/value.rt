@@ -5,7 +5,7 @@ use crate::place::Place;
 use entries::{Cqe, Row, Sqe};
 
 /// What a thread does next.
-#[derive(Clone, Copy, Debug, PartialEq, Eq)]
+#[derive(Clone, Copy, PartialEq, Eq)]
 pub enum Stage {
     Ready,
     /// It waits in an Enter: what the Enter submitted, and how many completions it waits for.
@@ -13,7 +13,7 @@ pub enum Stage {
 }
 
 /// What stands in a place.
-#[derive(Clone, Copy, Debug)]
+#[derive(Clone, Copy)]
 pub enum Value {
     Number(u64),
     Signed(i64),
@@ -27,7 +27,7 @@ pub enum Value {
 }
 
 /// A place, and what stood there.
-#[derive(Clone, Copy, Debug)]
+#[derive(Clone, Copy)]
 pub struct Change {
     pub place: Place,
     pub old: Option<Value>,

@@ -12,7 +12,7 @@ use std::alloc::{AllocError, Global};
 const INDEXES: u128 = 4294967296;
 
 /// A place that a step changed: what stood there before it, and what stands there behind it.
-#[derive(Clone, Copy, Debug)]
+#[derive(Clone, Copy)]
 pub struct Changed {
     pub place: Place,
     pub old: Option<Value>,

@@ -3,7 +3,7 @@ ghost use Rattle.std.specs.Prelude.{◌≡◌};
 ghost use Rattle.run_log.specs.Ranges.{has, is_below};
 
 /// The events from a number on, and below another if there is one, counted from 0.
-#[derive(Clone, Copy, Debug, PartialEq, Eq)]
+#[derive(Clone, Copy, PartialEq, Eq)]
 pub struct EventRange {
     pub from: u32,
     pub to: Option<u32>,

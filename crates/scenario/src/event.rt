@@ -3,7 +3,7 @@
 use opcodes::Choice;
 
 /// One atomic step.
-#[derive(Clone, Copy, Debug, PartialEq, Eq)]
+#[derive(Clone, Copy, PartialEq, Eq)]
 pub enum Event {
     /// A thread does its next instruction.
     Step(u32),

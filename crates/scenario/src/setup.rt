@@ -7,7 +7,7 @@ use places::{Contents, Descriptor, Items, Object};
 use std::alloc::{AllocError, Global};
 
 /// What a thread does in one step.
-#[derive(Debug, Drop)]
+#[derive(Drop)]
 pub enum Instruction {
     /// Writes an entry into a slot.
     Put(u32, Sqe),
@@ -28,7 +28,7 @@ pub enum Instruction {
 }
 
 /// What a run starts from: sizes, memory, objects, descriptors and programs.
-#[derive(Debug, Drop)]
+#[derive(Drop)]
 pub struct Setup {
     /// Submission entries, 1 to 4,096, rounded up to a power of two.
     pub entries: u32,

@@ -5,7 +5,7 @@ use scenario::Event;
 use std::fmt;
 
 /// An event as it stands in a schedule, without its marks.
-#[derive(Clone, Copy, Debug)]
+#[derive(Clone, Copy)]
 pub struct EventText(pub Event);
 
 impl fmt::Display for EventText {

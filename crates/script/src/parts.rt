@@ -7,7 +7,6 @@ use scenario::{Event, Setup};
 use std::marker::Model;
 
 /// A setup from which a run can start, and at most 65,536 events to run.
-#[derive(Debug)]
 pub struct Script {
     setup: Setup,
     schedule: Items<Event>,

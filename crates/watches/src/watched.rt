@@ -11,7 +11,7 @@ use std::marker::Model;
 pub const LIMIT: usize = 64;
 
 /// A place, and the value to stop at.
-#[derive(Clone, Copy, Debug)]
+#[derive(Clone, Copy)]
 pub struct Break {
     pub place: Place,
     pub value: Value,

@@ -51,7 +51,7 @@ impl<'a> Model for ByteChanges<'a> {
 }
 
 /// Old bytes of a region from an index on, and a bit for each of them that isn't kept.
-#[derive(Clone, Copy, Debug)]
+#[derive(Clone, Copy)]
 pub struct Stretch<'a> {
     pub region: Region,
     pub start: u32,
