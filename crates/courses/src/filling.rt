@@ -8,7 +8,7 @@ use machine::State;
 use places::{Place, Value};
 
 /// How full the rings and the backlog are at a moment, and its time.
-#[derive(Clone, Copy, PartialEq, Eq)]
+#[derive(Clone, Copy)]
 pub struct Filling {
     /// How many entries wait in the submission ring.
     pub submissions: u32,

@@ -29,7 +29,7 @@ pub struct Followed {
 
 /// Why a run isn't followed to its end: the event at this index is refused, and why; want of memory
 /// among the reasons.
-#[derive(Clone, Copy, PartialEq, Eq)]
+#[derive(Clone, Copy)]
 pub struct Stop {
     pub index: u32,
     pub refusal: Refusal,

@@ -12,7 +12,7 @@ use std::alloc::AllocError;
 const MOST_ROWS: usize = 65536;
 
 /// The first moments at which a row was there, was issued, and had ended.
-#[derive(Clone, Copy, PartialEq, Eq)]
+#[derive(Clone, Copy)]
 pub struct Stamps {
     pub queued: u32,
     pub issued: Option<u32>,

@@ -9,7 +9,7 @@ use thiserror::Error;
 use traces::TraceFault;
 
 /// Why serving lines ended early.
-#[derive(Clone, Copy, Debug, PartialEq, Eq)]
+#[derive(Clone, Copy, Debug)]
 pub enum ServeFault {
     /// A read failed.
     Read = 1,
@@ -22,7 +22,7 @@ pub enum ServeFault {
 }
 
 /// Why a run failed.
-#[derive(Clone, Copy, Debug, PartialEq, Eq)]
+#[derive(Clone, Copy, Debug)]
 pub enum RunFault {
     /// The first fault of the script.
     Script(ScriptFault),

@@ -13,7 +13,7 @@ pub enum Phase {
 }
 
 /// A request.
-#[derive(Clone, Copy, PartialEq, Eq)]
+#[derive(Clone, Copy)]
 pub struct Row {
     /// When it is due, in nanoseconds of the clock: of an issued timeout or guard.
     pub deadline: Option<u128>,

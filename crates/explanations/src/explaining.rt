@@ -20,7 +20,7 @@ use whole_files::write_out;
 const TRACE_MARK: u8 = b'U';
 
 /// What is asked for.
-#[derive(Clone, Copy, PartialEq, Eq)]
+#[derive(Clone, Copy)]
 pub struct Asked {
     /// This kind alone; where there is none, all.
     pub kind: Option<Kind>,

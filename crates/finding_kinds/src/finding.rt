@@ -5,7 +5,7 @@ ghost use Rattle.finding_kinds.specs.Kinds.{rank};
 use crate::kind::Kind;
 
 /// Something that a run shows.
-#[derive(Clone, Copy, PartialEq, Eq)]
+#[derive(Clone, Copy)]
 pub struct Finding {
     /// The moment before the event that shows it, counted from 0.
     pub moment: u32,

@@ -3,7 +3,7 @@ ghost use Rattle.std.specs.Prelude.{◌≡◌, ◌<◌};
 ghost use Rattle.finding_kinds.specs.Kinds.{is_fault, is_of_thread, is_of_row, number_of};
 
 /// What a finding is of. Those of one moment are told in this order.
-#[derive(Clone, Copy, PartialEq, Eq)]
+#[derive(Clone, Copy)]
 pub enum Kind {
     /// A request ended with an error that no other kind tells of.
     Failed = 0,

@@ -5,7 +5,7 @@ ghost use Rattle.inverse_log.specs.Refusals.{number_of};
 use machine::Refusal;
 
 /// Why events can't be added to a trace.
-#[derive(Clone, Copy, Debug, PartialEq, Eq)]
+#[derive(Clone, Copy, Debug)]
 pub enum ExtendRefusal {
     /// The trace would have more than 1,048,576 events.
     TraceFull,
@@ -14,7 +14,7 @@ pub enum ExtendRefusal {
 }
 
 /// Why there is no way to a moment.
-#[derive(Clone, Copy, Debug, PartialEq, Eq)]
+#[derive(Clone, Copy, Debug)]
 pub enum WalkRefusal {
     /// The run has fewer events.
     NoSuchMoment = 1,

@@ -3,7 +3,7 @@
 use places::End;
 
 /// A descriptor of an object, and how it stands.
-#[derive(Clone, Copy, PartialEq, Eq)]
+#[derive(Clone, Copy)]
 pub struct DescriptorState {
     /// The object's number in the setup, from 0.
     pub object: u32,

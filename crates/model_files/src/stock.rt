@@ -1,7 +1,7 @@
 //! What an object holds, as far as a transfer depends on it.
 
 /// How much an object holds.
-#[derive(Clone, Copy, PartialEq, Eq)]
+#[derive(Clone, Copy)]
 pub enum Stock {
     /// How many bytes a regular file has.
     File(u32),

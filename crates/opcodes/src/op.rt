@@ -6,7 +6,7 @@ ghost use Rattle.opcodes.specs.Opcodes.{is_timer as is_timer_number, is_cancel a
 use places::End;
 
 /// What an entry asks for.
-#[derive(Clone, Copy, PartialEq, Eq)]
+#[derive(Clone, Copy)]
 pub enum Op {
     Nop = 0,
     Fsync = 3,

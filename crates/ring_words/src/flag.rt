@@ -3,7 +3,7 @@ ghost use Rattle.std.specs.Prelude.{◌≡◌};
 ghost use Rattle.ring_words.specs.Rings.{bit_of};
 
 /// A flag of the submission ring's flags word, with its bit.
-#[derive(Clone, Copy, PartialEq, Eq)]
+#[derive(Clone, Copy)]
 pub enum RingFlag {
     /// The poller sleeps until it is woken.
     NeedWakeup = 1,

@@ -1,7 +1,7 @@
 //! What taking a word of the submission ring comes to.
 
 /// What the taken word names.
-#[derive(Clone, Copy, PartialEq, Eq)]
+#[derive(Clone, Copy)]
 pub enum Taken {
     /// An entry slot.
     Entry(u32),

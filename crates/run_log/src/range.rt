@@ -3,7 +3,7 @@ ghost use Rattle.std.specs.Prelude.{◌≡◌};
 ghost use Rattle.run_log.specs.Ranges.{has, is_below};
 
 /// The events from a number on, and below another if there is one, counted from 0.
-#[derive(Clone, Copy, PartialEq, Eq)]
+#[derive(Clone, Copy)]
 pub struct EventRange {
     pub from: u32,
     pub to: Option<u32>,

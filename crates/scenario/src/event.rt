@@ -22,7 +22,7 @@ pub enum Event {
 }
 
 /// Why an event is refused. The least number whose condition holds is answered.
-#[derive(Clone, Copy, Debug, PartialEq, Eq)]
+#[derive(Clone, Copy, Debug)]
 pub enum Refusal {
     NoSuchThread = 1,
     /// The thread's program is at its end.

@@ -11,7 +11,7 @@ use crate::setup::Setup;
 use places::Place;
 
 /// What is wrong with the words of a place.
-#[derive(Clone, Copy, PartialEq, Eq)]
+#[derive(Clone, Copy)]
 pub enum PlaceFault {
     /// No name with its number of words, or an object, a descriptor, a thread or an index that
     /// isn't there.

@@ -52,7 +52,7 @@ pub struct Setup {
 }
 
 /// Why there is no start for a setup. They are tested in this order.
-#[derive(Clone, Copy, Debug, PartialEq, Eq)]
+#[derive(Clone, Copy, Debug)]
 pub enum SetupRefusal {
     /// A ring has a size that it can't have.
     RingSize = 1,

@@ -10,7 +10,7 @@ use places::{At, Part, Place, Recorder, Value};
 use ring_words::{RingFlag, SubRing};
 
 /// The poller, which takes entries while it is awake.
-#[derive(Clone, Copy, PartialEq, Eq)]
+#[derive(Clone, Copy)]
 pub enum Poller {
     Awake,
     /// It sleeps until an application wakes it.

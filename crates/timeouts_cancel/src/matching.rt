@@ -11,7 +11,7 @@ use opcodes::{Op, is_running};
 use std::alloc::AllocError;
 
 /// What rows are looked for by.
-#[derive(Clone, Copy, PartialEq, Eq)]
+#[derive(Clone, Copy)]
 pub enum Key {
     /// Any by its user_data.
     User(u64),
@@ -24,7 +24,7 @@ pub enum Key {
 }
 
 /// The match of the least number.
-#[derive(Clone, Copy, PartialEq, Eq)]
+#[derive(Clone, Copy)]
 pub enum Found {
     /// There is none.
     Absent,

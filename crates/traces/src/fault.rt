@@ -5,7 +5,7 @@ ghost use Rattle.traces.specs.declared.fault.TraceFault.TheVariants.{Memory};
 use std::alloc::{AllocError, AllocFailed};
 
 /// What is wrong with the bytes of a trace: the first fault from the left.
-#[derive(Clone, Copy, Debug, PartialEq, Eq)]
+#[derive(Clone, Copy, Debug)]
 pub enum TraceFault {
     /// It doesn't begin as a trace of its form does.
     Magic,

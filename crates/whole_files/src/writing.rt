@@ -6,7 +6,7 @@ ghost use Rattle.whole_files.specs.Writes.{WritesFront};
 use std::io::Write;
 
 /// Bytes were not written, or only a beginning of them.
-#[derive(Clone, Copy, PartialEq, Eq)]
+#[derive(Clone, Copy)]
 pub struct NotWritten;
 
 // Writes all of the bytes. An `Err` may leave a beginning of them.
