@@ -12,7 +12,7 @@ use Rattle.model_files.specs.declared.stock.Stock.{Stock}
 use Rattle.model_files.specs.declared.stock.Stock.TheVariants.{File, Pipe, EventFd}
 use Rattle.model_files.specs.Ends.{mask_behind}
 use Rattle.model_files.specs.Worlds.{WorldState, number_at}
-use Rattle.opcodes.specs.declared.choice.Choice.TheVariants.{Full, Short, Eio}
+use Rattle.entries.specs.declared.choice.Choice.TheVariants.{Full, Short, Eio}
 use Rattle.opcodes.specs.declared.op.Op.{Op}
 use Rattle.opcodes.specs.declared.op.Op.TheVariants.{Nop, Fsync, PollAdd, PollRemove, Timeout, TimeoutRemove, AsyncCancel, LinkTimeout, Read, Write}
 use Rattle.opcodes.specs.declared.ending.Outcome.{Outcome}

@@ -3,8 +3,8 @@ use Rattle.std.proofs.Common.{◌≡◌, ◌≢◌, inl, inr, ℕ, zero, suc, �
 use Rattle.std.specs.Prelude.{is_some, slice_get}
 use Rattle.std.specs.Bool.{Decides}
 use Rattle.std.proofs.lemmas.Bool.Decides.{Decides-eqb, Decides-and, Decides-like}
-use Rattle.opcodes.specs.declared.choice.Choice.{Choice}
-use Rattle.opcodes.specs.declared.choice.Choice.TheVariants.{Full, Short, Eio}
+use Rattle.entries.specs.declared.choice.Choice.{Choice}
+use Rattle.entries.specs.declared.choice.Choice.TheVariants.{Full, Short, Eio}
 use Rattle.scenario.specs.declared.event.Event.{Event}
 use Rattle.scenario.specs.declared.event.Event.TheVariants.{Step, Take, Sleep, Issue, Finish, Expire, Tick}
 use Rattle.scenario.specs.declared.event.Refusal.{Refusal}

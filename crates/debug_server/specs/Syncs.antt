@@ -1,7 +1,7 @@
 -- What a run and the trace of a source have in common, and what is refused of the rest.
 use Rattle.std.specs.Prelude.{◌≡◌, ◌≢◌, ℕ, ◌+◌, ◌<◌, ◌==◌, ◌&&◌, List, [], ◌∷◌, take, slice_get, Bool, true, false, if◌then◌else◌, Option, Some, None, is_some}
-use Rattle.opcodes.specs.declared.choice.Choice.{Choice}
-use Rattle.opcodes.specs.declared.choice.Choice.TheVariants.{Full, Short, Eio}
+use Rattle.entries.specs.declared.choice.Choice.{Choice}
+use Rattle.entries.specs.declared.choice.Choice.TheVariants.{Full, Short, Eio}
 use Rattle.scenario.specs.declared.event.Event.{Event}
 use Rattle.scenario.specs.declared.event.Event.TheVariants.{Step, Take, Sleep, Issue, Finish, Expire, Tick}
 use Rattle.scenario.specs.declared.event.Refusal.{Refusal}

@@ -9,7 +9,7 @@ use thiserror::Error;
 use traces::TraceFault;
 
 /// Why serving lines ended early.
-#[derive(Clone, Copy, Debug)]
+#[derive(Clone, Copy, Debug, PartialEq, Eq)]
 pub enum ServeFault {
     /// A read failed.
     Read = 1,

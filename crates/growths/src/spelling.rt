@@ -90,7 +90,12 @@ fn compare_found(compared: &mut Compared, alloc: Global, one: &Found, other: &Fo
         (Found::Nothing, Found::Nothing) => compared.count(true),
         (Found::Scenario(one), Found::Scenario(other)) => {
             let (setup, others) = (one.setup(), other.setup());
-            compare_runs(compared, alloc, (setup, one.schedule()), (others, other.schedule()));
+            compare_runs(
+                compared,
+                alloc,
+                (setup, one.schedule()),
+                (others, other.schedule()),
+            );
         }
         (Found::Run(one, events), Found::Run(other, others)) => {
             compare_runs(compared, alloc, (one, events), (other, others));

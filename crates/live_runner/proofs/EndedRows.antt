@@ -15,7 +15,7 @@ use Rattle.links_drains.specs.Numbered.{map_numbered}
 use Rattle.links_drains.specs.Phases.{is_queued, is_issued, is_ended}
 use Rattle.links_drains.specs.Queued.{IsNextQueued, NoneQueuedFrom}
 use Rattle.links_drains.specs.Units.{IsNextIssued, NoneIssuedFrom}
-use Rattle.opcodes.specs.declared.choice.Choice.{Choice}
+use Rattle.entries.specs.declared.choice.Choice.{Choice}
 use Rattle.opcodes.specs.declared.ending.Outcome.{Outcome}
 use Rattle.opcodes.specs.declared.ending.Outcome.TheVariants.{Res, Waits, BadChoice}
 use Rattle.opcodes.specs.Effects.{world_after}

@@ -7,7 +7,7 @@ use Rattle.links_drains.specs.Holding.{is_held_by}
 use Rattle.links_drains.specs.Phases.{is_issued}
 use Rattle.model_files.specs.Worlds.{WorldState}
 use Rattle.opcodes.specs.Opcodes.{is_timer}
-use Rattle.opcodes.specs.declared.choice.Choice.TheVariants.{Full}
+use Rattle.entries.specs.declared.choice.Choice.TheVariants.{Full}
 use Rattle.timeouts_cancel.specs.Timers.{is_due}
 use Rattle.machine.specs.declared.whole.Machine.{Machine}
 use Rattle.machine.specs.Deadlines.{issued_deadline, deadline_at}

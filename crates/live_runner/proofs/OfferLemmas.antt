@@ -8,7 +8,7 @@ use Rattle.std.proofs.lemmas.Option.{slice_get_within}
 use Rattle.entries.specs.declared.row.Row.{Row}
 use Rattle.entries.specs.declared.row.Phase.{Phase}
 use Rattle.entries.specs.declared.row.Phase.TheVariants.{Queued, Issued, Ended}
-use Rattle.opcodes.specs.declared.choice.Choice.TheVariants.{Full}
+use Rattle.entries.specs.declared.choice.Choice.TheVariants.{Full}
 use Rattle.opcodes.specs.Opcodes.{is_timer}
 use Rattle.scenario.specs.declared.event.Event.{Event}
 use Rattle.scenario.specs.declared.event.Event.TheVariants.{Step, Take, Sleep, Issue, Finish, Expire, Tick}

@@ -6,7 +6,7 @@ use Rattle.std.proofs.lemmas.Option.{slice_get_within}
 use Rattle.entries.specs.declared.row.Row.{Row}
 use Rattle.entries.specs.declared.row.Phase.{Phase}
 use Rattle.entries.specs.declared.row.Phase.TheVariants.{Queued, Issued, Ended}
-use Rattle.opcodes.specs.declared.choice.Choice.TheVariants.{Full}
+use Rattle.entries.specs.declared.choice.Choice.TheVariants.{Full}
 use Rattle.opcodes.specs.Opcodes.{is_timer}
 use Rattle.scenario.specs.declared.event.Refusal.{Refusal}
 use Rattle.scenario.specs.declared.event.Refusal.TheVariants.{NotDue}

@@ -1,6 +1,6 @@
 -- What an actor does next.
 use Rattle.std.specs.Prelude.{ℕ, ◌-◌, ◌^◌, Bool, true, false, nat_lt, if◌then◌else◌, Option, Some, None, is_none, length}
-use Rattle.opcodes.specs.declared.choice.Choice.TheVariants.{Full}
+use Rattle.entries.specs.declared.choice.Choice.TheVariants.{Full}
 use Rattle.scenario.specs.declared.setup.Setup.{Setup}
 use Rattle.scenario.specs.declared.event.Event.{Event}
 use Rattle.scenario.specs.declared.event.Event.TheVariants.{Step, Take, Sleep, Issue, Finish, Expire, Tick}

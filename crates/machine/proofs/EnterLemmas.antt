@@ -8,7 +8,7 @@ use Rattle.entries.specs.declared.row.Row.{Row}
 use Rattle.entries.specs.declared.row.Phase.{Phase}
 use Rattle.entries.specs.declared.row.Phase.TheVariants.{Queued, Issued, Ended}
 use Rattle.links_drains.specs.Holding.{is_held_by}
-use Rattle.opcodes.specs.declared.choice.Choice.{Choice}
+use Rattle.entries.specs.declared.choice.Choice.{Choice}
 use Rattle.opcodes.specs.declared.ending.Outcome.{Outcome}
 use Rattle.opcodes.specs.declared.ending.Outcome.TheVariants.{Res, Waits, BadChoice}
 use Rattle.opcodes.specs.Opcodes.{is_cancel, is_timer}

@@ -12,7 +12,7 @@ use Rattle.model_files.specs.Worlds.{WorldState, descriptor_of, world_closed, wo
 use Rattle.links_drains.specs.Endings.{result_in}
 use Rattle.links_drains.specs.Holding.{is_held_by}
 use Rattle.links_drains.specs.Rows.{fixed_of}
-use Rattle.opcodes.specs.declared.choice.Choice.{Choice}
+use Rattle.entries.specs.declared.choice.Choice.{Choice}
 use Rattle.opcodes.specs.declared.ending.Outcome.{Outcome}
 use Rattle.opcodes.specs.declared.ending.Outcome.TheVariants.{Res, Waits, BadChoice}
 use Rattle.opcodes.specs.Opcodes.{is_cancel}

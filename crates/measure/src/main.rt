@@ -1,10 +1,11 @@
 //! Large runs, built in process, walked both ways and timed: counts on standard output, times on
-//! standard error.
+//! standard error. Live runs under load, and what they are offered.
 #![tactic(auto)]
 
 mod draft;
 mod fault;
 mod figures;
+mod live;
 mod load;
 mod plan;
 
@@ -12,13 +13,15 @@ use draft::Draft;
 use fault::Fault;
 use figures::Figures;
 use inverse_log::Walker;
+use live::{Asked, ask, loads};
 use load::fill;
 use machine::Event;
 use places::{Place, Value};
-use plan::{Plan, WORDS, plan_of};
+use plan::{Job, Plan, WORDS, job_of};
 use std::process::ExitCode;
-use std::rt::Clock;
-use std::time::Instant;
+use std::sync::Wait;
+use std::thread::Threads;
+use std::time::{Clock, Instant};
 use std::{env, io};
 
 /// How many jumps there are.
@@ -141,14 +144,34 @@ fn main(rt: HostRuntime) -> io::Result<ExitCode> {
     run(&rt, &words)
 }
 
-// Measures what the words behind the program's name ask for. The status is 2 where they aren't
-// read, and 1 where the measuring failed.
-fn run(rt: &(impl Print + Eprint + Clock + AllocGlobal), words: &[String]) -> io::Result<ExitCode> {
-    let Some(plan) = plan_of(words) else {
+// Asks for offers, and tells how many there were.
+fn tell_offers(rt: &(impl Print + AllocGlobal), asked: Asked) -> Result<(), Fault> {
+    let count = ask(rt.alloc(), asked)?;
+    Ok(println!(rt; "{count} offers")?)
+}
+
+fn carry_out<R: Print + Eprint + Threads + Wait + Clock + Sync + AllocGlobal>(
+    rt: &R,
+    job: Job,
+) -> Result<(), Fault> {
+    match job {
+        Job::Walk(plan) => measure(rt, plan),
+        Job::Live => loads(rt),
+        Job::Offers(asked) => tell_offers(rt, asked),
+    }
+}
+
+// Does what the words behind the program's name ask for. The status is 2 where they aren't read,
+// and 1 where it failed.
+fn run<R: Print + Eprint + Threads + Wait + Clock + Sync + AllocGlobal>(
+    rt: &R,
+    words: &[String],
+) -> io::Result<ExitCode> {
+    let Some(job) = job_of(words) else {
         eprintln!(rt; "{WORDS}")?;
         return Ok(ExitCode::from(2));
     };
-    if let Err(fault) = measure(rt, plan) {
+    if let Err(fault) = carry_out(rt, job) {
         eprintln!(rt; "{fault}")?;
         return Ok(ExitCode::from(1));
     }

@@ -14,7 +14,7 @@ use Rattle.model_files.specs.declared.stock.Stock.TheVariants.{File, Pipe, Event
 use Rattle.model_files.specs.Files.{part, synced, written}
 use Rattle.model_files.specs.Pipes.{PipeState, put_in, taken_out}
 use Rattle.model_files.specs.Worlds.{WorldState, WorldFormed, PutsWithin, descriptor_of, number_at, on_counter, on_file, on_pipe, pipe_in, pipe_of, stock_of, world_added, world_at, world_cleared, world_put, world_synced, world_taken}
-use Rattle.opcodes.specs.declared.choice.Choice.{Choice}
+use Rattle.entries.specs.declared.choice.Choice.{Choice}
 use Rattle.opcodes.specs.declared.op.Op.{Op}
 use Rattle.opcodes.specs.declared.op.Op.TheVariants.{Fsync, Read, Write}
 use Rattle.opcodes.specs.declared.ending.Outcome.TheVariants.{Res}

@@ -12,7 +12,7 @@ use Rattle.model_files.specs.Pipes.{GivesOut, TakesIn}
 use Rattle.model_files.specs.Worlds.{WorldState, WorldFormed, OneSetup, PutsWithin, descriptor_of, number_at, pipe_of, stock_of, world_at, world_put, world_read, world_taken, world_written}
 use Rattle.model_files.proofs.Forming.{world_at_formed, world_read_formed, world_written_formed, world_synced_formed, world_taken_formed, world_put_formed, world_added_formed, world_cleared_formed}
 use Rattle.model_files.proofs.Fixing.{setup_self, setup_then, setup_read, setup_written, setup_synced, setup_taken, setup_put, setup_added, setup_cleared}
-use Rattle.opcodes.specs.declared.choice.Choice.{Choice}
+use Rattle.entries.specs.declared.choice.Choice.{Choice}
 use Rattle.opcodes.specs.declared.op.Op.{Op}
 use Rattle.opcodes.specs.declared.op.Op.TheVariants.{Fsync, Read, Write}
 use Rattle.opcodes.specs.declared.ending.Outcome.TheVariants.{Res}

@@ -16,8 +16,8 @@ use Rattle.model_files.proofs.Describing.{number_from_three}
 use Rattle.model_files.specs.Files.{FileState, FileFormed}
 use Rattle.model_files.proofs.Forming.{file_formed}
 use Rattle.model_files.proofs.Fixing.{setup_self, setup_at, setup_taken, setup_put}
-use Rattle.opcodes.specs.declared.choice.Choice.{Choice}
-use Rattle.opcodes.specs.declared.choice.Choice.TheVariants.{Full, Short, Eio}
+use Rattle.entries.specs.declared.choice.Choice.{Choice}
+use Rattle.entries.specs.declared.choice.Choice.TheVariants.{Full, Short, Eio}
 use Rattle.opcodes.specs.declared.op.Op.{Op}
 use Rattle.opcodes.specs.declared.op.Op.TheVariants.{Read, Write}
 use Rattle.opcodes.specs.declared.ending.Outcome.TheVariants.{Res, Waits, BadChoice}

@@ -9,8 +9,8 @@ use Rattle.model_files.specs.declared.stock.Stock.{Stock}
 use Rattle.model_files.specs.declared.stock.Stock.TheVariants.{File, Pipe, EventFd}
 use Rattle.model_files.specs.Ends.{has_reader, has_writer, mask_behind}
 use Rattle.model_files.specs.Worlds.{WorldState, descriptor_of, number_at, stock_of}
-use Rattle.opcodes.specs.declared.choice.Choice.{Choice}
-use Rattle.opcodes.specs.declared.choice.Choice.TheVariants.{Full, Short, Eio}
+use Rattle.entries.specs.declared.choice.Choice.{Choice}
+use Rattle.entries.specs.declared.choice.Choice.TheVariants.{Full, Short, Eio}
 use Rattle.opcodes.specs.declared.op.Op.{Op}
 use Rattle.opcodes.specs.declared.op.Op.TheVariants.{Nop, Fsync, PollAdd, Read, Write}
 use Rattle.opcodes.specs.declared.ending.Outcome.{Outcome}

@@ -6,7 +6,7 @@ ghost use Rattle.places.specs.View.{Keeps, named};
 ghost use Rattle.places.specs.declared.place.Place.{Place};
 ghost use Rattle.model_files.specs.Pipes.{GivesOut, TakesIn};
 ghost use Rattle.model_files.specs.Worlds.{world_owns, world_seen, world_added, world_cleared, world_put, world_taken, file_of, pipe_of, counter_of, number_at, descriptor_of, OneSetup as OneWorldSetup, PutsWithin, WorldFormed};
-ghost use Rattle.opcodes.specs.declared.choice.Choice.{Choice};
+ghost use Rattle.entries.specs.declared.choice.Choice.{Choice};
 ghost use Rattle.opcodes.specs.declared.ending.Outcome.TheVariants.{Res};
 ghost use Rattle.opcodes.specs.Outcomes.{outcome_of, offset_of, position_of};
 ghost use Rattle.opcodes.specs.Effects.{world_after, bytes_read, bytes_written, moved_on};

@@ -2,7 +2,6 @@
 #![tactic(auto)]
 
 pub mod checks;
-pub mod choice;
 pub mod effect;
 pub mod ending;
 pub mod errno;
@@ -12,9 +11,9 @@ pub mod running;
 mod streams;
 
 pub use checks::{Context, check, time_of};
-pub use choice::Choice;
 pub use effect::carry_out;
 pub use ending::Outcome;
+pub use entries::Choice;
 pub use errno::{
     EALREADY, EBADF, EBUSY, ECANCELED, EFAULT, EFBIG, EINVAL, EIO, ENOENT, EPIPE, ETIME,
 };

@@ -1,6 +1,6 @@
 //! What can happen, and why it is refused.
 
-use opcodes::Choice;
+use entries::Choice;
 
 /// One atomic step.
 #[derive(Clone, Copy, PartialEq, Eq)]

@@ -1,7 +1,7 @@
 -- Events as text, in the words of a script's schedule.
 use Rattle.std.specs.Prelude.{ℕ, List, [], ◌++◌, codes, decimal}
-use Rattle.opcodes.specs.declared.choice.Choice.{Choice}
-use Rattle.opcodes.specs.declared.choice.Choice.TheVariants.{Full, Short, Eio}
+use Rattle.entries.specs.declared.choice.Choice.{Choice}
+use Rattle.entries.specs.declared.choice.Choice.TheVariants.{Full, Short, Eio}
 use Rattle.scenario.specs.declared.event.Event.{Event}
 use Rattle.scenario.specs.declared.event.Event.TheVariants.{Step, Take, Sleep, Issue, Finish, Expire, Tick}
 

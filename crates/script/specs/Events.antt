@@ -2,8 +2,8 @@
 use Rattle.std.specs.Prelude.{ℕ, List, [], ◌∷◌, codes, if◌then◌else◌, Option, Some, None, option_map, Result}
 use Rattle.std.specs.Str.{bytes_eq}
 use Rattle.serde_json.specs.Data.{Data, string}
-use Rattle.opcodes.specs.declared.choice.Choice.{Choice}
-use Rattle.opcodes.specs.declared.choice.Choice.TheVariants.{Full, Short, Eio}
+use Rattle.entries.specs.declared.choice.Choice.{Choice}
+use Rattle.entries.specs.declared.choice.Choice.TheVariants.{Full, Short, Eio}
 use Rattle.scenario.specs.declared.event.Event.{Event}
 use Rattle.scenario.specs.declared.event.Event.TheVariants.{Step, Take, Sleep, Issue, Finish, Expire, Tick}
 use Rattle.script.specs.declared.fault.Key.TheVariants as key

@@ -5,7 +5,7 @@ use Rattle.std.specs.Str.{bytes_eq}
 use Rattle.serde_json.specs.Data.{Data}
 use Rattle.serde_json.specs.Find.{get, as_bool}
 use Rattle.serde_json.specs.Read.{read}
-use Rattle.opcodes.specs.declared.choice.Choice.TheVariants.{Short}
+use Rattle.entries.specs.declared.choice.Choice.TheVariants.{Short}
 use Rattle.scenario.specs.Setups.{setup_refusal}
 use Rattle.ring_words.specs.Rings.{rounded}
 use Rattle.scenario.specs.declared.event.Event.{Event}

@@ -8,7 +8,7 @@ ghost use Rattle.script.specs.Events.{event_of_number, choice_by, choice_words, 
 use crate::fault::{Key, ScriptFault};
 use crate::keys::item_path;
 use crate::number::{Whole, between, long, whole_of, word};
-use opcodes::Choice;
+use entries::Choice;
 use scenario::Event;
 use serde_json::Value;
 use std::alloc::Global;

@@ -1,6 +1,6 @@
 //! Events as text, in the words of a script's schedule.
 
-use opcodes::Choice;
+use entries::Choice;
 use scenario::Event;
 use std::fmt;
 

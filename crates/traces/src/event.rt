@@ -5,7 +5,7 @@ ghost use Rattle.traces.specs.Faults.{is_kind, has_numbers, event_fault};
 
 use crate::fault::TraceFault;
 use crate::fields::{put_u32, put_u64, u32_at, u64_at};
-use opcodes::Choice;
+use entries::Choice;
 use scenario::Event;
 
 // The number of a choice that the device makes.

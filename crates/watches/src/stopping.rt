@@ -13,7 +13,7 @@ use places::{Place, Record};
 use std::alloc::AllocError;
 
 /// Where a walk stops.
-#[derive(Clone, Copy)]
+#[derive(Clone, Copy, PartialEq, Eq)]
 pub enum Stop {
     /// A watched place changes at this moment.
     Change(usize),

@@ -51,12 +51,14 @@ fn submits<L: Ledger>(live: &mut Live<L>, seats: &mut Vec<Seat<L>>) -> bool
     ensures order { InOrder seats.new.items }
 {
     let step = Event::Step(0);
-    let refusal = Err(LiveRefusal::Step(Refusal::NothingToReap));
     does(live, seats, 0, step)
         && does(live, seats, 0, step)
         && does(live, seats, 0, step)
         && live.offer(0) == Some(step)
-        && attempt(live, seats, 0, step) == refusal
+        && matches!(
+            attempt(live, seats, 0, step),
+            Err(LiveRefusal::Step(Refusal::NothingToReap))
+        )
 }
 
 // What isn't an actor's is refused, and what there isn't.
@@ -67,11 +69,12 @@ fn refuses<L: Ledger>(live: &mut Live<L>, seats: &mut Vec<Seat<L>>) -> bool
     ensures actors { live.new.actors ≡ live.old.actors }
     ensures order { InOrder seats.new.items }
 {
-    let not_yours = Err(LiveRefusal::NotYours);
-    let absent = Err(LiveRefusal::Step(Refusal::NoSuchRequest));
-    attempt(live, seats, 0, Event::Tick(1)) == not_yours
-        && attempt(live, seats, 0, Event::Step(1)) == not_yours
-        && attempt(live, seats, 1, Event::Issue(9)) == absent
+    let tick = attempt(live, seats, 0, Event::Tick(1));
+    let step = attempt(live, seats, 0, Event::Step(1));
+    let issue = attempt(live, seats, 1, Event::Issue(9));
+    matches!(tick, Err(LiveRefusal::NotYours))
+        && matches!(step, Err(LiveRefusal::NotYours))
+        && matches!(issue, Err(LiveRefusal::Step(Refusal::NoSuchRequest)))
 }
 
 // The kernel worker issues the row and ends it, and the thread reaps.

@@ -44,7 +44,7 @@ fn is_jump(walker: &mut Walker, moment: usize, walked: u64) -> Result<bool, Fail
 fn is_free(walker: &mut Walker) -> Result<bool, Fail> {
     let (at, len, walked) = (walker.at(), walker.len(), walker.walked());
     let moved = walker.back() && walker.on()?;
-    let refused = walker.goto(len + 1) == Err(WalkRefusal::NoSuchMoment);
+    let refused = matches!(walker.goto(len + 1), Err(WalkRefusal::NoSuchMoment));
     Ok(moved && refused && walker.at() == at && walker.walked() == walked)
 }
 

@@ -24,9 +24,9 @@ fn are_refused(alloc: Global) -> Result<bool, AllocError> {
     let last = storing(alloc, 65534)?;
     let mut past = storing(alloc, 65535)?;
     let stores = setup_refusal(&last).is_none()
-        && setup_refusal(&past) == Some(SetupRefusal::Limit);
+        && matches!(setup_refusal(&past), Some(SetupRefusal::Limit));
     past.entries = 0;
-    Ok(stores && setup_refusal(&past) == Some(SetupRefusal::RingSize))
+    Ok(stores && matches!(setup_refusal(&past), Some(SetupRefusal::RingSize)))
 }
 
 #[test]

@@ -3,7 +3,7 @@ ghost use Rattle.std.specs.Prelude.{◌≡◌};
 ghost use Rattle.live_runner.specs.Actors.{actors};
 
 use crate::fault::Fault;
-use crate::programs::asking_setup;
+use crate::live::programs::asking_setup;
 use live_runner::{Live, Seat, actors};
 use scenario::{Event, Setup};
 use std::alloc::Global;
@@ -12,7 +12,7 @@ use std::sync::ledger::{Blank, Ledger};
 
 /// How many rows ended, how many wait, and how often each offer is asked for.
 #[derive(Clone, Copy)]
-pub struct Plan {
+pub struct Asked {
     pub ended: u32,
     pub waiting: u32,
     pub times: u32,
@@ -24,33 +24,15 @@ const BATCH: u32 = 4096;
 /// More than the events of a batch of a kernel worker.
 const DEEDS: u32 = 16384;
 
-/// Reads the program's name and the words behind it: `offers`, the number of rows that ended, of
-/// those that wait, and how often an offer is asked for.
-pub fn plan_of(words: &[String]) -> Option<Plan> {
-    let [_, word, ended, waiting, times] = words else {
-        return None;
-    };
-    let plan = Plan {
-        ended: number_of(ended)?,
-        waiting: number_of(waiting)?,
-        times: number_of(times)?,
-    };
-    (word.as_str() == "offers").then_some(plan)
-}
-
-fn number_of(word: &String) -> Option<u32> {
-    word.as_str().parse::<u32>().ok()
-}
-
 /// Asks for the offers of a kernel worker as one more row is there to be issued, once it is issued,
 /// and once it has ended. Tells how many there were.
-pub fn ask(alloc: Global, plan: Plan) -> Result<u32, Fault> {
-    let setup = asking_setup(alloc, plan.ended, plan.waiting)?;
+pub fn ask(alloc: Global, asked: Asked) -> Result<u32, Fault> {
+    let setup = asking_setup(alloc, asked.ended, asked.waiting)?;
     ask_over::<Brand>(
         alloc,
         Blank::new(actors(&setup, 1) as u64),
         &setup,
-        plan.times,
+        asked.times,
     )
 }
 

@@ -1,7 +1,7 @@
 //! What is looked at of a closed run.
 
 use crate::fault::Fault;
-use crate::tally::Tally;
+use crate::live::tally::Tally;
 use live_runner::Closed;
 use machine::State;
 use places::value::is_same;

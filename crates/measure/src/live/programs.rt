@@ -1,6 +1,6 @@
 //! What runs start from.
 
-use crate::batches::{Batch, asked_about, chains, singles, times};
+use crate::live::batches::{Batch, asked_about, chains, singles, times};
 use places::{Contents, Descriptor, End, Items, Object};
 use scenario::{Instruction, Setup};
 use std::alloc::{AllocError, Global};
