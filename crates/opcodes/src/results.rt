@@ -9,7 +9,7 @@ use crate::ending::Outcome;
 use crate::errno::{EFAULT, EFBIG, EINVAL, EIO};
 use crate::op::Op;
 use crate::streams::{event_read, event_written, pipe_read, pipe_written};
-use entries::{Choice, Choice, Row, Sqe};
+use entries::{Choice, Row, Sqe};
 use model_files::{DescriptorState, Held, Stock, World};
 
 /// What an issued request comes to, by which descriptors requests under way hold. It takes no

@@ -6,7 +6,7 @@ ghost use Rattle.opcodes.specs.Outcomes.{pipe_read, pipe_written, waits_for_room
 use crate::ending::Outcome;
 use crate::errno::{EINVAL, EPIPE};
 use crate::results::fixed;
-use entries::{Choice, Choice, Sqe};
+use entries::{Choice, Sqe};
 use model_files::World;
 
 /// How many bytes go into a pipe at once, if its capacity isn't less (PIPE_BUF).
