@@ -38,7 +38,7 @@ def check_refused(situation, done, before):
     if situation.rising:
         require(before is None or order_of(answer) >= order_of(before), f"answer {answer} comes behind {before}")
     require(any(is_one(answer, each) for each in situation.refused), f"answer {answer}, and not {situation.refused}")
-    require(stood[0] == 0 and (stood[1] > 0 or situation.call == "open"), f"behind the refusal {stood[0]} of {stood[1]} differ")
+    require(stood[0] == 0 and stood[1] > 0, f"behind the refusal {stood[0]} of {stood[1]} differ")
     require(left[0] == 0 and left[1] > 0, f"at the end {left[0]} of {left[1]} differ")
     if situation.closes:
         require(again == (4, 0), f"answered again {again} and not as closed")

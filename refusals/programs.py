@@ -16,6 +16,8 @@ READ, WRITE, MEMORY = b"fault session 1\n", b"fault session 2\n", b"fault sessio
 NO_FILE, NO_MEMORY = b"fault file\n", b"fault memory\n"
 # How often each growth of a live run is refused, and of one that a client looks at: which one is the Nth isn't fixed.
 LIVE_RUNS = 200
+# How many of these refuse the first growths, one after the other: a script is read, and a run is opened.
+FIRST_RUNS = 80
 SERVED_RUNS = 100
 # What a client asks, all that it is told where nothing is refused, and how long it waits for that, in seconds.
 ASKED = b"sync\nwhere\ngoto 0\nshow clock\nquit\n"
@@ -44,12 +46,12 @@ class Job:
         shutil.copy(room.script(self.over), f"{here}/script")
         for name, words in (("whole", ["trace", "script", "whole"]), ("events", ["trace", "script", "events", "--form", "1"])):
             if name in self.words:
-                if name not in room.made:
+                if (self.over, name) not in room.made:
                     done, _, _ = room.ran([room.uringwalk, *words], "growth", "one", 0, here=here)
                     require(done.returncode == 0, f"no trace: {done.stderr.decode()}")
                     with open(f"{here}/{name}", "rb") as it:
-                        room.made[name] = it.read()
-                write(f"{here}/{name}", room.made[name])
+                        room.made[self.over, name] = it.read()
+                write(f"{here}/{name}", room.made[self.over, name])
         if self.out:
             write(f"{here}/{self.out}", OLD)
 
@@ -104,19 +106,23 @@ WRONG_WORDS = Job("words that aren't read", ["walk"])
 LIVE = Job("live", ["live", "script", "--turns", "6", "--kernel", "1", "--trace", "out"], out="out", given=LINES)
 
 FIXED = (WALK, REPLAY, LOG, LOG_TRACE, TRACE, TRACE_1, MIGRATE)
+# The same over a script with a request of each opcode.
+WIDE = tuple(Job(f"{job.name} of all opcodes", job.words, "all_opcodes", job.out, job.given)
+             for job in (WALK, REPLAY, TRACE, TRACE_1, MIGRATE))
 
 
 # ---- memory
 
 def refuse_growths(job):
-    """Want of memory is told by its line; what was written is a beginning, and the files are as they were. The program may go on
-    with less."""
+    """Want of memory is told by its line: once a session stands, by that of a session. What was written is a beginning, and the
+    files are as they were. The program may go on with less."""
     def trial(room):
         expected = Expected(job, room)
         _, _, _, count = job.run(room, "growth", "one", 0)
         require(count > 0, "it met no refusal")
         numbers, refused = numbers_of(count), 0
         for how in ("one", "all"):
+            stands = False
             for number in numbers:
                 done, files, reached, _ = job.run(room, "growth", how, number)
                 require(reached, f"growth {number} of {count}, {how}, was not reached")
@@ -124,7 +130,8 @@ def refuse_growths(job):
                     continue
                 fault = MEMORY if job.serves and done.stderr == MEMORY else NO_MEMORY
                 written = fault == MEMORY or job.words[0] == "log"
-                require(expected.is_cut(done, files, fault, written) and files == expected.before,
+                stands = stands or fault == MEMORY
+                require(expected.is_cut(done, files, fault, written) and files == expected.before and stands == (fault == MEMORY),
                         f"growth {number} of {count}, {how}: {shown(done)}, files {sorted(files)}")
                 refused += 1
         done, files, reached, _ = job.run(room, "growth", "one", count + 1)
@@ -158,12 +165,12 @@ def replayed(room, trace):
 
 
 def refuse_growths_of_threads(room):
-    """Growths at random of a run that threads make: a turn that was refused memory changes nothing."""
+    """The first growths of a run that threads make, and others at random: a turn that was refused memory changes nothing."""
     chosen = random.Random(36)
     met = 0
-    for _ in range(LIVE_RUNS):
+    for run in range(1, LIVE_RUNS + 1):
         _, _, _, count = LIVE.run(room, "growth", "one", 0)
-        number = chosen.randint(1, count)
+        number = run if run <= min(FIRST_RUNS, count) else chosen.randint(1, count)
         done, files, reached, _ = LIVE.run(room, "growth", "one", number)
         met += reached
         require(is_live_run(room, done, files), f"growth {number}: {shown(done)}, files {sorted(files)}")
@@ -301,6 +308,24 @@ def fail_writes(job, what, how):
     return trial
 
 
+def fail_opens(job, what, how):
+    """A file that can't be opened, or a path that can't be looked at, is a fault of a file, or is done without."""
+    def trial(room):
+        expected = Expected(job, room)
+        number, told = 1, 0
+        while True:
+            done, files, reached, _ = job.run(room, what, how, number)
+            if not reached:
+                break
+            whole = expected.is_whole(done, files)
+            right = whole or expected.is_cut(done, files, NO_FILE, False) and files == expected.before
+            require(right, f"{what} {number}: {shown(done)}, files {sorted(files)}")
+            number, told = number + 1, told + (not whole)
+        require(told > 0 and expected.is_whole(done, files), f"{told} of {number - 1} were told, and then {shown(done)}")
+        return number, number - 1, ""
+    return trial
+
+
 # ---- kills
 
 def is_left(files, before, whole, beginning):
@@ -341,7 +366,7 @@ def kill(job, how):
 
 
 def all_trials():
-    for job in FIXED + (HELP, WRONG_WORDS):
+    for job in FIXED + WIDE + (HELP, WRONG_WORDS):
         yield f"growths of {job.name}", refuse_growths(job)
     yield "growths of live", refuse_growths_of_threads
     yield "growths of serve", refuse_growths_of_serving
@@ -353,6 +378,10 @@ def all_trials():
         for what in ("sync", "rename") if job.out else ():
             for how in ("eio", "enospc"):
                 yield f"{what} of {job.name}, {how}", fail_writes(job, what, how)
+    for job in (TRACE, TRACE_1, MIGRATE):
+        for what in ("open", "look"):
+            for how in ("eio", "enospc"):
+                yield f"{what} of {job.name}, {how}", fail_opens(job, what, how)
     for job in (TRACE, TRACE_1, MIGRATE, LIVE):
         for how in ("kill", "torn"):
             yield f"{job.name}, {how}", kill(job, how)

@@ -1,7 +1,7 @@
-/* Refuses the Nth growth of memory, or fails the Nth read, write, sync or rename, of the program that it is loaded
- * into by LD_PRELOAD (ld.so(8)). A tool of the tests: no crate has it.
+/* Refuses the Nth growth of memory, or fails the Nth read, write, sync, rename, open or look at a path, of the program
+ * that it is loaded into by LD_PRELOAD (ld.so(8)). A tool of the tests: no crate has it.
  *
- *   REFUSALS_WHAT    what is counted: growth, or some of read, write, sync, rename, with commas between them
+ *   REFUSALS_WHAT    what is counted: growth, or some of read, write, sync, rename, open, look, with commas between them
  *   REFUSALS_N       the number of the one that meets the refusal, counted from the start of the process. Without it
  *                    growths are counted from the line 'armed N' on standard error up to the line 'disarmed'
  *   REFUSALS_HOW     growth: one (the Nth alone) or all (the Nth and each later one); others: eio, enospc, eintr, half
@@ -10,26 +10,28 @@
  *                    'missed K N', K being how many were counted so far
  *
  * A growth is a malloc, calloc, posix_memalign or aligned_alloc, or a realloc to more than the block has already
- * (malloc_usable_size(3)). Standard error is neither counted nor failed. */
+ * (malloc_usable_size(3)). A look is a statx or a realpath. Standard error is neither counted nor failed. */
 #define _GNU_SOURCE
 #include <dlfcn.h>
 #include <errno.h>
 #include <fcntl.h>
 #include <malloc.h>
 #include <signal.h>
+#include <stdarg.h>
 #include <stdatomic.h>
 #include <stdbool.h>
 #include <stdio.h>
 #include <stdlib.h>
 #include <string.h>
+#include <sys/stat.h>
 #include <sys/syscall.h>
 #include <sys/uio.h>
 #include <unistd.h>
 
-enum what { GROWTH = 1, READ = 2, WRITE = 4, SYNC = 8, RENAME = 16 };
+enum what { GROWTH = 1, READ = 2, WRITE = 4, SYNC = 8, RENAME = 16, OPEN = 32, LOOK = 64 };
 enum how { ONE, ALL, EIO_, ENOSPC_, EINTR_, HALF, KILL, TORN };
 
-static const char *const whats[] = {"growth", "read", "write", "sync", "rename"};
+static const char *const whats[] = {"growth", "read", "write", "sync", "rename", "open", "look"};
 static const char *const hows[] = {"one", "all", "eio", "enospc", "eintr", "half", "kill", "torn"};
 
 static int counted_kinds;        /* of enum what */
@@ -57,6 +59,9 @@ static int (*next_fdatasync)(int);
 static int (*next_rename)(const char *, const char *);
 static int (*next_renameat)(int, const char *, int, const char *);
 static int (*next_renameat2)(int, const char *, int, const char *, unsigned);
+static int (*next_open)(const char *, int, ...);
+static int (*next_statx)(int, const char *, int, unsigned, struct statx *);
+static char *(*next_realpath)(const char *, char *);
 
 /* What dlsym(3) itself asks for while the next malloc is looked for. Nobody frees it. */
 static char early[65536];
@@ -137,11 +142,14 @@ __attribute__((constructor)) static void begin(void) {
   next_rename = next("rename");
   next_renameat = next("renameat");
   next_renameat2 = next("renameat2");
+  next_open = next("open");
+  next_statx = next("statx");
+  next_realpath = next("realpath");
   const char *what_words = getenv("REFUSALS_WHAT"), *how_word = getenv("REFUSALS_HOW"), *n = getenv("REFUSALS_N");
   if (what_words == NULL || how_word == NULL) return;
   while (*what_words != 0) {
     size_t size = strcspn(what_words, ",");
-    int kind = index_of(what_words, size, whats, 5);
+    int kind = index_of(what_words, size, whats, 7);
     if (kind < 0) wrong("REFUSALS_WHAT");
     counted_kinds |= 1 << kind;
     what_words += size + (what_words[size] == ',');
@@ -332,4 +340,23 @@ int renameat(int old, const char *from, int new, const char *to) {
 
 int renameat2(int old, const char *from, int new, const char *to, unsigned flags) {
   return is_refused(RENAME) ? fail() : next_renameat2(old, from, new, to, flags);
+}
+
+int open(const char *path, int flags, ...) {
+  if (is_refused(OPEN)) return fail();
+  va_list rest;
+  va_start(rest, flags);
+  mode_t mode = flags & (O_CREAT | O_TMPFILE) ? va_arg(rest, mode_t) : 0;
+  va_end(rest);
+  return next_open(path, flags, mode);
+}
+
+int statx(int folder, const char *path, int flags, unsigned mask, struct statx *found) {
+  return is_refused(LOOK) ? fail() : next_statx(folder, path, flags, mask, found);
+}
+
+char *realpath(const char *path, char *found) {
+  if (!is_refused(LOOK)) return next_realpath(path, found);
+  fail();
+  return NULL;
 }

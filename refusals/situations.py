@@ -189,12 +189,6 @@ def calls_of_states():
         yield Situation("copy", name, whole)
         yield Situation("look", name, whole, quiet=True)
         yield Situation("unwind", name, quiet=True)
-        yield Situation("keep", name)
-        yield Situation("watch", name)
-        yield Situation("break", name)
-        yield Situation("session", name, asked=name, refused=((4, 0),))
-        yield Situation("session_of", name, 0, whole, asked=name, refused=((4, 0),))
-        yield Situation("session_live", name, asked=name, refused=((4, 0),))
 
 
 def calls_of_walkers():
@@ -228,33 +222,20 @@ def calls_of_sessions():
     yield Situation("line", "one_step_too_many", 0, 3, lines=["sync"], asked="two_stores")
     served = "where\nshow got 0\ngoto 3\nwatch cq.tail\nbreak last 0 = 1\ncont\nrcont\nshow row 0\nwhere\n"
     yield Situation("serve", "one_nop", 6, lines=[""], asked=served, refused=((3, None),), closes=True)
-    for call in ("walk", "replay"):
-        yield Situation(call, "one_nop", 6, lines=[""], asked=served, refused=((4, 0), (3, 3)), rising=True)
 
 
 def calls_of_live_runs():
     for name in ("one_nop", "all_opcodes"):
-        yield Situation("open", name, refused=((3, 0),))
         for at in range(last(name) + 1):
             yield Situation("attempt", name, at, refused=((3, 17),), spares=at > 0)
     for at in range(last("one_nop") + 1):
         yield Situation("take_offer", "one_nop", at, refused=((3, 17),), spares=at > 0)
         yield Situation("offer", "one_nop", at, quiet=True)
-    yield Situation("events", "one_nop", 5)
     yield Situation("finish", "one_nop", quiet=True)
 
 
-def calls_over_bytes():
-    for name in ("one_nop", "all_opcodes"):
-        yield Situation("read_script", name, refused=((5, 0),))
-        for call in ("read_trace", "read_trace2", "migrate"):
-            yield Situation(call, name, refused=((7, 0),))
-        for call in ("write_trace", "write_trace2"):
-            yield Situation(call, name)
-
-
 def all_situations():
-    for made in (calls_of_states, calls_of_walkers, calls_of_sessions, calls_of_live_runs, calls_over_bytes):
+    for made in (calls_of_states, calls_of_walkers, calls_of_sessions, calls_of_live_runs):
         yield from made()
 
 

@@ -1,5 +1,6 @@
-//! Tests above the sessions: devices that move one byte a call or fail, sources that answer, the
-//! texts of faults, files one of whose calls fails, live runs, and clients who look at one.
+//! What no run of the program shows: what records keep, how few steps jumps and searches make, runs
+//! that are undone as a whole; devices that move one byte a call or fail, sources that answer, the
+//! texts of faults, live runs, and clients who look at one.
 #![tactic(auto)]
 
 #[cfg(test)]

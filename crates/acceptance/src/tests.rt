@@ -2,14 +2,19 @@
 
 mod by_hand;
 mod devices;
-mod failing;
 mod failures;
-mod files;
+mod jumps;
+mod keeping;
 mod loopback;
+mod runs;
+mod searches;
 mod sessions;
 mod side_by_side;
 mod sources;
+mod starting;
+mod starts;
 mod texts;
+mod units;
 
 use std::process::Abort;
 

@@ -4,13 +4,13 @@ use debug_server::RunFault;
 use inverse_log::{ExtendRefusal, WalkRefusal};
 use live_runner::LiveRefusal;
 use machine::{Refusal, SetupRefusal};
-use script::{ScriptFault, TraceFault};
+use script::ScriptFault;
 use std::alloc::AllocError;
-use std::io;
+use std::{fmt, io};
 use thiserror::Error;
 use whole_files::FileFault;
 
-#[derive(Debug, Drop, Error)]
+#[derive(Drop, Error)]
 pub enum Fault {
     #[error("setup {0:?}")]
     Setup(#[from] SetupRefusal),
@@ -22,9 +22,7 @@ pub enum Fault {
     Walk(#[from] WalkRefusal),
     #[error("script {0:?}")]
     Script(#[from] ScriptFault),
-    #[error("trace {0:?}")]
-    Trace(#[from] TraceFault),
-    #[error("run {0:?}")]
+    #[error("run: {0}")]
     Run(#[from] RunFault),
     #[error("live {0:?}")]
     Live(#[from] LiveRefusal),
@@ -38,4 +36,10 @@ pub enum Fault {
     Memory(#[from] AllocError),
     #[error("{0}")]
     Io(#[from] io::Error),
+}
+
+impl fmt::Debug for Fault {
+    fn fmt<W: fmt::Write>(&self, f: &mut fmt::Formatter<W>) -> fmt::Result {
+        write!(f, "{self}")
+    }
 }

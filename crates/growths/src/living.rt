@@ -6,7 +6,7 @@ use crate::comparing::{Compared, compare_states};
 use crate::fault::Fault;
 use crate::plan::{Call, Plan};
 use crate::situation::{Answer, Given, arm, disarm, tell};
-use crate::stepping::{run_first, state_at};
+use crate::stepping::run_first;
 use live_runner::{Live, LiveRefusal, Receipt, Seat, actors};
 use machine::{Event, Setup, State};
 use script::{Script, read_script};
@@ -20,73 +20,10 @@ const KERNEL: u32 = 1;
 /// Makes a call of a live run while a growth is refused.
 pub fn try_live(rt: &(impl Print + Eprint), given: &Given<'_>) -> Result<(), Fault> {
     let script = read_script(given.alloc, given.text)?;
-    match given.plan.call {
-        Call::Open => try_open(rt, given, &script),
-        _ => try_driven(rt, given, &script),
-    }
+    try_driven(rt, given, &script)
 }
 
-// ---- opening
-
-fn try_open(rt: &(impl Print + Eprint), given: &Given<'_>, script: &Script) -> Result<(), Fault> {
-    let state = state_at(given.alloc, script, 0)?;
-    let setup = script.setup();
-    let (answer, stood) = opened(rt, given.alloc, setup, &state, given.plan.number)?;
-    let (first, left) = opened(rt, given.alloc, setup, &state, 0)?;
-    tell(rt, (answer, first, first), (stood, left))
-}
-
-fn opened<R: Eprint>(
-    rt: &R,
-    alloc: Global,
-    setup: &Setup,
-    state: &State,
-    number: u32,
-) -> Result<(Answer, Compared), Fault> {
-    let blank = Blank::new(actors(setup, KERNEL) as u64);
-    open::<Brand, R>(rt, alloc, blank, setup, state, number)
-}
-
-// Opens a live run, and compares what stands in it with a state.
-fn open<L: Ledger, R: Eprint>(
-    rt: &R,
-    alloc: Global,
-    blank: Blank,
-    setup: &Setup,
-    state: &State,
-    number: u32,
-) -> Result<(Answer, Compared), Fault>
-    requires name { blank.name ≡ L.name }
-    requires parts { blank.parts ≡ L.parts }
-    requires all { blank.parts ≡ actors setup.now 1 }
-{
-    arm(rt, number)?;
-    let opened = Live::<L>::open(alloc, blank, setup, KERNEL);
-    disarm(rt)?;
-    let mut compared = Compared::default();
-    match opened {
-        Ok((live, seats)) => {
-            compare_opened(&mut compared, &live, seats.as_slice(), state);
-            Ok((Answer::done(seats.len() as u64), compared))
-        }
-        Err(refusal) => Ok((Answer::refused(refusal as u32, 0), compared)),
-    }
-}
-
-fn compare_opened<L: Ledger>(
-    compared: &mut Compared,
-    live: &Live<L>,
-    seats: &[Seat<L>],
-    state: &State,
-) {
-    compare_states(compared, live.setup(), live.state(), state);
-    for seat in seats {
-        compared.count(seat.receipts().is_empty());
-    }
-}
-
-// ---- a run by hand
-
+// The same over a script's setup and schedule.
 fn try_driven<R: Print + Eprint>(rt: &R, given: &Given<'_>, script: &Script) -> Result<(), Fault> {
     let setup = script.setup();
     let blank = Blank::new(actors(setup, KERNEL) as u64);
@@ -235,7 +172,7 @@ fn receipt(actor: u32, moment: usize, event: Event) -> Receipt {
     }
 }
 
-// The call. It tells a moment, or how many events there are.
+// The call. It tells a moment.
 fn make_call<L: Ledger>(live: &mut Live<L>, seat: &mut Seat<L>, calling: Calling<'_>) -> Answer {
     match calling.plan.call {
         Call::Attempt => answer_of(live.attempt(seat, calling.event)),
@@ -243,7 +180,6 @@ fn make_call<L: Ledger>(live: &mut Live<L>, seat: &mut Seat<L>, calling: Calling
             Some(attempted) => answer_of(attempted),
             None => Answer::refused(100, 0),
         },
-        Call::Events => count_events(live),
         _ => look_at_offer(live, seat, calling),
     }
 }
@@ -254,13 +190,6 @@ fn answer_of(attempted: Result<Receipt, LiveRefusal>) -> Answer {
         Err(LiveRefusal::NotYours) => Answer::refused(1, 0),
         Err(LiveRefusal::TraceFull) => Answer::refused(2, 0),
         Err(LiveRefusal::Step(refusal)) => Answer::refused(3, refusal as u64),
-    }
-}
-
-fn count_events<L: Ledger>(live: &Live<L>) -> Answer {
-    match live.events() {
-        Ok(events) => Answer::done(events.len() as u64),
-        Err(_) => Answer::refused(1, 0),
     }
 }
 

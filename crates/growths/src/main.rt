@@ -11,12 +11,10 @@
 mod closing;
 mod comparing;
 mod fault;
-mod keeping;
 mod living;
 mod plan;
 mod serving;
 mod situation;
-mod spelling;
 mod stepping;
 mod talking;
 mod undoing;
@@ -24,12 +22,10 @@ mod walking;
 
 use closing::try_finish;
 use fault::Fault;
-use keeping::Keeping;
 use living::try_live;
 use plan::{Call, Plan, WORDS, plan_of};
 use serving::Serving;
 use situation::{Given, try_situation};
-use spelling::Spelling;
 use std::io::Read;
 use std::process::ExitCode;
 use std::rt::Files;
@@ -52,16 +48,10 @@ fn try_plan<R: Print + Eprint>(rt: &R, given: &Given<'_>) -> Result<(), Fault> {
         Call::Extend | Call::Goto | Call::On | Call::Back | Call::Rcont | Call::Cont => {
             try_situation::<Walking, R>(rt, given)
         }
-        Call::Keep | Call::Watch | Call::Break => try_situation::<Keeping, R>(rt, given),
-        Call::Session | Call::SessionOf | Call::SessionLive | Call::Line => {
-            try_situation::<Talking, R>(rt, given)
-        }
-        Call::Serve | Call::Walk | Call::Replay => try_situation::<Serving, R>(rt, given),
-        Call::Open | Call::Attempt | Call::TakeOffer | Call::Events | Call::Offer => {
-            try_live(rt, given)
-        }
+        Call::Line => try_situation::<Talking, R>(rt, given),
+        Call::Serve => try_situation::<Serving, R>(rt, given),
+        Call::Attempt | Call::TakeOffer | Call::Offer => try_live(rt, given),
         Call::Finish => try_finish(rt, given),
-        _ => try_situation::<Spelling, R>(rt, given),
     }
 }
 

@@ -23,35 +23,12 @@ pub enum Call {
     Back,
     Rcont,
     Cont,
-    /// `Kept::keep`.
-    Keep,
-    /// `Watches::watch`.
-    Watch,
-    /// `Watches::break_at`.
-    Break,
-    ReadScript,
-    ReadTrace,
-    ReadTrace2,
-    WriteTrace,
-    WriteTrace2,
-    Migrate,
-    /// `Session::new`.
-    Session,
-    /// `Session::of`.
-    SessionOf,
-    /// `Session::live`.
-    SessionLive,
     /// `Session::line`.
     Line,
     Serve,
-    Walk,
-    Replay,
-    /// `Live::open`.
-    Open,
+    /// `Live::attempt`, `Live::take_offer` and `Live::offer`.
     Attempt,
     TakeOffer,
-    /// `Live::events`.
-    Events,
     Offer,
     /// `Worker::new`, `finish`, and `Closed::redeem`.
     Finish,
@@ -85,38 +62,10 @@ fn call_of(name: &str) -> Option<Call> {
         "back" => Call::Back,
         "rcont" => Call::Rcont,
         "cont" => Call::Cont,
-        "keep" => Call::Keep,
-        "watch" => Call::Watch,
-        "break" => Call::Break,
-        _ => return call_over_bytes(name),
-    })
-}
-
-fn call_over_bytes(name: &str) -> Option<Call> {
-    Some(match name {
-        "read_script" => Call::ReadScript,
-        "read_trace" => Call::ReadTrace,
-        "read_trace2" => Call::ReadTrace2,
-        "write_trace" => Call::WriteTrace,
-        "write_trace2" => Call::WriteTrace2,
-        "migrate" => Call::Migrate,
-        "session" => Call::Session,
-        "session_of" => Call::SessionOf,
-        "session_live" => Call::SessionLive,
         "line" => Call::Line,
         "serve" => Call::Serve,
-        "walk" => Call::Walk,
-        "replay" => Call::Replay,
-        _ => return live_call(name),
-    })
-}
-
-fn live_call(name: &str) -> Option<Call> {
-    Some(match name {
-        "open" => Call::Open,
         "attempt" => Call::Attempt,
         "take_offer" => Call::TakeOffer,
-        "events" => Call::Events,
         "offer" => Call::Offer,
         "finish" => Call::Finish,
         _ => return None,

@@ -1,13 +1,11 @@
-//! Calls that serve lines.
+//! Sessions that serve lines.
 
 use crate::comparing::Compared;
 use crate::fault::Fault;
-use crate::plan::Call;
 use crate::situation::{Answer, Given, Situation};
-use crate::talking::{answer_of, session_over};
-use debug_server::{Form, NoSource, RunFault, Session, Traced, replay, serve, trace_script, walk};
+use crate::talking::session_over;
+use debug_server::{NoSource, Session, serve};
 use script::read_script;
-use std::alloc::Global;
 use std::io;
 use std::io::Read;
 
@@ -31,13 +29,10 @@ impl Read for Counted<'_> {
     }
 }
 
-/// A session, a script or a trace, the lines that are served, what was written, and what is written
-/// where nothing is refused.
+/// A session, the lines that are served, what was written, and what is written where nothing is
+/// refused.
 pub struct Serving {
-    alloc: Global,
-    call: Call,
     session: Session,
-    run: Vec<u8>,
     input: Vec<u8>,
     written: Vec<u8>,
     whole: Vec<u8>,
@@ -47,10 +42,7 @@ pub struct Serving {
 impl Drop for Serving {
     fn drop(self) {
         let Serving {
-            alloc: _,
-            call: _,
             session: _,
-            run: _,
             input: _,
             written: _,
             whole: _,
@@ -60,74 +52,13 @@ impl Drop for Serving {
 
 impl Situation for Serving {
     fn make(given: &Given<'_>) -> Result<Serving, Fault> {
-        let script = read_script(given.alloc, given.text)?;
-        let session = session_over(given.alloc, &script, given.plan)?;
+        let session = new_session(given)?;
         serving_over(given, session)
     }
 
-    // Behind the number of a session's fault stands how many reads there were, behind that of a
-    // run's fault what it names, or for want of memory how many bytes were written.
+    // Behind the number of a session's fault stands how many reads there were.
     fn call(&mut self) -> Answer {
         self.written.clear();
-        match self.call {
-            Call::Serve => self.serve(),
-            _ => self.run(),
-        }
-    }
-
-    // Whether what was written is a beginning of all that is to be written, and that of the other
-    // all of it.
-    fn compare(&mut self, other: &mut Serving) -> Compared {
-        let mut compared = Compared::default();
-        compared.count(self.whole.starts_with(self.written.as_slice()));
-        compared.count(
-            other.written.is_empty() || other.written.as_slice() == self.whole.as_slice(),
-        );
-        compared
-    }
-}
-
-fn serving_over(given: &Given<'_>, session: Session) -> Result<Serving, Fault> {
-    let run = match given.plan.call {
-        Call::Replay => whole_trace(given)?,
-        _ => Vec::from_slice(given.alloc, given.text)?,
-    };
-    let input = Vec::from_slice(given.alloc, given.lines)?;
-    let whole = replied(given)?;
-    Ok(Serving {
-        alloc: given.alloc,
-        call: given.plan.call,
-        session,
-        run,
-        input,
-        written: Vec::with_capacity(given.alloc, ROOM)?,
-        whole,
-    })
-}
-
-fn whole_trace(given: &Given<'_>) -> Result<Vec<u8>, Fault> {
-    let Traced { events: _, bytes } = trace_script(given.alloc, given.text, Form::Whole)?;
-    Ok(bytes)
-}
-
-// What a session that meets no refusal replies to the lines.
-fn replied(given: &Given<'_>) -> Result<Vec<u8>, Fault> {
-    let script = read_script(given.alloc, given.text)?;
-    let mut session = session_over(given.alloc, &script, given.plan)?;
-    served(given, &mut session)
-}
-
-fn served(given: &Given<'_>, session: &mut Session) -> Result<Vec<u8>, Fault> {
-    let mut written = Vec::new(given.alloc);
-    let mut reader = given.lines;
-    match serve(session, &mut reader, &mut written, &mut NoSource) {
-        Ok(()) => Ok(written),
-        Err(_) => Err(Fault::Missing("reply")),
-    }
-}
-
-impl Serving {
-    fn serve(&mut self) -> Answer {
         let mut reader = Counted {
             rest: self.input.as_slice(),
             reads: 0,
@@ -144,27 +75,45 @@ impl Serving {
         }
     }
 
-    fn run(&mut self) -> Answer {
-        let mut reader = self.input.as_slice();
-        let run = match self.call {
-            Call::Replay => replay(
-                self.alloc,
-                self.run.as_slice(),
-                &mut reader,
-                &mut self.written,
-            ),
-            _ => walk(
-                self.alloc,
-                self.run.as_slice(),
-                &mut reader,
-                &mut self.written,
-            ),
-        };
-        let written = self.written.len() as u64;
-        match run {
-            Ok(()) => Answer::done(written),
-            Err(RunFault::Memory) => Answer::refused(4, written),
-            Err(fault) => answer_of(fault),
-        }
+    // Whether what was written is a beginning of all that is to be written, and that of the other
+    // all of it.
+    fn compare(&mut self, other: &mut Serving) -> Compared {
+        let mut compared = Compared::default();
+        compared.count(self.whole.starts_with(self.written.as_slice()));
+        compared.count(
+            other.written.is_empty() || other.written.as_slice() == self.whole.as_slice(),
+        );
+        compared
+    }
+}
+
+fn new_session(given: &Given<'_>) -> Result<Session, Fault> {
+    let script = read_script(given.alloc, given.text)?;
+    session_over(given.alloc, &script, given.plan)
+}
+
+fn serving_over(given: &Given<'_>, session: Session) -> Result<Serving, Fault> {
+    let input = Vec::from_slice(given.alloc, given.lines)?;
+    let whole = replied(given)?;
+    Ok(Serving {
+        session,
+        input,
+        written: Vec::with_capacity(given.alloc, ROOM)?,
+        whole,
+    })
+}
+
+// What a session that meets no refusal replies to the lines.
+fn replied(given: &Given<'_>) -> Result<Vec<u8>, Fault> {
+    let mut session = new_session(given)?;
+    served(given, &mut session)
+}
+
+fn served(given: &Given<'_>, session: &mut Session) -> Result<Vec<u8>, Fault> {
+    let mut written = Vec::new(given.alloc);
+    let mut reader = given.lines;
+    match serve(session, &mut reader, &mut written, &mut NoSource) {
+        Ok(()) => Ok(written),
+        Err(_) => Err(Fault::Missing("reply")),
     }
 }

@@ -1,8 +1,8 @@
-//! Calls of sessions. What stands in one is seen by the lines that it is asked.
+//! Lines of sessions. What stands in one is seen by the lines that it is asked.
 
 use crate::comparing::Compared;
 use crate::fault::Fault;
-use crate::plan::{Call, Plan};
+use crate::plan::Plan;
 use crate::situation::{Answer, Given, Situation};
 use debug_server::{RunFault, Session};
 use inverse_log::walker::TRACE_LIMIT;
@@ -10,12 +10,10 @@ use machine::Event;
 use script::{Script, read_script};
 use std::alloc::Global;
 
-/// A session that was made, and the call's line.
+/// A session, and the line that is said to it.
 pub struct Talking {
-    alloc: Global,
-    call: Call,
     script: Script,
-    session: Option<Session>,
+    session: Session,
     line: Vec<u8>,
     /// How many events of the schedule a source gives, if it is asked.
     told: usize,
@@ -27,8 +25,6 @@ pub struct Talking {
 impl Drop for Talking {
     fn drop(self) {
         let Talking {
-            alloc: _,
-            call: _,
             script: _,
             session: _,
             line: _,
@@ -45,21 +41,23 @@ impl Situation for Talking {
         talking_over(given, script)
     }
 
+    // The line, to which a source gives events if it asks for them.
     fn call(&mut self) -> Answer {
-        match self.call {
-            Call::Line => self.talk(),
-            call => self.open(call),
+        let events = first_events(&self.script, self.told);
+        match self.session.line(self.line.as_slice(), Some(events)) {
+            Ok(reply) => {
+                self.reply = reply;
+                Answer::done(0)
+            }
+            Err(_) => Answer::refused(1, 0),
         }
     }
 
     fn compare(&mut self, other: &mut Talking) -> Compared {
         let mut compared = Compared::default();
         compared.count(self.reply.as_slice() == other.reply.as_slice());
-        match (&mut self.session, &mut other.session) {
-            (Some(one), Some(other)) => ask_all(&mut compared, one, other, self.asked.as_slice()),
-            (None, None) => compared.count(true),
-            _ => compared.count(false),
-        }
+        let lines = self.asked.as_slice();
+        ask_all(&mut compared, &mut self.session, &mut other.session, lines);
         compared
     }
 }
@@ -71,10 +69,8 @@ fn talking_over(given: &Given<'_>, script: Script) -> Result<Talking, Fault> {
     };
     let line = Vec::from_slice(given.alloc, line.as_bytes())?;
     let asked = Vec::from_slice(given.alloc, given.lines)?;
-    let session = first_session(given, &script)?;
+    let session = session_over(given.alloc, &script, given.plan)?;
     Ok(Talking {
-        alloc: given.alloc,
-        call: given.plan.call,
         script,
         session,
         line,
@@ -82,14 +78,6 @@ fn talking_over(given: &Given<'_>, script: Script) -> Result<Talking, Fault> {
         reply: Vec::new(given.alloc),
         asked,
     })
-}
-
-// The session whose line it is, if it isn't the call that makes one.
-fn first_session(given: &Given<'_>, script: &Script) -> Result<Option<Session>, Fault> {
-    match given.plan.call {
-        Call::Line => Ok(Some(session_over(given.alloc, script, given.plan)?)),
-        _ => Ok(None),
-    }
 }
 
 /// A session of the first events of a script, to which lines were said.
@@ -118,54 +106,6 @@ fn say(session: &mut Session, lines: &[String]) -> Result<(), Fault> {
         session.line(line.as_str().as_bytes(), None)?;
     }
     Ok(())
-}
-
-fn opened(alloc: Global, script: &Script, call: Call, count: usize) -> Result<Session, RunFault> {
-    match call {
-        Call::Session => Session::new(alloc, script),
-        Call::SessionLive => Session::live(alloc, script),
-        _ => session_of(alloc, script, count),
-    }
-}
-
-impl Talking {
-    // Makes a session.
-    fn open(&mut self, call: Call) -> Answer {
-        match opened(self.alloc, &self.script, call, self.told) {
-            Ok(session) => {
-                self.session = Some(session);
-                Answer::done(0)
-            }
-            Err(fault) => answer_of(fault),
-        }
-    }
-
-    // The line, to which a source gives events if it asks for them.
-    fn talk(&mut self) -> Answer {
-        let events = first_events(&self.script, self.told);
-        let Some(session) = &mut self.session else {
-            return Answer::refused(100, 0);
-        };
-        match session.line(self.line.as_slice(), Some(events)) {
-            Ok(reply) => {
-                self.reply = reply;
-                Answer::done(0)
-            }
-            Err(_) => Answer::refused(1, 0),
-        }
-    }
-}
-
-/// A fault of a run, by its number and what it names.
-pub fn answer_of(fault: RunFault) -> Answer {
-    match fault {
-        RunFault::Script(fault) => Answer::refused(1, u64::from(fault.number())),
-        RunFault::Schedule(index, _) => Answer::refused(2, u64::from(index)),
-        RunFault::Serve(fault) => Answer::refused(3, fault as u64),
-        RunFault::Memory => Answer::refused(4, 0),
-        RunFault::Net => Answer::refused(5, 0),
-        RunFault::Trace(fault) => Answer::refused(6, u64::from(fault.number())),
-    }
 }
 
 // Asks two sessions each of some lines.

@@ -1,6 +1,7 @@
 //! Setups that a run can't start from.
 
-use crate::tests::{check, quiet};
+use crate::tests::check;
+use crate::tests::starting::quiet;
 use machine::Setup;
 use places::Items;
 use scenario::{Instruction, SetupRefusal, setup_refusal};

@@ -1,6 +1,7 @@
 //! How many steps jumps make.
 
-use crate::tests::{check, quiet};
+use crate::tests::check;
+use crate::tests::starting::quiet;
 use inverse_log::{WalkRefusal, Walker};
 use machine::{Event, SetupRefusal};
 use places::{Place, Value};

@@ -1,6 +1,7 @@
 //! How many steps searches back make.
 
-use crate::tests::{TWO_REQUESTS, check, walker_of};
+use crate::tests::check;
+use crate::tests::starting::{TWO_REQUESTS, walker_of};
 use inverse_log::Walker;
 use machine::Event;
 use places::Place;

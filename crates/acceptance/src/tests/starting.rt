@@ -1,13 +1,4 @@
-//! Runs of small scripts, and traces.
-
-mod jumps;
-mod keeping;
-mod runs;
-mod searches;
-mod setups;
-mod starts;
-mod traces_again;
-mod units;
+//! What small runs start from, and their events.
 
 use inverse_log::Walker;
 use machine::{Event, Setup, State};
@@ -15,15 +6,14 @@ use opcodes::Choice;
 use places::Items;
 use script::{Script, read_script};
 use std::alloc::Global;
-use std::process::Abort;
 use std::test::Fail;
 
-/// One NOP with user_data 7, which a thread puts, pushes, enters and reaps.
-const ONE_NOP: &str =
+/// One NOP with user_data 7, which a thread puts, pushes, enters and reaps; no event is scheduled.
+pub const NOP_ALONE: &str =
     r#"{"entries":1,"threads":[[["put",0,{"op":0,"ud":7}],["push",0],["enter",1,0,0],["reap"]]],"schedule":[]}"#;
 
 /// The only request of a thread, from its Put to its end, and one more step of the thread.
-const REQUEST_AND_STEP: [Event; 6] = [
+pub const REQUEST_AND_STEP: [Event; 6] = [
     Event::Step(0),
     Event::Step(0),
     Event::Step(0),
@@ -33,7 +23,7 @@ const REQUEST_AND_STEP: [Event; 6] = [
 ];
 
 /// Two requests of a thread, which are entered together and end one after the other.
-const TWO_REQUESTS: [Event; 9] = [
+pub const TWO_REQUESTS: [Event; 9] = [
     Event::Step(0),
     Event::Step(0),
     Event::Step(0),
@@ -45,12 +35,8 @@ const TWO_REQUESTS: [Event; 9] = [
     Event::Finish(1, Choice::Full),
 ];
 
-fn check(rt: &impl Abort, holds: bool) {
-    assert!(rt; holds);
-}
-
-// A setup without threads.
-fn quiet(alloc: Global) -> Setup {
+/// A setup without threads.
+pub fn quiet(alloc: Global) -> Setup {
     Setup {
         entries: 1,
         cq: None,
@@ -68,8 +54,8 @@ fn state_over(alloc: Global, script: &Script) -> Result<State, Fail> {
     Ok(State::new(alloc, script.setup())?)
 }
 
-// The state at the start of a script.
-fn state_of(alloc: Global, text: &str) -> Result<State, Fail> {
+/// The state at the start of a script.
+pub fn state_of(alloc: Global, text: &str) -> Result<State, Fail> {
     let script = read_script(alloc, text.as_bytes())?;
     state_over(alloc, &script)
 }
@@ -78,8 +64,8 @@ fn walker_over(alloc: Global, script: &Script) -> Result<Walker, Fail> {
     Ok(Walker::new(alloc, script.setup())?)
 }
 
-// A walker at the start of a script.
-fn walker_of(alloc: Global, text: &str) -> Result<Walker, Fail> {
+/// A walker at the start of a script.
+pub fn walker_of(alloc: Global, text: &str) -> Result<Walker, Fail> {
     let script = read_script(alloc, text.as_bytes())?;
     walker_over(alloc, &script)
 }

@@ -1,4 +1,0 @@
-use Rattle.growths.proofs.living.opened.Given as goal
-
-abbrev pub ghosts-open : goal.ghosts-open
-ghosts-open g a = record { name = a.blank.name; parts = a.blank.parts }
