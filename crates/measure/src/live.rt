@@ -11,7 +11,7 @@ mod tally;
 use crate::fault::Fault;
 use checking::check;
 use live_runner::{actors, run_live};
-pub use offers::{Asked, ask};
+pub use offers::{OfferPlan, ask};
 use pace::Pace;
 use programs::{chain_setup, single_setup};
 use scenario::Setup;

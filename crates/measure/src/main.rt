@@ -13,7 +13,7 @@ use draft::Draft;
 use fault::Fault;
 use figures::Figures;
 use inverse_log::Walker;
-use live::{Asked, ask, loads};
+use live::{OfferPlan, ask, loads};
 use load::fill;
 use machine::Event;
 use places::{Place, Value};
@@ -145,7 +145,7 @@ fn main(rt: HostRuntime) -> io::Result<ExitCode> {
 }
 
 // Asks for offers, and tells how many there were.
-fn tell_offers(rt: &(impl Print + AllocGlobal), asked: Asked) -> Result<(), Fault> {
+fn tell_offers(rt: &(impl Print + AllocGlobal), asked: OfferPlan) -> Result<(), Fault> {
     let count = ask(rt.alloc(), asked)?;
     Ok(println!(rt; "{count} offers")?)
 }

@@ -1,6 +1,6 @@
 //! Which run is measured, and its size.
 
-use crate::live::Asked;
+use crate::live::OfferPlan;
 
 /// The words that a run is asked for by, each with the most that its number can be.
 pub const WORDS: &str =
@@ -94,7 +94,7 @@ pub enum Job {
     /// Two live runs are made, and looked at.
     Live,
     /// Offers are asked for.
-    Offers(Asked),
+    Offers(OfferPlan),
 }
 
 fn number_of(word: &String) -> Option<u32> {
@@ -112,7 +112,7 @@ fn walk_of(name: &String, size: &String) -> Option<Job> {
 }
 
 fn offers_of(name: &String, [ended, waiting, times]: [&String; 3]) -> Option<Job> {
-    let asked = Asked {
+    let asked = OfferPlan {
         ended: number_of(ended)?,
         waiting: number_of(waiting)?,
         times: number_of(times)?,

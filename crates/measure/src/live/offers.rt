@@ -12,7 +12,7 @@ use std::sync::ledger::{Blank, Ledger};
 
 /// How many rows ended, how many wait, and how often each offer is asked for.
 #[derive(Clone, Copy)]
-pub struct Asked {
+pub struct OfferPlan {
     pub ended: u32,
     pub waiting: u32,
     pub times: u32,
@@ -26,7 +26,7 @@ const DEEDS: u32 = 16384;
 
 /// Asks for the offers of a kernel worker as one more row is there to be issued, once it is issued,
 /// and once it has ended. Tells how many there were.
-pub fn ask(alloc: Global, asked: Asked) -> Result<u32, Fault> {
+pub fn ask(alloc: Global, asked: OfferPlan) -> Result<u32, Fault> {
     let setup = asking_setup(alloc, asked.ended, asked.waiting)?;
     ask_over::<Brand>(
         alloc,
