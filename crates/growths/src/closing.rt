@@ -43,9 +43,34 @@ fn by_hand<L: Ledger, R: Eprint>(
     requires two { blank.parts ≡ 2 }
     requires all { actors setup.now 1 ≡ 2 }
 {
-    let (mut live, mut seats) = Live::<L>::open(given.alloc, blank, setup, 1)?;
+    let room = Vec::with_capacity(given.alloc, 2)?;
+    match Live::<L>::open(given.alloc, blank, setup, 1) {
+        Ok((live, seats)) => act_and_close(rt, given, room, live, seats),
+        Err(refusal) => Err(Fault::from(refusal)),
+    }
+}
+
+// Does the events, and closes the run while growths are refused.
+fn act_and_close<L: Ledger>(
+    rt: &impl Eprint,
+    given: &Given<'_>,
+    room: Vec<Worker<'_, L, AlwaysOpen>>,
+    mut live: Live<L>,
+    mut seats: Vec<Seat<L>>,
+) -> Result<Closed, Fault>
+    requires all { length seats.items ≡ L.parts }
+    requires actors { length seats.items ≡ live.actors }
+    requires two { length seats.items ≡ 2 }
+    requires order { InOrder seats.items }
+    requires none { length room.items ≡ 0 }
+{
     act_all(&mut live, &mut seats);
-    close(rt, given, live, seats)
+    let armed = arm(rt, given.plan.number);
+    let closed = close(room, live, seats);
+    match armed.and(disarm(rt)) {
+        Ok(()) => closed,
+        Err(error) => Err(Fault::Io(error)),
+    }
 }
 
 // The events of the NOP: those of the thread, and those of the kernel worker.
@@ -77,20 +102,19 @@ fn act<L: Ledger>(live: &mut Live<L>, seats: &mut Vec<Seat<L>>, actor: usize, ev
 
 // Closes a run. What holds the workers has room for them.
 fn close<L: Ledger>(
-    rt: &impl Eprint,
-    given: &Given<'_>,
+    room: Vec<Worker<'_, L, AlwaysOpen>>,
     live: Live<L>,
     seats: Vec<Seat<L>>,
 ) -> Result<Closed, Fault>
     requires all { length seats.items ≡ L.parts }
     requires actors { length seats.items ≡ live.actors }
     requires order { InOrder seats.items }
+    requires none { length room.items ≡ 0 }
 {
-    let room = Vec::with_capacity(given.alloc, 2)?;
-    arm(rt, given.plan.number)?;
-    let closed = finish_with(live, workers_of(room, seats, &AlwaysOpen)?);
-    disarm(rt)?;
-    closed
+    match workers_of(room, seats, &AlwaysOpen) {
+        Ok(workers) => finish_with(live, workers),
+        Err(_) => Err(Fault::Memory),
+    }
 }
 
 // A worker for each seat.

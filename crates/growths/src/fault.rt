@@ -7,39 +7,81 @@ use machine::{Refusal, SetupRefusal};
 use script::ScriptFault;
 use std::alloc::AllocError;
 use std::{fmt, io};
-use thiserror::Error;
-use whole_files::FileFault;
 
-#[derive(Drop, Error)]
+#[derive(Drop)]
 pub enum Fault {
-    #[error("setup {0:?}")]
-    Setup(#[from] SetupRefusal),
-    #[error("step {0:?}")]
-    Step(#[from] Refusal),
-    #[error("extend {0:?}")]
-    Extend(#[from] ExtendRefusal),
-    #[error("walk {0:?}")]
-    Walk(#[from] WalkRefusal),
-    #[error("script {0:?}")]
-    Script(#[from] ScriptFault),
-    #[error("run: {0}")]
-    Run(#[from] RunFault),
-    #[error("live {0:?}")]
-    Live(#[from] LiveRefusal),
-    #[error("file {0:?}")]
-    File(FileFault),
-    #[error("there is no {0}")]
+    /// A call that leads to the situation was refused: what it was to do, and the refusal's number.
+    Refused(&'static str, u32),
+    File,
     Missing(&'static str),
-    #[error("values differ")]
     Differs,
-    #[error("memory")]
-    Memory(#[from] AllocError),
-    #[error("{0}")]
-    Io(#[from] io::Error),
+    Memory,
+    Io(io::Error),
 }
 
-impl fmt::Debug for Fault {
+impl fmt::Display for Fault {
     fn fmt<W: fmt::Write>(&self, f: &mut fmt::Formatter<W>) -> fmt::Result {
-        write!(f, "{self}")
+        match self {
+            Fault::Refused(what, number) => write!(f, "{what} was refused: {number}"),
+            Fault::File => f.write_str("the script's file isn't read"),
+            Fault::Missing(what) => write!(f, "there is no {what}"),
+            Fault::Differs => f.write_str("values differ"),
+            Fault::Memory => f.write_str("memory"),
+            Fault::Io(error) => write!(f, "{error}"),
+        }
+    }
+}
+
+impl From<SetupRefusal> for Fault {
+    fn from(refusal: SetupRefusal) -> Fault {
+        Fault::Refused("the setup", refusal as u32)
+    }
+}
+
+impl From<Refusal> for Fault {
+    fn from(refusal: Refusal) -> Fault {
+        Fault::Refused("an event", refusal as u32)
+    }
+}
+
+impl From<ExtendRefusal> for Fault {
+    fn from(refusal: ExtendRefusal) -> Fault {
+        Fault::Refused("adding events", refusal.number())
+    }
+}
+
+impl From<WalkRefusal> for Fault {
+    fn from(refusal: WalkRefusal) -> Fault {
+        Fault::Refused("a jump", refusal as u32)
+    }
+}
+
+impl From<ScriptFault> for Fault {
+    fn from(fault: ScriptFault) -> Fault {
+        Fault::Refused("the script", fault.number())
+    }
+}
+
+impl From<RunFault> for Fault {
+    fn from(_fault: RunFault) -> Fault {
+        Fault::Missing("session")
+    }
+}
+
+impl From<LiveRefusal> for Fault {
+    fn from(_refusal: LiveRefusal) -> Fault {
+        Fault::Missing("live run up to that event")
+    }
+}
+
+impl From<AllocError> for Fault {
+    fn from(_error: AllocError) -> Fault {
+        Fault::Memory
+    }
+}
+
+impl From<io::Error> for Fault {
+    fn from(error: io::Error) -> Fault {
+        Fault::Io(error)
     }
 }

@@ -61,7 +61,7 @@ fn try_words(
 ) -> Result<(), Fault> {
     let text = match read_file(rt, plan.script, SCRIPT) {
         Ok(text) => text,
-        Err(fault) => return Err(Fault::File(fault)),
+        Err(_) => return Err(Fault::File),
     };
     let mut lines = Vec::new(rt.alloc());
     let mut input = rt.reader();

@@ -1,10 +1,9 @@
 //! Why nothing was measured, and what is wrong with a run.
 
 use inverse_log::{ExtendRefusal, WalkRefusal};
-use live_runner::{LiveFault, Receipt};
+use live_runner::LiveFault;
 use machine::{Refusal, SetupRefusal};
 use opcodes::Op;
-use places::Place;
 use std::alloc::AllocError;
 use std::{fmt, io};
 
@@ -15,11 +14,9 @@ pub enum Fault {
     Walk(WalkRefusal),
     Live(LiveFault),
     Replay(Refusal),
-    Unfinished(u64),
-    Differs(Place),
-    Receipt(Receipt),
-    Receipts(usize, usize),
-    Few(usize),
+    /// What a live run shows that it must not.
+    Wrong(&'static str),
+    /// What none of the live runs had.
     Missing(&'static str),
     NoneWell(Op),
     NoneBadly(Op),
@@ -27,29 +24,12 @@ pub enum Fault {
     Io(io::Error),
 }
 
-// What is wrong with a live run that was not closed.
-fn write_live_fault<W: fmt::Write>(f: &mut fmt::Formatter<W>, fault: &LiveFault) -> fmt::Result {
+fn word_of(fault: &LiveFault) -> &'static str {
     match fault {
-        LiveFault::Setup(refusal) => write!(f, "the run has no start: {refusal:?}"),
-        LiveFault::Torn(actor) => write!(f, "actor {actor} was told another run"),
-        LiveFault::Strange(_, actors) => write!(f, "the run is another one, of {actors} actors"),
+        LiveFault::Setup(_) => "it has no start",
+        LiveFault::Torn(_) => "an actor was told otherwise",
+        LiveFault::Strange(_, _) => "it is another one",
     }
-}
-
-fn write_place<W: fmt::Write>(f: &mut fmt::Formatter<W>, place: Place) -> fmt::Result {
-    let (kind, index, second) = (place.kind(), place.index(), place.second());
-    write!(
-        f,
-        "another value stands in a place of kind {kind}, at {index} {second}"
-    )
-}
-
-fn write_receipt<W: fmt::Write>(f: &mut fmt::Formatter<W>, receipt: &Receipt) -> fmt::Result {
-    let (actor, moment) = (receipt.actor, receipt.moment);
-    write!(
-        f,
-        "the receipt of actor {actor} for moment {moment} isn't redeemed"
-    )
 }
 
 impl fmt::Display for Fault {
@@ -58,16 +38,9 @@ impl fmt::Display for Fault {
             Fault::Setup(refusal) => write!(f, "the setup has no start: {refusal:?}"),
             Fault::Extend(refusal) => write!(f, "the events can't be added: {refusal:?}"),
             Fault::Walk(refusal) => write!(f, "the run can't be walked: {refusal:?}"),
-            Fault::Live(fault) => write_live_fault(f, fault),
+            Fault::Live(fault) => write!(f, "the live run isn't closed: {}", word_of(fault)),
             Fault::Replay(refusal) => write!(f, "the trace doesn't replay: {refusal:?}"),
-            Fault::Unfinished(count) => write!(f, "{count} rows are unfinished at once"),
-            Fault::Differs(place) => write_place(f, *place),
-            Fault::Receipt(receipt) => write_receipt(f, receipt),
-            Fault::Receipts(receipts, events) => write!(
-                f,
-                "{receipts} receipts for {events} events"
-            ),
-            Fault::Few(count) => write!(f, "there are {count} events alone"),
+            Fault::Wrong(what) => f.write_str(what),
             Fault::Missing(name) => write!(f, "there is no {name}"),
             Fault::NoneWell(op) => write!(f, "no request of opcode {} ended well", *op as u8),
             Fault::NoneBadly(op) => write!(f, "no request of opcode {} ended badly", *op as u8),

@@ -39,6 +39,14 @@ fn refuse_long(rt: &impl Eprint, events: u32) -> ExitCode {
     }
 }
 
+// Writes a picture to its file.
+fn keep_page(rt: &(impl Files + AllocGlobal), out: &str, page: &[u8]) -> Result<ExitCode, Fault> {
+    match write_file(rt, out, page) {
+        Ok(()) => Ok(ExitCode::SUCCESS),
+        Err(fault) => Err(told(fault)),
+    }
+}
+
 /// Draws the events in the window, of the script or the trace in a file, and writes the picture to
 /// another. It gives the status that the program ends with.
 pub fn draw_file(
@@ -55,10 +63,7 @@ pub fn draw_file(
     }
     let bytes = read_file(rt, run, WHOLE_TRACE_AND_ONE).map_err(told)?;
     match draw_run(rt.alloc(), run, &bytes, window, picture) {
-        Ok(page) => {
-            write_file(rt, out, &page).map_err(told)?;
-            Ok(ExitCode::SUCCESS)
-        }
+        Ok(page) => keep_page(rt, out, &page),
         Err(TimelineFault::Long(events)) => Ok(refuse_long(rt, events)),
         Err(fault) => Err(fault_of_drawing(fault)),
     }

@@ -34,6 +34,19 @@ fn tell_run(rt: &impl Print, closed: &Closed) -> Result<(), Fault> {
     }
 }
 
+// Writes a run's trace to its file if there is one, prints how many events there were, and replies
+// to the lines of standard input over them.
+fn answer_run(
+    rt: &(impl Files + Input + Print + AllocGlobal),
+    out: Option<&str>,
+    closed: &Closed,
+) -> Result<(), Fault> {
+    keep_run(rt, out, closed)?;
+    tell_run(rt, closed)?;
+    answer_closed(rt.alloc(), closed, &mut rt.reader(), &mut io::writer(rt))?;
+    Ok(())
+}
+
 /// Runs threads over a script's setup, writes the trace to its file if there is one, prints how
 /// many events there were, and replies to the lines of standard input over them.
 pub fn live_file<R: Files + Input + Print + AllocGlobal + Threads + Wait + Clock + Sync>(
@@ -46,9 +59,8 @@ pub fn live_file<R: Files + Input + Print + AllocGlobal + Threads + Wait + Clock
     requires { kernel ≤ 8 }
 {
     let text = read_file(rt, script, SCRIPT_AND_ONE).map_err(told)?;
-    let closed = live_script(rt, rt.alloc(), &text, turns, kernel)?;
-    keep_run(rt, out, &closed)?;
-    tell_run(rt, &closed)?;
-    answer_closed(rt.alloc(), &closed, &mut rt.reader(), &mut io::writer(rt))?;
-    Ok(())
+    match live_script(rt, rt.alloc(), &text, turns, kernel) {
+        Ok(closed) => answer_run(rt, out, &closed),
+        Err(fault) => Err(fault),
+    }
 }

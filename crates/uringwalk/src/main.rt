@@ -116,6 +116,43 @@ fn migrate_file(
     keep(rt, out, &migrate_trace(rt.alloc(), &text, &bytes)?)
 }
 
+// Does a job that has one status alone where it succeeds. The others are not asked for here.
+fn run_to_its_end<
+    R: Files
+        + Input
+        + Print
+        + AllocGlobal
+        + Threads
+        + Wait
+        + Clock
+        + Net<Listener = TcpListener, Stream = TcpStream>
+        + Sync,
+>(rt: &R, job: Job<'_>) -> Result<(), Fault>
+    requires { IsInRange job }
+{
+    match job {
+        Job::Walk(script) => answer_over(rt, Over::Script, script),
+        Job::Replay(trace) => answer_over(rt, Over::Trace, trace),
+        Job::Log { run, from, to } => log_file(rt, run, EventRange { from, to }),
+        Job::Live {
+            script,
+            turns,
+            kernel,
+            out,
+        } => live_file(rt, script, turns, kernel, out),
+        Job::Serve {
+            script,
+            port,
+            turns,
+            kernel,
+            clients,
+        } => serve_file(rt, script, port, turns, kernel, clients),
+        Job::Trace { script, out, form } => trace_file(rt, script, out, form),
+        Job::Migrate { script, trace, out } => migrate_file(rt, script, trace, out),
+        Job::Check(_) | Job::Explain { .. } | Job::Timeline { .. } => Ok(()),
+    }
+}
+
 // Does a job, and gives the status that the program ends with.
 fn run<
     R: Files
@@ -132,31 +169,14 @@ fn run<
     requires { IsInRange job }
 {
     match job {
-        Job::Walk(script) => answer_over(rt, Over::Script, script)?,
-        Job::Replay(trace) => answer_over(rt, Over::Trace, trace)?,
-        Job::Log { run, from, to } => log_file(rt, run, EventRange { from, to })?,
-        Job::Check(script) => return check_file(rt, script),
-        Job::Explain { run, kind, json } => return explain_file(rt, run, kind, json),
-        Job::Timeline { run, out, from, to } => {
-            return draw_file(rt, run, out, Window { from, to });
-        }
-        Job::Live {
-            script,
-            turns,
-            kernel,
-            out,
-        } => live_file(rt, script, turns, kernel, out)?,
-        Job::Serve {
-            script,
-            port,
-            turns,
-            kernel,
-            clients,
-        } => serve_file(rt, script, port, turns, kernel, clients)?,
-        Job::Trace { script, out, form } => trace_file(rt, script, out, form)?,
-        Job::Migrate { script, trace, out } => migrate_file(rt, script, trace, out)?,
+        Job::Check(script) => check_file(rt, script),
+        Job::Explain { run, kind, json } => explain_file(rt, run, kind, json),
+        Job::Timeline { run, out, from, to } => draw_file(rt, run, out, Window { from, to }),
+        _ => match run_to_its_end(rt, job) {
+            Ok(()) => Ok(ExitCode::SUCCESS),
+            Err(fault) => Err(fault),
+        },
     }
-    Ok(ExitCode::SUCCESS)
 }
 
 // Whether a trace would take the place of its script, which another path names.

@@ -4,6 +4,7 @@ ghost use Rattle.std.specs.Prelude.{◌≤◌};
 use crate::{SCRIPT_AND_ONE, told};
 use clients::serve_live;
 use debug_server::{Fault, RunFault, ServeFault, script_of};
+use script::Script;
 use std::net::{Ipv4Addr, Net, TcpListener, TcpStream};
 use std::rt::Files;
 use std::sync::Wait;
@@ -30,6 +31,33 @@ fn tell_port(rt: &impl Print, port: u16) -> Result<(), Fault> {
     }
 }
 
+// Listens, prints the port, and serves clients the run of a script that was read.
+fn serve_script<
+    R: Print
+        + AllocGlobal
+        + Threads
+        + Wait
+        + Clock
+        + Net<Listener = TcpListener, Stream = TcpStream>
+        + Sync,
+>(
+    rt: &R,
+    script: &Script,
+    port: u16,
+    turns: u32,
+    kernel: u32,
+    clients: Option<u32>,
+) -> Result<(), Fault>
+    requires { kernel ≤ 8 }
+{
+    let listener = listen(rt, port)?;
+    tell_port(rt, port)?;
+    match serve_live(rt, rt.alloc(), script, &listener, turns, kernel, clients) {
+        Ok(_closed) => Ok(()),
+        Err(fault) => Err(fault),
+    }
+}
+
 /// Listens on a port of loopback, prints it, and serves clients the run that threads make meanwhile
 /// over a script's setup. It ends after so many sessions, or goes on.
 pub fn serve_file<
@@ -52,9 +80,8 @@ pub fn serve_file<
     requires { kernel ≤ 8 }
 {
     let text = read_file(rt, script, SCRIPT_AND_ONE).map_err(told)?;
-    let script = script_of(rt.alloc(), &text)?;
-    let listener = listen(rt, port)?;
-    tell_port(rt, port)?;
-    serve_live(rt, rt.alloc(), &script, &listener, turns, kernel, clients)?;
-    Ok(())
+    match script_of(rt.alloc(), &text) {
+        Ok(script) => serve_script(rt, &script, port, turns, kernel, clients),
+        Err(fault) => Err(Fault::Run(fault)),
+    }
 }

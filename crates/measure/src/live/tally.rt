@@ -101,7 +101,7 @@ impl Tally {
     /// badly.
     pub fn tell(&self) -> Result<(), Fault> {
         if self.events < LEAST_EVENTS {
-            return Err(Fault::Few(self.events));
+            return Err(Fault::Wrong("there are few events"));
         }
         for (kind, name) in self.kinds.iter().zip(&KINDS) {
             if *kind == 0 {
