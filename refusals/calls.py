@@ -21,12 +21,6 @@ def answers(done):
     return tuple(told[0:2]), tuple(told[2:4]), tuple(told[4:6]), tuple(told[6:8]), tuple(told[8:10])
 
 
-def order_of(answer):
-    """By which the answers to growths that are refused one after the other rise: a run that can't be served (4) comes before one
-    that ends as it is (3), and an event before those behind it."""
-    return -answer[0], answer[1]
-
-
 def is_one(answer, refused):
     """Whether an answer is this one: its number, and what it tells where that is fixed."""
     return answer[0] == refused[0] and refused[1] in (None, answer[1])
@@ -35,8 +29,8 @@ def is_one(answer, refused):
 def check_refused(situation, done, before):
     """Looks at a call that met a refusal. Returns its answer."""
     answer, again, first, stood, left = answers(done)
-    if situation.rising:
-        require(before is None or order_of(answer) >= order_of(before), f"answer {answer} comes behind {before}")
+    if situation.rising:  # the event that is told is one of those that the answers before it told, or lies behind them
+        require(before is None or answer[1] >= before[1], f"answer {answer} comes behind {before}")
     require(any(is_one(answer, each) for each in situation.refused), f"answer {answer}, and not {situation.refused}")
     require(stood[0] == 0 and stood[1] > 0, f"behind the refusal {stood[0]} of {stood[1]} differ")
     require(left[0] == 0 and left[1] > 0, f"at the end {left[0]} of {left[1]} differ")

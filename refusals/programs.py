@@ -1,4 +1,5 @@
-"""Words of the program `uringwalk`, each of whose growths, reads and writes fails in turn, and which is killed."""
+"""Words of the program `uringwalk`, each of whose growths is refused in turn, and each open, look at a path, read, write, sync
+and rename fails, and which is killed."""
 import os
 import random
 import re
@@ -16,8 +17,8 @@ READ, WRITE, MEMORY = b"fault session 1\n", b"fault session 2\n", b"fault sessio
 NO_FILE, NO_MEMORY = b"fault file\n", b"fault memory\n"
 # How often each growth of a live run is refused, and of one that a client looks at: which one is the Nth isn't fixed.
 LIVE_RUNS = 200
-# How many of these refuse the first growths, one after the other: a script is read, and a run is opened.
-FIRST_RUNS = 80
+# Behind so many growths in a row without which a live run goes on, it was opened.
+OPENED = 5
 SERVED_RUNS = 100
 # What a client asks, all that it is told where nothing is refused, and how long it waits for that, in seconds.
 ASKED = b"sync\nwhere\ngoto 0\nshow clock\nquit\n"
@@ -30,9 +31,9 @@ TRIES, NO_PORT = 5, b"fault net\n"
 class Job:
     """Words of the program, in a folder of its own with the files that they name."""
 
-    def __init__(self, name, words, over="one_nop", out=None, given=b""):
-        self.name, self.words, self.over, self.out, self.given = name, words, over, out, given
-        self.serves = words[0] in ("walk", "replay")
+    def __init__(self, name, words, over="one_nop", out=None, given=b"", old=OLD):
+        self.name, self.words, self.over, self.out, self.given, self.old = name, words, over, out, given, old
+        self.serves = words[0] in ("walk", "replay") and given != b""
 
     def run(self, room, what, how, number):
         """Runs the words under the shim. Returns what ran, the files behind it, whether the refusal was reached, and how
@@ -52,8 +53,14 @@ class Job:
                     with open(f"{here}/{name}", "rb") as it:
                         room.made[self.over, name] = it.read()
                 write(f"{here}/{name}", room.made[self.over, name])
-        if self.out:
-            write(f"{here}/{self.out}", OLD)
+        if self.out and self.old is not None:
+            write(f"{here}/{self.out}", self.old)
+
+    def growths_of_words(self, room):
+        """How many growths there are where the first file that is named can't be read."""
+        words = [self.words[0], "missing", *self.words[2:]]
+        _, _, count = room.ran([room.uringwalk, *words], "growth", "one", 0, self.given)
+        return count
 
 
 def write(path, data):
@@ -77,8 +84,8 @@ class Expected:
         self.stdout, self.stderr, self.status = done.stdout, done.stderr, done.returncode
         self.out = self.files.get(job.out)
         self.before = {name: data for name, data in self.files.items() if name != job.out}
-        if job.out:
-            self.before[job.out] = OLD
+        if job.out and job.old is not None:
+            self.before[job.out] = job.old
 
     def is_whole(self, done, files):
         return (done.stdout, done.stderr, done.returncode, files) == (self.stdout, self.stderr, self.status, self.files)
@@ -99,13 +106,15 @@ REPLAY = Job("replay", ["replay", "whole"], given=LINES)
 LOG = Job("log", ["log", "script"], over="all_opcodes")
 LOG_TRACE = Job("log of a trace", ["log", "whole", "--from", "1"])
 TRACE = Job("trace", ["trace", "script", "out"], out="out")
+TRACE_NEW = Job("trace into a new file", ["trace", "script", "out"], out="out", old=None)
 TRACE_1 = Job("trace of form 1", ["trace", "script", "out", "--form", "1"], out="out")
 MIGRATE = Job("migrate", ["migrate", "script", "events", "out"], out="out")
 HELP = Job("help", ["walk", "--help"])
 WRONG_WORDS = Job("words that aren't read", ["walk"])
 LIVE = Job("live", ["live", "script", "--turns", "6", "--kernel", "1", "--trace", "out"], out="out", given=LINES)
+LIVE_WIDE = Job("live of all opcodes", LIVE.words, "all_opcodes", "out", LINES)
 
-FIXED = (WALK, REPLAY, LOG, LOG_TRACE, TRACE, TRACE_1, MIGRATE)
+FIXED = (WALK, REPLAY, LOG, LOG_TRACE, TRACE, TRACE_NEW, TRACE_1, MIGRATE)
 # The same over a script with a request of each opcode.
 WIDE = tuple(Job(f"{job.name} of all opcodes", job.words, "all_opcodes", job.out, job.given)
              for job in (WALK, REPLAY, TRACE, TRACE_1, MIGRATE))
@@ -120,7 +129,7 @@ def refuse_growths(job):
         expected = Expected(job, room)
         _, _, _, count = job.run(room, "growth", "one", 0)
         require(count > 0, "it met no refusal")
-        numbers, refused = numbers_of(count), 0
+        numbers, refused, told = numbers_of(count), 0, {MEMORY: 0, NO_MEMORY: 0}
         for how in ("one", "all"):
             stands = False
             for number in numbers:
@@ -133,7 +142,10 @@ def refuse_growths(job):
                 stands = stands or fault == MEMORY
                 require(expected.is_cut(done, files, fault, written) and files == expected.before and stands == (fault == MEMORY),
                         f"growth {number} of {count}, {how}: {shown(done)}, files {sorted(files)}")
-                refused += 1
+                refused, told[fault] = refused + 1, told[fault] + 1
+        # More is told than the words' own growths, and what comes once a session stands is told as that.
+        words = 0 if job in (HELP, WRONG_WORDS) else 2 * job.growths_of_words(room)
+        require(told[NO_MEMORY] > words and (told[MEMORY] > 0) == job.serves, f"{told}, and {words} of the words")
         done, files, reached, _ = job.run(room, "growth", "one", count + 1)
         require(not reached and expected.is_whole(done, files), f"behind the last growth: {shown(done)}")
         return 2 * len(numbers) + 1, refused, note_of(numbers, count)
@@ -165,17 +177,36 @@ def replayed(room, trace):
 
 
 def refuse_growths_of_threads(room):
-    """The first growths of a run that threads make, and others at random: a turn that was refused memory changes nothing."""
+    """Growths at random of a run that threads make: a turn that was refused memory changes nothing."""
     chosen = random.Random(36)
     met = 0
-    for run in range(1, LIVE_RUNS + 1):
+    for _ in range(LIVE_RUNS):
         _, _, _, count = LIVE.run(room, "growth", "one", 0)
-        number = run if run <= min(FIRST_RUNS, count) else chosen.randint(1, count)
+        number = chosen.randint(1, count)
         done, files, reached, _ = LIVE.run(room, "growth", "one", number)
         met += reached
         require(is_live_run(room, done, files), f"growth {number}: {shown(done)}, files {sorted(files)}")
     require(met > 0, "it met no refusal")
     return LIVE_RUNS, met, ""
+
+
+def refuse_first_growths(job):
+    """Each growth of a live run up to where it is opened: want of memory is told, and the old trace stands."""
+    def trial(room):
+        number, opened, words = 0, 0, job.growths_of_words(room)
+        while opened < OPENED:
+            number += 1
+            done, files, reached, _ = job.run(room, "growth", "one", number)
+            require(reached and is_live_run(room, done, files), f"growth {number}: {shown(done)}, files {sorted(files)}")
+            opened = opened + 1 if files["out"] != OLD else 0
+        first = number - OPENED
+        require(first > words, f"it is opened behind {first} growths, and {words} are those of the words")
+        for each in range(1, number + 1):
+            done, files, reached, _ = job.run(room, "growth", "all", each)
+            require(reached and is_live_run(room, done, files) and done.stderr == NO_MEMORY and files["out"] == OLD,
+                    f"growth {each} and all later ones: {shown(done)}, files {sorted(files)}")
+        return 2 * number, first + number, f"it is opened behind {first} growths"
+    return trial
 
 
 # ---- memory of a program that serves
@@ -247,7 +278,7 @@ def refuse_growths_of_serving(room):
         require(ended in ((0, b""), (1, NO_MEMORY)) and whole.startswith(said), f"growth {number}: {shown(done)}, {said!r}")
         told += ended == (1, NO_MEMORY)
         cut += ended == (0, b"") and (not said or said != whole)
-    require(met > 0 and told > 0, f"{met} refusals were met, and {told} told")
+    require(met > 0 and told > 0 and cut > 0, f"{met} refusals were met, {told} told, and {cut} a client's alone")
     return SERVED_RUNS, met, f"{told} refusals ended the program, and {cut} a client's session alone"
 
 
@@ -309,7 +340,8 @@ def fail_writes(job, what, how):
 
 
 def fail_opens(job, what, how):
-    """A file that can't be opened, or a path that can't be looked at, is a fault of a file, or is done without."""
+    """A file that can't be opened, or a path that can't be looked at, is a fault of a file; but for the two looks that tell
+    whether OUT leads to SCRIPT's own file: one that can't be followed leads to none."""
     def trial(room):
         expected = Expected(job, room)
         number, told = 1, 0
@@ -321,17 +353,18 @@ def fail_opens(job, what, how):
             right = whole or expected.is_cut(done, files, NO_FILE, False) and files == expected.before
             require(right, f"{what} {number}: {shown(done)}, files {sorted(files)}")
             number, told = number + 1, told + (not whole)
-        require(told > 0 and expected.is_whole(done, files), f"{told} of {number - 1} were told, and then {shown(done)}")
+        spared = 2 if what == "look" else 0
+        require(told == number - 1 - spared > 0 and expected.is_whole(done, files), f"{told} of {number - 1} were told, and then {shown(done)}")
         return number, number - 1, ""
     return trial
 
 
 # ---- kills
 
-def is_left(files, before, whole, beginning):
-    """Whether the old file or the whole new one stands, and beside it at most a beginning of the new one, as OUT.0."""
+def is_left(files, old, before, whole, beginning):
+    """Whether what stood or the whole new file stands, and beside it at most a beginning of the new one, as OUT.0."""
     rest = {name: data for name, data in files.items() if name not in ("out", "out.0")}
-    stands = files.get("out") == OLD or whole(files.get("out"))
+    stands = files.get("out") == old or whole(files.get("out"))
     return stands and rest == before and ("out.0" not in files or beginning(files["out.0"]))
 
 
@@ -358,7 +391,7 @@ def kill(job, how):
             if not reached:
                 break
             require(done.returncode == -9, f"at {number} it wasn't killed: {shown(done)}")
-            require(is_left(files, before, whole, beginning), f"killed at {number}: files {sorted(files)}")
+            require(is_left(files, job.old, before, whole, beginning), f"killed at {number}: files {sorted(files)}")
             number += 1
         require(number > 3 and done.returncode == 0, f"{number - 1} were met, and then {shown(done)}")
         return number, number - 1, ""
@@ -368,20 +401,22 @@ def kill(job, how):
 def all_trials():
     for job in FIXED + WIDE + (HELP, WRONG_WORDS):
         yield f"growths of {job.name}", refuse_growths(job)
+    for job in (LIVE, LIVE_WIDE):
+        yield f"first growths of {job.name}", refuse_first_growths(job)
     yield "growths of live", refuse_growths_of_threads
     yield "growths of serve", refuse_growths_of_serving
     for job in FIXED:
         for how in ("eio", "eintr"):
             yield f"reads of {job.name}, {how}", fail_reads(job, how)
-        for how in ("eio", "enospc", "eintr", "half"):
+        for how in ("eio", "enospc", "eintr", "half", "broken"):
             yield f"writes of {job.name}, {how}", fail_writes(job, "write", how)
         for what in ("sync", "rename") if job.out else ():
             for how in ("eio", "enospc"):
                 yield f"{what} of {job.name}, {how}", fail_writes(job, what, how)
-    for job in (TRACE, TRACE_1, MIGRATE):
+    for job in (TRACE, TRACE_NEW, TRACE_1, MIGRATE):
         for what in ("open", "look"):
             for how in ("eio", "enospc"):
                 yield f"{what} of {job.name}, {how}", fail_opens(job, what, how)
-    for job in (TRACE, TRACE_1, MIGRATE, LIVE):
+    for job in (TRACE, TRACE_NEW, TRACE_1, MIGRATE, LIVE):
         for how in ("kill", "torn"):
             yield f"{job.name}, {how}", kill(job, how)

@@ -5,7 +5,8 @@
  *   REFUSALS_N       the number of the one that meets the refusal, counted from the start of the process. Without it
  *                    growths are counted from the line 'armed N' on standard error up to the line 'disarmed'
  *   REFUSALS_HOW     growth: one (the Nth alone) or all (the Nth and each later one); others: eio, enospc, eintr, half
- *                    (a write takes half of its bytes), kill (SIGKILL before the call), torn (SIGKILL behind half of a write)
+ *                    (a write takes half of its bytes), broken (so does a write, and each later one meets EIO), kill
+ *                    (SIGKILL before the call), torn (SIGKILL behind half of a write)
  *   REFUSALS_REPORT  a file that is written as the Nth is reached, or else as the process ends: 'reached K N' or
  *                    'missed K N', K being how many were counted so far
  *
@@ -29,10 +30,10 @@
 #include <unistd.h>
 
 enum what { GROWTH = 1, READ = 2, WRITE = 4, SYNC = 8, RENAME = 16, OPEN = 32, LOOK = 64 };
-enum how { ONE, ALL, EIO_, ENOSPC_, EINTR_, HALF, KILL, TORN };
+enum how { ONE, ALL, EIO_, ENOSPC_, EINTR_, HALF, BROKEN, KILL, TORN };
 
 static const char *const whats[] = {"growth", "read", "write", "sync", "rename", "open", "look"};
-static const char *const hows[] = {"one", "all", "eio", "enospc", "eintr", "half", "kill", "torn"};
+static const char *const hows[] = {"one", "all", "eio", "enospc", "eintr", "half", "broken", "kill", "torn"};
 
 static int counted_kinds;        /* of enum what */
 static enum how how;
@@ -40,6 +41,7 @@ static atomic_long number;       /* the one that is refused, from 1 on; 0 for no
 static atomic_long count;        /* how many there were since counting began */
 static atomic_bool counting;
 static atomic_bool reported;
+static atomic_bool broken;       /* whether a write took half of its bytes, and no later one takes any */
 static bool by_lines;            /* whether lines on standard error say when growths are counted */
 
 static void *(*next_malloc)(size_t);
@@ -96,7 +98,7 @@ static bool is_refused(enum what kind) {
   if (!(counted_kinds & kind) || !atomic_load(&counting)) return false;
   long this = atomic_fetch_add(&count, 1) + 1, refused = atomic_load(&number);
   if (refused == 0 || this < refused) return false;
-  if (this > refused) return how == ALL;
+  if (this > refused) return how == ALL || how == BROKEN;
   report("reached");
   return true;
 }
@@ -154,7 +156,7 @@ __attribute__((constructor)) static void begin(void) {
     counted_kinds |= 1 << kind;
     what_words += size + (what_words[size] == ',');
   }
-  int way = index_of(how_word, strlen(how_word), hows, 8);
+  int way = index_of(how_word, strlen(how_word), hows, 9);
   if (way < 0 || (counted_kinds != GROWTH) != (way > ALL)) wrong("REFUSALS_HOW");
   how = (enum how)way;
   by_lines = n == NULL;
@@ -267,9 +269,12 @@ static void die(void) {
 /* Fails a call that isn't a half write. */
 static int fail(void) {
   if (how == KILL || how == TORN) die();
-  errno = how == EIO_ ? EIO : how == ENOSPC_ ? ENOSPC : EINTR;
+  errno = how == EIO_ || how == BROKEN ? EIO : how == ENOSPC_ ? ENOSPC : EINTR;
   return -1;
 }
+
+/* Whether a write that is refused takes half of its bytes. */
+static bool takes_half(void) { return how == HALF || how == TORN || (how == BROKEN && !atomic_exchange(&broken, true)); }
 
 ssize_t read(int file, void *bytes, size_t size) {
   return is_refused(READ) ? fail() : next_read(file, bytes, size);
@@ -292,7 +297,7 @@ ssize_t write(int file, const void *bytes, size_t size) {
     return written;
   }
   if (!is_refused(WRITE)) return next_write(file, bytes, size);
-  if (how != HALF && how != TORN) return fail();
+  if (!takes_half()) return fail();
   ssize_t written = next_write(file, bytes, (size + 1) / 2);
   if (how == TORN) die();
   return written;
@@ -302,7 +307,7 @@ ssize_t __write(int file, const void *bytes, size_t size) { return write(file, b
 
 ssize_t pwrite64(int file, const void *bytes, size_t size, off_t from) {
   if (!is_refused(WRITE)) return next_pwrite(file, bytes, size, from);
-  if (how != HALF && how != TORN) return fail();
+  if (!takes_half()) return fail();
   ssize_t written = next_pwrite(file, bytes, (size + 1) / 2, from);
   if (how == TORN) die();
   return written;
@@ -322,7 +327,7 @@ ssize_t writev(int file, const struct iovec *parts, int length) {
     return written;
   }
   if (!is_refused(WRITE)) return next_writev(file, parts, length);
-  if (how != HALF && how != TORN) return fail();
+  if (!takes_half()) return fail();
   ssize_t written = length > 0 ? next_write(file, parts[0].iov_base, (parts[0].iov_len + 1) / 2) : 0;
   if (how == TORN) die();
   return written;
@@ -346,7 +351,8 @@ int open(const char *path, int flags, ...) {
   if (is_refused(OPEN)) return fail();
   va_list rest;
   va_start(rest, flags);
-  mode_t mode = flags & (O_CREAT | O_TMPFILE) ? va_arg(rest, mode_t) : 0;
+  bool makes = (flags & O_CREAT) || (flags & O_TMPFILE) == O_TMPFILE;
+  mode_t mode = makes ? va_arg(rest, mode_t) : 0;
   va_end(rest);
   return next_open(path, flags, mode);
 }

@@ -1,4 +1,4 @@
-//! The run of one NOP through all layers.
+//! Small scripts, and what is asserted of them.
 
 mod by_hand;
 mod devices;
@@ -14,6 +14,7 @@ mod sources;
 mod starting;
 mod starts;
 mod texts;
+mod traces_again;
 mod units;
 
 use std::process::Abort;

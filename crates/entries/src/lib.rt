@@ -1,4 +1,5 @@
-//! Entries and completions of the rings, and the rows that entries become.
+//! Entries and completions of the rings, the rows that entries become, and what a kernel can choose
+//! as a request ends.
 #![tactic(auto)]
 
 pub mod choice;

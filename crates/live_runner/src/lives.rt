@@ -77,7 +77,7 @@ impl<L: Ledger> Model for Live<L> {
 }
 
 /// Why an actor's event was not done.
-#[derive(Clone, Copy, Debug)]
+#[derive(Clone, Copy)]
 pub enum LiveRefusal {
     /// The event is not one of the actor's.
     NotYours,

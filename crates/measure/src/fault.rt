@@ -26,7 +26,7 @@ pub enum Fault {
 
 fn word_of(fault: &LiveFault) -> &'static str {
     match fault {
-        LiveFault::Setup(_) => "it has no start",
+        LiveFault::Setup(_) => "there is no start, no memory or no thread for it",
         LiveFault::Torn(_) => "an actor was told otherwise",
         LiveFault::Strange(_, _) => "it is another one",
     }

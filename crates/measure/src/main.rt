@@ -172,7 +172,7 @@ fn run<R: Print + Eprint + Threads + Wait + Clock + Sync + AllocGlobal>(
         return Ok(ExitCode::from(2));
     };
     if let Err(fault) = carry_out(rt, job) {
-        eprintln!(rt; "{fault}")?;
+        println!(rt; "{fault}")?;
         return Ok(ExitCode::from(1));
     }
     Ok(ExitCode::SUCCESS)

@@ -1,7 +1,7 @@
 //! Why a ring can't be made.
 
 /// Why a ring can't be made.
-#[derive(Clone, Copy, Debug)]
+#[derive(Clone, Copy)]
 pub enum RingRefusal {
     /// No entries, or more than a ring can have.
     Size = 1,

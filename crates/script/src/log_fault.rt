@@ -7,7 +7,7 @@ use scenario::Refusal;
 use traces::TraceFault;
 
 /// Why a log, or what else is told of a run, ended early.
-#[derive(Clone, Copy, Debug)]
+#[derive(Clone, Copy)]
 pub enum LogFault {
     /// The first fault of the script.
     Script(ScriptFault),

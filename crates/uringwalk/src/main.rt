@@ -116,40 +116,11 @@ fn migrate_file(
     keep(rt, out, &migrate_trace(rt.alloc(), &text, &bytes)?)
 }
 
-// Does a job that has one status alone where it succeeds. The others are not asked for here.
-fn run_to_its_end<
-    R: Files
-        + Input
-        + Print
-        + AllocGlobal
-        + Threads
-        + Wait
-        + Clock
-        + Net<Listener = TcpListener, Stream = TcpStream>
-        + Sync,
->(rt: &R, job: Job<'_>) -> Result<(), Fault>
-    requires { IsInRange job }
-{
-    match job {
-        Job::Walk(script) => answer_over(rt, Over::Script, script),
-        Job::Replay(trace) => answer_over(rt, Over::Trace, trace),
-        Job::Log { run, from, to } => log_file(rt, run, EventRange { from, to }),
-        Job::Live {
-            script,
-            turns,
-            kernel,
-            out,
-        } => live_file(rt, script, turns, kernel, out),
-        Job::Serve {
-            script,
-            port,
-            turns,
-            kernel,
-            clients,
-        } => serve_file(rt, script, port, turns, kernel, clients),
-        Job::Trace { script, out, form } => trace_file(rt, script, out, form),
-        Job::Migrate { script, trace, out } => migrate_file(rt, script, trace, out),
-        Job::Check(_) | Job::Explain { .. } | Job::Timeline { .. } => Ok(()),
+// What a job that went to its end ends the program with.
+fn done(ended: Result<(), Fault>) -> Result<ExitCode, Fault> {
+    match ended {
+        Ok(()) => Ok(ExitCode::SUCCESS),
+        Err(fault) => Err(fault),
     }
 }
 
@@ -169,13 +140,27 @@ fn run<
     requires { IsInRange job }
 {
     match job {
+        Job::Walk(script) => done(answer_over(rt, Over::Script, script)),
+        Job::Replay(trace) => done(answer_over(rt, Over::Trace, trace)),
+        Job::Log { run, from, to } => done(log_file(rt, run, EventRange { from, to })),
         Job::Check(script) => check_file(rt, script),
         Job::Explain { run, kind, json } => explain_file(rt, run, kind, json),
         Job::Timeline { run, out, from, to } => draw_file(rt, run, out, Window { from, to }),
-        _ => match run_to_its_end(rt, job) {
-            Ok(()) => Ok(ExitCode::SUCCESS),
-            Err(fault) => Err(fault),
-        },
+        Job::Live {
+            script,
+            turns,
+            kernel,
+            out,
+        } => done(live_file(rt, script, turns, kernel, out)),
+        Job::Serve {
+            script,
+            port,
+            turns,
+            kernel,
+            clients,
+        } => done(serve_file(rt, script, port, turns, kernel, clients)),
+        Job::Trace { script, out, form } => done(trace_file(rt, script, out, form)),
+        Job::Migrate { script, trace, out } => done(migrate_file(rt, script, trace, out)),
     }
 }
 

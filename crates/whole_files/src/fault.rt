@@ -7,7 +7,7 @@ use std::io;
 use std::io::ErrorKind;
 
 /// Why a file couldn't be read or written.
-#[derive(Clone, Copy, Debug)]
+#[derive(Clone, Copy)]
 pub enum FileFault {
     /// Memory was refused.
     Memory,

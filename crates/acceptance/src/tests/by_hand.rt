@@ -4,11 +4,11 @@ ghost use Rattle.live_runner.specs.Actors.{actors};
 ghost use Rattle.live_runner.specs.History.{InOrder};
 
 use crate::tests::{ONE_NOP, check};
+use entries::Choice;
 use live_runner::{
     AlwaysOpen, Closed, Live, LiveRefusal, Receipt, Seat, Torn, actors, finish, workers_of,
 };
 use machine::{Event, Refusal, Setup};
-use opcodes::Choice;
 use script::read_script;
 use std::alloc::Global;
 use std::marker::Brand;

@@ -1,7 +1,7 @@
 //! How many bytes records keep.
 
-use crate::tests::check;
-use crate::tests::starting::{NOP_ALONE, REQUEST_AND_STEP, TWO_REQUESTS, state_of};
+use crate::tests::starting::{REQUEST_AND_STEP, TWO_REQUESTS, state_of};
+use crate::tests::{ONE_NOP, check};
 use machine::{Event, State};
 use std::alloc::{AllocError, Global};
 use std::test::Fail;
@@ -112,8 +112,8 @@ fn are_bytes_little(alloc: Global) -> Result<bool, Fail> {
 }
 
 fn are_events_little(alloc: Global) -> Result<bool, Fail> {
-    let tick = kept(alloc, NOP_ALONE, &[Event::Tick(0)])?;
-    let finish = kept(alloc, NOP_ALONE, &REQUEST_AND_STEP[..5])?;
+    let tick = kept(alloc, ONE_NOP, &[Event::Tick(0)])?;
+    let finish = kept(alloc, ONE_NOP, &REQUEST_AND_STEP[..5])?;
     let write = kept(alloc, PAGE_WRITTEN_AND_READ, &TWO_REQUESTS[..7])?;
     let read = kept(alloc, PAGE_WRITTEN_AND_READ, &TWO_REQUESTS)?;
     let is_finish_little = finish > LEAST && finish <= END_OF_A_NOP;

@@ -1,8 +1,8 @@
 //! A run whose steps are all undone.
 ghost use Rattle.std.specs.Prelude.{◌≡◌, length, OnOk};
 
-use crate::tests::check;
-use crate::tests::starting::{NOP_ALONE, REQUEST_AND_STEP, walker_of};
+use crate::tests::starting::{REQUEST_AND_STEP, walker_of};
+use crate::tests::{ONE_NOP, check};
 use inverse_log::Walker;
 use machine::State;
 use places::{Place, Value};
@@ -48,7 +48,7 @@ fn is_unwound(alloc: Global, walker: &mut Walker) -> Result<bool, Fail> {
 
 #[test]
 fn runs_are_unwound(rt: HostRuntime) -> Result<(), Fail> {
-    let mut walker = walker_of(rt.alloc(), NOP_ALONE)?;
+    let mut walker = walker_of(rt.alloc(), ONE_NOP)?;
     let unwound = is_unwound(rt.alloc(), &mut walker)?;
     check(&rt, unwound);
     Ok(())

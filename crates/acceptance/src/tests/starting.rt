@@ -1,16 +1,12 @@
 //! What small runs start from, and their events.
 
+use entries::Choice;
 use inverse_log::Walker;
 use machine::{Event, Setup, State};
-use opcodes::Choice;
 use places::Items;
 use script::{Script, read_script};
 use std::alloc::Global;
 use std::test::Fail;
-
-/// One NOP with user_data 7, which a thread puts, pushes, enters and reaps; no event is scheduled.
-pub const NOP_ALONE: &str =
-    r#"{"entries":1,"threads":[[["put",0,{"op":0,"ud":7}],["push",0],["enter",1,0,0],["reap"]]],"schedule":[]}"#;
 
 /// The only request of a thread, from its Put to its end, and one more step of the thread.
 pub const REQUEST_AND_STEP: [Event; 6] = [

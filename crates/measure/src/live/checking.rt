@@ -42,7 +42,7 @@ fn replays(state: &mut State, closed: &Closed, tally: &mut Tally) -> Result<(), 
         state.step(*event)?;
         tally.add(*event);
         if unfinished(state) > MOST_UNFINISHED {
-            return Err(Fault::Wrong("more than 64 rows are unfinished at once"));
+            return Err(Fault::Wrong("too many rows are unfinished at once"));
         }
     }
     is_there(state, closed.state())
