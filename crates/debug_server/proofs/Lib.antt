@@ -10,8 +10,6 @@ pub mod SyncLaws
 pub mod SyncLines
 pub mod Replying
 pub mod Stopping
-pub mod Breaking
-pub mod Numerals
 pub mod Moving
 pub mod Faulting
 pub mod Stepping

@@ -3,10 +3,10 @@ use Rattle.std.proofs.Common.{◌≡◌, ℕ, List, length, nat_le, nat_lt, Bool
 use Rattle.scenario.specs.declared.setup.Setup.{Setup}
 use Rattle.scenario.specs.declared.event.Event.{Event}
 use Rattle.inverse_log.specs.Walks.{Walk}
-use Rattle.debug_server.specs.declared.commands.command.Command.{Command}
-use Rattle.debug_server.specs.declared.commands.command.CommandFault.{CommandFault}
-use Rattle.debug_server.specs.Commands.{command_of}
-use Rattle.debug_server.specs.declared.commands.command.Command.TheVariants.{Where, Show, Goto, Back, On, Watch, Break, Unwatch, Cont, Rcont, Sync, Quit}
+use Rattle.commands.specs.declared.command.Command.{Command}
+use Rattle.commands.specs.declared.command.CommandFault.{CommandFault}
+use Rattle.commands.specs.Commands.{command_of}
+use Rattle.commands.specs.declared.command.Command.TheVariants.{Where, Show, Goto, Back, On, Watch, Break, Unwatch, Cont, Rcont, Sync, Quit}
 use Rattle.debug_server.specs.Syncs.{torn_from}
 use Rattle.debug_server.specs.SessionStates.{SessionState}
 use Rattle.debug_server.specs.Replies.{Answer, Reply, takes_over, agrees, syncs, is_full, reply_to, reply}

@@ -9,13 +9,13 @@ use Rattle.places.specs.declared.value.Value.{Value}
 use Rattle.scenario.specs.declared.setup.Setup.{Setup}
 use Rattle.scenario.specs.declared.names.PlaceFault.{PlaceFault}
 use Rattle.scenario.specs.Names.{number_of, place_named}
-use Rattle.debug_server.specs.declared.commands.command.Command.{Command}
-use Rattle.debug_server.specs.declared.commands.command.Command.TheVariants.{Show, Goto, Back, On, Watch, Sync}
-use Rattle.debug_server.specs.declared.commands.command.CommandFault.{CommandFault}
-use Rattle.debug_server.specs.declared.commands.command.CommandFault.TheVariants.{Long}
-use Rattle.debug_server.specs.declared.commands.verb.Verb.{Verb}
-use Rattle.debug_server.specs.declared.commands.verb.Verb.TheVariants as verb
-use Rattle.debug_server.specs.Commands.{words_of, verb_of, numbered, placed, mark_of, value_in, stopping_at, breaking_by, command_by, command_of_words, command_of}
+use Rattle.commands.specs.declared.command.Command.{Command}
+use Rattle.commands.specs.declared.command.Command.TheVariants.{Show, Goto, Back, On, Watch, Sync}
+use Rattle.commands.specs.declared.command.CommandFault.{CommandFault}
+use Rattle.commands.specs.declared.command.CommandFault.TheVariants.{Long}
+use Rattle.commands.specs.declared.verb.Verb.{Verb}
+use Rattle.commands.specs.declared.verb.Verb.TheVariants as verb
+use Rattle.commands.specs.Commands.{words_of, verb_of, numbered, placed, mark_of, value_in, stopping_at, breaking_by, command_by, command_of_words, command_of}
 use Rattle.debug_server.specs.Transcripts.{asks}
 
 -- ---- a line that asks

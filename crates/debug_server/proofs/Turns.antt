@@ -4,7 +4,7 @@ use Rattle.std.proofs.lemmas.Bool.Decides.{nat_tests}
 use Rattle.std.specs.Cmp.Lexicographic.{bytes_decides}
 use Rattle.std.specs.Str.{bytes_eq}
 use Rattle.debug_server.specs.SessionStates.{SessionState}
-use Rattle.debug_server.specs.Commands.{command_of}
+use Rattle.commands.specs.Commands.{command_of}
 use Rattle.debug_server.specs.Replies.{Answer, Reply, reply}
 use Rattle.debug_server.specs.Lines.{onto_line, lines_by}
 use Rattle.debug_server.specs.Transcripts.{asks, Given, given_to, line_on, Transcript, transcript, prepended, ended}

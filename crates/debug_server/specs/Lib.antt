@@ -1,5 +1,3 @@
-pub mod Values
-pub mod Commands
 pub mod SessionStates
 pub mod Syncs
 pub mod Replies
@@ -15,3 +13,5 @@ pub mod Walked
 pub mod Living
 pub mod Failing
 pub use Rattle.jobs.specs.Jobs
+pub use Rattle.commands.specs.Commands
+pub use Rattle.commands.specs.Values

@@ -1,8 +1,8 @@
 -- Which command ends a session. No public contract cites it.
 use Rattle.std.specs.Prelude.{Bool, true, false, Result, Ok}
-use Rattle.debug_server.specs.declared.commands.command.Command.{Command}
-use Rattle.debug_server.specs.declared.commands.command.Command.TheVariants.{Quit}
-use Rattle.debug_server.specs.declared.commands.command.CommandFault.{CommandFault}
+use Rattle.commands.specs.declared.command.Command.{Command}
+use Rattle.commands.specs.declared.command.Command.TheVariants.{Quit}
+use Rattle.commands.specs.declared.command.CommandFault.{CommandFault}
 
 -- whether no line behind a command is answered
 abbrev pub is_quit : Result Command CommandFault → Bool

@@ -10,11 +10,11 @@ use Rattle.watches.specs.declared.stopping.Stop.{Stop}
 use Rattle.watches.specs.declared.stopping.Stop.TheVariants as stop
 use Rattle.watches.specs.Stops.{reverse_stop, forward_stop, position_of}
 use Rattle.watches.specs.Watchpoints.{nothing, watched, broken}
-use Rattle.debug_server.specs.declared.commands.command.Command.{Command}
-use Rattle.debug_server.specs.declared.commands.command.Command.TheVariants.{Where, Show, Goto, Back, On, Watch, Break, Unwatch, Cont, Rcont, Sync, Quit}
-use Rattle.debug_server.specs.declared.commands.command.CommandFault.{CommandFault}
-use Rattle.debug_server.specs.declared.commands.command.CommandFault.TheVariants as fault
-use Rattle.debug_server.specs.Commands.{command_of}
+use Rattle.commands.specs.declared.command.Command.{Command}
+use Rattle.commands.specs.declared.command.Command.TheVariants.{Where, Show, Goto, Back, On, Watch, Break, Unwatch, Cont, Rcont, Sync, Quit}
+use Rattle.commands.specs.declared.command.CommandFault.{CommandFault}
+use Rattle.commands.specs.declared.command.CommandFault.TheVariants as fault
+use Rattle.commands.specs.Commands.{command_of}
 use Rattle.debug_server.specs.Syncs.{torn_from, refused_from}
 use Rattle.debug_server.specs.SessionStates.{SessionState, walked_to, with_stops}
 

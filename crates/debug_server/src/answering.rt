@@ -5,11 +5,11 @@ ghost use Rattle.debug_server.specs.Replies.{at_text, goes_to, reply_to, reply};
 ghost use Rattle.debug_server.specs.Quitting.{is_quit};
 ghost use Rattle.debug_server.specs.SessionStates.{Runs};
 
-use crate::commands::{Command, CommandFault, parse_line};
 use crate::stops::{break_at, jump_to, stop_back, stop_on, unwatch, watch};
 use crate::syncing::sync;
 use crate::texts::{at_line, fault_line, value_line};
 use crate::visitor::Visitor;
+use commands::{Command, CommandFault, parse_line};
 use inverse_log::Walker;
 use machine::Event;
 use std::alloc::{AllocError, Global};

@@ -2,7 +2,6 @@
 #![tactic(auto)]
 
 mod answering;
-mod commands;
 mod faults;
 pub mod laws;
 mod lines;

@@ -1,7 +1,7 @@
 //! The line that is being read.
 ghost use Rattle.std.specs.Prelude.{◌≡◌, ◌==◌, [], false};
 
-use crate::commands::command::LIMIT;
+use commands::LIMIT;
 use std::marker::Model;
 
 // The line that has not ended yet: of a longer one, the first bytes past the limit.

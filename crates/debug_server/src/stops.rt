@@ -6,9 +6,9 @@ ghost use Rattle.watches.specs.Watchpoints.{nothing};
 ghost use Rattle.debug_server.specs.SessionStates.{with_stops};
 ghost use Rattle.debug_server.specs.Replies.{watching_text, watches as watched_by, breaks as broken_by, stops_on, stops_back};
 
-use crate::commands::CommandFault;
 use crate::texts::{breaks_line, fault_line, stop_line, watching_line};
 use crate::visitor::Visitor;
+use commands::CommandFault;
 use inverse_log::Walker;
 use places::{Place, Value};
 use std::alloc::{AllocError, Global};

@@ -2,7 +2,7 @@
 ghost use Rattle.std.specs.Prelude.{◌≡◌, codes, IfOk};
 ghost use Rattle.debug_server.specs.Replies.{fault_text, shown_text, at_text, watching_text, breaks_text, stop_text, synced_text, torn_text, event_text};
 
-use crate::commands::CommandFault;
+use commands::CommandFault;
 use places::Value;
 use std::alloc::{AllocError, Global};
 use watches::Stop;

@@ -1,6 +1,6 @@
 //! The words of a line.
 ghost use Rattle.std.specs.Prelude.{◌≡◌, ◌==◌, map, IfOk};
-ghost use Rattle.debug_server.specs.Commands.{words_of};
+ghost use Rattle.commands.specs.Commands.{words_of};
 
 use std::alloc::{AllocError, Global};
 

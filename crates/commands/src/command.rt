@@ -1,21 +1,21 @@
 //! Commands, and what can be wrong with a line.
 ghost use Rattle.std.specs.Prelude.{◌≡◌, map, Ok, IfOk};
 ghost use Rattle.scenario.specs.Names.{place_named};
-ghost use Rattle.debug_server.specs.Commands.{placed, command_of_words, command_of};
+ghost use Rattle.commands.specs.Commands.{placed, command_of_words, command_of};
 
-use super::breaks::parse_break;
-use super::verb::{Verb, parse_verb};
-use super::words::words;
-use machine::{PlaceFault, Setup, place_of, read_number};
+use crate::breaks::parse_break;
+use crate::verb::{Verb, parse_verb};
+use crate::words::words;
 use places::{Place, Value};
+use scenario::{PlaceFault, Setup, place_of, read_number};
 use std::alloc::{AllocError, Global};
 
 /// The most bytes of a line that is answered.
-pub(crate) const LIMIT: usize = 256;
+pub const LIMIT: usize = 256;
 
 /// What a line asks for.
 #[derive(Clone, Copy)]
-pub(crate) enum Command {
+pub enum Command {
     Where,
     Show(Place),
     Goto(u32),
@@ -32,7 +32,7 @@ pub(crate) enum Command {
 
 /// What is wrong with a line, by its number.
 #[derive(Clone, Copy)]
-pub(crate) enum CommandFault {
+pub enum CommandFault {
     /// There is no such command, or not with so many words.
     Command = 1,
     /// A word in a number's place is no number.
@@ -98,9 +98,9 @@ fn parse_command(setup: &Setup, words: &[&[u8]]) -> Result<Command, CommandFault
     }
 }
 
-// The command of a line, over a setup.
+/// The command of a line, over a setup, or what is wrong with the line.
 #[tactic(auto, unfolding(crate::specs::Commands::command_of))]
-pub(crate) fn parse_line(
+pub fn parse_line(
     alloc: Global,
     setup: &Setup,
     line: &[u8],

@@ -4,7 +4,7 @@ use Rattle.std.proofs.lemmas.List.{take-map, drop-map, take_rest, length-map}
 use Rattle.std.specs.List.{count_by, fold, position, position_or_len}
 use Rattle.std.proofs.lemmas.Bool.Decides.{nat_tests}
 use Rattle.scenario.specs.declared.setup.Setup.{Setup}
-use Rattle.debug_server.specs.Commands.{is_mark, followed, mark_of, break_named, breaking_by, breaking}
+use Rattle.commands.specs.Commands.{is_mark, followed, mark_of, break_named, breaking_by, breaking}
 
 abbrev Words : Type 0
 Words = List (Bor (List ℕ))

@@ -4,7 +4,7 @@ use Rattle.std.specs.Result.{result_ok}
 use Rattle.std.specs.Str.Parse.{ParsesUnsigned}
 use Rattle.scenario.specs.Names.{is_numeral}
 use Rattle.scenario.proofs.Numbers.{numeral_parsed}
-use Rattle.debug_server.specs.Values.{wide_number_of}
+use Rattle.commands.specs.Values.{wide_number_of}
 
 -- the number of a numeral, where parsing finds one
 pub wide_parsed : {E : Type 0} (word : List ℕ) (r : Result ℕ E) → is_numeral word ≡ true → ParsesUnsigned 64 10 word r → result_ok r ≡ wide_number_of word

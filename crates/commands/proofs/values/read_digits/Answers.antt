@@ -1,8 +1,8 @@
 use Rattle.std.proofs.Common.{List, ℕ, ◌∙◌, subst}
 use Rattle.std.specs.Str.Parse.{ParsesUnsigned}
 use Rattle.scenario.proofs.Numbers.{numeral_is_text}
-use Rattle.debug_server.proofs.Numerals.{wide_parsed}
-use Rattle.debug_server.proofs.commands.values.read_digits.Goals as goal
+use Rattle.commands.proofs.Numerals.{wide_parsed}
+use Rattle.commands.proofs.values.read_digits.Goals as goal
 
 pub returns-in-Ok : goal.returns-in-Ok
 returns-in-Ok c =

@@ -1,6 +1,6 @@
 //! The first word of a line.
 ghost use Rattle.std.specs.Prelude.{◌≡◌};
-ghost use Rattle.debug_server.specs.Commands.{verb_of};
+ghost use Rattle.commands.specs.Commands.{verb_of};
 
 /// What a line is about.
 #[derive(Clone, Copy)]

@@ -3,7 +3,7 @@ ghost use Rattle.std.specs.Prelude.{◌≡◌, ◌<◌, true, option_map, IfSome
 ghost use Rattle.std.specs.Char.{is_ascii_digit};
 ghost use Rattle.std.specs.List.{list_all};
 ghost use Rattle.scenario.specs.Names.{is_numeral};
-ghost use Rattle.debug_server.specs.Values.{wide_number_of, positive, negative, signed_value, hex_digit, byte_value, value_of};
+ghost use Rattle.commands.specs.Values.{wide_number_of, positive, negative, signed_value, hex_digit, byte_value, value_of};
 
 use places::{Place, Value};
 

@@ -1,6 +1,6 @@
 use Rattle.std.proofs.Common.{◌∙◌}
-use Rattle.debug_server.proofs.Breaking.{marked, unmarked}
-use Rattle.debug_server.proofs.commands.breaks.mark_of.Goals as goal
+use Rattle.commands.proofs.Breaking.{marked, unmarked}
+use Rattle.commands.proofs.breaks.mark_of.Goals as goal
 
 pub returns-then-count_marks-eq1-clause-value : goal.returns-then-count_marks-eq1-clause-value
 returns-then-count_marks-eq1-clause-value c =

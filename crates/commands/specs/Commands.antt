@@ -8,13 +8,13 @@ use Rattle.scenario.specs.declared.setup.Setup.{Setup}
 use Rattle.scenario.specs.declared.names.PlaceFault.{PlaceFault}
 use Rattle.scenario.specs.declared.names.PlaceFault.TheVariants as missing
 use Rattle.scenario.specs.Names.{number_of, place_named}
-use Rattle.debug_server.specs.declared.commands.command.Command.{Command}
-use Rattle.debug_server.specs.declared.commands.command.Command.TheVariants.{Where, Show, Goto, Back, On, Watch, Break, Unwatch, Cont, Rcont, Sync, Quit}
-use Rattle.debug_server.specs.declared.commands.command.CommandFault.{CommandFault}
-use Rattle.debug_server.specs.declared.commands.command.CommandFault.TheVariants as fault
-use Rattle.debug_server.specs.declared.commands.verb.Verb.{Verb}
-use Rattle.debug_server.specs.declared.commands.verb.Verb.TheVariants as verb
-use Rattle.debug_server.specs.Values.{value_of}
+use Rattle.commands.specs.declared.command.Command.{Command}
+use Rattle.commands.specs.declared.command.Command.TheVariants.{Where, Show, Goto, Back, On, Watch, Break, Unwatch, Cont, Rcont, Sync, Quit}
+use Rattle.commands.specs.declared.command.CommandFault.{CommandFault}
+use Rattle.commands.specs.declared.command.CommandFault.TheVariants as fault
+use Rattle.commands.specs.declared.verb.Verb.{Verb}
+use Rattle.commands.specs.declared.verb.Verb.TheVariants as verb
+use Rattle.commands.specs.Values.{value_of}
 
 -- the words of a line, which stand one space apart
 abbrev pub words_of : List ℕ → List (List ℕ)

@@ -1,12 +1,12 @@
 //! The words of a break: a place, the mark, and a value.
 ghost use Rattle.std.specs.Prelude.{◌≡◌, ◌+◌, ◌<◌, map, length, count_by, IfSome};
 ghost use Rattle.std.specs.List.{position};
-ghost use Rattle.debug_server.specs.Commands.{is_mark, mark_of, value_in, break_named, breaking};
+ghost use Rattle.commands.specs.Commands.{is_mark, mark_of, value_in, break_named, breaking};
 
-use super::command::{Command, CommandFault, parse_place};
-use super::values::value_of;
-use machine::Setup;
+use crate::command::{Command, CommandFault, parse_place};
+use crate::values::value_of;
 use places::{Place, Value};
+use scenario::Setup;
 
 // The command that some words make a break by.
 pub(crate) fn parse_break(setup: &Setup, words: &[&[u8]]) -> Result<Command, CommandFault>
