@@ -8,3 +8,4 @@ mod verb;
 mod words;
 
 pub use command::{Command, CommandFault, LIMIT, parse_line};
+pub use verb::Verb;

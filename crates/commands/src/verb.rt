@@ -4,7 +4,7 @@ ghost use Rattle.commands.specs.Commands.{verb_of};
 
 /// What a line is about.
 #[derive(Clone, Copy)]
-pub(crate) enum Verb {
+pub enum Verb {
     Where,
     Show,
     Goto,
