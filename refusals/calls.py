@@ -29,7 +29,7 @@ def is_one(answer, refused):
 def check_refused(situation, done, before):
     """Looks at a call that met a refusal. Returns its answer."""
     answer, again, first, stood, left = answers(done)
-    if situation.rising:  # the event that is told is one of those that the answers before it told, or lies behind them
+    if situation.rising:  # no answer names an earlier event than the one before it
         require(before is None or answer[1] >= before[1], f"answer {answer} comes behind {before}")
     require(any(is_one(answer, each) for each in situation.refused), f"answer {answer}, and not {situation.refused}")
     require(stood[0] == 0 and stood[1] > 0, f"behind the refusal {stood[0]} of {stood[1]} differ")

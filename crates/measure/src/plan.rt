@@ -2,7 +2,8 @@
 
 use crate::live::OfferPlan;
 
-/// The words that a run is asked for by. Behind N stands the most that it can be, where that is told.
+/// The words that a run is asked for by. Behind N stands the most that it can be, where that is
+/// told.
 pub const WORDS: &str =
     "measure full N (1048576 at most) | nops N | transfers N | issues N | polls N | links N | drains N | cancels N | counts N | meets N | cascade N | met N | severed N (65334) | live | offers ENDED WAITING TIMES";
 
