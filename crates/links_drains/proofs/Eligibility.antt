@@ -10,7 +10,7 @@ use Rattle.links_drains.specs.Eligible.{drains, waits_for, is_eligible, GuardsFo
 use Rattle.links_drains.specs.Indexes.{Indexed}
 use Rattle.links_drains.specs.Links.{is_guard}
 use Rattle.links_drains.specs.Phases.{is_queued, is_unfinished}
-use Rattle.links_drains.specs.Sets.{has, IsNext}
+use Rattle.number_sets.specs.Sets.{has, IsNext}
 use Rattle.links_drains.specs.Units.{is_open, is_under_way}
 use Rattle.links_drains.specs.declared.index.Index.{Index}
 use Rattle.links_drains.proofs.Chains.{enumerated}

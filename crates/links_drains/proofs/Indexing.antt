@@ -7,15 +7,15 @@ use Rattle.std.proofs.lemmas.List.{get_or_past, length-set, length-take}
 use Rattle.std.proofs.lemmas.Option.{slice_get_within, slice_get_past}
 use Rattle.entries.specs.declared.row.Row.{Row}
 use Rattle.places.proofs.ListLemmas.{slice_get-set, slice_get-push, slice_get-take_below, slice_get-take_above, updated_set}
-use Rattle.links_drains.specs.Counts.{never, threshold_in, threshold_of}
+use Rattle.links_drains.specs.Counts.{threshold_in, threshold_of}
 use Rattle.links_drains.specs.Links.{asks_to_drain, Chained, GoesOn}
 use Rattle.links_drains.specs.Indexes.{HasRoom, Indexed, IndexedBut, Cleared, Unreached, Forgotten}
-use Rattle.links_drains.specs.Sets.{has}
-use Rattle.links_drains.specs.Thresholds.{threshold_at}
+use Rattle.number_sets.specs.Sets.{has}
+use Rattle.number_sets.specs.Thresholds.{never, threshold_at}
 use Rattle.links_drains.specs.Units.{passes_at, is_going, is_open, is_barrier}
 use Rattle.links_drains.specs.declared.index.Index.{Index}
 use Rattle.links_drains.proofs.Chains.{chained-none, chained-take, chained-updated}
-use Rattle.places.proofs.Bits.{has_past}
+use Rattle.number_sets.proofs.Bits.{has_past}
 use Rattle.links_drains.proofs.RowsKept.{length-push}
 use Rattle.links_drains.proofs.Units.{any_of_set, any_of_push, any_of_take, any_of_none}
 

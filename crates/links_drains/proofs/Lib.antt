@@ -1,6 +1,4 @@
 pub mod Batching
-pub mod Besides
-pub mod Bits
 pub mod Chains
 pub mod Counting
 pub mod DirectPairs
@@ -12,8 +10,6 @@ pub mod Indexing
 pub mod NextRows
 pub mod Listing
 pub mod MetRows
-pub mod Numbers
-pub mod Reaching
 pub mod Rising
 pub mod Remaining
 pub mod RestOfUnit

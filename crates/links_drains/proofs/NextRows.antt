@@ -11,8 +11,8 @@ use Rattle.entries.specs.declared.row.Phase.{Phase}
 use Rattle.entries.specs.declared.row.Phase.TheVariants.{Queued, Issued, Ended}
 use Rattle.links_drains.specs.Numbered.{next_where, IsNextWhere, NoneWhere}
 use Rattle.links_drains.specs.Phases.{is_queued, is_issued, is_unfinished}
-use Rattle.links_drains.specs.Sets.{has, IsNext, NoneFrom}
-use Rattle.links_drains.specs.Beside.{is_beside, IsNextBeside, NoneBeside}
+use Rattle.number_sets.specs.Sets.{has, IsNext, NoneFrom}
+use Rattle.number_sets.specs.Beside.{is_beside, IsNextBeside, NoneBeside}
 use Rattle.links_drains.specs.Units.{passes_at, is_going, is_open}
 use Rattle.links_drains.specs.Queued.{is_queued_row, IsNextQueued, NoneQueuedFrom}
 use Rattle.links_drains.proofs.Filters.{first_numbered, none_numbered}

@@ -2,6 +2,7 @@
 use Rattle.std.specs.Prelude.{◌≡◌, ℕ, ◌+◌, ◌==◌, ◌≤◌, ◌<◌, min, Bool, true, false, ◌&&◌, nat_lt, nat_le, if◌then◌else◌, Some, List, slice_get}
 use Rattle.std.specs.Option.{option_map_or}
 use Rattle.entries.specs.declared.row.Row.{Row}
+use Rattle.number_sets.specs.Thresholds.{never}
 use Rattle.links_drains.specs.Phases.{is_issued}
 
 -- a TIMEOUT that ends once so many completions were counted
@@ -26,10 +27,6 @@ NoneMetFrom rows total from =
     (i : ℕ) (x : Row) → from ≤ i → slice_get rows i ≡ Some x → is_met total x ≡ false
 
 -- ---- as thresholds
-
--- what no total reaches
-abbrev pub never : ℕ
-never = 4294967295
 
 -- the total at which a row is met
 abbrev pub threshold_of : Row → ℕ

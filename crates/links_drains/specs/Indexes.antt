@@ -1,10 +1,10 @@
 -- What the sets and thresholds beside the rows have. No public contract cites it.
 use Rattle.std.specs.Prelude.{◌≡◌, ◌≢◌, ℕ, ◌*◌, ◌≤◌, ◌<◌, false, List, length}
 use Rattle.entries.specs.declared.row.Row.{Row}
-use Rattle.links_drains.specs.Counts.{never, threshold_in}
+use Rattle.links_drains.specs.Counts.{threshold_in}
 use Rattle.links_drains.specs.Links.{asks_to_drain, Chained}
-use Rattle.links_drains.specs.Sets.{has}
-use Rattle.links_drains.specs.Thresholds.{threshold_at}
+use Rattle.number_sets.specs.Sets.{has}
+use Rattle.number_sets.specs.Thresholds.{never, threshold_at}
 use Rattle.links_drains.specs.Units.{passes_at, is_going, is_open, is_barrier}
 use Rattle.links_drains.specs.declared.index.Index.{Index}
 

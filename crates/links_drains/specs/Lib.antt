@@ -7,10 +7,7 @@ pub mod Indexes
 pub mod Links
 pub mod Phases
 pub mod Rows
-pub mod Sets
 pub mod Tables
-pub mod Thresholds
 pub mod Units
-pub mod Beside
 pub mod Queued
 pub mod Numbered

@@ -6,7 +6,7 @@ use Rattle.entries.specs.declared.row.Row.{Row}
 use Rattle.links_drains.specs.Eligible.{drains}
 use Rattle.links_drains.specs.Numbered.{numbers_where, next_where, IsNextWhere, NoneWhere}
 use Rattle.links_drains.specs.Phases.{is_issued, is_unfinished}
-use Rattle.links_drains.specs.Sets.{has}
+use Rattle.number_sets.specs.Sets.{has}
 
 -- whether there is a row of a number, and it passes a test
 abbrev pub passes_at : (Row → Bool) → List Row → ℕ → Bool

@@ -4,16 +4,16 @@ ghost use Rattle.std.specs.Prelude.{◌≡◌, ℕ, ◌+◌, ◌-◌, ◌*◌, �
 ghost use Rattle.entries.specs.declared.row.Row.{Row};
 ghost use Rattle.links_drains.specs.Eligible.{is_eligible, GuardsFollow};
 ghost use Rattle.links_drains.specs.Links.{asks_to_drain as has_drain, Chained};
-ghost use Rattle.links_drains.specs.Sets.{has, IsNext, NoneFrom};
-ghost use Rattle.links_drains.specs.Thresholds.{IsNextReached, NoneReachedFrom};
+ghost use Rattle.number_sets.specs.Sets.{has, IsNext, NoneFrom};
+ghost use Rattle.number_sets.specs.Thresholds.{IsNextReached, NoneReachedFrom};
 ghost use Rattle.links_drains.specs.Units.{passes_at, is_open, is_barrier as stands_before, HasRowOf, HasNoRowOf};
 
 mod queued;
 
-use crate::links::{asks_to_drain, is_guard, is_issued, is_queued, is_unfinished};
-use crate::sets::NumberSet;
-use crate::thresholds::{NEVER, Thresholds, threshold_of};
+use crate::links::{asks_to_drain, is_guard, is_issued, is_queued, is_unfinished, threshold_of};
 use entries::Row;
+use number_sets::NumberSet;
+use number_sets::thresholds::{NEVER, Thresholds};
 use std::alloc::{AllocError, Global};
 
 /// Which rows and units others wait for.

@@ -7,10 +7,8 @@ mod index;
 pub mod laws;
 pub mod links;
 mod rest;
-mod sets;
 pub mod submission;
 pub mod table;
-mod thresholds;
 
 pub use links::{is_guard, is_issued, is_soft_linked, is_unfinished};
 pub use submission::Batch;

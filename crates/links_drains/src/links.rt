@@ -1,10 +1,11 @@
 //! Links between the requests of a chain (io_uring_enter(2)).
 ghost use Rattle.std.specs.Prelude.{◌≡◌};
-ghost use Rattle.links_drains.specs.Counts.{is_count_timeout};
+ghost use Rattle.links_drains.specs.Counts.{is_count_timeout, threshold_of};
 ghost use Rattle.links_drains.specs.Links.{is_soft_linked, is_linked, is_guard, asks_to_drain};
 ghost use Rattle.links_drains.specs.Phases.{is_issued, is_queued, is_unfinished};
 
 use entries::{Phase, Row, Sqe};
+use number_sets::thresholds::NEVER;
 use opcodes::Op;
 
 const IO_DRAIN: u8 = 2;
@@ -66,4 +67,15 @@ pub fn is_unfinished(row: &Row) -> bool
     ensures { result ≡ is_unfinished row.now.phase }
 {
     !matches!(row.phase, Phase::Ended(_))
+}
+
+/// The total at which a row ends: where it is an issued TIMEOUT that counts completions, what had
+/// been counted as it was issued and what it waits for.
+pub(crate) fn threshold_of(row: &Row) -> u32
+    ensures { result ≡ threshold_of row.now }
+{
+    if !is_count_timeout(row) || row.entry.off >= u64::from(NEVER) {
+        return NEVER;
+    }
+    row.base.saturating_add(row.entry.off as u32)
 }

@@ -18,10 +18,10 @@ use Rattle.places.specs.Places.{kind_of}
 use Rattle.places.specs.PlaceNumbers.{place_of}
 use Rattle.places.specs.Slots.{number_places, number_place, other_places, other_place}
 use Rattle.places.specs.SlotLaws.{kind_small, AllOf, behind_of}
-use Rattle.places.specs.Reading.{read_all, Puts}
-use Rattle.places.specs.Numerals.{number_of, after, behind, word_of}
+use Rattle.numerals.specs.Reading.{read_all, Puts}
+use Rattle.numerals.specs.Numerals.{number_of, after, behind, word_of}
 use Rattle.places.specs.Packed.{StageFits, stage_list, stage_of, reaped_of, completion_of, entry_of, row_of, size_of_shape, value_of_shape, kind_from, shape_from, change_of, after_change, packed}
-use Rattle.places.proofs.ReadingLemmas.{read_all_of}
+use Rattle.numerals.proofs.ReadingLemmas.{read_all_of}
 
 same_word : {m n : ℕ} → m ≡ n → n < 2 ^ 32 → m % 2 ^ 32 ≡ n
 same_word e h = ap (λ i. i % 2 ^ 32) e ∙ mod-eq_of_lt h

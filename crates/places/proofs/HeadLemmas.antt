@@ -11,7 +11,7 @@ use Rattle.places.specs.Places.{kind_of, same_place}
 use Rattle.places.specs.PlaceNumbers.{place_of}
 use Rattle.places.specs.View.{named}
 use Rattle.places.specs.Notes.{left, after_change}
-use Rattle.places.specs.Numerals.{number_of, after, behind, word_of}
+use Rattle.numerals.specs.Numerals.{number_of, after, behind, word_of}
 use Rattle.places.specs.Packed.{value_of_shape, change_of, after_change as after_packed}
 use Rattle.places.specs.Heads.{IsHead, IsFirst, number_was}
 use Rattle.places.proofs.Left.{after_some}

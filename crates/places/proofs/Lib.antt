@@ -12,13 +12,10 @@ pub mod Sound
 pub mod Left
 pub mod Restored
 pub mod SameValue
-pub mod Bits
 pub mod MarkLemmas
 pub mod MaskedLemmas
 pub mod Undoing
 pub mod KeptAt
-pub mod ReadingLemmas
-pub mod NumeralLemmas
 pub mod ValueLemmas
 pub mod ChangeLemmas
 pub mod Recording

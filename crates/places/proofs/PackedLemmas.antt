@@ -3,8 +3,8 @@ use Rattle.std.proofs.Common.{◌≡◌, ℕ, ◌+◌, ◌<◌, refl, sym, ◌�
 use Rattle.std.specs.Prelude.{map}
 use Rattle.std.proofs.lemmas.List.{take_more}
 use Rattle.places.specs.declared.value.Change.{Change}
-use Rattle.places.specs.Reading.{Puts}
-use Rattle.places.proofs.ReadingLemmas.{puts_more}
+use Rattle.numerals.specs.Reading.{Puts}
+use Rattle.numerals.proofs.ReadingLemmas.{puts_more}
 
 map_push : {X : Type 0} (change : X → Change) (ys : List X) (z : X) → map change (ys ++ z ∷ []) ≡ map change ys ++ change z ∷ []
 map_push change [] z = refl

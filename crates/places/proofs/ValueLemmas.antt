@@ -10,8 +10,8 @@ use Rattle.entries.specs.declared.completion.Cqe.{Cqe}
 use Rattle.entries.specs.declared.entry.Sqe.{Sqe}
 use Rattle.entries.specs.declared.row.Row.{Row}
 use Rattle.entries.specs.Layout.{EntryFits, CompletionFits}
-use Rattle.places.specs.Reading.{Puts}
-use Rattle.places.specs.Numerals.{number_of, after, behind}
+use Rattle.numerals.specs.Reading.{Puts}
+use Rattle.numerals.specs.Numerals.{number_of, after, behind}
 use Rattle.places.specs.Packed.{option_number, option_from, word_from, phase_from, completion_list, entry_list, row_list, completion_of, entry_of, row_of, RowAgain}
 
 same_part : {m n : ℕ} (k : ℕ) → m ≡ n → n < k → m % k ≡ n

@@ -7,7 +7,6 @@ pub mod Marks
 pub mod Closed
 pub mod Slots
 pub mod Runs
-pub mod Bits
 pub mod Masked
 pub mod Stretched
 pub mod Turns
@@ -18,8 +17,6 @@ pub mod WideOf
 pub mod MoreList
 pub mod MoreOf
 pub mod All
-pub mod Reading
-pub mod Numerals
 pub mod Packed
 pub mod Heads
 pub mod SlotLaws

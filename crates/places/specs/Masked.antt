@@ -3,7 +3,7 @@ use Rattle.std.specs.Prelude.{◌≡◌, ◌≢◌, ℕ, zero, suc, ◌+◌, ◌
 use Rattle.std.specs.Option.{option_flatten}
 use Rattle.places.specs.declared.notes.runs.Region.{Region}
 use Rattle.places.specs.declared.notes.runs.Run.{Run}
-use Rattle.places.specs.Bits.{has}
+use Rattle.number_sets.specs.Sets.{has}
 use Rattle.places.specs.Runs.{place_in, RunsOnce}
 use Rattle.places.specs.View.{View}
 

@@ -13,8 +13,8 @@ use Rattle.places.specs.declared.value.Value.{Value}
 use Rattle.places.specs.declared.value.Value.TheVariants.{Number, Signed, Entry, Completed, Requested, Staged, Reaped, Awake}
 use Rattle.places.specs.declared.value.Change.{Change}
 use Rattle.places.specs.PlaceNumbers.{place_of}
-use Rattle.places.specs.Reading.{read_all}
-use Rattle.places.specs.Numerals.{number_of, after, behind, byte_of, half_of, word_of, signed_of, long_of}
+use Rattle.numerals.specs.Reading.{read_all}
+use Rattle.numerals.specs.Numerals.{number_of, after, behind, byte_of, half_of, word_of, signed_of, long_of}
 
 -- ---- small parts, as numbers and back
 

@@ -1,6 +1,6 @@
 //! The queued rows, by the sets of the unfinished rows and the issued ones.
 ghost use Rattle.std.specs.Prelude.{IfSome, IfNone};
-ghost use Rattle.links_drains.specs.Beside.{IsNextBeside, NoneBeside};
+ghost use Rattle.number_sets.specs.Beside.{IsNextBeside, NoneBeside};
 
 use super::Index;
 

@@ -8,7 +8,7 @@ ghost use Rattle.places.specs.Slots.{row_change, value_of, other_place, slot_at}
 ghost use Rattle.places.specs.Places.{is_other, kind_of};
 ghost use Rattle.places.specs.PlaceNumbers.{place_of};
 ghost use Rattle.places.specs.Notes.{after_change};
-ghost use Rattle.places.specs.Reading.{Puts};
+ghost use Rattle.numerals.specs.Reading.{Puts};
 ghost use Rattle.places.specs.Packed.{change_of, after_change as after_packed};
 
 use crate::listed::Listed;
@@ -16,12 +16,12 @@ use crate::notes::slots::{Slotted, differs};
 use crate::packing::changes::{
     AWAKE, COMPLETION, ENTRY, NOTHING, REAPED, ROW, SIGNED, STAGE, put_number_change, put_place,
 };
-use crate::packing::numerals::put_numbers;
 use crate::packing::values::{put_completion, put_entry, put_reaped, put_row, put_stage};
 use crate::part::At;
 use crate::place::Place;
 use crate::value::{Change, Stage, Value};
 use entries::{Cqe, Row, Sqe};
+use numerals::put_numbers;
 use std::alloc::AllocError;
 
 /// A value that is no row.

@@ -6,7 +6,7 @@ ghost use Rattle.places.specs.Places.{same_place};
 ghost use Rattle.places.specs.View.{View, Noted, NamesOnce, named};
 ghost use Rattle.places.specs.Closed.{KeptOf};
 ghost use Rattle.places.specs.Marks.{Marked, IsMarked};
-ghost use Rattle.places.specs.Reading.{Puts};
+ghost use Rattle.numerals.specs.Reading.{Puts};
 ghost use Rattle.places.specs.Packed.{change_of, after_change};
 
 use crate::part::At;

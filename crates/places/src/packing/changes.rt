@@ -7,17 +7,17 @@ ghost use Rattle.places.specs.View.{named};
 ghost use Rattle.places.specs.Notes.{left};
 ghost use Rattle.places.specs.PlaceNumbers.{place_of};
 ghost use Rattle.places.specs.Heads.{IsHead, IsFirst, number_was};
-ghost use Rattle.places.specs.Reading.{read_all, Puts};
-ghost use Rattle.places.specs.Numerals.{number_of, after, behind};
+ghost use Rattle.numerals.specs.Reading.{read_all, Puts};
+ghost use Rattle.numerals.specs.Numerals.{number_of, after, behind};
 ghost use Rattle.places.specs.Packed.{size_of_shape, value_of_shape, change_of, after_change, packed};
 
 use crate::listed::Listed;
 use crate::notes::leaving::left_without;
 use crate::notes::slots::is_same_place;
-use crate::packing::numerals::{Numerals, put_numbers};
 use crate::packing::values::{read_completion, read_entry, read_reaped, read_row, read_stage};
 use crate::place::Place;
 use crate::value::{Change, Value};
+use numerals::{Numerals, put_numbers};
 use std::alloc::AllocError;
 use std::marker::Model;
 
@@ -224,7 +224,7 @@ pub struct PackedChanges<'a> {
 impl<'a> Model for PackedChanges<'a> {
     ghost use Rattle.std.specs.Prelude.{List};
     ghost use Rattle.places.specs.declared.value.Change.{Change};
-    ghost use Rattle.places.specs.Reading.{read_all};
+    ghost use Rattle.numerals.specs.Reading.{read_all};
     ghost use Rattle.places.specs.Packed.{change_of, after_change};
 
     ghost Value = { List Change };
@@ -246,7 +246,7 @@ impl<'a> PackedChanges<'a> {
     }
 
     /// None.
-    #[tactic(auto, unfolding(crate::specs::Numerals::number_of))]
+    #[tactic(auto, unfolding(numerals::specs::Numerals::number_of))]
     pub fn none() -> PackedChanges<'a>
         ensures { result ≡ [] }
     {

@@ -1,7 +1,7 @@
 //! Notes packed in bytes.
 ghost use Rattle.std.specs.Prelude.{◌≡◌, ◌+◌, ◌++◌, [], map, OnOk, IfOk, IfSome};
 ghost use Rattle.places.specs.Slots.{number_change, completion_change, row_change};
-ghost use Rattle.places.specs.Reading.{Puts};
+ghost use Rattle.numerals.specs.Reading.{Puts};
 ghost use Rattle.places.specs.Packed.{change_of, after_change};
 
 use crate::notes::completions::CompletionNote;
@@ -9,7 +9,7 @@ use crate::notes::numbers::NumberNote;
 use crate::notes::rows::RowNote;
 use crate::notes::slots::Slotted;
 use crate::packing::changes::PackedChanges;
-use crate::packing::numerals::put_number;
+use numerals::put_number;
 use std::alloc::{AllocError, Global};
 use std::marker::Model;
 
@@ -31,7 +31,7 @@ impl Model for Packed {
 
 impl Packed {
     /// No changes. It takes no memory.
-    #[tactic(auto, unfolding(crate::specs::Numerals::number_of))]
+    #[tactic(auto, unfolding(numerals::specs::Numerals::number_of))]
     pub fn new(alloc: Global) -> Packed
         ensures { result ≡ [] }
     {

@@ -1,6 +1,6 @@
 use Rattle.std.proofs.Common.{◌/◌, ◌%◌, ◌∙◌, ap, not, get_or, true, refl, arith}
-use Rattle.places.specs.Bits.{has}
-use Rattle.places.proofs.Bits.{bit_set, has_written, not_cond}
+use Rattle.number_sets.specs.Sets.{has}
+use Rattle.number_sets.proofs.Bits.{bit_set, has_written, not_cond}
 use Rattle.places.proofs.notes.marks.let_go.Goals as goal
 
 pub returns-clause-kept : goal.returns-clause-kept

@@ -1,9 +1,9 @@
 use Rattle.std.proofs.Common.{ap, subst, arith}
 use Rattle.std.specs.Prelude.{map}
 use Rattle.std.proofs.lemmas.List.{take_all}
-use Rattle.places.specs.Reading.{Puts}
+use Rattle.numerals.specs.Reading.{Puts}
 use Rattle.places.specs.Packed.{change_of, after_change}
-use Rattle.places.proofs.ReadingLemmas.{puts_none}
+use Rattle.numerals.proofs.ReadingLemmas.{puts_none}
 use Rattle.places.proofs.PackedLemmas.{puts_note}
 use Rattle.places.proofs.packing.packed.put_notes.Goals as goal
 

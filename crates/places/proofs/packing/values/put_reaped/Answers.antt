@@ -1,7 +1,7 @@
 use Rattle.std.proofs.Common.{subst, sym, [], ◌∷◌, ◌≡◌}
 use Rattle.std.specs.Prelude.{Some, None}
-use Rattle.places.specs.Reading.{Puts}
-use Rattle.places.specs.Numerals.{behind}
+use Rattle.numerals.specs.Reading.{Puts}
+use Rattle.numerals.specs.Numerals.{behind}
 use Rattle.places.specs.Packed.{reaped_of}
 use Rattle.places.proofs.ChangeLemmas.{nothing_reaped, reaped_put}
 use Rattle.places.proofs.packing.values.put_reaped.Goals as goal

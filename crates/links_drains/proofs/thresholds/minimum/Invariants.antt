@@ -1,7 +1,0 @@
-use Rattle.std.proofs.Common.{ℕ, ◌<◌, ◌≤◌}
-use Rattle.links_drains.specs.Counts.{never}
-use Rattle.links_drains.specs.Thresholds.{threshold_at}
-use Rattle.links_drains.proofs.thresholds.minimum.Given as goal
-
-abbrev pub invariant-loop-threshold : goal.invariant-loop-threshold
-invariant-loop-threshold l = (l.least ≤ never) × ((i : ℕ) → i < l.threshold-index → l.least ≤ threshold_at l.thresholds i)

@@ -1,0 +1,72 @@
+-- Numbers that one set has and another doesn't, by the bits of their words.
+use Rattle.std.proofs.Common.{◌≡◌, ℕ, ◌+◌, ◌*◌, ◌/◌, ◌%◌, ◌^◌, ◌<◌, ◌≤◌, true, false, not, ◌==◌, List, length, get_or, refl, sym, ap, ◌∙◌, subst, inl, inr, arith, bit_and, w64}
+use Rattle.std.specs.Prelude.{◌&&◌, ◌-◌, min}
+use Rattle.std.specs.Int.{bit_at, bit_not}
+use Rattle.std.proofs.lemmas.Bool.{cases_lt, eq-eqb, and_left}
+use Rattle.std.proofs.lemmas.Bool.Decides.{nat_tests}
+use Rattle.std.proofs.lemmas.Nat.Bits.{bit_at_and, bit_at_not, bit_at-lt}
+use Rattle.number_sets.specs.Sets.{has, IsNext, NoneFrom, IsNextBit}
+use Rattle.number_sets.specs.Beside.{is_beside, IsNextBeside, NoneBeside}
+use Rattle.number_sets.proofs.Bits.{has_is, has_past}
+
+abbrev beside_word : List ℕ → List ℕ → ℕ → ℕ
+beside_word words others w = bit_and (get_or words w 0) (bit_not w64 (get_or others w 0))
+
+-- one bit of a word, without another's
+bit_beside : (a b k : ℕ) → b < 2 ^ 64 → k < 64 → ((bit_at a k == 1) && not (bit_at b k == 1)) ≡ (bit_at (bit_and a (bit_not w64 b)) k == 1)
+bit_beside a b k fits h = rw (bit_at_and a (bit_not w64 b) k, bit_at_not w64 b k fits h) (by (bit_at a k) (bit_at b k) (bit_at-lt a k) (bit_at-lt b k))
+  where
+    by : (x y : ℕ) → x < 2 → y < 2 → ((x == 1) && not (y == 1)) ≡ (min x (1 - y) == 1)
+    by x y l m = grind (arith, nat_tests)
+
+beside_is : (words others : List ℕ) (i : ℕ) → get_or others (i / 64) 0 < 2 ^ 64 → is_beside words others i ≡ (bit_at (beside_word words others (i / 64)) (i % 64) == 1)
+beside_is words others i fits =
+    ap (λ b. b && not (has others i)) (sym (has_is words i)) ∙ ap (λ b. (bit_at (get_or words (i / 64) 0) (i % 64) == 1) && not b) (sym (has_is others i))
+    ∙ bit_beside (get_or words (i / 64) 0) (get_or others (i / 64) 0) (i % 64) fits (omega arith)
+
+-- a number whose bit isn't there
+in_word : (words others : List ℕ) (w i : ℕ) → get_or others w 0 < 2 ^ 64 → i / 64 ≡ w → bit_at (beside_word words others w) (i % 64) ≡ 0 → is_beside words others i ≡ false
+in_word words others w i fits word zero = beside_is words others i (subst (λ (n : ℕ). get_or others n 0 < 2 ^ 64) (sym word) fits) ∙ rw (word, zero) refl
+
+pub has_below : (words : List ℕ) (k : ℕ) → has words k ≡ true → k < 64 * length words
+has_below words k h = elim (cases_lt k (64 * length words)) [
+  | inl inside ↦ inside
+  | inr past ↦ absurd (let e = has_past words k past in cc)
+]
+
+-- none before the next of the one set, where there was none so far
+before_next : (words others : List ℕ) (from at k : ℕ) → ((i : ℕ) → from ≤ i → i < at → is_beside words others i ≡ false) → IsNext words at k → (i : ℕ) → from ≤ i → i < k → is_beside words others i ≡ false
+before_next words others from at k before next i low high = elim (cases_lt i at) [
+  | inl earlier ↦ before i low earlier
+  | inr later ↦ and_left _ _ (next.least i later high)
+]
+
+-- the least bit of its word
+pub beside_here : (words others : List ℕ) (from at k bit : ℕ) → get_or others (k / 64) 0 < 2 ^ 64 → from ≤ at → ((i : ℕ) → from ≤ i → i < at → is_beside words others i ≡ false)
+    → IsNext words at k → IsNextBit (beside_word words others (k / 64)) (k % 64) bit → IsNextBeside words others from (k / 64 * 64 + bit)
+beside_here words others from at k bit fits start before next found =
+    let inside = found.within in
+    let word : (k / 64 * 64 + bit) / 64 ≡ k / 64 = omega arith in
+    let place : (k / 64 * 64 + bit) % 64 ≡ bit = omega arith in
+    record {
+      after = omega (arith, next.after, found.after);
+      member = beside_is words others (k / 64 * 64 + bit) (subst (λ (n : ℕ). get_or others n 0 < 2 ^ 64) (sym word) fits) ∙ rw (word, place) (eq-eqb _ 1 found.set);
+      least = λ i low high. elim (cases_lt i k) [
+        | inl earlier ↦ before_next words others from at k before next i low earlier
+        | inr later ↦ in_word words others (k / 64) i fits (omega arith) (found.least (i % 64) (omega arith) (omega arith))
+      ];
+    }
+
+-- a word that has none
+pub beside_past : (words others : List ℕ) (from at k : ℕ) → get_or others (k / 64) 0 < 2 ^ 64 → ((i : ℕ) → from ≤ i → i < at → is_beside words others i ≡ false)
+    → IsNext words at k → ((b : ℕ) → k % 64 ≤ b → bit_at (beside_word words others (k / 64)) b ≡ 0) → (i : ℕ) → from ≤ i → i < k / 64 * 64 + 64 → is_beside words others i ≡ false
+beside_past words others from at k fits before next none i low high = elim (cases_lt i k) [
+  | inl earlier ↦ before_next words others from at k before next i low earlier
+  | inr later ↦ in_word words others (k / 64) i fits (omega arith) (none (i % 64) (omega arith))
+]
+
+pub beside_none : (words others : List ℕ) (from at : ℕ) → ((i : ℕ) → from ≤ i → i < at → is_beside words others i ≡ false) → NoneFrom words at → NoneBeside words others from
+beside_none words others from at before none i low = elim (cases_lt i at) [
+  | inl earlier ↦ before i low earlier
+  | inr later ↦ and_left _ _ (none i later)
+]

@@ -1,0 +1,15 @@
+-- Numbers that one set has and another doesn't. No public contract cites it.
+use Rattle.std.specs.Prelude.{◌≡◌, ℕ, Bool, true, false, not, ◌&&◌, List, ◌≤◌, ◌<◌}
+use Rattle.number_sets.specs.Sets.{has}
+
+abbrev pub is_beside : List ℕ → List ℕ → ℕ → Bool
+is_beside words others k = has words k && not (has others k)
+
+-- k is the least such number from one on.
+pub record IsNextBeside (words others : List ℕ) (from k : ℕ) : Type 0 where
+  pub after : from ≤ k
+  pub member : is_beside words others k ≡ true
+  pub least : (i : ℕ) → from ≤ i → i < k → is_beside words others i ≡ false
+
+abbrev pub NoneBeside : List ℕ → List ℕ → ℕ → Type 0
+NoneBeside words others from = (i : ℕ) → from ≤ i → is_beside words others i ≡ false

@@ -1,0 +1,177 @@
+//! Sets of numbers: a bit for each, and a summary of the words that have any.
+ghost use Rattle.std.specs.Prelude.{◌≡◌, ℕ, ◌+◌, ◌*◌, ◌<◌, ◌≤◌, ◌==◌, [], true, false, length, IfSome, IfNone, IfOk, OnOk, MatchBool, if◌then◌else◌};
+ghost use Rattle.std.specs.Int.{bit_at};
+ghost use Rattle.number_sets.specs.Sets.{has, IsNextBit, IsNext, NoneFrom};
+
+mod beside;
+
+use std::alloc::{AllocError, Global};
+use std::marker::Model;
+
+/// A set of numbers below 65,536. Its contracts see the words that have its numbers.
+#[derive(Drop)]
+pub struct NumberSet {
+    /// A bit for each number, in as many words as numbers have needed.
+    words: Vec<u64>,
+    /// A bit for each word that isn't 0.
+    summary: [u64; 16],
+}
+
+impl Model for NumberSet {
+    ghost use Rattle.std.specs.Prelude.{ℕ, List};
+    ghost use Rattle.number_sets.specs.Sets.{Summed};
+
+    ghost Value = { List ℕ };
+
+    ghost view = { λ a. a.words.items };
+
+    ghost invariant = { λ a. Summed a.words.items a.summary };
+}
+
+impl NumberSet {
+    /// No number. It takes no memory.
+    pub fn new(alloc: Global) -> NumberSet
+        ensures { result ≡ [] }
+    {
+        NumberSet {
+            words: Vec::new(alloc),
+            summary: [0; 16],
+        }
+    }
+
+    /// Makes room for a number, where there is room for all below it.
+    pub fn make_room(&mut self, k: usize) -> Result<(), AllocError>
+        requires below { k ≤ 64 * length self.old }
+        requires small { k < 65536 }
+        ensures ok { OnOk result (k < 64 * length self.new) }
+        ensures len { length self.old ≤ length self.new }
+        ensures has { (i : ℕ) → has self.new i ≡ has self.old i }
+    {
+        if k / 64 >= self.words.len() {
+            self.words.push(0)?;
+        }
+        Ok(())
+    }
+
+    pub fn contains(&self, k: usize) -> bool
+        ensures { result ≡ has self.now k }
+    {
+        match self.words.get(k / 64) {
+            Some(word) => *word & (1 << (k % 64)) != 0,
+            None => false,
+        }
+    }
+
+    /// Puts a number into the set, or takes it out.
+    pub fn write(&mut self, k: usize, member: bool)
+        requires { k < 64 * length self.old }
+        ensures len { length self.new ≡ length self.old }
+        ensures has { (i : ℕ) → has self.new i ≡ (if i == k then member else has self.old i) }
+    {
+        let at = k / 64;
+        let word = with_bit(self.words[at], k % 64, member);
+        self.words[at] = word;
+        self.summary[at / 64] = with_bit(self.summary[at / 64], at % 64, word != 0);
+    }
+
+    /// The least number of the set from one on. It takes constant time.
+    pub fn next(&self, from: usize) -> Option<usize>
+        ensures some { IfSome result (λ k. IsNext self.now from k) }
+        ensures none { IfNone result (NoneFrom self.now from) }
+    {
+        let first = from / 64;
+        if first >= self.words.len() {
+            return None;
+        }
+        if let Some(bit) = next_bit(self.words[first], from % 64) {
+            return Some(first * 64 + bit);
+        }
+        let at = next_number(&self.summary, first + 1)?;
+        match next_bit(self.words[at], 0) {
+            Some(bit) => Some(at * 64 + bit),
+            None => unreachable!(),
+        }
+    }
+
+    /// Whether a number of the set is the least from one on.
+    pub fn is_next(&self, from: usize, k: usize) -> bool
+        requires member { has self.now k ≡ true }
+        requires after { from ≤ k }
+        ensures { MatchBool result (IsNext self.now from k) ((i : ℕ) × (i < k)
+            × IsNext self.now from i) }
+    {
+        match self.next(from) {
+            Some(first) => first == k,
+            None => unreachable!(),
+        }
+    }
+
+    /// Whether the set has no number below another.
+    pub fn has_none_below(&self, limit: usize) -> bool
+        ensures { MatchBool result ((i : ℕ) → i < limit → has self.now i ≡ false) ((i : ℕ)
+            × (i < limit) × (has self.now i ≡ true)) }
+    {
+        match self.next(0) {
+            Some(least) => limit <= least,
+            None => true,
+        }
+    }
+
+    /// A set of the same numbers.
+    pub fn copy(&self, alloc: Global) -> Result<NumberSet, AllocError>
+        ensures { IfOk result (λ set. set ≡ self.now) }
+    {
+        Ok(NumberSet {
+            words: Vec::from_slice(alloc, &self.words)?,
+            summary: self.summary,
+        })
+    }
+}
+
+// A word with a bit set or cleared.
+fn with_bit(word: u64, bit: usize, member: bool) -> u64
+    requires { bit < 64 }
+    ensures { (b : ℕ) → b < 64
+        → (bit_at result b == 1) ≡ (if b == bit then member else bit_at word b == 1) }
+{
+    if member {
+        word | 1 << bit
+    } else {
+        word & !(1 << bit)
+    }
+}
+
+// The least bit of a word from one on.
+fn next_bit(word: u64, from: usize) -> Option<usize>
+    requires { from < 64 }
+    ensures some { IfSome result (λ k. IsNextBit word from k) }
+    ensures none { IfNone result ((b : ℕ) → from ≤ b → bit_at word b ≡ 0) }
+{
+    let high = word & (u64::MAX << from);
+    if high == 0 {
+        None
+    } else {
+        Some(high.trailing_zeros() as usize)
+    }
+}
+
+// The least number that some words have from one on.
+fn next_number(words: &[u64], from: usize) -> Option<usize>
+    requires { length words.now ≤ 1024 }
+    ensures some { IfSome result (λ k. IsNext words.now from k) }
+    ensures none { IfNone result (NoneFrom words.now from) }
+{
+    let first = from / 64;
+    if first >= words.len() {
+        return None;
+    }
+    if let Some(bit) = next_bit(words[first], from % 64) {
+        return Some(first * 64 + bit);
+    }
+    'words: for at in first + 1..words.len() {
+        if let Some(bit) = next_bit(words[at], 0) {
+            return Some(at * 64 + bit);
+        }
+    }
+    None
+}

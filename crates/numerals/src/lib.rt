@@ -1,0 +1,241 @@
+//! Whole numbers in bytes, the smaller in fewer.
+#![tactic(auto)]
+
+ghost use Rattle.std.specs.Prelude.{◌≡◌, ◌<◌, ◌^◌, ◌∷◌, ◌++◌, [], drop, OnOk};
+ghost use Rattle.byteorder.specs.Endian.{little_bytes};
+ghost use Rattle.numerals.specs.Reading.{Puts};
+ghost use Rattle.numerals.specs.Numerals.{number_of, after, behind, width_of, wide_number, byte_of, half_of, word_of, signed_of, long_of};
+
+use byteorder::{ByteOrder, LittleEndian};
+use std::alloc::AllocError;
+use std::marker::Model;
+
+/// The first bytes of numbers of two, four and eight bytes.
+const TWO: u8 = 253;
+
+const FOUR: u8 = 254;
+
+const EIGHT: u8 = 255;
+
+/// Bytes that are left to read.
+#[derive(Drop)]
+pub struct Numerals<'a> {
+    bytes: &'a [u8],
+}
+
+impl<'a> Model for Numerals<'a> {
+    ghost use Rattle.std.specs.Prelude.{ℕ, List};
+
+    ghost Value = { List ℕ };
+
+    ghost view = { λ a. a.bytes.now };
+}
+
+impl<'a> Numerals<'a> {
+    pub fn of(bytes: &'a [u8]) -> Numerals<'a>
+        ensures { result ≡ bytes.now }
+    {
+        Numerals { bytes }
+    }
+
+    /// The next number, or 0 where none is left. It stays the next.
+    pub fn first(&self) -> u64
+        ensures { result ≡ number_of self.now }
+    {
+        first_number(self.bytes).0
+    }
+
+    /// The next number, or 0 where none is left.
+    pub fn number(&mut self) -> u64
+        ensures value { result ≡ number_of self.old }
+        ensures left { self.new ≡ after self.old }
+    {
+        let (number, left) = first_number(self.bytes);
+        self.bytes = left;
+        number
+    }
+
+    pub fn byte(&mut self) -> u8
+        ensures value { result ≡ byte_of self.old }
+        ensures left { self.new ≡ after self.old }
+    {
+        (self.number() % 256) as u8
+    }
+
+    pub fn half(&mut self) -> u16
+        ensures value { result ≡ half_of self.old }
+        ensures left { self.new ≡ after self.old }
+    {
+        (self.number() % 65_536) as u16
+    }
+
+    pub fn word(&mut self) -> u32
+        ensures value { result ≡ word_of self.old }
+        ensures left { self.new ≡ after self.old }
+    {
+        (self.number() % 4_294_967_296) as u32
+    }
+
+    pub fn signed(&mut self) -> i32
+        ensures value { result ≡ signed_of self.old }
+        ensures left { self.new ≡ after self.old }
+    {
+        self.word().cast_signed()
+    }
+
+    pub fn long(&mut self) -> i64
+        ensures value { result ≡ long_of self.old }
+        ensures left { self.new ≡ after self.old }
+    {
+        self.number().cast_signed()
+    }
+
+    /// Goes past so many numbers, which are not read.
+    pub fn skip(&mut self, count: u64)
+        ensures { self.new ≡ behind count self.old }
+    {
+        self.bytes = past_numbers(self.bytes, count);
+    }
+}
+
+#[tactic(auto, unfolding(crate::specs::Numerals::number_of, crate::specs::Numerals::after))]
+fn first_number(bytes: &[u8]) -> (u64, &[u8])
+    ensures value { result.0 ≡ number_of bytes.now }
+    ensures left { result.1.now ≡ after bytes.now }
+{
+    match bytes {
+        [] => (0, bytes),
+        [first, rest @ ..] => match *first {
+            TWO => (two_of(rest), past(rest, 2)),
+            FOUR => (four_of(rest), past(rest, 4)),
+            EIGHT => (eight_of(rest), past(rest, 8)),
+            _ => (u64::from(*first), rest),
+        },
+    }
+}
+
+#[tactic(auto, unfolding(crate::specs::Numerals::after))]
+fn past_number(bytes: &[u8]) -> &[u8]
+    ensures { result.now ≡ after bytes.now }
+{
+    match bytes {
+        [] => bytes,
+        [first, rest @ ..] => match *first {
+            TWO => past(rest, 2),
+            FOUR => past(rest, 4),
+            EIGHT => past(rest, 8),
+            _ => rest,
+        },
+    }
+}
+
+fn past_numbers(bytes: &[u8], count: u64) -> &[u8]
+    ensures { result.now ≡ behind count bytes.now }
+{
+    let mut rest = bytes;
+    let mut left = count;
+    while left > 0 {
+        rest = past_number(rest);
+        left -= 1;
+    }
+    rest
+}
+
+fn two_of(bytes: &[u8]) -> u64
+    ensures { result ≡ wide_number 2 bytes.now }
+{
+    if bytes.len() < 2 {
+        0
+    } else {
+        u64::from(LittleEndian::read_u16(bytes))
+    }
+}
+
+fn four_of(bytes: &[u8]) -> u64
+    ensures { result ≡ wide_number 4 bytes.now }
+{
+    if bytes.len() < 4 {
+        0
+    } else {
+        u64::from(LittleEndian::read_u32(bytes))
+    }
+}
+
+fn eight_of(bytes: &[u8]) -> u64
+    ensures { result ≡ wide_number 8 bytes.now }
+{
+    if bytes.len() < 8 {
+        0
+    } else {
+        LittleEndian::read_u64(bytes)
+    }
+}
+
+fn past(bytes: &[u8], n: usize) -> &[u8]
+    ensures { result.now ≡ drop n bytes.now }
+{
+    if bytes.len() < n { &[] } else { &bytes[n..] }
+}
+
+/// Puts a number behind bytes.
+pub fn put_number(out: &mut Vec<u8>, number: u64) -> Result<(), AllocError>
+    ensures { OnOk result (Puts number_of after out.old.items (number ∷ []) out.new.items) }
+{
+    if number < u64::from(TWO) {
+        out.push(number as u8)?;
+        Ok(())
+    } else {
+        put_wide(out, number)
+    }
+}
+
+/// Puts a number behind bytes in two, four or eight. Apart, so that the test for one is inlined.
+#[inline(never)]
+fn put_wide(out: &mut Vec<u8>, number: u64) -> Result<(), AllocError>
+    ensures { OnOk result (Puts number_of after out.old.items (number ∷ []) out.new.items) }
+{
+    if number < 65_536 {
+        put_two(out, number as u16)?;
+        Ok(())
+    } else if number < 4_294_967_296 {
+        put_four(out, number as u32)?;
+        Ok(())
+    } else {
+        put_eight(out, number)?;
+        Ok(())
+    }
+}
+
+fn put_two(out: &mut Vec<u8>, number: u16) -> Result<(), AllocError>
+    ensures { OnOk result (out.new.items ≡ out.old.items ++ (253 ∷ little_bytes 2 number)) }
+{
+    let mut bytes = [TWO, 0, 0];
+    LittleEndian::write_u16(&mut bytes[1..], number);
+    out.extend_from_slice(&bytes)
+}
+
+fn put_four(out: &mut Vec<u8>, number: u32) -> Result<(), AllocError>
+    ensures { OnOk result (out.new.items ≡ out.old.items ++ (254 ∷ little_bytes 4 number)) }
+{
+    let mut bytes = [FOUR, 0, 0, 0, 0];
+    LittleEndian::write_u32(&mut bytes[1..], number);
+    out.extend_from_slice(&bytes)
+}
+
+fn put_eight(out: &mut Vec<u8>, number: u64) -> Result<(), AllocError>
+    ensures { OnOk result (out.new.items ≡ out.old.items ++ (255 ∷ little_bytes 8 number)) }
+{
+    let mut bytes = [EIGHT, 0, 0, 0, 0, 0, 0, 0, 0];
+    LittleEndian::write_u64(&mut bytes[1..], number);
+    out.extend_from_slice(&bytes)
+}
+
+/// Puts numbers behind bytes.
+pub fn put_numbers(out: &mut Vec<u8>, numbers: &[u64]) -> Result<(), AllocError>
+    ensures { OnOk result (Puts number_of after out.old.items numbers.now out.new.items) }
+{
+    for number in numbers {
+        put_number(out, *number)?;
+    }
+    Ok(())
+}
