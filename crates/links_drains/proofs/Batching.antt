@@ -1,11 +1,10 @@
 -- How far a batch of entries has been taken.
-use Rattle.std.proofs.Common.{◌≡◌, ℕ, ℤ, zero, suc, Bool, true, false, not, cond, refl, sym, ◌∙◌, ap, List, [], ◌∷◌, ◌++◌, take, length, ◌<◌, ◌≤◌, ◌+◌, ◌⊎◌, inl, inr, ◌-◌, drop, append_assoc, length-append, map, subst, arith}
+use Rattle.std.proofs.Common.{◌≡◌, ℕ, ℤ, zero, suc, Bool, true, false, not, cond, refl, sym, ◌∙◌, ap, List, [], ◌∷◌, ◌++◌, take, length, ◌<◌, ◌≤◌, ◌+◌, ◌⊎◌, inl, inr, append_assoc, length-append, map, subst, arith}
 use Rattle.std.specs.Prelude.{Option, Some, None, option_map, is_none, is_some, slice_get, ◌||◌}
 use Rattle.std.specs.Option.{option_and_then, option_map_or}
 use Rattle.std.specs.List.{prefix_len, list_any, enumerate_from}
 use Rattle.std.proofs.lemmas.Grind.{common_steps}
-use Rattle.std.proofs.Math.Seq.{drop-append_seam}
-use Rattle.std.proofs.lemmas.List.{append-nil, length-take-le, take_all, take_rest}
+use Rattle.std.proofs.lemmas.List.{length-take-le, take_all}
 use Rattle.std.proofs.lemmas.List.FromFn.{length-enumerate_from}
 use Rattle.std.proofs.lemmas.Option.{gets, slice_get-map}
 use Rattle.entries.specs.declared.entry.Sqe.{Sqe}
@@ -13,7 +12,7 @@ use Rattle.entries.specs.declared.row.Row.{Row}
 use Rattle.places.specs.Notes.{Notes}
 use Rattle.places.specs.declared.place.Place.{Place}
 use Rattle.places.specs.View.{Keeps, named}
-use Rattle.places.proofs.Keeping.{keeps_same, keeps_then}
+use Rattle.places.proofs.Keeping.{keeps_then}
 use Rattle.model_files.specs.Worlds.{WorldState}
 use Rattle.opcodes.specs.Check.{time_of}
 use Rattle.links_drains.specs.Batches.{behind_in, chain_of, error_at, error_of, errors_of, row_of, rows_of, target_of, up_to_failure}
@@ -69,10 +68,6 @@ errors_on w es i e h g f = prefix_on is_none (errors_of w es) i (error_at w es i
 pub ends_with_failure : (w : WorldState) (es : List Sqe) (i : ℕ) (e : Sqe) → i ≤ prefix_len is_none (errors_of w es) → slice_get es i ≡ Some e → is_some (error_at w es i) ≡ true → take (i + 1) es ≡ up_to_failure w es
 ends_with_failure w es i e h g f = sym (ap (λ n. take (n + 1) es) (prefix_end is_none (errors_of w es) i (error_at w es i) h (get-errors w es i e g) (none_or_some (error_at w es i) ∙ ap not f)))
 
--- all pass
-pub all_taken : (w : WorldState) (es : List Sqe) → length es ≤ prefix_len is_none (errors_of w es) → take (length es) es ≡ up_to_failure w es
-all_taken w es h = take_all (length es) es (omega arith) ∙ sym (take_all (prefix_len is_none (errors_of w es) + 1) es (omega (arith, h)))
-
 -- some entry fails, or none
 fails_among : (xs : List (Option ℤ)) (i : ℕ) (o : Option ℤ) → slice_get xs i ≡ Some o → is_some o ≡ true → list_any is_some xs ≡ true
 fails_among [] i o g f = absurd cc
@@ -101,10 +96,6 @@ take_more xs i x g = grind (arith, common_steps, gets)
 
 pub length-rows_of : (w : WorldState) (first : ℕ) (es : List Sqe) → length (rows_of w first es) ≡ length es
 length-rows_of w first es = length_mapped (λ (p : ℕ × Sqe). row_of w first es p.0 p.1) (enumerate_from 0 es) ∙ length-enumerate_from 0 es
-
--- the rows behind those that were there
-pub batch_rows : (before batch : List Row) → take (length (before ++ batch) - length before) (drop (length before) (before ++ batch)) ≡ batch
-batch_rows before batch = take_rest (before ++ batch) (length before) ∙ drop-append_seam before batch
 
 -- The last row is of a unit.
 abbrev LastOf : List Row → ℕ → Type 0
@@ -171,18 +162,6 @@ adding_on w before now later old new newer es i unit here begins e row t g u r h
         by : (c : Bool) → cond (not c) (length before + (i + 1)) here ≡ length before + cond c (chain_of es i) (suc i)
         by true = unit_is
         by false = omega arith
-
--- no row yet
-pub adding_none : (w : WorldState) (before : List Row) (notes : Notes) (es : List Sqe) (unit : ℕ) → Adding w before before notes notes es 0 unit true
-adding_none w before notes es unit = record {
-  rows = sym (append-nil before);
-  next_unit = refl;
-  last = inl refl;
-  keeps = keeps_same table_owns (table_seen before) notes.made;
-  names = λ p n. n;
-  numbers = omega arith;
-  completions = omega arith;
-}
 
 -- the row of an entry, field by field
 pub row_told : (w : WorldState) (first : ℕ) (es : List Sqe) (i unit : ℕ) (x e : Sqe) (behind time target : Option ℕ) (row : Row) → row ≡ new_row x unit time target → time ≡ time_of w behind x → behind ≡ behind_in es i

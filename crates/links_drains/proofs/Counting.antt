@@ -1,9 +1,9 @@
 -- How many rows that count have ended, once the table is changed.
-use Rattle.std.proofs.Common.{◌≡◌, ℕ, ℤ, zero, suc, Bool, true, false, cond, refl, ◌∙◌, ap, List, [], ◌∷◌, ◌++◌, length, ◌+◌, ◌<◌, ◌≤◌, arith}
+use Rattle.std.proofs.Common.{◌≡◌, ℕ, ℤ, zero, suc, Bool, true, false, cond, ◌∙◌, ap, List, [], ◌∷◌, ◌++◌, length, ◌+◌, ◌≤◌, arith}
 use Rattle.std.specs.Prelude.{Some, slice_get, ◌&&◌}
 use Rattle.std.specs.List.{filter}
 use Rattle.std.proofs.lemmas.List.Sums.{length-filter, count_by-le-length}
-use Rattle.entries.specs.declared.row.Phase.TheVariants.{Issued, Ended}
+use Rattle.entries.specs.declared.row.Phase.TheVariants.{Ended}
 use Rattle.entries.specs.declared.row.Row.{Row}
 use Rattle.places.specs.Lists.{updated}
 use Rattle.links_drains.specs.Phases.{is_ended, counts, counted_of, ended_of}
@@ -42,18 +42,8 @@ matching-le-length p rows = omega (arith, length-filter p rows, count_by-le-leng
 
 -- ---- rows that have ended and count
 
-pub counted-more : (row : Row) (rows : List Row) → counted_of (row ∷ rows) ≡ cond (is_ended row.phase && counts row) 1 0 + counted_of rows
-counted-more row rows = matching-more (λ r. is_ended r.phase && counts r) row rows
-
 pub counted-append : (rows others : List Row) → counted_of (rows ++ others) ≡ counted_of rows + counted_of others
 counted-append rows others = matching-append (λ r. is_ended r.phase && counts r) rows others
-
-pub counted-none : (row : Row) → is_ended row.phase ≡ false → counted_of (row ∷ []) ≡ 0
-counted-none row h = counted-more row [] ∙ ap (λ b. cond (b && counts row) 1 0 + counted_of []) h
-
--- a row that hasn't ended is added
-pub counted-push : (rows : List Row) (row : Row) → is_ended row.phase ≡ false → counted_of (rows ++ row ∷ []) ≡ counted_of rows
-counted-push rows row h = counted-append rows (row ∷ []) ∙ omega (arith, counted-none row h)
 
 -- one row is changed
 pub counted-updated : (f : Row → Row) (rows : List Row) (i : ℕ) (row : Row) → slice_get rows i ≡ Some row →
@@ -74,32 +64,15 @@ counted-ended rows r row res h u = by (counts row) (rw u at (counted-updated (λ
     by true k = omega (arith, k)
     by false k = omega (arith, k)
 
--- one that counts
-pub counted-ended_one : (rows : List Row) (r : ℕ) (row : Row) (res : ℤ) → slice_get rows r ≡ Some row → is_ended row.phase ≡ false → counts row ≡ true →
-    counted_of (updated (λ row. record row { phase = Ended res }) rows r) ≡ counted_of rows + 1
-counted-ended_one rows r row res h u k = rw k at (counted-ended rows r row res h u)
-
--- one that doesn't
-pub counted-ended_timer : (rows : List Row) (r : ℕ) (row : Row) (res : ℤ) → slice_get rows r ≡ Some row → is_ended row.phase ≡ false → counts row ≡ false →
-    counted_of (updated (λ row. record row { phase = Ended res }) rows r) ≡ counted_of rows
-counted-ended_timer rows r row res h u k = rw k at (counted-ended rows r row res h u)
-
 -- an unfinished row changes and stays unfinished, as where it is issued
 pub counted-unfinished : (f : Row → Row) (rows : List Row) (r : ℕ) (row : Row) → slice_get rows r ≡ Some row → is_ended row.phase ≡ false → is_ended (f row).phase ≡ false →
     counted_of (updated f rows r) ≡ counted_of rows
 counted-unfinished f rows r row h u v = let k = rw (u, v) at (counted-updated f rows r row h) in omega (arith, k)
 
-pub counted-issued : (rows : List Row) (r : ℕ) (row : Row) → slice_get rows r ≡ Some row → is_ended row.phase ≡ false →
-    counted_of (updated (λ row. record row { phase = Issued }) rows r) ≡ counted_of rows
-counted-issued rows r row h u = counted-unfinished (λ row. record row { phase = Issued }) rows r row h u refl
-
 -- ---- rows that have ended
 
 pub ended-append : (rows others : List Row) → ended_of (rows ++ others) ≡ ended_of rows + ended_of others
 ended-append rows others = matching-append (λ r. is_ended r.phase) rows others
-
-pub ended-more : (row : Row) (rows : List Row) → ended_of (row ∷ rows) ≡ cond (is_ended row.phase) 1 0 + ended_of rows
-ended-more row rows = matching-more (λ r. is_ended r.phase) row rows
 
 -- an unfinished row ends
 pub ended-ended : (rows : List Row) (r : ℕ) (row : Row) (res : ℤ) → slice_get rows r ≡ Some row → is_ended row.phase ≡ false →
@@ -114,20 +87,3 @@ ended-unfinished f rows r row h u v = let k = rw (u, v) at (matching-updated (λ
 -- no more than there are rows; where one is unfinished, fewer
 pub ended-le-length : (rows : List Row) → ended_of rows ≤ length rows
 ended-le-length rows = matching-le-length (λ r. is_ended r.phase) rows
-
-pub ended-lt-length : (rows : List Row) (r : ℕ) (row : Row) → slice_get rows r ≡ Some row → is_ended row.phase ≡ false → ended_of rows < length rows
-ended-lt-length [] r row h u = absurd cc
-ended-lt-length (x ∷ rows) zero row h u =
-    let e : x ≡ row = cc in
-    let a = ended-more x rows in
-    let b = ended-le-length rows in
-    let none = a ∙ ap (λ (y : Row). cond (is_ended y.phase) 1 0 + ended_of rows) e ∙ ap (λ c. cond c 1 0 + ended_of rows) u in
-    omega (arith, none, b)
-ended-lt-length (x ∷ rows) (suc i) row h u =
-    let a = ended-more x rows in
-    let k = ended-lt-length rows i row h u in
-    by (is_ended x.phase) a k
-  where
-    by : (b : Bool) → ended_of (x ∷ rows) ≡ cond b 1 0 + ended_of rows → ended_of rows < length rows → ended_of (x ∷ rows) < suc (length rows)
-    by true a k = omega (arith, a, k)
-    by false a k = omega (arith, a, k)

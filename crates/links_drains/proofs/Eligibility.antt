@@ -70,9 +70,6 @@ module _ (rows : List Row) (index : Index) (i : Indexed rows index) (guards : Gu
   pub member : has index.unfinished r ≡ true
   member = i.unfinished r ∙ passes_here is_open rows r row here ∙ queued_open row.phase queued
 
-  pub unit_before : row.unit ≤ r
-  unit_before = i.chained.back r row here
-
   open_row : (k : ℕ) → has index.unfinished k ≡ true → (x : Row) × (slice_get rows k ≡ Some x) × (is_open x ≡ true)
   open_row k h = by (slice_get rows k) refl
     where

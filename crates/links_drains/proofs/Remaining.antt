@@ -1,28 +1,17 @@
 -- Rows stay where they are, with their entries and units.
-use Rattle.std.proofs.Common.{◌≡◌, ℕ, Bool, true, false, cond, refl, sym, ◌∙◌, ap, List, ◌++◌, length, map, take, ◌<◌, ◌≤◌, ◌⊎◌, inl, inr, arith}
-use Rattle.std.specs.Prelude.{Option, Some, None, option_map, slice_get, slice_set, ◌==◌}
+use Rattle.std.proofs.Common.{◌≡◌, ℕ, sym, ◌∙◌, ap, List, ◌++◌, length, map, take, ◌<◌, ◌≤◌, ◌⊎◌, inl, inr, arith}
+use Rattle.std.specs.Prelude.{Some, None, option_map, slice_get, slice_set}
 use Rattle.std.proofs.lemmas.Bool.{cases_lt}
 use Rattle.std.proofs.lemmas.Grind.{common_steps}
 use Rattle.std.proofs.lemmas.List.{length-map}
 use Rattle.std.proofs.lemmas.Option.{gets, slice_get-map}
 use Rattle.entries.specs.declared.row.Row.{Row}
-use Rattle.places.specs.Lists.{updated}
 use Rattle.places.proofs.ListLemmas.{same_list, field_same, slice_get-take_below, slice_get-take_above}
 use Rattle.links_drains.specs.Rows.{fixed_of, Stay}
 use Rattle.links_drains.proofs.Fixed.{fixed_at}
-use Rattle.links_drains.proofs.RowsKept.{get-updated}
 
 pub stay_then : (a b c : List Row) → length a ≤ length b → Stay a b → Stay b c → Stay a c
 stay_then a b c n h k r l = k r (omega (arith, n, l)) ∙ h r l
-
--- one row changes, and keeps its entry and unit
-pub stay_updated : (f : Row → Row) (rows : List Row) (i : ℕ) → ((x : Row) → fixed_of (f x) ≡ fixed_of x) → Stay rows (updated f rows i)
-stay_updated f rows i same r l = ap (option_map fixed_of) (get-updated f rows i r) ∙ by (i == r) (slice_get rows r)
-  where
-    by : (b : Bool) (o : Option Row) → option_map fixed_of (cond b (option_map f o) o) ≡ option_map fixed_of o
-    by false o = refl
-    by true None = refl
-    by true (Some x) = ap Some (same x)
 
 -- a row is written over by one of the same entry and unit
 pub stay_set : (rows : List Row) (i : ℕ) (row : Row) → option_map fixed_of (slice_get rows i) ≡ Some (fixed_of row) → Stay rows (slice_set rows i row)

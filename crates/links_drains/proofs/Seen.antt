@@ -7,9 +7,7 @@ use Rattle.places.specs.declared.place.Place.TheVariants.{Request}
 use Rattle.places.specs.declared.value.Value.TheVariants.{Requested}
 use Rattle.places.specs.Places.{same_place}
 use Rattle.places.specs.View.{put_at}
-use Rattle.places.specs.Lists.{updated}
-use Rattle.places.proofs.ListLemmas.{slice_get-set, slice_get-push, slice_get-take, updated_set}
-use Rattle.std.proofs.lemmas.Option.{slice_get_within}
+use Rattle.places.proofs.ListLemmas.{slice_get-set, slice_get-push, slice_get-take}
 use Rattle.links_drains.specs.Rows.{table_seen}
 
 -- a row was written over
@@ -21,10 +19,6 @@ seen_row rows i row h (Request j) = ap (option_map Requested) (slice_get-set row
     chosen true = refl
     chosen false = refl
 seen_row rows i row h _ = refl
-
--- a row was changed
-pub seen_updated : (f : Row → Row) (rows : List Row) (i : ℕ) (row : Row) → slice_get rows i ≡ Some row → (q : Place) → table_seen (updated f rows i) q ≡ put_at (table_seen rows) (Request i) (Some (Requested (f row))) q
-seen_updated f rows i row h q = ap (λ rs. table_seen rs q) (updated_set f rows i row h) ∙ seen_row rows i (f row) (slice_get_within rows i row h) q
 
 -- a row was added behind the others
 pub seen_push : (rows : List Row) (row : Row) (q : Place) → table_seen (rows ++ row ∷ []) q ≡ put_at (table_seen rows) (Request (length rows)) (Some (Requested row)) q

@@ -70,10 +70,6 @@ counts_row rows held r row t h fd e =
         let n = among xs i g in
         omega (arith, m, n)
 
--- no rows
-pub tallied_none : (held : Held) → ((fd : ℕ) → holders held fd ≡ 0) → Tallied [] held
-tallied_none held h = record { most = omega arith; counts = h }
-
 -- a row was written over
 pub tallied_set : (rows : List Row) (held between after : Held) (r : ℕ) (before row : Row) → Tallied rows held → slice_get rows r ≡ Some before →
     ((fd : ℕ) → holders held fd ≡ holders between fd + cond (holds fd before) 1 0) → ((fd : ℕ) → holders after fd ≡ holders between fd + cond (holds fd row) 1 0) → Tallied (slice_set rows r row) after

@@ -1,5 +1,5 @@
 -- Tests of the rows of a unit, by a set and once the table is changed.
-use Rattle.std.proofs.Common.{◌≡◌, ◌≢◌, ℕ, zero, suc, Bool, true, false, refl, sym, ◌∙◌, ap, List, [], ◌∷◌, ◌++◌, length, take, ◌<◌, ◌≤◌, ◌⊎◌, inl, inr, arith}
+use Rattle.std.proofs.Common.{◌≡◌, ◌≢◌, ℕ, zero, suc, Bool, true, false, refl, sym, ◌∙◌, ap, List, [], ◌∷◌, ◌++◌, take, ◌≤◌, ◌⊎◌, inl, inr, arith}
 use Rattle.std.specs.Prelude.{Some, slice_get, slice_set, ◌==◌, ◌&&◌, ◌||◌, MatchBool}
 use Rattle.std.specs.Option.{option_map_or}
 use Rattle.std.specs.List.{list_any}
@@ -7,7 +7,7 @@ use Rattle.std.proofs.lemmas.Bool.{both_ways, cases_lt, cases_Bool, eq-eqb, eqb-
 use Rattle.std.proofs.lemmas.List.Folds.{list_any-append}
 use Rattle.entries.specs.declared.row.Row.{Row}
 use Rattle.links_drains.specs.Links.{Chained}
-use Rattle.number_sets.specs.Sets.{has, IsNext, NoneFrom}
+use Rattle.number_sets.specs.Sets.{has, IsNext}
 use Rattle.links_drains.specs.Units.{passes_at, HasRowOf, HasNoRowOf}
 
 -- ---- some element passes
@@ -100,12 +100,6 @@ any_of_found test rows unit h =
 
 -- ---- by a set of row numbers
 
--- what a set has, it has as a row
-pub passes_within : (test : Row → Bool) (rows : List Row) (r : ℕ) → passes_at test rows r ≡ true → r < length rows
-passes_within test [] r h = absurd cc
-passes_within test (row ∷ rows) zero h = omega arith
-passes_within test (row ∷ rows) (suc r) h = let k = passes_within test rows r h in omega (arith, k)
-
 pub passes_here : (test : Row → Bool) (rows : List Row) (r : ℕ) (row : Row) → slice_get rows r ≡ Some row → passes_at test rows r ≡ test row
 passes_here test rows r row h = ap (λ o. option_map_or test o false) h
 
@@ -116,9 +110,6 @@ first_of_unit words rows unit r row c next h false e = λ k x g same. elim (case
   | inl less ↦ next.least k (let b = c.back k x g in omega (arith, b, same)) less
   | inr le ↦ absurd (let a = next.after in both_ways (row.unit == unit) e (eq-eqb row.unit unit (c.run r k row x h g le (omega (arith, same, a)) ∙ same)))
 ]
-
-pub none_of_unit : (words : List ℕ) (rows : List Row) (unit : ℕ) → Chained rows → NoneFrom words unit → HasNoRowOf words rows unit
-none_of_unit words rows unit c none = λ k x g same. none k (let b = c.back k x g in omega (arith, b, same))
 
 pub any_of_has : (test : Row → Bool) (words : List ℕ) (rows : List Row) (unit : ℕ) → ((r : ℕ) → has words r ≡ passes_at test rows r) → (b : Bool) → MatchBool b (HasRowOf words rows unit) (HasNoRowOf words rows unit) → b ≡ any_of test rows unit
 any_of_has test words rows unit ties true h = sym (any_of_true test rows h.number h.row unit h.there h.same (sym (passes_here test rows h.number h.row h.there) ∙ sym (ties h.number) ∙ h.member))

@@ -1,5 +1,5 @@
 -- What a submission makes of the entries that it is offered (io_uring_enter(2)).
-use Rattle.std.specs.Prelude.{ℕ, zero, suc, ℤ, ◌+◌, ◌-◌, ◌==◌, Bool, false, not, ◌&&◌, if◌then◌else◌, Option, Some, None, is_none, is_some, slice_get, List, map, take}
+use Rattle.std.specs.Prelude.{ℕ, zero, suc, ℤ, ◌+◌, ◌-◌, ◌==◌, Bool, false, not, ◌&&◌, if◌then◌else◌, Option, Some, None, is_none, is_some, slice_get, List, take}
 use Rattle.std.specs.Option.{option_and_then, option_map_or}
 use Rattle.std.specs.Result.{result_err}
 use Rattle.std.specs.List.{prefix_len, list_any}

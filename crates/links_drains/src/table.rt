@@ -122,6 +122,14 @@ impl Table {
         self.rows.get(r as usize).copied()
     }
 
+    /// The row of a number that has one.
+    pub fn row(&self, r: u32) -> Row
+        requires { r < length self.now }
+        ensures { slice_get self.now r ≡ Some result }
+    {
+        self.rows[r as usize]
+    }
+
     pub(crate) fn rows(&self) -> &[Row]
         ensures { result.now ≡ self.now }
     {
@@ -256,7 +264,7 @@ impl Table {
         ensures completions { notes.old.completions ≤ notes.new.completions }
         ensures others { notes.old.others ≤ notes.new.others + 1 }
     {
-        let row = self.rows[r as usize];
+        let row = self.row(r);
         notes.note_row(r, Some(row))?;
         self.set(r as usize, Row { phase, ..row });
         Ok(())
@@ -286,7 +294,7 @@ impl Table {
         ensures completions { notes.old.completions ≤ notes.new.completions }
         ensures others { notes.old.others ≤ notes.new.others + 1 }
     {
-        let queued = self.rows[r as usize];
+        let queued = self.row(r);
         notes.note_row(r, Some(queued))?;
         let issued = Row {
             phase: Phase::Issued,

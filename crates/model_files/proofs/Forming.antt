@@ -86,24 +86,6 @@ file_formed w h o f e = by (slice_get w.objects o) refl e
     by (Some (Pipe p)) k e = absurd cc
     by (Some (EventFd n)) k e = absurd cc
 
-pub pipe_formed : (w : WorldState) → WorldFormed w → (o : ℕ) (p : PipeState) → pipe_of w o ≡ Some p → PipeFormed p
-pipe_formed w h o p e = by (slice_get w.objects o) refl e
-  where
-    by : (x : Option Body) → slice_get w.objects o ≡ x → option_and_then pipe_in x ≡ Some p → PipeFormed p
-    by None k e = absurd cc
-    by (Some (File g)) k e = absurd cc
-    by (Some (Pipe q)) k e = let same : q ≡ p = cc in subst PipeFormed same (h.objects o (Pipe q) k)
-    by (Some (EventFd n)) k e = absurd cc
-
-pub counter_formed : (w : WorldState) → WorldFormed w → (o n : ℕ) → counter_of w o ≡ Some n → n < 2 ^ 64 - 1
-counter_formed w h o n e = by (slice_get w.objects o) refl e
-  where
-    by : (x : Option Body) → slice_get w.objects o ≡ x → option_and_then counter_in x ≡ Some n → n < 2 ^ 64 - 1
-    by None k e = absurd cc
-    by (Some (File g)) k e = absurd cc
-    by (Some (Pipe q)) k e = absurd cc
-    by (Some (EventFd m)) k e = let same : m ≡ n = cc in subst (λ i. i < 2 ^ 64 - 1) same (h.objects o (EventFd m) k)
-
 pub world_read_formed : (o offset k addr : ℕ) (w : WorldState) → WorldFormed w → addr + k ≤ 65536 → WorldFormed (world_read o offset k addr w)
 world_read_formed o offset k addr w h within =
     let bytes = bytes_of (file_of w o) in

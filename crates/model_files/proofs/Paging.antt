@@ -1,9 +1,8 @@
 -- Pages of a file are marked, noted and brought to the device.
-use Rattle.std.proofs.Common.{◌≡◌, ℕ, Bool, true, false, cond, refl, sym, ◌∙◌, ap, List, length, ◌+◌, ◌-◌, ◌*◌, ◌/◌, ◌<◌, ◌≤◌, arith}
-use Rattle.std.specs.Prelude.{Option, Some, None, option_map, slice_get, slice_set, ◌==◌, ◌⊎◌}
+use Rattle.std.proofs.Common.{◌≡◌, ℕ, Bool, true, false, cond, refl, sym, ◌∙◌, ap, List, length, ◌+◌, ◌-◌, ◌*◌, ◌<◌, ◌≤◌, arith}
+use Rattle.std.specs.Prelude.{Option, Some, None, option_map, slice_get, ◌==◌, ◌⊎◌}
 use Rattle.std.proofs.Common.{inl, inr}
 use Rattle.std.proofs.lemmas.Bool.{eqb-true, eq-eqb}
-use Rattle.std.proofs.lemmas.Bool.Decides.{nat_tests}
 use Rattle.std.proofs.lemmas.Option.{slice_get_past}
 use Rattle.places.specs.declared.place.Place.{Place}
 use Rattle.places.specs.declared.place.Place.TheVariants.{DurableByte, DurableLength}
@@ -15,43 +14,21 @@ use Rattle.places.specs.Notes.{Notes, HasAsMuch}
 use Rattle.places.specs.Runs.{byte_from, byte_in}
 use Rattle.places.specs.View.{named, Keeps, Noted}
 use Rattle.places.proofs.Keeping.{keeps_then, keeps_unchanged, noted_keeps}
-use Rattle.places.proofs.ListLemmas.{same_list, slice_get-set}
+use Rattle.places.proofs.ListLemmas.{same_list}
 use Rattle.model_files.specs.Differing.{NotedAmong, NamesDiffering}
 use Rattle.model_files.specs.Objects.{object_owns, NamesChanges}
 use Rattle.model_files.specs.Files.{FileState, FileSized, file_seen, part, synced}
-use Rattle.model_files.specs.Pages.{Agree, NamesUpTo}
-use Rattle.model_files.proofs.Among.{among_fresh, among_named, as_much, keeps_among}
+use Rattle.model_files.specs.Pages.{NamesUpTo}
+use Rattle.model_files.proofs.Among.{among_fresh, among_named, keeps_among}
 use Rattle.model_files.proofs.Comparing.{slice_get-part}
 use Rattle.model_files.proofs.Noting.{below_or_not, bytes_there, get_part, length-part, noted_named}
 
 -- ---- marks
 
-set_true : (xs : List Bool) (k p : ℕ) → k < length xs → slice_get (slice_set xs k true) p ≡ Some false → (slice_get xs p ≡ Some false) × ((k == p) ≡ false)
-set_true xs k p h e = by (k == p) refl (sym (slice_get-set xs k p true h) ∙ e)
-  where
-    by : (t : Bool) → (k == p) ≡ t → cond t (Some true) (slice_get xs p) ≡ Some false → (slice_get xs p ≡ Some false) × ((k == p) ≡ false)
-    by true g f = absurd cc
-    by false g f = (f, g)
-
 -- The pages from one up to the next are marked, and no mark was taken away.
 pub record Marking (before marks : List Bool) (first next : ℕ) : Type 0 where
   pub kept : (p : ℕ) → slice_get marks p ≡ Some false → slice_get before p ≡ Some false
   pub apart : (p : ℕ) → slice_get marks p ≡ Some false → (p < first) ⊎ (next ≤ p)
-
-pub marking_on : (before marks : List Bool) (first next : ℕ) → Marking before marks first next → next < length marks → Marking before (slice_set marks next true) first (next + 1)
-marking_on before marks first next m h = record { kept = λ p e. m.kept p (set_true marks next p h e).0; apart = λ p e. by p (set_true marks next p h e).1 (m.apart p (set_true marks next p h e).0) }
-  where
-    by : (p : ℕ) → (next == p) ≡ false → (p < first) ⊎ (next ≤ p) → (p < first) ⊎ (next + 1 ≤ p)
-    by p e (inl l) = inl l
-    by p e (inr l) = inr (grind (arith, nat_tests))
-
--- a page that is not marked has none of the bytes whose pages were
-pub marked_apart : (before marks : List Bool) (at count next : ℕ) → Marking before marks (at / 4096) next → 0 < count → (at + count - 1) / 4096 + 1 ≤ next → (p : ℕ) → slice_get marks p ≡ Some false → (p * 4096 + 4096 ≤ at) ⊎ (at + count ≤ p * 4096)
-marked_apart before marks at count next m some h p e = by (m.apart p e)
-  where
-    by : (p < at / 4096) ⊎ (next ≤ p) → (p * 4096 + 4096 ≤ at) ⊎ (at + count ≤ p * 4096)
-    by (inl l) = inl (omega arith)
-    by (inr l) = inr (omega arith)
 
 -- where a page is apart from some bytes, its own are before or behind them
 pub outside : (p i at count : ℕ) → (p * 4096 + 4096 ≤ at) ⊎ (at + count ≤ p * 4096) → p * 4096 ≤ i → i < p * 4096 + 4096 → (i < at) ⊎ (at + count ≤ i)
@@ -65,21 +42,6 @@ pub record Bringing (bytes before durable : List ℕ) (page : ℕ) : Type 0 wher
   pub len : length durable ≡ 65536
   pub there : (i : ℕ) → i < page * 4096 → slice_get durable i ≡ slice_get bytes i
   pub behind : (i : ℕ) → page * 4096 ≤ i → slice_get durable i ≡ slice_get before i
-
-pub bringing_on : (bytes before durable next : List ℕ) (page : ℕ) → Bringing bytes before durable page → length next ≡ 65536 → ((i : ℕ) → i < page * 4096 → slice_get next i ≡ slice_get durable i)
-    → ((i : ℕ) → page * 4096 ≤ i → i < page * 4096 + 4096 → slice_get next i ≡ slice_get bytes i) → ((i : ℕ) → page * 4096 + 4096 ≤ i → slice_get next i ≡ slice_get durable i) → Bringing bytes before next (page + 1)
-bringing_on bytes before durable next page b len lower here upper = record {
-  len = len;
-  there = λ i h. by i h (below_or_not i (page * 4096));
-  behind = λ i h. upper i (omega arith) ∙ b.behind i (omega arith);
-}
-  where
-    by : (i : ℕ) → i < (page + 1) * 4096 → (i < page * 4096) ⊎ (page * 4096 ≤ i) → slice_get next i ≡ slice_get bytes i
-    by i h (inl l) = lower i l ∙ b.there i l
-    by i h (inr l) = here i l (omega arith)
-
-pub bringing_clean : (marks : List Bool) (bytes before durable : List ℕ) (page : ℕ) → Bringing bytes before durable page → Agree marks bytes before → (i : ℕ) → slice_get marks page ≡ Some false → page * 4096 ≤ i → i < page * 4096 + 4096 → slice_get bytes i ≡ slice_get durable i
-bringing_clean marks bytes before durable page b clean i e lo hi = clean page i e lo hi ∙ sym (b.behind i lo)
 
 pub brought : (bytes before durable : List ℕ) (page : ℕ) → Bringing bytes before durable page → length bytes ≡ 65536 → 16 ≤ page → durable ≡ bytes
 brought bytes before durable page b len h = same_list durable bytes (λ i. by i (below_or_not i 65536))
@@ -126,17 +88,6 @@ pub record NotingPages (o : ℕ) (f : FileState) (before notes : Notes) (page : 
   pub noted : NamesUpTo o f notes.made (page * 4096)
   pub named : (p : Place) → named notes.made p ≡ None → named before.made p ≡ None
   pub room : HasAsMuch before notes
-
-pub noting_on : (o : ℕ) (f : FileState) (before notes next : Notes) (page : ℕ) → NotingPages o f before notes page → ((i : ℕ) → page * 4096 + 4096 ≤ i → i < 65536 → named next.made (DurableByte o i) ≡ None)
-    → Keeps (object_owns o) (file_seen f) (file_seen f) notes.made next.made → (NamesUpTo o f notes.made (page * 4096) → NamesUpTo o f next.made (page * 4096 + 4096)) → ((p : Place) → named next.made p ≡ None → named notes.made p ≡ None) → HasAsMuch notes next
-    → NotingPages o f before next (page + 1)
-noting_on o f before notes next page n fresh keeps noted names room = record {
-  fresh = λ i h l. fresh i (omega arith) l;
-  keeps = keeps_then (object_owns o) (file_seen f) (file_seen f) (file_seen f) before.made notes.made next.made n.keeps keeps;
-  noted = λ i h u. noted n.noted i (omega arith) u;
-  named = λ p e. n.named p (names p e);
-  room = as_much before notes next n.room room;
-}
 
 -- ---- the notes of bringing all to the device
 

@@ -5,8 +5,8 @@ use Rattle.std.specs.Int.{bit_at, bit_not}
 use Rattle.std.proofs.lemmas.Bool.{cases_lt, eq-eqb, and_left}
 use Rattle.std.proofs.lemmas.Bool.Decides.{nat_tests}
 use Rattle.std.proofs.lemmas.Nat.Bits.{bit_at_and, bit_at_not, bit_at-lt}
-use Rattle.number_sets.specs.Sets.{has, IsNext, NoneFrom, IsNextBit}
-use Rattle.number_sets.specs.Beside.{is_beside, IsNextBeside, NoneBeside}
+use Rattle.number_sets.specs.Sets.{has, IsNext, IsNextBit}
+use Rattle.number_sets.specs.Beside.{is_beside, IsNextBeside}
 use Rattle.number_sets.proofs.Bits.{has_is, has_past}
 
 abbrev beside_word : List ℕ → List ℕ → ℕ → ℕ
@@ -63,10 +63,4 @@ pub beside_past : (words others : List ℕ) (from at k : ℕ) → get_or others 
 beside_past words others from at k fits before next none i low high = elim (cases_lt i k) [
   | inl earlier ↦ before_next words others from at k before next i low earlier
   | inr later ↦ in_word words others (k / 64) i fits (omega arith) (none (i % 64) (omega arith))
-]
-
-pub beside_none : (words others : List ℕ) (from at : ℕ) → ((i : ℕ) → from ≤ i → i < at → is_beside words others i ≡ false) → NoneFrom words at → NoneBeside words others from
-beside_none words others from at before none i low = elim (cases_lt i at) [
-  | inl earlier ↦ before i low earlier
-  | inr later ↦ and_left _ _ (none i later)
 ]

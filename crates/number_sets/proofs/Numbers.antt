@@ -1,10 +1,10 @@
 -- Numbers of a set, by the bits of its words.
-use Rattle.std.proofs.Common.{◌≡◌, ℕ, ◌+◌, ◌*◌, ◌/◌, ◌%◌, ◌<◌, ◌≤◌, true, false, not, cond, ◌==◌, List, [], ◌∷◌, ◌++◌, length, get_or, set, replicate, refl, sym, ap, ◌∙◌, inl, inr, arith}
+use Rattle.std.proofs.Common.{◌≡◌, ℕ, ◌+◌, ◌*◌, ◌/◌, ◌%◌, ◌<◌, ◌≤◌, true, false, not, cond, ◌==◌, List, [], ◌∷◌, ◌++◌, length, get_or, set, replicate, refl, sym, ◌∙◌, inl, inr, arith}
 use Rattle.std.specs.Int.{bit_at}
 use Rattle.std.proofs.lemmas.Bool.{cases_eq, cases_lt, not-false, not-true, eqb-true, eqb-false, eq-eqb, ne_eqb}
-use Rattle.std.proofs.lemmas.List.{get_or-set_same, get_or-set_other, get_or_past, get_or-replicate, length-replicate, length-set, length_push}
+use Rattle.std.proofs.lemmas.List.{get_or-set_same, get_or-set_other, get_or_past, get_or-replicate, length-replicate, length-set}
 use Rattle.std.proofs.lemmas.Nat.Bits.{bit_at-zero, same_from_bits}
-use Rattle.number_sets.proofs.Bits.{none_in_zero, grown_word, no_bits, has_grown as words_grown}
+use Rattle.number_sets.proofs.Bits.{none_in_zero, no_bits, has_grown as words_grown}
 use Rattle.number_sets.specs.Sets.{has, IsNextBit, IsNext, NoneFrom, Summed}
 
 -- ---- one number
@@ -17,10 +17,6 @@ has_in words w b h =
     rw (word, bit) refl
 
 -- ---- changes
-
--- a word of zeros is added
-same_word : (words : List ℕ) (w : ℕ) → get_or (words ++ 0 ∷ []) w 0 ≡ get_or words w 0
-same_word words w = grown_word words (0 ∷ []) w (λ v. no_bits 1 0 v refl)
 
 pub has_grown : (words : List ℕ) (k : ℕ) → has (words ++ 0 ∷ []) k ≡ has words k
 has_grown words k = words_grown words (0 ∷ []) k (λ w. no_bits 1 0 w refl)
@@ -36,13 +32,6 @@ zero_word n w x e = elim (cases_lt w n) [
 -- no word, and none in the summary
 pub summed_none : (x : ℕ) → x ≡ 0 → Summed [] (replicate 16 x)
 summed_none x e = record { few = omega arith; short = length-replicate 16 x; sums = λ w. none_in_zero (replicate 16 x) w (zero_word 16 (w / 64) x e) }
-
-pub summed_grown : (words summary : List ℕ) → Summed words summary → length words < 1024 → Summed (words ++ 0 ∷ []) summary
-summed_grown words summary s h = record {
-  few = omega (arith, length_push words 0);
-  short = s.short;
-  sums = λ w. s.sums w ∙ ap (λ n. not (n == 0)) (sym (same_word words w));
-}
 
 pub summed_written : (words summary after : List ℕ) (at word : ℕ) → Summed words summary → at < length words → length after ≡ length summary
     → ((w : ℕ) → has after w ≡ cond (w == at) (not (word == 0)) (has summary w)) → Summed (set words at word) after

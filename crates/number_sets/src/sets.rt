@@ -100,10 +100,7 @@ impl NumberSet {
         ensures { MatchBool result (IsNext self.now from k) ((i : ℕ) × (i < k)
             × IsNext self.now from i) }
     {
-        match self.next(from) {
-            Some(first) => first == k,
-            None => unreachable!(),
-        }
+        self.next(from) == Some(k)
     }
 
     /// Whether the set has no number below another.

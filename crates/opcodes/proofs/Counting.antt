@@ -1,5 +1,5 @@
 -- How many bytes went into pipes over the whole run.
-use Rattle.std.proofs.Common.{◌≡◌, ℕ, ℤ, pos, negsuc, zero, suc, Bool, true, false, cond, refl, sym, ◌∙◌, ap, subst, List, [], ◌∷◌, length, drop, length-take, ◌+◌, ◌≤◌, ◌^◌, arith}
+use Rattle.std.proofs.Common.{◌≡◌, ℕ, ℤ, pos, negsuc, zero, suc, Bool, true, false, cond, refl, sym, ◌∙◌, ap, subst, List, [], ◌∷◌, length, drop, length-take, ◌+◌, ◌≤◌, arith}
 use Rattle.std.specs.Prelude.{Option, Some, None, slice_get}
 use Rattle.std.specs.Option.{option_and_then}
 use Rattle.std.specs.Option.{option_map_or}
@@ -13,7 +13,7 @@ use Rattle.model_files.specs.declared.stock.Stock.{Stock}
 use Rattle.model_files.specs.declared.stock.Stock.TheVariants.{File, Pipe, EventFd}
 use Rattle.model_files.specs.Files.{part, synced, written}
 use Rattle.model_files.specs.Pipes.{PipeState, put_in, taken_out}
-use Rattle.model_files.specs.Worlds.{WorldState, WorldFormed, PutsWithin, descriptor_of, number_at, on_counter, on_file, on_pipe, pipe_in, pipe_of, stock_of, world_added, world_at, world_cleared, world_put, world_synced, world_taken}
+use Rattle.model_files.specs.Worlds.{WorldState, PutsWithin, descriptor_of, number_at, on_counter, on_file, on_pipe, pipe_in, stock_of, world_added, world_at, world_cleared, world_put, world_synced, world_taken}
 use Rattle.entries.specs.declared.choice.Choice.{Choice}
 use Rattle.opcodes.specs.declared.op.Op.{Op}
 use Rattle.opcodes.specs.declared.op.Op.TheVariants.{Fsync, Read, Write}

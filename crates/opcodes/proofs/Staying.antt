@@ -1,6 +1,6 @@
 -- What the end of a request leaves as it was.
-use Rattle.std.proofs.Common.{◌≡◌, ℕ, ℤ, pos, negsuc, zero, suc, Bool, true, false, cond, refl, sym, subst, ◌∙◌, ap, ◌+◌, ◌<◌, ◌≤◌, arith}
-use Rattle.std.specs.Prelude.{Option, Some, None, IsSomeAnd, if◌then◌else◌, ◌^◌}
+use Rattle.std.proofs.Common.{◌≡◌, ℕ, ℤ, pos, negsuc, zero, suc, Bool, true, false, cond, refl, sym, subst, ◌∙◌, ap, ◌+◌, ◌≤◌, arith}
+use Rattle.std.specs.Prelude.{Option, Some, None, IsSomeAnd, ◌^◌}
 use Rattle.std.specs.Option.{option_and_then}
 use Rattle.std.specs.Option.{option_map_or}
 use Rattle.entries.specs.declared.entry.Sqe.{Sqe}

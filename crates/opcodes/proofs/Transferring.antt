@@ -1,6 +1,6 @@
 -- What a transfer that ends well keeps to.
 use Rattle.std.proofs.Common.{◌≡◌, ℕ, ℤ, pos, negsuc, zero, suc, Bool, true, false, cond, refl, sym, ◌∙◌, ap, subst, ◌+◌, ◌-◌, ◌<◌, ◌≤◌, ◌^◌, arith}
-use Rattle.std.specs.Prelude.{Option, Some, None, IsSome, IsSomeAnd, is_some, option_map, slice_get, length, Result, Ok, Err, OnOk, OnErr, nat_lt, nat_le, ◌==◌, ◌&&◌, not, min, if◌then◌else◌}
+use Rattle.std.specs.Prelude.{Option, Some, None, IsSome, IsSomeAnd, is_some, option_map, slice_get, length, Result, Ok, Err, OnOk, OnErr, nat_lt, nat_le, ◌==◌, ◌&&◌, not, min}
 use Rattle.std.specs.Option.{option_and_then}
 use Rattle.std.proofs.lemmas.Bool.Decides.{nat_tests}
 use Rattle.entries.specs.declared.entry.Sqe.{Sqe}
@@ -10,8 +10,8 @@ use Rattle.model_files.specs.declared.body.Body.TheVariants.{File as FileBody, P
 use Rattle.model_files.specs.declared.descriptor.DescriptorState.{DescriptorState}
 use Rattle.model_files.specs.declared.stock.Stock.{Stock}
 use Rattle.model_files.specs.declared.stock.Stock.TheVariants.{File, Pipe, EventFd}
-use Rattle.model_files.specs.Pipes.{PipeState, PipeFormed, GivesOut, TakesIn, filled}
-use Rattle.model_files.specs.Worlds.{WorldState, WorldFormed, BodyFormed, StockFits, OneSetup, PutsWithin, descriptor_of, file_in, file_of, pipe_in, pipe_of, counter_in, counter_of, stock_in, stock_of, number_at, world_at, world_put, world_taken, world_written}
+use Rattle.model_files.specs.Pipes.{PipeFormed, GivesOut, TakesIn, filled}
+use Rattle.model_files.specs.Worlds.{WorldState, WorldFormed, BodyFormed, StockFits, OneSetup, PutsWithin, descriptor_of, file_of, pipe_in, pipe_of, counter_in, counter_of, stock_in, stock_of, number_at, world_at, world_put, world_taken, world_written}
 use Rattle.model_files.proofs.Describing.{number_from_three}
 use Rattle.model_files.specs.Files.{FileState, FileFormed}
 use Rattle.model_files.proofs.Forming.{file_formed}
@@ -156,15 +156,6 @@ stock_fits w f o s h = by (slice_get w.objects o) refl h
     by None e k = absurd cc
     by (Some b) e k = let same : stock_in b ≡ s = cc in subst StockFits same (at b (f.objects o b e))
 
-pub file_stock : (w : WorldState) (o len : ℕ) → stock_of w o ≡ Some (File len) → IsSome (file_of w o)
-file_stock w o len h = by (slice_get w.objects o) h
-  where
-    by : (x : Option Body) → option_map stock_in x ≡ Some (File len) → is_some (option_and_then file_in x) ≡ true
-    by None k = absurd cc
-    by (Some (FileBody g)) k = refl
-    by (Some (PipeBody p)) k = absurd cc
-    by (Some (EventBody n)) k = absurd cc
-
 pub gives_out : (w : WorldState) → WorldFormed w → (o k n m : ℕ) → stock_of w o ≡ Some (Pipe n m) → k ≤ n → IsSomeAnd (pipe_of w o) (GivesOut k)
 gives_out w f o k n m h l = by (slice_get w.objects o) refl h
   where
@@ -197,15 +188,6 @@ counts_to w o n number h l = by (slice_get w.objects o) h
     by (Some (FileBody q)) g = absurd cc
     by (Some (PipeBody p)) g = absurd cc
     by (Some (EventBody m)) g = let same : m ≡ n = cc in subst (λ z. z + number < 2 ^ 64 - 1) (sym same) l
-
-pub counter_stock : (w : WorldState) (o n : ℕ) → stock_of w o ≡ Some (EventFd n) → IsSome (counter_of w o)
-counter_stock w o n h = by (slice_get w.objects o) h
-  where
-    by : (x : Option Body) → option_map stock_in x ≡ Some (EventFd n) → is_some (option_and_then counter_in x) ≡ true
-    by None g = absurd cc
-    by (Some (FileBody q)) g = absurd cc
-    by (Some (PipeBody p)) g = absurd cc
-    by (Some (EventBody m)) g = refl
 
 -- a row's own
 told : (held : ℕ → Bool) (w : WorldState) (row : Row) (d : DescriptorState) (op : Op) (c : Choice) (res : ℤ) (k : ℕ) → op_of row.entry.opcode ≡ Some op → held_descriptor w row ≡ Some d → pos k ≡ res → outcome_of held w row c ≡ Res res → outcome_on held w row.entry (Some op) (Some d) c ≡ Res (pos k)

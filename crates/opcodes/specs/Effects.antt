@@ -1,6 +1,6 @@
 -- What the end of a request does to memory, objects and descriptors (read(2), write(2), fsync(2),
 -- pipe(7), eventfd(2)).
-use Rattle.std.specs.Prelude.{ℕ, ℤ, pos, negsuc, ◌+◌, Option, Some, None, if◌then◌else◌}
+use Rattle.std.specs.Prelude.{ℕ, ℤ, pos, negsuc, ◌+◌, Option, Some, if◌then◌else◌}
 use Rattle.std.specs.Option.{option_map_or}
 use Rattle.entries.specs.declared.entry.Sqe.{Sqe}
 use Rattle.entries.specs.declared.row.Row.{Row}
@@ -9,9 +9,9 @@ use Rattle.model_files.specs.declared.stock.Stock.{Stock}
 use Rattle.model_files.specs.declared.stock.Stock.TheVariants.{File, Pipe, EventFd}
 use Rattle.model_files.specs.Worlds.{WorldState, descriptor_of, number_at, stock_of, world_added, world_at, world_cleared, world_put, world_read, world_synced, world_taken, world_written}
 use Rattle.opcodes.specs.declared.op.Op.{Op}
-use Rattle.opcodes.specs.declared.op.Op.TheVariants.{Nop, Fsync, Read, Write}
+use Rattle.opcodes.specs.declared.op.Op.TheVariants.{Fsync, Read, Write}
 use Rattle.opcodes.specs.Check.{op_of}
-use Rattle.opcodes.specs.Outcomes.{held_descriptor, is_at_position, offset_of, position_of}
+use Rattle.opcodes.specs.Outcomes.{is_at_position, offset_of, position_of}
 
 -- the position moves on behind the bytes of a transfer that began there
 abbrev pub moved_on : Sqe → ℕ → Option ℕ → ℕ → WorldState → WorldState

@@ -1,5 +1,5 @@
 -- Kinds of opcodes, by their numbers (io_uring_enter(2)).
-use Rattle.std.specs.Prelude.{ℕ, ◌==◌, ◌||◌, ◌&&◌, not, Bool, true, false}
+use Rattle.std.specs.Prelude.{ℕ, ◌==◌, ◌||◌, not, Bool, true}
 use Rattle.places.specs.declared.object.End.{End}
 use Rattle.places.specs.declared.object.End.TheVariants.{Whole, Read, Write}
 

@@ -1,16 +1,16 @@
 -- Completions are added to a backlog: their places are noted as absent first.
-use Rattle.std.proofs.Common.{◌≡◌, ℕ, refl, sym, ◌∙◌, ap, subst, List, [], ◌∷◌, ◌++◌, length, take, append_assoc, length-append, length-take, ◌+◌, ◌≤◌, ◌<◌, ◌⊎◌, inl, inr, get_or, arith}
-use Rattle.std.specs.Prelude.{Option, Some, None, option_map, slice_get}
+use Rattle.std.proofs.Common.{◌≡◌, ℕ, refl, sym, ◌∙◌, ap, List, [], ◌∷◌, ◌++◌, length, take, append_assoc, length-append, ◌+◌, ◌≤◌, ◌<◌, ◌⊎◌, inl, inr, get_or, arith}
+use Rattle.std.specs.Prelude.{Some, None, option_map, slice_get}
 use Rattle.std.proofs.lemmas.Grind.{common_steps}
 use Rattle.std.proofs.lemmas.Option.{gets, slice_get_past, slice_get_cases}
-use Rattle.std.proofs.lemmas.List.{append-nil, length-take-le}
+use Rattle.std.proofs.lemmas.List.{length-take-le}
 use Rattle.entries.specs.declared.completion.Cqe.{Cqe}
 use Rattle.places.specs.declared.place.Place.{Place}
 use Rattle.places.specs.declared.place.Place.TheVariants.{Backlog}
 use Rattle.places.specs.declared.value.Value.TheVariants.{Completed}
-use Rattle.places.specs.View.{View, named, Keeps, Noted}
+use Rattle.places.specs.View.{named, Keeps, Noted}
 use Rattle.places.specs.Notes.{Notes}
-use Rattle.places.proofs.Keeping.{keeps_then, keeps_noted, keeps_same, keeps_back, noted_keeps}
+use Rattle.places.proofs.Keeping.{keeps_then, keeps_noted, noted_keeps}
 use Rattle.overflow.specs.Backlogs.{BacklogState, backlog_owns, backlog_seen, backlog_with}
 use Rattle.overflow.proofs.Seen.{seen_more}
 
@@ -51,16 +51,3 @@ adding_on b old mid new list i a h n x y =
       numbers = let u = a.numbers in omega arith;
       completions = let u = a.completions in omega arith;
     }
-
-pub adding_starts : (b : BacklogState) (notes : Notes) (list : List Cqe) → Adding b notes notes list 0
-adding_starts b notes list = record {
-  within = omega arith;
-  keeps = rw (append-nil b.items) (keeps_same backlog_owns (backlog_seen b) notes.made);
-  named = λ p e. e;
-  numbers = omega arith;
-  completions = omega arith;
-}
-
--- where they aren't added after all, the notes keep what was
-pub adding_stops : (b : BacklogState) (old new : Notes) (list : List Cqe) (i : ℕ) → Adding b old new list i → Keeps backlog_owns (backlog_seen b) (backlog_seen b) old.made new.made
-adding_stops b old new list i a = keeps_back backlog_owns _ _ _ _ a.keeps a.named

@@ -1,14 +1,14 @@
 -- What posting and flushing keep, of the definitions alone.
-use Rattle.std.proofs.Common.{◌≡◌, ℕ, Bool, true, false, cond, refl, sym, ◌∙◌, ap, subst, List, [], ◌∷◌, ◌++◌, length, take, drop, append_assoc, length-append, length-drop, drop-drop, ◌+◌, ◌-◌, ◌≤◌, ◌<◌, min, arith}
+use Rattle.std.proofs.Common.{◌≡◌, ℕ, Bool, true, false, cond, refl, sym, ◌∙◌, ap, List, [], ◌∷◌, ◌++◌, length, take, drop, append_assoc, length-append, length-drop, drop-drop, ◌+◌, ◌≤◌, min, arith}
 use Rattle.std.specs.Prelude.{not, ◌==◌}
 use Rattle.std.proofs.lemmas.Bool.{eqb-true}
 use Rattle.std.proofs.lemmas.List.{append-nil, take-append-drop, drop-append-le, length-take-le}
 use Rattle.entries.specs.declared.completion.Cqe.{Cqe}
 use Rattle.ring_words.specs.declared.flag.RingFlag.TheVariants.{CqOverflow}
-use Rattle.ring_words.specs.Rings.{ComWords, ComFormed, waiting, com_list, has_flag}
+use Rattle.ring_words.specs.Rings.{ComWords, waiting, com_list, has_flag}
 use Rattle.ring_words.proofs.Laws.{com_length}
 use Rattle.ring_words.proofs.Flags.{flag_set}
-use Rattle.overflow.specs.Backlogs.{BacklogState, kept, is_clear, free_slots, posted_in_order, Delivery, DeliveryFormed, fits, backlog_with, backlog_behind, all_posted, flushed}
+use Rattle.overflow.specs.Backlogs.{BacklogState, kept, is_clear, free_slots, Delivery, DeliveryFormed, fits, backlog_with, backlog_behind, all_posted, flushed}
 use Rattle.overflow.proofs.Posting.{posted_slots, posted_well, posted_waits, posted_list}
 
 none_left : (xs : List Cqe) → (length xs == 0) ≡ true → xs ≡ []

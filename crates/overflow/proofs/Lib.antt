@@ -1,5 +1,4 @@
 pub mod Seen
-pub mod Delivered
 pub mod Posting
 pub mod Adding
 pub mod KeptInOrder

@@ -1,5 +1,5 @@
 -- Completions posted in order stand behind the others.
-use Rattle.std.proofs.Common.{◌≡◌, ℕ, refl, sym, ◌∙◌, ap, subst, List, [], ◌∷◌, ◌++◌, length, take, append_assoc, length-append, length-set, ◌+◌, ◌%◌, ◌≤◌, ◌<◌, arith}
+use Rattle.std.proofs.Common.{◌≡◌, ℕ, refl, sym, ◌∙◌, ap, subst, List, [], ◌∷◌, ◌++◌, length, take, append_assoc, length-set, ◌+◌, ◌%◌, ◌≤◌, ◌<◌, arith}
 use Rattle.std.specs.Prelude.{None, Some, slice_get}
 use Rattle.std.proofs.lemmas.Grind.{common_steps}
 use Rattle.std.proofs.lemmas.Option.{gets}
@@ -10,7 +10,7 @@ use Rattle.places.specs.View.{named, Keeps}
 use Rattle.places.specs.Notes.{Notes}
 use Rattle.places.proofs.Keeping.{keeps_same, keeps_then}
 use Rattle.ring_words.specs.Rings.{ComWords, ComFormed, waiting, com_list, com_owns, com_seen}
-use Rattle.ring_words.proofs.Laws.{com_posted, com_length, formed_posted}
+use Rattle.ring_words.proofs.Laws.{com_posted, formed_posted}
 use Rattle.ring_words.proofs.Order.{waiting_more}
 use Rattle.overflow.specs.Backlogs.{posted_one, posted_in_order}
 
@@ -23,10 +23,6 @@ posted_more w (x ∷ xs) c = posted_more (posted_one w x) xs c
 pub posted_slots : (w : ComWords) (cs : List Cqe) → length (posted_in_order w cs).slots ≡ length w.slots
 posted_slots w [] = refl
 posted_slots w (c ∷ cs) = posted_slots (posted_one w c) cs ∙ length-set w.slots (w.tail % length w.slots) c
-
-pub posted_head : (w : ComWords) (cs : List Cqe) → (posted_in_order w cs).head ≡ w.head
-posted_head w [] = refl
-posted_head w (c ∷ cs) = posted_head (posted_one w c) cs
 
 pub posted_well : (w : ComWords) (cs : List Cqe) → ComFormed w → ComFormed (posted_in_order w cs)
 posted_well w [] f = f

@@ -1,5 +1,5 @@
 -- What is seen of a changed backlog.
-use Rattle.std.proofs.Common.{◌≡◌, ℕ, Bool, true, false, cond, refl, ◌∙◌, ap, List, [], ◌∷◌, ◌++◌, take, length, ◌<◌, ◌+◌}
+use Rattle.std.proofs.Common.{◌≡◌, ℕ, Bool, true, false, cond, refl, ◌∙◌, ap, [], ◌∷◌, ◌++◌, take, length, ◌<◌, ◌+◌}
 use Rattle.std.specs.Prelude.{Some, None, option_map, slice_get, slice_set, ◌==◌, ◌&&◌}
 use Rattle.entries.specs.declared.completion.Cqe.{Cqe}
 use Rattle.places.specs.declared.place.Place.{Place}

@@ -59,10 +59,6 @@ module _ (old new : List ℕ) where
 
   -- ---- what stood in a place, by its shape
 
-  pub number_put : (n : ℕ) → Puts number_of after old (n ∷ []) new → Puts (value_of_shape 1) (behind 1) old (Some (Number n) ∷ []) new
-  unfolding value_of_shape
-  number_put n g rest = let p = g rest in record { put = p.put; joined = p.joined; reads = (ap (λ i. Some (Number i)) p.reads.0, p.reads.1) }
-
   pub signed_put : (z : ℤ) → FitsSigned w64 z → Puts number_of after old (cast_unsigned w64 z ∷ []) new → Puts (value_of_shape 2) (behind 1) old (Some (Signed z) ∷ []) new
   unfolding value_of_shape
   signed_put z f g rest =

@@ -1,8 +1,6 @@
 -- What is left of notes once those that say what stands there now are dropped.
-use Rattle.std.proofs.Common.{◌≡◌, ◌≢◌, Bool, true, false, cond, refl, sym, ◌∙◌, ap, subst, List, [], ◌∷◌, ◌⊎◌, inl, inr, length, arith}
-use Rattle.std.specs.Prelude.{Option, Some, None, unwrap_or, MatchBool}
-use Rattle.std.specs.List.Retain.{ReturnsInTurn, IsFiltered}
-use Rattle.std.specs.List.{items_where_true}
+use Rattle.std.proofs.Common.{◌≡◌, ◌≢◌, Bool, true, false, cond, refl, sym, ◌∙◌, ap, subst, List, ◌∷◌, ◌⊎◌, inl, inr}
+use Rattle.std.specs.Prelude.{Option, Some, None, unwrap_or}
 use Rattle.places.specs.declared.place.Place.{Place}
 use Rattle.places.specs.declared.value.Value.{Value}
 use Rattle.places.specs.declared.value.Change.{Change}
@@ -41,24 +39,6 @@ goes v c cs ds m r n p = at (same_place c.place p) refl
     at : (b : Bool) → same_place c.place p ≡ b → RestAt (v p) (cond b (Some c.old) (named cs p)) (named ds p)
     at true e = let i = same_place_is c.place p e in inr (none (ap (named cs) (sym i) ∙ n), m ∙ ap v i)
     at false e = r p
-
-module _ {F : Type 0} (R : F → Change → Bool → F → Type 0) (v : View) (f : F) (h : (c : Change) (b : Bool) (f' : F) → R f c b f' → MatchBool b (c.old ≢ v c.place) (c.old ≡ v c.place) × (f' ≡ f)) where
-  rest_told : (bs : List Bool) (cs : List Change) (g q : F) → g ≡ f → length bs ≡ length cs → ReturnsInTurn R g bs cs q → NamesOnce cs → ((p : Place) → RestAt (v p) (named cs p) (named (items_where_true bs cs) p)) × NamesOnce (items_where_true bs cs)
-  unfolding named
-  rest_told [] [] g q e l t o = (λ p. refl, tt)
-  rest_told [] (c ∷ cs) g q e l t o = absurd cc
-  rest_told (b ∷ bs) [] g q e l t o = absurd t
-  rest_told (true ∷ bs) (c ∷ cs) g q e l t o =
-      let one = h c true t.0 (subst (λ (x : F). R x c true t.0) e t.1) in
-      let later = rest_told bs cs t.0 q one.1 (let k : length bs ≡ length cs = omega arith in k) t.2 o.1 in
-      stays v c cs (items_where_true bs cs) one.0 later.0 later.1 o.0
-  rest_told (false ∷ bs) (c ∷ cs) g q e l t o =
-      let one = h c false t.0 (subst (λ (x : F). R x c false t.0) e t.1) in
-      let later = rest_told bs cs t.0 q one.1 (let k : length bs ≡ length cs = omega arith in k) t.2 o.1 in
-      (goes v c cs (items_where_true bs cs) one.0 later.0 o.0, later.1)
-
-  pub rest_filtered : (cs ds : List Change) → NamesOnce cs → IsFiltered R f cs ds → ((p : Place) → RestAt (v p) (named cs p) (named ds p)) × NamesOnce ds
-  rest_filtered cs ds o k = subst (λ (es : List Change). ((p : Place) → RestAt (v p) (named cs p) (named es p)) × NamesOnce es) (sym k.4) (rest_told k.0 cs f k.1 refl k.2 k.3 o)
 
 pub exact_rest : (old v : View) (cs ds : List Change) → LeadsBack old v cs → ((p : Place) → RestAt (v p) (named cs p) (named ds p)) → Exact old v ds
 exact_rest old v cs ds b r = record { differs = λ p x e. told p x (named cs p) (r p) (b p) e; same = λ p e. untold p (named cs p) (r p) (b p) e }

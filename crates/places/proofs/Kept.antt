@@ -1,10 +1,8 @@
 -- What closing leaves of notes.
-use Rattle.std.proofs.Common.{◌≡◌, ◌≢◌, ℕ, suc, ◌<◌, ◌≤◌, ◌+◌, Bool, true, false, cond, refl, sym, ◌∙◌, ap, subst, List, [], ◌∷◌, ◌++◌, inl, inr, length, take, drop, arith}
-use Rattle.std.specs.Prelude.{Option, Some, None, slice_get, slice_set, ◌==◌, map, MatchBool}
-use Rattle.std.proofs.lemmas.Bool.{eqb-true, eq-eqb}
+use Rattle.std.proofs.Common.{◌≡◌, ◌≢◌, ℕ, suc, ◌+◌, Bool, true, false, refl, sym, ◌∙◌, ap, subst, List, [], ◌∷◌, ◌++◌, inl, inr, length, take, drop, arith}
+use Rattle.std.specs.Prelude.{Option, Some, None, slice_get, map, MatchBool}
 use Rattle.std.specs.List.Retain.{ReturnsInTurn, IsFiltered}
 use Rattle.std.specs.List.{items_where_true}
-use Rattle.places.specs.declared.value.Value.{Value}
 use Rattle.places.specs.declared.value.Change.{Change}
 use Rattle.places.specs.declared.notes.runs.Region.{Region}
 use Rattle.places.specs.declared.notes.runs.Run.{Run}
@@ -12,7 +10,6 @@ use Rattle.places.specs.View.{View, named, NamesOnce, LeadsBack, Exact}
 use Rattle.places.specs.Runs.{place_in, old_bytes, run_changes, RunsOnce}
 use Rattle.places.specs.Closed.{KeptOf, LeftOf}
 use Rattle.places.proofs.Closing.{Leaves, stays, goes, exact_rest}
-use Rattle.places.proofs.ListLemmas.{slice_get-set}
 use Rattle.std.proofs.Math.Seq.{take-append_seam, drop-append_seam}
 
 pub kept_append : (v : View) (cs ds cs' ds' : List Change) → KeptOf v cs cs' → KeptOf v ds ds' → KeptOf v (cs ++ ds) (cs' ++ ds')
@@ -55,28 +52,6 @@ kept_runs v r rs os fs bs e h k =
 -- runs, once some of their old bytes went
 pub runs_closed : (v : View) (rs : List Run) (os ps : List (Option ℕ)) → RunsOnce rs os → length ps ≡ length os → KeptOf v (run_changes rs os) (run_changes rs ps) → RunsOnce rs ps
 runs_closed v rs os ps o l k = record { fits = o.fits ∙ sym l; within = o.within; once = (kept_leaves v (run_changes rs os) (run_changes rs ps) o.once k).1 }
-
--- one more byte is left
-pub left_more : (x : ℕ → Option Value) (os ps : List (Option ℕ)) (i : ℕ) (o p : Option ℕ) → i < length ps → slice_get os i ≡ Some o → LeftOf (x i) o p → ((k : ℕ) (a b : Option ℕ) → k < i → slice_get os k ≡ Some a → slice_get ps k ≡ Some b → LeftOf (x k) a b) → (k : ℕ) (a b : Option ℕ) → k < i + 1 → slice_get os k ≡ Some a → slice_get (slice_set ps i p) k ≡ Some b → LeftOf (x k) a b
-left_more x os ps i o p w e h before k a b l f g = by (i == k) refl
-  where
-    got : (t : Bool) → (i == k) ≡ t → cond t (Some p) (slice_get ps k) ≡ Some b
-    got t j = ap (λ u. cond u (Some p) (slice_get ps k)) (sym j) ∙ sym (slice_get-set ps i k p w) ∙ g
-
-    by : (t : Bool) → (i == k) ≡ t → LeftOf (x k) a b
-    by true j =
-        let n : i ≡ k = eqb-true i k j in
-        let q : p ≡ b = let r = got true j in cc in
-        let c : o ≡ a = let r = ap (slice_get os) n in cc in
-        subst (λ m. LeftOf (x m) a b) n (subst (λ d. LeftOf (x i) d b) c (subst (λ d. LeftOf (x i) o d) q h))
-    by false j = before k a b (let n : i ≢ k = λ d. absurd (let r = eq-eqb i k d in let s : true ≡ false = sym r ∙ j in cc) in omega arith) f (got false j)
-
-pub rest_same : (ps : List (Option ℕ)) (i : ℕ) (p : Option ℕ) (k : ℕ) → i < length ps → i + 1 ≤ k → slice_get (slice_set ps i p) k ≡ slice_get ps k
-rest_same ps i p k w l = slice_get-set ps i k p w ∙ by (i == k) refl
-  where
-    by : (t : Bool) → (i == k) ≡ t → cond t (Some p) (slice_get ps k) ≡ slice_get ps k
-    by true j = absurd (let n = eqb-true i k j in omega arith)
-    by false j = refl
 
 -- what a retaining test leaves of notes of one kind
 module _ {X F : Type 0} (change : X → Change) (R : F → X → Bool → F → Type 0) (v : View) (f : F) (h : (x : X) (b : Bool) (f' : F) → R f x b f' → MatchBool b ((change x).old ≢ v (change x).place) ((change x).old ≡ v (change x).place) × (f' ≡ f)) where

@@ -1,5 +1,5 @@
 -- What a list of notes names.
-use Rattle.std.proofs.Common.{◌≡◌, Bool, true, false, cond, refl, sym, ◌∙◌, ap, subst, List, [], ◌∷◌, ◌++◌}
+use Rattle.std.proofs.Common.{◌≡◌, Bool, true, false, cond, refl, ◌∙◌, ap, List, [], ◌∷◌, ◌++◌}
 use Rattle.std.specs.Prelude.{Option, Some, None, is_some, map, ◌||◌}
 use Rattle.std.specs.List.{list_any}
 use Rattle.places.specs.declared.place.Place.{Place}
@@ -7,7 +7,7 @@ use Rattle.places.specs.declared.value.Value.{Value}
 use Rattle.places.specs.declared.value.Change.{Change}
 use Rattle.places.specs.Places.{same_place}
 use Rattle.places.specs.View.{named, first_note, NamesOnce, Noted}
-use Rattle.places.proofs.SamePlace.{same_place_is, same_place-sym}
+use Rattle.places.proofs.SamePlace.{same_place-sym}
 
 pub named-append : (cs ds : List Change) (p : Place) → named (cs ++ ds) p ≡ first_note (named cs p) (named ds p)
 unfolding named
@@ -48,38 +48,5 @@ unfolding named
 list_any-named_by change [] p = refl
 list_any-named_by change (x ∷ xs) p = elim (same_place (change x).place p) as (λ b. (b || list_any (λ n. same_place (change n).place p) xs) ≡ is_some (cond b (Some (change x).old) (named (map change xs) p))) [ true ↦ refl | false ↦ list_any-named_by change xs p ]
 
-pub none_named : (cs : List Change) (p : Place) → list_any (λ c. same_place c.place p) cs ≡ false → named cs p ≡ None
-none_named cs p h = by (named cs p) (sym (list_any-named cs p) ∙ h)
-  where
-    by : (n : Option (Option Value)) → is_some n ≡ false → n ≡ None
-    by None e = refl
-    by (Some x) e = absurd cc
-
-pub some_named : (cs : List Change) (p : Place) → list_any (λ c. same_place c.place p) cs ≡ true → (x : Option Value) × (named cs p ≡ Some x)
-some_named cs p h = by (named cs p) (sym (list_any-named cs p) ∙ h)
-  where
-    by : (n : Option (Option Value)) → is_some n ≡ true → (x : Option Value) × (n ≡ Some x)
-    by None e = absurd cc
-    by (Some x) e = (x, refl)
-
--- a place that was noted before stays as it was noted
-pub noted_before : (cs : List Change) (p : Place) (x : Option Value) → list_any (λ c. same_place c.place p) cs ≡ true → Noted cs cs p x
-noted_before cs p x h q = by (named cs q) refl
-  where
-    at : (b : Bool) → same_place p q ≡ b → named cs q ≡ None → None ≡ cond b (Some x) None
-    at true e n = let s = some_named cs p h in let k = ap (named cs) (same_place_is p q e) in cc
-    at false e n = refl
-
-    by : (n : Option (Option Value)) → named cs q ≡ n → n ≡ first_note n (cond (same_place p q) (Some x) None)
-    by None e = at (same_place p q) refl e
-    by (Some y) e = refl
-
 pub noted_at_end : (cs : List Change) (p : Place) (x : Option Value) → Noted cs (cs ++ record { place = p; old = x } ∷ []) p x
 noted_at_end cs p x q = named-more cs (record { place = p; old = x }) q
-
--- a note behind others that do not name its place
-pub noted_behind : (before mid after : List Change) (p : Place) (x : Option Value) → mid ≡ before → after ≡ mid ++ record { place = p; old = x } ∷ [] → Noted before after p x
-noted_behind before mid after p x e k q = ap (λ cs. named cs q) (k ∙ ap (λ cs. cs ++ record { place = p; old = x } ∷ []) e) ∙ noted_at_end before p x q
-
-pub once_behind : (before mid after : List Change) (p : Place) (x : Option Value) → mid ≡ before → after ≡ mid ++ record { place = p; old = x } ∷ [] → NamesOnce mid → named before p ≡ None → NamesOnce after
-once_behind before mid after p x e k o n = subst NamesOnce (sym k) (once_more mid (record { place = p; old = x }) o (ap (λ cs. named cs p) e ∙ n))

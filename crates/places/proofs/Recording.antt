@@ -44,13 +44,6 @@ module _ (ns : List NumberNote) (cs : List CompletionNote) (rs : List RowNote) (
   pub wide_changes : ps ≡ [] → w.numbers ≡ ns → w.completions ≡ cs → w.rows ≡ rs → record_changes ps w x ≡ all_changes ns cs rs x
   wide_changes e f g h = rw (e, f, g, h) refl
 
--- where none is counted there are none
-pub nothing_counted : (ns : List NumberNote) (cs : List CompletionNote) (rs : List RowNote) → length ns + (length cs + length rs) ≡ 0 → map number_change ns ++ (map completion_change cs ++ map row_change rs) ≡ []
-nothing_counted [] [] [] e = refl
-nothing_counted [] [] (r ∷ rs) e = absurd (omega arith)
-nothing_counted [] (c ∷ cs) rs e = absurd (omega arith)
-nothing_counted (n ∷ ns) cs rs e = absurd (omega arith)
-
 -- notes that were put behind their count
 pub notes_packed : (ns : List NumberNote) (cs : List CompletionNote) (rs : List RowNote) (n : ℕ) (a b c d e : List ℕ) → a ≡ [] → n ≡ length ns + (length cs + length rs) → Puts number_of after a (n ∷ []) b → Puts change_of after_change b (map number_change ns) c → Puts change_of after_change c (map completion_change cs) d → Puts change_of after_change d (map row_change rs) e → packed e ≡ map number_change ns ++ (map completion_change cs ++ map row_change rs)
 notes_packed ns cs rs n a b c d e z l f g h k =

@@ -31,12 +31,3 @@ same_place-sym p q = by (same_place p q) (same_place q p) refl refl
     by true b h k = sym (ap (λ r. same_place r p) (sym (same_place_is p q h)) ∙ same_place_self p) ∙ k
     by false true h k = sym h ∙ ap (same_place p) (same_place_is q p k) ∙ same_place_self p
     by false false h k = refl
-
--- a test of sameness is this one
-pub same_place_told : (p q : Place) (b : Bool) → (b ≡ true → p ≡ q) → (p ≡ q → b ≡ true) → b ≡ same_place p q
-same_place_told p q true h k = sym (ap (same_place p) (sym (h refl)) ∙ same_place_self p)
-same_place_told p q false h k = by (same_place p q) refl
-  where
-    by : (b : Bool) → same_place p q ≡ b → false ≡ b
-    by true e = k (same_place_is p q e)
-    by false e = refl

@@ -22,22 +22,6 @@ use Rattle.places.proofs.ByteLemmas.{once_append, byte_in_there}
 use Rattle.places.proofs.Joining.{noted_before_others, noted_behind_others, bytes_before, none_parts, apart_noted, apart_bytes, apart_more}
 use Rattle.places.proofs.Sorts.{sort_of, number_of_kinds, completion_of_kinds, row_of_kinds, bytes_of_kinds, kinds_once}
 
-module _ (ns ms : SlotList NumberNote) (cs ds : SlotList CompletionNote) (rs ts : SlotList RowNote) (x y : RestList) (r q : Room) where
-  -- the same notes, with other memory
-  pub sound_same : IsSound ns cs rs x r → ms.notes ≡ ns.notes → ds.notes ≡ cs.notes → ts.notes ≡ rs.notes → y.runs ≡ x.runs → y.olds ≡ x.olds → y.odd ≡ x.odd → HasRoom q.numbers 8192 ms → HasRoom q.completions 8192 ds → HasRoom q.others 262144 ts → q.held ≡ q.numbers + (q.completions + q.others) → q.held ≤ y.spare → IsSound ms ds ts y q
-  sound_same h a b c d e f i j k l m = record {
-    apart = rw (a, b, c, d, e, f) h.apart;
-    kept = rw (e) h.kept;
-    numbers = i;
-    completions = j;
-    rows = k;
-    held = l;
-    spare = m;
-  }
-
-  pub all_same : ms.notes ≡ ns.notes → ds.notes ≡ cs.notes → ts.notes ≡ rs.notes → y.runs ≡ x.runs → y.olds ≡ x.olds → y.odd ≡ x.odd → all_changes ms.notes ds.notes ts.notes y ≡ all_changes ns.notes cs.notes rs.notes x
-  all_same a b c d e f = rw (a, b, c, d, e, f) refl
-
 -- a recorder with no notes
 pub sound_empty : (ns : SlotList NumberNote) (cs : SlotList CompletionNote) (rs : SlotList RowNote) (x : RestList) (r : Room) → x.olds ≡ [] → x.odd ≡ [] → r ≡ record { numbers = 0; completions = 0; others = 0; held = 0 } → IsSound ns cs rs x r
 unfolding named
@@ -57,9 +41,6 @@ less_room n m limit s t h e f g = record { spare = let k = h.spare in omega arit
 
 pub same_room : {X : Type 0} (n m limit : ℕ) (s : SlotList X) → HasRoom n limit s → m ≤ n → HasRoom m limit s
 same_room n m limit s h e = record { spare = let k = h.spare in omega arith; reached = λ l. h.reached (omega arith) }
-
-pub more_room : {X : Type 0} (n limit : ℕ) (s t : SlotList X) → HasRoom n limit s → s.spare ≤ t.spare → s.reached ≤ t.reached → HasRoom n limit t
-more_room n limit s t h e f = record { spare = let k = h.spare in omega arith; reached = λ l. let k = h.reached l in omega arith }
 
 module _ (ns : SlotList NumberNote) (cs : SlotList CompletionNote) (rs : SlotList RowNote) (x : RestList) (r q : Room) where
   -- a number was noted, or wasn't
@@ -97,16 +78,6 @@ module _ (ns : SlotList NumberNote) (cs : SlotList CompletionNote) (rs : SlotLis
   }
 
 module _ (ns : SlotList NumberNote) (cs : SlotList CompletionNote) (rs : SlotList RowNote) (x : RestList) (r : Room) (h : IsSound ns cs rs x r) where
-  -- the notes that are apart stay so where none is made
-  pub number_apart_same : (ms : SlotList NumberNote) → ms.notes ≡ ns.notes → (p : Place) → is_some (named x.odd p) ≡ true → named (kind_changes ms.notes cs.notes rs.notes (run_changes x.runs x.olds)) p ≡ None
-  number_apart_same ms e = rw (e) h.apart
-
-  pub completion_apart_same : (ms : SlotList CompletionNote) → ms.notes ≡ cs.notes → (p : Place) → is_some (named x.odd p) ≡ true → named (kind_changes ns.notes ms.notes rs.notes (run_changes x.runs x.olds)) p ≡ None
-  completion_apart_same ms e = rw (e) h.apart
-
-  pub row_apart_same : (ms : SlotList RowNote) → ms.notes ≡ rs.notes → (p : Place) → is_some (named x.odd p) ≡ true → named (kind_changes ns.notes cs.notes ms.notes (run_changes x.runs x.olds)) p ≡ None
-  row_apart_same ms e = rw (e) h.apart
-
   pub number_apart : (ms : SlotList NumberNote) (p : Place) (v : Option Value) → is_number p ≡ true → Noted (map number_change ns.notes) (map number_change ms.notes) p v → named x.odd p ≡ None → (q : Place) → is_some (named x.odd q) ≡ true → named (kind_changes ms.notes cs.notes rs.notes (run_changes x.runs x.olds)) q ≡ None
   number_apart ms p v i n none = apart_noted x.odd _ (kind_changes ms.notes cs.notes rs.notes (run_changes x.runs x.olds)) p v h.apart (number_of_kinds ns.notes cs.notes rs.notes x.runs x.olds ms.notes p v i n) none
 

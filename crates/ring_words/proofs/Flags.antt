@@ -22,11 +22,6 @@ flag_set n CqOverflow true = ap (λ a. not (a == 0)) (and_or_self 2 n)
 flag_set n NeedWakeup false = ap (λ a. not (a == 0)) (and_assoc 1 n 4294967294 ∙ and_zero_r n)
 flag_set n CqOverflow false = ap (λ a. not (a == 0)) (and_assoc 2 n 4294967293 ∙ and_zero_r n)
 
--- the other flag stays as it was
-pub wakeup_kept : (n : ℕ) (on : Bool) → has_flag (with_flag n CqOverflow on) NeedWakeup ≡ has_flag n NeedWakeup
-wakeup_kept n true = ap (λ a. not (a == 0)) (and_or_apart 1 n 2 refl)
-wakeup_kept n false = ap (λ a. not (a == 0)) (and_assoc 1 n 4294967293)
-
 pub overflow_kept : (n : ℕ) (on : Bool) → has_flag (with_flag n NeedWakeup on) CqOverflow ≡ has_flag n CqOverflow
 overflow_kept n true = ap (λ a. not (a == 0)) (and_or_apart 2 n 1 refl)
 overflow_kept n false = ap (λ a. not (a == 0)) (and_assoc 2 n 4294967294)

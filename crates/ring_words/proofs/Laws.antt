@@ -1,15 +1,14 @@
 -- What holds of the rings as lists, whoever changes them.
-use Rattle.std.proofs.Common.{◌≡◌, ℕ, zero, suc, Bool, true, false, cond, refl, sym, ◌∙◌, ap, List, [], ◌∷◌, ◌++◌, length, drop, ◌+◌, ◌%◌, ◌<◌, ◌≤◌, ◌^◌, arith, length-set}
+use Rattle.std.proofs.Common.{◌≡◌, ℕ, zero, suc, Bool, true, false, cond, sym, ◌∙◌, List, [], ◌∷◌, ◌++◌, length, ◌+◌, ◌%◌, ◌<◌, ◌≤◌, ◌^◌, arith, length-set}
 use Rattle.std.specs.Prelude.{Some, slice_get, slice_set, ◌==◌}
 use Rattle.std.proofs.Math.ListN.{replicate}
 use Rattle.std.proofs.lemmas.List.{length-replicate}
 use Rattle.std.proofs.lemmas.Nat.{mod_below}
-use Rattle.std.proofs.lemmas.Option.{slice_get-get_or}
 use Rattle.entries.specs.declared.completion.Cqe.{Cqe}
 use Rattle.entries.specs.declared.entry.Sqe.{Sqe}
 use Rattle.ring_words.specs.declared.flag.RingFlag.{RingFlag}
-use Rattle.ring_words.specs.Rings.{SubWords, ComWords, SubFormed, ComFormed, waiting, rounded, items_from, sub_list, com_list, sub_start, com_start, zero_entry, zero_completion, front_word, with_flag}
-use Rattle.ring_words.proofs.Order.{list_front, list_back, list_behind, items_length, items_get, waiting_none}
+use Rattle.ring_words.specs.Rings.{SubWords, ComWords, SubFormed, ComFormed, waiting, rounded, sub_list, com_list, sub_start, com_start, zero_entry, zero_completion, with_flag}
+use Rattle.ring_words.proofs.Order.{list_back, items_length}
 use Rattle.ring_words.proofs.Sizes.{size_divides, rounded_size, size_some}
 use Rattle.ring_words.proofs.Flags.{with_flag_fits}
 use Rattle.places.proofs.ListLemmas.{slice_get-set}
@@ -23,48 +22,11 @@ pub com_length : (w : ComWords) → ComFormed w → length (com_list w) ≡ wait
 unfolding com_list
 com_length w f = items_length w.slots w.head (waiting w.head w.tail) (size_some f.size)
 
--- flags, dropped words and entries are no part of it
-pub sub_list_same : (w : SubWords) (flags dropped : ℕ) (slots : List Sqe) → sub_list (record w { flags = flags; dropped = dropped; slots = slots }) ≡ sub_list w
-unfolding sub_list
-sub_list_same w flags dropped slots = refl
-
--- an element of it stands where its word says
-pub sub_get : (w : SubWords) (i : ℕ) → SubFormed w → i < waiting w.head w.tail → slice_get (sub_list w) i ≡ slice_get w.array ((w.head + i) % length w.array)
-unfolding sub_list
-sub_get w i f l = items_get w.array w.head (waiting w.head w.tail) i (size_some f.size) l
-
-pub com_get : (w : ComWords) (i : ℕ) → ComFormed w → i < waiting w.head w.tail → slice_get (com_list w) i ≡ slice_get w.slots ((w.head + i) % length w.slots)
-unfolding com_list
-com_get w i f l = items_get w.slots w.head (waiting w.head w.tail) i (size_some f.size) l
-
--- pushing appends
-pub sub_pushed : (w : SubWords) (x : ℕ) → SubFormed w → waiting w.head w.tail < length w.array
-    → sub_list (record w { tail = (w.tail + 1) % 2 ^ 32; array = slice_set w.array (w.tail % length w.array) x }) ≡ sub_list w ++ x ∷ []
-unfolding sub_list
-sub_pushed w x f l =
-    let most = f.size.most in
-    list_back w.array w.head w.tail x (size_some f.size) (omega (arith, most)) (size_divides 4096 _ f.size) f.head f.tail l
-
 -- posting appends
 pub com_posted : (w : ComWords) (c : Cqe) → ComFormed w → waiting w.head w.tail < length w.slots
     → com_list (record w { tail = (w.tail + 1) % 2 ^ 32; slots = slice_set w.slots (w.tail % length w.slots) c }) ≡ com_list w ++ c ∷ []
 unfolding com_list
 com_posted w c f l = list_back w.slots w.head w.tail c (size_some f.size) f.size.most (size_divides 8192 _ f.size) f.head f.tail l
-
--- taking drops the first
-pub sub_taken : (w : SubWords) → SubFormed w → 0 < waiting w.head w.tail → sub_list w ≡ front_word w ∷ sub_list (record w { head = (w.head + 1) % 2 ^ 32 })
-unfolding sub_list
-sub_taken w f l = list_front w.array w.head w.tail (front_word w) (size_divides 4096 _ f.size) f.head f.tail l (slice_get-get_or w.array _ 0 (mod_below w.head (length w.array) (size_some f.size)))
-
--- reaping drops the first
-pub com_reaped : (w : ComWords) (c : Cqe) → ComFormed w → 0 < waiting w.head w.tail → slice_get w.slots (w.head % length w.slots) ≡ Some c → com_list w ≡ c ∷ com_list (record w { head = (w.head + 1) % 2 ^ 32 })
-unfolding com_list
-com_reaped w c f l h = list_front w.slots w.head w.tail c (size_divides 8192 _ f.size) f.head f.tail l h
-
--- taking many drops the first of them
-pub sub_behind : (w : SubWords) (k : ℕ) → SubFormed w → k ≤ waiting w.head w.tail → sub_list (record w { head = (w.head + k) % 2 ^ 32 }) ≡ drop k (sub_list w)
-unfolding sub_list
-sub_behind w k f l = list_behind w.array w.head w.tail k (size_some f.size) (size_divides 4096 _ f.size) f.head f.tail l
 
 set_word : (xs : List ℕ) (j x : ℕ) → j < length xs → x < 2 ^ 32 → ((i y : ℕ) → slice_get xs i ≡ Some y → y < 2 ^ 32) → (i y : ℕ) → slice_get (slice_set xs j x) i ≡ Some y → y < 2 ^ 32
 set_word xs j x l b h i y e = by (j == i) (sym (slice_get-set xs j i x l) ∙ e)
@@ -125,12 +87,3 @@ formed_sub_start n base s l b =
 
 pub formed_com_start : (n base : ℕ) → 0 < n → n ≤ 8192 → base < 2 ^ 32 → ComFormed (com_start n base)
 formed_com_start n base s l b = record { size = rw (length-replicate (rounded n) zero_completion) (rounded_size n 13 s (omega arith) (omega arith) (omega arith)); head = b; tail = b }
-
--- nothing waits in them
-pub sub_start_empty : (n base : ℕ) → base < 2 ^ 32 → sub_list (sub_start n base) ≡ []
-unfolding sub_list
-sub_start_empty n base b = ap (items_from (replicate (rounded n) 0) base) (waiting_none base b)
-
-pub com_start_empty : (n base : ℕ) → base < 2 ^ 32 → com_list (com_start n base) ≡ []
-unfolding com_list
-com_start_empty n base b = ap (items_from (replicate (rounded n) zero_completion) base) (waiting_none base b)

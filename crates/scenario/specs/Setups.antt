@@ -11,7 +11,7 @@ use Rattle.places.specs.declared.object.End.TheVariants.{Whole}
 use Rattle.places.specs.declared.object.Object.{Object}
 use Rattle.ring_words.specs.Rings.{rounded}
 use Rattle.scenario.specs.declared.setup.Instruction.{Instruction}
-use Rattle.scenario.specs.declared.setup.Instruction.TheVariants.{Put, Store, Close}
+use Rattle.scenario.specs.declared.setup.Instruction.TheVariants.{Put, Store}
 use Rattle.scenario.specs.declared.setup.Setup.{Setup}
 use Rattle.scenario.specs.declared.setup.SetupRefusal.{SetupRefusal}
 use Rattle.scenario.specs.declared.setup.SetupRefusal.TheVariants.{RingSize, Limit}

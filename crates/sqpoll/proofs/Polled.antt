@@ -1,5 +1,5 @@
 -- What the poller and the ring whose flag tells of it keep together.
-use Rattle.std.proofs.Common.{◌≡◌, Bool, true, false, refl, sym, ap, List}
+use Rattle.std.proofs.Common.{◌≡◌, Bool, true, false, refl, ap, List}
 use Rattle.std.specs.Prelude.{Some, unwrap_or}
 use Rattle.places.specs.declared.place.Place.{Place}
 use Rattle.places.specs.declared.place.Place.TheVariants.{SubmissionHead, SubmissionTail, SubmissionFlags, SubmissionDropped, Array, Slot, PollerStage}

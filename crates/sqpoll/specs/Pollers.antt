@@ -1,5 +1,5 @@
 -- The kernel's poller of the submission ring (io_uring_setup(2), IORING_SETUP_SQPOLL).
-use Rattle.std.specs.Prelude.{◌≡◌, Bool, true, false, Option, Some, None}
+use Rattle.std.specs.Prelude.{Bool, true, false, Option, Some, None}
 use Rattle.places.specs.declared.place.Place.{Place}
 use Rattle.places.specs.declared.place.Place.TheVariants.{SubmissionHead, SubmissionTail, SubmissionFlags, SubmissionDropped, Array, Slot, PollerStage}
 use Rattle.places.specs.declared.value.Value.{Value}

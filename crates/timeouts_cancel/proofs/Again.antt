@@ -9,7 +9,6 @@ use Rattle.links_drains.specs.Phases.{is_unfinished}
 use Rattle.links_drains.specs.Endings.{Ending, result_in, endings, or_else, given}
 use Rattle.timeouts_cancel.specs.Falls.{joined}
 use Rattle.links_drains.proofs.Listing.{result_of, listed_at, alike}
-use Rattle.links_drains.proofs.Rising.{ends_at}
 
 -- ---- some element passes a test
 
@@ -47,17 +46,6 @@ result_there (e ∷ es) r res h = by (e.0 == r) refl h (result_there es r res)
 -- what a test lists, row by row
 pub listed_row : (f : ℕ → Row → Option ℤ) (rows : List Row) (r : ℕ) (row : Row) → slice_get rows r ≡ Some row → is_unfinished row.phase ≡ true → result_in (endings f rows) r ≡ f r row
 listed_row f rows r row h u = listed_at f rows r ∙ ap (option_and_then (result_of f r)) h ∙ ap (λ b. cond b (f r row) None) u
-
-pub listed_is : (f : ℕ → Row → Option ℤ) (rows : List Row) (i : ℕ) (e : Ending) → slice_get (endings f rows) i ≡ Some e → result_in (endings f rows) e.0 ≡ Some e.1
-listed_is f rows i e h = let w = ends_at f rows i e h in listed_row f rows e.0 w.0 w.1 w.2 ∙ w.3
-
-some_none : {X : Type 0} (o : Option X) (x : X) → o ≡ Some x → o ≡ None → ⊥
-some_none o x h k = cc
-
--- what stands first, or else second
-pub or_else_is : (a b : Option ℤ) (res : ℤ) → or_else a b ≡ Some res → (a ≡ None → b ≡ Some res)
-or_else_is None b res h k = h
-or_else_is (Some x) b res h k = absurd cc
 
 pub or_else_none : (a b : Option ℤ) → or_else a b ≡ None → (a ≡ None) × (b ≡ None)
 or_else_none None b h = (refl, h)

@@ -14,9 +14,6 @@ use Rattle.timeouts_cancel.proofs.Whole.{ms}
 
 -- ---- each filter's list is of unfinished rows, in the order of their numbers
 
-pub severed_direct : (rows : List Row) (direct es : List Ending) → es ≡ severed_endings rows direct → Direct rows es
-severed_direct rows direct es h = subst (Direct rows) (sym h) (direct_endings (result_by rows direct) rows)
-
 pub met_direct : (rows : List Row) (total : ℕ) (es : List Ending) → es ≡ met_rows rows total → Direct rows es
 met_direct rows total es h = subst (Direct rows) (sym h) (direct_endings (met_result total) rows)
 

@@ -8,8 +8,8 @@ use Rattle.links_drains.proofs.Listing.{result_of}
 use Rattle.timeouts_cancel.specs.Falls.{joined}
 use Rattle.timeouts_cancel.specs.Merges.{Splits, IsLeast, Merged}
 use Rattle.timeouts_cancel.specs.Walks.{upto}
-use Rattle.timeouts_cancel.proofs.Listed.{splits_none, splits_to, splits_out, splits_past, upto_all}
-use Rattle.timeouts_cancel.proofs.Walking.{of_one, result_at, upto_more, upto_none, upto_gap}
+use Rattle.timeouts_cancel.proofs.Listed.{splits_to, splits_out, splits_past, upto_all}
+use Rattle.timeouts_cancel.proofs.Walking.{of_one, result_at, upto_more, upto_gap}
 
 -- the result of the first list, or else of the second
 abbrev pub both_of : List Ending → List Ending → ℕ → Row → Option ℤ
@@ -24,9 +24,6 @@ neither first second r row a b = ap (λ o. cond (is_unfinished row.phase) (or_el
     none : (u : Bool) → cond u nothing None ≡ None
     none true = refl
     none false = refl
-
-pub merged_none : (rows : List Row) (first second : List Ending) → Merged rows first second 0 0 0 []
-merged_none rows first second = record { listed = sym (upto_none (both_of first second) rows); firsts = splits_none first; seconds = splits_none second }
 
 -- ---- the next of two lists
 

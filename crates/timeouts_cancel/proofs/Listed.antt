@@ -72,9 +72,6 @@ later_rows es i n rises low j e h l = by (slice_get es i) refl (split i j)
     by None g (inl a) = let b = slice_get_within es j e h in absurd (none_within es i g (omega (arith, a, b)))
     by (Some p) g (inl a) = let x = low p g in let y = rises i j p e g h a in omega (arith, x, y)
 
-pub splits_none : (es : List Ending) → Splits es 0 0
-splits_none es = record { below = λ j e h l. absurd (omega (arith, l)); above = λ j e h l. omega arith }
-
 -- no element is of the rows up to the next one's
 pub splits_to : (es : List Ending) (k i n : ℕ) → Rises es → Splits es k i → k ≤ n → ((e : Ending) → slice_get es i ≡ Some e → n ≤ e.0) → Splits es n i
 splits_to es k i n rises s l low = record { below = λ j e h m. let x = s.below j e h m in omega (arith, x, l); above = later_rows es i n rises low }

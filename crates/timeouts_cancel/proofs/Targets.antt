@@ -1,5 +1,5 @@
 -- The guards of listed rows, one after the other.
-use Rattle.std.proofs.Common.{◌≡◌, ℕ, ℤ, Bool, true, false, cond, refl, sym, ◌∙◌, ap, List, [], ◌++◌, length, ◌+◌, ◌-◌, ◌<◌, ◌≤◌, ◌⊎◌, inl, inr, arith}
+use Rattle.std.proofs.Common.{◌≡◌, ℕ, ℤ, Bool, true, false, cond, refl, sym, ◌∙◌, ap, List, ◌++◌, length, ◌+◌, ◌-◌, ◌<◌, ◌≤◌, ◌⊎◌, inl, inr, arith}
 use Rattle.std.specs.Prelude.{Option, Some, None, slice_get, ◌==◌, ◌&&◌}
 use Rattle.std.specs.Option.{option_map_or}
 use Rattle.std.proofs.lemmas.Bool.{eqb-true, eq-eqb}
@@ -16,19 +16,11 @@ use Rattle.timeouts_cancel.specs.Walks.{upto}
 use Rattle.timeouts_cancel.proofs.Again.{any_at, any_found}
 use Rattle.timeouts_cancel.proofs.Listed.{upto_all}
 use Rattle.timeouts_cancel.proofs.Sweeping.{same_ending}
-use Rattle.timeouts_cancel.proofs.Walking.{of_one, split, take_behind, upto_more, upto_none, upto_gap}
+use Rattle.timeouts_cancel.proofs.Walking.{of_one, split, take_behind, upto_more, upto_gap}
 
 -- what a guard ends with
 abbrev pub guard_result : List Ending → ℕ → Row → Option ℤ
 guard_result listed r row = given (guards_listed listed row) ecanceled
-
-pub guarded_none : (rows : List Row) (listed : List Ending) → Guarded rows listed 0 []
-guarded_none rows listed = record {
-  to = 0;
-  found = sym (upto_none (guard_result listed) rows);
-  below = λ j e h l. absurd (omega (arith, l));
-  above = λ j e h l. omega arith;
-}
 
 -- ---- rows that guard none that is listed
 

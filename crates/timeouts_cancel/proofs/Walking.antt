@@ -59,10 +59,6 @@ take_behind [] (suc k) h = let m : suc k + 1 ≡ suc (k + 1) = omega arith in le
 take_behind (x ∷ rows) zero h = absurd cc
 take_behind (x ∷ rows) (suc k) h = let m : suc k + 1 ≡ suc (k + 1) = omega arith in ap (λ n. take n (x ∷ rows)) m ∙ ap (λ zs. x ∷ zs) (take_behind rows k h)
 
-pub upto_none : (f : ℕ → Row → Option ℤ) (rows : List Row) → upto f rows 0 ≡ []
-upto_none f [] = refl
-upto_none f (row ∷ rows) = refl
-
 -- rows that a test gives nothing add none
 pub upto_gap : (f : ℕ → Row → Option ℤ) (rows : List Row) (k d : ℕ) → ((r : ℕ) (row : Row) → k ≤ r → r < k + d → slice_get rows r ≡ Some row → result_of f r row ≡ None) → upto f rows (k + d) ≡ upto f rows k
 upto_gap f rows k zero h = let m : k + zero ≡ k = omega arith in ap (upto f rows) m
@@ -138,14 +134,6 @@ test_other rows direct r row h n = by (is_unfinished row.phase) refl
     by true u = ap (λ o. or_else o (given (is_severed rows (own_endings rows direct) r row) ecanceled)) (listed_row (λ r row. result_in direct r) rows r row h u ∙ undirected direct r n)
 
 -- ---- the walk
-
-pub walked_none : (rows : List Row) (direct : List Ending) → Walked rows direct 0 0 []
-walked_none rows direct = record {
-  listed = sym (upto_none (result_by rows direct) rows);
-  below = λ j e h l. absurd (omega (arith, l));
-  above = λ j e h l. omega arith;
-  clear = λ r row j e g h k l s. absurd (omega (arith, l));
-}
 
 pub split : (j i : ℕ) → (j < i) ⊎ (i ≤ j)
 split j i = by (nat_lt j i) refl

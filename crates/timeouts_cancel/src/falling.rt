@@ -68,9 +68,7 @@ fn end_one(
     ensures on { IfOk result (λ next. at < next) }
 {
     let (r, res) = direct[at];
-    let Some(row) = table.get(r) else {
-        unreachable!()
-    };
+    let row = table.row(r);
     endings.push((r, res))?;
     if severs(&row, res) {
         return sever(table, direct, r + 1, at + 1, row.unit, endings);
@@ -96,9 +94,7 @@ fn sever(
 {
     let mut next = at;
     for k in from..table.len() as u32 {
-        let Some(row) = table.get(k) else {
-            unreachable!()
-        };
+        let row = table.row(k);
         if row.unit != unit {
             return Ok(next);
         }

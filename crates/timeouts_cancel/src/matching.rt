@@ -102,9 +102,7 @@ fn next_match(table: &Table, key: Key, me: u32, from: u32) -> Option<(u32, Row)>
 {
     let mut at = from;
     while let Some(r) = table.next_issued(at) {
-        let Some(row) = table.get(r) else {
-            unreachable!()
-        };
+        let row = table.row(r);
         if is_match(key, me, r, &row) {
             return Some((r, row));
         }

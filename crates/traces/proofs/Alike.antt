@@ -1,5 +1,5 @@
 -- Bytes that are no trace have one first fault.
-use Rattle.std.proofs.Common.{◌≡◌, ℕ, ◌*◌, ◌<◌, ◌≤◌, List, length, drop, Some, None, Option, Result, Ok, Err, refl, sym, ap, subst, ◌∙◌, inl, inr, ◌⊎◌, arith}
+use Rattle.std.proofs.Common.{◌≡◌, ℕ, ◌*◌, ◌<◌, ◌≤◌, List, length, drop, Some, Result, Ok, Err, refl, sym, ap, subst, ◌∙◌, inl, inr, ◌⊎◌, arith}
 use Rattle.std.proofs.lemmas.Bool.{cases_lt}
 use Rattle.byteorder.specs.Endian.{little_number}
 use Rattle.scenario.specs.declared.event.Event.{Event}
@@ -9,7 +9,6 @@ use Rattle.traces.specs.declared.fault.TraceFault.TheVariants.{Magic, Truncated,
 use Rattle.traces.specs.Cursors.{Cursor}
 use Rattle.traces.specs.Spelling.{magic, most_events, IsTrace}
 use Rattle.traces.specs.Faults.{event_fault, AreClean, IsEventsFault, HasCount, IsCountedFault, BeginsAs, IsFault}
-use Rattle.traces.specs.Setups.{magic2}
 use Rattle.traces.specs.Reading.{setup_at, behind_magic, IsBodyFault, IsFault2}
 use Rattle.traces.proofs.Traces.{no_trace_fault}
 

@@ -1,11 +1,11 @@
 -- An entry and its 64 bytes.
-use Rattle.std.proofs.Common.{◌≡◌, ℕ, ◌+◌, ◌^◌, ◌<◌, ◌≤◌, ℤ, List, length, take, drop, refl, sym, ap, ◌∙◌, arith, length-drop, Fits, FitsSigned}
-use Rattle.std.specs.Int.{w32, cast_signed, cast_unsigned}
-use Rattle.std.proofs.lemmas.Int.{of_z-to_z, to_z-of_z, ints}
+use Rattle.std.proofs.Common.{◌≡◌, ℕ, ◌+◌, ◌^◌, ◌<◌, ◌≤◌, List, length, take, drop, refl, sym, ap, ◌∙◌, arith, length-drop, Fits, FitsSigned}
+use Rattle.std.specs.Int.{w32}
+use Rattle.std.proofs.lemmas.Int.{of_z-to_z}
 use Rattle.std.proofs.Math.Facts.{sfits_to_z}
 use Rattle.std.proofs.lemmas.List.{length-take, take_all}
-use Rattle.byteorder.specs.Endian.{little_bytes, little_number}
-use Rattle.byteorder.specs.Numbers.{little_number-reads_back, little_from-lt, little_from-take}
+use Rattle.byteorder.specs.Endian.{little_bytes}
+use Rattle.byteorder.specs.Numbers.{little_from-lt}
 use Rattle.entries.specs.declared.entry.Sqe.{Sqe}
 use Rattle.entries.specs.Layout.{NumberAt, SignedAt, EntryFits, EntryLayout, entry_bytes, number_at, signed_at, entry_of_bytes}
 use Rattle.entries.proofs.OneToOne.{entry_is, entry_here}

@@ -1,10 +1,8 @@
 -- Lists that are written item by item.
-use Rattle.std.proofs.Common.{◌≡◌, ℕ, zero, suc, ◌+◌, ◌<◌, ◌≤◌, Bool, true, List, [], ◌∷◌, ◌++◌, length, take, get_or, refl, sym, ap, subst, ◌∙◌, append_assoc, arith}
+use Rattle.std.proofs.Common.{◌≡◌, ℕ, zero, suc, ◌<◌, ◌≤◌, Bool, true, List, [], ◌∷◌, ◌++◌, length, get_or, refl, sym, ap, subst, ◌∙◌, append_assoc, arith}
 use Rattle.std.specs.Prelude.{nat_lt, ◌&&◌}
-use Rattle.std.specs.List.{flat_map, list_all, AllByRecursion}
+use Rattle.std.specs.List.{list_all, AllByRecursion}
 use Rattle.std.proofs.lemmas.Bool.Decides.{nat_tests}
-use Rattle.std.proofs.lemmas.List.{flat_map_more, take_more}
-use Rattle.std.proofs.lemmas.List.Recursion.{and_at}
 use Rattle.std.proofs.lemmas.Bool.{and_parts, and_from}
 use Rattle.byteorder.specs.Endian.{little_bytes}
 use Rattle.entries.specs.declared.entry.Sqe.{Sqe}
@@ -16,31 +14,9 @@ use Rattle.places.specs.declared.object.Descriptor.{Descriptor}
 use Rattle.traces.specs.Limits.{is_within, is_new_name, all_behind, keeps_contents, keeps_object, end_number, keeps_descriptor}
 use Rattle.traces.proofs.ObjectLaws.{within_most, end_there}
 
--- one more item
-pub item_written : {A : Type 0} (f : A → List ℕ) (xs : List A) (i : ℕ) (x : A) (front count out new : List ℕ) → i < length xs → x ≡ get_or xs i x
-    → out ≡ front ++ (count ++ flat_map f (take i xs)) → new ≡ out ++ f x → new ≡ front ++ (count ++ flat_map f (take (i + 1) xs))
-item_written {A} f xs i x front count out new lt there before now =
-    let one : take (i + 1) xs ≡ take i xs ++ x ∷ [] = take_more xs i x lt ∙ ap (λ (y : A). take i xs ++ y ∷ []) (sym there) in
-    let more : flat_map f (take i xs) ++ f x ≡ flat_map f (take (i + 1) xs) = flat_map_more f [] (take i xs) x ∙ ap (λ (ys : List A). flat_map f ys) (sym one) in
-    now ∙ ap (λ (t : List ℕ). t ++ f x) before ∙ append_assoc front (count ++ flat_map f (take i xs)) (f x)
-    ∙ ap (λ (t : List ℕ). front ++ t) (append_assoc count (flat_map f (take i xs)) (f x))
-    ∙ ap (λ (t : List ℕ). front ++ (count ++ t)) more
-
 pushed : {A : Type 0} (W : A → Type 0) (xs : List A) (x : A) → AllByRecursion W xs → W x → AllByRecursion W (xs ++ x ∷ [])
 pushed W [] x h w = (w, tt)
 pushed W (y ∷ ys) x h w = (h.0, pushed W ys x h.1 w)
-
--- and what holds of each
-pub item_holds : {A : Type 0} (W : A → Type 0) (xs : List A) (i : ℕ) (x : A) → i < length xs → x ≡ get_or xs i x
-    → AllByRecursion W (take i xs) → W x → AllByRecursion W (take (i + 1) xs)
-item_holds {A} W xs i x lt there before now =
-    let one : take (i + 1) xs ≡ take i xs ++ x ∷ [] = take_more xs i x lt ∙ ap (λ (y : A). take i xs ++ y ∷ []) (sym there) in
-    subst (AllByRecursion W) (sym one) (pushed W (take i xs) x before now)
-
--- a test that each item passes
-pub item_kept : {A : Type 0} (p : A → Bool) (xs : List A) (i : ℕ) (x : A) → i < length xs → x ≡ get_or xs i x → list_all p xs ≡ true → p x ≡ true
-item_kept {A} p xs i x lt there all =
-    subst (λ (y : A). p y ≡ true) (sym there) (and_at (list_all p) p refl (λ _ _. refl) xs i x lt all)
 
 -- the same behind the items before it
 pub behind_kept : (keeps : List Object → Object → Bool) (xs before : List Object) (i : ℕ) (x : Object) → i < length xs → x ≡ get_or xs i x → all_behind keeps before xs ≡ true

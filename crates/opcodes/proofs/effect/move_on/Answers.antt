@@ -1,5 +1,4 @@
 use Rattle.std.proofs.Common.{◌∙◌}
-use Rattle.model_files.specs.Worlds.{world_at}
 use Rattle.opcodes.proofs.Transferring.{setup_either, setup_moved}
 use Rattle.opcodes.proofs.effect.move_on.Goals as goal
 

@@ -1,9 +1,7 @@
 use Rattle.std.proofs.Common.{sym, arith}
 use Rattle.opcodes.proofs.Nothing.{bytes_written_nothing}
-use Rattle.std.proofs.Common.{◌≡◌}
 use Rattle.std.specs.Prelude.{Some}
 use Rattle.opcodes.specs.Outcomes.{offset_of, position_of}
-use Rattle.model_files.specs.Worlds.{WorldState}
 use Rattle.model_files.proofs.Fixing.{setup_then, setup_written}
 use Rattle.opcodes.proofs.Transferring.{file_there, ok_written, some_bytes}
 use Rattle.opcodes.proofs.Moving.{moves, number_below}

@@ -1,6 +1,5 @@
-use Rattle.std.proofs.Common.{◌≡◌, sym, subst, List, ◌++◌, length, ◌≤◌, ◌+◌, min, false, true, rules}
+use Rattle.std.proofs.Common.{◌≡◌, sym, subst, ◌++◌, length, ◌≤◌, ◌+◌, min, rules}
 use Rattle.std.specs.Prelude.{not}
-use Rattle.entries.specs.declared.completion.Cqe.{Cqe}
 use Rattle.ring_words.specs.declared.flag.RingFlag.TheVariants.{CqOverflow}
 use Rattle.ring_words.specs.Rings.{com_list, has_flag, waiting}
 use Rattle.overflow.specs.Backlogs.{kept, is_clear, delivery_of, Delivery, DeliveryFormed, flushed}

@@ -1,7 +1,6 @@
-use Rattle.std.proofs.Common.{◌≡◌, sym, subst, List, ◌++◌, length, ◌≤◌, ◌+◌, min, false, true, rules, arith}
+use Rattle.std.proofs.Common.{◌≡◌, sym, subst, ◌++◌, length, ◌≤◌, ◌+◌, min, true, arith}
 use Rattle.std.specs.Prelude.{not}
 use Rattle.std.proofs.lemmas.Grind.{common_steps}
-use Rattle.entries.specs.declared.completion.Cqe.{Cqe}
 use Rattle.ring_words.specs.declared.flag.RingFlag.TheVariants.{CqOverflow}
 use Rattle.ring_words.specs.Rings.{com_list, has_flag, waiting}
 use Rattle.overflow.specs.Backlogs.{kept, is_clear, delivery_of, Delivery, DeliveryFormed, all_posted}

@@ -1,5 +1,4 @@
-use Rattle.std.proofs.Common.{refl, sym, ◌∙◌, length}
-use Rattle.std.proofs.lemmas.Option.{slice_get_read}
+use Rattle.std.proofs.Common.{refl, sym, ◌∙◌}
 use Rattle.places.proofs.ListLemmas.{updated_set}
 use Rattle.places.proofs.Keeping.{keeps_noted}
 use Rattle.links_drains.proofs.Fixed.{fixed_here}
@@ -8,25 +7,13 @@ use Rattle.links_drains.proofs.Seen.{seen_row}
 use Rattle.links_drains.proofs.table.Table.issue.Goals as goal
 
 pub set-requires : goal.set-requires
-set-requires c =
-    let r = rw (← c.self.view_is) at c.requires in
-    rw (← c.self.view_is) (fixed_here c.self.inside.rows.items c.args.r c.index-queued.result.now (slice_get_read c.self.inside.rows.items (length c.self.inside.rows.items) c.args.r c.index-queued.result.now refl r c.index-queued.ensures))
+set-requires c = fixed_here c.args.self.now c.args.r c.row-queued.result c.row-queued.ensures
 
 pub returns-clause-ok : goal.returns-clause-ok
-returns-clause-ok c =
-    let r = rw (← c.self.view_is) at c.requires in
-    let s = rw (← c.self.view_is) at c.set.ensures in
-    rw (← c.self.view_is) (s ∙ sym (updated_set _ _ _ _ (slice_get_read _ _ _ _ refl r c.index-queued.ensures)))
+returns-clause-ok c = c.set.ensures ∙ sym (updated_set _ _ _ _ c.row-queued.ensures)
 
 pub returns-clause-keeps : goal.returns-clause-keeps
-returns-clause-keeps c =
-    let r = rw (← c.self.view_is) at c.requires in
-    let before = slice_get_read _ _ _ _ refl r c.index-queued.ensures in
-    let s = rw (← c.self.view_is) at c.set.ensures in
-    rw (← c.self.view_is, s) (keeps_noted _ _ _ _ _ _ _ refl (rw before c.in_ok-note_row.ensures.ok) (seen_row _ _ _ r))
+returns-clause-keeps c = rw (c.set.ensures) (keeps_noted _ _ _ _ _ _ _ refl (rw (c.row-queued.ensures) c.in_ok-note_row.ensures.ok) (seen_row _ _ _ c.requires))
 
 pub returns-clause-stay : goal.returns-clause-stay
-returns-clause-stay c =
-    let r = rw (← c.self.view_is) at c.requires in
-    let s = rw (← c.self.view_is) at c.set.ensures in
-    rw (← c.self.view_is, s) (stay_set c.self.inside.rows.items c.args.r _ (fixed_here c.self.inside.rows.items c.args.r c.index-queued.result.now (slice_get_read c.self.inside.rows.items (length c.self.inside.rows.items) c.args.r c.index-queued.result.now refl r c.index-queued.ensures)))
+returns-clause-stay c = rw (c.set.ensures) (stay_set c.args.self.now c.args.r _ (fixed_here c.args.self.now c.args.r c.row-queued.result c.row-queued.ensures))
