@@ -7,7 +7,7 @@ use Rattle.entries.specs.declared.row.Row.{Row}
 use Rattle.entries.specs.declared.row.Phase.TheVariants.{Ended}
 use Rattle.places.specs.View.{Keeps}
 use Rattle.places.specs.declared.value.Change.{Change}
-use Rattle.places.proofs.Keeping.{keeps_then, keeps_same}
+use Rattle.places.proofs.Keeping.{keeps_then}
 use Rattle.places.proofs.ListLemmas.{length-updated}
 use Rattle.places.specs.Lists.{updated}
 use Rattle.links_drains.specs.Phases.{is_ended, ended_of}
@@ -21,7 +21,7 @@ use Rattle.machine.specs.declared.whole.Machine.{Machine}
 use Rattle.machine.proofs.FormedMachines.{items_one, mostly_ended}
 use Rattle.links_drains.specs.Endings.{result_in}
 use Rattle.links_drains.proofs.RowsKept.{get-updated}
-use Rattle.machine.proofs.Growing.{grows_self, grows_then}
+use Rattle.machine.proofs.Growing.{grows_then}
 
 pub ended_in_turn-more : (m : Machine) (ps : List (ℕ × ℤ)) (p : ℕ × ℤ) → ended_in_turn m (ps ++ p ∷ []) ≡ ended (ended_in_turn m ps) p.0 p.1
 ended_in_turn-more m [] p = refl
@@ -36,9 +36,6 @@ pub record Ending (m : Machine) (cs : List Change) (n : Machine) (ds : List Chan
   pub items : length n.backlog.items ≤ length m.backlog.items + length ps
   pub counted : n.counted ≤ m.counted + length ps
   pub rows : length n.table ≡ length m.table
-
-pub ending_none : (m : Machine) (cs : List Change) → DeliveryFormed (delivery m) → Ending m cs m cs []
-ending_none m cs d = record { ended = refl; grows = grows_self m; keeps = keeps_same everywhere (view m) cs; delivery = d; items = omega arith; counted = omega arith; rows = refl }
 
 -- a row has one completion at most, and counts once at most
 posted_most : (m : Machine) (o : Option Row) (res : ℤ) → length (all_posted (delivery m) (completion_at o res)).backlog.items ≤ length m.backlog.items + 1

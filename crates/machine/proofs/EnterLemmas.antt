@@ -1,5 +1,5 @@
 -- What an Enter finds, and what room completions have.
-use Rattle.std.proofs.Common.{◌≡◌, ℕ, ℤ, Bool, true, false, cond, refl, sym, ◌∙◌, ap, List, [], ◌∷◌, length, ◌+◌, ◌<◌, ◌≤◌, arith}
+use Rattle.std.proofs.Common.{◌≡◌, ℕ, Bool, true, false, cond, refl, sym, ◌∙◌, ap, List, [], ◌∷◌, length, ◌+◌, ◌<◌, ◌≤◌, arith}
 use Rattle.std.specs.Result.{OnOk}
 use Rattle.std.specs.Prelude.{Option, Some, None, Result, Ok, Err, not, ◌&&◌, ◌||◌, nat_lt, slice_get, slice_set, if◌then◌else◌}
 use Rattle.std.specs.Option.{option_map_or}
@@ -9,17 +9,14 @@ use Rattle.entries.specs.declared.row.Phase.{Phase}
 use Rattle.entries.specs.declared.row.Phase.TheVariants.{Queued, Issued, Ended}
 use Rattle.links_drains.specs.Holding.{is_held_by}
 use Rattle.entries.specs.declared.choice.Choice.{Choice}
-use Rattle.opcodes.specs.declared.ending.Outcome.{Outcome}
-use Rattle.opcodes.specs.declared.ending.Outcome.TheVariants.{Res, Waits, BadChoice}
-use Rattle.opcodes.specs.Opcodes.{is_cancel, is_timer}
-use Rattle.opcodes.specs.Outcomes.{outcome_of}
+use Rattle.opcodes.specs.Opcodes.{is_timer}
 use Rattle.links_drains.specs.Eligible.{is_eligible}
 use Rattle.links_drains.specs.Phases.{is_ended}
-use Rattle.links_drains.proofs.Counting.{ended-le-length, ended-lt-length}
+use Rattle.links_drains.proofs.Counting.{ended-le-length}
 use Rattle.ring_words.specs.Rings.{sub_list}
 use Rattle.overflow.specs.Backlogs.{is_clear}
 use Rattle.machine.specs.Submission.{einval, ebusy, ebadf}
-use Rattle.machine.specs.Steps.{flushed, gets_events, before_submission, is_unknown, is_busy, submission_refusal, alone_refusal, issue_refusal, outcome_refusal, issued, held_by, lacks_descriptor, phase_refusal, choice_refusal, full_refusal, finish_refusal, answered, submitted, awaited, submitting, entered, entered_alone, entered_beside, fallen, all_started, base_of, deadline_of, entries_for, expire_refusal, is_guard_of, start_refusal, started}
+use Rattle.machine.specs.Steps.{flushed, gets_events, before_submission, is_unknown, is_busy, submission_refusal, alone_refusal, issue_refusal, issued, held_by, lacks_descriptor, phase_refusal, choice_refusal, finish_refusal, answered, submitted, awaited, submitting, entered, entered_alone, entered_beside, fallen, all_started, base_of, deadline_of, entries_for, expire_refusal, is_guard_of, start_refusal, started}
 use Rattle.sqpoll.specs.declared.poller.Poller.{Poller}
 use Rattle.places.specs.Lists.{updated}
 use Rattle.places.proofs.ListLemmas.{updated_set}
@@ -95,24 +92,6 @@ finished_row m r c h = by (slice_get m.table r) refl h
     by None e k = absurd cc
     by (Some x) e k = timing x e (is_timer x.entry.opcode) k
 
--- the outcome of a row that can be finished is a result, unless it is a cancel or a removal
-pub finished_result : (m : Machine) (r : ℕ) (c : Choice) (x : Row) → slice_get m.table r ≡ Some x → is_cancel x.entry.opcode ≡ false → finish_refusal (is_held_by m.table) m.world (slice_get m.table r) c ≡ None → (res : ℤ) × (outcome_of (is_held_by m.table) m.world x c ≡ Res res)
-finished_result m r c x e other h = timing (is_timer x.entry.opcode) (ap (λ o. finish_refusal (is_held_by m.table) m.world o c) (sym e) ∙ h)
-  where
-    came : (o : Outcome) → outcome_of (is_held_by m.table) m.world x c ≡ o → outcome_refusal o ≡ None → (res : ℤ) × (outcome_of (is_held_by m.table) m.world x c ≡ Res res)
-    came (Res res) g k = (res, g)
-    came Waits g k = absurd cc
-    came BadChoice g k = absurd cc
-
-    at : (p : Phase) → phase_refusal p (choice_refusal (is_held_by m.table) m.world x c) ≡ None → (res : ℤ) × (outcome_of (is_held_by m.table) m.world x c ≡ Res res)
-    at Queued k = absurd cc
-    at Issued k = came (outcome_of (is_held_by m.table) m.world x c) refl (sym (ap (λ b. cond b (full_refusal c) (outcome_refusal (outcome_of (is_held_by m.table) m.world x c))) other) ∙ k)
-    at (Ended n) k = absurd cc
-
-    timing : (b : Bool) → cond b (Some WrongPhase) (phase_refusal x.phase (choice_refusal (is_held_by m.table) m.world x c)) ≡ None → (res : ℤ) × (outcome_of (is_held_by m.table) m.world x c ≡ Res res)
-    timing true k = absurd cc
-    timing false k = at x.phase k
-
 -- A row that can be issued is there, queued, and may be.
 pub record CanStart (m : Machine) (r : ℕ) : Type 0 where
   pub row : Row
@@ -152,10 +131,6 @@ expired_row m r h = by (slice_get m.table r) refl h
     by : (o : Option Row) → slice_get m.table r ≡ o → expire_refusal m.clock o ≡ None → (y : Row) × (slice_get m.table r ≡ Some y) × (y.phase ≡ Issued)
     by None e k = absurd cc
     by (Some x) e k = timing x e (is_timer x.entry.opcode) k
-
--- the backlog has room for the completion of an unfinished row
-pub backlog_room : (m : Machine) (r : ℕ) (x : Row) → WellFormed m → slice_get m.table r ≡ Some x → is_ended x.phase ≡ false → length m.backlog.items < 65536
-backlog_room m r x f e u = let a = ended-lt-length m.table r x e u in let b = f.mostly.kept.overflowed in let c = f.mostly.table.few in omega (arith, a, b, c)
 
 pub backlog_most : (m : Machine) → WellFormed m → length m.backlog.items ≤ length m.table
 backlog_most m f = let a = ended-le-length m.table in let b = f.mostly.kept.overflowed in omega (arith, a, b)

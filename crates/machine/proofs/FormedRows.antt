@@ -1,5 +1,5 @@
 -- The rows that a submission adds, and what holds of each row.
-use Rattle.std.proofs.Common.{◌≡◌, ℕ, ℤ, zero, suc, Bool, true, false, not, cond, refl, sym, ◌∙◌, ap, subst, List, [], ◌∷◌, ◌++◌, length, ◌+◌, ◌-◌, ◌*◌, ◌^◌, ◌<◌, ◌≤◌, ◌⊎◌, inl, inr, arith}
+use Rattle.std.proofs.Common.{◌≡◌, ℕ, ℤ, suc, Bool, true, false, not, cond, refl, sym, ◌∙◌, ap, subst, List, [], ◌∷◌, length, ◌+◌, ◌-◌, ◌*◌, ◌^◌, ◌<◌, ◌≤◌, ◌⊎◌, inl, inr, arith}
 use Rattle.std.specs.Prelude.{Option, Some, None, IsSome, is_some, option_map, slice_get, is_ok, bit_and, nat_lt, Result, Ok, Err, ◌==◌, ◌&&◌, ◌||◌, if◌then◌else◌}
 use Rattle.std.specs.Option.{option_and_then}
 use Rattle.std.specs.Result.{result_err}
@@ -186,14 +186,6 @@ batch_row w first es i x e p =
       due = λ j. absurd cc;
     })
 
-pub formed_rows-append : (w : WorldState) (xs ys : List Row) → FormedRows w xs → FormedRows w ys → FormedRows w (xs ++ ys)
-formed_rows-append w xs ys h k = record { each = at xs h.each }
-  where
-    at : (zs : List Row) → ((r : ℕ) (x : Row) → slice_get zs r ≡ Some x → RowFormed w x) → (r : ℕ) (x : Row) → slice_get (zs ++ ys) r ≡ Some x → RowFormed w x
-    at [] g r x e = k.each r x e
-    at (z ∷ zs) g zero x e = g 0 x e
-    at (z ∷ zs) g (suc r) x e = at zs (λ j y o. g (suc j) y o) r x e
-
 -- one row is changed
 pub formed_rows-updated : (w : WorldState) (f : Row → Row) (rows : List Row) (r : ℕ) → ((x : Row) → slice_get rows r ≡ Some x → RowFormed w (f x)) → FormedRows w rows → FormedRows w (updated f rows r)
 formed_rows-updated w f rows r g h = record { each = λ j y e. by j y (updated_get f rows r j y e) }
@@ -211,8 +203,3 @@ row_moved w v x s h = record { opcode = h.opcode; holds = λ i u. there (h.holds
 
 pub formed_rows-moved : (w v : WorldState) (rows : List Row) → OneWorldSetup w v → FormedRows w rows → FormedRows v rows
 formed_rows-moved w v rows s h = record { each = λ r x e. row_moved w v x s (h.each r x e) }
-
--- the last row is changed
-pub updated-last : (f : Row → Row) (xs : List Row) (x : Row) → updated f (xs ++ x ∷ []) (length xs) ≡ xs ++ f x ∷ []
-updated-last f [] x = refl
-updated-last f (y ∷ ys) x = ap (λ zs. y ∷ zs) (updated-last f ys x)

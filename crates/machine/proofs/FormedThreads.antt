@@ -1,5 +1,5 @@
 -- Threads that go on stand within their programs, and setups stay.
-use Rattle.std.proofs.Common.{◌≡◌, ℕ, ℤ, pos, sym, ◌∙◌, ap, subst, List, length, ◌+◌, ◌<◌, ◌≤◌, ◌^◌, ◌⊎◌, inl, inr, arith, FitsSigned}
+use Rattle.std.proofs.Common.{◌≡◌, ℕ, ℤ, sym, ◌∙◌, ap, subst, List, length, ◌+◌, ◌<◌, ◌^◌, ◌⊎◌, inl, inr, arith, FitsSigned}
 use Rattle.std.specs.Prelude.{Option, Some, slice_get}
 use Rattle.std.specs.Int.{w64}
 use Rattle.std.proofs.lemmas.Option.{slice_get_within}
@@ -13,10 +13,6 @@ use Rattle.scenario.specs.declared.setup.Instruction.{Instruction}
 use Rattle.scenario.specs.declared.setup.Instruction.TheVariants.{Enter}
 use Rattle.machine.specs.declared.whole.Machine.{Machine}
 use Rattle.machine.proofs.ListsChanged.{updated_get}
-
--- an answer fits
-pub fits_count : (n : ℕ) → n ≤ 65536 → FitsSigned w64 (pos n)
-fits_count n h = omega arith
 
 -- a ready thread waits for nothing
 waits_not : (x : ThreadState) → x.stage ≡ Ready → (n w : ℕ) → x.stage ≡ Waiting n w → Waits x n w

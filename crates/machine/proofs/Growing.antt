@@ -5,7 +5,6 @@ use Rattle.entries.specs.declared.completion.Cqe.{Cqe}
 use Rattle.entries.specs.declared.row.Row.{Row}
 use Rattle.entries.specs.declared.row.Phase.TheVariants.{Ended}
 use Rattle.places.specs.Lists.{updated}
-use Rattle.places.proofs.ListLemmas.{length-updated}
 use Rattle.places.specs.declared.value.Stage.{Stage}
 use Rattle.places.specs.declared.value.Stage.TheVariants.{Ready, Waiting}
 use Rattle.model_files.specs.Worlds.{WorldState, descriptor_of, world_closed, world_stored, OneSetup as OneWorldSetup}
@@ -30,7 +29,6 @@ use Rattle.machine.specs.Cancels.{verdict_of, ending_with}
 use Rattle.machine.specs.Submission.{einval, ebusy, ebadf}
 use Rattle.timeouts_cancel.specs.Falls.{fall_of}
 use Rattle.std.specs.Option.{option_map_or}
-use Rattle.machine.specs.InTurn.{completion_at, ended}
 use Rattle.machine.specs.Steps.{refusal, sleep_refusal, after, resumed, stepped, executed, entered, entered_alone, entered_beside, submitting, before_submission, is_busy, is_unknown, gets_events, wakes, woken, shown, awaited, ready_count, held_back, with_poller, closed, is_open, posted, flushed, completions_of, ended_by, all_ended, fallen, taken, submitted, answered, issued, cancelled, finished, finished_as, lacks_descriptor, all_started, entries_for, expired, expiring, is_guard_of, started, started_with, waiting_target}
 use Rattle.machine.specs.Threads.{ThreadState, program_of}
 use Rattle.machine.specs.Whole.{Grows, WellFormed}
@@ -41,7 +39,7 @@ use Rattle.scenario.specs.declared.event.Event.{Event}
 use Rattle.scenario.specs.declared.event.Event.TheVariants.{Step, Take, Sleep, Issue, Finish, Expire, Tick}
 use Rattle.machine.proofs.ListsChanged.{map_updated}
 use Rattle.machine.proofs.MappedRows.{mapped_length, mapped_stay}
-use Rattle.links_drains.proofs.Remaining.{stay_then, stay_updated, stay_append}
+use Rattle.links_drains.proofs.Remaining.{stay_then, stay_append}
 use Rattle.machine.proofs.Restored.{setup_self, setup_then}
 
 pub grows_self : (m : Machine) → Grows m m
@@ -74,16 +72,6 @@ grows_flushed m = record {
   stay = λ r l. refl;
   backlog = le_refl _;
 }
-
-pub grows_ended : (m : Machine) (r : ℕ) (res : ℤ) → Grows m (ended m r res)
-grows_ended m r res =
-    let p = grows_posted m (completion_at (slice_get m.table r) res) in
-    record {
-      setup = record { array = refl; slots = refl; completions = p.setup.completions; world = worlds.setup_self _; programs = refl; poller = refl; submit_all = refl };
-      rows = let a = length-updated (λ (row : Row). record row { phase = Ended res }) m.table r in omega (arith, a);
-      stay = stay_updated (λ (row : Row). record row { phase = Ended res }) m.table r (λ x. refl);
-      backlog = p.backlog;
-    }
 
 pub grows_all_ended : (m : Machine) (es : List (ℕ × ℤ)) → Grows m (all_ended m es)
 grows_all_ended m es =
@@ -277,15 +265,6 @@ has_poller m h = by m.poller h
     by : (o : Option Poller) → sleep_refusal m o ≡ None → is_some o ≡ true
     by None k = absurd cc
     by (Some p) k = refl
-
--- a row is issued by itself
-pub grows_started : (m : Machine) (r c n : ℕ) → Grows m (record m { table = updated (started c n) m.table r })
-grows_started m r c n = record {
-  setup = record { array = refl; slots = refl; completions = refl; world = worlds.setup_self _; programs = refl; poller = refl; submit_all = refl };
-  rows = let a = length-updated (started c n) m.table r in omega (arith, a);
-  stay = stay_updated (started c n) m.table r (λ x. refl);
-  backlog = le_refl _;
-}
 
 pub grows_issued : (m : Machine) (r : ℕ) (o : Option Row) → Grows m (issued m r o)
 grows_issued m r None = grows_self m

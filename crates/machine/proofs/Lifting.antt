@@ -1,52 +1,29 @@
 -- What a part keeps, the whole machine keeps.
-use Rattle.std.proofs.Common.{◌≡◌, ℕ, ◌<◌, Bool, true, false, refl, sym, ◌∙◌, ap, subst, length, List}
-use Rattle.std.specs.Prelude.{Option, Some, unwrap_or, option_map, slice_get, slice_set, if◌then◌else◌}
+use Rattle.std.proofs.Common.{◌≡◌, ℕ, ◌<◌, Bool, true, false, refl, ap, length, List}
+use Rattle.std.specs.Prelude.{Option, Some, unwrap_or, slice_set, if◌then◌else◌}
 use Rattle.entries.specs.declared.entry.Sqe.{Sqe}
 use Rattle.entries.specs.declared.row.Row.{Row}
 use Rattle.places.specs.declared.place.Place.{Place}
-use Rattle.places.specs.declared.place.Place.TheVariants.{SubmissionHead, SubmissionTail, SubmissionFlags, SubmissionDropped, CompletionHead, CompletionTail, Array, Slot, Completion, MemoryByte, FileByte, DurableByte, FileLength, DurableLength, Position, OpenMark, PipeByte, PutCount, TakenCount, EventCount, Request, Backlog, BacklogFront, Clock, Counted, PollerStage, ProgramCounter, ThreadStage, Last, Got}
+use Rattle.places.specs.declared.place.Place.TheVariants.{SubmissionHead, SubmissionTail, SubmissionFlags, SubmissionDropped, CompletionHead, CompletionTail, Array, Slot, Completion, MemoryByte, FileByte, DurableByte, FileLength, DurableLength, Position, OpenMark, PipeByte, PutCount, TakenCount, EventCount, Request, Backlog, BacklogFront, Clock, Counted, ProgramCounter, ThreadStage, Last, Got}
 use Rattle.places.specs.declared.value.Value.{Value}
 use Rattle.places.specs.declared.value.Value.TheVariants.{Number, Entry}
 use Rattle.places.specs.declared.value.Change.{Change}
 use Rattle.places.specs.Places.{same_place}
-use Rattle.places.specs.View.{View, named, undo, put_at, Keeps, Noted}
+use Rattle.places.specs.View.{View, undo, put_at, Keeps, Noted}
 use Rattle.places.proofs.SamePlace.{same_place_is}
 use Rattle.places.proofs.Keeping.{keeps_noted}
 use Rattle.ring_words.proofs.Seen.{sub_seen_slot}
-use Rattle.ring_words.specs.Rings.{SubWords, sub_owns, sub_seen, sub_can_put, ComWords, com_owns, com_seen, com_can_put}
-use Rattle.model_files.specs.Worlds.{WorldState, world_owns, world_seen, world_can_put}
-use Rattle.links_drains.specs.Rows.{table_owns, table_seen, table_can_put}
-use Rattle.overflow.specs.Backlogs.{BacklogState, Delivery, backlog_owns, backlog_seen, backlog_can_put, delivery_owns, delivery_seen}
-use Rattle.sqpoll.specs.declared.poller.Poller.{Poller}
-use Rattle.sqpoll.specs.Pollers.{Polling, polling_of, polling_owns, polling_seen}
-use Rattle.machine.specs.Threads.{ThreadState, threads_owns, threads_seen, threads_can_put}
-use Rattle.machine.specs.Whole.{view, everywhere, can_put, stage_of}
+use Rattle.ring_words.specs.Rings.{SubWords, sub_owns, sub_seen}
+use Rattle.model_files.specs.Worlds.{WorldState, world_owns, world_seen}
+use Rattle.links_drains.specs.Rows.{table_owns, table_seen}
+use Rattle.overflow.specs.Backlogs.{BacklogState, Delivery, backlog_owns, backlog_seen, delivery_owns, delivery_seen}
+use Rattle.machine.specs.Threads.{ThreadState, threads_owns, threads_seen}
+use Rattle.machine.specs.Whole.{view, everywhere}
 use Rattle.machine.specs.Steps.{delivery, with_delivery}
 use Rattle.machine.specs.declared.whole.Machine.{Machine}
 
 pub keeps_whole : (u v : View) (cs ds : List Change) → ((p : Place) → undo v ds p ≡ undo u cs p) → Keeps everywhere u v cs ds
 keeps_whole u v cs ds h = record { back = λ p _. h p; others = λ p o. absurd cc }
-
-pub lift_submissions : (m : Machine) (w : SubWords) (cs ds : List Change) → Keeps sub_owns (sub_seen m.submissions) (sub_seen w) cs ds → Keeps everywhere (view m) (view (record m { submissions = w })) cs ds
-lift_submissions m w cs ds h = keeps_whole _ _ _ _ at
-  where
-    at : (p : Place) → undo (view (record m { submissions = w })) ds p ≡ undo (view m) cs p
-    at SubmissionHead = h.back SubmissionHead refl
-    at SubmissionTail = h.back SubmissionTail refl
-    at SubmissionFlags = h.back SubmissionFlags refl
-    at SubmissionDropped = h.back SubmissionDropped refl
-    at (Array i) = h.back (Array i) refl
-    at (Slot i) = h.back (Slot i) refl
-    at p = ap (λ n. unwrap_or n (view m p)) (h.others p refl)
-
-pub lift_completions : (m : Machine) (w : ComWords) (cs ds : List Change) → Keeps com_owns (com_seen m.completions) (com_seen w) cs ds → Keeps everywhere (view m) (view (record m { completions = w })) cs ds
-lift_completions m w cs ds h = keeps_whole _ _ _ _ at
-  where
-    at : (p : Place) → undo (view (record m { completions = w })) ds p ≡ undo (view m) cs p
-    at CompletionHead = h.back CompletionHead refl
-    at CompletionTail = h.back CompletionTail refl
-    at (Completion i) = h.back (Completion i) refl
-    at p = ap (λ n. unwrap_or n (view m p)) (h.others p refl)
 
 pub lift_world : (m : Machine) (w : WorldState) (cs ds : List Change) → Keeps world_owns (world_seen m.world) (world_seen w) cs ds → Keeps everywhere (view m) (view (record m { world = w })) cs ds
 lift_world m w cs ds h = keeps_whole _ _ _ _ at
@@ -100,21 +77,6 @@ lift_delivery m d cs ds h = keeps_whole _ _ _ _ at
     at BacklogFront = h.back BacklogFront refl
     at p = ap (λ n. unwrap_or n (view m p)) (h.others p refl)
 
--- the poller and the ring whose flag tells of it
-pub lift_polling : (m : Machine) (x : Poller) (y : Polling) (cs ds : List Change) → m.poller ≡ Some x → Keeps polling_owns (polling_seen (polling_of x m.submissions)) (polling_seen y) cs ds
-    → Keeps everywhere (view m) (view (record m { poller = Some y.poller; submissions = y.submissions })) cs ds
-lift_polling m x y cs ds e h = keeps_whole _ _ _ _ at
-  where
-    at : (p : Place) → undo (view (record m { poller = Some y.poller; submissions = y.submissions })) ds p ≡ undo (view m) cs p
-    at SubmissionHead = h.back SubmissionHead refl
-    at SubmissionTail = h.back SubmissionTail refl
-    at SubmissionFlags = h.back SubmissionFlags refl
-    at SubmissionDropped = h.back SubmissionDropped refl
-    at (Array i) = h.back (Array i) refl
-    at (Slot i) = h.back (Slot i) refl
-    at PollerStage = h.back PollerStage refl ∙ ap (λ o. unwrap_or (named cs PollerStage) (stage_of o)) (sym e)
-    at p = ap (λ n. unwrap_or n (view m p)) (h.others p refl)
-
 -- ---- what a write shows
 
 pub seen_clock : (m : Machine) (n : ℕ) (q : Place) → view (record m { clock = n }) q ≡ put_at (view m) Clock (Some (Number n)) q
@@ -151,16 +113,10 @@ seen_submissions m w p v o h (Slot i) = h (Slot i)
 seen_submissions m w p v o h q = apart sub_owns p q v (view m q) o refl
 
 -- an entry slot is noted, and then written
-pub keeps_slot : (m : Machine) (i : ℕ) (b e : Sqe) (cs ds : List Change) → slice_get m.submissions.slots i ≡ Some b → i < length m.submissions.slots → Noted cs ds (Slot i) (Some (Entry b)) → Keeps everywhere (view m) (view (record m { submissions = record m.submissions { slots = slice_set m.submissions.slots i e } })) cs ds
-keeps_slot m i b e cs ds was there noted =
+pub keeps_slot : (m : Machine) (i : ℕ) (e : Sqe) (cs ds : List Change) → i < length m.submissions.slots → Noted cs ds (Slot i) (sub_seen m.submissions (Slot i)) → Keeps everywhere (view m) (view (record m { submissions = record m.submissions { slots = slice_set m.submissions.slots i e } })) cs ds
+keeps_slot m i e cs ds there noted =
     let w = record m.submissions { slots = slice_set m.submissions.slots i e } in
-    keeps_noted everywhere (view m) (view (record m { submissions = w })) cs ds (Slot i) (Some (Entry e)) refl (subst (λ (o : Option Sqe). Noted cs ds (Slot i) (option_map Entry o)) (sym was) noted) (seen_submissions m w (Slot i) (Some (Entry e)) refl (sub_seen_slot m.submissions i e there))
-
-pub seen_completions : (m : Machine) (w : ComWords) (p : Place) (v : Option Value) → com_owns p ≡ true → ((q : Place) → com_seen w q ≡ put_at (com_seen m.completions) p v q) → (q : Place) → view (record m { completions = w }) q ≡ put_at (view m) p v q
-seen_completions m w p v o h CompletionHead = h CompletionHead
-seen_completions m w p v o h CompletionTail = h CompletionTail
-seen_completions m w p v o h (Completion i) = h (Completion i)
-seen_completions m w p v o h q = apart com_owns p q v (view m q) o refl
+    keeps_noted everywhere (view m) (view (record m { submissions = w })) cs ds (Slot i) (Some (Entry e)) refl noted (seen_submissions m w (Slot i) (Some (Entry e)) refl (sub_seen_slot m.submissions i e there))
 
 pub seen_world : (m : Machine) (w : WorldState) (p : Place) (v : Option Value) → world_owns p ≡ true → ((q : Place) → world_seen w q ≡ put_at (world_seen m.world) p v q) → (q : Place) → view (record m { world = w }) q ≡ put_at (view m) p v q
 seen_world m w p v o h (MemoryByte a) = h (MemoryByte a)
@@ -191,55 +147,3 @@ pub seen_backlog : (m : Machine) (w : BacklogState) (p : Place) (v : Option Valu
 seen_backlog m w p v o h (Backlog i) = h (Backlog i)
 seen_backlog m w p v o h BacklogFront = h BacklogFront
 seen_backlog m w p v o h q = apart backlog_owns p q v (view m q) o refl
-
-pub seen_poller : (m : Machine) (x : Option Poller) (v : Option Value) → stage_of x ≡ v → (q : Place) → view (record m { poller = x }) q ≡ put_at (view m) PollerStage v q
-unfolding same_place
-seen_poller m x v h PollerStage = h
-seen_poller m x v h _ = refl
-
--- ---- what may be put into a part's place
-
-pub can_put_submissions : (m : Machine) (p : Place) (v : Option Value) → sub_owns p ≡ true → can_put m p v → sub_can_put m.submissions p v
-can_put_submissions m SubmissionHead v o h = h
-can_put_submissions m SubmissionTail v o h = h
-can_put_submissions m SubmissionFlags v o h = h
-can_put_submissions m SubmissionDropped v o h = h
-can_put_submissions m (Array i) v o h = h
-can_put_submissions m (Slot i) v o h = h
-can_put_submissions m p v o h = absurd cc
-
-pub can_put_completions : (m : Machine) (p : Place) (v : Option Value) → com_owns p ≡ true → can_put m p v → com_can_put m.completions p v
-can_put_completions m CompletionHead v o h = h
-can_put_completions m CompletionTail v o h = h
-can_put_completions m (Completion i) v o h = h
-can_put_completions m p v o h = absurd cc
-
-pub can_put_world : (m : Machine) (p : Place) (v : Option Value) → world_owns p ≡ true → can_put m p v → world_can_put m.world p v
-can_put_world m (MemoryByte a) v o h = h
-can_put_world m (FileByte x i) v o h = h
-can_put_world m (DurableByte x i) v o h = h
-can_put_world m (FileLength x) v o h = h
-can_put_world m (DurableLength x) v o h = h
-can_put_world m (Position fd) v o h = h
-can_put_world m (OpenMark fd) v o h = h
-can_put_world m (PipeByte x i) v o h = h
-can_put_world m (PutCount x) v o h = h
-can_put_world m (TakenCount x) v o h = h
-can_put_world m (EventCount x) v o h = h
-can_put_world m p v o h = absurd cc
-
-pub can_put_table : (m : Machine) (p : Place) (v : Option Value) → table_owns p ≡ true → can_put m p v → table_can_put m.table p v
-can_put_table m (Request i) v o h = h
-can_put_table m p v o h = absurd cc
-
-pub can_put_threads : (m : Machine) (p : Place) (v : Option Value) → threads_owns p ≡ true → can_put m p v → threads_can_put m.threads p v
-can_put_threads m (ProgramCounter t) v o h = h
-can_put_threads m (ThreadStage t) v o h = h
-can_put_threads m (Last t) v o h = h
-can_put_threads m (Got t) v o h = h
-can_put_threads m p v o h = absurd cc
-
-pub can_put_backlog : (m : Machine) (p : Place) (v : Option Value) → backlog_owns p ≡ true → can_put m p v → backlog_can_put m.backlog p v
-can_put_backlog m (Backlog i) v o h = h
-can_put_backlog m BacklogFront v o h = h
-can_put_backlog m p v o h = absurd cc

@@ -92,20 +92,3 @@ unwound s before now es rs l u = by (u.linked s es l)
     by : ((fs : List Event) × Linked s fs [] now) → now ≡ s
     by ([], h) = h
     by (f ∷ fs, h) = absurd h
-
--- undoing a run gives what its start shows
-pub undone_run : (s m : Machine) (es : List Event) (rs : List (List Change)) → Linked s es rs m → (p : Place) → undo_all (view m) rs p ≡ view s p
-undone_run s m [] [] h p = ap (λ (x : Machine). view x p) h
-undone_run s m [] (r ∷ rs) h p = absurd h
-undone_run s m (e ∷ es) [] h p = absurd h
-undone_run s m (e ∷ es) (r ∷ rs) h p = undone_under (undo_all (view m) rs) (view h.0) r (undone_run h.0 m es rs h.2) p ∙ h.1.back p
-  where
-    undone_under : (v w : View) (cs : List Change) → ((q : Place) → v q ≡ w q) → (q : Place) → undo v cs q ≡ undo w cs q
-    undone_under v w cs k q = ap (unwrap_or (named cs q)) (k q)
-
--- a run goes on by one event
-pub linked_more : (s m n : Machine) (es : List Event) (rs : List (List Change)) (e : Event) (r : List Change) → Linked s es rs m → Link m e r n → Linked s (es ++ e ∷ []) (rs ++ r ∷ []) n
-linked_more s m n [] [] e r h k = (n, subst (λ (x : Machine). Link x e r n) h k, refl)
-linked_more s m n [] (x ∷ xs) e r h k = absurd h
-linked_more s m n (f ∷ fs) [] e r h k = absurd h
-linked_more s m n (f ∷ fs) (x ∷ xs) e r h k = (h.0, h.1, linked_more h.0 m n fs xs e r h.2 k)

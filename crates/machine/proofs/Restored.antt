@@ -1,6 +1,6 @@
 -- How far changes have been put back.
 use Rattle.std.proofs.Common.{◌≡◌, ℕ, ◌+◌, Bool, true, false, cond, refl, sym, ◌∙◌, ap, subst, List, [], ◌∷◌, ◌++◌, length, map}
-use Rattle.std.specs.Prelude.{Option, Some, None, IsSome, is_some, slice_get, unwrap_or}
+use Rattle.std.specs.Prelude.{Option, Some, None, IsSome, is_some, unwrap_or}
 use Rattle.places.specs.declared.place.Place.{Place}
 use Rattle.places.specs.declared.value.Value.{Value}
 use Rattle.places.specs.declared.value.Value.TheVariants.{Byte}
@@ -12,7 +12,7 @@ use Rattle.places.specs.View.{named, undo, put_at, Keeps, NamesOnce}
 use Rattle.places.specs.Runs.{place_in, old_bytes}
 use Rattle.places.specs.Masked.{BytesStand}
 use Rattle.places.proofs.SamePlace.{same_place_is, same_place_self}
-use Rattle.places.proofs.Undoing.{once_front, once_back, named_front, named_back, undo-append}
+use Rattle.places.proofs.Undoing.{once_back, named_front, named_back, undo-append}
 use Rattle.places.proofs.KeptAt.{named_here}
 use Rattle.model_files.specs.Worlds.{WorldState, world_owns, world_seen, OneSetup as OneWorldSetup}
 use Rattle.model_files.proofs.PuttingBack.{named_in_world}

@@ -1,6 +1,6 @@
 -- The machine that a setup starts with is well formed.
 use Rattle.std.proofs.Common.{◌≡◌, ℕ, Bool, true, false, cond, refl, sym, ◌∙◌, ap, subst, List, [], ◌∷◌, length, map, ◌+◌, ◌<◌, ◌≤◌, ◌^◌, ◌⊎◌, inl, inr, arith}
-use Rattle.std.specs.Prelude.{Option, Some, None, slice_get, ◌&&◌, ◌||◌, not}
+use Rattle.std.specs.Prelude.{Option, Some, None, slice_get, ◌&&◌, not}
 use Rattle.std.specs.List.{list_all}
 use Rattle.std.proofs.Math.Dec.{leb}
 use Rattle.std.proofs.lemmas.Bool.Decides.{nat_tests, leb_tells}
@@ -38,10 +38,6 @@ use Rattle.scenario.specs.declared.setup.SetupRefusal.TheVariants.{RingSize, Lim
 both_true : (a b : Bool) → (a && b) ≡ true → (a ≡ true) × (b ≡ true)
 both_true true b h = (refl, h)
 both_true false b h = absurd cc
-
-both_false : (a b : Bool) → (a || b) ≡ false → (a ≡ false) × (b ≡ false)
-both_false true b h = absurd cc
-both_false false b h = (refl, h)
 
 -- ---- facts of each element up to an index
 

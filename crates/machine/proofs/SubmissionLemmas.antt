@@ -3,7 +3,6 @@ use Rattle.std.proofs.Common.{◌≡◌, ℕ, Bool, true, false, cond, refl, sym
 use Rattle.std.specs.Prelude.{Some, None, min}
 use Rattle.std.proofs.Math.Dec.{ltb}
 use Rattle.std.proofs.lemmas.Bool.Decides.{nat_tests}
-use Rattle.std.proofs.lemmas.Grind.{common_steps}
 use Rattle.std.proofs.lemmas.List.{length-take-le}
 use Rattle.entries.specs.declared.row.Row.{Row}
 use Rattle.ring_words.specs.Rings.{SubWords, sub_list}
@@ -24,13 +23,6 @@ accepted_fits m k h = by (ltb 65536 (length m.table + length (offered m.submissi
     by false e k' = grind (arith, nat_tests)
 
 -- ---- words
-
-take_twice : {X : Type 0} (i j : ℕ) (xs : List X) → i ≤ j → take i (take j xs) ≡ take i xs
-take_twice i j xs h = grind (arith, common_steps)
-
--- fewer words are offered
-pub fewer_offered : (w : SubWords) (i k : ℕ) → i ≤ k → take i (offered w k) ≡ offered w i
-fewer_offered w i k h = take_twice i k (sub_list w) h
 
 -- offering all that wait is offering no more
 pub words_least : (w : SubWords) (k count : ℕ) → count ≡ min k (length (sub_list w)) → offered w count ≡ offered w k

@@ -54,9 +54,6 @@ pub record Reading (slots : List Sqe) (words : List ℕ) (n count left : ℕ) : 
   pub enough : n ≤ count + left
   pub within : count ≤ length words
 
-pub reading_none : (slots : List Sqe) (words : List ℕ) (n : ℕ) → n ≤ length (entries_at slots words) → Reading slots words n 0 n
-reading_none slots words n h = record { told = refl; named = h; enough = omega arith; within = omega arith }
-
 drop_there : (words : List ℕ) (i x : ℕ) → slice_get words i ≡ Some x → drop i words ≡ x ∷ drop (i + 1) words
 drop_there [] i x h = absurd cc
 drop_there (y ∷ words) zero x h = let e : y ≡ x = cc in let m : suc zero ≡ zero + 1 = omega arith in ap (λ z. z ∷ words) e ∙ ap (λ k. x ∷ drop k (y ∷ words)) m
@@ -106,11 +103,3 @@ reading_on slots words n count left x b r l h k = record {
     most : (c : Bool) → n ≤ count + 1 + cond c (left - 1) left
     most true = let m = r.enough in omega (arith, m, l)
     most false = let m = r.enough in omega (arith, m)
-
--- none is to come
-pub reading_end : (slots : List Sqe) (words : List ℕ) (n count left : ℕ) → Reading slots words n count left → left ≤ 0 → take count words ≡ up_to_entry slots n words
-reading_end slots words n count left r l = by left (omega (arith, l)) r.told
-  where
-    by : (k : ℕ) → k ≡ 0 → up_to_entry slots n words ≡ take count words ++ up_to_entry slots k (drop count words) → take count words ≡ up_to_entry slots n words
-    by zero e t = sym (t ∙ append-nil (take count words))
-    by (suc k) e t = absurd (omega (arith, e))

@@ -1,13 +1,12 @@
 -- Running the filters again over what falls adds none: no unfinished guard's target is a guard.
-use Rattle.std.proofs.Common.{◌≡◌, ℕ, true, false, sym, ◌∙◌, ap, subst, List, ◌++◌, length, ◌+◌, ◌⊎◌, inl, inr}
+use Rattle.std.proofs.Common.{◌≡◌, ℕ, false, sym, ◌∙◌, ap, List, ◌++◌, length, ◌+◌, ◌⊎◌, inl, inr}
 use Rattle.std.specs.Prelude.{Some, slice_get}
 use Rattle.entries.specs.declared.row.Row.{Row}
 use Rattle.links_drains.specs.Batches.{rows_of}
 use Rattle.links_drains.specs.Links.{is_guard}
-use Rattle.links_drains.specs.Phases.{is_unfinished}
 use Rattle.timeouts_cancel.specs.Falls.{GuardsFormed}
 use Rattle.machine.specs.Steps.{entries_for, taken}
-use Rattle.machine.specs.Whole.{AllGuardsStand, GuardStands, WellFormed}
+use Rattle.machine.specs.Whole.{GuardStands, WellFormed}
 use Rattle.machine.specs.declared.whole.Machine.{Machine}
 use Rattle.machine.proofs.FormedSubmissions.{old_or_new}
 use Rattle.machine.proofs.GuardLemmas.{batch_target, guard_before, same_row}

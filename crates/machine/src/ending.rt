@@ -28,9 +28,7 @@ impl Machine {
         ensures keeps { Keeps everywhere (view self.old)
             (view self.new) notes.old.made notes.new.made }
     {
-        let Some(row) = self.table.get(r) else {
-            unreachable!()
-        };
+        let row = self.table.row(r);
         self.table.set_phase(r, Phase::Ended(res), notes)?;
         let completion = Cqe {
             user_data: row.entry.user_data,

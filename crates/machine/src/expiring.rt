@@ -22,9 +22,7 @@ impl Machine {
         ensures keeps { Keeps everywhere (view self.old)
             (view self.new) notes.old.made notes.new.made }
     {
-        let Some(row) = self.table.get(r) else {
-            unreachable!()
-        };
+        let row = self.table.row(r);
         match self.waiting_target(&row) {
             Some(target) => self.fall(&[(target, -ECANCELED), (r, -ETIME)], notes),
             None => self.fall(&[(r, -ETIME)], notes),

@@ -33,9 +33,7 @@ impl Machine {
         ensures keeps { Keeps everywhere (view self.old)
             (view self.new) notes.old.made notes.new.made }
     {
-        let Some(row) = self.table.get(r) else {
-            unreachable!()
-        };
+        let row = self.table.row(r);
         if lacks_descriptor(&self.world, &row) {
             return self.fall(&[(r, -EBADF)], notes);
         }
@@ -93,9 +91,7 @@ impl Machine {
         ensures keeps { Keeps everywhere (view self.old)
             (view self.new) notes.old.made notes.new.made }
     {
-        let Some(row) = self.table.get(r) else {
-            unreachable!()
-        };
+        let row = self.table.row(r);
         if is_cancel(row.entry.opcode) {
             return self.cancel(r, &row.entry, notes);
         }

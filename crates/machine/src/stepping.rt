@@ -7,7 +7,7 @@ ghost use Rattle.scenario.specs.declared.setup.Instruction.TheVariants.{Put, Pus
 
 use crate::whole::Machine;
 use entries::Sqe;
-use places::{Place, Recorder, Value};
+use places::{At, Place, Recorder};
 use std::alloc::AllocError;
 
 impl Machine {
@@ -26,10 +26,8 @@ impl Machine {
         ensures keeps { Keeps everywhere (view self.old)
             (view self.new) notes.old.made notes.new.made }
     {
-        let Some(before) = self.submissions.entry(slot) else {
-            unreachable!()
-        };
-        notes.note(Place::Slot(slot), Some(Value::Entry(before)))?;
+        let place = Place::Slot(slot);
+        notes.note(place, self.submissions.at(place))?;
         self.submissions.put_entry(slot, entry);
         self.threads.go_on(t, notes)
     }

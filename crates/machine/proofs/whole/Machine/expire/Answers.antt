@@ -1,5 +1,4 @@
 use Rattle.std.proofs.Common.{◌≡◌, sym, ◌∙◌, ap}
-use Rattle.std.specs.Prelude.{slice_get, Some}
 use Rattle.entries.specs.declared.row.Row.{Row}
 use Rattle.entries.specs.declared.row.Phase.TheVariants.{Issued}
 use Rattle.machine.proofs.EnterLemmas.{expired_row}
@@ -11,10 +10,9 @@ pub fall-requires-clause-direct : goal.fall-requires-clause-direct
 fall-requires-clause-direct c =
     let m = c.args.self.now in
     let x = expired_row m c.args.r c.requires.accepted in
-    let there : slice_get m.table c.args.r ≡ Some c.in-Some.row = sym c.get.ensures ∙ c.in-Some.is in
-    let same = same_row x.0 c.in-Some.row (sym x.1 ∙ there) in
-    let issued : c.in-Some.row.phase ≡ Issued = ap (λ (y : Row). y.phase) (sym same) ∙ x.2 in
-    direct_pair m c.args.r c.in-Some-waiting_target.target c.in-Some.row c.requires.formed there issued (sym c.waiting_target.ensures ∙ c.in-Some-waiting_target.is)
+    let same = same_row x.0 c.row-row.result (sym x.1 ∙ c.row-row.ensures) in
+    let issued : c.row-row.result.phase ≡ Issued = ap (λ (y : Row). y.phase) (sym same) ∙ x.2 in
+    direct_pair m c.args.r c.in-Some.target c.row-row.result c.requires.formed c.row-row.ensures issued (sym c.waiting_target.ensures ∙ c.in-Some.is)
 
 pub fall-requires-clause-guards : goal.fall-requires-clause-guards
 fall-requires-clause-guards c = stand_behind c.args.self.now.table c.requires.formed.guards

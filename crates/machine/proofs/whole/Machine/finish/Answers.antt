@@ -1,5 +1,4 @@
 use Rattle.std.proofs.Common.{◌≡◌, sym, ◌∙◌, ap, subst, true, false, cond, w32, FitsSigned, to_z, of_z, rules, [], ◌∷◌, OnOk}
-use Rattle.std.specs.Prelude.{slice_get, Some}
 use Rattle.std.proofs.lemmas.Int.{to_z-of_z}
 use Rattle.model_files.specs.Worlds.{WorldState}
 use Rattle.links_drains.specs.Holding.{is_held_by}
@@ -26,11 +25,10 @@ cancel-requires-clause-there c = finished_row c.args.self.now c.args.r c.args.ch
 pub returns-then-is_cancel-clause-ok : goal.returns-then-is_cancel-clause-ok
 returns-then-is_cancel-clause-ok c =
     let m : Machine = c.args.self.now in
-    let there : slice_get m.table c.args.r ≡ Some c.in-Some.row = sym c.get.ensures ∙ c.in-Some.is in
-    let takes : is_cancel c.in-Some.row.entry.opcode ≡ true = sym c.is_cancel.ensures ∙ c.if-is_cancel.true in
-    let is : cancelled m c.args.r c.in-Some.row.entry ≡ after m (Finish c.args.r c.args.choice) =
-    sym (ap (λ b. cond b (cancelled m c.args.r c.in-Some.row.entry) (finished_as m c.args.r c.in-Some.row (outcome_of (is_held_by m.table) m.world c.in-Some.row c.args.choice))) takes)
-    ∙ sym (ap (λ o. finished m c.args.r o c.args.choice) there) in
+    let takes : is_cancel c.row-row.result.entry.opcode ≡ true = sym c.is_cancel.ensures ∙ c.if-is_cancel.true in
+    let is : cancelled m c.args.r c.row-row.result.entry ≡ after m (Finish c.args.r c.args.choice) =
+    sym (ap (λ b. cond b (cancelled m c.args.r c.row-row.result.entry) (finished_as m c.args.r c.row-row.result (outcome_of (is_held_by m.table) m.world c.row-row.result c.args.choice))) takes)
+    ∙ sym (ap (λ o. finished m c.args.r o c.args.choice) c.row-row.ensures) in
     subst (λ (n : Machine). OnOk c.cancel.result (c.cancel.new.self ≡ n)) is c.cancel.ensures.ok
 
 pub carry_out-requires-clause-puts : goal.carry_out-requires-clause-puts
@@ -46,11 +44,11 @@ pub fall-requires-clause-mostly : goal.fall-requires-clause-mostly
 fall-requires-clause-mostly c =
     let fits : FitsSigned w32 c.in-Res.res = search rules in
     let same = to_z-of_z w32 c.in-Res.res fits in
-    let told : outcome_of (is_held_by c.args.self.now.table) c.args.self.now.world c.in-Some.row c.args.choice ≡ Res c.in-Res.res = sym c.outcome.ensures ∙ c.in-Res.is in
-    let s = stays_after (is_held_by c.args.self.now.table) c.args.self.now.world c.in-Some.row c.in-Res.res c.args.choice c.requires.formed.mostly.world (puts_fit c.args.self.now c.requires.formed) told in
-    let after : c.carry_out.new.world ≡ world_after c.in-Some.row c.in-Res.res c.args.self.now.world = c.in_ok-carry_out.ensures.ok ∙ ap (λ z. world_after c.in-Some.row z c.args.self.now.world) same in
+    let told : outcome_of (is_held_by c.args.self.now.table) c.args.self.now.world c.row-row.result c.args.choice ≡ Res c.in-Res.res = sym c.outcome.ensures ∙ c.in-Res.is in
+    let s = stays_after (is_held_by c.args.self.now.table) c.args.self.now.world c.row-row.result c.in-Res.res c.args.choice c.requires.formed.mostly.world (puts_fit c.args.self.now c.requires.formed) told in
+    let after : c.carry_out.new.world ≡ world_after c.row-row.result c.in-Res.res c.args.self.now.world = c.in_ok-carry_out.ensures.ok ∙ ap (λ z. world_after c.row-row.result z c.args.self.now.world) same in
     subst (λ (w : WorldState). Mostly (record c.args.self.now { world = w })) (sym after)
-    (mostly_world c.args.self.now (world_after c.in-Some.row c.in-Res.res c.args.self.now.world) (mostly c.args.self.now c.requires.formed) s.formed)
+    (mostly_world c.args.self.now (world_after c.row-row.result c.in-Res.res c.args.self.now.world) (mostly c.args.self.now c.requires.formed) s.formed)
 
 -- the machine after it, as the fall leaves it
 pub returns-clause-ok : goal.returns-clause-ok
@@ -58,14 +56,13 @@ returns-clause-ok c =
     let m : Machine = c.args.self.now in
     let fits : FitsSigned w32 c.in-Res.res = search rules in
     let same = to_z-of_z w32 c.in-Res.res fits in
-    let there : slice_get m.table c.args.r ≡ Some c.in-Some.row = sym c.get.ensures ∙ c.in-Some.is in
-    let told : outcome_of (is_held_by m.table) m.world c.in-Some.row c.args.choice ≡ Res c.in-Res.res = sym c.outcome.ensures ∙ c.in-Res.is in
-    let other : is_cancel c.in-Some.row.entry.opcode ≡ false = sym c.is_cancel.ensures ∙ c.if-is_cancel.false in
-    let moved : c.carry_out.new.world ≡ world_after c.in-Some.row c.in-Res.res m.world = c.in_ok-carry_out.ensures.ok ∙ ap (λ z. world_after c.in-Some.row z m.world) same in
+    let told : outcome_of (is_held_by m.table) m.world c.row-row.result c.args.choice ≡ Res c.in-Res.res = sym c.outcome.ensures ∙ c.in-Res.is in
+    let other : is_cancel c.row-row.result.entry.opcode ≡ false = sym c.is_cancel.ensures ∙ c.if-is_cancel.false in
+    let moved : c.carry_out.new.world ≡ world_after c.row-row.result c.in-Res.res m.world = c.in_ok-carry_out.ensures.ok ∙ ap (λ z. world_after c.row-row.result z m.world) same in
     let is : fallen (record m { world = c.carry_out.new.world }) ((c.args.r, to_z w32 (of_z w32 c.in-Res.res)) ∷ []) ≡ after m (Finish c.args.r c.args.choice) =
     ap (λ (w : WorldState). fallen (record m { world = w }) ((c.args.r, to_z w32 (of_z w32 c.in-Res.res)) ∷ [])) moved
-    ∙ ap (λ z. fallen (record m { world = world_after c.in-Some.row c.in-Res.res m.world }) ((c.args.r, z) ∷ [])) same
-    ∙ sym (ap (finished_as m c.args.r c.in-Some.row) told)
-    ∙ sym (ap (λ b. cond b (cancelled m c.args.r c.in-Some.row.entry) (finished_as m c.args.r c.in-Some.row (outcome_of (is_held_by m.table) m.world c.in-Some.row c.args.choice))) other)
-    ∙ sym (ap (λ o. finished m c.args.r o c.args.choice) there) in
+    ∙ ap (λ z. fallen (record m { world = world_after c.row-row.result c.in-Res.res m.world }) ((c.args.r, z) ∷ [])) same
+    ∙ sym (ap (finished_as m c.args.r c.row-row.result) told)
+    ∙ sym (ap (λ b. cond b (cancelled m c.args.r c.row-row.result.entry) (finished_as m c.args.r c.row-row.result (outcome_of (is_held_by m.table) m.world c.row-row.result c.args.choice))) other)
+    ∙ sym (ap (λ o. finished m c.args.r o c.args.choice) c.row-row.ensures) in
     subst (λ (n : Machine). OnOk c.fall.result (c.fall.new.self ≡ n)) is c.fall.ensures.ok

@@ -1,7 +1,6 @@
 use Rattle.std.proofs.Common.{◌≡◌, sym, ◌∙◌, ap, subst, true, false, ℕ, ◌+◌, arith, OnOk}
-use Rattle.std.specs.Prelude.{slice_get, Some}
+use Rattle.std.specs.Prelude.{slice_get}
 use Rattle.std.specs.Option.{option_map_or}
-use Rattle.std.proofs.lemmas.Option.{slice_get_within}
 use Rattle.entries.specs.declared.row.Row.{Row}
 use Rattle.places.specs.Lists.{updated}
 use Rattle.links_drains.specs.Phases.{is_ended, is_unfinished}
@@ -26,48 +25,31 @@ pub start-requires-clause-time : goal.start-requires-clause-time
 start-requires-clause-time c =
     let m = c.args.self.now in
     let x = can_start m c.args.r c.requires.accepted in
-    let there : slice_get m.table c.args.r ≡ Some c.in-Some.row = sym c.get.ensures ∙ c.in-Some.is in
-    let same = same_row x.row c.in-Some.row (sym x.there ∙ there) in
-    (c.requires.formed.rows c.args.r c.in-Some.row there).time (ap (λ (y : Row). is_unfinished y.phase) (sym same) ∙ ap is_unfinished x.queued)
-
-pub guard_of-requires : goal.guard_of-requires
-guard_of-requires c =
-    let x = can_start c.args.self.now c.args.r c.requires.accepted in
-    let w = slice_get_within c.args.self.now.table c.args.r x.row x.there in
-    let l = c.requires.formed.mostly.table.few in
-    record { few = omega (arith, w, l) }
-
-pub overflow_add-r : goal.overflow_add-r
-overflow_add-r c =
-    let x = can_start c.args.self.now c.args.r c.requires.accepted in
-    let w = slice_get_within c.args.self.now.table c.args.r x.row x.there in
-    let l = c.requires.formed.mostly.table.few in
-    omega (arith, w, l)
+    let same = same_row x.row c.row-row.result (sym x.there ∙ c.row-row.ensures) in
+    (c.requires.formed.rows c.args.r c.row-row.result c.row-row.ensures).time (ap (λ (y : Row). is_unfinished y.phase) (sym same) ∙ ap is_unfinished x.queued)
 
 -- what stands behind the row is as it was
 behind : (m n : Machine) (r : ℕ) → n ≡ record m { table = updated (started m.clock m.counted) m.table r } → slice_get n.table (r + 1) ≡ slice_get m.table (r + 1)
 behind m n r h = ap (λ (x : Machine). slice_get x.table (r + 1)) h ∙ apart (started m.clock m.counted) m.table r (r + 1) (λ o. absurd (omega (arith, o)))
 
-pub start-requires-in-Some-guard_of-clause-time : goal.start-requires-in-Some-guard_of-clause-time
-start-requires-in-Some-guard_of-clause-time c =
+pub start-requires-in-Some-clause-time : goal.start-requires-in-Some-clause-time
+start-requires-in-Some-clause-time c =
     let m = c.args.self.now in
-    let g = c.in-Some-guard_of.ensures.some in
+    let g = c.in-Some.ensures.some in
     let there = sym (behind m c.start.new.self c.args.r c.in_ok-start.ensures.ok) ∙ g.0 in
-    let t = guard_told c.args.r c.in-Some-guard_of.guard g.1 in
-    (c.requires.formed.rows (c.args.r + 1) c.in-Some-guard_of.guard there).time (unfinished_queued c.in-Some-guard_of.guard.phase t.queued)
+    let t = guard_told c.args.r c.in-Some.guard g.1 in
+    (c.requires.formed.rows (c.args.r + 1) c.in-Some.guard there).time (unfinished_queued c.in-Some.guard.phase t.queued)
 
-pub returns-in-Some-guard_of-clause-ok : goal.returns-in-Some-guard_of-clause-ok
-returns-in-Some-guard_of-clause-ok c =
+pub returns-in-Some-clause-ok : goal.returns-in-Some-clause-ok
+returns-in-Some-clause-ok c =
     let m : Machine = c.args.self.now in
-    let there : slice_get m.table c.args.r ≡ Some c.in-Some.row = sym c.get.ensures ∙ c.in-Some.is in
-    let g = c.in-Some-guard_of.ensures.some in
+    let g = c.in-Some.ensures.some in
     let at = sym (behind m c.start.new.self c.args.r c.in_ok-start.ensures.ok) ∙ g.0 in
-    let told = issued_told m c.args.r c.in-Some.row true c.requires.formed.guards there (sym c.lacks_descriptor.ensures ∙ c.if-lacks_descriptor.false) (ap (λ o. option_map_or (is_guard_of c.args.r) o false) at ∙ g.1) in
-    subst (λ (n : Machine). OnOk c.start-in-Some-guard_of.result (c.start-in-Some-guard_of.new.self ≡ n)) (ap (λ (s : Machine). record s { table = updated (started s.clock s.counted) s.table (c.args.r + 1) }) c.in_ok-start.ensures.ok ∙ told) c.start-in-Some-guard_of.ensures.ok
+    let told = issued_told m c.args.r c.row-row.result true c.requires.formed.guards c.row-row.ensures (sym c.lacks_descriptor.ensures ∙ c.if-lacks_descriptor.false) (ap (λ o. option_map_or (is_guard_of c.args.r) o false) at ∙ g.1) in
+    subst (λ (n : Machine). OnOk c.start-in-Some.result (c.start-in-Some.new.self ≡ n)) (ap (λ (s : Machine). record s { table = updated (started s.clock s.counted) s.table (c.args.r + 1) }) c.in_ok-start.ensures.ok ∙ told) c.start-in-Some.ensures.ok
 
 pub returns-in-None-clause-ok : goal.returns-in-None-clause-ok
 returns-in-None-clause-ok c =
     let m : Machine = c.args.self.now in
-    let there : slice_get m.table c.args.r ≡ Some c.in-Some.row = sym c.get.ensures ∙ c.in-Some.is in
     let none = ap (λ o. option_map_or (is_guard_of c.args.r) o false) (sym (behind m c.start.new.self c.args.r c.in_ok-start.ensures.ok)) ∙ c.in-None.ensures.none in
-    c.in_ok-start.ensures.ok ∙ issued_told m c.args.r c.in-Some.row false c.requires.formed.guards there (sym c.lacks_descriptor.ensures ∙ c.if-lacks_descriptor.false) none
+    c.in_ok-start.ensures.ok ∙ issued_told m c.args.r c.row-row.result false c.requires.formed.guards c.row-row.ensures (sym c.lacks_descriptor.ensures ∙ c.if-lacks_descriptor.false) none

@@ -1,18 +1,11 @@
-use Rattle.std.proofs.Common.{◌<◌, ◌≤◌, ◌∙◌, sym, subst, length, arith}
+use Rattle.std.proofs.Common.{◌<◌, sym, subst, length}
 use Rattle.places.specs.View.{Keeps}
 use Rattle.places.proofs.Keeping.{keeps_then}
-use Rattle.places.proofs.ListLemmas.{slice_get_none}
 use Rattle.ring_words.specs.Rings.{SubWords}
 use Rattle.machine.specs.Whole.{view, everywhere}
 use Rattle.machine.proofs.Lifting.{keeps_slot, lift_threads}
 use Rattle.machine.proofs.InstructionLemmas.{thread_there, goes_on, is_done}
 use Rattle.machine.proofs.whole.Machine.put_entry.Goals as goal
-
-pub unreachable-requires : goal.unreachable-requires
-unreachable-requires c =
-    let there : c.args.slot < length c.args.self.now.submissions.slots = is_done c.args.self.now _ _ c.requires.formed c.requires.next in
-    let past : length c.args.self.now.submissions.slots ≤ c.args.slot = slice_get_none _ _ (sym c.entry.ensures ∙ c.in_default.is) in
-    omega (arith, there, past)
 
 pub put_entry-requires : goal.put_entry-requires
 put_entry-requires c = is_done c.args.self.now _ _ c.requires.formed c.requires.next
@@ -27,6 +20,6 @@ pub returns-clause-keeps : goal.returns-clause-keeps
 returns-clause-keeps c =
     let m = c.args.self.now in
     let there : c.args.slot < length m.submissions.slots = is_done m _ _ c.requires.formed c.requires.next in
-    let written = keeps_slot m c.args.slot c.in-Some.before c.args.entry _ _ (sym c.entry.ensures ∙ c.in-Some.is) there c.in_ok-note.ensures.ok in
+    let written = keeps_slot m c.args.slot c.args.entry _ _ there (rw c.at.ensures at c.in_ok-note.ensures.ok) in
     let put = subst (λ (w : SubWords). Keeps everywhere (view m) (view (record m { submissions = w })) c.args.notes.now.made c.note.new.self.made) (sym c.put_entry.ensures) written in
     keeps_then _ _ _ _ _ _ _ put (lift_threads (record m { submissions = c.put_entry.new.self }) _ _ _ c.go_on.ensures.keeps)

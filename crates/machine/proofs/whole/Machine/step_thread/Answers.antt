@@ -1,7 +1,7 @@
 use Rattle.model_files.specs.Worlds.{OneSetup as OneWorldSetup}
 use Rattle.model_files.proofs.Fixing as worlds
 use Rattle.machine.proofs.Growing.{grows_parts}
-use Rattle.std.proofs.Common.{subst, length, ◌+◌, ◌≤◌, arith}
+use Rattle.std.proofs.Common.{subst, length, ◌+◌, ◌≤◌}
 use Rattle.scenario.specs.Programs.{IsDone}
 use Rattle.machine.proofs.InstructionLemmas.{is_done, comes_next, thread_there, goes_on}
 use Rattle.machine.proofs.whole.Machine.step_thread.Goals as goal
