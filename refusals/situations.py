@@ -188,7 +188,7 @@ def calls_of_states():
         yield Situation("start", name, refused=((3, 0),))
         yield Situation("copy", name, whole)
         yield Situation("look", name, whole, quiet=True)
-        yield Situation("unwind", name, quiet=True)
+        yield Situation("unwind", name, whole, quiet=True)
 
 
 def calls_of_walkers():
@@ -231,7 +231,7 @@ def calls_of_live_runs():
     for at in range(last("one_nop") + 1):
         yield Situation("take_offer", "one_nop", at, refused=((3, 17),), spares=at > 0)
         yield Situation("offer", "one_nop", at, quiet=True)
-    yield Situation("finish", "one_nop", quiet=True)
+    yield Situation("finish", "one_nop", last("one_nop") + 1, quiet=True)
 
 
 def all_situations():

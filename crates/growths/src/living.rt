@@ -1,226 +1,172 @@
 //! Calls of live runs, which are driven by hand.
-ghost use Rattle.std.specs.Prelude.{◌≡◌};
+ghost use Rattle.std.specs.Prelude.{◌≡◌, length};
 ghost use Rattle.live_runner.specs.Actors.{actors};
+ghost use Rattle.live_runner.specs.History.{InOrder};
 
-use crate::comparing::{Compared, compare_states};
-use crate::fault::Fault;
-use crate::plan::{Call, Plan};
-use crate::situation::{Answer, Given, arm, disarm, tell};
-use crate::stepping::run_first;
-use live_runner::{Live, LiveRefusal, Receipt, Seat, actors};
-use machine::{Event, Setup, State};
-use script::{Script, read_script};
-use std::alloc::{AllocError, Global};
+use crate::plan::Call;
+use crate::situation::{Answer, Given, Situation, arm, disarm, missing, tell, try_call};
+use crate::summing::Sum;
+use live_runner::{
+    AlwaysOpen, Closed, Live, LiveRefusal, Receipt, Seat, Worker, actors, finish, workers_of,
+};
+use machine::{Event, Setup};
+use std::alloc::AllocError;
+use std::io;
 use std::marker::Brand;
 use std::sync::ledger::{Blank, Ledger};
 
 /// How many kernel workers there are.
 const KERNEL: u32 = 1;
 
-/// Makes a call of a live run while a growth is refused.
-pub fn try_live(rt: &(impl Print + Eprint), given: &Given<'_>) -> Result<(), Fault> {
-    let script = read_script(given.alloc, given.text)?;
-    try_driven(rt, given, &script)
-}
-
-// The same over a script's setup and schedule.
-fn try_driven<R: Print + Eprint>(rt: &R, given: &Given<'_>, script: &Script) -> Result<(), Fault> {
-    let setup = script.setup();
+/// Makes a call of a live run behind the first events.
+pub fn try_live<R: Print + Eprint>(rt: &R, given: &Given<'_>) -> io::Result<()> {
+    let setup = given.script.setup();
     let blank = Blank::new(actors(setup, KERNEL) as u64);
-    drive::<Brand, R>(rt, given, blank, setup, script.schedule())
+    drive::<Brand, R>(rt, given, setup, blank)
 }
 
 fn drive<L: Ledger, R: Print + Eprint>(
     rt: &R,
     given: &Given<'_>,
-    blank: Blank,
     setup: &Setup,
-    events: &[Event],
-) -> Result<(), Fault>
+    blank: Blank,
+) -> io::Result<()>
     requires name { blank.name ≡ L.name }
     requires parts { blank.parts ≡ L.parts }
     requires all { blank.parts ≡ actors setup.now 1 }
 {
-    let (mut live, mut seats) = Live::<L>::open(given.alloc, blank, setup, KERNEL)?;
-    drive_on(rt, given, &mut live, seats.as_mut_slice(), events)
+    match Live::<L>::open(given.alloc, blank, setup, KERNEL) {
+        Ok((mut live, mut seats)) => {
+            act_first(&mut live, &mut seats, given.first(given.plan.from));
+            if given.plan.call == Call::Finish {
+                try_finish(rt, given, live, seats)
+            } else {
+                try_next(rt, given, &mut live, &mut seats)
+            }
+        }
+        Err(_) => Err(missing()),
+    }
 }
 
-// Does the first events, and makes the call with the seat of the next one's actor.
-fn drive_on<L: Ledger>(
+// Does events, each by the seat of its actor.
+fn act_first<L: Ledger>(live: &mut Live<L>, seats: &mut Vec<Seat<L>>, events: &[Event])
+    requires order { InOrder seats.old.items }
+    ensures len { length seats.new.items ≡ length seats.old.items }
+    ensures actors { live.new.actors ≡ live.old.actors }
+    ensures order { InOrder seats.new.items }
+{
+    for event in events {
+        let actor = actor_of(live.setup(), *event);
+        if actor < seats.len() {
+            let _ = live.attempt(&mut seats[actor], *event);
+        }
+    }
+}
+
+// The actor of an event: a thread, or else the poller, or the kernel worker behind it.
+fn actor_of(setup: &Setup, event: Event) -> usize {
+    let threads = setup.threads.len();
+    match event {
+        Event::Step(thread) => thread as usize,
+        Event::Take(_) | Event::Sleep => threads,
+        _ => threads.saturating_add(usize::from(setup.sqpoll)),
+    }
+}
+
+fn try_next<L: Ledger>(
     rt: &(impl Print + Eprint),
     given: &Given<'_>,
     live: &mut Live<L>,
     seats: &mut [Seat<L>],
-    events: &[Event],
-) -> Result<(), Fault> {
-    let from = given.plan.from;
-    for event in events.iter().take(from) {
-        let seat = seat_of(live.setup(), seats, *event)?;
-        live.attempt(seat, *event)?;
-    }
-    let event = events.get(from).copied().ok_or(Fault::Missing("event"))?;
-    let seat = seat_of(live.setup(), seats, event)?;
-    let calling = Calling {
-        plan: given.plan,
-        events,
-        event,
-    };
-    act_beside(rt, given.alloc, live, seat, calling)
-}
-
-// The seat of an event's actor: a thread's, or else the poller's, or that of the kernel worker
-// behind it.
-fn seat_of<'a, L: Ledger>(
-    setup: &Setup,
-    seats: &'a mut [Seat<L>],
-    event: Event,
-) -> Result<&'a mut Seat<L>, Fault> {
-    let threads = setup.threads.len();
-    let place = match event {
-        Event::Step(thread) => thread as usize,
-        Event::Take(_) | Event::Sleep => threads,
-        _ => threads.saturating_add(usize::from(setup.sqpoll)),
-    };
-    seats.get_mut(place).ok_or(Fault::Missing("seat"))
-}
-
-/// A call of a live run.
-#[derive(Clone, Copy)]
-struct Calling<'a> {
-    plan: Plan<'a>,
-    /// The run's events, and others that may come.
-    events: &'a [Event],
-    /// The event that comes next.
-    event: Event,
-}
-
-// Makes the call beside a state that the same events led to.
-fn act_beside<L: Ledger>(
-    rt: &(impl Print + Eprint),
-    alloc: Global,
-    live: &mut Live<L>,
-    seat: &mut Seat<L>,
-    calling: Calling<'_>,
-) -> Result<(), Fault> {
-    let mut twin = State::new(alloc, live.setup())?;
-    run_first(&mut twin, calling.events, calling.plan.from)?;
-    let mut told = Vec::from_slice(alloc, seat.receipts())?;
-    act(rt, live, seat, &mut twin, &mut told, calling)
-}
-
-fn act<L: Ledger>(
-    rt: &(impl Print + Eprint),
-    live: &mut Live<L>,
-    seat: &mut Seat<L>,
-    twin: &mut State,
-    told: &mut Vec<Receipt>,
-    calling: Calling<'_>,
-) -> Result<(), Fault> {
-    let from = calling.plan.from;
-    arm(rt, calling.plan.number)?;
-    let answer = make_call(live, seat, calling);
-    disarm(rt)?;
-    let (mut stood, mut again) = (Compared::default(), answer);
-    if answer.number != 0 {
-        stood = compare(
-            live,
-            seat,
-            twin,
-            told.as_slice(),
-            first_of(calling.events, from),
-        );
-        again = make_call(live, seat, calling);
-    }
-    let count = go_on(twin, told, seat.actor(), calling)?;
-    let left = compare(
-        live,
-        seat,
-        twin,
-        told.as_slice(),
-        first_of(calling.events, count),
-    );
-    let first = Answer::done(from as u64);
-    tell(rt, (answer, again, first), (stood, left))
-}
-
-fn first_of(events: &[Event], count: usize) -> &[Event] {
-    events.get(..count).unwrap_or(events)
-}
-
-// What a call that changes the run leads to. Tells how many events there are.
-fn go_on(
-    twin: &mut State,
-    told: &mut Vec<Receipt>,
-    actor: u32,
-    calling: Calling<'_>,
-) -> Result<usize, Fault> {
-    let Calling { plan, event, .. } = calling;
-    if plan.call != Call::Attempt && plan.call != Call::TakeOffer {
-        return Ok(plan.from);
-    }
-    twin.step(event)?;
-    told.push(receipt(actor, plan.from, event))
-        .map_err(AllocError::from)?;
-    Ok(plan.from.saturating_add(1))
-}
-
-fn receipt(actor: u32, moment: usize, event: Event) -> Receipt {
-    Receipt {
-        actor,
-        moment: moment.min(1048576) as u32,
-        event,
+) -> io::Result<()> {
+    match seats.get_mut(actor_of(live.setup(), given.event())) {
+        Some(seat) => try_call(rt, &mut Living { given, live, seat }, given.plan.number),
+        None => Err(missing()),
     }
 }
 
-// The call. It tells a moment.
-fn make_call<L: Ledger>(live: &mut Live<L>, seat: &mut Seat<L>, calling: Calling<'_>) -> Answer {
-    match calling.plan.call {
-        Call::Attempt => answer_of(live.attempt(seat, calling.event)),
-        Call::TakeOffer => match live.take_offer(seat) {
-            Some(attempted) => answer_of(attempted),
-            None => Answer::refused(100, 0),
-        },
-        _ => look_at_offer(live, seat, calling),
+/// A live run, and the seat of the next event's actor.
+#[derive(Drop)]
+struct Living<'a, L: Ledger> {
+    given: &'a Given<'a>,
+    live: &'a mut Live<L>,
+    seat: &'a mut Seat<L>,
+}
+
+impl<L: Ledger> Situation for Living<'_, L> {
+    // It tells a moment: of an offer that of the event, if that is what is offered.
+    fn call(&mut self) -> Answer {
+        let event = self.given.event();
+        match self.given.plan.call {
+            Call::Attempt => answer_of(Some(self.live.attempt(self.seat, event))),
+            Call::TakeOffer => answer_of(self.live.take_offer(self.seat)),
+            _ if self.live.offer(self.seat.actor()) == Some(event) => {
+                Ok(self.given.plan.from as u64)
+            }
+            _ => answer_of(None),
+        }
+    }
+
+    fn sums(&mut self) -> Result<(Sum, Sum), AllocError> {
+        let mut rest = Sum::new();
+        rest.add_events(self.given.alloc, &self.live.events()?)?;
+        for receipt in self.seat.receipts() {
+            rest.add_numbers(&[u64::from(receipt.actor), u64::from(receipt.moment)]);
+            rest.add_events(self.given.alloc, &[receipt.event])?;
+        }
+        Ok((Sum::of(self.live.setup(), self.live.state()), rest))
     }
 }
 
-fn answer_of(attempted: Result<Receipt, LiveRefusal>) -> Answer {
+fn answer_of(attempted: Option<Result<Receipt, LiveRefusal>>) -> Answer {
     match attempted {
-        Ok(receipt) => Answer::done(u64::from(receipt.moment)),
-        Err(LiveRefusal::NotYours) => Answer::refused(1, 0),
-        Err(LiveRefusal::TraceFull) => Answer::refused(2, 0),
-        Err(LiveRefusal::Step(refusal)) => Answer::refused(3, refusal as u64),
+        Some(Ok(receipt)) => Ok(u64::from(receipt.moment)),
+        Some(Err(LiveRefusal::NotYours)) => Err((1, 0)),
+        Some(Err(LiveRefusal::TraceFull)) => Err((2, 0)),
+        Some(Err(LiveRefusal::Step(refusal))) => Err((3, refusal as u64)),
+        None => Err((100, 0)),
     }
 }
 
-// Whether the event is what the actor is offered. It tells the moment of the actor's next event.
-fn look_at_offer<L: Ledger>(live: &Live<L>, seat: &Seat<L>, calling: Calling<'_>) -> Answer {
-    if live.offer(seat.actor()) == Some(calling.event) {
-        Answer::done(calling.plan.from as u64)
-    } else {
-        Answer::refused(100, 0)
+// Closes the run while growths are refused: a worker for each seat, `finish`, and what the receipts
+// are redeemed for.
+fn try_finish<L: Ledger>(
+    rt: &(impl Print + Eprint),
+    given: &Given<'_>,
+    live: Live<L>,
+    seats: Vec<Seat<L>>,
+) -> io::Result<()>
+    requires all { length seats.items ≡ L.parts }
+    requires actors { length seats.items ≡ live.actors }
+    requires order { InOrder seats.items }
+{
+    let room: Vec<Worker<'_, L, AlwaysOpen>> = Vec::with_capacity(given.alloc, seats.len())?;
+    let armed = arm(rt, given.plan.number);
+    match finish(live, workers_of(seats, &AlwaysOpen, room)) {
+        Ok(closed) => redeem_all(rt, &closed, armed),
+        Err(_) => Err(missing()),
     }
 }
 
-// Compares a live run with a state, what a seat was told with what it should be, and the trace with
-// events.
-fn compare<L: Ledger>(
-    live: &Live<L>,
-    seat: &Seat<L>,
-    twin: &State,
-    told: &[Receipt],
-    events: &[Event],
-) -> Compared {
-    let mut compared = Compared::default();
-    compare_states(&mut compared, live.setup(), live.state(), twin);
-    compared.count(seat.receipts() == told);
-    compared.count(has_events(live, events));
-    compared
+fn redeem_all(
+    rt: &(impl Print + Eprint),
+    closed: &Closed,
+    armed: io::Result<()>,
+) -> io::Result<()> {
+    let count = redeemed(closed);
+    armed.and(disarm(rt))?;
+    let sums = (Sum::of(closed.setup(), closed.state()), Sum::new());
+    tell(rt, Ok(count), sums)
 }
 
-fn has_events<L: Ledger>(live: &Live<L>, events: &[Event]) -> bool {
-    match live.events() {
-        Ok(found) => found.as_slice() == events,
-        Err(_) => false,
+// How many receipts are redeemed for their own events.
+fn redeemed(closed: &Closed) -> u64 {
+    let mut count = 0u64;
+    for actor in 0..closed.actors() {
+        for receipt in closed.receipts(actor) {
+            let is_own = closed.redeem(receipt) == Some(receipt.event);
+            count = count.saturating_add(u64::from(is_own));
+        }
     }
+    count
 }

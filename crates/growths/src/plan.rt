@@ -6,31 +6,26 @@ pub const WORDS: &str = "growths CALL SCRIPT NUMBER FROM TO [LINE..]";
 /// A call that can want memory, or one that takes none.
 #[derive(Clone, Copy, PartialEq, Eq)]
 pub enum Call {
-    /// `State::step`.
+    // Of a state. `Look` is `value` of each place, and `refuses`.
     Step,
-    /// `State::new`.
     Start,
-    /// `State::copy`.
     Copy,
-    /// `State::value` of each place, and `State::refuses`.
     Look,
-    /// `State::unwind`.
+    // Of a walker. `Unwind` is `State::unwind` of all its records.
     Unwind,
-    /// `Walker::extend`.
     Extend,
     Goto,
     On,
     Back,
     Rcont,
     Cont,
-    /// `Session::line`.
+    // Of a session.
     Line,
     Serve,
-    /// `Live::attempt`, `Live::take_offer` and `Live::offer`.
+    // Of a live run. `Finish` is `Worker::new`, `finish` and `Closed::redeem`.
     Attempt,
     TakeOffer,
     Offer,
-    /// `Worker::new`, `finish`, and `Closed::redeem`.
     Finish,
 }
 

@@ -1,112 +1,80 @@
 //! A call that meets refused memory, and then the same call again.
 
-use crate::comparing::Compared;
-use crate::fault::Fault;
 use crate::plan::Plan;
-use std::alloc::Global;
-use std::{fmt, io};
+use crate::summing::Sum;
+use machine::Event;
+use script::Script;
+use std::alloc::{AllocError, Global};
+use std::io;
 
 /// What a situation is made of.
 #[derive(Clone, Copy)]
 pub struct Given<'a> {
     pub alloc: Global,
     pub plan: Plan<'a>,
-    /// The script.
-    pub text: &'a [u8],
+    pub script: &'a Script,
     /// The lines that are asked of a session to see what stands in it, or that are served.
     pub lines: &'a [u8],
 }
 
-/// What a call answered: 0 and a number that it told, or the number of its refusal and what that
-/// names. A call that is refused for memory alone has the number 1.
-#[derive(Clone, Copy, PartialEq, Eq)]
-pub struct Answer {
-    pub number: u32,
-    pub more: u64,
-}
-
-impl Answer {
-    pub fn done(more: u64) -> Answer {
-        Answer { number: 0, more }
+impl<'a> Given<'a> {
+    /// So many of the first events of the schedule, or all of them.
+    pub fn first(&self, count: usize) -> &'a [Event] {
+        let events = self.script.schedule();
+        events.get(..count).unwrap_or(events)
     }
 
-    pub fn refused(number: u32, more: u64) -> Answer {
-        Answer { number, more }
+    /// The events behind the first ones.
+    pub fn rest(&self) -> &'a [Event] {
+        self.script.schedule().get(self.plan.from..).unwrap_or(&[])
     }
-}
 
-impl fmt::Display for Answer {
-    fn fmt<W: fmt::Write>(&self, f: &mut fmt::Formatter<W>) -> fmt::Result {
-        let (number, more) = (self.number, self.more);
-        write!(f, "{number} {more}")
+    /// The event that comes next; behind the last of all a tick.
+    pub fn event(&self) -> Event {
+        self.rest().first().copied().unwrap_or(Event::Tick(1))
     }
 }
 
-impl fmt::Display for Compared {
-    fn fmt<W: fmt::Write>(&self, f: &mut fmt::Formatter<W>) -> fmt::Result {
-        let (values, differ) = (self.values, self.differ);
-        write!(f, "{differ} of {values}")
-    }
-}
+/// What a call answered: a number that it told, or the number of its refusal and what that names. A
+/// call that is refused for memory alone has the number 1.
+pub type Answer = Result<u64, (u32, u64)>;
 
 /// A call, and all that it stands over.
-pub trait Situation: Drop {
-    /// Makes what the call stands over. Two that are made of one thing are equal.
-    fn make(given: &Given<'_>) -> Result<Self, Fault>;
-
+pub trait Situation {
     /// Makes the call.
     fn call(&mut self) -> Answer;
 
-    /// Compares what the call stands over with that of another.
-    fn compare(&mut self, other: &mut Self) -> Compared;
+    /// The sum of the state, and that of all else.
+    fn sums(&mut self) -> Result<(Sum, Sum), AllocError>;
 }
 
-/// Makes the call of a situation while a growth is refused.
-pub fn try_situation<S: Situation, R: Print + Eprint>(
-    rt: &R,
-    given: &Given<'_>,
-) -> Result<(), Fault> {
-    let mut subject = S::make(given)?;
-    try_beside(rt, &mut subject, given)
-}
-
-// The same beside an equal situation, whose call meets no refusal.
-fn try_beside<S: Situation>(
+/// Makes a call while the growth of a number is refused, and once more where it was refused; with
+/// the number 0 the latter alone. Tells each answer, and the sums behind it.
+pub fn try_call<S: Situation>(
     rt: &(impl Print + Eprint),
     subject: &mut S,
-    given: &Given<'_>,
-) -> Result<(), Fault> {
-    let mut twin = S::make(given)?;
-    try_call(rt, subject, &mut twin, given.plan.number)
+    number: u32,
+) -> io::Result<()> {
+    let answer = refused_call(rt, subject, number)?;
+    tell(rt, answer, subject.sums()?)?;
+    match answer {
+        Ok(_) => Ok(()),
+        Err(_) => tell(rt, subject.call(), subject.sums()?),
+    }
 }
 
-// What a call answered while a growth was refused.
 fn refused_call<S: Situation>(
     rt: &impl Eprint,
     subject: &mut S,
     number: u32,
 ) -> io::Result<Answer> {
+    if number == 0 {
+        return Ok(Err((0, 0)));
+    }
     arm(rt, number)?;
     let answer = subject.call();
     disarm(rt)?;
     Ok(answer)
-}
-
-fn try_call<S: Situation>(
-    rt: &(impl Print + Eprint),
-    subject: &mut S,
-    twin: &mut S,
-    number: u32,
-) -> Result<(), Fault> {
-    let answer = refused_call(rt, subject, number)?;
-    let (mut stood, mut again) = (Compared::default(), answer);
-    if answer.number != 0 {
-        stood = subject.compare(twin);
-        again = subject.call();
-    }
-    let first = twin.call();
-    let left = subject.compare(twin);
-    tell(rt, (answer, again, first), (stood, left))
 }
 
 /// Growths are counted from here on, and the one of a number is refused.
@@ -119,17 +87,16 @@ pub fn disarm(rt: &impl Eprint) -> io::Result<()> {
     eprintln!(rt; "disarmed")
 }
 
-/// Tells what a call answered as a growth was refused, as it was made again, and where none was
-/// refused; and how many values differed behind the refusal, and at the end.
-pub fn tell(
-    rt: &impl Print,
-    (answer, again, first): (Answer, Answer, Answer),
-    (stood, left): (Compared, Compared),
-) -> Result<(), Fault> {
-    println!(rt; "answer {answer}, again {again}, first {first}")?;
-    println!(rt; "differ {stood}, then {left}")?;
-    if stood.differ > 0 || left.differ > 0 {
-        return Err(Fault::Differs);
-    }
-    Ok(())
+/// Tells what a call answered, by 0 where it was not refused, and the sums behind it.
+pub fn tell(rt: &impl Print, answer: Answer, (state, rest): (Sum, Sum)) -> io::Result<()> {
+    let (number, more) = match answer {
+        Ok(more) => (0, more),
+        Err(refused) => refused,
+    };
+    println!(rt; "answer {number} {more}, state {state}, rest {rest}")
+}
+
+/// Why a call isn't made.
+pub fn missing() -> io::Error {
+    io::Error::other("there is no such situation")
 }

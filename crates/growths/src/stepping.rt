@@ -1,140 +1,88 @@
 //! Calls of states.
 
-use crate::comparing::{Compared, compare_made, compare_records, compare_states};
-use crate::fault::Fault;
 use crate::plan::Call;
-use crate::situation::{Answer, Given, Situation};
+use crate::situation::{Answer, Given, Situation, missing, try_call};
+use crate::summing::Sum;
 use machine::{Event, State};
-use places::Record;
-use script::{Script, read_script};
-use std::alloc::Global;
+use std::alloc::AllocError;
+use std::io;
 
-/// A state, the event that comes next, and what a call made.
-pub struct Stepping {
-    alloc: Global,
-    call: Call,
-    script: Script,
-    event: Event,
-    state: State,
-    record: Option<Record>,
-    made: Option<State>,
+/// A state, and the sum of what a call made.
+#[derive(Drop)]
+struct Stepping<'a> {
+    given: &'a Given<'a>,
+    state: &'a mut State,
+    made: Sum,
 }
 
-// By hand, so that letting it go is one step of a proof.
-impl Drop for Stepping {
-    fn drop(self) {
-        let Stepping {
-            alloc: _,
-            call: _,
-            script: _,
-            event: _,
-            state: _,
-            record: _,
-            made: _,
-        } = self;
-    }
+/// Makes a call of the state behind the first events.
+pub fn try_stepping(rt: &(impl Print + Eprint), given: &Given<'_>) -> io::Result<()> {
+    let mut state = state_at(given).ok_or_else(missing)?;
+    let (state, made) = (&mut state, Sum::new());
+    try_call(rt, &mut Stepping { given, state, made }, given.plan.number)
 }
 
-impl Situation for Stepping {
-    fn make(given: &Given<'_>) -> Result<Stepping, Fault> {
-        let script = read_script(given.alloc, given.text)?;
-        stepping_over(given, script)
-    }
+fn state_at(given: &Given<'_>) -> Option<State> {
+    let mut state = State::new(given.alloc, given.script.setup()).ok()?;
+    run_first(&mut state, given.first(given.plan.from))?;
+    Some(state)
+}
 
+fn run_first(state: &mut State, events: &[Event]) -> Option<()> {
+    for event in events {
+        state.step(*event).ok()?;
+    }
+    Some(())
+}
+
+impl Situation for Stepping<'_> {
     fn call(&mut self) -> Answer {
-        match self.call {
+        match self.given.plan.call {
             Call::Step => self.step(),
-            Call::Start => self.start(),
-            Call::Copy => self.copy(),
+            Call::Start => {
+                let made = State::new(self.given.alloc, self.given.script.setup());
+                self.keep(made.map_err(|refusal| refusal as u32))
+            }
+            Call::Copy => {
+                let made = self.state.copy(self.given.alloc);
+                self.keep(made.map_err(|_| 1))
+            }
             _ => self.look(),
         }
     }
 
-    fn compare(&mut self, other: &mut Stepping) -> Compared {
-        let mut compared = Compared::default();
-        let setup = self.script.setup();
-        compare_states(&mut compared, setup, &self.state, &other.state);
-        compare_records(&mut compared, &self.record, &other.record);
-        compare_made(&mut compared, setup, &self.made, &other.made);
-        compared
+    fn sums(&mut self) -> Result<(Sum, Sum), AllocError> {
+        Ok((Sum::of(self.given.script.setup(), self.state), self.made))
     }
 }
 
-fn stepping_over(given: &Given<'_>, script: Script) -> Result<Stepping, Fault> {
-    let event = event_at(&script, given.plan.from);
-    let state = state_at(given.alloc, &script, given.plan.from)?;
-    Ok(Stepping {
-        alloc: given.alloc,
-        call: given.plan.call,
-        script,
-        event,
-        state,
-        record: None,
-        made: None,
-    })
-}
-
-// The event of the schedule at a moment; behind the last one a tick.
-fn event_at(script: &Script, moment: usize) -> Event {
-    match script.schedule().get(moment) {
-        Some(event) => *event,
-        None => Event::Tick(1),
-    }
-}
-
-/// The state at a moment of a script's schedule.
-pub fn state_at(alloc: Global, script: &Script, moment: usize) -> Result<State, Fault> {
-    let mut state = State::new(alloc, script.setup())?;
-    run_first(&mut state, script.schedule(), moment)?;
-    Ok(state)
-}
-
-/// Runs the first events.
-pub fn run_first(state: &mut State, events: &[Event], count: usize) -> Result<(), Fault> {
-    for event in events.iter().take(count) {
-        state.step(*event)?;
-    }
-    Ok(())
-}
-
-impl Stepping {
+impl Stepping<'_> {
     fn step(&mut self) -> Answer {
-        match self.state.step(self.event) {
+        match self.state.step(self.given.event()) {
             Ok(record) => {
-                self.record = Some(record);
-                Answer::done(0)
+                self.made = Sum::of_record(&record);
+                Ok(0)
             }
-            Err(refusal) => Answer::refused(refusal as u32, 0),
+            Err(refusal) => Err((refusal as u32, 0)),
         }
     }
 
-    fn start(&mut self) -> Answer {
-        match State::new(self.alloc, self.script.setup()) {
+    fn keep(&mut self, made: Result<State, u32>) -> Answer {
+        match made {
             Ok(state) => {
-                self.made = Some(state);
-                Answer::done(0)
+                self.made = Sum::of(self.given.script.setup(), &state);
+                Ok(0)
             }
-            Err(refusal) => Answer::refused(refusal as u32, 0),
-        }
-    }
-
-    fn copy(&mut self) -> Answer {
-        match self.state.copy(self.alloc) {
-            Ok(state) => {
-                self.made = Some(state);
-                Answer::done(0)
-            }
-            Err(_) => Answer::refused(1, 0),
+            Err(number) => Err((number, 0)),
         }
     }
 
     // Looks at each place, and at what the event is refused by.
     fn look(&self) -> Answer {
-        let mut compared = Compared::default();
-        compare_states(&mut compared, self.script.setup(), &self.state, &self.state);
-        match self.state.refuses(self.event) {
-            None => Answer::done(compared.values as u64),
-            Some(refusal) => Answer::refused(refusal as u32, 0),
+        let sum = Sum::of(self.given.script.setup(), self.state);
+        match self.state.refuses(self.given.event()) {
+            None => Ok(sum.values as u64),
+            Some(refusal) => Err((refusal as u32, 0)),
         }
     }
 }

@@ -1,123 +1,99 @@
-//! Lines of sessions. What stands in one is seen by the lines that it is asked.
+//! Lines of sessions, said or served. What stands in a session is seen by the lines that it is
+//! asked.
 
-use crate::comparing::Compared;
-use crate::fault::Fault;
-use crate::plan::Plan;
-use crate::situation::{Answer, Given, Situation};
-use debug_server::{RunFault, Session};
+use crate::plan::Call;
+use crate::situation::{Answer, Given, Situation, missing, try_call};
+use crate::summing::Sum;
+use debug_server::{NoSource, Session, serve};
 use inverse_log::walker::TRACE_LIMIT;
-use machine::Event;
-use script::{Script, read_script};
-use std::alloc::Global;
+use std::alloc::AllocError;
+use std::io;
 
-/// A session, and the line that is said to it.
-pub struct Talking {
-    script: Script,
-    session: Session,
-    line: Vec<u8>,
-    /// How many events of the schedule a source gives, if it is asked.
-    told: usize,
-    reply: Vec<u8>,
-    asked: Vec<u8>,
+/// Room for all that is replied: a writer that asks for memory would meet the refusal.
+const ROOM: usize = 1048576;
+
+/// A session, and what the call was replied.
+#[derive(Drop)]
+struct Talking<'a> {
+    given: &'a Given<'a>,
+    session: &'a mut Session,
+    replied: Vec<u8>,
 }
 
-// By hand, so that letting it go is one step of a proof.
-impl Drop for Talking {
-    fn drop(self) {
-        let Talking {
-            script: _,
-            session: _,
-            line: _,
-            told: _,
-            reply: _,
-            asked: _,
-        } = self;
-    }
+/// Makes a call of a session of the first events, to which the lines behind the first were said.
+pub fn try_talking(rt: &(impl Print + Eprint), given: &Given<'_>) -> io::Result<()> {
+    let mut session = session_over(given).ok_or_else(missing)?;
+    try_over(rt, given, &mut session)
 }
 
-impl Situation for Talking {
-    fn make(given: &Given<'_>) -> Result<Talking, Fault> {
-        let script = read_script(given.alloc, given.text)?;
-        talking_over(given, script)
+fn try_over(
+    rt: &(impl Print + Eprint),
+    given: &Given<'_>,
+    session: &mut Session,
+) -> io::Result<()> {
+    for line in given.plan.lines.iter().skip(1) {
+        session.line(line.as_str().as_bytes(), None)?;
     }
+    let mut talking = Talking {
+        given,
+        session,
+        replied: Vec::with_capacity(given.alloc, ROOM)?,
+    };
+    try_call(rt, &mut talking, given.plan.number)
+}
 
-    // The line, to which a source gives events if it asks for them.
+fn session_over(given: &Given<'_>) -> Option<Session> {
+    let events = given.first(given.plan.from);
+    if events.len() > TRACE_LIMIT {
+        return None;
+    }
+    Session::of(given.alloc, given.script.setup(), events).ok()
+}
+
+impl Situation for Talking<'_> {
     fn call(&mut self) -> Answer {
-        let events = first_events(&self.script, self.told);
-        match self.session.line(self.line.as_slice(), Some(events)) {
-            Ok(reply) => {
-                self.reply = reply;
-                Answer::done(0)
-            }
-            Err(_) => Answer::refused(1, 0),
+        match self.given.plan.call {
+            Call::Serve => self.serve(),
+            _ => self.line(),
         }
     }
 
-    fn compare(&mut self, other: &mut Talking) -> Compared {
-        let mut compared = Compared::default();
-        compared.count(self.reply.as_slice() == other.reply.as_slice());
-        let lines = self.asked.as_slice();
-        ask_all(&mut compared, &mut self.session, &mut other.session, lines);
-        compared
+    fn sums(&mut self) -> Result<(Sum, Sum), AllocError> {
+        let mut rest = Sum::new();
+        rest.add_bytes(&self.replied);
+        if self.given.plan.call == Call::Line {
+            for line in self.given.lines.split(|byte| *byte == b'\n') {
+                rest.add_bytes(&self.session.line(line, None)?);
+            }
+        }
+        Ok((Sum::new(), rest))
     }
 }
 
-fn talking_over(given: &Given<'_>, script: Script) -> Result<Talking, Fault> {
-    let line = match given.plan.lines.first() {
-        Some(line) => line.as_str(),
-        None => "",
-    };
-    let line = Vec::from_slice(given.alloc, line.as_bytes())?;
-    let asked = Vec::from_slice(given.alloc, given.lines)?;
-    let session = session_over(given.alloc, &script, given.plan)?;
-    Ok(Talking {
-        script,
-        session,
-        line,
-        told: given.plan.to,
-        reply: Vec::new(given.alloc),
-        asked,
-    })
-}
-
-/// A session of the first events of a script, to which lines were said.
-pub fn session_over(alloc: Global, script: &Script, plan: Plan<'_>) -> Result<Session, Fault> {
-    let mut session = session_of(alloc, script, plan.from)?;
-    say(&mut session, plan.lines)?;
-    Ok(session)
-}
-
-fn session_of(alloc: Global, script: &Script, count: usize) -> Result<Session, RunFault> {
-    let events = first_events(script, count);
-    if events.len() > TRACE_LIMIT {
-        return Err(RunFault::Memory);
+impl Talking<'_> {
+    // Says the first line, to which a source gives events if it asks for them.
+    fn line(&mut self) -> Answer {
+        let plan = self.given.plan;
+        let line = plan.lines.first().map_or("", |line| line.as_str());
+        let told = self.given.first(plan.to);
+        match self.session.line(line.as_bytes(), Some(told)) {
+            Ok(reply) => {
+                self.replied = reply;
+                Ok(0)
+            }
+            Err(_) => Err((1, 0)),
+        }
     }
-    Session::of(alloc, script.setup(), events)
-}
 
-fn first_events(script: &Script, count: usize) -> &[Event] {
-    let events = script.schedule();
-    events.get(..count).unwrap_or(events)
-}
-
-// Says the lines behind the first.
-fn say(session: &mut Session, lines: &[String]) -> Result<(), Fault> {
-    for line in lines.iter().skip(1) {
-        session.line(line.as_str().as_bytes(), None)?;
-    }
-    Ok(())
-}
-
-// Asks two sessions each of some lines.
-fn ask_all(compared: &mut Compared, one: &mut Session, other: &mut Session, lines: &[u8]) {
-    for line in lines.split(|byte| *byte == b'\n') {
-        compared.count(are_alike(one, other, line));
-    }
-}
-
-fn are_alike(one: &mut Session, other: &mut Session, line: &[u8]) -> bool {
-    match (one.line(line, None), other.line(line, None)) {
-        (Ok(one), Ok(other)) => one.as_slice() == other.as_slice(),
-        _ => false,
+    // It tells how many bytes were read, behind the number of a session's fault too.
+    fn serve(&mut self) -> Answer {
+        let mut rest = self.given.lines;
+        self.replied.clear();
+        let served = serve(self.session, &mut rest, &mut self.replied, &mut NoSource);
+        let read = self.given.lines.len().saturating_sub(rest.len()) as u64;
+        match served {
+            Ok(()) => Ok(read),
+            Err(fault) => Err((fault as u32, read)),
+        }
     }
 }

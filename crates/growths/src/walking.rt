@@ -1,14 +1,13 @@
 //! Calls of walkers.
 
-use crate::comparing::{Compared, compare_states};
-use crate::fault::Fault;
-use crate::plan::{Call, Plan};
-use crate::situation::{Answer, Given, Situation};
+use crate::plan::Call;
+use crate::situation::{Answer, Given, Situation, arm, disarm, missing, tell, try_call};
+use crate::summing::Sum;
 use inverse_log::{ExtendRefusal, Walker};
 use machine::{Event, Refusal};
 use places::Place;
-use script::{Script, read_script};
-use std::alloc::{AllocError, Global};
+use std::alloc::AllocError;
+use std::io;
 use watches::{Stop, Watches, cont, rcont};
 
 /// A state is copied at each multiple, and jumps go back so far by single steps.
@@ -17,135 +16,103 @@ const EVERY: u32 = 4;
 const WINDOW: u32 = 2;
 
 /// A walker, and a watch of the counter of the first object.
-pub struct Walking {
-    call: Call,
-    from: usize,
-    to: usize,
-    script: Script,
-    walker: Walker,
-    watches: Watches,
+#[derive(Drop)]
+struct Walking<'a> {
+    given: &'a Given<'a>,
+    walker: &'a mut Walker,
+    watches: &'a Watches,
 }
 
-// By hand, so that letting it go is one step of a proof.
-impl Drop for Walking {
-    fn drop(self) {
-        let Walking {
-            call: _,
-            from: _,
-            to: _,
-            script: _,
-            walker: _,
-            watches: _,
-        } = self;
-    }
+/// Makes a call of a walker.
+pub fn try_walking(rt: &(impl Print + Eprint), given: &Given<'_>) -> io::Result<()> {
+    let mut walker = walker_at(given).ok_or_else(missing)?;
+    try_over(rt, given, &mut walker)
 }
 
-impl Situation for Walking {
-    fn make(given: &Given<'_>) -> Result<Walking, Fault> {
-        let script = read_script(given.alloc, given.text)?;
-        walking_over(given, script)
+fn try_over(rt: &(impl Print + Eprint), given: &Given<'_>, walker: &mut Walker) -> io::Result<()> {
+    if given.plan.call == Call::Unwind {
+        return unwind(rt, given, walker);
     }
-
-    fn call(&mut self) -> Answer {
-        match self.call {
-            Call::Extend => extend(&mut self.walker, events_behind(&self.script, self.from)),
-            Call::Goto => goto(&mut self.walker, self.to),
-            Call::On => on(&mut self.walker),
-            Call::Back => back(&mut self.walker),
-            Call::Rcont => stopped(rcont(&mut self.walker, &self.watches)),
-            _ => stopped(cont(&mut self.walker, &self.watches)),
-        }
-    }
-
-    fn compare(&mut self, other: &mut Walking) -> Compared {
-        let mut compared = Compared::default();
-        let (one, other) = (&self.walker, &other.walker);
-        compare_states(&mut compared, one.setup(), one.state(), other.state());
-        compared.count(one.at() == other.at());
-        compared.count(one.walked() == other.walked());
-        compared.count(one.len() == other.len());
-        compared.count(one.events() == other.events());
-        compared
-    }
-}
-
-fn walking_over(given: &Given<'_>, script: Script) -> Result<Walking, Fault> {
-    let walker = walker_at(given.alloc, &script, given.plan)?;
-    let watches = counter_watched(given.alloc)?;
-    Ok(Walking {
-        call: given.plan.call,
-        from: given.plan.from,
-        to: given.plan.to,
-        script,
+    let mut watches = Watches::new(given.alloc);
+    watches.watch(Place::EventCount(0))?;
+    let mut walking = Walking {
+        given,
         walker,
-        watches,
-    })
+        watches: &watches,
+    };
+    try_call(rt, &mut walking, given.plan.number)
 }
 
 // A walker of the first events where more are added, or of all of them.
-fn walker_at(alloc: Global, script: &Script, plan: Plan<'_>) -> Result<Walker, Fault> {
-    let mut walker = Walker::with(alloc, script.setup(), EVERY, WINDOW)?;
-    lead(&mut walker, script, plan)?;
-    Ok(walker)
+fn walker_at(given: &Given<'_>) -> Option<Walker> {
+    let mut walker = Walker::with(given.alloc, given.script.setup(), EVERY, WINDOW).ok()?;
+    lead(&mut walker, given)?;
+    Some(walker)
 }
 
-fn lead(walker: &mut Walker, script: &Script, plan: Plan<'_>) -> Result<(), Fault> {
-    let events = script.schedule();
-    if plan.call == Call::Extend {
-        let first = events.get(..plan.from).ok_or(Fault::Missing("event"))?;
-        walker.extend(first)?;
-        walker.goto(plan.to)?;
+fn lead(walker: &mut Walker, given: &Given<'_>) -> Option<()> {
+    let (from, to) = (given.plan.from, given.plan.to);
+    if given.plan.call == Call::Extend {
+        walker.extend(given.first(from)).ok()?;
+        walker.goto(to).ok()
     } else {
-        walker.extend(events)?;
-        walker.goto(plan.from)?;
+        walker.extend(given.script.schedule()).ok()?;
+        walker.goto(from).ok()
     }
-    Ok(())
 }
 
-fn counter_watched(alloc: Global) -> Result<Watches, AllocError> {
-    let mut watches = Watches::new(alloc);
-    watches.watch(Place::EventCount(0))?;
-    Ok(watches)
-}
+impl Situation for Walking<'_> {
+    fn call(&mut self) -> Answer {
+        match self.given.plan.call {
+            Call::Extend => extend(self.walker, self.given.rest()),
+            Call::Goto => match self.walker.goto(self.given.plan.to) {
+                Ok(()) => Ok(0),
+                Err(refusal) => Err((refusal as u32, 0)),
+            },
+            Call::On => self.walker.on().map(u64::from).map_err(|_| (1, 0)),
+            Call::Back => Ok(u64::from(self.walker.back())),
+            Call::Rcont => stopped(rcont(self.walker, self.watches)),
+            _ => stopped(cont(self.walker, self.watches)),
+        }
+    }
 
-fn events_behind(script: &Script, moment: usize) -> &[Event] {
-    script.schedule().get(moment..).unwrap_or(&[])
+    fn sums(&mut self) -> Result<(Sum, Sum), AllocError> {
+        let mut rest = Sum::new();
+        rest.add_numbers(&[self.walker.at() as u64, self.walker.walked()]);
+        rest.add_events(self.given.alloc, self.walker.events())?;
+        Ok((Sum::of(self.walker.setup(), self.walker.state()), rest))
+    }
 }
 
 // A refusal of an event for want of memory has the number of such refusals, and the event's index.
 fn extend(walker: &mut Walker, events: &[Event]) -> Answer {
     match walker.extend(events) {
-        Ok(()) => Answer::done(0),
-        Err(ExtendRefusal::Refused(index, Refusal::Memory)) => Answer::refused(2, u64::from(index)),
-        Err(refusal) => Answer::refused(refusal.number().saturating_add(100), 0),
+        Ok(()) => Ok(0),
+        Err(ExtendRefusal::Refused(index, Refusal::Memory)) => Err((2, u64::from(index))),
+        Err(refusal) => Err((refusal.number().saturating_add(100), 0)),
     }
-}
-
-fn goto(walker: &mut Walker, moment: usize) -> Answer {
-    match walker.goto(moment) {
-        Ok(()) => Answer::done(0),
-        Err(refusal) => Answer::refused(refusal as u32, 0),
-    }
-}
-
-fn on(walker: &mut Walker) -> Answer {
-    match walker.on() {
-        Ok(went) => Answer::done(u64::from(went)),
-        Err(_) => Answer::refused(1, 0),
-    }
-}
-
-fn back(walker: &mut Walker) -> Answer {
-    Answer::done(u64::from(walker.back()))
 }
 
 // A stop where something changed is told by its moment, one of a break by a million more.
 fn stopped(stop: Result<Stop, AllocError>) -> Answer {
     match stop {
-        Ok(Stop::Change(moment)) => Answer::done(moment as u64),
-        Ok(Stop::Met(moment)) => Answer::done((moment as u64).saturating_add(1000000)),
-        Ok(Stop::Start) => Answer::done(2000000),
-        Ok(Stop::End) => Answer::done(3000000),
-        Err(_) => Answer::refused(1, 0),
+        Ok(Stop::Change(moment)) => Ok(moment as u64),
+        Ok(Stop::Met(moment)) => Ok((moment as u64).saturating_add(1000000)),
+        Ok(Stop::Start) => Ok(2000000),
+        Ok(Stop::End) => Ok(3000000),
+        Err(_) => Err((1, 0)),
     }
+}
+
+// Undoes all events, the last first, while growths are refused.
+fn unwind(rt: &(impl Print + Eprint), given: &Given<'_>, walker: &Walker) -> io::Result<()> {
+    if walker.at() < walker.len() {
+        return Err(missing());
+    }
+    let mut state = walker.state().copy(given.alloc)?;
+    let armed = arm(rt, given.plan.number);
+    state.unwind(walker.records());
+    armed.and(disarm(rt))?;
+    let sums = (Sum::of(walker.setup(), &state), Sum::new());
+    tell(rt, Ok(walker.len() as u64), sums)
 }
