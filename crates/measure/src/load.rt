@@ -4,21 +4,9 @@ use crate::draft::{BATCH, Draft};
 use crate::plan::{Plan, Word};
 use entries::Sqe;
 use machine::{Event, Instruction};
-use opcodes::Choice;
+use opcodes::{Choice, Op};
 use places::{Contents, Descriptor, End, Items, Object};
 use std::alloc::{AllocError, Global};
-
-const NOP: u8 = 0;
-
-const POLL_ADD: u8 = 6;
-
-const TIMEOUT: u8 = 11;
-
-const ASYNC_CANCEL: u8 = 14;
-
-const READ: u8 = 22;
-
-const WRITE: u8 = 23;
 
 /// IOSQE_IO_DRAIN.
 const DRAIN: u8 = 2;
@@ -45,8 +33,8 @@ type Filled = Result<(), AllocError>;
 
 /// Adds what a plan asks for.
 pub fn fill(draft: &mut Draft, Plan { word, size }: Plan) -> Result<(), AllocError> {
-    let nop = entry(NOP, 0, 0);
-    let cancel_all = asking(entry(ASYNC_CANCEL, 0, 0));
+    let nop = entry(Op::Nop, 0, 0);
+    let cancel_all = asking(entry(Op::AsyncCancel, 0, 0));
     match word {
         Word::Full => full(draft, size),
         Word::Nops => requests(draft, size, &[nop], [0; 4]),
@@ -56,10 +44,10 @@ pub fn fill(draft: &mut Draft, Plan { word, size }: Plan) -> Result<(), AllocErr
         Word::Links => turns(draft, flagged(nop, LINK), size),
         Word::Drains => turns(draft, flagged(nop, DRAIN), size),
         Word::Cancels => cancels(draft, size),
-        Word::Counts => beside(draft, &[nop, entry(TIMEOUT, 1, FAR)], ENDED, size, &[]),
+        Word::Counts => beside(draft, &[nop, entry(Op::Timeout, 1, FAR)], ENDED, size, &[]),
         Word::Meets => meets(draft, size),
-        Word::Cascade => beside(draft, &[cancel_all, entry(TIMEOUT, 1, 0)], 1, size, &[]),
-        Word::Met => beside(draft, &[nop, entry(TIMEOUT, 1, 1)], 1, size, &[]),
+        Word::Cascade => beside(draft, &[cancel_all, entry(Op::Timeout, 1, 0)], 1, size, &[]),
+        Word::Met => beside(draft, &[nop, entry(Op::Timeout, 1, 1)], 1, size, &[]),
         Word::Severed => severed(draft, size),
     }
 }
@@ -74,7 +62,7 @@ fn full(draft: &mut Draft, events: u32) -> Filled {
         files.push(object(draft.alloc, &name, Contents::File(Items::of(bytes)))?)?;
     }
     draft.setup.objects = Items::of(files);
-    draft.put(&[entry(NOP, 0, 0)])?;
+    draft.put(&[entry(Op::Nop, 0, 0)])?;
     for _row in 0..FULL {
         draft.submit(&[0])?;
     }
@@ -85,9 +73,9 @@ fn full(draft: &mut Draft, events: u32) -> Filled {
 // read over its third page. The pages differ in each byte.
 fn transfers(draft: &mut Draft, events: u32) -> Filled {
     let entries = [
-        entry(READ, 4096, 0),
-        entry(READ, 4096, 4096),
-        entry(WRITE, 4096, 8192),
+        entry(Op::Read, 4096, 0),
+        entry(Op::Read, 4096, 4096),
+        entry(Op::Write, 4096, 8192),
     ];
     let mut pages = vec![in draft.alloc; 1u8; 4096]?;
     pages.extend_from_slice(&[2; 4096])?;
@@ -119,23 +107,26 @@ fn turns(draft: &mut Draft, entry: Sqe, rows: u32) -> Filled {
 
 fn polls(draft: &mut Draft, rows: u32) -> Filled {
     open(draft, Contents::EventFd(1), 64)?;
-    turns(draft, asking(entry(POLL_ADD, 0, 0)), rows)
+    turns(draft, asking(entry(Op::PollAdd, 0, 0)), rows)
 }
 
 fn cancels(draft: &mut Draft, rows: u32) -> Filled {
-    let (mut cancel, mut wanted) = (entry(ASYNC_CANCEL, 0, 0), entry(NOP, 0, 0));
+    let (mut cancel, mut wanted) = (entry(Op::AsyncCancel, 0, 0), entry(Op::Nop, 0, 0));
     cancel.addr = WANTED;
     wanted.user_data = WANTED;
-    let entries = [cancel, entry(TIMEOUT, 1, 0), wanted];
+    let entries = [cancel, entry(Op::Timeout, 1, 0), wanted];
     beside(draft, &entries, ENDED, rows.saturating_sub(1), &[2])
 }
 
 // The last of the TIMEOUTs, as many as there are NOPs, wait for one completion, for two, and so on.
 fn meets(draft: &mut Draft, rows: u32) -> Filled {
-    let mut entries = Vec::from_slice(draft.alloc, &[entry(NOP, 0, 0), entry(TIMEOUT, 1, FAR)])?;
+    let mut entries = Vec::from_slice(
+        draft.alloc,
+        &[entry(Op::Nop, 0, 0), entry(Op::Timeout, 1, FAR)],
+    )?;
     let mut met = Vec::new(draft.alloc);
     for turn in 0..ENDED {
-        entries.push(entry(TIMEOUT, 1, u64::from(turn) + 1))?;
+        entries.push(entry(Op::Timeout, 1, u64::from(turn) + 1))?;
         met.push(turn + 2)?;
     }
     beside(draft, &entries, ENDED, rows.saturating_sub(ENDED), &met)
@@ -152,17 +143,14 @@ fn beside(draft: &mut Draft, entries: &[Sqe], firsts: u32, others: u32, last: &[
 
 // A cancel, and chains as long as a batch: it ends the first row of each, and so severs the others.
 fn severed(draft: &mut Draft, rows: u32) -> Filled {
-    let first = flagged(entry(TIMEOUT, 1, 0), LINK);
-    let later = flagged(entry(NOP, 0, 0), LINK);
+    let first = flagged(entry(Op::Timeout, 1, 0), LINK);
+    let later = flagged(entry(Op::Nop, 0, 0), LINK);
     let mut slots = vec![in draft.alloc; 0u32; 1]?;
     for row in 1..=rows {
         slots.push(if row == 1 || row % BATCH == 0 { 1 } else { 2 })?;
     }
-    submit(
-        draft,
-        &[asking(entry(ASYNC_CANCEL, 0, 0)), first, later],
-        &slots,
-    )?;
+    let cancel_all = asking(entry(Op::AsyncCancel, 0, 0));
+    submit(draft, &[cancel_all, first, later], &slots)?;
     finish(draft, &slots, 2)
 }
 
@@ -207,9 +195,9 @@ fn object(alloc: Global, name: &[u8], contents: Contents) -> Result<Object, Allo
 }
 
 // An entry at descriptor 3 and address 0.
-fn entry(opcode: u8, len: u32, off: u64) -> Sqe {
+fn entry(op: Op, len: u32, off: u64) -> Sqe {
     let mut entry = Sqe::read(&[0; 64]);
-    entry.opcode = opcode;
+    entry.opcode = op as u8;
     entry.fd = 3;
     entry.len = len;
     entry.off = off;

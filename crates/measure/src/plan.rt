@@ -1,11 +1,9 @@
 //! Which run is measured, and its size.
 
-use crate::live::OfferPlan;
-
 /// The words that a run is asked for by. Behind N stands the most that it can be, where that is
 /// told.
 pub const WORDS: &str =
-    "measure full N (1048576 at most) | nops N | transfers N | issues N | polls N | links N | drains N | cancels N | counts N | meets N | cascade N | met N | severed N (65334) | live | offers ENDED WAITING TIMES";
+    "measure full N (1048576 at most) | nops N | transfers N | issues N | polls N | links N | drains N | cancels N | counts N | meets N | cascade N | met N | severed N (65334)";
 
 /// The most events of a trace.
 const MOST_EVENTS: u32 = 1048576;
@@ -87,46 +85,16 @@ fn word_of(name: &str) -> Option<Word> {
     })
 }
 
-/// What the program does.
-#[derive(Clone, Copy)]
-pub enum Job {
-    /// A run is walked.
-    Walk(Plan),
-    /// Two live runs are made, and looked at.
-    Live,
-    /// Offers are asked for.
-    Offers(OfferPlan),
-}
-
-fn number_of(word: &String) -> Option<u32> {
-    word.as_str().parse::<u32>().ok()
-}
-
-fn walk_of(name: &String, size: &String) -> Option<Job> {
+/// Reads the program's name and the words behind it.
+pub fn plan_of(words: &[String]) -> Option<Plan> {
+    let [_, name, size] = words else {
+        return None;
+    };
     let word = word_of(name.as_str())?;
-    let size = number_of(size)?;
+    let size = size.as_str().parse::<u32>().ok()?;
     let most = match word {
         Word::Full => MOST_EVENTS,
         _ => MOST_ROWS,
     };
-    (size <= most).then_some(Job::Walk(Plan { word, size }))
-}
-
-fn offers_of(name: &String, [ended, waiting, times]: [&String; 3]) -> Option<Job> {
-    let asked = OfferPlan {
-        ended: number_of(ended)?,
-        waiting: number_of(waiting)?,
-        times: number_of(times)?,
-    };
-    (name.as_str() == "offers").then_some(Job::Offers(asked))
-}
-
-/// Reads the program's name and the words behind it.
-pub fn job_of(words: &[String]) -> Option<Job> {
-    match words {
-        [_, name] => (name.as_str() == "live").then_some(Job::Live),
-        [_, name, size] => walk_of(name, size),
-        [_, name, ended, waiting, times] => offers_of(name, [ended, waiting, times]),
-        _ => None,
-    }
+    (size <= most).then_some(Plan { word, size })
 }
