@@ -2,8 +2,8 @@
 //! all that the call stands over, by which runs are held against each other (`refusals/run`).
 //!
 //! The words are the call, the path of a script, the number of the growth that is refused (with 0
-//! the call is made once, and no growth is counted), and two numbers that say how much of the
-//! script's schedule lies behind; for a session's call its line, and the lines said before.
+//! the call is made once, and none is refused), and two numbers that say how much of the script's
+//! schedule lies behind; for a session's call its line, and the lines said before.
 //! Standard input has the lines that a session is asked behind each call, or that are served.
 //! Growths are counted, and refused, by who hears the lines `armed` and `disarmed` on standard
 //! error; where nobody does, none is.

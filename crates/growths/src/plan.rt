@@ -36,7 +36,7 @@ pub struct Plan<'a> {
     pub call: Call,
     /// The path of the script.
     pub script: &'a str,
-    /// The growth that is refused, from 1 on.
+    /// The growth that is refused, from 1 on; 0 for none.
     pub number: u32,
     pub from: usize,
     pub to: usize,

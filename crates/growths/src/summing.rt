@@ -1,4 +1,4 @@
-//! Sums of what a call stands over. They take no memory.
+//! Sums of what a call stands over. That of events takes memory, for their texts; no other does.
 
 use entries::{Phase, Row};
 use machine::{Event, Setup, State};
@@ -20,7 +20,7 @@ const FEW: u32 = 128;
 const MANY: u32 = 65536;
 
 /// A sum of bytes by FNV-1a, and how many values they are. Each number is eight bytes, the lowest
-/// first, and bytes come behind their number.
+/// first. Bytes whose number is not that of their kind come behind how many they are.
 #[derive(Clone, Copy)]
 pub struct Sum {
     pub values: usize,

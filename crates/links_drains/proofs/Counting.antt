@@ -84,6 +84,6 @@ pub ended-unfinished : (f : Row → Row) (rows : List Row) (r : ℕ) (row : Row)
     ended_of (updated f rows r) ≡ ended_of rows
 ended-unfinished f rows r row h u v = let k = rw (u, v) at (matching-updated (λ x. is_ended x.phase) f rows r row h) in omega (arith, k)
 
--- no more than there are rows; where one is unfinished, fewer
+-- no more than there are rows
 pub ended-le-length : (rows : List Row) → ended_of rows ≤ length rows
 ended-le-length rows = matching-le-length (λ r. is_ended r.phase) rows
