@@ -1,7 +1,7 @@
 -- Copies of the states at multiples of a number.
-use Rattle.std.proofs.Common.{◌≡◌, ◌≢◌, ℕ, zero, suc, ◌+◌, ◌*◌, ◌/◌, ◌%◌, ◌<◌, ◌≤◌, List, [], ◌∷◌, ◌++◌, ◌⊎◌, inl, inr, length, get_or, refl, sym, ap, ◌∙◌, subst, arith, append_assoc, length-append}
+use Rattle.std.proofs.Common.{◌≡◌, ◌≢◌, ℕ, zero, suc, ◌+◌, ◌*◌, ◌/◌, ◌%◌, ◌<◌, ◌≤◌, List, [], ◌∷◌, ◌++◌, ◌⊎◌, inl, inr, length, get_or, sym, ap, ◌∙◌, subst, arith, append_assoc, length-append}
 use Rattle.std.specs.Prelude.{Some, slice_get}
-use Rattle.std.proofs.lemmas.List.{take-append-le, append-nil}
+use Rattle.std.proofs.lemmas.List.{take-append-le}
 use Rattle.std.proofs.lemmas.Bool.{cases_lt, cases_order}
 use Rattle.std.proofs.lemmas.Option.{slice_get-get_or, get_or_from_slice_get}
 use Rattle.std.proofs.Math.ListN.{get_or-append}
@@ -103,23 +103,6 @@ copy_there setup es c xs m h w = let a = h.all in div_below m c (length xs) (som
 pub copy_of : (setup : Setup) (es : List Event) (c : ℕ) (xs : List Machine) (k : ℕ) (s : Machine) → Covers setup es c xs → k < length xs → slice_get xs k ≡ Some s → s ≡ moment setup es (k * c)
 copy_of setup es c xs k s h b e = let f = h.each k b in cc
 
-at_none : (setup : Setup) (n : ℕ) → slice_get (start setup ∷ []) 0 ≡ Some (moment setup [] n)
-at_none setup zero = refl
-at_none setup (suc n) = refl
-
--- the start alone, of a run without events
-pub covers_start : (setup : Setup) (c : ℕ) → 0 < c → Covers setup [] c (start setup ∷ [])
-covers_start setup c some = record {
-  each = λ k b. first k b;
-  moments = omega arith;
-  all = omega arith;
-}
-  where
-    first : (k : ℕ) → k < length (start setup ∷ []) → slice_get (start setup ∷ []) k ≡ Some (moment setup [] (k * c))
-    first k b =
-        let none : 0 ≡ k = omega arith in
-        subst (λ n. slice_get (start setup ∷ []) n ≡ Some (moment setup [] (n * c))) none (at_none setup (0 * c))
-
 -- ---- copies that are made along the way
 
 -- none is due behind the last event
@@ -140,9 +123,6 @@ one_due v at c ys zs s some last due here new es e xs g h =
 -- with copies that were kept before, those made since cover the run
 pub record Copied (t : Track) (c : ℕ) (copies : List Machine) (v : Track) : Type 0 where
   pub covers : (xs : List Machine) → Covers t.setup t.events c xs → Covers v.setup v.events c (xs ++ copies)
-
-pub copied_none : (t : Track) (c : ℕ) → Copied t c [] t
-copied_none t c = record { covers = λ xs h. subst (Covers t.setup t.events c) (sym (append-nil xs)) h }
 
 pub copied_more : (t v v' : Track) (e : Event) (n c : ℕ) (ys zs : List Machine) → Copied t c ys v → v' ≡ grown v (e ∷ []) n → ((es : List Event) (d : Event) (xs : List Machine) → v'.events ≡ es ++ d ∷ [] → Covers v'.setup es c (xs ++ ys) → Covers v'.setup v'.events c (xs ++ zs)) → Copied t c zs v'
 copied_more t v v' e n c ys zs p g f = record {

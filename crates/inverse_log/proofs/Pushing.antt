@@ -1,7 +1,7 @@
 -- Events pushed one after the other behind a trace.
 use Rattle.std.proofs.Common.{◌≡◌, ℕ, zero, suc, ◌+◌, ◌<◌, ◌≤◌, List, [], ◌∷◌, ◌++◌, ◌⊎◌, inl, inr, length, take, get_or, refl, sym, ap, ◌∙◌, subst, arith, append_assoc, length-append}
 use Rattle.std.specs.Prelude.{Some, None, slice_get}
-use Rattle.std.proofs.lemmas.List.{length-take, take_more, append-nil}
+use Rattle.std.proofs.lemmas.List.{length-take, take_more}
 use Rattle.std.proofs.lemmas.Option.{slice_get-get_or}
 use Rattle.machine.specs.declared.whole.Machine.{Machine}
 use Rattle.scenario.specs.declared.event.Event.{Event}
@@ -16,12 +16,6 @@ use Rattle.inverse_log.proofs.Runs.{run-append, run_all, accepts-push}
 pub record Pushed (w : Track) (es : List Event) (i : ℕ) (v : Track) : Type 0 where
   pub walk : v ≡ grown w (take i es) (w.at + i)
   pub accepts : Accepts (ends w) (take i es)
-
-pub pushed_none : (w : Track) (es : List Event) → Pushed w es 0 w
-pushed_none w es = record {
-  walk = ap (λ fs. record { setup = w.setup; events = fs; at = w.at; walked = w.walked }) (sym (append-nil w.events)) ∙ ap (λ n. record { setup = w.setup; events = w.events ++ []; at = n; walked = w.walked }) (let e : w.at ≡ w.at + 0 = omega arith in e);
-  accepts = tt;
-}
 
 pub pushed_last : (w v : Track) (es : List Event) (i : ℕ) → w.at ≡ length w.events → i ≤ length es → Pushed w es i v → v.at ≡ length v.events
 pushed_last w v es i last h p =

@@ -1,6 +1,6 @@
 -- Runs, their prefixes, and records that lead back.
 use Rattle.std.proofs.Common.{◌≡◌, ℕ, zero, suc, ◌+◌, ◌<◌, List, [], ◌∷◌, ◌++◌, ◌⊎◌, inl, inr, length, take, get_or, refl, sym, ap, ◌∙◌, subst, arith, add-one}
-use Rattle.std.specs.Prelude.{Option, Some, None, unwrap_or}
+use Rattle.std.specs.Prelude.{Option, Some, None}
 use Rattle.places.specs.declared.value.Change.{Change}
 use Rattle.machine.specs.declared.whole.Machine.{Machine}
 use Rattle.scenario.specs.declared.setup.Setup.{Setup}
@@ -29,13 +29,6 @@ run_all s [] zero h = refl
 run_all s [] (suc n) h = refl
 run_all s (x ∷ es) zero h = absurd (omega arith)
 run_all s (x ∷ es) (suc n) h = run_all (after s x) es n (omega arith)
-
--- ---- accepted events
-
--- the events behind those that are accepted
-pub accepts-behind : (s : Machine) (es fs : List Event) → Accepts s (es ++ fs) → Accepts (run s es) fs
-accepts-behind s [] fs a = a
-accepts-behind s (e ∷ es) fs a = accepts-behind (after s e) es fs a.1
 
 -- ---- links
 
@@ -108,11 +101,6 @@ recorded_take s (e ∷ es) (r ∷ rs) (suc n) h = (h.0, recorded_take (after s e
 pub why_refused : (o : Option Refusal) (n : Refusal) → ((k : Refusal) → o ≡ Some k → n ≡ k) → (o ≡ None → n ≡ Memory) → (o ≡ Some n) ⊎ ((n ≡ Memory) × (o ≡ None))
 why_refused None n f g = inr (g refl, refl)
 why_refused (Some k) n f g = inl (ap Some (sym (f k refl)))
-
--- what is told where there is no room
-pub told_refusal : (o : Option Refusal) → (o ≡ Some (unwrap_or o Memory)) ⊎ ((unwrap_or o Memory ≡ Memory) × (o ≡ None))
-told_refusal None = inr (refl, refl)
-told_refusal (Some n) = inl refl
 
 -- an event that stops a run from its start is refused there, or wants memory
 pub is_refused : (setup : Setup) (es : List Event) (i : ℕ) (n : Refusal) → RefusedAt (start setup) es i n → (IsRefused setup es i n) ⊎ (n ≡ Memory)
