@@ -86,13 +86,8 @@ fn has_entries(state: &State) -> bool
 fn has_completions(state: &State) -> bool
     ensures { result ≡ has_completions state.now }
 {
-    let Some(Value::Number(head)) = state.value(Place::CompletionHead) else {
-        unreachable!()
-    };
-    let Some(Value::Number(tail)) = state.value(Place::CompletionTail) else {
-        unreachable!()
-    };
-    !(head == tail)
+    let ring = state.completions();
+    !(ring.head() == ring.tail())
 }
 
 fn counter_of(state: &State, event: Event) -> Option<u64>

@@ -13,7 +13,8 @@ use std::alloc::{AllocError, Global};
 fn keep(kept: &mut Vec<Finding>, least: u128, finding: Finding) -> Result<u128, AllocError>
     requires { least ≤ 2 ^ 80 }
     ensures kept { IfOk result (λ next. (rest : List Finding) →
-        kept.new.items ++ distinct_from next rest ≡ kept.old.items ++ distinct_from least (finding ∷ rest)) }
+        kept.new.items ++ distinct_from next rest
+        ≡ kept.old.items ++ distinct_from least (finding ∷ rest)) }
     ensures room { IfOk result (λ next. next ≤ 2 ^ 80) }
     ensures small { IsSmall finding }
 {

@@ -160,17 +160,12 @@ fn is_told_at(
         ↔ (slice_get receipts.now place
         ≡ option_map (receipt actor moment) (slice_get events.now moment)) }
 {
-    match events.get(moment) {
-        Some(event) => {
-            let wanted = Receipt {
-                actor,
-                moment: moment as u32,
-                event: *event,
-            };
-            is_at(receipts, place, wanted)
-        }
-        None => unreachable!(),
-    }
+    let wanted = Receipt {
+        actor,
+        moment: moment as u32,
+        event: events[moment],
+    };
+    is_at(receipts, place, wanted)
 }
 
 // Whether a receipt stands at a place.

@@ -1,5 +1,5 @@
 //! The value of the lock.
-ghost use Rattle.std.specs.Prelude.{◌≡◌, ◌≢◌, ◌↔◌, [], ◌⊎◌, ℕ, length, true, Some, None, IfOk, IfErr, OnOk, OnErr, ◌<◌, ◌≤◌, vec_len, vec_capacity, All};
+ghost use Rattle.std.specs.Prelude.{◌≡◌, ◌↔◌, [], ◌⊎◌, length, true, Some, None, IfOk, IfErr, OnOk, OnErr, ◌<◌, ◌≤◌, vec_len, vec_capacity, All};
 ghost use Rattle.scenario.specs.Setups.{setup_refusal};
 ghost use Rattle.scenario.specs.declared.event.Event.{Event};
 ghost use Rattle.scenario.specs.declared.event.Refusal.{Refusal};

@@ -10,7 +10,6 @@ ghost use Rattle.live_runner.specs.declared.offering.Deed.TheVariants.{Issuing, 
 use crate::kinds::{is_poller, is_submitter};
 use machine::State;
 use opcodes::Choice;
-use places::{Place, Value};
 use scenario::{Event, Refusal, Setup};
 
 /// What a kernel worker does to a row.
@@ -123,7 +122,7 @@ fn ends(state: &State, first: u32) -> Option<Event>
     requires ended { EndedBelow state.now.table first }
     ensures { result ≡ ends state.now }
 {
-    let clock = clock(state);
+    let clock = state.clock();
     let mut due = None;
     let mut least = None;
     let mut from = first;
@@ -137,16 +136,6 @@ fn ends(state: &State, first: u32) -> Option<Event>
         from = r + 1;
     }
     expires_or_ticks(clock, due, least)
-}
-
-fn clock(state: &State) -> u64
-    ensures value { result ≡ state.now.clock }
-    ensures formed { WellFormed state.now }
-{
-    match state.value(Place::Clock) {
-        Some(Value::Number(clock)) => clock,
-        _ => unreachable!(),
-    }
 }
 
 // Whether a row may end in full. One that has a deadline is a TIMEOUT or a LINK_TIMEOUT, which may

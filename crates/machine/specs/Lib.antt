@@ -7,3 +7,4 @@ pub mod InTurn
 pub mod Refusals
 pub mod Runs
 pub mod Deadlines
+pub mod Owners

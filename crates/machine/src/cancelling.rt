@@ -1,5 +1,5 @@
 //! Cancels and removals end, and the rows that end by them (io_uring_enter(2)).
-ghost use Rattle.std.specs.Prelude.{◌≡◌, ◌≤◌, ℤ, List, nat_lt, IfOk, OnOk, Some, false, length, slice_get};
+ghost use Rattle.std.specs.Prelude.{◌≡◌, ◌≤◌, nat_lt, IfOk, OnOk, Some, false, length, slice_get};
 ghost use Rattle.entries.specs.declared.row.Row.{Row};
 ghost use Rattle.links_drains.specs.Phases.{is_ended};
 ghost use Rattle.places.specs.View.{Keeps};

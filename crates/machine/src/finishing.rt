@@ -1,5 +1,5 @@
 //! Requests are issued, and end as a kernel chooses (io_uring_enter(2)).
-ghost use Rattle.std.specs.Prelude.{◌≡◌, ◌+◌, ◌<◌, IfNone, IfSome, OnOk, None, Some, false, true, length, slice_get};
+ghost use Rattle.std.specs.Prelude.{◌≡◌, ◌+◌, ◌<◌, IfNone, IfSome, OnOk, None, Some, false, true, slice_get};
 ghost use Rattle.std.specs.Option.{option_map_or};
 ghost use Rattle.places.specs.Lists.{updated};
 ghost use Rattle.links_drains.specs.Holding.{is_held_by};

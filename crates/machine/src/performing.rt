@@ -1,5 +1,5 @@
 //! What accepted events do.
-ghost use Rattle.std.specs.Prelude.{◌≡◌, ◌≤◌, OnOk, None, length};
+ghost use Rattle.std.specs.Prelude.{◌≡◌, OnOk, None};
 ghost use Rattle.places.specs.View.{Keeps, named};
 ghost use Rattle.places.specs.declared.place.Place.{Place};
 ghost use Rattle.machine.specs.Steps.{after, refusal, submission_refusal, submitted};

@@ -4,7 +4,7 @@ mod rows;
 
 use crate::whole::Machine;
 use places::{At, Place, Record, Recorder, Value};
-use ring_words::SubRing;
+use ring_words::{ComRing, SubRing};
 use scenario::{Event, Refusal, Setup, SetupRefusal, setup_refusal};
 use std::alloc::{AllocError, Global};
 use std::marker::Model;
@@ -90,11 +90,26 @@ impl State {
         self.machine.at(place)
     }
 
+    /// The clock.
+    pub fn clock(&self) -> u64
+        ensures value { result ≡ self.now.clock }
+        ensures formed { WellFormed self.now }
+    {
+        self.machine.clock
+    }
+
     /// The submission ring.
     pub fn submissions(&self) -> &SubRing
         ensures { result.now ≡ self.now.submissions }
     {
         &self.machine.submissions
+    }
+
+    /// The completion ring.
+    pub fn completions(&self) -> &ComRing
+        ensures { result.now ≡ self.now.completions }
+    {
+        &self.machine.completions
     }
 
     /// Why an event is refused, if it is. It takes no memory.

@@ -1,5 +1,5 @@
 //! What the instructions of threads do but for Enter (io_uring(7)).
-ghost use Rattle.std.specs.Prelude.{◌≡◌, ◌≤◌, OnOk, None, Some, length, slice_get};
+ghost use Rattle.std.specs.Prelude.{◌≡◌, OnOk, None, Some, slice_get};
 ghost use Rattle.places.specs.View.{Keeps};
 ghost use Rattle.machine.specs.Steps.{executed, instruction_refusal, next_of};
 ghost use Rattle.machine.specs.Whole.{view, everywhere, Grows, WellFormed};

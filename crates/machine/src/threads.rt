@@ -1,5 +1,5 @@
 //! Threads: programs, and how far they have come.
-ghost use Rattle.std.specs.Prelude.{◌≡◌, ◌<◌, ◌≤◌, ◌+◌, ◌^◌, IfOk, OnOk, OnErr, Some, None, length, slice_get, map, pos};
+ghost use Rattle.std.specs.Prelude.{◌≡◌, ◌<◌, ◌+◌, ◌^◌, IfOk, OnOk, Some, None, length, slice_get, map};
 ghost use Rattle.std.specs.Option.{option_copied};
 ghost use Rattle.places.specs.Lists.{updated};
 ghost use Rattle.places.specs.View.{Keeps, put_at};
@@ -176,7 +176,6 @@ impl Threads {
     ghost use Rattle.machine.specs.Threads.{ThreadState, program_of, threads_owns, threads_seen, threads_can_put};
     ghost use Rattle.places.specs.declared.place.Place.TheVariants.{ProgramCounter};
     ghost use Rattle.places.specs.declared.value.Value.TheVariants.{Number};
-    ghost use Rattle.std.specs.Prelude.{FitsSigned};
 
     /// Sets the index of a thread's next instruction.
     pub(crate) fn put_counter(&mut self, t: u32, counter: u64)
@@ -321,7 +320,8 @@ impl Threads {
         requires goes_on { (x : ThreadState) → slice_get self.old t ≡ Some x
             → x.counter + 1 < 2 ^ 32 }
         ensures ok { OnOk result (self.new
-            ≡ updated (λ x. record x { counter = x.counter + 1; got = Some completion }) self.old t) }
+            ≡ updated (λ x. record x { counter = x.counter + 1; got = Some completion })
+            self.old t) }
         ensures programs { map program_of self.new ≡ map program_of self.old }
         ensures keeps { Keeps threads_owns (threads_seen self.old)
             (threads_seen self.new) notes.old.made notes.new.made }

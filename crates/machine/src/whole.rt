@@ -1,11 +1,9 @@
 //! The parts of the machine together.
-ghost use Rattle.std.specs.Prelude.{◌≡◌, OnSome, Some, length, map, false};
+ghost use Rattle.std.specs.Prelude.{◌≡◌, OnSome, Some, length, map};
 ghost use Rattle.places.specs.declared.value.Value.TheVariants.{Number};
-ghost use Rattle.ring_words.specs.Rings.{sub_owns, com_owns};
-ghost use Rattle.links_drains.specs.Rows.{fixed_of, table_owns};
-ghost use Rattle.model_files.specs.Worlds.{world_owns};
-ghost use Rattle.overflow.specs.Backlogs.{backlog_owns};
-ghost use Rattle.machine.specs.Threads.{threads_owns};
+ghost use Rattle.links_drains.specs.Rows.{fixed_of};
+ghost use Rattle.machine.specs.Owners.{Owns};
+ghost use Rattle.machine.specs.declared.whole.Owner.TheVariants.{Rest};
 ghost use Rattle.places.specs.View.{put_at};
 ghost use Rattle.places.specs.declared.place.Place.{Place};
 
@@ -120,31 +118,15 @@ impl Part for Machine {
         ensures backlog { OnSome value (length self.new.backlog.items
             ≡ length self.old.backlog.items) }
     {
-        if is_of_submissions(place) {
-            self.submissions.put(place, value);
-            return;
+        match owner_of(place) {
+            Owner::Submissions => self.submissions.put(place, value),
+            Owner::Completions => self.completions.put(place, value),
+            Owner::World => self.world.put(place, value),
+            Owner::Table => self.table.put(place, value),
+            Owner::Backlog => self.backlog.put(place, value),
+            Owner::Threads => self.threads.put(place, value),
+            Owner::Rest => self.put_other(place, value),
         }
-        if is_of_completions(place) {
-            self.completions.put(place, value);
-            return;
-        }
-        if is_of_world(place) {
-            self.world.put(place, value);
-            return;
-        }
-        if is_of_table(place) {
-            self.table.put(place, value);
-            return;
-        }
-        if is_of_backlog(place) {
-            self.backlog.put(place, value);
-            return;
-        }
-        if is_of_threads(place) {
-            self.threads.put(place, value);
-            return;
-        }
-        self.put_other(place, value);
     }
 }
 
@@ -171,12 +153,7 @@ impl Machine {
     // Sets a number that no part owns, or what the poller does.
     fn put_other(&mut self, place: Place, value: Option<Value>)
         requires can { can_put self.old place value }
-        requires submissions { sub_owns place ≡ false }
-        requires completions { com_owns place ≡ false }
-        requires world { world_owns place ≡ false }
-        requires table { table_owns place ≡ false }
-        requires backlog { backlog_owns place ≡ false }
-        requires threads { threads_owns place ≡ false }
+        requires rest { Owns Rest place }
         ensures put { (q : Place) → view self.new q ≡ put_at (view self.old) place value q }
         ensures setup { OneSetup self.old self.new }
         ensures rows { map fixed_of self.new.table ≡ map fixed_of self.old.table }
@@ -195,65 +172,45 @@ impl Machine {
     }
 }
 
-fn is_of_submissions(place: Place) -> bool
-    ensures { result ≡ sub_owns place }
+// The part of a machine that a place is in, or the rest: what no part of its own has.
+#[derive(Clone, Copy)]
+enum Owner {
+    Submissions,
+    Completions,
+    World,
+    Table,
+    Backlog,
+    Threads,
+    Rest,
+}
+
+fn owner_of(place: Place) -> Owner
+    ensures { Owns result place }
 {
-    matches!(
-        place,
+    match place {
         Place::SubmissionHead
-            | Place::SubmissionTail
-            | Place::SubmissionFlags
-            | Place::SubmissionDropped
-            | Place::Array(_)
-            | Place::Slot(_)
-    )
-}
-
-fn is_of_completions(place: Place) -> bool
-    ensures { result ≡ com_owns place }
-{
-    matches!(
-        place,
-        Place::CompletionHead | Place::CompletionTail | Place::Completion(_)
-    )
-}
-
-fn is_of_world(place: Place) -> bool
-    ensures { result ≡ world_owns place }
-{
-    matches!(
-        place,
+        | Place::SubmissionTail
+        | Place::SubmissionFlags
+        | Place::SubmissionDropped
+        | Place::Array(_)
+        | Place::Slot(_) => Owner::Submissions,
+        Place::CompletionHead | Place::CompletionTail | Place::Completion(_) => Owner::Completions,
         Place::MemoryByte(_)
-            | Place::FileByte(_, _)
-            | Place::DurableByte(_, _)
-            | Place::FileLength(_)
-            | Place::DurableLength(_)
-            | Place::Position(_)
-            | Place::OpenMark(_)
-            | Place::PipeByte(_, _)
-            | Place::PutCount(_)
-            | Place::TakenCount(_)
-            | Place::EventCount(_)
-    )
-}
-
-fn is_of_table(place: Place) -> bool
-    ensures { result ≡ table_owns place }
-{
-    matches!(place, Place::Request(_))
-}
-
-fn is_of_backlog(place: Place) -> bool
-    ensures { result ≡ backlog_owns place }
-{
-    matches!(place, Place::Backlog(_) | Place::BacklogFront)
-}
-
-fn is_of_threads(place: Place) -> bool
-    ensures { result ≡ threads_owns place }
-{
-    matches!(
-        place,
-        Place::ProgramCounter(_) | Place::ThreadStage(_) | Place::Last(_) | Place::Got(_)
-    )
+        | Place::FileByte(_, _)
+        | Place::DurableByte(_, _)
+        | Place::FileLength(_)
+        | Place::DurableLength(_)
+        | Place::Position(_)
+        | Place::OpenMark(_)
+        | Place::PipeByte(_, _)
+        | Place::PutCount(_)
+        | Place::TakenCount(_)
+        | Place::EventCount(_) => Owner::World,
+        Place::Request(_) => Owner::Table,
+        Place::Backlog(_) | Place::BacklogFront => Owner::Backlog,
+        Place::ProgramCounter(_) | Place::ThreadStage(_) | Place::Last(_) | Place::Got(_) => {
+            Owner::Threads
+        }
+        Place::Clock | Place::Counted | Place::PollerStage => Owner::Rest,
+    }
 }

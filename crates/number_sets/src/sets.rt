@@ -53,6 +53,7 @@ impl NumberSet {
         Ok(())
     }
 
+    /// Whether a number is in the set. It takes constant time.
     pub fn contains(&self, k: usize) -> bool
         ensures { result ≡ has self.now k }
     {
@@ -87,10 +88,8 @@ impl NumberSet {
             return Some(first * 64 + bit);
         }
         let at = next_number(&self.summary, first + 1)?;
-        match next_bit(self.words[at], 0) {
-            Some(bit) => Some(at * 64 + bit),
-            None => unreachable!(),
-        }
+        let bit = next_bit(self.words[at], 0)?;
+        Some(at * 64 + bit)
     }
 
     /// Whether a number of the set is the least from one on.

@@ -1,5 +1,5 @@
 //! The numbers that one set has and another doesn't.
-ghost use Rattle.std.specs.Prelude.{◌≡◌, ℕ, ◌<◌, ◌≤◌, ◌^◌, IfSome, IfNone, length, slice_index, bit_and};
+ghost use Rattle.std.specs.Prelude.{◌≡◌, ◌<◌, ◌≤◌, ◌^◌, IfSome, IfNone, length, slice_index, bit_and};
 ghost use Rattle.std.specs.Int.{w64, bit_not};
 ghost use Rattle.number_sets.specs.Beside.{IsNextBeside, NoneBeside};
 

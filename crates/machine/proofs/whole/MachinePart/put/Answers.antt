@@ -1,18 +1,17 @@
-use Rattle.std.proofs.Common.{sym, ◌∙◌}
 use Rattle.machine.proofs.Lifting.{seen_submissions, seen_world, seen_table, seen_backlog, seen_threads}
 use Rattle.machine.proofs.whole.MachinePart.put.Goals as goal
 
-pub returns-then-is_of_table-clause-put : goal.returns-then-is_of_table-clause-put
-returns-then-is_of_table-clause-put c = seen_table c.args.self.now _ _ _ (sym c.is_of_table.ensures ∙ c.if-is_of_table.true) c.put-then-is_of_table.ensures.put
+pub returns-in-Submissions-clause-put : goal.returns-in-Submissions-clause-put
+returns-in-Submissions-clause-put c = seen_submissions c.args.self.now _ _ _ (rw c.in-Submissions.is at c.owner_of.ensures) c.put.ensures.put
 
-pub returns-then-is_of_backlog-clause-put : goal.returns-then-is_of_backlog-clause-put
-returns-then-is_of_backlog-clause-put c = seen_backlog c.args.self.now _ _ _ (sym c.is_of_backlog.ensures ∙ c.if-is_of_backlog.true) c.put-then-is_of_backlog.ensures.put
+pub returns-in-World-clause-put : goal.returns-in-World-clause-put
+returns-in-World-clause-put c = seen_world c.args.self.now _ _ _ (rw c.in-World.is at c.owner_of.ensures) c.put-in-World.ensures.put
 
-pub returns-then-is_of_submissions-clause-put : goal.returns-then-is_of_submissions-clause-put
-returns-then-is_of_submissions-clause-put c = seen_submissions c.args.self.now _ _ _ (sym c.is_of_submissions.ensures ∙ c.if-is_of_submissions.true) c.put.ensures.put
+pub returns-in-Table-clause-put : goal.returns-in-Table-clause-put
+returns-in-Table-clause-put c = seen_table c.args.self.now _ _ _ (rw c.in-Table.is at c.owner_of.ensures) c.put-in-Table.ensures.put
 
-pub returns-then-is_of_world-clause-put : goal.returns-then-is_of_world-clause-put
-returns-then-is_of_world-clause-put c = seen_world c.args.self.now _ _ _ (sym c.is_of_world.ensures ∙ c.if-is_of_world.true) c.put-then-is_of_world.ensures.put
+pub returns-in-Backlog-clause-put : goal.returns-in-Backlog-clause-put
+returns-in-Backlog-clause-put c = seen_backlog c.args.self.now _ _ _ (rw c.in-Backlog.is at c.owner_of.ensures) c.put-in-Backlog.ensures.put
 
-pub returns-then-is_of_threads-clause-put : goal.returns-then-is_of_threads-clause-put
-returns-then-is_of_threads-clause-put c = seen_threads c.args.self.now _ _ _ (sym c.is_of_threads.ensures ∙ c.if-is_of_threads.true) c.put-then-is_of_threads.ensures.put
+pub returns-in-Threads-clause-put : goal.returns-in-Threads-clause-put
+returns-in-Threads-clause-put c = seen_threads c.args.self.now _ _ _ (rw c.in-Threads.is at c.owner_of.ensures) c.put-in-Threads.ensures.put

@@ -1,0 +1,20 @@
+-- Which part of a machine has a place. No public contract cites it.
+use Rattle.std.specs.Prelude.{◌≡◌, true, false, ◌||◌}
+use Rattle.places.specs.declared.place.Place.{Place}
+use Rattle.ring_words.specs.Rings.{sub_owns, com_owns}
+use Rattle.model_files.specs.Worlds.{world_owns}
+use Rattle.links_drains.specs.Rows.{table_owns}
+use Rattle.overflow.specs.Backlogs.{backlog_owns}
+use Rattle.machine.specs.Threads.{threads_owns}
+use Rattle.machine.specs.declared.whole.Owner.{Owner}
+use Rattle.machine.specs.declared.whole.Owner.TheVariants.{Submissions, Completions, World, Table, Backlog, Threads, Rest}
+
+abbrev pub Owns : Owner → Place → Type 0
+Owns Submissions p = sub_owns p ≡ true
+Owns Completions p = com_owns p ≡ true
+Owns World p = world_owns p ≡ true
+Owns Table p = table_owns p ≡ true
+Owns Backlog p = backlog_owns p ≡ true
+Owns Threads p = threads_owns p ≡ true
+Owns Rest p =
+    (sub_owns p || com_owns p || world_owns p || table_owns p || backlog_owns p || threads_owns p) ≡ false
