@@ -1,5 +1,5 @@
 //! The trace of a run that goes on.
-ghost use Rattle.std.specs.Prelude.{◌≡◌, IfOk, OnErr, option_map};
+ghost use Rattle.std.specs.Prelude.{◌≡◌};
 
 use debug_server::Source;
 use live_runner::Live;

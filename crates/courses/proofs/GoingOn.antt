@@ -1,13 +1,11 @@
 -- A run that is noted, one event further.
 use Rattle.std.proofs.Common.{◌≡◌, ℕ, zero, suc, ◌+◌, ◌<◌, ◌≤◌, Bool, true, false, refl, sym, ap, ◌∙◌, subst, List, [], ◌∷◌, ◌++◌, length, take, get_or, arith, eq-eqb, le_refl}
-use Rattle.std.specs.Prelude.{Option, None, slice_get, Some, ◌==◌, ◌≢◌}
+use Rattle.std.specs.Prelude.{None, slice_get, Some, ◌==◌}
 use Rattle.std.proofs.lemmas.Option.{slice_get-get_or}
 use Rattle.std.proofs.lemmas.Bool.{eqb-true}
 use Rattle.places.specs.declared.value.Change.{Change}
 use Rattle.places.specs.View.{Exact}
 use Rattle.scenario.specs.declared.event.Event.{Event}
-use Rattle.scenario.specs.declared.event.Refusal.{Refusal}
-use Rattle.scenario.specs.declared.event.Refusal.TheVariants.{Memory}
 use Rattle.scenario.specs.declared.setup.Setup.{Setup}
 use Rattle.machine.specs.declared.whole.Machine.{Machine}
 use Rattle.machine.specs.Whole.{view, WellFormed, Grows}
@@ -88,14 +86,6 @@ pub grown : (m n : Machine) (e : Event) → WellFormed m → Next m e n → Grow
 grown m n e f next = subst (Grows m) (sym next.changed) (grows_after m e f next.accepted)
 
 -- ---- runs that stop
-
--- an event that isn't accepted is refused for the reason that is told, if that isn't memory
-pub told_refusal : (m : Machine) (e : Event) (n : Refusal) → ((k : Refusal) → refusal m e ≡ Some k → n ≡ k) → (refusal m e ≡ None → n ≡ Memory) → n ≢ Memory → refusal m e ≡ Some n
-told_refusal m e n refused memory other = by (refusal m e) refl
-  where
-    by : (x : Option Refusal) → refusal m e ≡ x → refusal m e ≡ Some n
-    by None p = absurd (other (memory p))
-    by (Some k) p = p ∙ ap Some (sym (refused k p))
 
 pub following_stops : (s : Setup) (es : List Event) (i : ℕ) (m : Machine) (e d : Event) (fs : List Filling) (xs : List Stamps) (k : ℕ) (x : Stop) → i < length es → Following s es i m fs xs k → e ≡ get_or es i d → Halts i m e x → Stops s es x
 following_stops s es i m e d fs xs k x h l g stop = λ other.

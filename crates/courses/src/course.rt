@@ -1,6 +1,5 @@
 //! What a run came to, moment by moment and row by row.
-ghost use Rattle.std.specs.Prelude.{◌≡◌, ◌≤◌, ◌++◌, ◌∷◌, ◌-◌, ◌<◌, ◌^◌, [], length, IfOk, OnOk};
-ghost use Rattle.machine.specs.Whole.{WellFormed};
+ghost use Rattle.std.specs.Prelude.{◌≡◌, ◌≤◌, ◌++◌, ◌∷◌, ◌-◌, ◌<◌, [], length, IfOk, OnOk};
 ghost use Rattle.courses.specs.Fillings.{filling_of as filling_at};
 ghost use Rattle.courses.specs.Stamping.{stamps_behind};
 

@@ -52,7 +52,10 @@ impl Session {
     /// Runs the schedule of a script, and stands at its end. A new session is open.
     pub fn new(alloc: Global, script: &Script) -> Result<Session, RunFault>
         ensures ok { IfOk result (λ s. s
-            ≡ record { state = state_over script.now.setup script.now.schedule; is_closed = false }) }
+            ≡ record {
+              state = state_over script.now.setup script.now.schedule;
+              is_closed = false;
+            }) }
         ensures accepts { OnOk result (Accepts (start script.now.setup) script.now.schedule) }
         ensures schedule { IfErr result (λ e. (i : ℕ) → (n : Refusal) → e ≡ RunFault.Schedule i n
             → IsRefused script.now.setup script.now.schedule i n) }

@@ -1,5 +1,5 @@
 //! The texts of replies.
-ghost use Rattle.std.specs.Prelude.{◌≡◌, codes, IfOk};
+ghost use Rattle.std.specs.Prelude.{◌≡◌, IfOk};
 ghost use Rattle.debug_server.specs.Replies.{fault_text, shown_text, at_text, watching_text, breaks_text, stop_text, synced_text, torn_text, event_text};
 
 use commands::CommandFault;

@@ -1,5 +1,5 @@
 //! A run that is walked by single steps.
-ghost use Rattle.std.specs.Prelude.{◌≡◌, ℕ, ◌-◌, ◌+◌, ◌^◌, ◌<◌, ◌≤◌, ◌⊎◌, ◌∷◌, ◌++◌, [], Some, None, List, length, take, min, OnOk, OnErr, IfErr, IfOk};
+ghost use Rattle.std.specs.Prelude.{◌≡◌, ℕ, ◌-◌, ◌+◌, ◌^◌, ◌<◌, ◌≤◌, ◌⊎◌, ◌∷◌, ◌++◌, [], Some, None, List, length, take, OnOk, OnErr, IfErr, IfOk};
 ghost use Rattle.machine.specs.declared.whole.Machine.{Machine};
 ghost use Rattle.scenario.specs.declared.event.Refusal.{Refusal};
 ghost use Rattle.scenario.specs.declared.setup.SetupRefusal.{SetupRefusal};
@@ -172,8 +172,8 @@ impl Trail {
         gone
     }
 
-    /// Adds events at the end, and stays there: each event is one step. Told are copies of the states
-    /// that the run comes by at multiples of a number.
+    /// Adds events at the end, and stays there: each event is one step. Told are copies of the
+    /// states that the run comes by at multiples of a number.
     pub fn run_on(&mut self, events: &[Event], every: u32) -> Result<Vec<State>, ExtendRefusal>
         requires last { self.old.at ≡ length self.old.events }
         requires some { 0 < every }

@@ -1,9 +1,8 @@
 -- Receipts of a trace.
-use Rattle.std.proofs.Common.{◌≡◌, ◌↔◌, ℕ, zero, suc, ◌+◌, ◌≤◌, ◌<◌, ◌==◌, Bool, true, false, cond, List, [], ◌∷◌, ◌++◌, length, get_or, take, drop, refl, sym, ap, ◌∙◌, arith, Some, slice_get, Contains, length-append}
+use Rattle.std.proofs.Common.{◌≡◌, ℕ, zero, suc, ◌+◌, ◌≤◌, ◌<◌, ◌==◌, Bool, true, false, cond, List, [], ◌∷◌, ◌++◌, length, get_or, take, drop, refl, sym, ap, ◌∙◌, arith, Some, slice_get, Contains, length-append}
 use Rattle.std.specs.Prelude.{option_map}
 use Rattle.std.proofs.lemmas.Option.{slice_get-get_or, slice_get_within, get_or_from_slice_get}
-use Rattle.std.proofs.lemmas.List.{drop_more, take_more, append_assoc, length-take-le, take_all, append-nil}
-use Rattle.std.proofs.Math.ListN.{drop_of_length-le}
+use Rattle.std.proofs.lemmas.List.{drop_more, take_more, append_assoc, length-take-le}
 use Rattle.std.proofs.Math.Seq.{get_or-append_seam}
 use Rattle.std.proofs.lemmas.Bool.Decides.{nat_tests}
 use Rattle.scenario.specs.declared.event.Event.{Event}
@@ -109,15 +108,3 @@ told_next a os es rs next i o e was h k same all =
     let room : next < length rs = omega (arith, front, count) in
     let here : get_or rs next x ≡ x = ap (λ l. get_or l next x) is ∙ ap (λ n. get_or (take next rs ++ x ∷ rest) n x) (sym front) ∙ get_or-append_seam (take next rs) x rest x in
     slice_get-get_or rs next x room ∙ ap (λ y. Some y) here ∙ sym (ap (λ o. option_map (receipt a i) o) (slice_get-get_or es i e k))
-
--- once all of the trace was looked at, the first receipts are all that it tells
-pub agrees_end : (a : ℕ) (os : List ℕ) (es : List Event) (rs : List Receipt) (next i : ℕ) → Agrees a os es rs next i → length os ≤ i → told a os es ≡ take next rs
-agrees_end a os es rs next i was h =
-    was.so_far ∙ ap (λ l. take next rs ++ told_from a i l (drop i es)) (drop_of_length-le os h) ∙ append-nil (take next rs)
-
-pub told_end : (a : ℕ) (os : List ℕ) (es : List Event) (rs : List Receipt) (next i : ℕ) → Agrees a os es rs next i → length os ≤ i → (rs ≡ told a os es) ↔ (next ≡ length rs)
-told_end a os es rs next i was h =
-    let all = agrees_end a os es rs next i was h in (
-      (λ same. sym (length-take-le next rs was.within) ∙ ap (λ l. length l) (sym all ∙ sym same)),
-      (λ whole. sym (all ∙ take_all next rs (omega (arith, whole)))),
-    )

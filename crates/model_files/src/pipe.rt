@@ -1,10 +1,9 @@
 //! Pipes.
-ghost use Rattle.std.specs.Prelude.{◌≡◌, ◌+◌, ◌-◌, ◌%◌, ◌<◌, ◌≤◌, ◌^◌, ◌++◌, min, IfOk, Some, length, take, drop};
-ghost use Rattle.model_files.specs.Files.{overwritten, part};
+ghost use Rattle.std.specs.Prelude.{◌≡◌, ◌+◌, ◌-◌, ◌%◌, ◌<◌, ◌≤◌, ◌^◌, ◌++◌, min, IfOk, Some, length, take};
 ghost use Rattle.places.specs.Masked.{BytesStand};
 ghost use Rattle.places.specs.Stretched.{kept_of, CanCount};
 ghost use Rattle.model_files.specs.Objects.{CanPut, PutsIn, PutsBack};
-ghost use Rattle.model_files.specs.Pipes.{pipe_seen, pipe_start, bytes_from, filled, room_in, put_in, taken_out, GivesOut};
+ghost use Rattle.model_files.specs.Pipes.{pipe_seen, pipe_start, bytes_from, filled, put_in, taken_out, GivesOut};
 
 use crate::bytes::{overwrite, put_over};
 use places::{At, Place, Region, Stretch, Value};

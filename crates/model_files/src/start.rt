@@ -1,5 +1,5 @@
 //! What a setup's objects and descriptors start as, and copies of them.
-ghost use Rattle.std.specs.Prelude.{◌≡◌, ◌≤◌, ℕ, IfOk, Some, map, slice_get};
+ghost use Rattle.std.specs.Prelude.{◌≡◌, ℕ, IfOk, Some, map, slice_get};
 ghost use Rattle.places.specs.declared.object.Object.{Object};
 ghost use Rattle.std.specs.Option.{option_and_then};
 ghost use Rattle.model_files.specs.Worlds.{body_start, descriptor_start, position_start, ContentsFit};

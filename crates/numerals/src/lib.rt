@@ -1,10 +1,10 @@
 //! Whole numbers in bytes, the smaller in fewer.
 #![tactic(auto)]
 
-ghost use Rattle.std.specs.Prelude.{◌≡◌, ◌<◌, ◌^◌, ◌∷◌, ◌++◌, [], drop, OnOk};
+ghost use Rattle.std.specs.Prelude.{◌≡◌, ◌<◌, ◌∷◌, ◌++◌, [], drop, OnOk};
 ghost use Rattle.byteorder.specs.Endian.{little_bytes};
 ghost use Rattle.numerals.specs.Reading.{Puts};
-ghost use Rattle.numerals.specs.Numerals.{number_of, after, behind, width_of, wide_number, byte_of, half_of, word_of, signed_of, long_of};
+ghost use Rattle.numerals.specs.Numerals.{number_of, after, behind, wide_number, byte_of, half_of, word_of, signed_of, long_of};
 
 use byteorder::{ByteOrder, LittleEndian};
 use std::alloc::AllocError;

@@ -1,5 +1,5 @@
 //! The errors of submission.
-ghost use Rattle.std.specs.Prelude.{◌≡◌, ◌+◌, ◌≤◌, length};
+ghost use Rattle.std.specs.Prelude.{◌≡◌, ◌+◌, ◌≤◌};
 ghost use Rattle.opcodes.specs.Check.{can_guard, check_of, tested, timed, time_at, time_of};
 
 use crate::errno::{EFAULT, EINVAL};

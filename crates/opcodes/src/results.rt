@@ -1,5 +1,5 @@
 //! What a request comes to as it ends (read(2), write(2), fsync(2), poll(2)).
-ghost use Rattle.std.specs.Prelude.{◌≡◌, ◌+◌, ◌<◌, ◌≤◌, ◌^◌, IfSome, false, pos};
+ghost use Rattle.std.specs.Prelude.{◌≡◌, ◌+◌, ◌<◌, ◌≤◌, IfSome, false};
 ghost use Rattle.model_files.specs.Ends.{mask_behind};
 ghost use Rattle.model_files.specs.Holders.{is_held};
 ghost use Rattle.model_files.specs.Worlds.{StockFits, number_at};

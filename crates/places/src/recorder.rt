@@ -1,5 +1,5 @@
 //! Notes of old values, made while a state changes.
-ghost use Rattle.std.specs.Prelude.{◌≡◌, ◌+◌, ◌<◌, ◌≤◌, ◌^◌, ◌++◌, [], ℕ, length, None, Some, IsOk, OnOk, OnErr, option_map, true, is_some};
+ghost use Rattle.std.specs.Prelude.{◌≡◌, ◌+◌, ◌<◌, ◌≤◌, ◌^◌, [], ℕ, length, None, Some, IsOk, OnOk, OnErr, option_map, true, is_some};
 ghost use Rattle.places.specs.Places.{is_number, is_other, InLimits};
 ghost use Rattle.places.specs.Slots.{value_of};
 ghost use Rattle.places.specs.View.{Noted, Exact, named, undo};

@@ -1,10 +1,10 @@
 //! The submission ring.
-ghost use Rattle.std.specs.Prelude.{◌≡◌, ◌==◌, ◌↔◌, ◌+◌, ◌%◌, ◌^◌, ◌<◌, ◌≤◌, ◌⊎◌, ◌∷◌, ◌++◌, [], nat_lt, length, drop, slice_get, slice_set, IfOk, OnOk, OnErr, IsFalse, None};
+ghost use Rattle.std.specs.Prelude.{◌≡◌, ◌==◌, ◌↔◌, ◌+◌, ◌%◌, ◌^◌, ◌<◌, ◌≤◌, ◌⊎◌, ◌∷◌, ◌++◌, [], length, drop, slice_get, slice_set, IfOk, IsFalse, None};
 ghost use Rattle.std.proofs.Math.ListN.{replicate};
 ghost use Rattle.std.specs.Int.{IsNextPowerOfTwo};
 ghost use Rattle.places.specs.declared.place.Place.{Place};
 ghost use Rattle.places.specs.View.{Keeps, named};
-ghost use Rattle.ring_words.specs.Rings.{waiting, sub_list, sub_owns, sub_seen, sub_start, front_word, is_index, taken_of, dropped_after, has_flag, with_flag, zero_entry, IsSize, SubFormed};
+ghost use Rattle.ring_words.specs.Rings.{waiting, sub_list, sub_owns, sub_seen, sub_start, front_word, taken_of, dropped_after, has_flag, with_flag, zero_entry, IsSize, SubFormed};
 
 use crate::flag::RingFlag;
 use crate::noting::note_word;

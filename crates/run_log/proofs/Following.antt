@@ -1,14 +1,12 @@
 -- Logs that go on by an event, or end at one.
-use Rattle.std.proofs.Common.{◌≡◌, ◌⊎◌, inl, inr, ℕ, ◌+◌, ◌<◌, suc, List, [], ◌++◌, length, get_or, slice_get, Bool, true, false, Option, Some, None, refl, sym, ap, ◌∙◌, subst, arith, append_assoc}
+use Rattle.std.proofs.Common.{◌≡◌, ◌⊎◌, inl, inr, ℕ, ◌+◌, ◌<◌, suc, List, ◌++◌, length, get_or, slice_get, Bool, true, Option, Some, None, refl, sym, ap, ◌∙◌, subst, arith, append_assoc}
 use Rattle.std.specs.Prelude.{⊤, Result, Ok, Err, OnOk, IfErr}
-use Rattle.std.proofs.KnownBytes.{Appends-nil, Appends-trans, Appends-kept}
+use Rattle.std.proofs.KnownBytes.{Appends-trans, Appends-kept}
 use Rattle.std.proofs.lemmas.Option.{slice_get-get_or}
 use Rattle.std.specs.Io.KnownBytes.{Appends, Keeps}
 use Rattle.places.specs.declared.value.Change.{Change}
 use Rattle.places.specs.View.{Exact}
 use Rattle.scenario.specs.declared.event.Event.{Event}
-use Rattle.scenario.specs.declared.event.Refusal.{Refusal}
-use Rattle.scenario.specs.declared.event.Refusal.TheVariants.{Memory as OutOfMemory}
 use Rattle.scenario.specs.declared.setup.Setup.{Setup}
 use Rattle.machine.specs.declared.whole.Machine.{Machine}
 use Rattle.machine.specs.Whole.{view}
@@ -21,7 +19,6 @@ use Rattle.script.specs.declared.log_fault.LogFault.TheVariants.{Script, Trace, 
 use Rattle.run_log.specs.declared.range.EventRange.{EventRange}
 use Rattle.run_log.specs.Ranges.{has}
 use Rattle.run_log.specs.Logs.{Shows, Reports, Tells, Reported, Halts, Logs, Written, Stopped}
-use Rattle.script.specs.Logs.{fault_by}
 
 -- ---- one event
 
@@ -37,9 +34,6 @@ pub reported_lines : (told : Bool) (s : Setup) (i : ℕ) (m n : Machine) (e : Ev
 reported_lines told s i m n e past text a b t next exact shows w =
     record { text = text; tells = subst (λ x. Tells x s i m e text) (sym t) (reports_of s i m n e past text next exact shows); appended = w }
 
-pub reported_nothing : (told : Bool) (s : Setup) (i : ℕ) (m : Machine) (e : Event) (a : Option (List ℕ)) → told ≡ false → Reported told s i m e a a
-reported_nothing told s i m e a t = record { text = []; tells = subst (λ x. Tells x s i m e []) (sym t) refl; appended = Appends-nil a }
-
 pub halted_write : (told : Bool) (s : Setup) (i : ℕ) (m n : Machine) (e : Event) (past : List Change) (f : LogFault) (a b : Option (List ℕ)) → told ≡ true → Next m e n → Exact (view m) (view n) past
     → ((f ≡ Memory) × Keeps a b) ⊎ ((f ≡ Write) × (text : List ℕ) × Shows s i e (view n) past text × WritesFront a b text) → Halts told s i m e f a b
 halted_write told s i m n e past f a b t next exact (inl h) = subst (λ x. Halts told s i m e x a b) (sym h.0) h.1
@@ -48,31 +42,12 @@ halted_write told s i m n e past f a b t next exact (inr h) =
     let all : Halts told s i m e Write a b = (next.accepted, h.1, tells, h.3) in
     subst (λ x. Halts told s i m e x a b) (sym h.0) all
 
-halted_by : (told : Bool) (s : Setup) (i : ℕ) (m : Machine) (e : Event) (n : Refusal) (a : Option (List ℕ)) → (n ≡ OutOfMemory) ⊎ (refusal m e ≡ Some n) → Keeps a a → Halts told s i m e (fault_by i n) a a
-halted_by told s i m e OutOfMemory a h k = k
-halted_by told s i m e n a h k = elim h [ inl q ↦ absurd cc | inr p ↦ (refl, p, k) ]
-
--- an event that isn't accepted
-pub halted_refused : (told : Bool) (s : Setup) (i : ℕ) (m : Machine) (e : Event) (n : Refusal) (a : Option (List ℕ)) → ((k : Refusal) → refusal m e ≡ Some k → n ≡ k) → (refusal m e ≡ None → n ≡ OutOfMemory) → Keeps a a
-    → Halts told s i m e (fault_by i n) a a
-halted_refused told s i m e n a refused memory keeps = by (refusal m e) refl
-  where
-    by : (x : Option Refusal) → refusal m e ≡ x → Halts told s i m e (fault_by i n) a a
-    by None p = halted_by told s i m e n a (inl (memory p)) keeps
-    by (Some k) p = halted_by told s i m e n a (inr (p ∙ ap Some (sym (refused k p)))) keeps
-
 -- ---- events in a row
 
 -- the log of the first i events was written, and the next one finds their machine
 pub record Logging (s : Setup) (es : List Event) (r : EventRange) (i : ℕ) (m : Machine) (held held' : Option (List ℕ)) : Type 0 where
   pub here : m ≡ moment s es i
   pub done : Written s es r i held held'
-
-pub nothing_written : (s : Setup) (es : List Event) (r : EventRange) (a : Option (List ℕ)) → Written s es r 0 a a
-nothing_written s es r a = record { within = omega arith; runs = tt; text = []; log = refl; appended = Appends-nil a }
-
-pub logging_starts : (s : Setup) (es : List Event) (r : EventRange) (m : Machine) (a : Option (List ℕ)) → m ≡ start s → Logging s es r 0 m a a
-logging_starts s es r m a e = record { here = e; done = nothing_written s es r a }
 
 pub logging_more : (s : Setup) (es : List Event) (r : EventRange) (i : ℕ) (m n : Machine) (e d : Event) (a b c : Option (List ℕ)) → i < length es → Logging s es r i m a b → e ≡ get_or es i d
     → Next m e n → Reported (has r i) s i m e b c → Logging s es r (i + 1) n a c

@@ -4,7 +4,7 @@ ghost use Rattle.std.specs.Io.KnownBytes.{Appends, Keeps};
 ghost use Rattle.scenario.specs.Setups.{setup_refusal};
 ghost use Rattle.machine.specs.Whole.{view};
 ghost use Rattle.machine.specs.Steps.{Next};
-ghost use Rattle.machine.specs.Runs.{start, Accepts};
+ghost use Rattle.machine.specs.Runs.{start};
 ghost use Rattle.whole_files.specs.Writes.{WritesFront};
 ghost use Rattle.run_log.specs.Ranges.{has};
 ghost use Rattle.run_log.specs.Logs.{Shows, Reported, Halts, Written, Stopped};

@@ -1,5 +1,5 @@
 //! The names of places, as text.
-ghost use Rattle.std.specs.Prelude.{◌≡◌, ◌++◌, Some, OnOk, codes};
+ghost use Rattle.std.specs.Prelude.{◌≡◌, ◌++◌, Some, OnOk};
 ghost use Rattle.run_log.specs.PlaceTexts.{word_of, owner_of, number_of, owner_text, number_text, place_text};
 
 use machine::Setup;

@@ -1,6 +1,6 @@
 //! Places that a word and a number name.
 ghost use Rattle.std.specs.Prelude.{◌≡◌};
-ghost use Rattle.scenario.specs.Names.{kind_named, number_of, member_of, descriptor_at, is_open_file, submission_size, completion_size};
+ghost use Rattle.scenario.specs.Names.{kind_named, number_of, member_of, descriptor_at, is_open_file, completion_size};
 
 use crate::limits::{completion_entries, ring_size};
 use crate::names::{PlaceFault, is_word, read_number};

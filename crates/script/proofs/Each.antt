@@ -1,5 +1,5 @@
 -- Reading the items of a list, one at a time.
-use Rattle.std.proofs.Common.{◌≡◌, ℕ, zero, suc, ◌+◌, ◌<◌, List, [], ◌∷◌, ◌++◌, length, map, drop, get_or, Option, Some, None, Result, Ok, Err, Bool, ◌&&◌, String, Global, string_bytes, refl, sym, ap, ◌∙◌, arith, append-nil, append_assoc}
+use Rattle.std.proofs.Common.{◌≡◌, ℕ, zero, suc, ◌+◌, ◌<◌, List, [], ◌∷◌, ◌++◌, length, map, drop, get_or, Option, Some, Result, Ok, Err, Bool, ◌&&◌, String, Global, string_bytes, refl, sym, ap, ◌∙◌, arith, append_assoc}
 use Rattle.serde_json.specs.Data.{Data, null, boolean, number, string, array, object}
 use Rattle.serde_json.specs.Find.{as_array, as_object}
 use Rattle.serde_json.specs.View.{view, items_view, items_of, members_view}
@@ -50,10 +50,6 @@ each_err f vs i v y done all h e so_far bad =
     ∙ ap (λ ds. with_front done (each f i ds)) (item_view vs i v h e)
     ∙ ap (λ r. with_front done (r >>= λ x. (rest >>= λ ys. Ok (x ∷ ys)))) bad
 
--- no item is left
-pub each_done : {A : Type 0} → (f : ℕ → Data → Result A ScriptFault) (ds : List Data) (i : ℕ) (done : List A) (all : Result (List A) ScriptFault) → drop i ds ≡ [] → with_front done (each f i (drop i ds)) ≡ all → all ≡ Ok done
-each_done f ds i done all over so_far = sym so_far ∙ ap (λ l. with_front done (each f i l)) over ∙ ap Ok (append-nil done)
-
 list_of-items_of : (ds : List Data) → list_of (items_of ds) ≡ ds
 list_of-items_of [] = refl
 list_of-items_of (d ∷ ds) = ap (λ es. d ∷ es) (list_of-items_of ds)
@@ -65,14 +61,6 @@ listed_some p (number n) vs h = absurd (cc)
 listed_some p (string s) vs h = absurd (cc)
 listed_some p (array ds) vs h = let e : items_view vs ≡ ds = cc in ap (λ es. Ok (list_of es)) (sym e) ∙ ap Ok (list_of-items_of (map view vs))
 listed_some p (object ms) vs h = absurd (cc)
-
-pub listed_none : (p : Path) (d : Data) → None ≡ as_array d → listed p d ≡ Err (Shape p)
-listed_none p null h = refl
-listed_none p (boolean b) h = refl
-listed_none p (number n) h = refl
-listed_none p (string s) h = refl
-listed_none p (array ds) h = absurd (cc)
-listed_none p (object ms) h = refl
 
 -- ---- keys
 
@@ -122,10 +110,6 @@ folded_err f vs i v y s all h e so_far bad =
     sym so_far
     ∙ ap (λ ds. folded f s i ds) (item_view vs i v h e)
     ∙ ap (λ r. r >>= λ t. folded f t (i + 1) rest) bad
-
--- no item is left
-pub folded_done : {S : Type 0} → (f : S → ℕ → Data → Result S ScriptFault) (ds : List Data) (i : ℕ) (s : S) (all : Result S ScriptFault) → drop i ds ≡ [] → folded f s i (drop i ds) ≡ all → all ≡ Ok s
-folded_done f ds i s all over so_far = sym so_far ∙ ap (λ l. folded f s i l) over
 
 -- an item whose reading failed, or ran out of memory
 pub folded_fails : {S : Type 0} → (f : S → ℕ → Data → Result S ScriptFault) (vs : List Value) (i : ℕ) (v : Value) (y : ScriptFault) (s : S) (all : Result S ScriptFault) → i < length vs → v ≡ get_or vs i v → folded f s i (drop i (map view vs)) ≡ all → Fails y (f s i (view v)) → Fails y all

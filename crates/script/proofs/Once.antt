@@ -1,6 +1,5 @@
 -- A text is read as one thing.
 use Rattle.std.proofs.Common.{◌≡◌, ℕ, List, Result, refl, ap, arith}
-use Rattle.serde_json.specs.Data.{Data}
 use Rattle.script.specs.declared.fault.ScriptFault.{ScriptFault}
 use Rattle.script.specs.Scripts.{Scenario, Reads, long, unread, value, script_of}
 

@@ -1,5 +1,5 @@
 -- A run can start from what was read.
-use Rattle.std.proofs.Common.{◌≡◌, ℕ, ◌+◌, ◌-◌, ◌^◌, ◌≤◌, Bool, true, false, not, cond, ◌&&◌, ◌||◌, nat_le, nat_lt, List, [], ◌∷◌, ◌++◌, length, take, drop, Option, Some, None, Result, Ok, Err, refl, sym, ap, ◌∙◌, subst, arith, length-append, length-drop}
+use Rattle.std.proofs.Common.{◌≡◌, ℕ, ◌+◌, ◌-◌, ◌^◌, ◌≤◌, Bool, true, false, not, cond, ◌&&◌, nat_le, nat_lt, List, [], ◌∷◌, ◌++◌, length, take, drop, Option, Some, None, Result, Ok, Err, refl, sym, ap, ◌∙◌, subst, arith, length-append, length-drop}
 use Rattle.std.specs.Prelude.{option_map, codes}
 use Rattle.std.specs.List.{list_all, list_any, position}
 use Rattle.std.proofs.lemmas.Bool.Decides.{nat_tests}
@@ -110,9 +110,6 @@ object_ok os w o k h =
 
 one_all : (a b : Bool) → a ≡ true → b ≡ true → (a && (b && true)) ≡ true
 one_all a b h k = rw (h, k) refl
-
-one_none : (a b : Bool) → a ≡ false → b ≡ false → (a || (b || false)) ≡ false
-one_none a b h k = rw (h, k) refl
 
 more_objects : (os : List Object) (o : Object) → AreObjects os → IsNext os o → AreObjects (os ++ o ∷ [])
 more_objects os o a n = record {

@@ -17,7 +17,7 @@ use Rattle.script.specs.declared.object.ContentsForm.{ContentsForm}
 use Rattle.script.specs.declared.object.ContentsForm.TheVariants as form
 use Rattle.script.specs.Entries.{◌>>=◌}
 use Rattle.script.specs.Faults as faults
-use Rattle.script.specs.Faults.{at_key, at_item, form_limits_ranges, form_then_ranges, ranged}
+use Rattle.script.specs.Faults.{at_key, at_item, form_limits_ranges, form_then_ranges}
 use Rattle.script.specs.Lists.{has_keys, list_at, at_most, folded_at_most}
 use Rattle.script.specs.Memory.{bytes_of}
 use Rattle.script.specs.Numbers.{whole_of, between}

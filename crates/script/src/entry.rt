@@ -1,5 +1,5 @@
 //! Entries of the submission ring, as a script writes them.
-ghost use Rattle.std.specs.Prelude.{◌≡◌, option_map};
+ghost use Rattle.std.specs.Prelude.{◌≡◌};
 ghost use Rattle.serde_json.specs.View.{view};
 ghost use Rattle.script.specs.Entries.{entry_numbers, object_form, entry_of_text, entry_form, entry_of_numbers, entry_in_range};
 

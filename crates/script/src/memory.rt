@@ -3,7 +3,7 @@ ghost use Rattle.std.specs.Prelude.{◌≡◌, ◌+◌, ◌≤◌, map, length, 
 ghost use Rattle.serde_json.specs.View.{view};
 ghost use Rattle.script.specs.Faults.{Gives, shaped};
 ghost use Rattle.script.specs.Lists.{folded};
-ghost use Rattle.script.specs.Memory.{bytes_of, placed, piece_words, piece_form, is_short, overwritten, with_piece, piece_at, zeros};
+ghost use Rattle.script.specs.Memory.{bytes_of, placed, piece_words, piece_form, overwritten, piece_at, zeros};
 
 use crate::fault::{Key, Path, ScriptFault};
 use crate::keys::item_path;

@@ -1,5 +1,5 @@
 //! Whole numbers, as a JSON text writes them.
-ghost use Rattle.std.specs.Prelude.{◌≡◌, ◌≤◌, option_map};
+ghost use Rattle.std.specs.Prelude.{◌≡◌, option_map};
 ghost use Rattle.serde_json.specs.View.{view};
 ghost use Rattle.script.specs.Numbers.{whole_of, whole_or_zero, between, signed_word, number_between};
 

@@ -1,11 +1,10 @@
 //! Reading a script, key by key.
-ghost use Rattle.std.specs.Prelude.{◌≡◌, ◌≢◌, ◌≤◌, ◌<◌, ◌⊎◌, length, option_map, map, IfOk, IfErr};
+ghost use Rattle.std.specs.Prelude.{◌≡◌, ◌≢◌, ◌<◌, ◌⊎◌, length, option_map, IfOk, IfErr};
 ghost use Rattle.serde_json.specs.View.{view};
 ghost use Rattle.script.specs.Faults.{Gives};
 ghost use Rattle.script.specs.Memory.{memory_of};
 ghost use Rattle.script.specs.Objects.{objects_of, fds_of};
-ghost use Rattle.script.specs.Scripts.{entries_of, large_enough, cq_of, flag_of, base_of, threads_of, schedule_of, script_of, limit, Reads, IsNoJson};
-ghost use Rattle.ring_words.specs.Rings.{rounded};
+ghost use Rattle.script.specs.Scripts.{entries_of, cq_of, flag_of, base_of, threads_of, schedule_of, script_of, limit, Reads, IsNoJson};
 
 use crate::descriptor::read_descriptors;
 use crate::event::read_events;

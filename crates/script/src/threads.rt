@@ -1,5 +1,5 @@
 //! Programs of the threads.
-ghost use Rattle.std.specs.Prelude.{◌≡◌, ◌≤◌, map, length};
+ghost use Rattle.std.specs.Prelude.{◌≤◌, map, length};
 ghost use Rattle.serde_json.specs.View.{view};
 ghost use Rattle.script.specs.Faults.{Gives};
 ghost use Rattle.script.specs.Lists.{each};

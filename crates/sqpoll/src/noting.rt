@@ -1,5 +1,5 @@
 //! Notes that take no memory.
-ghost use Rattle.std.specs.Prelude.{◌≡◌, ◌+◌, ◌<◌, ◌≤◌, Some};
+ghost use Rattle.std.specs.Prelude.{◌+◌, ◌<◌, ◌≤◌, Some};
 ghost use Rattle.places.specs.View.{Noted};
 ghost use Rattle.places.specs.declared.place.Place.TheVariants.{PollerStage};
 ghost use Rattle.places.specs.declared.value.Value.TheVariants.{Awake};

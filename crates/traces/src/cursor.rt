@@ -1,5 +1,5 @@
 //! Fields read from left to right.
-ghost use Rattle.std.specs.Prelude.{◌≡◌, ◌<◌, ◌≤◌, nat_lt, nat_le, length, drop, IfOk};
+ghost use Rattle.std.specs.Prelude.{◌≡◌, ◌<◌, ◌≤◌, nat_lt, length, drop, IfOk};
 ghost use Rattle.traces.specs.Reading.{Gives, number_at, number_in, bytes_at, count_at};
 ghost use Rattle.traces.specs.Limits.{is_within};
 

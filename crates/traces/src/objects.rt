@@ -1,6 +1,6 @@
 //! The objects and descriptors of a setup, read.
-ghost use Rattle.std.specs.Prelude.{◌≡◌, ◌≤◌, ◌-◌, ◌^◌, nat_lt, length, [], Some};
-ghost use Rattle.std.specs.List.{list_all, list_any};
+ghost use Rattle.std.specs.Prelude.{◌≡◌, ◌-◌, ◌^◌, nat_lt, [], Some};
+ghost use Rattle.std.specs.List.{list_all};
 ghost use Rattle.places.specs.declared.object.Object.{Object};
 ghost use Rattle.traces.specs.Reading.{Gives, number_in, bytes_at, long_at, name_at, contents_of, contents_at, object_at, end_at, descriptor_at, items_at, list_at, end_of};
 ghost use Rattle.traces.specs.Limits.{is_name_byte, is_same, has_name, is_new_name, is_end_of};

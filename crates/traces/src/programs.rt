@@ -1,5 +1,5 @@
 //! The programs of a setup's threads, read.
-ghost use Rattle.std.specs.Prelude.{◌≡◌, ◌+◌, ◌≤◌, ◌^◌, length, take, []};
+ghost use Rattle.std.specs.Prelude.{◌≡◌, ◌+◌, length, []};
 ghost use Rattle.entries.specs.Layout.{entry_of_bytes};
 ghost use Rattle.scenario.specs.declared.setup.Instruction.{Instruction};
 ghost use Rattle.traces.specs.Reading.{Gives, put_at, push_at, store_at, enter_at, close_at, instruction_of, instruction_at, program_at, items_at, list_at};

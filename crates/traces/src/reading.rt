@@ -1,8 +1,8 @@
 //! Traces read as events.
-ghost use Rattle.std.specs.Prelude.{◌≡◌, ◌*◌, ◌<◌, ◌≤◌, ◌++◌, ◌⊎◌, List, length, take, drop, min, IfOk, IfErr, MatchResult};
+ghost use Rattle.std.specs.Prelude.{◌≡◌, ◌<◌, ◌⊎◌, List, length, min, IfOk, IfErr, MatchResult};
 ghost use Rattle.std.specs.List.{flat_map, AllByRecursion};
 ghost use Rattle.scenario.specs.declared.event.Event.{Event};
-ghost use Rattle.traces.specs.Spelling.{event_bytes, counted_bytes, magic, most_events, Fits, AreEvents, IsTrace};
+ghost use Rattle.traces.specs.Spelling.{event_bytes, counted_bytes, magic, Fits, AreEvents, IsTrace};
 ghost use Rattle.traces.specs.Faults.{IsEventsFault, IsCountedFault, BeginsAs, IsFault};
 
 use crate::event::first_event;

@@ -1,5 +1,5 @@
 //! Traces of the second form: a setup and its events.
-ghost use Rattle.std.specs.Prelude.{◌≡◌, ◌≤◌, ◌++◌, ◌<◌, ◌⊎◌, None, List, Ok, length, take, drop, min, IsTrue, IfOk, IfErr, MatchResult};
+ghost use Rattle.std.specs.Prelude.{◌≡◌, ◌≤◌, ◌<◌, ◌⊎◌, None, List, Ok, length, min, IsTrue, IfOk, IfErr, MatchResult};
 ghost use Rattle.std.specs.List.{list_all};
 ghost use Rattle.scenario.specs.declared.event.Event.{Event};
 ghost use Rattle.scenario.specs.declared.setup.Setup.{Setup};
@@ -7,8 +7,8 @@ ghost use Rattle.traces.specs.Cursors.{Cursor};
 ghost use Rattle.traces.specs.Spelling.{counted_bytes, magic, most_events, has_transfer, AreEvents, IsTrace};
 ghost use Rattle.traces.specs.Faults.{BeginsAs, IsFault};
 ghost use Rattle.scenario.specs.Setups.{setup_refusal};
-ghost use Rattle.traces.specs.Setups.{canonical, magic2, trace2_bytes, IsTrace2};
-ghost use Rattle.traces.specs.Reading.{setup_at, behind_magic, IsBodyFault, IsFault2};
+ghost use Rattle.traces.specs.Setups.{canonical, magic2, IsTrace2};
+ghost use Rattle.traces.specs.Reading.{setup_at, IsBodyFault, IsFault2};
 
 use crate::cursor::Cursor;
 use crate::fault::TraceFault;
@@ -59,7 +59,8 @@ pub fn read_trace2(alloc: Global, bytes: &[u8]) -> Result<(Setup, Vec<Event>), T
 
     // What is spelled so is read, unless memory runs out.
     ensures only { (setup : Setup) (events : List Event) → IsTrace2 setup events bytes.now →
-        MatchResult result (λ found. (found.0 ≡ setup) × (found.1.items ≡ events)) (λ fault. fault ≡ TraceFault.Memory) }
+        MatchResult result (λ found. (found.0 ≡ setup) × (found.1.items ≡ events))
+        (λ fault. fault ≡ TraceFault.Memory) }
 
     // Which fault it is.
     ensures fault { IfErr result (λ fault. (fault ≡ TraceFault.Memory) ⊎ IsFault2 bytes.now fault) }
@@ -97,7 +98,8 @@ pub fn migrate(alloc: Global, setup: &Setup, bytes: &[u8]) -> Result<Vec<u8>, Tr
 
     // A trace of the first form is migrated, unless memory runs out.
     ensures only { (events : List Event) → IsTrace events bytes.now →
-        MatchResult result (λ made. IsTrace2 (canonical setup.now) events made.items) (λ fault. fault ≡ TraceFault.Memory) }
+        MatchResult result (λ made. IsTrace2 (canonical setup.now) events made.items)
+        (λ fault. fault ≡ TraceFault.Memory) }
 
     // Which fault it is.
     ensures fault { IfErr result (λ fault. (fault ≡ TraceFault.Memory) ⊎ IsFault bytes.now fault) }

@@ -1,15 +1,14 @@
 //! Setups, written.
-ghost use Rattle.std.specs.Prelude.{◌≡◌, ◌+◌, ◌*◌, ◌<◌, ◌≤◌, ◌^◌, ◌++◌, nat_lt, [], length, take, OnOk, IsTrue, FitsSigned};
+ghost use Rattle.std.specs.Prelude.{◌≡◌, ◌+◌, ◌*◌, ◌<◌, ◌≤◌, ◌^◌, ◌++◌, nat_lt, [], length, take, OnOk, IsTrue};
 ghost use Rattle.std.specs.List.{list_all, AllByRecursion};
-ghost use Rattle.std.specs.Int.{w32, cast_unsigned};
+ghost use Rattle.std.specs.Int.{cast_unsigned};
 ghost use Rattle.byteorder.specs.Endian.{little_bytes};
 ghost use Rattle.entries.specs.Layout.{EntryFits, entry_bytes};
-ghost use Rattle.ring_words.specs.Rings.{rounded};
 ghost use Rattle.places.specs.declared.object.Object.{Object};
 ghost use Rattle.scenario.specs.declared.setup.Instruction.{Instruction};
 ghost use Rattle.scenario.specs.declared.setup.Instruction.TheVariants.{Put};
 ghost use Rattle.scenario.specs.declared.setup.Setup.{Setup};
-ghost use Rattle.traces.specs.Limits.{is_within, all_behind, keeps_contents, keeps_object, end_number, keeps_descriptor, keeps_instruction, keeps_program, keeps_completions, keeps_rings, keeps_ranges, HasWidths, Widths};
+ghost use Rattle.traces.specs.Limits.{is_within, all_behind, keeps_contents, keeps_object, end_number, keeps_instruction, keeps_program, keeps_completions, keeps_rings, keeps_ranges, HasWidths, Widths};
 ghost use Rattle.traces.specs.Setups.{list_bytes, long_bytes, name_bytes, contents_bytes, object_bytes, descriptor_bytes, instruction_bytes, program_bytes, options_number, rings_bytes, setup_bytes, trimmed, completion_size, canonical};
 
 use byteorder::{ByteOrder, LittleEndian};

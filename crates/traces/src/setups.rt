@@ -1,6 +1,5 @@
 //! Setups, read.
-ghost use Rattle.std.specs.Prelude.{◌≡◌, ◌≤◌, ◌-◌, ◌==◌, ◌||◌, nat_lt, nat_le, length, not};
-ghost use Rattle.ring_words.specs.Rings.{rounded};
+ghost use Rattle.std.specs.Prelude.{◌≡◌, ◌-◌, ◌==◌, ◌||◌};
 ghost use Rattle.traces.specs.Limits.{is_size, is_completion_size};
 ghost use Rattle.traces.specs.Setups.{is_trimmed};
 ghost use Rattle.traces.specs.Reading.{Gives, number_in, memory_at, setup_at};

@@ -2,7 +2,7 @@
 ghost use Rattle.std.specs.Prelude.{◌≡◌, ◌≤◌, ◌++◌, length, IsTrue, IfOk, OnOk};
 ghost use Rattle.std.specs.List.{list_all, AllByRecursion};
 ghost use Rattle.byteorder.specs.Endian.{little_bytes};
-ghost use Rattle.traces.specs.Spelling.{event_bytes, counted_bytes, trace_bytes, magic, most_events, has_transfer, Fits, IsTrace};
+ghost use Rattle.traces.specs.Spelling.{event_bytes, counted_bytes, most_events, has_transfer, Fits, IsTrace};
 
 use crate::event::event_bytes;
 use crate::fields::put_u32;

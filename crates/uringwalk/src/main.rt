@@ -1,7 +1,7 @@
 //! The program: one job, over the libraries.
 #![tactic(auto)]
 
-ghost use Rattle.std.specs.Prelude.{◌≡◌, IfOk};
+ghost use Rattle.std.specs.Prelude.{◌≡◌};
 ghost use Rattle.debug_server.specs.Jobs.{IsInRange};
 ghost use Rattle.uringwalk.specs.Files.{told_as};
 

@@ -1,5 +1,5 @@
 -- What the names in an exact record say of two views.
-use Rattle.std.proofs.Common.{◌≡◌, ◌≢◌, inl, inr, ℕ, zero, suc, ◌+◌, ◌<◌, Bool, true, false, List, [], ◌∷◌, ◌++◌, length, take, get_or, refl, sym, ap, ◌∙◌, subst, arith, add-one}
+use Rattle.std.proofs.Common.{◌≡◌, ◌≢◌, inl, inr, ℕ, zero, suc, ◌+◌, ◌<◌, Bool, true, false, List, [], ◌∷◌, ◌++◌, length, take, get_or, refl, sym, ap, subst, arith, add-one}
 use Rattle.std.specs.Prelude.{Option, Some, None, is_some, ◌||◌, ◌⊎◌}
 use Rattle.std.specs.List.{list_any}
 use Rattle.std.proofs.lemmas.List.{take_more}
@@ -77,14 +77,6 @@ any_named old new cs (p ∷ ps) x h s =
     ]
 
 -- ---- breaks
-
--- a break that was met: its value stands in its place, and didn't before
-pub break_met : (old new : View) (cs : List Change) (b : Break) → Exact old new cs → names cs b.place ≡ true → new b.place ≡ Some b.value → (new b.place ≡ Some b.value → old b.place ≡ Some b.value) → ⊥
-break_met old new cs b x h v f = differs_named old new cs b.place x h (f v ∙ sym v)
-
--- a break whose place did not change
-pub break_kept : (old new : View) (cs : List Change) (b : Break) → Exact old new cs → names cs b.place ≡ false → new b.place ≡ Some b.value → old b.place ≡ Some b.value
-break_kept old new cs b x h v = x.same b.place (unnamed (named cs b.place) h) ∙ v
 
 none_met_push : (old new : View) (bs : List Break) (b : Break) → NoneMet old new bs → (new b.place ≡ Some b.value → old b.place ≡ Some b.value) → NoneMet old new (bs ++ b ∷ [])
 none_met_push old new [] b h f = (f, tt)

@@ -1,10 +1,10 @@
 //! Walks to where a watch or a break stops.
-ghost use Rattle.std.specs.Prelude.{◌≡◌, ◌≢◌, ◌+◌, ◌-◌, ◌<◌, ◌≤◌, ◌↔◌, true, false, Some, None, length, IsTrue, IsOk, IfOk, OnOk, OnErr};
+ghost use Rattle.std.specs.Prelude.{◌≡◌, ◌+◌, ◌-◌, ◌<◌, ◌≤◌, ◌↔◌, true, false, Some, None, length, IsTrue, IsOk, IfOk, OnErr};
 ghost use Rattle.std.specs.List.{list_any};
-ghost use Rattle.places.specs.View.{View, Exact, named};
+ghost use Rattle.places.specs.View.{View, Exact};
 ghost use Rattle.machine.specs.Whole.{view};
 ghost use Rattle.inverse_log.specs.Walks.{jumped, moved};
-ghost use Rattle.watches.specs.Stops.{Stays, NoneMet, names, seen, reverse_stop, forward_stop, IsEarlier, IsLater, IsStop, position_of};
+ghost use Rattle.watches.specs.Stops.{NoneMet, names, seen, reverse_stop, forward_stop, IsEarlier, IsLater, IsStop, position_of};
 
 use crate::watched::{Break, Watches};
 use inverse_log::Walker;

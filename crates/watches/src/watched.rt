@@ -1,6 +1,5 @@
 //! Watched places, and values to stop at.
 ghost use Rattle.std.specs.Prelude.{◌≡◌, ◌+◌, ◌<◌, ◌≤◌, true, length, IsOk, IfOk, OnOk, OnErr};
-ghost use Rattle.places.specs.Places.{same_place};
 ghost use Rattle.watches.specs.Watchpoints.{nothing, watched, broken, is_watched};
 
 use places::{Place, Value};

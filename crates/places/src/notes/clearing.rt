@@ -9,7 +9,6 @@ ghost use Rattle.places.specs.Runs.{old_bytes, run_changes, run_total, RunsFit};
 use crate::notes::marks::let_go;
 use crate::notes::runs::{Region, Run};
 use crate::part::At;
-use crate::place::Place;
 use crate::value::Value;
 
 /// How many bytes are compared at once.

@@ -2,7 +2,7 @@
 ghost use Rattle.std.specs.Prelude.{◌≡◌, ◌≢◌, ◌+◌, ◌<◌, ◌≤◌, ◌∷◌, ◌++◌, [], None, OnOk, IsOk, is_some, MatchBool};
 ghost use Rattle.std.specs.List.{list_any};
 ghost use Rattle.places.specs.Places.{same_place};
-ghost use Rattle.places.specs.View.{View, named, NamesOnce};
+ghost use Rattle.places.specs.View.{named, NamesOnce};
 ghost use Rattle.places.specs.Closed.{KeptOf};
 
 use crate::notes::slots::{drop_same, is_same_place};

@@ -1,6 +1,6 @@
 //! Notes that few steps make: of bytes, and of the other places.
 ghost use Rattle.std.specs.Prelude.{◌≡◌, ◌+◌, ◌<◌, ◌≤◌, ◌^◌, ◌∷◌, ◌++◌, [], ℕ, length, None, OnOk, OnErr, IsOk, is_some};
-ghost use Rattle.places.specs.View.{View, named, NamesOnce};
+ghost use Rattle.places.specs.View.{named, NamesOnce};
 ghost use Rattle.places.specs.Closed.{KeptOf};
 ghost use Rattle.places.specs.Runs.{place_in, run_changes, NotedBytes, AllKept};
 
@@ -9,7 +9,7 @@ use crate::notes::odd::Odd;
 use crate::notes::runs::{ByteNotes, Region};
 use crate::part::At;
 use crate::place::Place;
-use crate::value::{Change, Value};
+use crate::value::Value;
 use std::alloc::{AllocError, Global};
 use std::marker::Model;
 use std::mem;

@@ -1,9 +1,9 @@
 //! Notes of bytes, a slice at a time.
-ghost use Rattle.std.specs.Prelude.{◌≡◌, ◌≢◌, ◌+◌, ◌*◌, ◌<◌, ◌≤◌, ◌^◌, ◌∷◌, ◌++◌, [], ℕ, length, map, Some, None, OnOk, OnErr, MatchBool, is_some, true};
+ghost use Rattle.std.specs.Prelude.{◌≡◌, ◌≢◌, ◌+◌, ◌*◌, ◌<◌, ◌≤◌, ◌^◌, ◌++◌, [], ℕ, length, Some, None, OnOk, OnErr, MatchBool, is_some, true};
 ghost use Rattle.std.specs.List.{list_any};
-ghost use Rattle.places.specs.View.{View, named, NamesOnce};
+ghost use Rattle.places.specs.View.{named, NamesOnce};
 ghost use Rattle.places.specs.Closed.{KeptOf};
-ghost use Rattle.places.specs.Runs.{place_in, is_in, offset_in, covers, run_changes, run_total, RunsFit, RunsOnce, NotedBytes, AllKept};
+ghost use Rattle.places.specs.Runs.{place_in, is_in, offset_in, covers, run_changes, run_total, RunsFit, NotedBytes, AllKept};
 ghost use Rattle.places.specs.Masked.{is_kept, marks_from, masked, MaskedOnce};
 
 use crate::notes::clearing::clear_runs;

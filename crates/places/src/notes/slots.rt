@@ -1,11 +1,11 @@
 //! Notes of places that have slots, each place once, in constant time.
-ghost use Rattle.std.specs.Prelude.{◌≡◌, ◌≢◌, ◌+◌, ◌-◌, ◌<◌, ◌≤◌, ◌∷◌, ◌++◌, [], ℕ, length, map, slice_get, IsOk, OnOk, OnErr, MatchBool, is_some, ◌||◌, vec_len, vec_capacity};
+ghost use Rattle.std.specs.Prelude.{◌≡◌, ◌≢◌, ◌+◌, ◌-◌, ◌<◌, ◌≤◌, ◌∷◌, [], ℕ, length, map, slice_get, IsOk, OnOk, OnErr, MatchBool, is_some, ◌||◌, vec_len, vec_capacity};
 ghost use Rattle.places.specs.declared.value.Change.{Change};
 ghost use Rattle.std.specs.List.{list_any};
 ghost use Rattle.places.specs.Places.{same_place};
-ghost use Rattle.places.specs.View.{View, Noted, NamesOnce, named};
+ghost use Rattle.places.specs.View.{Noted, NamesOnce, named};
 ghost use Rattle.places.specs.Closed.{KeptOf};
-ghost use Rattle.places.specs.Marks.{Marked, IsMarked};
+ghost use Rattle.places.specs.Marks.{IsMarked};
 ghost use Rattle.numerals.specs.Reading.{Puts};
 ghost use Rattle.places.specs.Packed.{change_of, after_change};
 

@@ -1,5 +1,5 @@
-//! Notes of numbers, completions and rows with the memory that they were made in, where there is none
-//! for a smaller form.
+//! Notes of numbers, completions and rows with the memory that they were made in, where there is
+//! none for a smaller form.
 ghost use Rattle.std.specs.Prelude.{◌≡◌, [], OnOk, IsOk, true, false};
 
 use crate::notes::completions::CompletionNote;

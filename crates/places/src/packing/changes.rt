@@ -268,8 +268,8 @@ impl<'a> PackedChanges<'a> {
         Some(read_change(&mut self.bytes))
     }
 
-    /// The place and the number of the next change, if one is left and a number stood there. Another
-    /// change stays the next.
+    /// The place and the number of the next change, if one is left and a number stood there. Any
+    /// other change stays the next.
     pub fn next_number(&mut self) -> Option<(Place, u64)>
         ensures { MatchOption result (self.new ≡ self.old)
             (λ n. self.old ≡ number_was n.0 n.1 ∷ self.new) }

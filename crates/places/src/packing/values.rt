@@ -1,10 +1,10 @@
 //! Values as numbers, and back.
-ghost use Rattle.std.specs.Prelude.{◌≡◌, ◌<◌, ◌%◌, ◌^◌, ◌∷◌, ◌++◌, [], ℕ, length, drop, slice_index, IfSome, OnOk};
+ghost use Rattle.std.specs.Prelude.{◌≡◌, ◌<◌, ◌%◌, ◌∷◌, ◌++◌, [], ℕ, length, drop, slice_index, IfSome, OnOk};
 ghost use Rattle.byteorder.specs.Endian.{little_bytes, little_number};
 ghost use Rattle.entries.specs.Layout.{EntryFits, CompletionFits};
 ghost use Rattle.numerals.specs.Reading.{Puts};
 ghost use Rattle.numerals.specs.Numerals.{number_of, after, behind};
-ghost use Rattle.places.specs.Packed.{option_number, option_from, word_from, phase_number, phase_from, stage_from, completion_list, entry_list, row_list, stage_list, StageFits, completion_of, entry_of, row_of, stage_of, reaped_of, RowAgain};
+ghost use Rattle.places.specs.Packed.{option_number, option_from, word_from, phase_number, phase_from, completion_list, entry_list, row_list, stage_list, StageFits, completion_of, entry_of, row_of, stage_of, reaped_of, RowAgain};
 
 use crate::value::Stage;
 use byteorder::{ByteOrder, LittleEndian};
