@@ -69,6 +69,7 @@ def written(room, situation):
     if ("walk", situation.over) not in room.made:
         words = [room.uringwalk, "walk", room.script(situation.over)]
         done, _, _ = room.ran(words, "growth", "one", 0, room.lines_of(situation.asked))
+        require(done.returncode == 0, f"walk: status {done.returncode}")
         room.made["walk", situation.over] = beginnings(done.stdout)
     return room.made["walk", situation.over]
 
