@@ -59,10 +59,7 @@ impl Odd {
             ∷ [] }
         ensures spare { self.old.spare ≤ self.new.spare + 1 }
     {
-        match self.notes.push(Change { place, old }) {
-            Ok(()) => {}
-            Err(_) => unreachable!(),
-        }
+        self.notes.push_reserved(Change { place, old });
     }
 
     /// Whether a place is noted.

@@ -122,10 +122,7 @@ impl ByteNotes {
         let len = old.len();
         self.runs.reserve(1)?;
         append(&mut self.olds, &mut self.gone, old)?;
-        match self.runs.push(Run { region, start, len }) {
-            Ok(()) => {}
-            Err(_) => unreachable!(),
-        }
+        self.runs.push_reserved(Run { region, start, len });
         Ok(())
     }
 

@@ -6,12 +6,12 @@ use Rattle.places.proofs.notes.runs.ByteNotes.note.Goals as goal
 
 pub invariant_of-self-2 : goal.invariant_of-self-2
 invariant_of-self-2 c =
-    rw (c.in-Ok.ensures.items, c.in_ok-append.ensures.olds, c.in_ok-reserve.ensures.items)
+    rw (c.push_reserved.ensures.items, c.in_ok-append.ensures.olds, c.in_ok-reserve.ensures.items)
     (masked_once _ _ _ _ _ _ c.self.invariant c.in_ok-append.ensures.kept (search rules) (search rules) (λ i h. rw (← c.self.view_is) at (c.requires.fresh i h)))
 
 pub returns-clause-ok : goal.returns-clause-ok
 returns-clause-ok c =
-    rw (c.in-Ok.ensures.items, c.in_ok-append.ensures.olds, c.in_ok-reserve.ensures.items, ← c.self.view_is, masked_more c.self.inside.olds.items c.args.old.now c.self.inside.gone.items _ c.in_ok-append.ensures.kept c.self.invariant.fresh)
+    rw (c.push_reserved.ensures.items, c.in_ok-append.ensures.olds, c.in_ok-reserve.ensures.items, ← c.self.view_is, masked_more c.self.inside.olds.items c.args.old.now c.self.inside.gone.items _ c.in_ok-append.ensures.kept c.self.invariant.fresh)
     (noted_run _ _ _ _ c.self.invariant.once.fits (search rules))
 
 pub returns-clause-kept : goal.returns-clause-kept
