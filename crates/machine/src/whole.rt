@@ -172,7 +172,8 @@ impl Machine {
     }
 }
 
-// The part of a machine that a place is in, or the rest: what no part of its own has.
+// Which part of a machine has a place. The rest are its numbers, and what its poller does, if it
+// has one.
 #[derive(Clone, Copy)]
 enum Owner {
     Submissions,

@@ -97,7 +97,7 @@ fn walk(
 }
 
 // What the records name and keep; of the last one, how much of it differs behind its step, and how
-// much once that is undone; and how many requests ended.
+// much once that is undone; and how many requests ended, TIMEOUTs left out.
 fn print_figures(rt: &(impl Print + Eprint), walker: &mut Walker) -> io::Result<()> {
     let end = walker.len();
     let from = end.saturating_sub(1);

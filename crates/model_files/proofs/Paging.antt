@@ -14,7 +14,6 @@ use Rattle.places.specs.Notes.{Notes, HasAsMuch}
 use Rattle.places.specs.Runs.{byte_from, byte_in}
 use Rattle.places.specs.View.{named, Keeps, Noted}
 use Rattle.places.proofs.Keeping.{keeps_then, keeps_unchanged, noted_keeps}
-use Rattle.places.proofs.ListLemmas.{same_list}
 use Rattle.model_files.specs.Differing.{NotedAmong, NamesDiffering}
 use Rattle.model_files.specs.Objects.{object_owns, NamesChanges}
 use Rattle.model_files.specs.Files.{FileState, FileSized, file_seen, part, synced}
@@ -42,13 +41,6 @@ pub record Bringing (bytes before durable : List ℕ) (page : ℕ) : Type 0 wher
   pub len : length durable ≡ 65536
   pub there : (i : ℕ) → i < page * 4096 → slice_get durable i ≡ slice_get bytes i
   pub behind : (i : ℕ) → page * 4096 ≤ i → slice_get durable i ≡ slice_get before i
-
-pub brought : (bytes before durable : List ℕ) (page : ℕ) → Bringing bytes before durable page → length bytes ≡ 65536 → 16 ≤ page → durable ≡ bytes
-brought bytes before durable page b len h = same_list durable bytes (λ i. by i (below_or_not i 65536))
-  where
-    by : (i : ℕ) → (i < 65536) ⊎ (65536 ≤ i) → slice_get durable i ≡ slice_get bytes i
-    by i (inl l) = b.there i (omega arith)
-    by i (inr l) = let d = b.len in slice_get_past durable i (omega arith) ∙ sym (slice_get_past bytes i (omega arith))
 
 -- ---- noting pages
 

@@ -1,4 +1,4 @@
--- Numbers that one set has and another doesn't. No public contract cites it.
+-- Numbers that one set has and another doesn't.
 use Rattle.std.specs.Prelude.{◌≡◌, ℕ, Bool, true, false, not, ◌&&◌, List, ◌≤◌, ◌<◌}
 use Rattle.number_sets.specs.Sets.{has}
 

@@ -110,7 +110,7 @@ impl<N: Slotted + Copy> Slots<N> {
         let at = self.notes.len();
         reach(&mut self.marks, slot)?;
         grow(&mut self.notes)?;
-        self.notes.push(note)?;
+        self.notes.push_reserved(note);
         self.marks[slot] = at;
         Ok(())
     }
