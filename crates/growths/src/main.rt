@@ -1,5 +1,5 @@
 //! A call that meets refused memory, and then the same call again: each answer is told, and sums of
-//! all that the call stands over, by which runs are held against each other (`refusals/run`).
+//! all that the call stands over, by which runs are held against each other (`tests/faults/run`).
 //!
 //! The words are the call, the path of a script, the number of the growth that is refused (with 0
 //! the call is made once, and none is refused), and two numbers that say how much of the script's

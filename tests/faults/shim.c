@@ -1,17 +1,17 @@
-/* Refuses the Nth growth of memory, or fails the Nth read, write, sync, rename, open or look at a path, of the program
- * that it is loaded into by LD_PRELOAD (ld.so(8)). A tool of the tests: no crate has it.
+/* Fails the Nth allocation, read, write, sync, rename, open or path lookup of the program that it is preloaded into by
+ * LD_PRELOAD (ld.so(8)). It belongs to the tests and to no crate.
  *
- *   REFUSALS_WHAT    what is counted: growth, or some of read, write, sync, rename, open, look, with commas between them
- *   REFUSALS_N       the number of the one that meets the refusal, counted from the start of the process. Without it
- *                    growths are counted from the line 'armed N' on standard error up to the line 'disarmed'
- *   REFUSALS_HOW     growth: one (the Nth alone) or all (the Nth and each later one); others: eio, enospc, eintr, half
- *                    (a write takes half of its bytes), broken (so does a write, and each later one meets EIO), kill
- *                    (SIGKILL before the call), torn (SIGKILL behind half of a write)
- *   REFUSALS_REPORT  a file that is written as the Nth is reached, or else as the process ends: 'reached K N' or
- *                    'missed K N', K being how many were counted so far
+ *   FAULTS_WHAT    what is counted: allocation, or some of read, write, sync, rename, open, lookup, with commas between them
+ *   FAULTS_N       the number of the call that fails, counted from the start of the process. Without it allocations are
+ *                  counted from the line 'armed N' on standard error to the line 'disarmed'
+ *   FAULTS_HOW     allocation: one (the Nth alone) or all (the Nth and each later one); others: eio, enospc, eintr, half
+ *                  (a write takes half of its bytes), broken (the same, and each later write fails with EIO), kill (SIGKILL
+ *                  before the call), torn (SIGKILL after half of a write)
+ *   FAULTS_REPORT  the file to which 'reached K N' is written when the Nth call is reached, or 'missed K N' when the process
+ *                  ends before; K is the number of calls counted so far
  *
- * A growth is a malloc, calloc, posix_memalign or aligned_alloc, or a realloc to more than the block has already
- * (malloc_usable_size(3)). A look is a statx or a realpath. Standard error is neither counted nor failed. */
+ * An allocation is a malloc, calloc, posix_memalign or aligned_alloc, or a realloc to more than the size of the block
+ * (malloc_usable_size(3)). A lookup is a statx or a realpath. Standard error is neither counted nor failed. */
 #define _GNU_SOURCE
 #include <dlfcn.h>
 #include <errno.h>
@@ -29,20 +29,20 @@
 #include <sys/uio.h>
 #include <unistd.h>
 
-enum what { GROWTH = 1, READ = 2, WRITE = 4, SYNC = 8, RENAME = 16, OPEN = 32, LOOK = 64 };
+enum what { ALLOCATION = 1, READ = 2, WRITE = 4, SYNC = 8, RENAME = 16, OPEN = 32, LOOKUP = 64 };
 enum how { ONE, ALL, EIO_, ENOSPC_, EINTR_, HALF, BROKEN, KILL, TORN };
 
-static const char *const whats[] = {"growth", "read", "write", "sync", "rename", "open", "look"};
+static const char *const whats[] = {"allocation", "read", "write", "sync", "rename", "open", "lookup"};
 static const char *const hows[] = {"one", "all", "eio", "enospc", "eintr", "half", "broken", "kill", "torn"};
 
 static int counted_kinds;        /* of enum what */
 static enum how how;
-static atomic_long number;       /* the one that is refused, from 1 on; 0 for none */
-static atomic_long count;        /* how many there were since counting began */
+static atomic_long number;       /* the call that fails, from 1 on; 0 for none */
+static atomic_long count;        /* the calls since counting began */
 static atomic_bool counting;
 static atomic_bool reported;
-static atomic_bool broken;       /* whether a write took half of its bytes, and no later one takes any */
-static bool by_lines;            /* whether lines on standard error say when growths are counted */
+static atomic_bool broken;       /* whether a write took half of its bytes, so that each later write fails */
+static bool by_lines;            /* whether lines on standard error say when allocations are counted */
 
 static void *(*next_malloc)(size_t);
 static void *(*next_calloc)(size_t, size_t);
@@ -65,7 +65,7 @@ static int (*next_open)(const char *, int, ...);
 static int (*next_statx)(int, const char *, int, unsigned, struct statx *);
 static char *(*next_realpath)(const char *, char *);
 
-/* What dlsym(3) itself asks for while the next malloc is looked for. Nobody frees it. */
+/* The memory for dlsym(3) itself while it looks up the next malloc. It is never freed. */
 static char early[65536];
 static size_t early_used;
 
@@ -81,9 +81,9 @@ static bool is_early(const void *block) {
   return (const char *)block >= early && (const char *)block < early + sizeof early;
 }
 
-/* The end of a file name and its bytes go to the kernel as they are: nothing here is counted. */
+/* Writes the report by system calls, so that nothing here is counted. */
 static void report(const char *word) {
-  const char *path = getenv("REFUSALS_REPORT");
+  const char *path = getenv("FAULTS_REPORT");
   if (path == NULL || atomic_exchange(&reported, true)) return;
   char line[80];
   int size = snprintf(line, sizeof line, "%s %ld %ld\n", word, atomic_load(&count), atomic_load(&number));
@@ -93,12 +93,12 @@ static void report(const char *word) {
   syscall(SYS_close, file);
 }
 
-/* Counts one more of a kind, and says whether it is the one to be refused. */
-static bool is_refused(enum what kind) {
+/* Counts one more call of a kind, and returns whether it must fail. */
+static bool is_failed(enum what kind) {
   if (!(counted_kinds & kind) || !atomic_load(&counting)) return false;
-  long this = atomic_fetch_add(&count, 1) + 1, refused = atomic_load(&number);
-  if (refused == 0 || this < refused) return false;
-  if (this > refused) return how == ALL || how == BROKEN;
+  long this = atomic_fetch_add(&count, 1) + 1, failed = atomic_load(&number);
+  if (failed == 0 || this < failed) return false;
+  if (this > failed) return how == ALL || how == BROKEN;
   report("reached");
   return true;
 }
@@ -125,7 +125,7 @@ static int index_of(const char *word, size_t size, const char *const *words, int
   return -1;
 }
 
-/* A word that is none of the known ones ends the process, so that no run passes for one that was refused something. */
+/* Ends the process at an unknown word, so that no run without a failure counts as one with a failure. */
 static void wrong(const char *name) {
   dprintf(STDERR_FILENO, "shim: %s isn't one of the words\n", name);
   _exit(70);
@@ -147,17 +147,17 @@ __attribute__((constructor)) static void begin(void) {
   next_open = next("open");
   next_statx = next("statx");
   next_realpath = next("realpath");
-  const char *what_words = getenv("REFUSALS_WHAT"), *how_word = getenv("REFUSALS_HOW"), *n = getenv("REFUSALS_N");
+  const char *what_words = getenv("FAULTS_WHAT"), *how_word = getenv("FAULTS_HOW"), *n = getenv("FAULTS_N");
   if (what_words == NULL || how_word == NULL) return;
   while (*what_words != 0) {
     size_t size = strcspn(what_words, ",");
     int kind = index_of(what_words, size, whats, 7);
-    if (kind < 0) wrong("REFUSALS_WHAT");
+    if (kind < 0) wrong("FAULTS_WHAT");
     counted_kinds |= 1 << kind;
     what_words += size + (what_words[size] == ',');
   }
   int way = index_of(how_word, strlen(how_word), hows, 9);
-  if (way < 0 || (counted_kinds != GROWTH) != (way > ALL)) wrong("REFUSALS_HOW");
+  if (way < 0 || (counted_kinds != ALLOCATION) != (way > ALL)) wrong("FAULTS_HOW");
   how = (enum how)way;
   by_lines = n == NULL;
   if (by_lines) return;
@@ -182,7 +182,7 @@ void _exit(int status) {
 void *malloc(size_t size) {
   find_memory();
   if (next_malloc == NULL) return take_early(size);
-  if (is_refused(GROWTH)) {
+  if (is_failed(ALLOCATION)) {
     errno = ENOMEM;
     return NULL;
   }
@@ -192,7 +192,7 @@ void *malloc(size_t size) {
 void *calloc(size_t items, size_t size) {
   find_memory();
   if (next_calloc == NULL) return items != 0 && size > sizeof early / items ? NULL : take_early(items * size);
-  if (is_refused(GROWTH)) {
+  if (is_failed(ALLOCATION)) {
     errno = ENOMEM;
     return NULL;
   }
@@ -208,7 +208,7 @@ void *realloc(void *block, size_t size) {
   }
   if (next_realloc == NULL) return block == NULL ? take_early(size) : NULL;
   bool is_growth = block == NULL || size > malloc_usable_size(block);
-  if (is_growth && is_refused(GROWTH)) {
+  if (is_growth && is_failed(ALLOCATION)) {
     errno = ENOMEM;
     return NULL;
   }
@@ -217,13 +217,13 @@ void *realloc(void *block, size_t size) {
 
 int posix_memalign(void **block, size_t alignment, size_t size) {
   find_memory();
-  if (is_refused(GROWTH)) return ENOMEM;
+  if (is_failed(ALLOCATION)) return ENOMEM;
   return next_posix_memalign(block, alignment, size);
 }
 
 void *aligned_alloc(size_t alignment, size_t size) {
   find_memory();
-  if (is_refused(GROWTH)) {
+  if (is_failed(ALLOCATION)) {
     errno = ENOMEM;
     return NULL;
   }
@@ -237,7 +237,7 @@ void free(void *block) {
 
 /* ---- lines on standard error */
 
-/* Reads what goes to standard error, and arms and disarms at the ends of the lines that say so. */
+/* Reads what is written to standard error, and starts and stops counting at the end of the lines that say so. */
 static void hear(const char *bytes, size_t size) {
   static char line[64];
   static size_t used;
@@ -273,21 +273,21 @@ static int fail(void) {
   return -1;
 }
 
-/* Whether a write that is refused takes half of its bytes. */
+/* Whether a write that fails takes half of its bytes. */
 static bool takes_half(void) { return how == HALF || how == TORN || (how == BROKEN && !atomic_exchange(&broken, true)); }
 
 ssize_t read(int file, void *bytes, size_t size) {
-  return is_refused(READ) ? fail() : next_read(file, bytes, size);
+  return is_failed(READ) ? fail() : next_read(file, bytes, size);
 }
 
 ssize_t pread64(int file, void *bytes, size_t size, off_t from) {
-  return is_refused(READ) ? fail() : next_pread(file, bytes, size, from);
+  return is_failed(READ) ? fail() : next_pread(file, bytes, size, from);
 }
 
 ssize_t pread(int file, void *bytes, size_t size, off_t from) { return pread64(file, bytes, size, from); }
 
 ssize_t readv(int file, const struct iovec *parts, int length) {
-  return is_refused(READ) ? fail() : next_readv(file, parts, length);
+  return is_failed(READ) ? fail() : next_readv(file, parts, length);
 }
 
 ssize_t write(int file, const void *bytes, size_t size) {
@@ -296,7 +296,7 @@ ssize_t write(int file, const void *bytes, size_t size) {
     if (written > 0) hear(bytes, (size_t)written);
     return written;
   }
-  if (!is_refused(WRITE)) return next_write(file, bytes, size);
+  if (!is_failed(WRITE)) return next_write(file, bytes, size);
   if (!takes_half()) return fail();
   ssize_t written = next_write(file, bytes, (size + 1) / 2);
   if (how == TORN) die();
@@ -306,7 +306,7 @@ ssize_t write(int file, const void *bytes, size_t size) {
 ssize_t __write(int file, const void *bytes, size_t size) { return write(file, bytes, size); }
 
 ssize_t pwrite64(int file, const void *bytes, size_t size, off_t from) {
-  if (!is_refused(WRITE)) return next_pwrite(file, bytes, size, from);
+  if (!is_failed(WRITE)) return next_pwrite(file, bytes, size, from);
   if (!takes_half()) return fail();
   ssize_t written = next_pwrite(file, bytes, (size + 1) / 2, from);
   if (how == TORN) die();
@@ -326,29 +326,29 @@ ssize_t writev(int file, const struct iovec *parts, int length) {
     }
     return written;
   }
-  if (!is_refused(WRITE)) return next_writev(file, parts, length);
+  if (!is_failed(WRITE)) return next_writev(file, parts, length);
   if (!takes_half()) return fail();
   ssize_t written = length > 0 ? next_write(file, parts[0].iov_base, (parts[0].iov_len + 1) / 2) : 0;
   if (how == TORN) die();
   return written;
 }
 
-int fsync(int file) { return is_refused(SYNC) ? fail() : next_fsync(file); }
+int fsync(int file) { return is_failed(SYNC) ? fail() : next_fsync(file); }
 
-int fdatasync(int file) { return is_refused(SYNC) ? fail() : next_fdatasync(file); }
+int fdatasync(int file) { return is_failed(SYNC) ? fail() : next_fdatasync(file); }
 
-int rename(const char *from, const char *to) { return is_refused(RENAME) ? fail() : next_rename(from, to); }
+int rename(const char *from, const char *to) { return is_failed(RENAME) ? fail() : next_rename(from, to); }
 
 int renameat(int old, const char *from, int new, const char *to) {
-  return is_refused(RENAME) ? fail() : next_renameat(old, from, new, to);
+  return is_failed(RENAME) ? fail() : next_renameat(old, from, new, to);
 }
 
 int renameat2(int old, const char *from, int new, const char *to, unsigned flags) {
-  return is_refused(RENAME) ? fail() : next_renameat2(old, from, new, to, flags);
+  return is_failed(RENAME) ? fail() : next_renameat2(old, from, new, to, flags);
 }
 
 int open(const char *path, int flags, ...) {
-  if (is_refused(OPEN)) return fail();
+  if (is_failed(OPEN)) return fail();
   va_list rest;
   va_start(rest, flags);
   bool makes = (flags & O_CREAT) || (flags & O_TMPFILE) == O_TMPFILE;
@@ -358,11 +358,11 @@ int open(const char *path, int flags, ...) {
 }
 
 int statx(int folder, const char *path, int flags, unsigned mask, struct statx *found) {
-  return is_refused(LOOK) ? fail() : next_statx(folder, path, flags, mask, found);
+  return is_failed(LOOKUP) ? fail() : next_statx(folder, path, flags, mask, found);
 }
 
 char *realpath(const char *path, char *found) {
-  if (!is_refused(LOOK)) return next_realpath(path, found);
+  if (!is_failed(LOOKUP)) return next_realpath(path, found);
   fail();
   return NULL;
 }

@@ -1,4 +1,4 @@
-"""What calls stand over: scripts, and the calls of the program `growths` over them."""
+"""The scripts on which failures are injected, and the calls of the program `growths` on them."""
 import json
 
 NOP, FSYNC, POLL_ADD, POLL_REMOVE, TIMEOUT, TIMEOUT_REMOVE = 0, 3, 6, 7, 11, 12
@@ -14,7 +14,7 @@ def entry(op, **keys):
 
 
 def submitted(*entries):
-    """The instructions by which a thread submits entries, all at once."""
+    """Returns the instructions of a thread that submits entries with one Enter."""
     puts = [["put", slot, each] for slot, each in enumerate(entries)]
     return puts + [["push", slot] for slot in range(len(entries))] + [["enter", len(entries), 0, 0]]
 
@@ -33,14 +33,14 @@ def one_nop():
 
 
 def expired_guard():
-    """A LINK_TIMEOUT ends its READ, and with it the rest of the chain."""
+    """A LINK_TIMEOUT cancels its READ, and with it the rest of the chain."""
     program = submitted(entry(READ, fd=3, len=8, flags=LINK, ud=1), entry(LINK_TIMEOUT, addr=100, len=1, flags=LINK, ud=2),
                         entry(NOP, flags=LINK, ud=3), entry(NOP, ud=4))
     return script(4, [program], [STEP] * 9 + [["issue", 0], ["tick", 5000000000], ["expire", 1]], **PIPE)
 
 
 def met_counts():
-    """A cancel ends a READ, whose chain falls, and the completions meet a TIMEOUT."""
+    """A cancel completes a READ and the rest of its chain, and the completions complete a TIMEOUT that counts them."""
     timeouts = [entry(TIMEOUT, addr=100, len=1, off=count, ud=ud) for count, ud in ((3, 1), (4, 5))]
     program = submitted(timeouts[0], entry(READ, fd=3, len=8, flags=LINK, ud=2), entry(NOP, ud=3),
                         entry(ASYNC_CANCEL, addr=2, ud=4), timeouts[1])
@@ -49,7 +49,7 @@ def met_counts():
 
 
 def full_backlog():
-    """An Enter flushes the backlog, and its failing entry comes into it."""
+    """An Enter flushes the backlog, and the completion of its failing entry is added to it."""
     program = []
     for ud in (1, 2, 3):
         program += [["put", 0, entry(NOP, ud=ud)], ["push", 0], ["enter", 1, 0, 0]]
@@ -65,7 +65,7 @@ def written_page():
 
 
 def canceled_rows(count=5000, first=4000):
-    """A cancel ends all of so many TIMEOUTs."""
+    """A cancel completes `count` TIMEOUTs."""
     puts = [["put", 0, entry(ASYNC_CANCEL, opflags=1)], ["put", 1, entry(TIMEOUT, len=1)]]
     threads = [puts + [["push", 0]] + [["push", 1]] * first + [["enter", first + 1, 0, 0]],
                [["push", 1]] * (count - first) + [["enter", count - first, 0, 0]]]
@@ -90,7 +90,7 @@ def counter():
 
 
 def all_opcodes():
-    """A request of each opcode, of a file, a pipe and an eventfd."""
+    """A request of each opcode, on a file, a pipe and an eventfd."""
     requests = [entry(WRITE, fd=3, len=8, flags=LINK, ud=1), entry(READ, fd=3, addr=64, len=8, flags=LINK, ud=2),
                 entry(FSYNC, fd=3, ud=3), entry(POLL_ADD, fd=4, opflags=1, ud=33), entry(POLL_REMOVE, addr=33, ud=5),
                 entry(TIMEOUT, addr=100, len=1, ud=55), entry(TIMEOUT_REMOVE, addr=55, ud=7),
@@ -117,7 +117,7 @@ def two_stores():
 
 
 def one_step_too_many():
-    """An event that can't happen comes behind those of `two_stores`."""
+    """The events of `two_stores`, and then one that is refused."""
     return script(1, two_stores()["threads"], [STEP] * 3)
 
 
@@ -131,7 +131,7 @@ def rounded(entries):
 
 
 def shown_places(run, memory=65536):
-    """The lines that show each place of a script's setup, and tell how many watches and breaks there are."""
+    """Returns the lines that show each place of a script's setup, and the number of watches and breaks."""
     size = rounded(run["entries"])
     names = "sq.head sq.tail sq.flags sq.dropped cq.head cq.tail bfront clock counted".split()
     names += [f"{word} {i}" for word in ("array", "slot") for i in range(size)] + [f"cqe {i}" for i in range(2 * size)]
@@ -153,20 +153,28 @@ def shown_places(run, memory=65536):
 
 
 class Situation:
-    """A call of `growths` over a script: the answers to refused growths, each of which is to be met (None stands for whatever
-    is told), and what is looked at of all of them. One that `spares` may do without each growth: the notes of a step find the
-    room of an earlier one, and its record can keep theirs."""
+    """A call of `growths` on a script, and what a failed allocation makes of it.
 
-    def __init__(self, call, over, start=0, goal=0, lines=(), refused=((1, 0),), asked=None, quiet=False, rising=False,
+    over     the script
+    answers  the answers to failed allocations, each of which must occur; None is any number
+    asked    the lines of a session by which all of its state is compared, or that are served
+    quiet    the call allocates nothing
+    rising   the answers name events, and a later allocation names no earlier event
+    closes   after a failure the session is closed
+    spares   the call may succeed without an allocation: the notes of a step reuse the memory of an earlier step, and its
+             record can keep theirs
+    """
+
+    def __init__(self, call, over, start=0, goal=0, lines=(), answers=((1, 0),), asked=None, quiet=False, rising=False,
                  closes=False, spares=False):
         self.call, self.over, self.start, self.goal, self.lines = call, over, start, goal, list(lines)
-        self.refused, self.asked, self.quiet, self.rising, self.closes = refused, asked, quiet, rising, closes
+        self.answers, self.asked, self.quiet, self.rising, self.closes = answers, asked, quiet, rising, closes
         self.spares = spares
 
     @property
     def name(self):
-        said = "".join(f" '{line}'" for line in self.lines)
-        return f"{self.call} {self.over} {self.start} {self.goal}{said}"
+        lines = "".join(f" '{line}'" for line in self.lines)
+        return f"{self.call} {self.over} {self.start} {self.goal}{lines}"
 
     def words(self, path, number):
         return [self.call, path, str(number), str(self.start), str(self.goal), *self.lines]
@@ -178,23 +186,23 @@ def last(name):
 
 def calls_of_states():
     for name in ("expired_guard", "full_backlog", "met_counts", "written_page", "canceled_rows"):
-        yield Situation("step", name, last(name), refused=((17, 0),))
+        yield Situation("step", name, last(name), answers=((17, 0),))
     for at in range(last("all_opcodes") + 1):
-        yield Situation("step", "all_opcodes", at, refused=((17, 0),), spares=at > 0)
+        yield Situation("step", "all_opcodes", at, answers=((17, 0),), spares=at > 0)
     for at in (0, 3, 4):
-        yield Situation("step", "polled", at, refused=((17, 0),))
+        yield Situation("step", "polled", at, answers=((17, 0),))
     for name in ("one_nop", "all_opcodes"):
         whole = last(name) + 1
-        yield Situation("start", name, refused=((3, 0),))
+        yield Situation("start", name, answers=((3, 0),))
         yield Situation("copy", name, whole)
         yield Situation("look", name, whole, quiet=True)
         yield Situation("unwind", name, whole, quiet=True)
 
 
 def calls_of_walkers():
-    # What can't be done without: the lists that grow, and copies of the state at 4, 8 and 12.
-    yield Situation("extend", "twelve_ticks", 2, 1, refused=[(2, event) for event in (0, 1, 2, 5, 6, 9)], rising=True)
-    yield Situation("goto", "ticks", 9, 5, refused=((2, 0),))
+    # The allocations that must succeed: those of the lists that grow, and of copies of the state at 4, 8 and 12.
+    yield Situation("extend", "twelve_ticks", 2, 1, answers=[(2, event) for event in (0, 1, 2, 5, 6, 9)], rising=True)
+    yield Situation("goto", "ticks", 9, 5, answers=((2, 0),))
     yield Situation("goto", "ticks", 10, 9, quiet=True)
     yield Situation("back", "ticks", 10, quiet=True)
     yield Situation("on", "ticks", 9, spares=True)
@@ -221,15 +229,15 @@ def calls_of_sessions():
     yield Situation("line", "two_stores", 2, 1, lines=["sync"], asked="two_stores")
     yield Situation("line", "one_step_too_many", 0, 3, lines=["sync"], asked="two_stores")
     served = "where\nshow got 0\ngoto 3\nwatch cq.tail\nbreak last 0 = 1\ncont\nrcont\nshow row 0\nwhere\n"
-    yield Situation("serve", "one_nop", 6, lines=[""], asked=served, refused=((3, None),), closes=True)
+    yield Situation("serve", "one_nop", 6, lines=[""], asked=served, answers=((3, None),), closes=True)
 
 
 def calls_of_live_runs():
     for name in ("one_nop", "all_opcodes"):
         for at in range(last(name) + 1):
-            yield Situation("attempt", name, at, refused=((3, 17),), spares=at > 0)
+            yield Situation("attempt", name, at, answers=((3, 17),), spares=at > 0)
     for at in range(last("one_nop") + 1):
-        yield Situation("take_offer", "one_nop", at, refused=((3, 17),), spares=at > 0)
+        yield Situation("take_offer", "one_nop", at, answers=((3, 17),), spares=at > 0)
         yield Situation("offer", "one_nop", at, quiet=True)
     yield Situation("finish", "one_nop", last("one_nop") + 1, quiet=True)
 

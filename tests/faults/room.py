@@ -1,4 +1,4 @@
-"""Where programs run under the shim."""
+"""The folder in which programs run with the shim preloaded."""
 import os
 import subprocess
 import tempfile
@@ -6,8 +6,8 @@ import tempfile
 from situations import SCRIPTS, shown_places, text_of
 
 HERE = os.path.dirname(os.path.realpath(__file__))
-TOP = os.path.dirname(HERE)
-# All growths of a call are refused up to here, and so many more, evenly spread.
+TOP = os.path.dirname(os.path.dirname(HERE))
+# Of the allocations of a call each of the first FIRST fails in turn, and SPREAD of the others, evenly spread.
 FIRST, SPREAD = 500, 200
 
 
@@ -21,7 +21,7 @@ def require(holds, why):
 
 
 class Room:
-    """A folder in which programs run under the shim, and what they are run on."""
+    """A folder in which programs run with the shim preloaded, and the scripts that they run on."""
 
     def __init__(self, path):
         self.path = path
@@ -38,7 +38,7 @@ class Room:
         return f"{self.path}/{name}.json"
 
     def lines_of(self, asked):
-        """The lines that a session is asked: those of all places of a script, or as they are written."""
+        """Returns the lines for a session: those that show all places of a script, or the given ones."""
         if asked is None:
             return b""
         if asked not in self.asked:
@@ -46,38 +46,38 @@ class Room:
         return self.asked[asked]
 
     def ran(self, words, what, how, number, given=b"", here=None):
-        """Runs words under the shim. Without a number growths are counted between the lines of the program.
+        """Runs words with the shim preloaded. Without a number the program's own lines say when allocations are counted.
 
-        Returns what ran, and whether the refusal was reached and how many were counted."""
-        env, report = self.refusing(what, how, number)
+        Returns what ran, whether the failure was injected, and how many calls were counted."""
+        env, report = self.injecting(what, how, number)
         done = subprocess.run(words, input=given, capture_output=True, env=env, cwd=here or self.path, timeout=60, check=False)
-        return done, *told_by(report, done)
+        return done, *reported(report, done)
 
-    def refusing(self, what, how, number):
-        """The environment in which a program is refused, and the file in which the shim tells of it."""
+    def injecting(self, what, how, number):
+        """Returns the environment that makes the shim inject a failure, and the file to which the shim reports."""
         handle, report = tempfile.mkstemp(dir=self.path)
         os.close(handle)
         os.unlink(report)
-        env = {"PATH": os.environ["PATH"], "LD_PRELOAD": self.shim, "REFUSALS_WHAT": what, "REFUSALS_HOW": how,
-               "REFUSALS_REPORT": report}
+        env = {"PATH": os.environ["PATH"], "LD_PRELOAD": self.shim, "FAULTS_WHAT": what, "FAULTS_HOW": how,
+               "FAULTS_REPORT": report}
         if number is not None:
-            env["REFUSALS_N"] = str(number)
+            env["FAULTS_N"] = str(number)
         return env, report
 
 
-def told_by(report, done):
-    """Whether the refusal was reached in what ran, and how many were counted."""
+def reported(report, done):
+    """Returns whether the failure was injected into what ran, and how many calls were counted."""
     if not os.path.exists(report):
-        require(done.returncode < 0, "the shim told nothing")
+        require(done.returncode < 0, "the shim reported nothing")
         return False, 0
     with open(report, encoding="ascii") as it:
-        told = it.read().split()
+        words = it.read().split()
     os.unlink(report)
-    return told[0] == "reached", int(told[1])
+    return words[0] == "reached", int(words[1])
 
 
 def numbers_of(count):
-    """The growths that are refused, of so many."""
+    """Returns the numbers of the allocations that fail in turn, out of `count`."""
     if count <= FIRST + SPREAD:
         return list(range(1, count + 1))
     step = (count - FIRST) / SPREAD
@@ -85,5 +85,5 @@ def numbers_of(count):
 
 
 def note_of(numbers, count):
-    """What is said where not all growths are refused."""
-    return "" if len(numbers) == count else f"the first {FIRST} and {SPREAD} more of {count} growths were refused"
+    """Returns a note where not every allocation fails in turn."""
+    return "" if len(numbers) == count else f"of {count} allocations the first {FIRST} and {SPREAD} more failed in turn"
