@@ -152,7 +152,7 @@ issued_holds w x l u = by x.entry.fd refl
 
     fits : (fd : ℕ) → x.entry.fd ≡ pos fd → (o : Option DescriptorState) → descriptor_of w fd ≡ o → is_usable x o ≡ true → HoldsDescriptor w (record x { phase = Issued; held = held_by x })
     fits fd e None g k = absurd cc
-    fits fd e (Some d) g k = record { fd = fd; held = ap (λ b. if b then number_in x.entry.fd else None) u ∙ ap number_in e; descriptor = d; there = g; fits = second d.is_open (fits_end x.entry.opcode d.end) k }
+    fits fd e (Some d) g k = record { fd = fd; held = ap (λ b. if b then number_in x.entry.fd else None) u ∙ ap number_in e; named = e; descriptor = d; there = g; fits = second d.is_open (fits_end x.entry.opcode d.end) k }
       where
         second : (a b : Bool) → (a && b) ≡ true → b ≡ true
         second true b h = h
@@ -166,7 +166,10 @@ issued_holds w x l u = by x.entry.fd refl
 started_row : (w : WorldState) (c n : ℕ) (x : Row) → is_ended x.phase ≡ false → lacks_descriptor w x ≡ false → RowFormed w x → RowFormed w (started c n x)
 started_row w c n x q l h = record {
   opcode = λ u. h.opcode (ap not q);
-  holds = λ i u. let d = issued_holds w x l u in record { fd = d.fd; held = d.held; descriptor = d.descriptor; there = d.there; fits = d.fits };
+  holds = λ i u. let d = issued_holds w x l u in record { fd = d.fd; held = d.held; named = d.named; descriptor = d.descriptor; there = d.there; fits = d.fits };
+  holds_none = λ i u. ap (λ b. if b then number_in x.entry.fd else None) u;
+  not_yet_held = λ z. absurd cc;
+  not_yet_due = λ z. absurd cc;
   time = λ u. h.time (ap not q);
   timed = λ u. h.timed (ap not q);
   due = λ i. deadline_timed c x;

@@ -18,7 +18,7 @@ use Rattle.opcodes.specs.Check.{bad_address, can_guard, check_of, row_of, op_of,
 use Rattle.opcodes.specs.Opcodes.{fits_end, is_timer}
 use Rattle.places.specs.Lists.{updated}
 use Rattle.links_drains.specs.Links.{has_flag}
-use Rattle.links_drains.specs.Phases.{is_ended, is_issued, is_unfinished, counts, counted_of}
+use Rattle.links_drains.specs.Phases.{is_ended, is_issued, is_queued, is_unfinished, counts, counted_of}
 use Rattle.links_drains.specs.Batches.{behind_in, error_at, error_of, rows_of}
 use Rattle.links_drains.proofs.Counting.{matching-more}
 use Rattle.links_drains.proofs.Chains.{became}
@@ -79,6 +79,9 @@ ended_row w x h = by x.phase refl h
     by (Ended n) e k = record {
       opcode = λ u. absurd (let o = ap is_unfinished (sym e) ∙ u in cc);
       holds = λ i. absurd (let o = ap is_issued (sym e) ∙ i in cc);
+      holds_none = λ i. absurd (let o = ap is_issued (sym e) ∙ i in cc);
+      not_yet_held = λ q. absurd (let o = ap is_queued (sym e) ∙ q in cc);
+      not_yet_due = λ q. absurd (let o = ap is_queued (sym e) ∙ q in cc);
       time = λ u. absurd (let o = ap is_unfinished (sym e) ∙ u in cc);
       timed = λ u. absurd (let o = ap is_unfinished (sym e) ∙ u in cc);
       due = λ i. absurd (let o = ap is_issued (sym e) ∙ i in cc);
@@ -181,6 +184,9 @@ batch_row w first es i x e p =
     subst (RowFormed w) (sym b.is) (record {
       opcode = λ u. passes_supported w (behind_in es i) b.entry passes;
       holds = λ j. absurd cc;
+      holds_none = λ j. absurd cc;
+      not_yet_held = λ q. refl;
+      not_yet_due = λ q. refl;
       time = λ u. time_of_bound w (behind_in es i) b.entry;
       timed = λ u. passes_time w (behind_in es i) b.entry passes;
       due = λ j. absurd cc;
@@ -196,10 +202,19 @@ formed_rows-updated w f rows r g h = record { each = λ j y e. by j y (updated_g
 
 -- in another world of the setup
 row_moved : (w v : WorldState) (x : Row) → OneWorldSetup w v → RowFormed w x → RowFormed v x
-row_moved w v x s h = record { opcode = h.opcode; holds = λ i u. there (h.holds i u); time = h.time; timed = h.timed; due = h.due }
+row_moved w v x s h = record {
+  opcode = h.opcode;
+  holds = λ i u. there (h.holds i u);
+  holds_none = h.holds_none;
+  not_yet_held = h.not_yet_held;
+  not_yet_due = h.not_yet_due;
+  time = h.time;
+  timed = h.timed;
+  due = h.due;
+}
   where
     there : HoldsDescriptor w x → HoldsDescriptor v x
-    there d = let e = descriptor_alike w v s d.fd d.descriptor d.there in record { fd = d.fd; held = d.held; descriptor = e.0; there = e.1; fits = ap (fits_end x.entry.opcode) e.2 ∙ d.fits }
+    there d = let e = descriptor_alike w v s d.fd d.descriptor d.there in record { fd = d.fd; held = d.held; named = d.named; descriptor = e.0; there = e.1; fits = ap (fits_end x.entry.opcode) e.2 ∙ d.fits }
 
 pub formed_rows-moved : (w v : WorldState) (rows : List Row) → OneWorldSetup w v → FormedRows w rows → FormedRows v rows
 formed_rows-moved w v rows s h = record { each = λ r x e. row_moved w v x s (h.each r x e) }

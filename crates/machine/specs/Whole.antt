@@ -1,5 +1,5 @@
 -- The whole machine: what stands in each place, and which machines are well formed.
-use Rattle.std.specs.Prelude.{◌≡◌, ℕ, ◌+◌, ◌-◌, ◌*◌, ◌<◌, ◌≤◌, ◌^◌, Bool, true, false, not, if◌then◌else◌, Option, Some, None, is_some, IsSome, slice_get, map, List, length, FitsSigned}
+use Rattle.std.specs.Prelude.{◌≡◌, pos, ℕ, ◌+◌, ◌-◌, ◌*◌, ◌<◌, ◌≤◌, ◌^◌, Bool, true, false, not, if◌then◌else◌, Option, Some, None, is_some, IsSome, slice_get, map, List, length, FitsSigned}
 use Rattle.std.specs.Int.{w64}
 use Rattle.entries.specs.declared.row.Row.{Row}
 use Rattle.places.specs.declared.place.Place.{Place}
@@ -13,7 +13,7 @@ use Rattle.ring_words.specs.Rings.{SubWords, ComWords, waiting, sub_seen, sub_ca
 use Rattle.links_drains.specs.Counts.{is_met}
 use Rattle.links_drains.specs.Links.{is_guard, Chained}
 use Rattle.links_drains.specs.Rows.{fixed_of, Stay, table_seen, table_can_put}
-use Rattle.links_drains.specs.Phases.{is_issued, is_unfinished, counted_of, ended_of}
+use Rattle.links_drains.specs.Phases.{is_queued, is_issued, is_unfinished, counted_of, ended_of}
 use Rattle.model_files.specs.declared.descriptor.DescriptorState.{DescriptorState}
 use Rattle.model_files.specs.Worlds.{WorldState, WorldFormed, world_seen, world_can_put, descriptor_of, OneSetup as OneWorldSetup, PutsWithin}
 use Rattle.opcodes.specs.Check.{op_of}
@@ -147,10 +147,12 @@ pub record Stands (size : ℕ) (x : ThreadState) : Type 0 where
 abbrev pub AllStand : ℕ → List ThreadState → Type 0
 AllStand size threads = (t : ℕ) (x : ThreadState) → slice_get threads t ≡ Some x → Stands size x
 
--- The row holds a descriptor of the setup, of an end that fits it.
+-- The row holds the descriptor that its entry names, which is one of the setup, of an end that fits
+-- it.
 pub record HoldsDescriptor (w : WorldState) (x : Row) : Type 0 where
   pub fd : ℕ
   pub held : x.held ≡ Some fd
+  pub named : x.entry.fd ≡ pos fd
   pub descriptor : DescriptorState
   pub there : descriptor_of w fd ≡ Some descriptor
   pub fits : fits_end x.entry.opcode descriptor.end ≡ true
@@ -160,12 +162,16 @@ pub record HoldsDescriptor (w : WorldState) (x : Row) : Type 0 where
 abbrev pub IsTime : Option ℕ → Type 0
 IsTime time = (t : ℕ) → time ≡ Some t → t ≤ (2 ^ 63 - 1) * 1000000001
 
--- While a row is unfinished its opcode is a supported one, and it has a time just if it is a
--- TIMEOUT or a LINK_TIMEOUT; while it is issued it holds its descriptor, if it uses one, and has a
--- deadline just if it has a time.
+-- While a row is unfinished its opcode is a supported one, and it has a time exactly if it is a
+-- TIMEOUT or a LINK_TIMEOUT. While it is queued it holds no descriptor and has no deadline. While it
+-- is issued it holds its descriptor if its opcode uses one, and none otherwise, and it has a deadline
+-- exactly if it has a time.
 pub record RowFormed (w : WorldState) (x : Row) : Type 0 where
   pub opcode : is_unfinished x.phase ≡ true → IsSome (op_of x.entry.opcode)
   pub holds : is_issued x.phase ≡ true → uses_descriptor x.entry.opcode ≡ true → HoldsDescriptor w x
+  pub holds_none : is_issued x.phase ≡ true → uses_descriptor x.entry.opcode ≡ false → x.held ≡ None
+  pub not_yet_held : is_queued x.phase ≡ true → x.held ≡ None
+  pub not_yet_due : is_queued x.phase ≡ true → x.deadline ≡ None
   pub time : is_unfinished x.phase ≡ true → IsTime x.time
   pub timed : is_unfinished x.phase ≡ true → is_some x.time ≡ is_timer x.entry.opcode
   pub due : is_issued x.phase ≡ true → is_some x.deadline ≡ is_some x.time
