@@ -1,4 +1,5 @@
-//! Notes of old values, compact and of one kind each.
+//! Notes: places with their old values. Each kind of place has a compact form of note, and finds in
+//! constant time whether a place has one already.
 
 pub mod clearing;
 pub mod completions;
