@@ -41,8 +41,8 @@ pub record HasRoom {X : Type 0} (n limit : ℕ) (s : SlotList X) : Type 0 where
   pub spare : n ≤ s.spare
   pub reached : 0 < n → limit ≤ s.reached
 
--- The invariant of a recorder: no place has both a single note and a note of a kind, and there is
--- memory for the notes that it has reserved room for.
+-- The invariant of a recorder: no place has both a single note and a note of a kind, and the
+-- reserved memory is there.
 pub record IsSound (ns : SlotList NumberNote) (cs : SlotList CompletionNote) (rs : SlotList RowNote) (x : RestList) (r : Room) : Type 0 where
   pub apart : (p : Place) → is_some (named x.odd p) ≡ true → named (kind_changes ns.notes cs.notes rs.notes (run_changes x.runs x.olds)) p ≡ None
   pub kept : AllKept x.olds

@@ -1,4 +1,4 @@
--- Notes that few steps make, as contracts see them.
+-- The rarer kinds of notes, as contracts see them.
 use Rattle.std.specs.Prelude.{ℕ, List, Option}
 use Rattle.places.specs.declared.value.Change.{Change}
 use Rattle.places.specs.declared.notes.runs.Run.{Run}

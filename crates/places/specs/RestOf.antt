@@ -1,4 +1,4 @@
--- The notes in a box of those that few steps make, if there is one.
+-- The rarer notes in a box, if there is one.
 use Rattle.std.specs.Prelude.{◌≡◌, [], true, Option, Some, None, Box}
 use Rattle.places.specs.declared.notes.kept.Inner.{Inner}
 use Rattle.places.specs.RestList.{RestList}

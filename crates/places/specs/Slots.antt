@@ -42,7 +42,7 @@ completion_slot_of n = n.slot
 abbrev pub completion_change : CompletionNote → Change
 completion_change n = record { place = Completion n.slot; old = Some (Completed n.old) }
 
--- The value that `Small` stands for.
+-- The value that a `Small` represents.
 abbrev pub value_of : Small → Value
 value_of (Amount n) = Number n
 value_of (Answer n) = Signed n

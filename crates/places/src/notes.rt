@@ -1,5 +1,5 @@
-//! Notes: places with their old values. Each kind of place has a compact form of note, and finds in
-//! constant time whether a place has one already.
+//! Notes: places with their old values. Each kind of place has a compact form, and a
+//! place has at most one note.
 
 pub mod clearing;
 pub mod completions;

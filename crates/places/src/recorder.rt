@@ -140,8 +140,8 @@ impl Recorder {
         Ok(())
     }
 
-    /// Allocates memory for n notes of requests at once. Unlike
-    /// `room_for_others`, it guarantees nothing.
+    /// Allocates memory for n notes of requests at once, for speed only: unlike
+    /// `room_for_others` it guarantees nothing.
     pub fn expect_rows(&mut self, n: usize) -> Result<(), AllocError>
         ensures made { self.new.made ≡ self.old.made }
         ensures kept { HasAsMuch self.old self.new }

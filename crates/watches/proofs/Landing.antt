@@ -61,7 +61,7 @@ quiet_more w ws from to q h k a b = by (cases_lt k to)
         let e : to ≡ k = omega arith in
         subst (λ (n : ℕ). Unchanged w ws.watchpoints n × Unmet w ws.breakpoints n) e h
 
--- The same, for the event that the walker just applied.
+-- The same, for the event that the walker applied last.
 pub quiet_on : (w v : Walk) (ws : Stops) (at : ℕ) → v ≡ moved w v.at → v.at ≡ at + 1 → IsStop v ws None → Quiet w ws w.at at → Quiet w ws w.at v.at
 quiet_on w v ws at e g h q =
     let k : IsStop (moved w v.at) ws None = subst (λ (x : Walk). IsStop x ws None) e h in
@@ -69,7 +69,7 @@ quiet_on w v ws at e g h q =
     let here : Unchanged w ws.watchpoints at × Unmet w ws.breakpoints at = subst (λ (m : ℕ). Unchanged w ws.watchpoints m × Unmet w ws.breakpoints m) n k in
     subst (Quiet w ws w.at) (sym g) (quiet_more w ws w.at at q here)
 
--- If the event that the walker just applied stops, the stop satisfies `IsLater`.
+-- If the event that the walker applied last stops, the stop satisfies `IsLater`.
 pub stops_there : (w v : Walk) (ws : Stops) (at : ℕ) (s : Stop) → v ≡ moved w v.at → v.at ≡ at + 1 → w.at ≤ at → v.at ≤ length w.events → IsStop v ws (Some s) → Quiet w ws w.at at → IsLater w ws s × (position_of w s ≡ v.at)
 stops_there w v ws at s e g low high h q = by s (subst (λ (x : Walk). IsStop x ws (Some s)) e h)
   where

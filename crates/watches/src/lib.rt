@@ -1,4 +1,4 @@
-//! Watchpoints and breakpoints of a session: `rcont` and `cont` move a walker to the event that
+//! Watchpoints and breakpoints of a session. `rcont` and `cont` move a walker to an event that
 //! changes a watched place, or to a moment at which a place takes a given value.
 #![tactic(auto)]
 

@@ -133,14 +133,12 @@ pub fn back_to(walker: &mut Walker, moment: usize)
     }
 }
 
-// Returns whether a record names one of the places.
 fn names_any(past: &Record, places: &[Place]) -> bool
     ensures { result ≡ list_any (names past.now) places.now }
 {
     places.iter().any(|place| names_place(past, *place))
 }
 
-// Returns whether a record names a place.
 fn names_place(past: &Record, place: Place) -> bool
     ensures { result ≡ names past.now place }
 {

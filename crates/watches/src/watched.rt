@@ -109,7 +109,6 @@ impl Watches {
     }
 }
 
-// Returns whether a place is in the list.
 fn has_place(places: &[Place], place: Place) -> bool
     ensures { result ≡ is_watched places.now place }
 {

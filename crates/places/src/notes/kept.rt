@@ -1,4 +1,4 @@
-//! The closed form of the notes that few steps make: runs of bytes, and places one at a time.
+//! The rarer kinds of notes, runs of bytes and single places, after a recorder is closed.
 ghost use Rattle.std.specs.Prelude.{◌≡◌, [], is_some};
 ghost use Rattle.places.specs.View.{named};
 ghost use Rattle.places.specs.Runs.{run_changes};
@@ -27,7 +27,7 @@ impl Inner {
     }
 }
 
-/// These notes after closing. Without any they take one word.
+/// These notes after closing. If there are none, it is one word in size.
 #[derive(Drop)]
 pub struct Kept {
     pub(crate) inner: Option<Box<Inner>>,

@@ -13,8 +13,8 @@ use crate::place::Place;
 use crate::value::Change;
 use std::marker::Model;
 
-/// Which notes a record has besides its packed ones: none, those that few steps make, or all
-/// kinds, where packing failed.
+/// Which notes a record has besides its packed ones: none; only the rarer kinds; or all
+/// kinds, if packing failed.
 #[derive(Drop)]
 pub enum Held {
     Nothing,
@@ -39,8 +39,8 @@ impl Model for More {
 }
 
 impl More {
-    /// Joins unpacked notes of numbers, completions and rows with those that few steps
-    /// make. Allocates nothing.
+    /// Joins unpacked notes of numbers, completions and rows with those of the rarer
+    /// kinds. Allocates nothing.
     pub fn of(wide: Wide, rest: Kept) -> More
         ensures wide { result.wide ≡ wide }
         ensures rest { result.rest ≡ rest }
@@ -63,7 +63,6 @@ impl More {
         }
     }
 
-    /// Returns the unpacked notes of numbers.
     pub fn numbers(&self) -> &[NumberNote]
         ensures { result.now ≡ self.now.wide.numbers }
     {
@@ -73,7 +72,6 @@ impl More {
         }
     }
 
-    /// Returns the unpacked notes of completions.
     pub fn completions(&self) -> &[CompletionNote]
         ensures { result.now ≡ self.now.wide.completions }
     {
@@ -83,7 +81,6 @@ impl More {
         }
     }
 
-    /// Returns the unpacked notes of rows and other places.
     pub fn rows(&self) -> &[RowNote]
         ensures { result.now ≡ self.now.wide.rows }
     {

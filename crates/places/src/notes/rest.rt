@@ -1,4 +1,4 @@
-//! The open form of the notes that few steps make: runs of bytes, and places one at a time.
+//! The rarer kinds of notes, runs of bytes and single places, while a recorder is open.
 ghost use Rattle.std.specs.Prelude.{◌≡◌, ◌+◌, ◌<◌, ◌≤◌, ◌^◌, ◌∷◌, ◌++◌, [], ℕ, length, None, OnOk, OnErr, IsOk, is_some};
 ghost use Rattle.places.specs.View.{named, NamesOnce};
 ghost use Rattle.places.specs.Closed.{KeptOf};
@@ -14,7 +14,7 @@ use std::alloc::{AllocError, Global};
 use std::marker::Model;
 use std::mem;
 
-/// Notes of bytes and of single places. Without any they take one word.
+/// Notes of bytes and of single places. If there are none, it is one word in size.
 #[derive(Drop)]
 pub struct Rest {
     pub(crate) inner: Option<Box<Inner>>,

@@ -66,7 +66,6 @@ impl Small {
         }
     }
 
-    // Converts back.
     fn value(&self) -> Value
         ensures { result ≡ value_of self.now }
     {

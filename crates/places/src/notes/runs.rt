@@ -19,7 +19,7 @@ use std::marker::Model;
 pub enum Region {
     Memory,
     File(u32),
-    /// The durable bytes of a file, those that an fsync has reached.
+    /// The durable contents of a file.
     Durable(u32),
     Pipe(u32),
 }

@@ -31,15 +31,12 @@ pub trait Slotted {
     /// The place and its old value.
     ghost change: { Self → Change };
 
-    /// Returns the slot of the place.
     fn slot(&self) -> usize
         ensures { result ≡ slot self.now };
 
-    /// Returns the place.
     fn place(&self) -> Place
         ensures { result ≡ (change self.now).place };
 
-    /// Returns the place and its old value.
     fn change(&self) -> Change
         ensures { result ≡ change self.now };
 
@@ -166,7 +163,6 @@ impl<N: Slotted + Copy> Slots<N> {
     }
 }
 
-// Returns whether one of the notes has this place.
 fn has_note<N: Slotted>(notes: &[N], place: Place) -> bool
     ensures { result ≡ list_any (λ n. same_place (N.change n).place place) notes.now }
 {
@@ -194,7 +190,6 @@ pub fn is_same_place(a: Place, b: Place) -> bool
     a.is(&b)
 }
 
-// Drops the notes whose place has its old value in `whole`.
 fn drop_same_notes<N: Slotted + Copy, A: At>(notes: &mut Vec<N>, whole: &A)
     ensures { KeptOf (A.seen whole.now) (map N.change notes.old.items)
         (map N.change notes.new.items) }

@@ -14,7 +14,7 @@ pub struct Kinds {
     pub(crate) numbers: Vec<NumberNote>,
     pub(crate) completions: Vec<CompletionNote>,
     pub(crate) rows: Vec<RowNote>,
-    /// The notes that few steps make, if the record has both.
+    /// The notes of the rarer kinds, if the record has both.
     pub(crate) rest: Kept,
 }
 
