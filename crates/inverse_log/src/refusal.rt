@@ -26,7 +26,7 @@ pub enum WalkRefusal {
 const _: () = prove!(WalkRefusal::NoSuchMoment as u32 == 1 && WalkRefusal::Memory as u32 == 2);
 
 impl ExtendRefusal {
-    /// Returns the number of the refusal, as replies print it.
+    /// Returns the number of the refusal: 1 or 2.
     pub fn number(&self) -> u32
         ensures { result ≡ number_of self.now }
     {

@@ -1,5 +1,5 @@
 //! Thresholds of numbers, with minima of blocks, to find the least number whose threshold is
-//! reached. The request table keeps here the totals at which counting TIMEOUTs complete.
+//! reached. The request table stores here the totals at which counting TIMEOUTs complete.
 ghost use Rattle.std.specs.Prelude.{◌≡◌, ◌≢◌, ℕ, ◌+◌, ◌-◌, ◌^◌, ◌<◌, ◌≤◌, ◌==◌, [], IfOk, IfSome, IfNone, OnOk, length, if◌then◌else◌};
 ghost use Rattle.number_sets.specs.Thresholds.{threshold_at, IsNextReached, NoneReachedFrom};
 

@@ -25,14 +25,14 @@ all_changes ns cs rs x = kind_changes ns cs rs (run_changes x.runs x.olds) ++ x.
 abbrev pub record_changes : List Change → WideList → RestList → List Change
 record_changes cs w x = cs ++ all_changes w.numbers w.completions w.rows x
 
--- There are no notes, and no memory is reserved.
+-- There are no notes of numbers, completions or rows, and no memory is reserved.
 pub record NothingNoted (ns : List NumberNote) (cs : List CompletionNote) (rs : List RowNote) (r : Room) : Type 0 where
   pub numbers : ns ≡ []
   pub completions : cs ≡ []
   pub rows : rs ≡ []
   pub held : r.held ≡ 0
 
--- Either the box for unpacked notes is allocated, or there are no notes and no memory is reserved.
+-- Either the box for unpacked notes is allocated, or there are no notes that it may have to take.
 abbrev pub IsReady : List NumberNote → List CompletionNote → List RowNote → Room → WideList → Type 0
 IsReady ns cs rs r w = (w.is_ready ≡ true) ⊎ NothingNoted ns cs rs r
 

@@ -45,7 +45,8 @@ pub struct Recorder {
     rows: Slots<RowNote>,
     rest: Rest,
     room: Room,
-    /// A box for unpacked notes, allocated before the first note, so that closing cannot fail.
+    /// A box for notes that cannot be packed, allocated before the first of them is added, so
+    /// that closing cannot fail.
     spare: Wide,
     /// The buffer in which records are packed.
     scratch: Vec<u8>,

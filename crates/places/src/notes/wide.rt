@@ -55,8 +55,8 @@ impl Wide {
         Wide { kinds: None }
     }
 
-    /// Allocates the box, if it is missing. A recorder does this before its first note, so
-    /// that closing cannot fail.
+    /// Allocates the box, if it is missing. A recorder does this before it adds a note of these
+    /// kinds, so that closing cannot fail.
     pub fn ready(&mut self, alloc: Global) -> Result<(), AllocError>
         ensures ok { OnOk result (self.new.is_ready ≡ true) }
         ensures there { self.old.is_ready ≡ true → IsOk result }
