@@ -1,5 +1,5 @@
-//! Entries and completions of the rings, the rows that entries become, and what a kernel can choose
-//! as a request ends.
+//! Submission entries, completions, and requests (rows): the values that every other crate works
+//! with, and the byte layouts of the two ring entries.
 #![tactic(auto)]
 
 pub mod choice;
