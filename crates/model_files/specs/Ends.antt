@@ -51,12 +51,14 @@ pipe_mask p Write writer reader = bit_if 4 (nat_lt 0 (room_in p)) + bit_if 8 (no
 abbrev pub counter_mask : ℕ → ℕ
 counter_mask n = bit_if 1 (nat_lt 0 n) + bit_if 4 (nat_lt n (2 ^ 64 - 2))
 
+-- The mask of an object; 0 if there is none.
 abbrev pub body_mask : End → Bool → Bool → Option Body → ℕ
 body_mask end writer reader None = 0
 body_mask end writer reader (Some (File f)) = 5
 body_mask end writer reader (Some (Pipe p)) = pipe_mask p end writer reader
 body_mask end writer reader (Some (EventFd n)) = counter_mask n
 
+-- The mask of a descriptor.
 abbrev pub mask_behind : (ℕ → Bool) → WorldState → Option DescriptorState → ℕ
 mask_behind held w None = 0
 mask_behind held w (Some d) =

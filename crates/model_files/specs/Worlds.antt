@@ -81,6 +81,7 @@ descriptor_at w (negsuc n) = None
 
 -- ---- Places
 
+-- The places of the world: memory, objects and descriptors.
 abbrev pub world_owns : Place → Bool
 world_owns (MemoryByte a) = true
 world_owns (FileByte o i) = true
@@ -95,6 +96,7 @@ world_owns (TakenCount o) = true
 world_owns (EventCount o) = true
 world_owns _ = false
 
+-- The value of the place `OpenMark`.
 abbrev pub mark_of : Bool → ℕ
 mark_of is_open = if is_open then 1 else 0
 
@@ -138,6 +140,7 @@ ContentsFit (FileOf bytes) = length bytes ≤ 65536
 ContentsFit (PipeOf capacity) = (0 < capacity) × (capacity ≤ 65536)
 ContentsFit (EventFdOf counter) = counter < 2 ^ 64 - 1
 
+-- An object at the start of a run.
 abbrev pub body_start : Contents → Body
 body_start (FileOf bytes) = File (file_start bytes)
 body_start (PipeOf capacity) = Pipe (pipe_start capacity)
@@ -149,6 +152,7 @@ position_start (FileOf bytes) = Some 0
 position_start (PipeOf capacity) = None
 position_start (EventFdOf counter) = None
 
+-- A descriptor at the start of a run: open, and at the start of its file.
 abbrev pub descriptor_start : List Object → Descriptor → DescriptorState
 descriptor_start objects d = record {
   object = d.object;

@@ -88,6 +88,7 @@ abbrev pub row_of : WorldState → Option ℕ → Sqe → Option Op → Result O
 row_of w behind entry None = invalid
 row_of w behind entry (Some op) = tested w behind entry op
 
+-- The result of all checks: the opcode, or a negated error number.
 abbrev pub check_of : WorldState → Option ℕ → Sqe → Result Op ℤ
 check_of w behind entry =
     if bit_and entry.flags refused_flags == 0 then row_of w behind entry (op_of entry.opcode)

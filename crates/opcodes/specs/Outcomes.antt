@@ -152,6 +152,7 @@ event_written len counter number c =
 
 -- ---- By opcode
 
+-- The outcome of an FSYNC: -EINVAL unless the object is a file.
 abbrev pub fsync_outcome : Option Stock → Choice → Outcome
 fsync_outcome None c = BadChoice
 fsync_outcome (Some (File len)) c = file_synced c
@@ -162,10 +163,12 @@ fsync_outcome (Some (EventFd counter)) c = fixed (negsuc 21) c
 abbrev pub ready_of : Sqe → ℕ → ℕ
 ready_of entry mask = bit_and mask (bit_or entry.operation_flags 24)
 
+-- The outcome of a POLL_ADD. It waits until a requested event is ready.
 abbrev pub poll_outcome : Sqe → ℕ → Choice → Outcome
 poll_outcome entry mask c =
     if ready_of entry mask == 0 then Waits else fixed (pos (ready_of entry mask)) c
 
+-- The outcome of a READ, after the check of its buffer.
 abbrev pub read_outcome : Sqe → ℕ → Bool → Option Stock → Choice → Outcome
 read_outcome entry position writer None c = BadChoice
 read_outcome entry position writer (Some (File len)) c = file_read entry position len c
@@ -173,6 +176,8 @@ read_outcome entry position writer (Some (Pipe filled capacity)) c =
     pipe_read entry.len writer filled c
 read_outcome entry position writer (Some (EventFd counter)) c = event_read entry.len counter c
 
+-- The outcome of a WRITE, after the check of its buffer. `number` is the 64-bit number in the
+-- buffer.
 abbrev pub write_outcome : Sqe → ℕ → Bool → ℕ → Option Stock → Choice → Outcome
 write_outcome entry position reader number None c = BadChoice
 write_outcome entry position reader number (Some (File len)) c = file_written entry position c

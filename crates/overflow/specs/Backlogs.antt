@@ -70,6 +70,7 @@ posted_in_order w (c ∷ cs) = posted_in_order (posted_one w c) cs
 
 -- ---- The parts that posting changes
 
+-- The submission ring, which has the overflow flag, the completion ring, and the backlog.
 pub record Delivery : Type 0 where
   pub submissions : SubWords
   pub completions : ComWords

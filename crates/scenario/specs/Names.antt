@@ -85,6 +85,7 @@ is_of _ _ = false
 abbrev pub descriptor_at : Setup → ℕ → Option Descriptor
 descriptor_at s f = if nat_lt f 3 then None else slice_get s.fds (f - 3)
 
+-- Whether a descriptor refers to a file, so that it has a position.
 abbrev pub is_open_file : Setup → Option Descriptor → Bool
 is_open_file s None = false
 is_open_file s (Some d) =
@@ -213,6 +214,7 @@ byte_named s (Some p) name word = byte_in s p (object_named s (owner_of_byte p) 
 
 -- ---- All names
 
+-- The place with a name of two words.
 abbrev pub pair_named : Setup → Option PlaceKind → List ℕ → List ℕ → Result Place PlaceFault
 pair_named s (Some k) w word = member_of s k (number_of word)
 pair_named s None w name = ok_or (object_place s (object_place_named w) name) fault.Place

@@ -32,6 +32,8 @@ abbrev pub is_completion_size : ℕ → Option ℕ → Bool
 is_completion_size entries None = true
 is_completion_size entries (Some cq) = is_between 1 8192 cq && nat_le (rounded entries) (rounded cq)
 
+-- Whether both rings have valid sizes: at most 4,096 submission entries and 8,192 completion
+-- entries.
 abbrev pub has_ring_sizes : Setup → Bool
 has_ring_sizes s = is_between 1 4096 s.entries && is_completion_size s.entries s.cq
 
@@ -45,6 +47,7 @@ is_instruction size (Store address bytes) =
     nat_le (length bytes) 4096 && nat_le (address + length bytes) 65536
 is_instruction size _ = true
 
+-- Whether a program has at most 4,096 instructions, each within its limits.
 abbrev pub is_program : ℕ → List Instruction → Bool
 is_program size p = nat_le (length p) 4096 && list_all (is_instruction size) p
 
@@ -60,6 +63,7 @@ has_memory s = nat_le (length s.memory) 65536
 abbrev pub is_name_byte : ℕ → Bool
 is_name_byte b = is_between 97 122 b || is_between 48 57 b || b == 95
 
+-- Whether bytes are a valid object name, at most 16 bytes long.
 abbrev pub is_name : List ℕ → Bool
 is_name n = is_between 1 16 (length n) && list_all is_name_byte n
 
@@ -94,6 +98,7 @@ is_end (File bytes) e = false
 is_end (EventFd counter) Whole = true
 is_end (EventFd counter) e = false
 
+-- Whether a descriptor's object exists and has its end.
 abbrev pub is_descriptor : List Object → Descriptor → Bool
 is_descriptor objects d =
     option_map_or (λ (o : Object). is_end o.contents d.end) (slice_get objects d.object) false

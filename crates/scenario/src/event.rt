@@ -34,8 +34,10 @@ pub enum Refusal {
     /// The thread waits in io_uring_enter(2) for more completions than there are.
     StillWaiting = 5,
     NoSuchRequest = 6,
+    /// The request isn't in the phase that the event requires.
     WrongPhase = 7,
-    /// Earlier requests have to complete first, because of a link or a drain.
+    /// Earlier requests have to complete first, because of a link or a drain. A LINK_TIMEOUT is never
+    /// eligible, since it is issued with its target.
     NotEligible = 8,
     /// The request's object isn't ready.
     NotReady = 9,

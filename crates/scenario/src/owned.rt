@@ -8,6 +8,7 @@ use crate::names::{PlaceFault, is_word, read_number};
 use crate::setup::Setup;
 use places::{Contents, Object, Place};
 
+/// The kind of an object.
 #[derive(Clone, Copy)]
 pub enum ObjectKind {
     File,
