@@ -134,8 +134,7 @@ pipe_written len reader filled capacity c =
     else if waits_for_room len (capacity - filled) capacity then Waits
     else fixed (pos (min len (capacity - filled))) c
 
--- ---- Eventfds: a READ waits until the counter is not 0, a WRITE until the sum is at most 2 ^ 64 -
--- 2
+-- ---- Eventfds: a READ waits while the counter is 0, a WRITE while the sum exceeds 2 ^ 64 - 2
 
 abbrev pub event_read : ℕ → ℕ → Choice → Outcome
 event_read len counter c =
@@ -152,7 +151,7 @@ event_written len counter number c =
 
 -- ---- By opcode
 
--- The outcome of an FSYNC: -EINVAL unless the object is a file.
+-- The outcome of an FSYNC: -EINVAL for a pipe or an eventfd.
 abbrev pub fsync_outcome : Option Stock → Choice → Outcome
 fsync_outcome None c = BadChoice
 fsync_outcome (Some (File len)) c = file_synced c

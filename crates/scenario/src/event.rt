@@ -36,8 +36,8 @@ pub enum Refusal {
     NoSuchRequest = 6,
     /// The request isn't in the phase that the event requires.
     WrongPhase = 7,
-    /// Earlier requests have to complete first, because of a link or a drain. A LINK_TIMEOUT is never
-    /// eligible, since it is issued with its target.
+    /// Earlier requests have to complete first, because of a link or a drain. A LINK_TIMEOUT is
+    /// never eligible, since it is issued with its target.
     NotEligible = 8,
     /// The request's object isn't ready.
     NotReady = 9,
