@@ -1,4 +1,4 @@
-//! What each opcode asks for, and what it can come to.
+//! For each opcode: the checks at submission, the possible results, and the effect of completing.
 #![tactic(auto)]
 
 pub mod checks;

@@ -1,11 +1,11 @@
-//! Opcodes (io_uring_enter(2)).
+//! The supported opcodes (io_uring_enter(2)).
 ghost use Rattle.std.specs.Prelude.{◌≡◌};
 ghost use Rattle.opcodes.specs.Check.{op_of};
 ghost use Rattle.opcodes.specs.Opcodes.{is_timer as is_timer_number, is_cancel as is_cancel_number, uses_descriptor as uses_number, fits_end as fits_end_of};
 
 use places::End;
 
-/// What an entry asks for.
+/// A supported opcode.
 #[derive(Clone, Copy)]
 pub enum Op {
     Nop = 0,
@@ -21,7 +21,7 @@ pub enum Op {
 }
 
 impl Op {
-    /// The opcode of a number, where it is supported.
+    /// Returns the opcode with a number, if it is supported.
     pub fn of(opcode: u8) -> Option<Op>
         ensures { result ≡ op_of opcode }
     {
@@ -41,31 +41,32 @@ impl Op {
     }
 }
 
-/// Whether an opcode is a TIMEOUT or a LINK_TIMEOUT. These aren't counted among the completions
-/// that a TIMEOUT waits for.
+/// Returns whether an opcode is TIMEOUT or LINK_TIMEOUT. Their completions don't count for the
+/// TIMEOUTs that wait for a number of completions.
 pub fn is_timer(opcode: u8) -> bool
     ensures { result ≡ is_timer_number opcode }
 {
     opcode == 11 || opcode == 15
 }
 
-/// Whether an opcode is a POLL_REMOVE, a TIMEOUT_REMOVE or an ASYNC_CANCEL. What these come to, and
-/// which requests they end, depends on the other requests.
+/// Returns whether an opcode is POLL_REMOVE, TIMEOUT_REMOVE or ASYNC_CANCEL. Their results, and
+/// which requests they complete, depend on the other requests.
 pub fn is_cancel(opcode: u8) -> bool
     ensures { result ≡ is_cancel_number opcode }
 {
     opcode == 7 || opcode == 12 || opcode == 14
 }
 
-/// Whether a request of an opcode holds its descriptor once it is issued.
+/// Returns whether a request with this opcode holds its descriptor from its issue to its
+/// completion.
 pub fn uses_descriptor(opcode: u8) -> bool
     ensures { result ≡ uses_number opcode }
 {
     opcode == 3 || opcode == 6 || opcode == 22 || opcode == 23
 }
 
-/// Whether a request of an opcode can use an end: nothing is read from a pipe's write end, nor
-/// written to its read end (pipe(7)).
+/// Returns whether a request can use this end of its object: a pipe's write end can't be read, nor
+/// its read end written (pipe(7)).
 pub fn fits_end(opcode: u8, end: End) -> bool
     ensures { result ≡ fits_end_of opcode end }
 {

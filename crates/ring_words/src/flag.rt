@@ -2,17 +2,17 @@
 ghost use Rattle.std.specs.Prelude.{◌≡◌};
 ghost use Rattle.ring_words.specs.Rings.{bit_of};
 
-/// A flag of the submission ring's flags word, with its bit.
+/// A bit of the submission ring's flags word.
 #[derive(Clone, Copy)]
 pub enum RingFlag {
-    /// The poller sleeps until it is woken.
+    /// IORING_SQ_NEED_WAKEUP: the poller sleeps until it is woken.
     NeedWakeup = 1,
-    /// Completions are kept that did not fit into the ring.
+    /// IORING_SQ_CQ_OVERFLOW: completions that did not fit into the ring are pending.
     CqOverflow = 2,
 }
 
 impl RingFlag {
-    /// Its bit.
+    /// Returns the bit.
     pub fn bit(self) -> u32
         ensures { result ≡ bit_of self }
     {
