@@ -1,4 +1,4 @@
--- Threads, and what is seen of them.
+-- Threads of the program, and their places.
 use Rattle.std.specs.Prelude.{ℕ, ℤ, pos, ◌<◌, ◌^◌, Bool, true, false, Option, Some, None, option_map, slice_get, List, length, FitsSigned}
 use Rattle.std.specs.Int.{w64}
 use Rattle.entries.specs.declared.completion.Cqe.{Cqe}
@@ -11,8 +11,8 @@ use Rattle.places.specs.declared.value.Value.TheVariants.{Number, Signed, Staged
 use Rattle.places.specs.View.{View}
 use Rattle.scenario.specs.declared.setup.Instruction.{Instruction}
 
--- a thread: its program, the index of its next instruction, what it does next, what its last Enter
--- or Close answered, what it reaped last
+-- A thread: its program, the index of its next instruction, whether it waits, the result of its
+-- last Enter or Close, and the completion that it reaped last.
 pub record ThreadState : Type 0 where
   pub program : List Instruction
   pub counter : ℕ
@@ -20,7 +20,7 @@ pub record ThreadState : Type 0 where
   pub last : ℤ
   pub got : Option Cqe
 
--- a thread at the start of its program
+-- A thread at the start of its program.
 abbrev pub thread_start : List Instruction → ThreadState
 thread_start program =
     record { program = program; counter = 0; stage = Ready; last = pos 0; got = None }
