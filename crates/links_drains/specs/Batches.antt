@@ -36,6 +36,7 @@ behind_in entries (suc i) = option_and_then shown_on (slice_get entries i)
 abbrev pub error_of : WorldState → List Sqe → ℕ → Sqe → Option ℤ
 error_of w entries i entry = result_err (check_of w (behind_in entries i) entry)
 
+-- The error of entry i, if there is such an entry and it fails.
 abbrev pub error_at : WorldState → List Sqe → ℕ → Option ℤ
 error_at w entries i = option_and_then (error_of w entries i) (slice_get entries i)
 

@@ -22,6 +22,7 @@ pub record IsNextMet (rows : List Row) (total from r : ℕ) : Type 0 where
   pub least : (i : ℕ) (x : Row) → from ≤ i → i < r → slice_get rows i ≡ Some x
       → is_met total x ≡ false
 
+-- No request from a number on waits for a count that `total` has reached.
 abbrev pub NoneMetFrom : List Row → ℕ → ℕ → Type 0
 NoneMetFrom rows total from =
     (i : ℕ) (x : Row) → from ≤ i → slice_get rows i ≡ Some x → is_met total x ≡ false

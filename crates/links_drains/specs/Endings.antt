@@ -21,13 +21,16 @@ result_in (e ∷ es) r = if e.0 == r then Some e.1 else result_in es r
 abbrev pub is_listed : List Ending → ℕ → Bool
 is_listed es r = list_any (λ (e : Ending). e.0 == r) es
 
+-- The result, if the condition holds.
 abbrev pub given : Bool → ℤ → Option ℤ
 given b res = if b then Some res else None
 
+-- The first result, or the second if there is no first.
 abbrev pub or_else : Option ℤ → Option ℤ → Option ℤ
 or_else (Some res) other = Some res
 or_else None other = other
 
+-- The completion of request r, if there is a result.
 abbrev pub paired : ℕ → Option ℤ → Option Ending
 paired r None = None
 paired r (Some res) = Some (r, res)
@@ -39,6 +42,7 @@ endings_from f first rows =
     filter_map (λ (p : ℕ × Row). if is_unfinished p.1.phase then paired p.0 (f p.0 p.1) else None)
     (enumerate_from first rows)
 
+-- The same, with requests numbered from 0.
 abbrev pub endings : (ℕ → Row → Option ℤ) → List Row → List Ending
 endings f rows = endings_from f 0 rows
 

@@ -6,6 +6,7 @@ use Rattle.model_files.specs.declared.held.Held.{Held}
 use Rattle.model_files.specs.Holders.{holders, is_descriptor_number}
 use Rattle.links_drains.specs.Phases.{is_issued}
 
+-- Whether the descriptor, if there is one, is fd.
 abbrev pub is_number : Option ℕ → ℕ → Bool
 is_number None fd = false
 is_number (Some number) fd = number == fd

@@ -16,6 +16,7 @@ pub record HasRoom (n : ℕ) (index : Index) : Type 0 where
   pub issued : n ≤ 64 * length index.issued
   pub thresholds : n ≤ length index.thresholds
 
+-- The index is correct: its sets and thresholds agree with the table.
 pub record Indexed (rows : List Row) (index : Index) : Type 0 where
   pub chained : Chained rows
   pub room : HasRoom (length rows) index

@@ -12,6 +12,7 @@ use Rattle.number_sets.specs.Sets.{has}
 abbrev pub passes_at : (Row → Bool) → List Row → ℕ → Bool
 passes_at test rows r = option_map_or test (slice_get rows r) false
 
+-- Whether the request has not completed.
 abbrev pub is_open : Row → Bool
 is_open row = is_unfinished row.phase
 

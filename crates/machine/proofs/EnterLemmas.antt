@@ -38,7 +38,7 @@ alone_told m k flags h = by (gets_events flags) (nat_lt 0 k) h
     by false true e = sym (ap (λ c. cond c None (submission_refusal (flushed m) k)) e)
     by false false e = refl
 
--- One does.
+-- Overflowed completions remain and prevent it.
 pub busy_refused : (m : Machine) (k flags : ℕ) → is_busy (flushed m) k ≡ true → None ≡ alone_refusal m k flags
 busy_refused m k flags h = by (gets_events flags) (nat_lt 0 k) h
   where

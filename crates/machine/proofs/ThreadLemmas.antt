@@ -13,7 +13,7 @@ use Rattle.places.specs.Lists.{updated}
 use Rattle.places.proofs.ListLemmas.{field_set, field_same}
 use Rattle.machine.specs.Threads.{ThreadState, threads_seen}
 
--- The index alone distinguishes the places of a kind.
+-- Places of the same kind differ only by their index.
 one_index : {X : Type 0} (b : Bool) (x y : X) → cond b x y ≡ cond (b && true) x y
 one_index true x y = refl
 one_index false x y = refl

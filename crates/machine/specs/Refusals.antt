@@ -59,6 +59,7 @@ abbrev pub executes : Stage → Option Instruction → Option Instruction
 executes Ready i = i
 executes (Waiting n w) i = None
 
+-- The instruction that thread t executes next.
 abbrev pub instruction_at : Machine → ℕ → Option Instruction
 instruction_at m t =
     option_and_then (λ x. executes x.stage (slice_get x.program x.counter)) (slice_get m.threads t)

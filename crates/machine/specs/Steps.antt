@@ -66,6 +66,7 @@ is_unknown flags = nat_lt 3 flags
 abbrev pub delivery : Machine → Delivery
 delivery m = delivery_of m.submissions m.completions m.backlog
 
+-- The machine with other such parts.
 abbrev pub with_delivery : Machine → Delivery → Machine
 with_delivery m d =
     record m { submissions = d.submissions; completions = d.completions; backlog = d.backlog }
@@ -130,15 +131,19 @@ next_refusal m stage None = Some ThreadDone
 next_refusal m Ready (Some i) = instruction_refusal m i
 next_refusal m (Waiting n w) (Some i) = if nat_lt (ready_count m) w then Some StillWaiting else None
 
+-- Why a thread cannot step.
 abbrev pub thread_refusal : Machine → Option ThreadState → Option Refusal
 thread_refusal m None = Some NoSuchThread
 thread_refusal m (Some x) = next_refusal m x.stage (slice_get x.program x.counter)
 
+-- Why the poller cannot submit: there is none, it is asleep, or there would be too many requests.
 abbrev pub take_refusal : Machine → Option Poller → ℕ → Option Refusal
 take_refusal m None n = Some NoPoller
 take_refusal m (Some Asleep) n = Some IsAsleep
 take_refusal m (Some Awake) n = submission_refusal m n
 
+-- Why the poller cannot fall asleep: there is none, it is asleep, or the submission ring isn't
+-- empty.
 abbrev pub sleep_refusal : Machine → Option Poller → Option Refusal
 sleep_refusal m None = Some NoPoller
 sleep_refusal m (Some Asleep) = Some IsAsleep
@@ -151,6 +156,7 @@ start_refusal rows r Queued = if is_eligible rows r then None else Some NotEligi
 start_refusal rows r Issued = Some WrongPhase
 start_refusal rows r (Ended res) = Some WrongPhase
 
+-- Why request r cannot be issued.
 abbrev pub issue_refusal : List Row → ℕ → Option Row → Option Refusal
 issue_refusal rows r None = Some NoSuchRequest
 issue_refusal rows r (Some row) = start_refusal rows r row.phase
@@ -172,6 +178,7 @@ abbrev pub choice_refusal : (ℕ → Bool) → WorldState → Row → Choice →
 choice_refusal held w row c =
     if is_cancel row.entry.opcode then full_refusal c else outcome_refusal (outcome_of held w row c)
 
+-- The refusal if the request is issued; in any other phase, that it is the wrong one.
 abbrev pub phase_refusal : Phase → Option Refusal → Option Refusal
 phase_refusal Queued o = Some WrongPhase
 phase_refusal Issued o = o
@@ -256,6 +263,7 @@ submitted m k = fallen (taken m k) (direct_of m.world (length m.table) (entries_
 abbrev pub answered : Machine → ℕ → ℤ → Machine
 answered m t n = record m { threads = updated (λ x. record x { counter = x.counter + 1; last = n; stage = Ready }) m.threads t }
 
+-- The machine after a thread advanced to its next instruction.
 abbrev pub gone_on : Machine → ℕ → Machine
 gone_on m t = record m { threads = updated (λ x. record x { counter = x.counter + 1 }) m.threads t }
 
@@ -316,6 +324,7 @@ entered m (Some p) t to_submit min_complete flags =
     if is_unknown flags then answered m t einval
     else entered_beside m t to_submit min_complete flags
 
+-- Whether there is a descriptor, and it is open.
 abbrev pub is_open : Option DescriptorState → Bool
 is_open None = false
 is_open (Some d) = d.is_open
@@ -343,6 +352,7 @@ executed m t (Some Reap) = record m {
 }
 executed m t (Some (Close fd)) = closed m t fd
 
+-- The next instruction of a thread, if there is one.
 abbrev pub next_of : Option ThreadState → Option Instruction
 next_of None = None
 next_of (Some x) = slice_get x.program x.counter
@@ -386,6 +396,7 @@ deadline_of clock row =
 abbrev pub base_of : ℕ → Row → ℕ
 base_of counted row = if row.entry.opcode == 11 then counted else row.base
 
+-- A request after it was issued.
 abbrev pub started : ℕ → ℕ → Row → Row
 started clock counted row = record row { phase = Issued; held = held_by row; deadline = deadline_of clock row; base = base_of counted row }
 
@@ -442,6 +453,7 @@ finished_as m r row BadChoice = m
 abbrev pub cancelled : Machine → ℕ → Sqe → Machine
 cancelled m r entry = fallen m (ending_with r (verdict_of m.table m.world r entry))
 
+-- The machine after request r completed as chosen, and the cascade.
 abbrev pub finished : Machine → ℕ → Option Row → Choice → Machine
 finished m r None c = m
 finished m r (Some row) c =

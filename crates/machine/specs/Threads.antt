@@ -28,6 +28,7 @@ thread_start program =
 abbrev pub program_of : ThreadState → List Instruction
 program_of x = x.program
 
+-- Whether the place belongs to a thread.
 abbrev pub threads_owns : Place → Bool
 threads_owns (ProgramCounter t) = true
 threads_owns (ThreadStage t) = true
@@ -35,6 +36,7 @@ threads_owns (Last t) = true
 threads_owns (Got t) = true
 threads_owns _ = false
 
+-- The value of each place of a thread.
 abbrev pub threads_seen : List ThreadState → View
 threads_seen ts (ProgramCounter t) = option_map (λ x. Number x.counter) (slice_get ts t)
 threads_seen ts (ThreadStage t) = option_map (λ x. Staged x.stage) (slice_get ts t)
@@ -42,6 +44,7 @@ threads_seen ts (Last t) = option_map (λ x. Signed x.last) (slice_get ts t)
 threads_seen ts (Got t) = option_map (λ x. Reaped x.got) (slice_get ts t)
 threads_seen ts _ = None
 
+-- Whether a value may be written into a place of a thread.
 abbrev pub threads_can_put : List ThreadState → Place → Option Value → Type 0
 threads_can_put ts (ProgramCounter t) (Some (Number n)) = (t < length ts) × (n < 2 ^ 32)
 threads_can_put ts (ThreadStage t) (Some (Staged s)) = t < length ts

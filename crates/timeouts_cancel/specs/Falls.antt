@@ -11,6 +11,7 @@ use Rattle.links_drains.specs.Phases.{is_unfinished, counts}
 
 -- ---- Requests and results
 
+-- READ or WRITE.
 abbrev pub is_transfer : ℕ → Bool
 is_transfer opcode = (opcode == 22) || (opcode == 23)
 
@@ -47,6 +48,7 @@ severs_by r row None e = false
 severs_by r row (Some before) e =
     nat_lt e.0 r && ((before.unit == row.unit) && (is_soft_linked before && is_bad before e.1))
 
+-- Whether some listed request severs r.
 abbrev pub is_severed : List Row → List Ending → ℕ → Row → Bool
 is_severed rows es r row = list_any (λ (e : Ending). severs_by r row (slice_get rows e.0) e) es
 

@@ -32,11 +32,13 @@ abbrev pub is_match : Key → ℕ → ℕ → Row → Bool
 is_match key me r row =
     is_issued row.phase && (not (is_guard row) && (not (r == me) && fits_key key row))
 
+-- All matches with their numbers, ascending.
 abbrev pub matches_of : List Row → Key → ℕ → List (ℕ × Row)
 matches_of rows key me = numbered_where (is_match key me) rows
 
 -- ---- What is found
 
+-- A match, if there is one, as running or waiting.
 abbrev pub found_first : WorldState → Option (ℕ × Row) → Found
 found_first w None = Absent
 found_first w (Some p) = if is_running w p.1 then Running p.0 else Waiting p.0
@@ -63,6 +65,7 @@ pub record IsNextMatch (rows : List Row) (key : Key) (me from r : ℕ) (row : Ro
   pub least : (i : ℕ) (x : Row) → from ≤ i → i < r → slice_get rows i ≡ Some x
       → is_match key me i x ≡ false
 
+-- Nothing matches from a number on.
 abbrev pub NoMatchFrom : List Row → Key → ℕ → ℕ → Type 0
 NoMatchFrom rows key me from =
     (i : ℕ) (x : Row) → from ≤ i → slice_get rows i ≡ Some x → is_match key me i x ≡ false

@@ -4,6 +4,7 @@ use Rattle.entries.specs.declared.row.Row.{Row}
 use Rattle.links_drains.specs.Endings.{Ending, result_in, or_else}
 use Rattle.timeouts_cancel.specs.Walks.{upto}
 
+-- The completions are sorted by request number, each once.
 abbrev pub Rises : List Ending → Type 0
 Rises es =
     (i j : ℕ) (p q : Ending) → slice_get es i ≡ Some p → slice_get es j ≡ Some q → i < j → p.0 < q.0
