@@ -1,4 +1,4 @@
-//! What Enter does (io_uring_enter(2)).
+//! The system call of a thread that submits and waits (io_uring_enter(2)).
 ghost use Rattle.std.specs.Prelude.{◌≡◌, ◌<◌, ◌+◌, ◌^◌, OnOk, None, Some, true, is_some, slice_get, length};
 ghost use Rattle.places.specs.View.{Keeps};
 ghost use Rattle.machine.specs.Steps.{executed, instruction_refusal, alone_refusal, next_of, flushed, before_submission, woken, shown, awaited, entered_beside, entered_alone, with_poller};
@@ -13,14 +13,14 @@ use places::{Recorder, Stage};
 use sqpoll::Poller;
 use std::alloc::AllocError;
 
-/// The caller asks for completions (IORING_ENTER_GETEVENTS).
+/// IORING_ENTER_GETEVENTS: the caller waits for completions.
 const GETEVENTS: u32 = 1;
 
-/// The caller wakes the poller (IORING_ENTER_SQ_WAKEUP).
+/// IORING_ENTER_SQ_WAKEUP: the caller wakes the poller.
 const SQ_WAKEUP: u32 = 2;
 
 impl Machine {
-    /// A thread enters the kernel.
+    /// Enters the kernel for a thread. Unknown flags return -EINVAL.
     pub(crate) fn enter(
         &mut self,
         t: u32,
@@ -50,7 +50,8 @@ impl Machine {
         }
     }
 
-    // Where there is no poller, the thread submits, unless completions are kept.
+    // Without a poller, the thread submits. It fails with -EBUSY while completions overflow the
+    // ring.
     fn enter_alone(
         &mut self,
         t: u32,
@@ -77,8 +78,8 @@ impl Machine {
         self.answer_or_wait(t, taken, to_submit, min_complete, flags, notes)
     }
 
-    // Kept completions move into the ring, where completions are asked for or entries are to be
-    // submitted.
+    // Moves overflowed completions into the ring, if the caller waits for completions or submits
+    // entries.
     fn make_way(
         &mut self,
         to_submit: u32,
@@ -97,7 +98,7 @@ impl Machine {
         self.flush(notes)
     }
 
-    // Where there is a poller, it submits; the thread wakes it, if it is asked to.
+    // With a poller, the thread only wakes it and moves overflowed completions, as its flags say.
     fn enter_beside(
         &mut self,
         t: u32,
@@ -121,7 +122,7 @@ impl Machine {
         self.answer_or_wait(t, to_submit, to_submit, min_complete, flags, notes)
     }
 
-    // The poller is awake, where it is to be woken.
+    // Wakes the poller, if the flags say so.
     fn wake(&mut self, flags: u32, notes: &mut Recorder) -> Result<(), AllocError>
         requires poller { is_some self.old.poller ≡ true }
         ensures ok { OnOk result (self.new ≡ woken self.old flags) }
@@ -135,7 +136,7 @@ impl Machine {
         self.set_poller(Poller::Awake, notes)
     }
 
-    // Kept completions move into the ring, where completions are asked for.
+    // Moves overflowed completions into the ring, if the caller waits for completions.
     fn show_kept(&mut self, flags: u32, notes: &mut Recorder) -> Result<(), AllocError>
         requires formed { WellFormed self.old }
         ensures ok { OnOk result (self.new ≡ shown self.old flags) }
@@ -149,7 +150,8 @@ impl Machine {
         self.flush(notes)
     }
 
-    // A thread that submitted so many entries waits for completions, or has its answer.
+    // Lets the thread wait, if it submitted all `to_submit` entries and too few completions are
+    // ready; else returns `taken` to it.
     fn answer_or_wait(
         &mut self,
         t: u32,
@@ -177,7 +179,7 @@ impl Machine {
         self.threads.answer(t, i64::from(taken), notes)
     }
 
-    // Kept completions move into the ring, as many as there is room for.
+    // Moves overflowed completions into the ring, as many as fit.
     fn flush(&mut self, notes: &mut Recorder) -> Result<(), AllocError>
         requires formed { WellFormed self.old }
         ensures ok { OnOk result (self.new ≡ flushed self.old) }
@@ -193,7 +195,7 @@ impl Machine {
         )
     }
 
-    /// The poller falls asleep, or is woken.
+    /// Puts the poller to sleep, or wakes it.
     pub(crate) fn set_poller(
         &mut self,
         stage: Poller,
