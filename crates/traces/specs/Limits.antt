@@ -1,5 +1,5 @@
--- The ranges of the values of a setup, as reading and writing check them. Together they are
--- equivalent to `setup_refusal`, which is all that public contracts use.
+-- The ranges of the values of a setup, as reading and writing check them. All hold if and only if
+-- `setup_refusal` returns None. Public contracts use only `setup_refusal`.
 use Rattle.std.specs.Prelude.{◌≡◌, ℕ, ◌+◌, ◌-◌, ◌<◌, ◌^◌, Bool, true, false, not, ◌&&◌, ◌||◌, ◌==◌, nat_lt, nat_le, FitsSigned, List, [], ◌∷◌, ◌++◌, length, slice_get, Option, Some, None}
 use Rattle.std.specs.List.{list_all, list_any, AllByRecursion}
 use Rattle.std.specs.Int.{w32}
@@ -91,16 +91,17 @@ keeps_instruction slots _ = true
 abbrev pub keeps_program : ℕ → List Instruction → Bool
 keeps_program slots program = nat_le (length program) 4096 && list_all (keeps_instruction slots) program
 
--- The number of completion entries. After rounding, it is at least that of the submission entries.
+-- The number of completion entries is in range and, after rounding, at least that of the submission
+-- entries.
 abbrev pub keeps_completions : ℕ → Option ℕ → Bool
 keeps_completions entries None = true
 keeps_completions entries (Some cq) = is_within 1 8192 cq && nat_le (rounded entries) (rounded cq)
 
--- The sizes of both rings.
+-- The sizes of both rings are in range.
 abbrev pub keeps_rings : Setup → Bool
 keeps_rings s = is_within 1 4096 s.entries && keeps_completions s.entries s.cq
 
--- The sizes of memory, at most 32 objects and at most 64 descriptors.
+-- Memory has at most 65,536 bytes, and there are at most 32 valid objects and 64 valid descriptors.
 abbrev pub keeps_objects : Setup → Bool
 keeps_objects s =
     nat_le (length s.memory) 65536 && nat_le (length s.objects) 32 && all_behind keeps_object [] s.objects

@@ -79,7 +79,7 @@ magic2 = codes "URTRACE2"
 abbrev pub trace2_bytes : Setup → List Event → List ℕ
 trace2_bytes setup events = magic2 ++ (setup_bytes setup ++ counted_bytes events)
 
--- A byte before a trimmed rest. A 0 at the end is dropped.
+-- A byte in front of trimmed bytes. If there are none, a 0 is dropped.
 abbrev pub cut_behind : ℕ → List ℕ → List ℕ
 cut_behind b [] = if b == 0 then [] else b ∷ []
 cut_behind b (c ∷ cs) = b ∷ c ∷ cs
