@@ -1,4 +1,4 @@
--- What the setup that a trace spells has in common with the setup that it was written of.
+-- What the setup in a trace has in common with the setup that was written.
 use Rattle.std.proofs.Common.{◌≡◌, ℕ, ◌+◌, ◌-◌, ◌≤◌, true, List, ◌++◌, length, Option, Some, None, refl, sym, ap, ◌∙◌, length-append, arith}
 use Rattle.std.specs.Prelude.{nat_le}
 use Rattle.std.proofs.Math.ListN.{replicate}
@@ -30,7 +30,7 @@ completion_size_kept s h = by s.cq (rings_kept s (asked s (startable s h)).rings
     by None k = refl
     by (Some n) k = completion_again n (within_most 1 8192 n (and_parts (is_within 1 8192 n) (nat_le (rounded s.entries) (rounded n)) k).0)
 
--- ---- its memory is the same, with zeros up to a size
+-- ---- its memory is the same, up to zeros at the end
 
 pub trimmed_filled : (size : ℕ) (bytes : List ℕ) → length bytes ≤ size
     → trimmed bytes ++ replicate (size - length (trimmed bytes)) 0 ≡ bytes ++ replicate (size - length bytes) 0
