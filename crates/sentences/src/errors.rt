@@ -22,6 +22,14 @@ const TOO_LARGE: i32 = -27;
 
 const BROKEN_PIPE: i32 = -32;
 
+/// Where the class of an `ioprio` begins; its level is in the lowest bits (ioprio_set(2)).
+const CLASS_SHIFT: u32 = 13;
+
+const LEVEL_MASK: u16 = 7;
+
+/// IOPRIO_CLASS_IDLE, the last class.
+const IDLE_CLASS: u16 = 3;
+
 fn word_of_end(res: i32) -> &'static str {
     if res == BAD_ADDRESS {
         return "its buffer leaves memory";
@@ -116,6 +124,24 @@ fn named_fields(alloc: Global, entry: &Sqe) -> Result<(String, bool), AllocError
     Ok((text, are_several))
 }
 
+// Returns whether a kernel doesn't know an `ioprio`: its class is above the last one, or it has a
+// level without a class.
+fn is_unknown_priority(ioprio: u16) -> bool {
+    let class = ioprio >> CLASS_SHIFT;
+    class > IDLE_CLASS || (class == 0 && ioprio & LEVEL_MASK != 0)
+}
+
+// Returns whether a kernel answers EINVAL for a field that has no effect here: `ioprio`, or `addr`
+// of a request that has no address.
+fn is_invalid_to_kernel(entry: &Sqe) -> bool {
+    match Op::of(entry.opcode) {
+        Some(Op::Nop | Op::AsyncCancel | Op::Timeout | Op::LinkTimeout) => entry.ioprio != 0,
+        Some(Op::Read | Op::Write) => is_unknown_priority(entry.ioprio),
+        Some(Op::Fsync | Op::PollAdd) => entry.addr != 0,
+        Some(Op::PollRemove | Op::TimeoutRemove) | None => false,
+    }
+}
+
 /// Fields that have no effect.
 pub(crate) fn no_effect(alloc: Global, about: &About) -> Result<String, AllocError> {
     let name = about.name();
@@ -125,7 +151,12 @@ pub(crate) fn no_effect(alloc: Global, about: &About) -> Result<String, AllocErr
     } else {
         ("has", "it")
     };
+    let kernel = if is_invalid_to_kernel(&about.row.entry) {
+        " A kernel answers EINVAL."
+    } else {
+        ""
+    };
     format!(in alloc;
-        "Row {name} has {fields}, which {verb} no effect here: no request of this profile looks at {object} (io_uring_enter(2))."
+        "Row {name} has {fields}, which {verb} no effect here: no request of this profile looks at {object} (io_uring_enter(2)).{kernel}"
     )
 }
