@@ -4,9 +4,9 @@ ghost use Rattle.links_drains.specs.Batches.{behind_in, chain_fails, direct_of, 
 ghost use Rattle.links_drains.specs.Endings.{ecanceled, given, or_else};
 
 use crate::links::is_linked;
-use entries::{Row, Sqe};
+use entries::{ECANCELED, Row, Sqe};
 use model_files::World;
-use opcodes::{Context, ECANCELED, check};
+use opcodes::{Context, check};
 use std::alloc::{AllocError, Global};
 
 /// What an entry of a batch fails with as it is submitted, if it does.

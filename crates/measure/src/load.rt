@@ -2,20 +2,14 @@
 
 use crate::draft::{BATCH, Draft};
 use crate::plan::{Plan, Word};
-use entries::Sqe;
+use entries::{IORING_ASYNC_CANCEL_ALL, IOSQE_IO_DRAIN, IOSQE_IO_LINK, POLLIN, Sqe};
 use machine::{Event, Instruction};
 use opcodes::{Choice, Op};
 use places::{Contents, Descriptor, End, Items, Object};
 use std::alloc::{AllocError, Global};
 
-/// IOSQE_IO_DRAIN.
-const DRAIN: u8 = 2;
-
-/// IOSQE_IO_LINK.
-const LINK: u8 = 4;
-
-/// IORING_ASYNC_CANCEL_ALL of a cancel, and POLLIN of a poll.
-const ASKED: u32 = 1;
+/// The operation flags of a cancel of all that match, and of a poll of what can be read.
+const ASKED: u32 = IORING_ASYNC_CANCEL_ALL | POLLIN;
 
 /// The rows of a full table, but for one, whose push a Put takes the place of.
 const FULL: u32 = 65535;
@@ -41,8 +35,8 @@ pub fn fill(draft: &mut Draft, Plan { word, size }: Plan) -> Result<(), AllocErr
         Word::Transfers => transfers(draft, size),
         Word::Issues => turns(draft, nop, size),
         Word::Polls => polls(draft, size),
-        Word::Links => turns(draft, flagged(nop, LINK), size),
-        Word::Drains => turns(draft, flagged(nop, DRAIN), size),
+        Word::Links => turns(draft, flagged(nop, IOSQE_IO_LINK), size),
+        Word::Drains => turns(draft, flagged(nop, IOSQE_IO_DRAIN), size),
         Word::Cancels => cancels(draft, size),
         Word::Counts => beside(draft, &[nop, entry(Op::Timeout, 1, FAR)], ENDED, size, &[]),
         Word::Meets => meets(draft, size),
@@ -143,8 +137,8 @@ fn beside(draft: &mut Draft, entries: &[Sqe], firsts: u32, others: u32, last: &[
 
 // A cancel, and chains as long as a batch: it ends the first row of each, and so severs the others.
 fn severed(draft: &mut Draft, rows: u32) -> Filled {
-    let first = flagged(entry(Op::Timeout, 1, 0), LINK);
-    let later = flagged(entry(Op::Nop, 0, 0), LINK);
+    let first = flagged(entry(Op::Timeout, 1, 0), IOSQE_IO_LINK);
+    let later = flagged(entry(Op::Nop, 0, 0), IOSQE_IO_LINK);
     let mut slots = vec![in draft.alloc; 0u32; 1]?;
     for row in 1..=rows {
         slots.push(if row == 1 || row % BATCH == 0 { 1 } else { 2 })?;

@@ -1,6 +1,7 @@
 //! Sentences about rings, and threads at them.
 
 use crate::run::Run;
+use entries::{IORING_ENTER_GETEVENTS, IORING_ENTER_SQ_WAKEUP};
 use finding_kinds::instruction_at;
 use machine::{Event, Instruction};
 use places::{Place, Stage, Value};
@@ -56,7 +57,7 @@ pub(crate) fn busy(
 }
 
 /// The flags that an Enter may have: IORING_ENTER_GETEVENTS and IORING_ENTER_SQ_WAKEUP.
-const ENTER_FLAGS: u32 = 3;
+const ENTER_FLAGS: u32 = IORING_ENTER_GETEVENTS | IORING_ENTER_SQ_WAKEUP;
 
 /// An Enter that was answered EINVAL.
 pub(crate) fn refused_flags(
