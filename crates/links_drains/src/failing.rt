@@ -5,9 +5,9 @@ ghost use Rattle.links_drains.specs.Batches.{behind_in, chain_fails, direct_of, 
 ghost use Rattle.links_drains.specs.Endings.{ecanceled, given, or_else};
 
 use crate::links::is_linked;
-use entries::{Row, Sqe};
+use entries::{ECANCELED, Row, Sqe};
 use model_files::World;
-use opcodes::{Context, ECANCELED, check};
+use opcodes::{Context, check};
 use std::alloc::{AllocError, Global};
 
 /// Returns the error with which entry i fails as it is submitted, if any.

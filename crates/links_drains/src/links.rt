@@ -4,36 +4,30 @@ ghost use Rattle.links_drains.specs.Counts.{is_count_timeout, threshold_of};
 ghost use Rattle.links_drains.specs.Links.{is_soft_linked, is_linked, is_guard, asks_to_drain};
 ghost use Rattle.links_drains.specs.Phases.{is_issued, is_queued, is_unfinished};
 
-use entries::{Phase, Row, Sqe};
+use entries::{IOSQE_IO_DRAIN, IOSQE_IO_HARDLINK, IOSQE_IO_LINK, Phase, Row, Sqe};
 use number_sets::thresholds::NEVER;
 use opcodes::Op;
-
-const IO_DRAIN: u8 = 2;
-
-const IO_LINK: u8 = 4;
-
-const IO_HARDLINK: u8 = 8;
 
 /// Returns whether a failure of the request severs the rest of its chain: it has IOSQE_IO_LINK and
 /// not IOSQE_IO_HARDLINK.
 pub fn is_soft_linked(row: &Row) -> bool
     ensures { result ≡ is_soft_linked row.now }
 {
-    row.entry.flags & IO_LINK != 0 && !(row.entry.flags & IO_HARDLINK != 0)
+    row.entry.flags & IOSQE_IO_LINK != 0 && !(row.entry.flags & IOSQE_IO_HARDLINK != 0)
 }
 
 /// Returns whether the next entry belongs to the same chain.
 pub(crate) fn is_linked(entry: &Sqe) -> bool
     ensures { result ≡ is_linked entry.now }
 {
-    entry.flags & IO_LINK != 0 || entry.flags & IO_HARDLINK != 0
+    entry.flags & IOSQE_IO_LINK != 0 || entry.flags & IOSQE_IO_HARDLINK != 0
 }
 
 /// Returns whether the request has IOSQE_IO_DRAIN.
 pub(crate) fn asks_to_drain(row: &Row) -> bool
     ensures { result ≡ asks_to_drain row.now }
 {
-    row.entry.flags & IO_DRAIN != 0
+    row.entry.flags & IOSQE_IO_DRAIN != 0
 }
 
 /// Returns whether the request is a linked timeout (LINK_TIMEOUT).

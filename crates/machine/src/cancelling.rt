@@ -9,17 +9,11 @@ ghost use Rattle.machine.specs.Steps.{cancelled};
 ghost use Rattle.machine.specs.Whole.{view, everywhere, Grows, WellFormed};
 
 use crate::whole::Machine;
-use entries::Sqe;
-use opcodes::{EALREADY, ECANCELED, ENOENT, Op};
+use entries::{EALREADY, ECANCELED, ENOENT, IORING_ASYNC_CANCEL_ALL, IORING_ASYNC_CANCEL_FD, Sqe};
+use opcodes::Op;
 use places::Recorder;
 use std::alloc::{AllocError, Global};
 use timeouts_cancel::{Found, Key, all_by, find_by};
-
-/// IORING_ASYNC_CANCEL_ALL.
-const CANCEL_ALL: u32 = 1;
-
-/// IORING_ASYNC_CANCEL_FD.
-const CANCEL_FD: u32 = 2;
 
 /// The outcome of a cancellation or a removal.
 #[derive(Drop)]
@@ -119,7 +113,7 @@ pub(crate) fn key_of(entry: &Sqe) -> Key
     if entry.opcode == Op::TimeoutRemove as u8 {
         return Key::Timeout(entry.addr);
     }
-    if entry.operation_flags & CANCEL_FD != 0 {
+    if entry.operation_flags & IORING_ASYNC_CANCEL_FD != 0 {
         return Key::Fd(entry.fd);
     }
     Key::User(entry.addr)
@@ -129,5 +123,5 @@ pub(crate) fn key_of(entry: &Sqe) -> Key
 pub fn takes_all(entry: &Sqe) -> bool
     ensures { result ≡ takes_all entry.now }
 {
-    entry.opcode == Op::AsyncCancel as u8 && entry.operation_flags & CANCEL_ALL != 0
+    entry.opcode == Op::AsyncCancel as u8 && entry.operation_flags & IORING_ASYNC_CANCEL_ALL != 0
 }

@@ -6,8 +6,8 @@ ghost use Rattle.machine.specs.Whole.{view, everywhere, Grows, WellFormed};
 ghost use Rattle.scenario.specs.declared.setup.Instruction.TheVariants.{Close};
 
 use crate::whole::Machine;
+use entries::EBADF;
 use model_files::DescriptorState;
-use opcodes::EBADF;
 use places::Recorder;
 use std::alloc::AllocError;
 

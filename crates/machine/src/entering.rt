@@ -7,17 +7,11 @@ ghost use Rattle.machine.specs.Whole.{view, everywhere, Grows, WellFormed};
 ghost use Rattle.scenario.specs.declared.setup.Instruction.TheVariants.{Enter};
 
 use crate::whole::Machine;
-use opcodes::{EBUSY, EINVAL};
+use entries::{EBUSY, EINVAL, IORING_ENTER_GETEVENTS, IORING_ENTER_SQ_WAKEUP};
 use overflow::flush;
 use places::{Recorder, Stage};
 use sqpoll::Poller;
 use std::alloc::AllocError;
-
-/// IORING_ENTER_GETEVENTS: the caller waits for completions.
-const GETEVENTS: u32 = 1;
-
-/// IORING_ENTER_SQ_WAKEUP: the caller wakes the poller.
-const SQ_WAKEUP: u32 = 2;
 
 impl Machine {
     /// Enters the kernel for a thread. Unknown flags return -EINVAL.
@@ -40,7 +34,7 @@ impl Machine {
         ensures keeps { Keeps everywhere (view self.old)
             (view self.new) notes.old.made notes.new.made }
     {
-        if flags > GETEVENTS | SQ_WAKEUP {
+        if flags > IORING_ENTER_GETEVENTS | IORING_ENTER_SQ_WAKEUP {
             return self.threads.answer(t, -i64::from(EINVAL), notes);
         }
         if self.poller.is_some() {
@@ -92,7 +86,7 @@ impl Machine {
         ensures keeps { Keeps everywhere (view self.old)
             (view self.new) notes.old.made notes.new.made }
     {
-        if flags & GETEVENTS == 0 && to_submit == 0 {
+        if flags & IORING_ENTER_GETEVENTS == 0 && to_submit == 0 {
             return Ok(());
         }
         self.flush(notes)
@@ -130,7 +124,7 @@ impl Machine {
         ensures keeps { Keeps everywhere (view self.old)
             (view self.new) notes.old.made notes.new.made }
     {
-        if flags & SQ_WAKEUP == 0 {
+        if flags & IORING_ENTER_SQ_WAKEUP == 0 {
             return Ok(());
         }
         self.set_poller(Poller::Awake, notes)
@@ -144,7 +138,7 @@ impl Machine {
         ensures keeps { Keeps everywhere (view self.old)
             (view self.new) notes.old.made notes.new.made }
     {
-        if flags & GETEVENTS == 0 {
+        if flags & IORING_ENTER_GETEVENTS == 0 {
             return Ok(());
         }
         self.flush(notes)
@@ -171,7 +165,10 @@ impl Machine {
             (view self.new) notes.old.made notes.new.made }
     {
         let wanted = min_complete.min(self.completions.size());
-        if flags & GETEVENTS != 0 && taken == to_submit && self.completions.waiting() < wanted {
+        if flags & IORING_ENTER_GETEVENTS != 0
+            && taken == to_submit
+            && self.completions.waiting() < wanted
+        {
             return self
                 .threads
                 .set_stage(t, Stage::Waiting(taken, wanted), notes);

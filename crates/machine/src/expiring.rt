@@ -6,9 +6,9 @@ ghost use Rattle.machine.specs.Whole.{view, everywhere, Grows, WellFormed};
 ghost use Rattle.scenario.specs.declared.event.Event.TheVariants.{Expire};
 
 use crate::whole::Machine;
-use entries::Row;
+use entries::{ECANCELED, ETIME, Row};
 use links_drains::{is_guard, is_issued};
-use opcodes::{ECANCELED, ETIME, is_running};
+use opcodes::is_running;
 use places::Recorder;
 use std::alloc::AllocError;
 

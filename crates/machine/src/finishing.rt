@@ -11,17 +11,12 @@ ghost use Rattle.machine.specs.Whole.{view, everywhere, Grows, IsTime, WellForme
 ghost use Rattle.scenario.specs.declared.event.Event.TheVariants.{Issue, Finish};
 
 use crate::whole::Machine;
-use entries::{Phase, Row};
+use entries::{EBADF, IORING_TIMEOUT_ABS, Phase, Row};
 use links_drains::is_guard;
 use model_files::{DescriptorState, World};
-use opcodes::{
-    Choice, EBADF, Op, Outcome, carry_out, fits_end, is_cancel, outcome, uses_descriptor,
-};
+use opcodes::{Choice, Op, Outcome, carry_out, fits_end, is_cancel, outcome, uses_descriptor};
 use places::Recorder;
 use std::alloc::AllocError;
-
-/// IORING_TIMEOUT_ABS.
-const TIMEOUT_ABS: u32 = 1;
 
 impl Machine {
     /// Issues a queued request, and with it its linked timeout. The request holds its descriptor
@@ -119,7 +114,7 @@ fn deadline_of(clock: u64, row: &Row) -> Option<u128>
     ensures { result ≡ deadline_of clock row.now }
 {
     match row.time {
-        Some(time) if row.entry.operation_flags & TIMEOUT_ABS != 0 => Some(time),
+        Some(time) if row.entry.operation_flags & IORING_TIMEOUT_ABS != 0 => Some(time),
         Some(time) => Some(time + u128::from(clock)),
         None => None,
     }

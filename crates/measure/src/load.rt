@@ -2,20 +2,14 @@
 
 use crate::draft::{BATCH, Draft};
 use crate::plan::{Plan, Word};
-use entries::Sqe;
+use entries::{IORING_ASYNC_CANCEL_ALL, IOSQE_IO_DRAIN, IOSQE_IO_LINK, POLLIN, Sqe};
 use machine::{Event, Instruction};
 use opcodes::{Choice, Op};
 use places::{Contents, Descriptor, End, Items, Object};
 use std::alloc::{AllocError, Global};
 
-/// IOSQE_IO_DRAIN.
-const DRAIN: u8 = 2;
-
-/// IOSQE_IO_LINK.
-const LINK: u8 = 4;
-
 /// IORING_ASYNC_CANCEL_ALL for a cancel, and POLLIN for a poll.
-const ASKED: u32 = 1;
+const ASKED: u32 = IORING_ASYNC_CANCEL_ALL | POLLIN;
 
 /// One request fewer than the maximum: the 16 programs have 65,536 instructions, one of which is a
 /// Put.
@@ -42,8 +36,8 @@ pub fn fill(draft: &mut Draft, Plan { word, size }: Plan) -> Result<(), AllocErr
         Word::Transfers => transfers(draft, size),
         Word::Issues => turns(draft, nop, size),
         Word::Polls => polls(draft, size),
-        Word::Links => turns(draft, flagged(nop, LINK), size),
-        Word::Drains => turns(draft, flagged(nop, DRAIN), size),
+        Word::Links => turns(draft, flagged(nop, IOSQE_IO_LINK), size),
+        Word::Drains => turns(draft, flagged(nop, IOSQE_IO_DRAIN), size),
         Word::Cancels => cancels(draft, size),
         Word::Counts => beside(draft, &[nop, entry(Op::Timeout, 1, FAR)], ENDED, size, &[]),
         Word::Meets => meets(draft, size),
@@ -146,8 +140,8 @@ fn beside(draft: &mut Draft, entries: &[Sqe], firsts: u32, others: u32, last: &[
 // Submits a cancel, and chains as long as a batch. The cancel completes the first request of each
 // chain, and so severs the rest.
 fn severed(draft: &mut Draft, rows: u32) -> Filled {
-    let first = flagged(entry(Op::Timeout, 1, 0), LINK);
-    let later = flagged(entry(Op::Nop, 0, 0), LINK);
+    let first = flagged(entry(Op::Timeout, 1, 0), IOSQE_IO_LINK);
+    let later = flagged(entry(Op::Nop, 0, 0), IOSQE_IO_LINK);
     let mut slots = vec![in draft.alloc; 0u32; 1]?;
     for row in 1..=rows {
         slots.push(if row == 1 || row % BATCH == 0 { 1 } else { 2 })?;

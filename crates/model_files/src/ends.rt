@@ -9,15 +9,8 @@ use crate::descriptor::DescriptorState;
 use crate::held::Held;
 use crate::pipe::PipeBuffer;
 use crate::world::World;
+use entries::{POLLERR, POLLHUP, POLLIN, POLLOUT};
 use places::End;
-
-const POLLIN: u32 = 1;
-
-const POLLOUT: u32 = 4;
-
-const POLLERR: u32 = 8;
-
-const POLLHUP: u32 = 16;
 
 impl World {
     /// Returns whether a pipe has a writer: a descriptor of its write end that is open or held by a

@@ -2,14 +2,13 @@
 ghost use Rattle.std.specs.Prelude.{◌≡◌, ◌+◌, ◌≤◌};
 ghost use Rattle.opcodes.specs.Check.{can_guard, check_of, tested, timed, time_at, time_of};
 
-use crate::errno::{EFAULT, EINVAL};
 use crate::op::{Op, is_timer};
-use entries::Sqe;
+use entries::{EFAULT, EINVAL, IOSQE_ASYNC, IOSQE_IO_DRAIN, IOSQE_IO_HARDLINK, IOSQE_IO_LINK, Sqe};
 use model_files::World;
 
 /// The supported entry flags: IOSQE_IO_DRAIN, IOSQE_IO_LINK, IOSQE_IO_HARDLINK, and IOSQE_ASYNC,
 /// which has no effect in the model.
-const ALLOWED_FLAGS: u8 = 30;
+const ALLOWED_FLAGS: u8 = IOSQE_IO_DRAIN | IOSQE_IO_LINK | IOSQE_IO_HARDLINK | IOSQE_ASYNC;
 
 /// Nanoseconds in a second.
 const SECOND: u128 = 1_000_000_000;

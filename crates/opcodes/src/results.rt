@@ -6,10 +6,9 @@ ghost use Rattle.model_files.specs.Worlds.{StockFits, number_at};
 ghost use Rattle.opcodes.specs.Outcomes.{outcome_of, held_descriptor, stock_behind, position_of, writer_behind, reader_behind, fixed, transferred, passes_memory, is_at_position, is_bad_offset, offset_of, file_synced, file_read, file_written, fsync_outcome, poll_outcome, read_outcome, write_outcome};
 
 use crate::ending::Outcome;
-use crate::errno::{EFAULT, EFBIG, EINVAL, EIO};
 use crate::op::Op;
 use crate::streams::{event_read, event_written, pipe_read, pipe_written};
-use entries::{Choice, Row, Sqe};
+use entries::{Choice, EFAULT, EFBIG, EINVAL, EIO, Row, Sqe};
 use model_files::{DescriptorState, Held, Stock, World};
 
 /// Returns the outcome of an issued request for a choice of the kernel. Allocates nothing. Not for

@@ -4,9 +4,8 @@ ghost use Rattle.model_files.specs.Worlds.{number_at};
 ghost use Rattle.opcodes.specs.Outcomes.{pipe_read, pipe_written, waits_for_room, event_read, event_written};
 
 use crate::ending::Outcome;
-use crate::errno::{EINVAL, EPIPE};
 use crate::results::fixed;
-use entries::{Choice, Sqe};
+use entries::{Choice, EINVAL, EPIPE, Sqe};
 use model_files::World;
 
 /// PIPE_BUF: writes of up to this many bytes are atomic, if the pipe's capacity isn't smaller.

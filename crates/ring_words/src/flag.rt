@@ -2,6 +2,8 @@
 ghost use Rattle.std.specs.Prelude.{◌≡◌};
 ghost use Rattle.ring_words.specs.Rings.{bit_of};
 
+use entries::{IORING_SQ_CQ_OVERFLOW, IORING_SQ_NEED_WAKEUP};
+
 /// A bit of the submission ring's flags word.
 #[derive(Clone, Copy)]
 pub enum RingFlag {
@@ -17,8 +19,8 @@ impl RingFlag {
         ensures { result ≡ bit_of self }
     {
         match self {
-            RingFlag::NeedWakeup => 1,
-            RingFlag::CqOverflow => 2,
+            RingFlag::NeedWakeup => IORING_SQ_NEED_WAKEUP,
+            RingFlag::CqOverflow => IORING_SQ_CQ_OVERFLOW,
         }
     }
 }

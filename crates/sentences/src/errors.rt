@@ -6,21 +6,10 @@ use crate::objects::{reason_of_descriptor, reason_of_object};
 use crate::rules::ERROR_RULE;
 use crate::run::Run;
 use crate::submitting::reason_of_entry;
-use entries::Sqe;
+use entries::{EBADF, EFAULT, EFBIG, EINVAL, EPIPE, Sqe};
 use machine::Event;
 use opcodes::{Choice, Op};
 use std::alloc::{AllocError, Global};
-
-/// EBADF, EFAULT, EINVAL, EFBIG and EPIPE, negated.
-const BAD_DESCRIPTOR: i32 = -9;
-
-const BAD_ADDRESS: i32 = -14;
-
-const INVALID: i32 = -22;
-
-const TOO_LARGE: i32 = -27;
-
-const BROKEN_PIPE: i32 = -32;
 
 /// Where the class of an `ioprio` begins; its level is in the lowest bits (ioprio_set(2)).
 const CLASS_SHIFT: u32 = 13;
@@ -31,13 +20,13 @@ const LEVEL_MASK: u16 = 7;
 const IDLE_CLASS: u16 = 3;
 
 fn word_of_end(res: i32) -> &'static str {
-    if res == BAD_ADDRESS {
+    if res == -EFAULT {
         return "its buffer leaves memory";
     }
-    if res == TOO_LARGE {
+    if res == -EFBIG {
         return "a file cannot grow so far";
     }
-    if res == BROKEN_PIPE {
+    if res == -EPIPE {
         return "no descriptor of the pipe's read end is left";
     }
     "it could not be carried out"
@@ -50,10 +39,10 @@ fn reason_of_end(
     entry: &Sqe,
     res: i32,
 ) -> Result<String, AllocError> {
-    if res == BAD_DESCRIPTOR {
+    if res == -EBADF {
         return reason_of_descriptor(alloc, run, entry);
     }
-    if res == INVALID {
+    if res == -EINVAL {
         return reason_of_object(alloc, run, entry);
     }
     String::from_str(alloc, word_of_end(res))

@@ -1,10 +1,10 @@
 //! Sentences about rings, and threads at them.
 
 use crate::run::Run;
-use entries::{Phase, Row};
+use entries::{ETIME, IORING_ENTER_GETEVENTS, IORING_ENTER_SQ_WAKEUP, Phase, Row};
 use finding_kinds::{MOST_ROWS, instruction_at};
 use machine::{Event, Instruction};
-use opcodes::{ETIME, Op};
+use opcodes::Op;
 use places::{Place, Stage, Value};
 use std::alloc::{AllocError, Global};
 
@@ -62,7 +62,7 @@ pub(crate) fn busy(
 }
 
 /// The flags that an Enter may have: IORING_ENTER_GETEVENTS and IORING_ENTER_SQ_WAKEUP.
-const ENTER_FLAGS: u32 = 3;
+const ENTER_FLAGS: u32 = IORING_ENTER_GETEVENTS | IORING_ENTER_SQ_WAKEUP;
 
 /// An Enter that was answered EINVAL.
 pub(crate) fn refused_flags(

@@ -9,9 +9,9 @@ ghost use Rattle.timeouts_cancel.specs.Walks.{Walked, Sweeping};
 use crate::guards::guards;
 use crate::merging::add;
 use crate::timers::{count, met};
-use entries::Row;
+use entries::{ECANCELED, Row};
 use links_drains::{Table, is_soft_linked, is_unfinished};
-use opcodes::{ECANCELED, Op};
+use opcodes::Op;
 use std::alloc::AllocError;
 
 /// Returns all requests that complete in a step, with their results, by ascending number. These are

@@ -5,9 +5,8 @@ ghost use Rattle.links_drains.specs.Endings.{Direct};
 ghost use Rattle.timeouts_cancel.specs.Falls.{GuardsStand};
 ghost use Rattle.timeouts_cancel.specs.Guarding.{guarding, guards_row};
 
-use entries::Row;
+use entries::{ECANCELED, Row};
 use links_drains::{Table, is_guard, is_unfinished};
-use opcodes::ECANCELED;
 use std::alloc::AllocError;
 
 /// Returns the unfinished linked timeouts of the listed requests, each with -ECANCELED. Only the
