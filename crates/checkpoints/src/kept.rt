@@ -1,4 +1,4 @@
-//! The copies that are kept.
+//! The list of checkpoints of a run.
 ghost use Rattle.std.specs.Prelude.{◌≡◌, ◌<◌, ◌/◌, ◌++◌, [], length, slice_get, Some, IsOk, OnOk, OnErr};
 ghost use Rattle.checkpoints.specs.Checkpoints.{no_states, nearest as nearest_to, IsNearest};
 
@@ -6,7 +6,10 @@ use machine::State;
 use std::alloc::{AllocError, Global};
 use std::marker::Model;
 
-/// The states at the multiples of a number, from moment 0 on.
+/// Checkpoints: the states at moments 0, `every`, 2 * `every` and so on. It also stores `window`,
+/// the greatest distance that a jump goes back by undoing single steps.
+///
+/// The list does not know the run: its caller adds the right states in order.
 #[derive(Drop)]
 pub struct Kept {
     every: u32,
@@ -25,7 +28,7 @@ impl Model for Kept {
 }
 
 impl Kept {
-    /// Keeps none yet.
+    /// Returns an empty list. Allocates nothing.
     pub fn new(alloc: Global, every: u32, window: u32) -> Kept
         requires { 0 < every }
         ensures { result ≡ no_states every window }
@@ -37,7 +40,7 @@ impl Kept {
         }
     }
 
-    /// How many moments lie from one to the next.
+    /// Returns the distance between two checkpoints, in events.
     pub fn every(&self) -> u32
         ensures value { result ≡ self.now.every }
         ensures some { 0 < self.now.every }
@@ -45,21 +48,22 @@ impl Kept {
         self.every
     }
 
-    /// How far back a jump goes step by step.
+    /// Returns how many events a jump undoes at most, one by one.
     pub fn window(&self) -> u32
         ensures { result ≡ self.now.window }
     {
         self.window
     }
 
-    /// How many there are.
+    /// Returns the number of checkpoints.
     pub fn len(&self) -> usize
         ensures { result ≡ length self.now.states }
     {
         self.states.len()
     }
 
-    /// Adds the states of the next multiples, in order. Where memory is refused they are dropped.
+    /// Appends the states at the next multiples of `every`, in order. If the allocation fails, the
+    /// list stays as it was and the states are dropped.
     pub fn keep(&mut self, mut states: Vec<State>) -> Result<(), AllocError>
         ensures ok { OnOk result (self.new
             ≡ record self.old { states = self.old.states ++ states.items }) }
@@ -69,7 +73,7 @@ impl Kept {
         self.states.append(&mut states)
     }
 
-    /// The greatest multiple that is not above a moment.
+    /// Returns the moment of the last checkpoint at or before a moment: a multiple of `every`.
     pub fn nearest(&self, moment: u32) -> u32
         ensures value { result ≡ nearest_to self.now.every moment }
         ensures greatest { IsNearest self.now.every moment result }
@@ -77,7 +81,7 @@ impl Kept {
         moment - moment % self.every
     }
 
-    /// The state of the nearest multiple.
+    /// Returns the state of that checkpoint, which must have been added.
     pub fn state(&self, moment: u32) -> &State
         requires { moment / self.now.every < length self.now.states }
         ensures { slice_get self.now.states (moment / self.now.every) ≡ Some result.now }

@@ -1,4 +1,5 @@
-//! Copies of the states at each so many moments of a run, from which a jump goes on.
+//! Checkpoints of a run: copies of its state at regular distances, from which a jump to a moment
+//! starts. Moment m is the state after the first m events.
 #![tactic(auto)]
 
 pub mod kept;

@@ -1,4 +1,4 @@
--- The words of a break, as lists of what the code's references lead to.
+-- The words of a `break` command, from the code's references to lists of bytes.
 use Rattle.std.proofs.Common.{◌≡◌, ℕ, ◌+◌, ◌-◌, ◌==◌, List, [], ◌∷◌, length, take, drop, map, not, Bool, false, cond, nat_lt, Some, None, refl, sym, ap, ◌∙◌, Bor, arith}
 use Rattle.std.proofs.lemmas.List.{take-map, drop-map, take_rest, length-map}
 use Rattle.std.specs.List.{count_by, fold, position, position_or_len}
@@ -9,7 +9,7 @@ use Rattle.commands.specs.Commands.{is_mark, followed, mark_of, break_named, bre
 abbrev Words : Type 0
 Words = List (Bor (List ℕ))
 
--- what they lead to
+-- The bytes of borrowed words.
 abbrev pub seen : Words → List (List ℕ)
 seen ws = map (λ w. w.now) ws
 
@@ -32,14 +32,14 @@ position_seen p ws =
 followed_seen : (ws : Words) → followed (seen ws) ≡ seen (take (length ws - 1) ws)
 followed_seen ws = ap (λ n. take (n - 1) (seen ws)) (length-map ws (λ w. w.now)) ∙ take-map (λ w. w.now) (length ws - 1) ws
 
--- the mark, by the words that another one follows
+-- The position of the mark, in terms of references.
 mark_seen : (ws : Words) → mark_of (seen ws) ≡ cond (count_by (λ w. is_mark w.now) (take (length ws - 1) ws) == 1) (position (λ w. is_mark w.now) (take (length ws - 1) ws)) None
 mark_seen ws =
     ap (λ l. cond (count_by is_mark l == 1) (position is_mark l) None) (followed_seen ws)
     ∙ ap (λ n. cond (n == 1) (position is_mark (seen (take (length ws - 1) ws))) None) (count_seen is_mark (take (length ws - 1) ws))
     ∙ ap (λ o. cond (count_by (λ w. is_mark w.now) (take (length ws - 1) ws) == 1) o None) (position_seen is_mark (take (length ws - 1) ws))
 
--- just one word is the mark
+-- The search finds the mark if exactly one word is the mark.
 pub marked : (ws : Words) (n k : ℕ) → n ≡ length ws - 1 → k ≡ count_by (λ w. is_mark w.now) (take n ws) → k ≡ 1 → position (λ w. is_mark w.now) (take n ws) ≡ mark_of (seen ws)
 marked ws n k e f g =
     let one : count_by (λ (w : Bor (List ℕ)). is_mark w.now) (take (length ws - 1) ws) ≡ 1 = ap (λ m. count_by (λ (w : Bor (List ℕ)). is_mark w.now) (take m ws)) (sym e) ∙ sym f ∙ g in
@@ -54,7 +54,7 @@ unmarked ws n k e f g =
     ∙ ap (λ m. cond (m == 1) (position (λ (w : Bor (List ℕ)). is_mark w.now) (take (length ws - 1) ws)) None) same
     ∙ ap (λ t. cond t (position (λ (w : Bor (List ℕ)). is_mark w.now) (take (length ws - 1) ws)) None) none)
 
--- a break by the words before and behind its mark
+-- A `break` command, split at its mark.
 pub break_seen : (setup : Setup) (ws : Words) (i : ℕ) → Some i ≡ mark_of (seen ws) → break_named setup (seen (take i ws)) (seen (take (length ws - (i + 1)) (drop (i + 1) ws))) ≡ breaking setup (seen ws)
 break_seen setup ws i h =
     ap (λ l. break_named setup l (seen (take (length ws - (i + 1)) (drop (i + 1) ws)))) (sym (take-map (λ w. w.now) i ws))

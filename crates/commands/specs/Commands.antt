@@ -1,4 +1,4 @@
--- Which command a line is, or which fault it has.
+-- Parsing a command line, or finding its fault.
 use Rattle.std.specs.Prelude.{ℕ, ◌+◌, ◌-◌, ◌==◌, List, [], ◌∷◌, length, take, drop, count_by, codes, nat_lt, Bool, if◌then◌else◌, Option, Some, None, Result, Ok, Err}
 use Rattle.std.specs.List.{slice_split, position}
 use Rattle.std.specs.Str.{bytes_eq}
@@ -16,10 +16,11 @@ use Rattle.commands.specs.declared.verb.Verb.{Verb}
 use Rattle.commands.specs.declared.verb.Verb.TheVariants as verb
 use Rattle.commands.specs.Values.{value_of}
 
--- the words of a line, which stand one space apart
+-- The words of a line, each separated by one space.
 abbrev pub words_of : List ℕ → List (List ℕ)
 words_of line = slice_split (λ b. b == 32) line
 
+-- The command that a word names.
 abbrev pub verb_of : List ℕ → Verb
 verb_of word =
     if bytes_eq word (codes "where") then verb.Where
@@ -36,57 +37,61 @@ verb_of word =
     else if bytes_eq word (codes "quit") then verb.Quit
     else verb.Other
 
--- the number, or the fault of a word in a number's place
+-- A command with a number, or the fault for an invalid number.
 abbrev pub numbered : Option ℕ → (ℕ → Command) → Result Command CommandFault
 numbered None f = Err fault.Number
 numbered (Some n) f = Ok (f n)
 
+-- The fault for words that don't name a place.
 abbrev pub fault_at : PlaceFault → CommandFault
 fault_at missing.Place = fault.Place
 fault_at missing.Number = fault.Number
 
--- the place, or the fault of its words
+-- A result for a place, or the fault of its name.
 abbrev pub placed : {X : Type 0} → Result Place PlaceFault → (Place → Result X CommandFault) → Result X CommandFault
 placed (Ok p) f = f p
 placed (Err e) f = Err (fault_at e)
 
--- ---- breaks
+-- ---- the `break` command
 
+-- The mark between a place and a value.
 abbrev pub is_mark : List ℕ → Bool
 is_mark word = bytes_eq word (codes "=")
 
--- the words that another one follows
+-- All words but the last.
 abbrev pub followed : List (List ℕ) → List (List ℕ)
 followed ws = take (length ws - 1) ws
 
--- where the mark stands between a place and a value, if there is just one that a word follows
+-- The position of the mark, if exactly one mark is followed by a word.
 abbrev pub mark_of : List (List ℕ) → Option ℕ
 mark_of ws = if count_by is_mark (followed ws) == 1 then position is_mark (followed ws) else None
 
--- the value that is the one word behind the mark
+-- The value, if it is a single word.
 abbrev pub value_in : Place → List (List ℕ) → Option Value
 value_in p (w ∷ []) = value_of p w
 value_in p _ = None
 
+-- A `break` command, or the fault for an invalid value.
 abbrev pub stopping_at : Place → Option Value → Result Command CommandFault
 stopping_at p None = Err fault.Value
 stopping_at p (Some x) = Ok (Break p x)
 
--- the words of a place, and those behind the mark
+-- A `break` command from the words before and after the mark.
 abbrev pub break_named : Setup → List (List ℕ) → List (List ℕ) → Result Command CommandFault
 break_named setup name ws = placed (place_named setup name) (λ p. stopping_at p (value_in p ws))
 
+-- A `break` command, split at the position of its mark.
 abbrev pub breaking_by : Setup → List (List ℕ) → Option ℕ → Result Command CommandFault
 breaking_by setup ws None = Err fault.Command
 breaking_by setup ws (Some i) = break_named setup (take i ws) (drop (i + 1) ws)
 
--- a place, a mark and a value
+-- A `break` command: a place, a mark and a value.
 abbrev pub breaking : Setup → List (List ℕ) → Result Command CommandFault
 breaking setup ws = breaking_by setup ws (mark_of ws)
 
 -- ---- lines
 
--- a command by its first word and the words after it
+-- A command by its first word and the words after it.
 abbrev pub command_by : Setup → Verb → List (List ℕ) → Result Command CommandFault
 command_by setup verb.Where [] = Ok Where
 command_by setup verb.Quit [] = Ok Quit
@@ -102,10 +107,11 @@ command_by setup verb.Rcont [] = Ok Rcont
 command_by setup verb.Sync [] = Ok Sync
 command_by setup _ _ = Err fault.Command
 
+-- A command by its words.
 abbrev pub command_of_words : Setup → List (List ℕ) → Result Command CommandFault
 command_of_words setup [] = Err fault.Command
 command_of_words setup (w ∷ ws) = command_by setup (verb_of w) ws
 
--- the command of a line, over a setup
+-- The command of a line of at most 256 bytes. The setup has the names of the objects.
 unfoldable pub command_of : Setup → List ℕ → Result Command CommandFault
 command_of setup line = if nat_lt 256 (length line) then Err fault.Long else command_of_words setup (words_of line)

@@ -1,4 +1,4 @@
-//! The words of a break: a place, the mark, and a value.
+//! Parses the `break` command: a place, the mark `=`, and a value.
 ghost use Rattle.std.specs.Prelude.{◌≡◌, ◌+◌, ◌<◌, map, length, count_by, IfSome};
 ghost use Rattle.std.specs.List.{position};
 ghost use Rattle.commands.specs.Commands.{is_mark, mark_of, value_in, break_named, breaking};
@@ -8,7 +8,7 @@ use crate::values::value_of;
 use places::{Place, Value};
 use scenario::Setup;
 
-// The command that some words make a break by.
+// Parses the words of a `break` command.
 pub(crate) fn parse_break(setup: &Setup, words: &[&[u8]]) -> Result<Command, CommandFault>
     ensures { result ≡ breaking setup.now (map (λ w. w.now) words.now) }
 {
@@ -18,7 +18,7 @@ pub(crate) fn parse_break(setup: &Setup, words: &[&[u8]]) -> Result<Command, Com
     }
 }
 
-// The command of a place and of the words behind the mark, of which there has to be one.
+// Parses the place before the mark, and the value after it.
 fn parse_parts(setup: &Setup, name: &[&[u8]], words: &[&[u8]]) -> Result<Command, CommandFault>
     ensures { result ≡ break_named setup.now (map (λ w. w.now) name.now)
         (map (λ w. w.now) words.now) }
@@ -30,7 +30,7 @@ fn parse_parts(setup: &Setup, name: &[&[u8]], words: &[&[u8]]) -> Result<Command
     }
 }
 
-// The value of a place that is the one word of some.
+// Returns the value of a place, if it is a single word.
 fn value_in(place: Place, words: &[&[u8]]) -> Option<Value>
     ensures { result ≡ value_in place (map (λ w. w.now) words.now) }
 {
@@ -40,7 +40,7 @@ fn value_in(place: Place, words: &[&[u8]]) -> Option<Value>
     }
 }
 
-// Where the mark stands between a place and a value, if there is just one that a word follows.
+// Returns the position of the mark, if exactly one mark is followed by a word.
 fn mark_of(words: &[&[u8]]) -> Option<usize>
     ensures value { result ≡ mark_of (map (λ w. w.now) words.now) }
     ensures followed { IfSome result (λ at. at + 1 < length words.now) }

@@ -1,4 +1,4 @@
-//! Commands, and what can be wrong with a line.
+//! Parses command lines.
 ghost use Rattle.std.specs.Prelude.{◌≡◌, map, Ok, IfOk};
 ghost use Rattle.scenario.specs.Names.{place_named};
 ghost use Rattle.commands.specs.Commands.{placed, command_of_words, command_of};
@@ -10,10 +10,10 @@ use places::{Place, Value};
 use scenario::{PlaceFault, Setup, place_of, read_number};
 use std::alloc::{AllocError, Global};
 
-/// The most bytes of a line that is answered.
+/// The maximum length of a command line, in bytes.
 pub const LIMIT: usize = 256;
 
-/// What a line asks for.
+/// A command of the debugger.
 #[derive(Clone, Copy)]
 pub enum Command {
     Where,
@@ -30,24 +30,24 @@ pub enum Command {
     Quit,
 }
 
-/// What is wrong with a line, by its number.
+/// Why a line isn't a command. The discriminant is the number that is reported.
 #[derive(Clone, Copy)]
 pub enum CommandFault {
-    /// There is no such command, or not with so many words.
+    /// There is no such command, or it has another number of words.
     Command = 1,
-    /// A word in a number's place is no number.
+    /// A word isn't a number, but a number is required.
     Number = 2,
     /// There is no such place.
     Place = 3,
     /// The line is too long.
     Long = 4,
-    /// There is no such value of the place.
+    /// The place can't have such a value.
     Value = 5,
-    /// There are as many watches or breaks as can be.
+    /// There are too many watches or breaks.
     Many = 6,
 }
 
-// The place that some words name.
+// Parses the name of a place.
 pub(crate) fn parse_place(setup: &Setup, name: &[&[u8]]) -> Result<Place, CommandFault>
     ensures { result ≡ placed (place_named setup.now (map (λ w. w.now) name.now)) (λ p. Ok p) }
 {
@@ -58,7 +58,7 @@ pub(crate) fn parse_place(setup: &Setup, name: &[&[u8]]) -> Result<Place, Comman
     }
 }
 
-// The command that some words show a place by.
+// Parses the rest of a `show` command.
 fn parse_show(setup: &Setup, name: &[&[u8]]) -> Result<Command, CommandFault>
     ensures { result ≡ placed (place_named setup.now (map (λ w. w.now) name.now))
         (λ p. Ok (Command.Show p)) }
@@ -66,7 +66,7 @@ fn parse_show(setup: &Setup, name: &[&[u8]]) -> Result<Command, CommandFault>
     Ok(Command::Show(parse_place(setup, name)?))
 }
 
-// The command that some words watch a place by.
+// Parses the rest of a `watch` command.
 fn parse_watch(setup: &Setup, name: &[&[u8]]) -> Result<Command, CommandFault>
     ensures { result ≡ placed (place_named setup.now (map (λ w. w.now) name.now))
         (λ p. Ok (Command.Watch p)) }
@@ -74,7 +74,7 @@ fn parse_watch(setup: &Setup, name: &[&[u8]]) -> Result<Command, CommandFault>
     Ok(Command::Watch(parse_place(setup, name)?))
 }
 
-// The command that some words are.
+// Parses the words of a command.
 fn parse_command(setup: &Setup, words: &[&[u8]]) -> Result<Command, CommandFault>
     ensures { result ≡ command_of_words setup.now (map (λ w. w.now) words.now) }
 {
@@ -98,7 +98,7 @@ fn parse_command(setup: &Setup, words: &[&[u8]]) -> Result<Command, CommandFault
     }
 }
 
-/// The command of a line, over a setup, or what is wrong with the line.
+/// Parses a command line. The setup has the names of the objects.
 #[tactic(auto, unfolding(crate::specs::Commands::command_of))]
 pub fn parse_line(
     alloc: Global,

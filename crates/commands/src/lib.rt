@@ -1,4 +1,4 @@
-//! The command language: what a line asks for, or what is wrong with it.
+//! The command language of the debugger: parses a line to a command, or to a fault.
 #![tactic(auto)]
 
 mod breaks;

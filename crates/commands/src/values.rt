@@ -1,4 +1,4 @@
-//! The values that words write for places.
+//! Parses the values of places.
 ghost use Rattle.std.specs.Prelude.{◌≡◌, ◌<◌, true, option_map, IfSome};
 ghost use Rattle.std.specs.Char.{is_ascii_digit};
 ghost use Rattle.std.specs.List.{list_all};
@@ -7,7 +7,7 @@ ghost use Rattle.commands.specs.Values.{wide_number_of, positive, negative, sign
 
 use places::{Place, Value};
 
-// The value of a place that a word writes; most kinds of values can't be written.
+// Returns the value that a word denotes for a place. Places with other kinds of values have none.
 pub(crate) fn value_of(place: Place, word: &[u8]) -> Option<Value>
     ensures { result ≡ value_of place word.now }
 {
@@ -28,7 +28,7 @@ pub(crate) fn value_of(place: Place, word: &[u8]) -> Option<Value>
     }
 }
 
-// The value of a place for numbers.
+// Parses a value for an unsigned place.
 fn number_value(word: &[u8]) -> Option<Value>
     ensures { result ≡ option_map Value.Number (wide_number_of word.now) }
 {
@@ -36,7 +36,7 @@ fn number_value(word: &[u8]) -> Option<Value>
     Some(Value::Number(number))
 }
 
-// The value of a place for signed numbers: with a minus before it or not.
+// Parses a value for a signed place: a decimal number with an optional minus sign.
 fn signed_value(word: &[u8]) -> Option<Value>
     ensures { result ≡ signed_value word.now }
 {
@@ -46,7 +46,7 @@ fn signed_value(word: &[u8]) -> Option<Value>
     }
 }
 
-// A number that is larger than 64 bits with a sign hold never stands in such a place.
+// A number above `i64::MAX` becomes a `Value::Number`, which never equals a signed value.
 fn positive(number: u64) -> Value
     ensures { result ≡ positive number }
 {
@@ -57,7 +57,7 @@ fn positive(number: u64) -> Value
     }
 }
 
-// There is no minus before 0.
+// Returns `None` for -0. A number below `i64::MIN` becomes a `Value::Number`.
 fn negative(number: u64) -> Option<Value>
     ensures { result ≡ negative number }
 {
@@ -70,7 +70,7 @@ fn negative(number: u64) -> Option<Value>
     }
 }
 
-// The byte that two digits of hex in lower case write.
+// Parses a byte from two lower-case hex digits.
 fn byte_value(word: &[u8]) -> Option<Value>
     ensures { result ≡ byte_value word.now }
 {
@@ -94,7 +94,7 @@ fn hex_digit(digit: u8) -> Option<u8>
     }
 }
 
-// The number below 2^64 that a word writes: decimal, without a zero before another digit.
+// Parses a decimal number below 2^64, without leading zeros.
 fn read_wide_number(word: &[u8]) -> Option<u64>
     ensures { result ≡ wide_number_of word.now }
 {
@@ -114,7 +114,7 @@ fn read_digits(word: &[u8]) -> Option<u64>
     }
 }
 
-// Whether a word is a number without a zero before another digit.
+// Whether a word is a decimal number without leading zeros.
 fn is_numeral(word: &[u8]) -> bool
     ensures { result ≡ is_numeral word.now }
 {

@@ -2,7 +2,7 @@
 ghost use Rattle.std.specs.Prelude.{◌≡◌};
 ghost use Rattle.commands.specs.Commands.{verb_of};
 
-/// What a line is about.
+/// The command that the first word names.
 #[derive(Clone, Copy)]
 pub enum Verb {
     Where,

@@ -1,4 +1,4 @@
--- The layouts are one to one.
+-- The layouts are one to one: one list of bytes per value, and one value per list of bytes.
 use Rattle.std.proofs.Common.{◌≡◌, ℕ, ◌+◌, ◌<◌, ◌^◌, ℤ, List, [], ◌++◌, append-nil, length, drop, refl, sym, ap, ◌∙◌, arith, length-drop, FitsSigned, w32, to_z, of_z}
 use Rattle.std.proofs.lemmas.Int.{to_z-of_z, ints}
 use Rattle.std.proofs.lemmas.List.{drop-drop, take-append-drop, take_all}
@@ -9,16 +9,18 @@ use Rattle.entries.specs.declared.entry.Sqe.{Sqe}
 use Rattle.entries.specs.Layout.{BytesAt, NumberAt, SignedAt, EntryFits, EntryLayout, CompletionFits, CompletionLayout, completion_bytes, entry_bytes, number_at, signed_at, entry_of_bytes}
 use Rattle.entries.proofs.ByteLemmas.{same_number}
 
--- a part, and what stands behind it
+-- If `part` takes up the n bytes from offset o, then what follows o is
+-- `part` and what follows o + n.
 next : (o n m : ℕ) (bytes part : List ℕ) → o + n ≡ m → BytesAt o n part bytes → drop o bytes ≡ part ++ drop m bytes
 next o n m bytes part e h =
     sym (take-append-drop n (drop o bytes)) ∙ ap (λ (xs : List ℕ). xs ++ drop n (drop o bytes)) h
     ∙ ap (λ (xs : List ℕ). part ++ xs) (drop-drop n o bytes ∙ ap (λ (k : ℕ). drop k bytes) e)
 
--- the last part
+-- The same for a part that reaches the end of the bytes.
 last : (o n : ℕ) (bytes part : List ℕ) → length bytes ≡ o + n → BytesAt o n part bytes → drop o bytes ≡ part
 last o n bytes part e h = sym (take_all n (drop o bytes) (omega (arith, length-drop o bytes))) ∙ h
 
+-- Bytes in an entry's layout are its fields in order.
 pub entry_is : (e : Sqe) (bytes : List ℕ) → EntryLayout e bytes → bytes ≡ entry_bytes e
 entry_is e bytes h =
     let a = next 0 1 1 bytes _ refl h.opcode in
@@ -36,6 +38,7 @@ entry_is e bytes h =
     let o = last 48 16 bytes _ h.size h.rest in
     a ∙ rw (b, c, d, f, g, i, j, k, l, m, n, o) refl
 
+-- Bytes in a completion's layout are its fields in order.
 pub completion_is : (c : Cqe) (bytes : List ℕ) → CompletionLayout c bytes → bytes ≡ completion_bytes c
 completion_is c bytes h =
     let a = next 0 8 8 bytes _ refl h.user_data in
@@ -43,7 +46,7 @@ completion_is c bytes h =
     let d = last 12 4 bytes _ h.size h.flags in
     a ∙ rw (b, d) refl
 
--- two numbers of the same bytes are one
+-- Two unsigned numbers at the same offset with the same bytes are equal.
 number_is : (o n x y : ℕ) (bytes : List ℕ) → x < 256 ^ n → y < 256 ^ n → NumberAt o n x bytes → NumberAt o n y bytes → x ≡ y
 number_is o n x y bytes a b h i = same_number n x y a b (sym h ∙ i)
 
@@ -95,14 +98,14 @@ same_entry d e bytes f g h i =
     let p13 : d.rest ≡ e.rest = sym h.rest ∙ i.rest in
     entry_of-same _ _ _ _ _ _ _ _ _ _ _ _ _ _ _ _ _ _ _ _ _ _ _ _ _ _ p1 p2 p3 p4 p5 p6 p7 p8 p9 p10 p11 p12 p13
 
--- the number that stands at an offset is the one that is read there
+-- A number that the layout places at an offset is the number read from that offset.
 number_here : (o n x : ℕ) (bytes : List ℕ) → x < 256 ^ n → NumberAt o n x bytes → x ≡ number_at o n bytes
 number_here o n x bytes l h = sym (ap (little_number n) h ∙ ap (little_number n) (sym (append-nil (little_bytes n x))) ∙ little_number-reads_back n x [] l)
 
 signed_here : (o : ℕ) (z : ℤ) (bytes : List ℕ) → FitsSigned w32 z → SignedAt o 4 z bytes → z ≡ signed_at o bytes
 signed_here o z bytes f h = sym (to_z-of_z w32 z f) ∙ ap (to_z w32) (number_here o 4 (of_z w32 z) bytes (of_z_small z f) h)
 
--- the entry that lies in some bytes is the one that is read of them
+-- An entry whose layout fits some bytes is the entry read from them.
 pub entry_here : (e : Sqe) (bytes : List ℕ) → EntryFits e → EntryLayout e bytes → e ≡ entry_of_bytes bytes
 unfolding entry_of_bytes
 entry_here e bytes f h =

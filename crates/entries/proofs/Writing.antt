@@ -1,4 +1,5 @@
--- What a list holds once parts of it are written.
+-- The bytes of a list after parts of it are overwritten, and the layout of
+-- an entry written this way.
 use Rattle.std.proofs.Common.{◌≡◌, ℕ, ◌-◌, ◌≤◌, List, [], ◌++◌, length, take, drop, replicate, refl, arith, length-drop}
 use Rattle.std.proofs.lemmas.List.{append_assoc, append-nil, drop_all, drop-drop, take_all}
 use borrow.Rule.Slice.PartMut.{mid_of, put_mid}
@@ -8,7 +9,7 @@ use Rattle.entries.specs.declared.completion.Cqe.{Cqe}
 use Rattle.entries.specs.declared.entry.Sqe.{Sqe}
 use Rattle.entries.specs.Layout.{EntryLayout, CompletionLayout, put_at, entry_bytes, completion_bytes}
 
--- a part written at the head of what stands from the offset on
+-- Writing `part` at the start of the slice from offset o on is `put_at o part` on the whole list.
 pub put_is : (o : ℕ) (xs part buf : List ℕ) → o ≤ length xs
     → buf ≡ part ++ drop (length part) (mid_of o (length xs - o) xs) → put_mid o (length xs - o) xs buf ≡ put_at o part xs
 put_is o xs part buf h e =
@@ -16,7 +17,7 @@ put_is o xs part buf h e =
     let none : drop (length xs - o) (drop o xs) ≡ [] = drop_all (length xs - o) (drop o xs) (omega (arith, length-drop o xs)) in
     rw (e, mid, none, append-nil, drop-drop (length part) o xs, append_assoc) refl
 
--- the fields of an entry, written in their order
+-- Writing every field of an entry into 64 zero bytes, in order, gives `entry_bytes`.
 pub entry_written : (e : Sqe) (p1 p2 s1 s2 s3 s4 s5 s6 s7 s8 s9 s10 rest : List ℕ)
     → p1 ≡ put_at 0 (little_bytes 1 e.opcode) (replicate 64 0)
     → p2 ≡ put_at 1 (little_bytes 1 e.flags) p1
@@ -34,7 +35,7 @@ pub entry_written : (e : Sqe) (p1 p2 s1 s2 s3 s4 s5 s6 s7 s8 s9 s10 rest : List 
 entry_written e p1 p2 s1 s2 s3 s4 s5 s6 s7 s8 s9 s10 rest a b e1 e2 e3 e4 e5 e6 e7 e8 e9 e10 e11 =
     rw (e11, e10, e9, e8, e7, e6, e5, e4, e3, e2, e1, b, a, append-nil) refl
 
--- the fields of an entry stand where the layout has them
+-- `entry_bytes` has the layout of an entry.
 pub entry_laid : (e : Sqe) → length e.rest ≡ 16 → EntryLayout e (entry_bytes e)
 entry_laid e n = record {
   size = omega (arith, n);

@@ -1,12 +1,13 @@
-//! What a kernel can choose as a request ends.
+//! The kernel's choice when a request finishes.
 
-/// How much of its work a request does as it ends.
+/// How much of its work a request does when it finishes. A Finish event of a run carries one.
 #[derive(Clone, Copy, PartialEq, Eq)]
 pub enum Choice {
-    /// All that it can do.
+    /// Everything that the request can do at this moment.
     Full,
-    /// A transfer of this many bytes, at least 1, and fewer than it could do.
+    /// A short read or write of this many bytes: at least 1, and fewer than
+    /// the request could transfer.
     Short(u32),
-    /// The device fails.
+    /// The device fails: the request completes with -5 (EIO).
     Eio,
 }

@@ -1,13 +1,13 @@
-//! Completions (io_uring_enter(2)).
+//! Completion queue entries (io_uring_enter(2)).
 ghost use Rattle.std.specs.Prelude.{◌≡◌, ◌↔◌, IsTrue};
 
 use crate::fields::{i32_at, put_i32, put_u32, put_u64, u32_at, u64_at};
 
-/// One completion.
+/// A completion queue entry: the fields of `struct io_uring_cqe`.
 #[derive(Clone, Copy, PartialEq, Eq)]
 pub struct Cqe {
     pub user_data: u64,
-    /// What the request came to: a count or a mask, or a negated error number.
+    /// The result of the request: a count, a poll mask or 0; or a negated errno.
     pub res: i32,
     pub flags: u32,
 }
@@ -15,14 +15,14 @@ pub struct Cqe {
 impl Cqe {
     ghost use Rattle.entries.specs.Layout.{CompletionLayout};
 
-    /// Whether two completions are one and the same.
+    /// Returns whether two completions are equal in every field.
     pub fn is(&self, other: &Cqe) -> bool
         ensures { IsTrue result ↔ (self.now ≡ other.now) }
     {
         self == other
     }
 
-    /// The completion that 16 bytes of memory hold.
+    /// Decodes the 16 bytes of a completion. Every list of 16 bytes is a completion.
     pub fn read(bytes: &[u8; 16]) -> Cqe
         ensures { CompletionLayout result bytes.now }
     {
@@ -33,7 +33,7 @@ impl Cqe {
         }
     }
 
-    /// The 16 bytes of the completion.
+    /// Encodes the completion as 16 bytes, little-endian.
     pub fn write(&self) -> [u8; 16]
         ensures { CompletionLayout self.now result }
     {

@@ -1,9 +1,9 @@
-//! Entries of the submission ring (io_uring_enter(2)).
+//! Submission queue entries (io_uring_enter(2)).
 ghost use Rattle.std.specs.Prelude.{◌≡◌, ◌↔◌, IsTrue};
 
 use crate::fields::{i32_at, put_i32, put_u8, put_u16, put_u32, put_u64, u16_at, u32_at, u64_at};
 
-/// One entry of the submission ring.
+/// A submission queue entry: the fields of `struct io_uring_sqe`.
 #[derive(Clone, Copy, PartialEq, Eq)]
 pub struct Sqe {
     pub opcode: u8,
@@ -13,27 +13,28 @@ pub struct Sqe {
     pub off: u64,
     pub addr: u64,
     pub len: u32,
-    /// The flags of the operation: rw_flags, fsync_flags, poll events, timeout_flags, cancel_flags.
+    /// The flags of the operation: rw_flags, fsync_flags, poll events,
+    /// timeout_flags or cancel_flags.
     pub operation_flags: u32,
     pub user_data: u64,
     pub buf_index: u16,
     pub personality: u16,
     pub splice_fd_in: i32,
-    /// The bytes behind the fields that this model reads.
+    /// Bytes 48 to 63, which this model carries along and does not interpret.
     pub rest: [u8; 16],
 }
 
 impl Sqe {
     ghost use Rattle.entries.specs.Layout.{EntryLayout};
 
-    /// Whether two entries are one and the same.
+    /// Returns whether two entries are equal in every field.
     pub fn is(&self, other: &Sqe) -> bool
         ensures { IsTrue result ↔ (self.now ≡ other.now) }
     {
         self == other
     }
 
-    /// The entry that 64 bytes of memory hold.
+    /// Decodes the 64 bytes of an entry. Every list of 64 bytes is an entry.
     pub fn read(bytes: &[u8; 64]) -> Sqe
         ensures { EntryLayout result bytes.now }
     {
@@ -56,7 +57,7 @@ impl Sqe {
         }
     }
 
-    /// The 64 bytes of the entry.
+    /// Encodes the entry as 64 bytes, little-endian.
     pub fn write(&self) -> [u8; 64]
         ensures { EntryLayout self.now result }
     {

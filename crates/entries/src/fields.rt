@@ -1,4 +1,4 @@
-//! Numbers in bytes, the lowest byte first.
+//! Reads and writes little-endian integers at an offset of a byte slice.
 ghost use Rattle.std.specs.Prelude.{◌≡◌, ◌+◌, ◌≤◌, length};
 ghost use Rattle.std.specs.Int.{w32, cast_unsigned};
 ghost use Rattle.byteorder.specs.Endian.{little_bytes};

@@ -1,38 +1,44 @@
-//! Rows: one for each request that was ever submitted.
+//! Requests. The model numbers them from 0 in the order of submission and keeps completed ones, so
+//! each request is a row of a table.
 ghost use Rattle.std.specs.Prelude.{◌≡◌, ◌↔◌, IsTrue};
 
 use crate::entry::Sqe;
 
-/// How far a request has come.
+/// How far a request has got.
 #[derive(Clone, Copy, PartialEq, Eq)]
 pub enum Phase {
+    /// Submitted, and not yet started.
     Queued,
+    /// Started by the kernel, and not yet completed.
     Issued,
-    /// It ended with this result.
+    /// Completed with this result.
     Ended(i32),
 }
 
-/// A request.
+/// A request: its entry, and what the model knows of its progress.
 #[derive(Clone, Copy)]
 pub struct Row {
-    /// When it is due, in nanoseconds of the clock: of an issued timeout or guard.
+    /// When a TIMEOUT or LINK_TIMEOUT is due, in nanoseconds on the model's
+    /// clock. Set when it is issued.
     pub deadline: Option<u128>,
-    /// The time that was read from memory as it was submitted, in nanoseconds.
+    /// The time of a TIMEOUT or LINK_TIMEOUT in nanoseconds, read from memory at submission.
     pub time: Option<u128>,
     pub entry: Sqe,
-    /// What had been counted as it was issued: of an issued timeout.
+    /// The machine's completion count at the moment when a TIMEOUT was issued. It counts
+    /// completions other than those of timeouts.
     pub base: u32,
-    /// The number of the first row of its chain.
+    /// The chain that the request belongs to: the number of the chain's first request.
     pub unit: u32,
-    /// The row that it guards: of a LINK_TIMEOUT.
+    /// For a LINK_TIMEOUT, the number of the request that it limits.
     pub target: Option<u32>,
-    /// The descriptor that it holds.
+    /// The descriptor that a READ, WRITE, FSYNC or POLL_ADD uses. Set when the request is issued;
+    /// the request holds it until it completes.
     pub held: Option<u32>,
     pub phase: Phase,
 }
 
 impl Phase {
-    /// Whether two phases are one and the same.
+    /// Returns whether two phases are equal, the result of a completed request included.
     pub fn is(&self, other: &Phase) -> bool
         ensures { IsTrue result ↔ (self.now ≡ other.now) }
     {
@@ -41,7 +47,7 @@ impl Phase {
 }
 
 impl Row {
-    /// Whether two rows are one and the same.
+    /// Returns whether two rows are equal in every field.
     pub fn is(&self, other: &Row) -> bool
         ensures { IsTrue result ↔ (self.now ≡ other.now) }
     {

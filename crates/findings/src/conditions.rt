@@ -9,16 +9,10 @@ ghost use Rattle.findings.specs.Uses.{changes_at};
 
 use crate::canceling::{Cancel, cancel_before};
 use crate::uses::{Sought, changes_at, first_pushed, is_of_number, is_of_put};
+use entries::{EBUSY, EINVAL, IORING_SQ_CQ_OVERFLOW, IORING_SQ_NEED_WAKEUP};
 use finding_kinds::{Kind, descriptor_number, instruction_at};
 use machine::{Event, Instruction, Setup, State};
-use opcodes::{EBUSY, EINVAL};
 use places::{Place, Stage, Value};
-
-/// IORING_SQ_NEED_WAKEUP.
-const NEED_WAKEUP: u64 = 1;
-
-/// IORING_SQ_CQ_OVERFLOW.
-const CQ_OVERFLOW: u64 = 2;
 
 /// What is to be known of the rings, the threads and a cancel before an event.
 #[derive(Clone, Copy)]
@@ -66,14 +60,14 @@ fn has_flag(flags: u64, bit: u64) -> bool
 fn needs_wake_up(state: &State) -> bool
     ensures { result ≡ needs_wake_up state.now }
 {
-    has_flag(flags_of(state), NEED_WAKEUP)
+    has_flag(flags_of(state), IORING_SQ_NEED_WAKEUP as u64)
 }
 
 /// Whether completions are kept.
 pub(crate) fn overflows(state: &State) -> bool
     ensures { result ≡ overflows state.now }
 {
-    has_flag(flags_of(state), CQ_OVERFLOW)
+    has_flag(flags_of(state), IORING_SQ_CQ_OVERFLOW as u64)
 }
 
 fn has_entries(state: &State) -> bool

@@ -9,15 +9,12 @@ use crate::deed::{Deed, is_transfer};
 use crate::files::{is_same_descriptor, is_same_file};
 use crate::leftover::row_at;
 use crate::transition::Transition;
-use entries::{Phase, Row, Sqe};
+use entries::{IOSQE_IO_DRAIN, Phase, Row, Sqe};
 use finding_kinds::{Kind, MOST_ROWS, descriptor_number};
 use links_drains::{is_guard, is_issued, is_unfinished};
 use machine::{Setup, State};
 use opcodes::Op;
 use places::{Place, Value};
-
-/// IOSQE_IO_DRAIN.
-const IO_DRAIN: u8 = 2;
 
 /// The offset that stands for the position.
 const AT_POSITION: u64 = 18446744073709551615;
@@ -131,7 +128,7 @@ fn is_over(setup: &Setup, state: &State, count: u64, done: &Sqe, row: &Row) -> b
 fn asks_to_drain(row: &Row) -> bool
     ensures { result ≡ asks_to_drain row.now }
 {
-    row.entry.flags & IO_DRAIN != 0
+    row.entry.flags & IOSQE_IO_DRAIN != 0
 }
 
 // Whether a chain drains. Its rows stand one behind the other.

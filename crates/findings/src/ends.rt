@@ -7,17 +7,13 @@ ghost use Rattle.findings.specs.Endings.{had_ended, was_issued, ending_of, is_er
 
 use crate::leftover::row_at;
 use crate::twins::has_twin;
-use entries::{Phase, Row, Sqe};
+use entries::{
+    EALREADY, ECANCELED, ENOENT, ETIME, IOSQE_IO_HARDLINK, IOSQE_IO_LINK, Phase, Row, Sqe,
+};
 use finding_kinds::{Kind, distance_to_next};
 use links_drains::{is_guard, is_soft_linked};
 use machine::State;
-use opcodes::{EALREADY, ECANCELED, ENOENT, ETIME, Op, is_cancel, is_timer};
-
-/// IOSQE_IO_LINK.
-const IO_LINK: u8 = 4;
-
-/// IOSQE_IO_HARDLINK.
-const IO_HARDLINK: u8 = 8;
+use opcodes::{Op, is_cancel, is_timer};
 
 fn had_ended(before: &Option<Row>) -> bool
     ensures { result ≡ had_ended before.now }
@@ -149,7 +145,7 @@ fn has_next(row: &Row, state: &State, number: u32) -> bool
 fn is_hard_linked(row: &Row) -> bool
     ensures { result ≡ has_flag row.now.entry.flags 8 }
 {
-    row.entry.flags & IO_HARDLINK != 0
+    row.entry.flags & IOSQE_IO_HARDLINK != 0
 }
 
 // Whether a row with a hard link ends badly, and its chain goes on.
@@ -190,7 +186,7 @@ fn has_idle_field(entry: &Sqe) -> bool
 fn is_linked(entry: &Sqe) -> bool
     ensures { result ≡ is_linked entry.now }
 {
-    entry.flags & IO_LINK != 0 || entry.flags & IO_HARDLINK != 0
+    entry.flags & IOSQE_IO_LINK != 0 || entry.flags & IOSQE_IO_HARDLINK != 0
 }
 
 // Whether a row that comes, among all rows behind the event, is a finding of a kind.

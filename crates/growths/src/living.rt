@@ -1,4 +1,4 @@
-//! Calls of live runs, which are driven by hand.
+//! Calls of a live run, whose actors are driven by hand.
 ghost use Rattle.std.specs.Prelude.{◌≡◌, length};
 ghost use Rattle.live_runner.specs.Actors.{actors};
 ghost use Rattle.live_runner.specs.History.{InOrder};
@@ -15,10 +15,10 @@ use std::io;
 use std::marker::Brand;
 use std::sync::ledger::{Blank, Ledger};
 
-/// How many kernel workers there are.
+/// The number of kernel workers.
 const KERNEL: u32 = 1;
 
-/// Makes a call of a live run behind the first events.
+/// Makes a call of a live run after the first events.
 pub fn try_live<R: Print + Eprint>(rt: &R, given: &Given<'_>) -> io::Result<()> {
     let setup = given.script.setup();
     let blank = Blank::new(actors(setup, KERNEL) as u64);
@@ -48,7 +48,7 @@ fn drive<L: Ledger, R: Print + Eprint>(
     }
 }
 
-// Does events, each by the seat of its actor.
+// Runs events, each through the seat of its actor.
 fn act_first<L: Ledger>(live: &mut Live<L>, seats: &mut Vec<Seat<L>>, events: &[Event])
     requires order { InOrder seats.old.items }
     ensures len { length seats.new.items ≡ length seats.old.items }
@@ -63,7 +63,8 @@ fn act_first<L: Ledger>(live: &mut Live<L>, seats: &mut Vec<Seat<L>>, events: &[
     }
 }
 
-// The actor of an event: a thread, or else the poller, or the kernel worker behind it.
+// Returns the actor of an event. The threads have the first numbers, then the poller if there is
+// one, then the kernel worker.
 fn actor_of(setup: &Setup, event: Event) -> usize {
     let threads = setup.threads.len();
     match event {
@@ -94,7 +95,7 @@ struct Living<'a, L: Ledger> {
 }
 
 impl<L: Ledger> Situation for Living<'_, L> {
-    // It tells a moment: of an offer that of the event, if that is what is offered.
+    // Returns the moment of the event, which for an offer has to be the offered one.
     fn call(&mut self) -> Answer {
         let event = self.given.event();
         match self.given.plan.call {
@@ -128,8 +129,8 @@ fn answer_of(attempted: Option<Result<Receipt, LiveRefusal>>) -> Answer {
     }
 }
 
-// Closes the run while growths are refused: a worker for each seat, `finish`, and what the receipts
-// are redeemed for.
+// Closes the run with an allocation failure injected: creates a worker for each seat, calls
+// `finish`, and redeems the receipts.
 fn try_finish<L: Ledger>(
     rt: &(impl Print + Eprint),
     given: &Given<'_>,
@@ -159,7 +160,7 @@ fn redeem_all(
     tell(rt, Ok(count), sums)
 }
 
-// How many receipts are redeemed for their own events.
+// Counts the receipts that are redeemed for their own events.
 fn redeemed(closed: &Closed) -> u64 {
     let mut count = 0u64;
     for actor in 0..closed.actors() {

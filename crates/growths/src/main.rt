@@ -1,12 +1,13 @@
-//! A call that meets refused memory, and then the same call again: each answer is told, and sums of
-//! all that the call stands over, by which runs are held against each other (`tests/faults/run`).
+//! Makes a call with an injected allocation failure, and then the same call again. It prints each
+//! result, and checksums of everything that the call can change. `tests/faults/run` compares them
+//! between runs.
 //!
-//! The words are the call, the path of a script, the number of the growth that is refused (with 0
-//! the call is made once, and none is refused), and two numbers that say how much of the script's
-//! schedule lies behind; for a session's call its line, and the lines said before.
-//! Standard input has the lines that a session is asked behind each call, or that are served.
-//! Growths are counted, and refused, by who hears the lines `armed` and `disarmed` on standard
-//! error; where nobody does, none is.
+//! The arguments are the call, the path of a script, the number of the allocation that fails, and
+//! two numbers that say how much of the script's schedule has run. With the number 0, no allocation
+//! fails, and the call is made once. For a session, a command line and the lines before it follow.
+//! Standard input has the lines that the session receives after each call, or that are served. A
+//! preloaded library counts allocations and makes one fail, between the lines `armed` and
+//! `disarmed` on standard error. Without it, none fails.
 #![tactic(auto)]
 
 mod living;
@@ -30,7 +31,7 @@ use talking::try_talking;
 use walking::try_walking;
 use whole_files::read_file;
 
-/// The most bytes of a script.
+/// The maximum length of a script, in bytes.
 const SCRIPT: u64 = 8388608;
 
 fn try_plan<R: Print + Eprint>(rt: &R, given: &Given<'_>) -> io::Result<()> {
@@ -63,7 +64,7 @@ fn try_words(
     try_plan(rt, &given)
 }
 
-// The status is 2 where the words aren't read, and 1 where the call couldn't be made.
+// The exit status is 2 if the arguments are invalid, and 1 if the call can't be made.
 fn main(rt: HostRuntime) -> io::Result<ExitCode> {
     let words: Vec<String> = env::args(&rt)?.collect(rt.alloc())?;
     match plan_of(&words) {

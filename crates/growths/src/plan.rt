@@ -1,17 +1,17 @@
-//! Which call is made, and over what.
+//! The call to make, and its situation.
 
-/// The words that a call is asked for by.
+/// The usage message.
 pub const WORDS: &str = "growths CALL SCRIPT NUMBER FROM TO [LINE..]";
 
-/// A call that can want memory, or one that takes none.
+/// A call to test: one that can allocate, or one that never does.
 #[derive(Clone, Copy, PartialEq, Eq)]
 pub enum Call {
-    // Of a state. `Look` is `value` of each place, and `refuses`.
+    // Calls of a state. `Look` calls `value` for each place, and `refuses`.
     Step,
     Start,
     Copy,
     Look,
-    // Of a walker. `Unwind` is `State::unwind` of all its records.
+    // Calls of a walker. `Unwind` calls `State::unwind` with all of its records.
     Unwind,
     Extend,
     Goto,
@@ -19,28 +19,27 @@ pub enum Call {
     Back,
     Rcont,
     Cont,
-    // Of a session.
+    // Calls of a session.
     Line,
     Serve,
-    // Of a live run. `Finish` is `Worker::new`, `finish` and `Closed::redeem`.
+    // Calls of a live run. `Finish` calls `Worker::new`, `finish` and `Closed::redeem`.
     Attempt,
     TakeOffer,
     Offer,
     Finish,
 }
 
-/// A call over a script: its first events lie behind, and FROM and TO say which ones, or which
-/// moments.
+/// A call in the run of a script. `from` and `to` are numbers of events, or moments.
 #[derive(Clone, Copy)]
 pub struct Plan<'a> {
     pub call: Call,
     /// The path of the script.
     pub script: &'a str,
-    /// The growth that is refused, from 1 on; 0 for none.
+    /// The number of the allocation that fails, from 1 on; 0 for none.
     pub number: u32,
     pub from: usize,
     pub to: usize,
-    /// The line of a session, and those before it.
+    /// For a session, the line of the call, followed by the lines before it.
     pub lines: &'a [String],
 }
 
@@ -67,7 +66,7 @@ fn call_of(name: &str) -> Option<Call> {
     })
 }
 
-/// Reads the program's name and the words behind it.
+/// Parses the arguments, the first of which is the program's name.
 pub fn plan_of(words: &[String]) -> Option<Plan<'_>> {
     let [_, call, script, number, from, to, ..] = words else {
         return None;

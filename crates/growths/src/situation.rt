@@ -1,4 +1,4 @@
-//! A call that meets refused memory, and then the same call again.
+//! Makes a call with an injected allocation failure, and then the same call again.
 
 use crate::plan::Plan;
 use crate::summing::Sum;
@@ -7,49 +7,49 @@ use script::Script;
 use std::alloc::{AllocError, Global};
 use std::io;
 
-/// What a situation is made of.
+/// The inputs of a situation.
 #[derive(Clone, Copy)]
 pub struct Given<'a> {
     pub alloc: Global,
     pub plan: Plan<'a>,
     pub script: &'a Script,
-    /// The lines that are asked of a session to see what stands in it, or that are served.
+    /// The lines that a session receives to inspect it, or that are served.
     pub lines: &'a [u8],
 }
 
 impl<'a> Given<'a> {
-    /// So many of the first events of the schedule, or all of them.
+    /// Returns the first `count` events of the schedule, or all of them.
     pub fn first(&self, count: usize) -> &'a [Event] {
         let events = self.script.schedule();
         events.get(..count).unwrap_or(events)
     }
 
-    /// The events behind the first ones.
+    /// Returns the events after the first `from` ones.
     pub fn rest(&self) -> &'a [Event] {
         self.script.schedule().get(self.plan.from..).unwrap_or(&[])
     }
 
-    /// The event that comes next; behind the last of all a tick.
+    /// Returns the next event, or a tick if there is none.
     pub fn event(&self) -> Event {
         self.rest().first().copied().unwrap_or(Event::Tick(1))
     }
 }
 
-/// What a call answered: a number that it told, or the number of its refusal and what that names. A
-/// call that is refused for memory alone has the number 1.
+/// The result of a call: a number that it returned, or the number of its error and a detail. The
+/// error number is 1 for a call that fails only because of memory.
 pub type Answer = Result<u64, (u32, u64)>;
 
-/// A call, and all that it stands over.
+/// A call, and everything that it can change.
 pub trait Situation {
     /// Makes the call.
     fn call(&mut self) -> Answer;
 
-    /// The sum of the state, and that of all else.
+    /// Returns checksums of the state, and of everything else.
     fn sums(&mut self) -> Result<(Sum, Sum), AllocError>;
 }
 
-/// Makes a call while the growth of a number is refused, and once more where it was refused; with
-/// the number 0 the latter alone. Tells each answer, and the sums behind it.
+/// Makes a call with an injected allocation failure, and again if that fails. With the number 0,
+/// only the latter call is made. Prints each result and the checksums after it.
 pub fn try_call<S: Situation>(
     rt: &(impl Print + Eprint),
     subject: &mut S,
@@ -77,17 +77,17 @@ fn refused_call<S: Situation>(
     Ok(answer)
 }
 
-/// Growths are counted from here on, and the one of a number is refused.
+/// Starts counting allocations. The one with this number fails.
 pub fn arm(rt: &impl Eprint, number: u32) -> io::Result<()> {
     eprintln!(rt; "armed {number}")
 }
 
-/// They are counted no longer.
+/// Stops counting allocations.
 pub fn disarm(rt: &impl Eprint) -> io::Result<()> {
     eprintln!(rt; "disarmed")
 }
 
-/// Tells what a call answered, by 0 where it was not refused, and the sums behind it.
+/// Prints a result and the checksums after it. The error number of a success is 0.
 pub fn tell(rt: &impl Print, answer: Answer, (state, rest): (Sum, Sum)) -> io::Result<()> {
     let (number, more) = match answer {
         Ok(more) => (0, more),
@@ -96,7 +96,7 @@ pub fn tell(rt: &impl Print, answer: Answer, (state, rest): (Sum, Sum)) -> io::R
     println!(rt; "answer {number} {more}, state {state}, rest {rest}")
 }
 
-/// Why a call isn't made.
+/// Returns the error for a call that can't be made.
 pub fn missing() -> io::Error {
     io::Error::other("there is no such situation")
 }

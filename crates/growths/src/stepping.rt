@@ -1,4 +1,4 @@
-//! Calls of states.
+//! Calls of a state.
 
 use crate::plan::Call;
 use crate::situation::{Answer, Given, Situation, missing, try_call};
@@ -7,7 +7,7 @@ use machine::{Event, State};
 use std::alloc::AllocError;
 use std::io;
 
-/// A state, and the sum of what a call made.
+/// A state, and the checksum of what the call returned.
 #[derive(Drop)]
 struct Stepping<'a> {
     given: &'a Given<'a>,
@@ -15,7 +15,7 @@ struct Stepping<'a> {
     made: Sum,
 }
 
-/// Makes a call of the state behind the first events.
+/// Makes a call of the state after the first events.
 pub fn try_stepping(rt: &(impl Print + Eprint), given: &Given<'_>) -> io::Result<()> {
     let mut state = state_at(given).ok_or_else(missing)?;
     let (state, made) = (&mut state, Sum::new());
@@ -77,7 +77,7 @@ impl Stepping<'_> {
         }
     }
 
-    // Looks at each place, and at what the event is refused by.
+    // Reads each place, and the reason for which the event is refused.
     fn look(&self) -> Answer {
         let sum = Sum::of(self.given.script.setup(), self.state);
         match self.state.refuses(self.given.event()) {

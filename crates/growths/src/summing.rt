@@ -1,4 +1,4 @@
-//! Sums of what a call stands over. That of events takes memory, for their texts; no other does.
+//! Checksums of everything that a call can change. Only those of events allocate, for their texts.
 
 use entries::{Phase, Row};
 use machine::{Event, Setup, State};
@@ -7,20 +7,21 @@ use script::EventText;
 use std::alloc::{AllocError, Global};
 use std::fmt;
 
-/// Where FNV-1a of 64 bits begins, and what it multiplies by.
+/// The offset basis and the prime of 64-bit FNV-1a.
 const BEGIN: u64 = 14695981039346656037;
 
 const PRIME: u64 = 1099511628211;
 
-/// The most places of a ring, of threads and descriptors, and of memory, rows or an object's bytes.
+/// The maximum number of entries of a ring, of threads or descriptors, and of requests or of bytes
+/// of memory or an object.
 const SLOTS: u32 = 8192;
 
 const FEW: u32 = 128;
 
 const MANY: u32 = 65536;
 
-/// A sum of bytes by FNV-1a, and how many values they are. Each number is eight bytes, the lowest
-/// first. Bytes whose number is not that of their kind come behind how many they are.
+/// An FNV-1a checksum, and the number of values in it. Numbers have eight bytes, little-endian.
+/// Bytes of variable length come after their length.
 #[derive(Clone, Copy)]
 pub struct Sum {
     pub values: usize,
@@ -35,7 +36,7 @@ impl fmt::Display for Sum {
 }
 
 impl Sum {
-    /// The sum of nothing.
+    /// Returns the checksum of nothing.
     pub fn new() -> Sum {
         Sum {
             values: 0,
@@ -61,7 +62,7 @@ impl Sum {
         self.add(bytes);
     }
 
-    /// Adds the texts of events, behind how many there are.
+    /// Adds the number of events, and their texts.
     pub fn add_events(&mut self, alloc: Global, events: &[Event]) -> Result<(), AllocError> {
         self.add_numbers(&[events.len() as u64]);
         for event in events {
@@ -71,8 +72,8 @@ impl Sum {
         Ok(())
     }
 
-    /// The sum of what stands in the places of a state of a setup, each behind its place: its kind
-    /// and its two numbers. A place in which nothing stands adds nothing.
+    /// Returns the checksum of a state: of each place that has a value, and of the value. A place
+    /// consists of its kind and two numbers.
     pub fn of(setup: &Setup, state: &State) -> Sum {
         let mut sum = Sum::new();
         sum.add_places(state, &places_alone());
@@ -106,8 +107,9 @@ impl Sum {
         }
     }
 
-    /// The sum of a record: of no bytes, by which it is told from none, and of its changes, each
-    /// behind its place. Where nothing stood it adds a number that is no value's kind.
+    /// Returns the checksum of an undo record: of its places and their old values. It begins with
+    /// an empty byte string, to differ from no record. An absent value adds 0, which is no value's
+    /// kind.
     pub fn of_record(record: &Record) -> Sum {
         let mut sum = Sum::new();
         sum.add_bytes(&[]);
@@ -135,7 +137,7 @@ impl Sum {
         }
     }
 
-    // Its kind, and then what it is.
+    // Adds the value's kind, and then the value.
     fn add_value(&mut self, value: &Value) {
         match value {
             Value::Number(number) => self.add_numbers(&[1, *number]),
@@ -182,7 +184,7 @@ impl Sum {
     }
 }
 
-// The places without a number.
+// The places without an index.
 fn places_alone() -> [Place; 10] {
     [
         Place::SubmissionHead,

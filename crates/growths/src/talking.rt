@@ -1,5 +1,5 @@
-//! Lines of sessions, said or served. What stands in a session is seen by the lines that it is
-//! asked.
+//! Calls of a session: a single line, or serving lines. The replies to further lines show the
+//! session's state.
 
 use crate::plan::Call;
 use crate::situation::{Answer, Given, Situation, missing, try_call};
@@ -9,10 +9,10 @@ use inverse_log::walker::TRACE_LIMIT;
 use std::alloc::AllocError;
 use std::io;
 
-/// Room for all that is replied: a writer that asks for memory would meet the refusal.
+/// Capacity for all replies. A writer that allocates would meet the injected failure.
 const ROOM: usize = 1048576;
 
-/// A session, and what the call was replied.
+/// A session, and its reply to the call.
 #[derive(Drop)]
 struct Talking<'a> {
     given: &'a Given<'a>,
@@ -20,7 +20,8 @@ struct Talking<'a> {
     replied: Vec<u8>,
 }
 
-/// Makes a call of a session of the first events, to which the lines behind the first were said.
+/// Makes a call of a session over the first events. Before that, the session receives the lines
+/// after the first one.
 pub fn try_talking(rt: &(impl Print + Eprint), given: &Given<'_>) -> io::Result<()> {
     let mut session = session_over(given).ok_or_else(missing)?;
     try_over(rt, given, &mut session)
@@ -71,7 +72,7 @@ impl Situation for Talking<'_> {
 }
 
 impl Talking<'_> {
-    // Says the first line, to which a source gives events if it asks for them.
+    // Sends the first line. If it requests events from a source, it receives the first `to` ones.
     fn line(&mut self) -> Answer {
         let plan = self.given.plan;
         let line = plan.lines.first().map_or("", |line| line.as_str());
@@ -85,7 +86,7 @@ impl Talking<'_> {
         }
     }
 
-    // It tells how many bytes were read, behind the number of a session's fault too.
+    // Returns the number of bytes that were read, also after a session's fault.
     fn serve(&mut self) -> Answer {
         let mut rest = self.given.lines;
         self.replied.clear();

@@ -1,4 +1,4 @@
-//! Calls of walkers.
+//! Calls of a walker.
 
 use crate::plan::Call;
 use crate::situation::{Answer, Given, Situation, arm, disarm, missing, tell, try_call};
@@ -10,12 +10,13 @@ use std::alloc::AllocError;
 use std::io;
 use watches::{Stop, Watches, cont, rcont};
 
-/// A state is copied at each multiple, and jumps go back so far by single steps.
+/// The walker stores a checkpoint at each multiple of `EVERY`. It goes back up to `WINDOW` events
+/// by single steps.
 const EVERY: u32 = 4;
 
 const WINDOW: u32 = 2;
 
-/// A walker, and a watch of the counter of the first object.
+/// A walker, and a watch on the counter of the first object.
 #[derive(Drop)]
 struct Walking<'a> {
     given: &'a Given<'a>,
@@ -43,7 +44,7 @@ fn try_over(rt: &(impl Print + Eprint), given: &Given<'_>, walker: &mut Walker) 
     try_call(rt, &mut walking, given.plan.number)
 }
 
-// A walker of the first events where more are added, or of all of them.
+// Returns a walker over the first events if the call adds more, and otherwise over all of them.
 fn walker_at(given: &Given<'_>) -> Option<Walker> {
     let mut walker = Walker::with(given.alloc, given.script.setup(), EVERY, WINDOW).ok()?;
     lead(&mut walker, given)?;
@@ -84,7 +85,7 @@ impl Situation for Walking<'_> {
     }
 }
 
-// A refusal of an event for want of memory has the number of such refusals, and the event's index.
+// An event that fails because of memory has the error number 2, and its index as the detail.
 fn extend(walker: &mut Walker, events: &[Event]) -> Answer {
     match walker.extend(events) {
         Ok(()) => Ok(0),
@@ -93,7 +94,7 @@ fn extend(walker: &mut Walker, events: &[Event]) -> Answer {
     }
 }
 
-// A stop where something changed is told by its moment, one of a break by a million more.
+// Returns the moment of a changed watch, or 1,000,000 more for that of a break.
 fn stopped(stop: Result<Stop, AllocError>) -> Answer {
     match stop {
         Ok(Stop::Change(moment)) => Ok(moment as u64),
@@ -104,7 +105,7 @@ fn stopped(stop: Result<Stop, AllocError>) -> Answer {
     }
 }
 
-// Undoes all events, the last first, while growths are refused.
+// Undoes all events, the last first, with an allocation failure injected.
 fn unwind(rt: &(impl Print + Eprint), given: &Given<'_>, walker: &Walker) -> io::Result<()> {
     if walker.at() < walker.len() {
         return Err(missing());

@@ -1,4 +1,4 @@
--- Copies of the states at multiples of a number.
+-- Lemmas about checkpoints: while a run grows, the copies made on the way maintain `Covers`.
 use Rattle.std.proofs.Common.{◌≡◌, ◌≢◌, ℕ, zero, suc, ◌+◌, ◌*◌, ◌/◌, ◌%◌, ◌<◌, ◌≤◌, List, [], ◌∷◌, ◌++◌, ◌⊎◌, inl, inr, length, get_or, sym, ap, ◌∙◌, subst, arith, append_assoc, length-append}
 use Rattle.std.specs.Prelude.{Some, slice_get}
 use Rattle.std.proofs.lemmas.List.{take-append-le}
@@ -14,15 +14,15 @@ use Rattle.scenario.specs.declared.event.Event.{Event}
 use Rattle.machine.specs.Runs.{run, start, moment}
 use Rattle.inverse_log.specs.Tracks.{Track, grown, Covers}
 
--- ---- multiples
+-- ---- Multiples
 
--- one multiple more lies at most so far on
+-- If a < b, the next multiple of c after a * c is at most b * c.
 one_further : (a b c : ℕ) → a < b → a * c + c ≤ b * c
 one_further a b c h =
     let k = mul-le-mul_right {m = a + 1} {n = b} c (omega arith) in
     omega (arith, k)
 
--- the next multiple, where it is met
+-- If n + 1 is a multiple of c, it is the next one, l * c.
 next_multiple : (n l c : ℕ) → 0 < c → n < l * c → l * c ≤ n + c → (n + 1) % c ≡ 0 → l * c ≡ n + 1
 next_multiple n l c some above most h =
     let e = mod-add-div' (n + 1) c in
@@ -33,7 +33,7 @@ next_multiple n l c some above most h =
     by q whole (inr (inl k)) = let f = one_further q l c k in absurd (omega (arith, f, whole))
     by q whole (inr (inr k)) = let f = one_further l q c k in absurd (omega (arith, f, whole))
 
--- the next multiple, not met yet
+-- If n + 1 is not a multiple of c, it is still below the next one.
 before_next : (n l c : ℕ) → n < l * c → (n + 1) % c ≢ 0 → n + 1 < l * c
 before_next n l c above h = by (cases_order (n + 1) (l * c))
   where
@@ -42,20 +42,20 @@ before_next n l c above h = by (cases_order (n + 1) (l * c))
     by (inr (inl k)) = k
     by (inr (inr k)) = absurd (omega arith)
 
--- ---- runs that go on
+-- ---- Longer runs
 
--- an earlier moment of a run that went on
+-- Appending events does not change an earlier moment.
 moment_front : (setup : Setup) (es fs : List Event) (n : ℕ) → n ≤ length es → moment setup (es ++ fs) n ≡ moment setup es n
 moment_front setup es fs n h = ap (run (start setup)) (take-append-le n es fs h)
 
--- the moment of a copy is one of the run
+-- The moment of each copy is within the run.
 copy_within : (setup : Setup) (es : List Event) (c : ℕ) (xs : List Machine) (k : ℕ) → Covers setup es c xs → k < length xs → k * c ≤ length es
 copy_within setup es c xs k h b =
     let f = one_further k (length xs) c b in
     let m = h.moments in
     omega (arith, f, m)
 
--- no copy is due
+-- One more event, whose moment is not a multiple: the copies still cover the run.
 pub covers_on : (setup : Setup) (es : List Event) (e : Event) (c : ℕ) (xs : List Machine) → Covers setup es c xs → length (es ++ e ∷ []) % c ≢ 0 → Covers setup (es ++ e ∷ []) c xs
 covers_on setup es e c xs h due =
     let long : length (es ++ e ∷ []) ≡ length es + 1 = length-append es (e ∷ []) in
@@ -67,7 +67,7 @@ covers_on setup es e c xs h due =
       all = omega (arith, next, long);
     }
 
--- a copy is due, and added
+-- One more event, whose moment is a multiple: with a copy of its state they cover the run.
 pub covers_copy : (setup : Setup) (es : List Event) (e : Event) (c : ℕ) (xs : List Machine) (s : Machine) → 0 < c → Covers setup es c xs → length (es ++ e ∷ []) % c ≡ 0 → s ≡ moment setup (es ++ e ∷ []) (length (es ++ e ∷ [])) → Covers setup (es ++ e ∷ []) c (xs ++ s ∷ [])
 covers_copy setup es e c xs s some h due here =
     let long : length (es ++ e ∷ []) ≡ length es + 1 = length-append es (e ∷ []) in
@@ -91,7 +91,7 @@ covers_copy setup es e c xs s some h due here =
         slice_get-get_or (xs ++ s ∷ []) k s b
         ∙ ap Some (ap (λ n. get_or (xs ++ s ∷ []) n s) last ∙ get_or-append_seam xs s [] s ∙ here ∙ ap (moment setup (es ++ e ∷ [])) at)
 
--- a copy is there for each moment of the run
+-- For each moment of the run there is a copy at or before it.
 pub copy_there : (setup : Setup) (es : List Event) (c : ℕ) (xs : List Machine) (m : ℕ) → Covers setup es c xs → m ≤ length es → m / c < length xs
 copy_there setup es c xs m h w = let a = h.all in div_below m c (length xs) (some c a) (omega arith)
   where
@@ -99,19 +99,19 @@ copy_there setup es c xs m h w = let a = h.all in div_below m c (length xs) (som
     some zero b = absurd (omega arith)
     some (suc d) b = omega arith
 
--- a copy that is kept, of a moment of the run
+-- Copy k is the state of moment k * c.
 pub copy_of : (setup : Setup) (es : List Event) (c : ℕ) (xs : List Machine) (k : ℕ) (s : Machine) → Covers setup es c xs → k < length xs → slice_get xs k ≡ Some s → s ≡ moment setup es (k * c)
 copy_of setup es c xs k s h b e = let f = h.each k b in cc
 
--- ---- copies that are made along the way
+-- ---- Copies made during a run
 
--- none is due behind the last event
+-- After an event whose moment is not a multiple, the copies so far suffice.
 pub none_due : (v : Track) (at c : ℕ) (ys : List Machine) → at ≡ length v.events → at % c ≢ 0 → (es : List Event) (e : Event) (xs : List Machine) → v.events ≡ es ++ e ∷ [] → Covers v.setup es c (xs ++ ys) → Covers v.setup v.events c (xs ++ ys)
 none_due v at c ys last due es e xs g h =
     let here : length (es ++ e ∷ []) ≡ at = ap length (sym g) ∙ sym last in
     subst (λ (fs : List Event). Covers v.setup fs c (xs ++ ys)) (sym g) (covers_on v.setup es e c (xs ++ ys) h (λ z. due (ap (λ n. n % c) (sym here) ∙ z)))
 
--- one is due behind the last event, and added
+-- After an event whose moment is a multiple, they suffice with one more copy.
 pub one_due : (v : Track) (at c : ℕ) (ys zs : List Machine) (s : Machine) → 0 < c → at ≡ length v.events → at % c ≡ 0 → s ≡ moment v.setup v.events at → zs ≡ ys ++ s ∷ [] → (es : List Event) (e : Event) (xs : List Machine) → v.events ≡ es ++ e ∷ [] → Covers v.setup es c (xs ++ ys) → Covers v.setup v.events c (xs ++ zs)
 one_due v at c ys zs s some last due here new es e xs g h =
     let end : length (es ++ e ∷ []) ≡ at = ap length (sym g) ∙ sym last in
@@ -120,7 +120,7 @@ one_due v at c ys zs s some last due here new es e xs g h =
     let whole : (xs ++ ys) ++ s ∷ [] ≡ xs ++ zs = append_assoc xs ys (s ∷ []) ∙ ap (λ l. xs ++ l) (sym new) in
     subst (λ (fs : List Event). Covers v.setup fs c (xs ++ zs)) (sym g) (subst (Covers v.setup (es ++ e ∷ []) c) whole k)
 
--- with copies that were kept before, those made since cover the run
+-- If some copies cover the run up to `t`, then those and `copies` cover it up to `v`.
 pub record Copied (t : Track) (c : ℕ) (copies : List Machine) (v : Track) : Type 0 where
   pub covers : (xs : List Machine) → Covers t.setup t.events c xs → Covers v.setup v.events c (xs ++ copies)
 

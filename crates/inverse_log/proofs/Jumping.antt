@@ -1,4 +1,4 @@
--- How many steps a jump makes that starts from a copy.
+-- The number of steps of a jump that starts from a checkpoint.
 use Rattle.std.proofs.Common.{◌≡◌, ℕ, ◌+◌, ◌-◌, ◌<◌, ◌≤◌, arith}
 use Rattle.std.specs.Prelude.{Ok, Err, Result, OnOk}
 use Rattle.std.proofs.lemmas.Bool.Decides.{nat_tests}

@@ -1,4 +1,5 @@
--- What a trail keeps, after a step either way, an event more, or a shorter trace.
+-- The invariant of a trail is maintained by a step in either direction, by a new
+-- event, and by truncation.
 use Rattle.std.proofs.Common.{◌≡◌, ℕ, suc, ◌+◌, ◌-◌, ◌^◌, ◌<◌, ◌≤◌, List, [], ◌∷◌, ◌++◌, length, take, get_or, sym, ap, ◌∙◌, subst, arith, length-append}
 use Rattle.std.proofs.lemmas.List.{take-take, length-take}
 use Rattle.places.specs.declared.value.Change.{Change}
@@ -12,7 +13,7 @@ use Rattle.machine.specs.Runs.{run, start, moment, Link, Linked}
 use Rattle.inverse_log.specs.Tracks.{Keeps}
 use Rattle.inverse_log.proofs.Runs.{linked_at, length_linked, linked_more, linked_take, recorded_more, recorded_take, run-take_more, run-push, run_all}
 
--- the link that leads to the position
+-- The event and record that lead from moment i to `state`.
 pub record Behind (setup : Setup) (es : List Event) (i : ℕ) (r : List Change) (state : Machine) : Type 0 where
   pub event : Event
   pub link : Link (moment setup es i) event r state

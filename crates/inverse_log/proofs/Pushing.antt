@@ -1,4 +1,4 @@
--- Events pushed one after the other behind a trace.
+-- Lemmas about pushing events one after the other at the end of a trail.
 use Rattle.std.proofs.Common.{◌≡◌, ℕ, zero, suc, ◌+◌, ◌<◌, ◌≤◌, List, [], ◌∷◌, ◌++◌, ◌⊎◌, inl, inr, length, take, get_or, refl, sym, ap, ◌∙◌, subst, arith, append_assoc, length-append}
 use Rattle.std.specs.Prelude.{Some, None, slice_get}
 use Rattle.std.proofs.lemmas.List.{length-take, take_more}
@@ -12,7 +12,7 @@ use Rattle.machine.specs.Runs.{run, start, Accepts}
 use Rattle.inverse_log.specs.Tracks.{Track, stands, ends, grown, RefusedAt}
 use Rattle.inverse_log.proofs.Runs.{run-append, run_all, accepts-push}
 
--- the first i events were pushed
+-- `v` is the track `w` after the first i events were pushed.
 pub record Pushed (w : Track) (es : List Event) (i : ℕ) (v : Track) : Type 0 where
   pub walk : v ≡ grown w (take i es) (w.at + i)
   pub accepts : Accepts (ends w) (take i es)
@@ -55,12 +55,12 @@ pushed_stops w v es i e d n last h p r g =
       refused = subst P (pushed_stands w v es i last below p) (elim r [ inl k ↦ inl k | inr k ↦ inr (k.0, inr k.1) ]);
     }
 
--- a growth before the first event
+-- An allocation failure before the first event is reported at index 0.
 pub no_memory : (m : Machine) (es : List Event) → 0 < length es → RefusedAt m es 0 Memory
 no_memory m [] h = absurd (omega arith)
 no_memory m (e ∷ es) h = record { event = e; there = slice_get-get_or (e ∷ es) 0 e h; runs = tt; refused = inr (refl, inl refl) }
 
--- memory that is wanted at an event which no rule refuses
+-- An allocation failure may be reported at any event of a run that is accepted whole.
 pub no_copy : (m : Machine) (es : List Event) (i : ℕ) → i < length es → Accepts m es → RefusedAt m es i Memory
 no_copy m [] i h a = absurd (omega arith)
 no_copy m (e ∷ es) zero h a = record { event = e; there = slice_get-get_or (e ∷ es) 0 e h; runs = tt; refused = inr (refl, inl refl) }

@@ -1,4 +1,4 @@
--- Runs, their prefixes, and records that lead back.
+-- Lemmas about runs, their prefixes, and records that lead back.
 use Rattle.std.proofs.Common.{◌≡◌, ℕ, zero, suc, ◌+◌, ◌<◌, List, [], ◌∷◌, ◌++◌, ◌⊎◌, inl, inr, length, take, get_or, refl, sym, ap, ◌∙◌, subst, arith, add-one}
 use Rattle.std.specs.Prelude.{Option, Some, None}
 use Rattle.places.specs.declared.value.Change.{Change}
@@ -14,7 +14,7 @@ use Rattle.places.specs.View.{Exact}
 use Rattle.machine.specs.Whole.{view}
 use Rattle.inverse_log.specs.Tracks.{RefusedAt, Recorded}
 
--- ---- runs
+-- ---- Runs
 
 pub run-take_suc : (s : Machine) (es : List Event) (i : ℕ) (e : Event) → i < length es → e ≡ get_or es i e → run s (take (suc i) es) ≡ after (run s (take i es)) e
 run-take_suc s [] i e h g = absurd (omega arith)
@@ -30,7 +30,7 @@ run_all s [] (suc n) h = refl
 run_all s (x ∷ es) zero h = absurd (omega arith)
 run_all s (x ∷ es) (suc n) h = run_all (after s x) es n (omega arith)
 
--- ---- links
+-- ---- Linked records
 
 pub linked_runs : (s m : Machine) (es : List Event) (rs : List (List Change)) → Linked s es rs m → m ≡ run s es
 linked_runs s m [] [] l = l
@@ -50,29 +50,29 @@ length_linked s m [] (r ∷ rs) l = absurd l
 length_linked s m (e ∷ es) [] l = absurd l
 length_linked s m (e ∷ es) (r ∷ rs) l = ap suc (length_linked l.0 m es rs l.2)
 
--- the links behind the first
+-- The links after the first.
 linked_rest : (s m : Machine) (e : Event) (es : List Event) (r : List Change) (rs : List (List Change)) → Linked s (e ∷ es) (r ∷ rs) m → Linked (after s e) es rs m
 linked_rest s m e es r rs l = subst (λ (x : Machine). Linked x es rs m) l.1.next.changed l.2
 
--- the first link
+-- The first link.
 linked_first : (s m : Machine) (e : Event) (es : List Event) (r : List Change) (rs : List (List Change)) → Linked s (e ∷ es) (r ∷ rs) m → Link s e r (after s e)
 linked_first s m e es r rs l = subst (λ (x : Machine). Link s e r x) l.1.next.changed l.1
 
--- each record leads from the moment behind its event to the one before
+-- Record i leads from moment i + 1 back to moment i.
 pub linked_at : (s m : Machine) (es : List Event) (rs : List (List Change)) (i : ℕ) (r : List Change) → Linked s es rs m → i < length es → r ≡ get_or rs i r → (e : Event) × Link (run s (take i es)) e r (run s (take (suc i) es))
 linked_at s m [] rs i r l h g = absurd (omega arith)
 linked_at s m (e ∷ es) [] i r l h g = absurd l
 linked_at s m (e ∷ es) (x ∷ rs) zero r l h g = (e, subst (λ (y : List Change). Link s e y (after s e)) (sym g) (linked_first s m e es x rs l))
 linked_at s m (e ∷ es) (x ∷ rs) (suc i) r l h g = linked_at (after s e) m es rs i r (linked_rest s m e es x rs l) (omega arith) g
 
--- a run goes on by one event
+-- One more link at the end of linked events.
 pub linked_more : (s m n : Machine) (es : List Event) (rs : List (List Change)) (e : Event) (r : List Change) → Linked s es rs m → Link m e r n → Linked s (es ++ e ∷ []) (rs ++ r ∷ []) n
 linked_more s m n [] [] e r h k = (n, subst (λ (x : Machine). Link x e r n) h k, refl)
 linked_more s m n [] (x ∷ xs) e r h k = absurd h
 linked_more s m n (f ∷ fs) [] e r h k = absurd h
 linked_more s m n (f ∷ fs) (x ∷ xs) e r h k = (h.0, h.1, linked_more h.0 m n fs xs e r h.2 k)
 
--- the first links alone
+-- The first n links.
 pub linked_take : (s m : Machine) (es : List Event) (rs : List (List Change)) (n : ℕ) → Linked s es rs m → Linked s (take n es) (take n rs) (run s (take n es))
 linked_take s m es rs zero l = refl
 linked_take s m [] [] (suc n) l = refl
@@ -80,7 +80,7 @@ linked_take s m [] (r ∷ rs) (suc n) l = absurd l
 linked_take s m (e ∷ es) [] (suc n) l = absurd l
 linked_take s m (e ∷ es) (r ∷ rs) (suc n) l = (after s e, linked_first s m e es r rs l, linked_take (after s e) m es rs n (linked_rest s m e es r rs l))
 
--- ---- what records name
+-- ---- What records name
 
 pub recorded_more : (s : Machine) (es : List Event) (rs : List (List Change)) (e : Event) (r : List Change) → Recorded s es rs → Exact (view (run s es)) (view (after (run s es) e)) r → Recorded s (es ++ e ∷ []) (rs ++ r ∷ [])
 recorded_more s [] [] e r h x = (x, tt)
@@ -95,14 +95,14 @@ recorded_take s [] (r ∷ rs) (suc n) h = absurd h
 recorded_take s (e ∷ es) [] (suc n) h = absurd h
 recorded_take s (e ∷ es) (r ∷ rs) (suc n) h = (h.0, recorded_take (after s e) es rs n h.1)
 
--- ---- refusals
+-- ---- Refusals
 
--- why a step was refused, by what it promises
+-- A step was refused for a rule's reason, or for lack of memory where no rule refuses it.
 pub why_refused : (o : Option Refusal) (n : Refusal) → ((k : Refusal) → o ≡ Some k → n ≡ k) → (o ≡ None → n ≡ Memory) → (o ≡ Some n) ⊎ ((n ≡ Memory) × (o ≡ None))
 why_refused None n f g = inr (g refl, refl)
 why_refused (Some k) n f g = inl (ap Some (sym (f k refl)))
 
--- an event that stops a run from its start is refused there, or wants memory
+-- A run from its start stops at an event that a rule refuses, or at an allocation failure.
 pub is_refused : (setup : Setup) (es : List Event) (i : ℕ) (n : Refusal) → RefusedAt (start setup) es i n → (IsRefused setup es i n) ⊎ (n ≡ Memory)
 is_refused setup es i n h = by h.refused
   where

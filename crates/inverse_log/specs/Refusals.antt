@@ -1,4 +1,4 @@
--- Refusals as numbers.
+-- The numbers of the refusals of an extension.
 use Rattle.std.specs.Prelude.{ℕ}
 use Rattle.inverse_log.specs.declared.refusal.ExtendRefusal.{ExtendRefusal}
 use Rattle.inverse_log.specs.declared.refusal.ExtendRefusal.TheVariants.{TraceFull, Refused}

@@ -1,5 +1,4 @@
--- Runs that are walked by single steps: their events, how many of them lie behind, and how many
--- steps were counted.
+-- The definitions for a trail: a run that is walked by single steps.
 use Rattle.std.specs.Prelude.{◌≡◌, ℕ, ◌+◌, ◌*◌, ◌-◌, ◌^◌, ◌<◌, ◌≤◌, ◌⊎◌, min, List, [], ◌∷◌, ◌++◌, length, take, slice_get, Some, None}
 use Rattle.places.specs.declared.value.Change.{Change}
 use Rattle.places.specs.View.{Exact}
@@ -14,47 +13,50 @@ use Rattle.machine.specs.Runs.{start, run, moment, Accepts, Linked}
 use Rattle.inverse_log.specs.declared.trail.Tally.{Tally}
 use Rattle.inverse_log.specs.declared.trail.Tally.TheVariants.{Counted, Free}
 
+-- A trail as contracts see it: the setup, the events, the position (the number of events that have
+-- been applied), and how many steps were counted.
 pub record Track : Type 0 where
   pub setup : Setup
   pub events : List Event
   pub at : ℕ
   pub walked : ℕ
 
--- what stands at the position
+-- The machine at the position.
 abbrev pub stands : Track → Machine
 stands t = moment t.setup t.events t.at
 
--- what stands behind the last event
+-- The machine after the last event.
 abbrev pub ends : Track → Machine
 ends t = run (start t.setup) t.events
 
--- how far two moments lie apart
+-- The distance between two moments.
 abbrev pub distance : ℕ → ℕ → ℕ
 distance a b = (a - b) + (b - a)
 
--- a count with more steps, which stays at the greatest u64 once there
+-- The count n after k more steps. It saturates at 2^64 - 1; free steps leave it unchanged.
 abbrev pub tallied : Tally → ℕ → ℕ → ℕ
 tallied Counted n k = min (n + k) (2 ^ 64 - 1)
 tallied Free n k = n
 
--- the track at another moment, by single steps
+-- The track moved to moment m by single steps.
 abbrev pub stepped : Tally → Track → ℕ → Track
 stepped c t m =
     record
     { setup = t.setup; events = t.events; at = m; walked = tallied c t.walked (distance t.at m) }
 
--- the track at another moment, to which so many steps were counted
+-- The track moved to moment m, with the given number of steps counted.
 abbrev pub reached : Track → ℕ → ℕ → Track
 reached t m steps =
     record
     { setup = t.setup; events = t.events; at = m; walked = min (t.walked + steps) (2 ^ 64 - 1) }
 
--- the track with more events at its end, at another moment
+-- The track with the events `es` appended, at moment m.
 abbrev pub grown : Track → List Event → ℕ → Track
 grown t es m = record { setup = t.setup; events = t.events ++ es; at = m; walked = t.walked }
 
--- From a machine, the events run up to one that is refused for n. Want of memory is told where no
--- rule refuses it, or before the first.
+-- From machine m, the first i events run, and event i is refused with n: by a rule,
+-- or with `Memory` where no rule refuses it. At index 0 `Memory` may also come
+-- before the event is looked at.
 pub record RefusedAt (m : Machine) (es : List Event) (i : ℕ) (n : Refusal) : Type 0 where
   pub event : Event
   pub there : slice_get es i ≡ Some event
@@ -62,23 +64,22 @@ pub record RefusedAt (m : Machine) (es : List Event) (i : ℕ) (n : Refusal) : T
   pub refused : (refusal (run m (take i es)) event ≡ Some n)
       ⊎ ((n ≡ Memory) × ((i ≡ 0) ⊎ (refusal (run m (take i es)) event ≡ None)))
 
--- Each record names just the places that its event changes, with what stood there before.
+-- Record by record: each names exactly the places that its event changes, with their old values.
 abbrev pub Recorded : Machine → List Event → List (List Change) → Type 0
 Recorded m [] [] = Unit {0}
 Recorded m (e ∷ es) (r ∷ rs) = Exact (view m) (view (after m e)) r × Recorded (after m e) es rs
 Recorded m [] (r ∷ rs) = ⊥
 Recorded m (e ∷ es) [] = ⊥
 
--- The copies are the states at the multiples of `every`, up to the last that is a moment of the
--- run.
+-- The copies are the states at all multiples of `every` that are moments of the run, in order.
 pub record Covers (setup : Setup) (events : List Event) (every : ℕ) (copies : List Machine) : Type 0 where
   pub each : (k : ℕ) → k < length copies
       → slice_get copies k ≡ Some (moment setup events (k * every))
   pub moments : length copies * every ≤ length events + every
   pub all : length events < length copies * every
 
--- What a trail keeps: the records lead back from the end to the start and name no more than they
--- must, and the state is that of the position.
+-- The invariant of a trail: its records lead back from the end to the start and are exact, and its
+-- state is that of the position.
 pub record Keeps (setup : Setup) (events : List Event) (records : List (List Change)) (at : ℕ) (state : Machine) (walked : ℕ) : Type 0 where
   pub linked : Linked (start setup) events records (run (start setup) events)
   pub recorded : Recorded (start setup) events records

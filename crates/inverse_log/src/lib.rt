@@ -1,4 +1,5 @@
-//! A run with its records, and the walker that goes to any moment of it.
+//! The undo log: a run with a record of each event, and a walker that goes to any moment of the
+//! run. Moment m is the state after the first m events.
 #![tactic(auto)]
 
 pub mod refusal;

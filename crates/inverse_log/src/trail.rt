@@ -1,4 +1,4 @@
-//! A run that is walked by single steps.
+//! A run that is walked one event at a time. `Walker` adds checkpoints and jumps to it.
 ghost use Rattle.std.specs.Prelude.{◌≡◌, ℕ, ◌-◌, ◌+◌, ◌^◌, ◌<◌, ◌≤◌, ◌⊎◌, ◌∷◌, ◌++◌, [], Some, None, List, length, take, OnOk, OnErr, IfErr, IfOk};
 ghost use Rattle.machine.specs.declared.whole.Machine.{Machine};
 ghost use Rattle.scenario.specs.declared.event.Refusal.{Refusal};
@@ -14,7 +14,7 @@ use std::alloc::{AllocError, Global};
 use std::marker::Model;
 use std::mem;
 
-/// A run with its records, at one of its moments.
+/// A run with a record of each event, at one of its moments.
 #[derive(Drop)]
 pub struct Trail {
     alloc: Global,
@@ -26,7 +26,7 @@ pub struct Trail {
     walked: u64,
 }
 
-/// Whether single steps are counted as those of a jump.
+/// Whether steps are added to the count of `walked`: those of a jump are.
 #[derive(Clone, Copy)]
 pub enum Tally {
     Counted,
@@ -47,7 +47,8 @@ impl Model for Trail {
 impl Trail {
     ghost use Rattle.inverse_log.specs.Tracks.{stands, ends, stepped, reached, grown, RefusedAt, Recorded, Covers};
 
-    /// Stands at the start of a run without events.
+    /// Returns a run without events, at its start. Fails as `State::new` does: if the setup breaks
+    /// a limit, or with `Memory`.
     pub fn new(alloc: Global, setup: &Setup) -> Result<Trail, SetupRefusal>
         ensures fresh { IfOk result (λ t. t
             ≡ record { setup = setup.now; events = []; at = 0; walked = 0 }) }
@@ -70,14 +71,14 @@ impl Trail {
         }
     }
 
-    /// What the run started from.
+    /// Returns the setup that the run starts from.
     pub fn setup(&self) -> &Setup
         ensures { result.now ≡ self.now.setup }
     {
         &self.setup
     }
 
-    /// The moment: how many events lie behind.
+    /// Returns the position: the number of events that have been applied.
     pub fn at(&self) -> usize
         ensures value { result ≡ self.now.at }
         ensures within { self.now.at ≤ length self.now.events }
@@ -86,7 +87,7 @@ impl Trail {
         self.at
     }
 
-    /// How many events there are.
+    /// Returns how many events the run has.
     pub fn len(&self) -> usize
         ensures value { result ≡ length self.now.events }
         ensures within { self.now.at ≤ length self.now.events }
@@ -96,21 +97,21 @@ impl Trail {
         self.events.len()
     }
 
-    /// The state at the position.
+    /// Returns the state at the position.
     pub fn state(&self) -> &State
         ensures { result.now ≡ stands self.now }
     {
         &self.state
     }
 
-    /// The events, in order.
+    /// Returns the events, in order.
     pub fn events(&self) -> &[Event]
         ensures { result.now ≡ self.now.events }
     {
         self.events.as_slice()
     }
 
-    /// The records of the events, in order.
+    /// Returns the undo records of the events, in order.
     pub fn records(&self) -> &[Record]
         ensures linked { Linked (start self.now.setup) self.now.events result.now (ends self.now) }
         ensures recorded { Recorded (start self.now.setup) self.now.events result.now }
@@ -118,14 +119,14 @@ impl Trail {
         self.records.as_slice()
     }
 
-    /// How many steps were counted, up to 2^64 - 1, where it stays.
+    /// Returns how many steps were counted. The count saturates at 2^64 - 1.
     pub fn walked(&self) -> u64
         ensures { result ≡ self.now.walked }
     {
         self.walked
     }
 
-    /// Back to an earlier moment. It takes no memory.
+    /// Goes back to an earlier moment by undoing events. Allocates nothing.
     pub fn back_to(&mut self, moment: usize, tally: Tally)
         requires { moment ≤ self.old.at }
         ensures { self.new ≡ stepped tally self.old moment }
@@ -135,7 +136,8 @@ impl Trail {
         }
     }
 
-    /// On to a later moment, or where memory is refused back to where it was.
+    /// Goes forward to a later moment by repeating events. If an allocation fails, it returns to
+    /// the position that it started from.
     pub fn on_to(&mut self, moment: usize, tally: Tally) -> Result<(), AllocError>
         requires later { self.old.at ≤ moment }
         requires within { moment ≤ length self.old.events }
@@ -153,8 +155,8 @@ impl Trail {
         Ok(())
     }
 
-    /// On to a moment from the state of an earlier one, by counted steps. Where memory is refused
-    /// it stays where it was.
+    /// Goes to the moment `to` from `state`, a copy of moment `from`, by counted steps. If an
+    /// allocation fails, the position is unchanged.
     pub fn on_from(&mut self, mut state: State, from: usize, to: usize) -> Result<(), AllocError>
         requires state { state ≡ moment self.old.setup self.old.events from }
         requires later { from ≤ to }
@@ -172,8 +174,9 @@ impl Trail {
         gone
     }
 
-    /// Adds events at the end, and stays there: each event is one step. Told are copies of the
-    /// states that the run comes by at multiples of a number.
+    /// Appends events and applies them, one step each, from the end of the run to the new end.
+    /// Returns copies of the states at the multiples of `every` that the run passes. If an event is
+    /// refused, none is appended.
     pub fn run_on(&mut self, events: &[Event], every: u32) -> Result<Vec<State>, ExtendRefusal>
         requires last { self.old.at ≡ length self.old.events }
         requires some { 0 < every }
@@ -197,7 +200,7 @@ impl Trail {
         added
     }
 
-    /// Keeps the first events alone.
+    /// Truncates the run to its first `len` events.
     pub fn cut(&mut self, len: usize)
         requires { self.old.at ≤ len }
         ensures { self.new
@@ -212,7 +215,7 @@ impl Trail {
         self.records.truncate(len);
     }
 
-    // The one step back. It takes no memory.
+    // Goes back one event. Allocates nothing.
     fn step_back(&mut self, tally: Tally)
         requires { 0 < self.old.at }
         ensures { self.new ≡ stepped tally self.old (self.old.at - 1) }
@@ -222,7 +225,8 @@ impl Trail {
         self.walked = tallied(self.walked, tally);
     }
 
-    // The one step on.
+    // Goes forward one event, which can fail only by an allocation failure: the
+    // event was accepted before.
     fn step_on(&mut self, tally: Tally) -> Result<(), AllocError>
         requires { self.old.at < length self.old.events }
         ensures ok { OnOk result (self.new ≡ stepped tally self.old (self.old.at + 1)) }
@@ -239,7 +243,8 @@ impl Trail {
         }
     }
 
-    // Does an event at the end, and stands behind it.
+    // Applies one event at the end of the run, and appends it with its record. It reserves memory
+    // for both first, so that a refused event changes nothing.
     fn push(&mut self, event: Event) -> Result<(), Refusal>
         requires last { self.old.at ≡ length self.old.events }
         requires room { length self.old.events < 1048576 }
@@ -259,7 +264,8 @@ impl Trail {
         Ok(())
     }
 
-    // Adds a copy of the state at the end to those of the multiples, where it is one of them.
+    // Pushes a copy of the state at the end of the run to `copies`, if its moment
+    // is a multiple of `every`.
     fn copy_at(&self, every: u32, copies: &mut Vec<State>) -> Result<(), AllocError>
         requires last { self.now.at ≡ length self.now.events }
         requires some { 0 < every }
@@ -274,8 +280,8 @@ impl Trail {
         Ok(())
     }
 
-    // Does events at the end, up to one that is refused, and stands behind them. Told are copies of
-    // the states at multiples.
+    // Appends events and applies them, up to the first that is refused. Returns copies of the
+    // states at the multiples of `every`. After an error the accepted events are still there.
     fn push_all(&mut self, events: &[Event], every: u32) -> Result<Vec<State>, ExtendRefusal>
         requires last { self.old.at ≡ length self.old.events }
         requires some { 0 < every }

@@ -1,4 +1,5 @@
-//! A walker through a run.
+//! The walker: a run that can be extended at its end, stepped through in both
+//! directions, and jumped through.
 ghost use Rattle.std.specs.Prelude.{◌≡◌, ℕ, ◌-◌, ◌+◌, ◌^◌, ◌<◌, ◌≤◌, ◌↔◌, ◌⊎◌, ◌∷◌, [], Some, None, length, min, nat_lt, IsOk, OnOk, OnErr, IfErr, IfOk, MatchBool};
 ghost use Rattle.scenario.specs.declared.event.Refusal.{Refusal};
 ghost use Rattle.scenario.specs.declared.setup.SetupRefusal.{SetupRefusal};
@@ -12,17 +13,18 @@ use places::Record;
 use std::alloc::{AllocError, Global};
 use std::marker::Model;
 
-/// The greatest number of events that a trace has.
+/// The greatest number of events of a trace.
 pub const TRACE_LIMIT: usize = 1048576;
 
-/// A run with its records, at one of its moments.
+/// A run with undo records and checkpoints, at one of its moments. Its state is always the one that
+/// the events up to the position lead to.
 pub struct Walker {
     alloc: Global,
     trail: Trail,
     kept: Kept,
 }
 
-// By hand, so that letting a walker go is one step of a proof.
+// Written by hand, so that dropping a walker is one step of a proof.
 impl Drop for Walker {
     fn drop(self) {
         let Walker {
@@ -55,8 +57,8 @@ impl Walker {
     ghost use Rattle.inverse_log.specs.Tracks.{Covers, RefusedAt, Recorded};
     ghost use Rattle.inverse_log.specs.Walks.{here, ending, fresh, fresh_with, moved, jumped, steps_to, extended};
 
-    /// Stands at the start of a run without events. A jump starts from a copy at most 1,024 moments
-    /// before, and goes back by single steps up to 256.
+    /// Returns a run without events, at its start, with a checkpoint each 1,024 events and a window
+    /// of 256. Fails as `State::new` does: if the setup breaks a limit, or with `Memory`.
     pub fn new(alloc: Global, setup: &Setup) -> Result<Walker, SetupRefusal>
         ensures fresh { IfOk result (λ w. w ≡ fresh setup.now) }
         ensures refused { (r : SetupRefusal) → setup_refusal setup.now ≡ Some r → result ≡ Err r }
@@ -66,9 +68,8 @@ impl Walker {
         Walker::with(alloc, setup, 1024, 256)
     }
 
-    /// The same, with copies at the multiples of `every`, and jumps that go back by single steps as
-    /// far as
-    /// `window`.
+    /// The same with a checkpoint each `every` events, and jumps that undo at most
+    /// `window` events one by one.
     pub fn with(
         alloc: Global,
         setup: &Setup,
@@ -88,14 +89,14 @@ impl Walker {
         }
     }
 
-    /// What the run started from.
+    /// Returns the setup that the run starts from.
     pub fn setup(&self) -> &Setup
         ensures { result.now ≡ self.now.setup }
     {
         self.trail.setup()
     }
 
-    /// The moment: how many events lie behind.
+    /// Returns the position: the number of events that have been applied.
     pub fn at(&self) -> usize
         ensures value { result ≡ self.now.at }
         ensures within { self.now.at ≤ length self.now.events }
@@ -104,7 +105,7 @@ impl Walker {
         self.trail.at()
     }
 
-    /// How many events the trace has.
+    /// Returns how many events the trace has.
     pub fn len(&self) -> usize
         ensures value { result ≡ length self.now.events }
         ensures within { self.now.at ≤ length self.now.events }
@@ -114,21 +115,21 @@ impl Walker {
         self.trail.len()
     }
 
-    /// The state at the position.
+    /// Returns the state at the position.
     pub fn state(&self) -> &State
         ensures { result.now ≡ here self.now }
     {
         self.trail.state()
     }
 
-    /// The trace's events, in order.
+    /// Returns the events of the trace, in order.
     pub fn events(&self) -> &[Event]
         ensures { result.now ≡ self.now.events }
     {
         self.trail.events()
     }
 
-    /// The records of the trace's events, in order.
+    /// Returns the undo records of the events, in order.
     pub fn records(&self) -> &[Record]
         ensures linked { Linked (start self.now.setup) self.now.events result.now
             (ending self.now) }
@@ -137,8 +138,7 @@ impl Walker {
         self.trail.records()
     }
 
-    /// The copies that jumps start from: the states at the multiples of a number, up to the last
-    /// that is a moment of the run; and how far back a jump goes by single steps.
+    /// Returns the checkpoints: the states at all multiples of `every` that are moments of the run.
     pub fn kept(&self) -> &Kept
         ensures every { result.now.every ≡ self.now.every }
         ensures window { result.now.window ≡ self.now.window }
@@ -147,16 +147,18 @@ impl Walker {
         &self.kept
     }
 
-    /// How many single steps jumps have made, up to 2^64 - 1, where it stays.
+    /// Returns how many single steps jumps have made. The count saturates at 2^64 - 1.
     pub fn walked(&self) -> u64
         ensures { result ≡ self.now.walked }
     {
         self.trail.walked()
     }
 
-    /// Adds events at the end of the trace, and keeps the position. A copy that can't be made is
-    /// want of memory at the event that leads to it, a list of copies that can't grow at the last
-    /// event.
+    /// Appends events to the trace and keeps the position. Each event must be accepted, in
+    /// order, or none is appended.
+    ///
+    /// If a checkpoint cannot be copied, the refusal is `Memory` at the event that leads to it. If
+    /// the list of checkpoints cannot grow, it is `Memory` at the last event.
     pub fn extend(&mut self, events: &[Event]) -> Result<(), ExtendRefusal>
         ensures ok { OnOk result (self.new ≡ extended self.old events.now) }
         ensures accepts { OnOk result (Accepts (ending self.old) events.now) }
@@ -182,7 +184,8 @@ impl Walker {
         added
     }
 
-    /// The same from the end of the trace, but it stays at the end: each event is one step.
+    /// The same as `extend`, from the end of the trace to its new end, so
+    /// that each event is one step.
     pub fn run_on(&mut self, events: &[Event]) -> Result<(), ExtendRefusal>
         requires { self.old.at ≡ length self.old.events }
         ensures ok { OnOk result (self.new
@@ -211,7 +214,7 @@ impl Walker {
         Ok(())
     }
 
-    // Whether a trace can't have so many events more.
+    // Returns whether the events would exceed the limit of a trace.
     fn has_no_room_for(&self, events: &[Event]) -> bool
         ensures full { MatchBool result (1048576 < length self.now.events + length events.now)
             (length self.now.events + length events.now ≤ 1048576) }
@@ -220,7 +223,7 @@ impl Walker {
         events.len() > TRACE_LIMIT - self.len()
     }
 
-    /// Goes one event back. False at the start.
+    /// Goes back one event. Returns false at the start. Allocates nothing.
     pub fn back(&mut self) -> bool
         ensures told { result ≡ nat_lt 0 self.old.at }
         ensures moved { self.new ≡ moved self.old (self.old.at - 1) }
@@ -233,7 +236,8 @@ impl Walker {
         true
     }
 
-    /// Goes one event on. False at the end.
+    /// Goes forward one event. Returns false at the end. If an allocation fails,
+    /// the position is unchanged.
     pub fn on(&mut self) -> Result<bool, AllocError>
         ensures told { IfOk result (λ went. went ≡ nat_lt self.old.at (length self.old.events)) }
         ensures ends { self.old.at ≡ length self.old.events → IsOk result }
@@ -249,8 +253,9 @@ impl Walker {
         Ok(true)
     }
 
-    /// Goes to a moment, by counted steps: back by single steps within the window, on from the
-    /// position where no copy lies between, else on from the nearest copy.
+    /// Jumps to a moment, and adds the single steps that it makes to `walked`. It undoes events if
+    /// the moment is at most the window back, which allocates nothing. Otherwise it repeats events,
+    /// from the position if no checkpoint is between, else from the nearest checkpoint.
     pub fn goto(&mut self, moment: usize) -> Result<(), WalkRefusal>
         ensures ok { OnOk result (self.new ≡ jumped self.old moment) }
         ensures short { OnOk result ((steps_to self.old moment ≤ self.old.window)
@@ -274,8 +279,8 @@ impl Walker {
         }
     }
 
-    // Goes on to a moment: from the position where no copy lies between, else from the nearest
-    // copy.
+    // Jumps by repeating events: from the position if no checkpoint is between, else from a copy
+    // of the nearest checkpoint.
     fn jump_on(&mut self, moment: u32) -> Result<(), AllocError>
         requires within { moment ≤ length self.old.events }
         requires far { moment ≤ self.old.at → moment + self.old.window < self.old.at }
@@ -293,7 +298,7 @@ impl Walker {
     }
 }
 
-// The copies of a run without events: its start alone.
+// Returns the checkpoints of a run without events: its start only.
 fn kept_first(alloc: Global, state: &State, every: u32, window: u32) -> Result<Kept, AllocError>
     requires { 0 < every }
     ensures { IfOk result (λ k. k

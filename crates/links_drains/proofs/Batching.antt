@@ -1,4 +1,4 @@
--- How far a batch of entries has been taken.
+-- Lemmas about the first entries of a batch, as requests are added one by one.
 use Rattle.std.proofs.Common.{◌≡◌, ℕ, ℤ, zero, suc, Bool, true, false, not, cond, refl, sym, ◌∙◌, ap, List, [], ◌∷◌, ◌++◌, take, length, ◌<◌, ◌≤◌, ◌+◌, ◌⊎◌, inl, inr, append_assoc, length-append, map, subst, arith}
 use Rattle.std.specs.Prelude.{Option, Some, None, option_map, is_none, is_some, slice_get, ◌||◌}
 use Rattle.std.specs.Option.{option_and_then, option_map_or}
@@ -21,7 +21,7 @@ use Rattle.links_drains.specs.Rows.{table_owns, table_seen, new_row}
 use Rattle.links_drains.proofs.Chains.{enumerated, get-batch}
 use Rattle.links_drains.proofs.RowsKept.{length-push, get-pushed}
 
--- ---- the entries up to the first that fails
+-- ---- The entries up to the first that fails
 
 pub length_mapped : {X Y : Type 0} (f : X → Y) (xs : List X) → length (map f xs) ≡ length xs
 length_mapped f [] = refl
@@ -45,7 +45,7 @@ prefix_end p (y ∷ ys) (suc i) x h g t = by (p y) (λ k. prefix_end p ys i x k 
     by true on k = let m = on (omega (arith, k)) in omega (arith, m)
     by false on k = absurd (omega (arith, k))
 
--- ---- errors, entry by entry
+-- ---- The errors of entries
 
 pub length-errors : (w : WorldState) (es : List Sqe) → length (errors_of w es) ≡ length es
 length-errors w es = length_mapped (λ (p : ℕ × Sqe). error_of w es p.0 p.1) (enumerate_from 0 es) ∙ length-enumerate_from 0 es
@@ -60,15 +60,15 @@ none_or_some : (o : Option ℤ) → is_none o ≡ not (is_some o)
 none_or_some None = refl
 none_or_some (Some x) = refl
 
--- an entry that doesn't fail
+-- After an entry that doesn't fail.
 pub errors_on : (w : WorldState) (es : List Sqe) (i : ℕ) (e : Sqe) → i ≤ prefix_len is_none (errors_of w es) → slice_get es i ≡ Some e → is_some (error_at w es i) ≡ false → i + 1 ≤ prefix_len is_none (errors_of w es)
 errors_on w es i e h g f = prefix_on is_none (errors_of w es) i (error_at w es i) h (get-errors w es i e g) (none_or_some (error_at w es i) ∙ ap not f)
 
--- the first entry that fails is the last that is taken
+-- The first entry that fails is the last one consumed.
 pub ends_with_failure : (w : WorldState) (es : List Sqe) (i : ℕ) (e : Sqe) → i ≤ prefix_len is_none (errors_of w es) → slice_get es i ≡ Some e → is_some (error_at w es i) ≡ true → take (i + 1) es ≡ up_to_failure w es
 ends_with_failure w es i e h g f = sym (ap (λ n. take (n + 1) es) (prefix_end is_none (errors_of w es) i (error_at w es i) h (get-errors w es i e g) (none_or_some (error_at w es i) ∙ ap not f)))
 
--- some entry fails, or none
+-- Whether some entry fails, or none.
 fails_among : (xs : List (Option ℤ)) (i : ℕ) (o : Option ℤ) → slice_get xs i ≡ Some o → is_some o ≡ true → list_any is_some xs ≡ true
 fails_among [] i o g f = absurd cc
 fails_among (x ∷ xs) zero o g f = let e : x ≡ o = cc in rw (e, f) refl
@@ -92,16 +92,16 @@ all_pass w es h = none_fails (errors_of w es) (let n = length-errors w es in ome
 pub take_more : {X : Type 0} (xs : List X) (i : ℕ) (x : X) → slice_get xs i ≡ Some x → take (i + 1) xs ≡ take i xs ++ x ∷ []
 take_more xs i x g = grind (arith, common_steps, gets)
 
--- ---- rows of the first entries
+-- ---- The rows of the first entries
 
 pub length-rows_of : (w : WorldState) (first : ℕ) (es : List Sqe) → length (rows_of w first es) ≡ length es
 length-rows_of w first es = length_mapped (λ (p : ℕ × Sqe). row_of w first es p.0 p.1) (enumerate_from 0 es) ∙ length-enumerate_from 0 es
 
--- The last row is of a unit.
+-- The last row belongs to the chain.
 abbrev LastOf : List Row → ℕ → Type 0
 LastOf rows unit = (last : Row) × (k : ℕ) × (k + 1 ≡ length rows) × (slice_get rows k ≡ Some last) × (unit ≡ last.unit)
 
--- The first i entries have become rows. The next is in the unit, or begins one.
+-- The first i entries have become rows. The next row belongs to the chain `unit`, or begins one.
 pub record Adding (w : WorldState) (before now : List Row) (old new : Notes) (entries : List Sqe) (i unit : ℕ) (begins : Bool) : Type 0 where
   pub rows : now ≡ before ++ take i (rows_of w (length before) entries)
   pub next_unit : cond begins (length before + i) unit ≡ length before + chain_of entries i
@@ -116,12 +116,12 @@ count_added w before now old new es i unit begins t h =
     ap length t.rows ∙ length-append before (take i (rows_of w (length before) es))
     ∙ ap (λ n. length before + n) (length-take-le i (rows_of w (length before) es) (let n = length-rows_of w (length before) es in omega (arith, n, h)))
 
--- all entries have become rows
+-- All entries have become rows.
 pub all_added : (w : WorldState) (before now : List Row) (old new : Notes) (es : List Sqe) (i unit : ℕ) (begins : Bool) → Adding w before now old new es i unit begins → length es ≤ i → now ≡ before ++ rows_of w (length before) es
 all_added w before now old new es i unit begins t h =
     t.rows ∙ ap (λ rs. before ++ rs) (take_all i (rows_of w (length before) es) (let n = length-rows_of w (length before) es in omega (arith, n, h)))
 
--- the next row begins a unit, or is of the last row's
+-- The next row begins a chain, or belongs to the last row's.
 pub next_goes_on : (w : WorldState) (before now : List Row) (old new : Notes) (es : List Sqe) (i unit here : ℕ) (begins : Bool) (row : Row) → Adding w before now old new es i unit begins → i ≤ length es
     → here ≡ cond begins (length before + i) unit → row.unit ≡ here → GoesOn now row
 next_goes_on w before now old new es i unit here begins row t l u e = by begins t.last (e ∙ u)
@@ -131,7 +131,7 @@ next_goes_on w before now old new es i unit here begins row t l u e = by begins 
     by false (inl m) k = absurd cc
     by false (inr m) k = inr (m.0, m.1, m.2, m.3, k ∙ m.4)
 
--- one row more
+-- One more row was added.
 pub adding_on : (w : WorldState) (before now later : List Row) (old new newer : Notes) (es : List Sqe) (i unit here : ℕ) (begins : Bool) (e : Sqe) (row : Row) → Adding w before now old new es i unit begins → slice_get es i ≡ Some e
     → here ≡ cond begins (length before + i) unit → row ≡ new_row e here (time_of w (behind_in es i) e) (target_of w (length before) es i e)
     → later ≡ now ++ row ∷ [] → Keeps table_owns (table_seen now) (table_seen later) new.made newer.made → ((p : Place) → named newer.made p ≡ None → named new.made p ≡ None)
@@ -163,14 +163,14 @@ adding_on w before now later old new newer es i unit here begins e row t g u r h
         by true = unit_is
         by false = omega arith
 
--- the row of an entry, field by field
+-- The row of an entry, by its fields.
 pub row_told : (w : WorldState) (first : ℕ) (es : List Sqe) (i unit : ℕ) (x e : Sqe) (behind time target : Option ℕ) (row : Row) → row ≡ new_row x unit time target → time ≡ time_of w behind x → behind ≡ behind_in es i
     → target ≡ target_of w first es i e → x ≡ e → row ≡ new_row e unit (time_of w (behind_in es i) e) (target_of w first es i e)
 row_told w first es i unit x e behind time target row r t b g same =
     r ∙ ap (λ z. new_row x unit z target) (t ∙ ap (λ c. time_of w c x) b) ∙ ap (new_row x unit (time_of w (behind_in es i) x)) g
     ∙ ap (λ y. new_row y unit (time_of w (behind_in es i) y) (target_of w first es i e)) same
 
--- the entry of an index
+-- There is an entry at each index within the batch.
 pub element_there : (es : List Sqe) (i : ℕ) → i < length es → (e : Sqe) × (slice_get es i ≡ Some e)
 element_there [] i h = absurd (omega (arith, h))
 element_there (e ∷ es) zero h = (e, refl)

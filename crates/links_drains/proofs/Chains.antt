@@ -1,4 +1,4 @@
--- Units are runs of rows, once the table is changed.
+-- Chains remain contiguous when the table changes.
 use Rattle.std.proofs.Common.{◌≡◌, ℕ, zero, suc, Bool, true, false, cond, refl, sym, ◌∙◌, ap, List, [], ◌∷◌, ◌++◌, length, take, ◌+◌, ◌-◌, ◌<◌, ◌≤◌, ◌⊎◌, inl, inr, arith}
 use Rattle.std.specs.Prelude.{Option, Some, None, option_map, slice_get, ◌==◌}
 use Rattle.std.specs.Option.{option_map_or}
@@ -14,7 +14,7 @@ use Rattle.links_drains.specs.Batches.{chain_of, row_of, rows_of}
 use Rattle.links_drains.specs.Links.{is_linked, Chained}
 use Rattle.links_drains.proofs.RowsKept.{get-updated}
 
--- ---- chains of a batch
+-- ---- Chains of a batch
 
 pub chain_before : (es : List Sqe) (i : ℕ) → chain_of es i ≤ i
 chain_before es zero = omega arith
@@ -24,7 +24,7 @@ chain_before es (suc i) = by (option_map_or is_linked (slice_get es i) false) (c
     by true h = omega (arith, h)
     by false h = omega arith
 
--- all from its first on are of the chain
+-- All entries from the chain's first up to i belong to it.
 pub chain_run : (es : List Sqe) (i j : ℕ) → chain_of es i ≤ j → j ≤ i → chain_of es j ≡ chain_of es i
 chain_run es zero j h k = let e : j ≡ zero = omega (arith, k) in ap (chain_of es) e
 chain_run es (suc i) j h k = by (option_map_or is_linked (slice_get es i) false) refl h (chain_run es i j) (cases_lt j (suc i))
@@ -34,7 +34,7 @@ chain_run es (suc i) j h k = by (option_map_or is_linked (slice_get es i) false)
     by true e l more (inr same) = let m : j ≡ suc i = omega (arith, same, k) in ap (chain_of es) m ∙ ap (λ b. cond b (chain_of es i) (suc i)) e
     by false e l more s = let m : j ≡ suc i = omega (arith, l, k) in ap (chain_of es) m ∙ ap (λ b. cond b (chain_of es i) (suc i)) e
 
--- ---- rows of a batch
+-- ---- Rows of a batch
 
 enumerated_from : {X : Type 0} (n : ℕ) (xs : List X) (i : ℕ) → slice_get (enumerate_from n xs) i ≡ option_map (λ x. (n + i, x)) (slice_get xs i)
 enumerated_from n [] i = refl
@@ -54,7 +54,7 @@ get-batch w first es i = slice_get-map row (enumerate_from 0 es) i ∙ ap (optio
     joined None = refl
     joined (Some e) = refl
 
--- A row of a batch is one that an entry became.
+-- A row of a batch results from one of its entries.
 pub record Became (w : WorldState) (first : ℕ) (es : List Sqe) (i : ℕ) (row : Row) : Type 0 where
   pub entry : Sqe
   pub there : slice_get es i ≡ Some entry
@@ -67,7 +67,7 @@ became w first es i row h = by (slice_get es i) refl (sym (get-batch w first es 
     by None e k = absurd cc
     by (Some x) e k = record { entry = x; there = e; is = cc }
 
--- ---- rows behind others
+-- ---- Rows added after others
 
 get-front : (rows more : List Row) (i : ℕ) → i < length rows → slice_get (rows ++ more) i ≡ slice_get rows i
 get-front [] more i h = absurd (omega (arith, h))
@@ -92,7 +92,7 @@ placed rows more r x h = by (cases_lt r (length rows))
         let m : r ≡ length rows + (r - length rows) = omega (arith, le) in
         inr (record { index = r - length rows; is = m; there = sym (get-behind rows more (r - length rows)) ∙ ap (slice_get (rows ++ more)) (sym m) ∙ h })
 
--- ---- changes of a table
+-- ---- Changes of a table
 
 pub chained-none : Chained []
 chained-none = record { back = λ r x h. absurd cc; run = λ q r y x g h l k. absurd cc }
@@ -123,7 +123,7 @@ chained-batch w rows es c = record {
         let j = b.is in
         unit q y d ∙ ap (λ n. length rows + n) (chain_run es b.index d.index (omega (arith, u, i, k)) (omega (arith, i, j, l))) ∙ sym u
 
--- a row of the changed table is one that was of the same unit
+-- A row of the changed table was in the same chain before.
 record Was (rows : List Row) (r unit : ℕ) : Type 0 where
   pub row : Row
   pub there : slice_get rows r ≡ Some row
@@ -137,7 +137,7 @@ was f rows i same r x h = by (i == r) (slice_get rows r) refl (sym (get-updated 
     by true (Some y) e k = let m : f y ≡ x = cc in record { row = y; there = e; same = ap (λ (z : Row). z.unit) (sym m) ∙ same y }
     by false o e k = record { row = x; there = e ∙ k; same = refl }
 
--- a row changes, and stays in its unit
+-- A row changes, but not its chain.
 pub chained-updated : (f : Row → Row) (rows : List Row) (i : ℕ) → ((x : Row) → (f x).unit ≡ x.unit) → Chained rows → Chained (updated f rows i)
 chained-updated f rows i same c = record {
   back = λ r x h. back r x (was f rows i same r x h);
@@ -154,7 +154,7 @@ chained-updated f rows i same c = record {
         let m = c.run q r v.row w.row v.there w.there l (omega (arith, k, b)) in
         omega (arith, a, b, m)
 
--- rows are dropped
+-- Rows are dropped from the end.
 pub chained-take : (rows : List Row) (n : ℕ) → Chained rows → Chained (take n rows)
 chained-take rows n c = record {
   back = λ r x h. c.back r x (kept r x h);

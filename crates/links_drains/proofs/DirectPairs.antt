@@ -1,4 +1,4 @@
--- The rows of a batch that end as it is submitted.
+-- The requests of a batch that complete as they are submitted.
 use Rattle.std.proofs.Common.{◌≡◌, ℕ, ℤ, true, cond, refl, sym, ◌∙◌, ap, List, ◌++◌, length, ◌+◌, ◌-◌, arith}
 use Rattle.std.specs.Prelude.{Option, Some, None, slice_get}
 use Rattle.std.specs.Option.{option_and_then}
@@ -24,7 +24,7 @@ direct-batch w rows es = record {
     test : ℕ → Row → Option ℤ
     test r row = direct_result w es (r - length rows)
 
--- what is listed for a row of a batch
+-- The result listed for request i of the batch.
 pub direct_at : (w : WorldState) (first : ℕ) (es : List Sqe) (i : ℕ) (row : Row) → slice_get (rows_of w first es) i ≡ Some row → result_in (direct_of w first es) (first + i) ≡ direct_result w es i
 direct_at w first es i row h =
     listed_from test first batch i
@@ -41,7 +41,7 @@ direct_at w first es i row h =
     queued : is_unfinished row.phase ≡ true
     queued = ap (λ (x : Row). is_unfinished x.phase) (became w first es i row h).is
 
--- a row that isn't listed passes
+-- A request that isn't listed is valid.
 pub unlisted_passes : (w : WorldState) (first : ℕ) (es : List Sqe) (i : ℕ) (row : Row) → slice_get (rows_of w first es) i ≡ Some row → result_in (direct_of w first es) (first + i) ≡ None → error_at w es i ≡ None
 unlisted_passes w first es i row h k = first_none (error_at w es i) _ (sym (direct_at w first es i row h) ∙ k)
   where

@@ -1,4 +1,4 @@
--- The rows that a row waits for, by the least numbers of the sets.
+-- Whether a request may be issued, decided from the smallest numbers in the index's sets.
 use Rattle.std.proofs.Common.{◌≡◌, ℕ, ◌<◌, ◌≤◌, Bool, true, false, not, refl, sym, ◌∙◌, ap, List, ◌⊎◌, inl, inr, arith}
 use Rattle.std.specs.Prelude.{Option, Some, None, option_map, slice_get, ◌&&◌, ◌||◌, MatchBool}
 use Rattle.std.specs.List.{list_any, enumerate_from}
@@ -16,7 +16,7 @@ use Rattle.links_drains.specs.declared.index.Index.{Index}
 use Rattle.links_drains.proofs.Chains.{enumerated}
 use Rattle.links_drains.proofs.Units.{any_true, any_false, any_of_true, any_of_found, passes_here}
 
--- ---- some numbered element passes
+-- ---- Some numbered item passes
 
 any_numbered : {X : Type 0} (test : ℕ × X → Bool) (xs : List X) (i : ℕ) (x : X) → slice_get xs i ≡ Some x → test (i, x) ≡ true → list_any test (enumerate_from 0 xs) ≡ true
 any_numbered {X} test xs i x h t = any_true test (enumerate_from 0 xs) i (i, x) (enumerated xs i ∙ ap (option_map (λ (y : X). (i, y))) h) t
@@ -28,7 +28,7 @@ none_numbered {X} test xs h = any_false test (enumerate_from 0 xs) (λ i p e. by
     by i p None e k = absurd cc
     by i p (Some x) e k = let same : (i, x) ≡ p = cc in ap test (sym same) ∙ h i x e
 
--- ---- the parts of waiting
+-- ---- The conditions under which a request waits
 
 never : (u a l g m d : Bool) → (u ≡ true → a ≡ true → l ≡ true → ⊥) → (u ≡ true → m ≡ true → d ≡ true → ⊥) → (u && ((a && (l && g)) || (m && d))) ≡ false
 never false a l g m d h k = refl
@@ -53,7 +53,7 @@ second_false : (a b : Bool) → b ≡ true → (a && b) ≡ false → a ≡ fals
 second_false false b h k = refl
 second_false true b h k = absurd cc
 
--- ---- a queued row that is no guard
+-- ---- A queued request that is not a linked timeout
 
 module _ (rows : List Row) (index : Index) (i : Indexed rows index) (guards : GuardsFollow rows)
     (r : ℕ) (row : Row) (here : slice_get rows r ≡ Some row) (queued : is_queued row.phase ≡ true) (free : is_guard row ≡ false) where
@@ -63,7 +63,7 @@ module _ (rows : List Row) (index : Index) (i : Indexed rows index) (guards : Gu
     | inr high ↦ let e = i.chained.run j k y x g h l high in omega (arith, e)
   ]
 
-  -- a row that the set doesn't have has ended
+  -- A request that isn't in the set has completed.
   not_open : (k : ℕ) (x : Row) → slice_get rows k ≡ Some x → has index.unfinished k ≡ false → is_open x ≡ true → ⊥
   not_open k x h absent here = both_ways (is_open x) (sym (passes_here is_open rows k x h) ∙ sym (i.unfinished k) ∙ absent) here
 
@@ -89,8 +89,8 @@ module _ (rows : List Row) (index : Index) (i : Indexed rows index) (guards : Gu
   eligible_is : (b : Bool) → list_any (λ (p : ℕ × Row). waits_for rows r row p.0 p.1) (enumerate_from 0 rows) ≡ b → not b ≡ is_eligible rows r
   eligible_is b h = rw (here, queued, free, h) refl
 
-  -- it waits for none where no earlier unfinished row is of its unit, and it is held by none of an
-  -- earlier unit
+  -- It waits for no request if no earlier one of its chain is unfinished and no earlier chain
+  -- blocks it.
   waits_for_none : ((k : ℕ) (x : Row) → slice_get rows k ≡ Some x → is_open x ≡ true → x.unit ≡ row.unit → k < r → ⊥)
       → ((k : ℕ) (x : Row) → slice_get rows k ≡ Some x → is_open x ≡ true → x.unit < row.unit → (drains rows x.unit || drains rows row.unit) ≡ true → ⊥) → true ≡ is_eligible rows r
   waits_for_none one two = eligible_is false (none_numbered (λ (p : ℕ × Row). waits_for rows r row p.0 p.1) rows (λ k x h. never _ _ _ _ _ _
@@ -100,15 +100,15 @@ module _ (rows : List Row) (index : Index) (i : Indexed rows index) (guards : Gu
   waits : (k : ℕ) (x : Row) → slice_get rows k ≡ Some x → waits_for rows r row k x ≡ true → false ≡ is_eligible rows r
   waits k x h w = eligible_is true (any_numbered (λ (p : ℕ × Row). waits_for rows r row p.0 p.1) rows k x h w)
 
-  -- an earlier unfinished row of the unit, and no guard
+  -- It waits for an earlier unfinished request of its chain that is no linked timeout.
   waits_in_unit : (k : ℕ) (x : Row) → slice_get rows k ≡ Some x → is_open x ≡ true → x.unit ≡ row.unit → k < r → is_guard x ≡ false → false ≡ is_eligible rows r
   waits_in_unit k x h u same less plain = waits k x h (and_from _ _ u (or_left _ _ (and_from _ _ (eq-eqb x.unit row.unit same) (and_from _ _ (lt-ltb k r less) (ap not plain)))))
 
-  -- an unfinished row of an earlier unit, where one of the two drains
+  -- It waits for an unfinished request of an earlier chain, if one of the two chains drains.
   waits_in_drain : (k : ℕ) (x : Row) → slice_get rows k ≡ Some x → is_open x ≡ true → x.unit < row.unit → (drains rows x.unit || drains rows row.unit) ≡ true → false ≡ is_eligible rows r
   waits_in_drain k x h u less d = waits k x h (and_from _ _ u (or_right _ _ (and_from _ _ (lt-ltb x.unit row.unit less) d)))
 
-  -- the least unfinished row from a number on is no guard of the unit
+  -- The first unfinished request from `from` on, if it belongs to the chain, is no linked timeout.
   least_is_free : (from k : ℕ) (x : Row) → IsNext index.unfinished from k → from ≤ row.unit → slice_get rows k ≡ Some x → is_open x ≡ true → x.unit ≡ row.unit → is_guard x ≡ false
   least_is_free from k x next low h u same = elim (cases_Bool (is_guard x)) [
     | inr plain ↦ plain
@@ -131,7 +131,7 @@ module _ (rows : List Row) (index : Index) (i : Indexed rows index) (guards : Gu
           apart : (m n : ℕ) → m ≤ n → (m ≡ n → ⊥) → m < n
           apart m n l ne = elim (cases_lt m n) [ inl lt ↦ lt | inr ge ↦ absurd (ne (omega (arith, l, ge))) ]
 
-  -- its unit drains
+  -- The chain drains.
   pub eligible_in_drain : (b : Bool) → has index.barriers row.unit ≡ true → MatchBool b (IsNext index.unfinished 0 r) ((k : ℕ) × (k < r) × IsNext index.unfinished 0 k) → b ≡ is_eligible rows r
   eligible_in_drain false drain found = waits_for_least 0 found.0 found.2 found.1 (inr (refl, drains_by drain))
   eligible_in_drain true drain next = waits_for_none
@@ -141,7 +141,7 @@ module _ (rows : List Row) (index : Index) (i : Indexed rows index) (guards : Gu
         | inr late ↦ let up = rises r k row x here h late in absurd (omega (arith, up, low))
       ])
 
-  -- it doesn't, and no earlier row of the unit is unfinished
+  -- The chain does not drain, and has no earlier unfinished request.
   pub eligible_behind : (b : Bool) → has index.barriers row.unit ≡ false → IsNext index.unfinished row.unit r
       → MatchBool b ((k : ℕ) → k < row.unit → has index.barriers k ≡ false) ((k : ℕ) × (k < row.unit) × (has index.barriers k ≡ true)) → b ≡ is_eligible rows r
   eligible_behind false drain next found =
@@ -157,7 +157,7 @@ module _ (rows : List Row) (index : Index) (i : Indexed rows index) (guards : Gu
         | inl its ↦ both_ways _ (none x.unit low) (i.barriers x.unit ∙ and_from _ _ its (any_of_true is_open rows k x x.unit h refl u))
       ])
 
--- what isn't queued, or is a guard, isn't issued
+-- A request that isn't queued, or is a linked timeout, may not be issued.
 pub not_eligible : (rows : List Row) (r : ℕ) (row : Row) → slice_get rows r ≡ Some row → (is_queued row.phase ≡ true → is_guard row ≡ true) → false ≡ is_eligible rows r
 not_eligible rows r row here why = sym (rw here (by (is_queued row.phase) (is_guard row) _ why))
   where

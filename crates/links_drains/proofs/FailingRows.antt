@@ -1,4 +1,4 @@
--- The rows of a batch that end as it is submitted, row by row.
+-- The requests of a batch that complete as they are submitted, computed row by row.
 use Rattle.std.proofs.Common.{◌≡◌, ℕ, ℤ, zero, suc, Bool, true, false, cond, refl, sym, ◌∙◌, ap, List, [], ◌∷◌, ◌++◌, take, length, replicate, get_or, ◌<◌, ◌≤◌, ◌+◌, ◌-◌, arith}
 use Rattle.std.specs.Prelude.{Option, Some, None, option_map, is_some, slice_get, slice_set, ◌==◌, ◌&&◌, ◌||◌}
 use Rattle.std.specs.Option.{option_and_then}
@@ -19,7 +19,7 @@ use Rattle.links_drains.proofs.Batching.{element_there, length-rows_of, take_mor
 use Rattle.links_drains.proofs.Chains.{became, chain_before, enumerated}
 use Rattle.links_drains.proofs.Listing.{result_of, endings_step}
 
--- ---- rows of a batch
+-- ---- Rows of a batch
 
 unit_of : (w : WorldState) (first : ℕ) (es : List Sqe) (rows : List Row) (i : ℕ) (d : Row) → rows ≡ rows_of w first es → i < length rows → (get_or rows i d).unit ≡ first + chain_of es i
 unit_of w first es rows i d b h =
@@ -34,17 +34,17 @@ unit_high w first es rows i d b h = let u = unit_of w first es rows i d b h in l
 pub chain_is : (w : WorldState) (first : ℕ) (es : List Sqe) (rows : List Row) (i : ℕ) (d : Row) → rows ≡ rows_of w first es → i < length rows → (get_or rows i d).unit - first ≡ chain_of es i
 chain_is w first es rows i d b h = let u = unit_of w first es rows i d b h in omega (arith, u)
 
--- as many rows as entries
+-- There are as many rows as entries.
 pub many : (w : WorldState) (first : ℕ) (es : List Sqe) (rows : List Row) → rows ≡ rows_of w first es → length rows ≡ length es
 many w first es rows b = ap length b ∙ length-rows_of w first es
 
--- ---- chains that fail
+-- ---- Chains that fail
 
--- whether an entry is of a chain, and fails
+-- Whether an entry belongs to the chain and fails.
 abbrev fails_in : WorldState → List Sqe → ℕ → ℕ × Sqe → Bool
 fails_in w es chain p = (chain_of es p.0 == chain) && is_some (error_of w es p.0 p.1)
 
--- whether one of the first entries is of a chain, and fails
+-- Whether one of the first i entries does.
 abbrev fails_to : WorldState → List Sqe → ℕ → ℕ → Bool
 fails_to w es i chain = list_any (fails_in w es chain) (take i (enumerate_from 0 es))
 
@@ -66,7 +66,7 @@ or_some true b e = refl
 or_some false true e = refl
 or_some false false e = absurd cc
 
--- What is known of each chain of a batch by its first i entries.
+-- `failing` says for each chain whether one of the first i entries fails in it.
 pub record FailingTo (w : WorldState) (es : List Sqe) (i : ℕ) (failing : List Bool) : Type 0 where
   pub len : length failing ≡ length es
   pub each : (u : ℕ) → u < length es → slice_get failing u ≡ Some (fails_to w es i u)
@@ -82,12 +82,12 @@ failing_none w es failing n m e = record {
   each = λ u h. ap (λ (xs : List Bool). slice_get xs u) e ∙ get-replicate n false u (omega (arith, m, h));
 }
 
--- all entries are looked at
+-- All entries were examined.
 pub failing_all : (w : WorldState) (es : List Sqe) (i : ℕ) (failing : List Bool) → FailingTo w es i failing → length es ≤ i → (u : ℕ) → u < length es → slice_get failing u ≡ Some (chain_fails w es u)
 failing_all w es i failing t h u l =
     t.each u l ∙ ap (λ ps. Some (list_any (fails_in w es u) ps)) (take_all i (enumerate_from 0 es) (let n = length-enumerate_from 0 es in omega (arith, n, h)))
 
--- an entry that passes
+-- The next entry is valid.
 pub failing_on : (w : WorldState) (es : List Sqe) (i : ℕ) (failing : List Bool) → FailingTo w es i failing → i < length es → is_some (error_at w es i) ≡ false → FailingTo w es (i + 1) failing
 failing_on w es i failing t h p = by (element_there es i h)
   where
@@ -97,7 +97,7 @@ failing_on w es i failing t h p = by (element_there es i h)
       each = λ u l. t.each u l ∙ ap Some (sym (fails_more w es i u e g ∙ or_none _ _ (and_right _ _ (sym (ap is_some (error_here w es i e g)) ∙ p))));
     }
 
--- an entry that fails
+-- The next entry fails.
 pub failing_at : (w : WorldState) (es : List Sqe) (i at : ℕ) (failing : List Bool) → FailingTo w es i failing → i < length es → is_some (error_at w es i) ≡ true → at ≡ chain_of es i → FailingTo w es (i + 1) (slice_set failing at true)
 failing_at w es i at failing t h p m = by (element_there es i h)
   where
@@ -119,7 +119,7 @@ failing_at w es i at failing t h p m = by (element_there es i h)
             ap Some (sym (or_some _ _ (ap (λ c. c && is_some (error_of w es i e)) (eq-eqb (chain_of es i) u (sym m ∙ same)) ∙ fails)))
         told u false k = ap Some (sym (or_none _ _ (and_left _ _ (ne_eqb (chain_of es i) u (λ q. let x = sym k ∙ eq-eqb at u (m ∙ q) in cc)))))
 
--- ---- the list
+-- ---- The list
 
 pub endings_more : (f : ℕ → Row → Option ℤ) (n : ℕ) (rows : List Row) (row : Row) → endings_from f n (rows ++ row ∷ []) ≡ endings_from f n rows ++ cons_option (paired (n + length rows) (result_of f (n + length rows) row)) []
 endings_more f n [] row = endings_step f n row [] ∙ (let m : n ≡ n + 0 = omega arith in ap (λ k. cons_option (paired k (result_of f k row)) []) m)
@@ -135,7 +135,7 @@ endings_more f n (x ∷ rows) row =
     over None es fs = refl
     over (Some e) es fs = refl
 
--- what a row ends with, by what is known of its chain
+-- The result of the next row, given whether its chain fails.
 pub ends_more : (w : WorldState) (first : ℕ) (es : List Sqe) (rows : List Row) (i : ℕ) (d : Row) (failing : List Bool) (c b : Bool) (o p : Option ℤ) → rows ≡ rows_of w first es → i < length rows
     → ((u : ℕ) → u < length rows → slice_get failing u ≡ Some (chain_fails w es u))
     → b ≡ get_or failing ((get_or rows i d).unit - first) c → o ≡ or_else (error_at w es i) (given b ecanceled) → o ≡ p

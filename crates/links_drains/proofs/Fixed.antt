@@ -1,4 +1,4 @@
--- What of a row never changes.
+-- The fields of a request that never change.
 use Rattle.std.proofs.Common.{◌≡◌, ℕ, refl, sym, ap, List, map, length, ◌<◌}
 use Rattle.std.specs.Prelude.{Option, Some, None, option_map, slice_get, slice_set}
 use Rattle.std.proofs.lemmas.Option.{slice_get_within}
@@ -7,7 +7,7 @@ use Rattle.entries.specs.declared.row.Row.{Row}
 use Rattle.places.proofs.ListLemmas.{map_same}
 use Rattle.links_drains.specs.Rows.{fixed_of}
 
--- a row that can be written over
+-- Row i exists and may be replaced by the row.
 pub record Fixed (rows : List Row) (i : ℕ) (row : Row) : Type 0 where
   pub before : Row
   pub there : slice_get rows i ≡ Some before

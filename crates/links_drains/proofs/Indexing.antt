@@ -1,4 +1,4 @@
--- What the sets and thresholds beside the rows have, once the rows are changed.
+-- The index remains correct when the table changes.
 use Rattle.std.proofs.Common.{◌≡◌, ◌≢◌, ℕ, zero, suc, Bool, true, false, cond, refl, sym, ◌∙◌, ap, subst, List, [], ◌∷◌, ◌++◌, length, take, ◌+◌, ◌-◌, ◌<◌, ◌≤◌, ◌⊎◌, inl, inr, arith}
 use Rattle.std.specs.Prelude.{Some, slice_get, slice_set, ◌==◌, ◌&&◌}
 use Rattle.std.specs.Option.{option_map_or}
@@ -19,7 +19,7 @@ use Rattle.number_sets.proofs.Bits.{has_past}
 use Rattle.links_drains.proofs.RowsKept.{length-push}
 use Rattle.links_drains.proofs.Units.{any_of_set, any_of_push, any_of_take, any_of_none}
 
--- ---- units
+-- ---- Chains
 
 chained_set : (rows : List Row) (r : ℕ) (before row : Row) → Chained rows → slice_get rows r ≡ Some before → row.unit ≡ before.unit → Chained (slice_set rows r row)
 chained_set rows r before row c h same =
@@ -27,7 +27,7 @@ chained_set rows r before row c h same =
     let e : f before ≡ row = ap (λ u. record row { unit = u }) (sym same) in
     subst Chained (updated_set f rows r before h ∙ ap (slice_set rows r) e) (chained-updated f rows r (λ x. refl) c)
 
--- a row of the longer list is one of the rows, or the new one
+-- A row of the longer list is an old one or the new one.
 pushed : (rows : List Row) (row : Row) (q : ℕ) (x : Row) → slice_get (rows ++ row ∷ []) q ≡ Some x → (slice_get rows q ≡ Some x) ⊎ ((q ≡ length rows) × (row ≡ x))
 pushed rows row q x h = by (length rows == q) refl (sym (slice_get-push rows q row) ∙ h)
   where
@@ -39,7 +39,7 @@ unit_within : (rows : List Row) (row : Row) → Chained rows → GoesOn rows row
 unit_within rows row c (inl new) = omega (arith, new)
 unit_within rows row c (inr on) = let b = c.back on.1 on.0 on.3 in let k = on.2 in let e = on.4 in omega (arith, b, k, e)
 
--- all from its first on are of the unit
+-- All rows from the chain's first on belong to the chain.
 of_last_unit : (rows : List Row) (row : Row) → Chained rows → GoesOn rows row → (q : ℕ) (x : Row) → slice_get rows q ≡ Some x → row.unit ≤ q → x.unit ≡ row.unit
 of_last_unit rows row c (inl new) q x h low = absurd (let w = slice_get_within rows q x h in omega (arith, w, new, low))
 of_last_unit rows row c (inr on) q x h low =
@@ -64,7 +64,7 @@ chained_push rows row c on = record {
     run q r y x (inl g) (inr h) l k = let u = ap (λ (z : Row). z.unit) h.1 in of_last_unit rows row c on q y g (omega (arith, u, k)) ∙ u
     run q r y x (inr g) (inr h) l k = ap (λ (z : Row). z.unit) (sym g.1 ∙ h.1)
 
--- ---- one row is written into the sets
+-- ---- One row is written into the sets
 
 pub tied : (test : Row → Bool) (rows : List Row) (r : ℕ) (x row : Row) (b : Bool) (old new : List ℕ) → x ≡ row → slice_get rows r ≡ Some row → b ≡ test x
     → ((q : ℕ) → q ≢ r → has old q ≡ passes_at test rows q) → ((q : ℕ) → has new q ≡ cond (q == r) b (has old q)) → (q : ℕ) → has new q ≡ passes_at test rows q
@@ -104,7 +104,7 @@ updated_index rows r x row stands old new e t i la lb lc ld le a b c d f = recor
   thresholds = f;
 }
 
--- ---- the rows change
+-- ---- The table changes
 
 both : (a b c d : Bool) → a ≡ b → c ≡ d → (a && c) ≡ (b && d)
 both a b c d h k = cc
@@ -112,7 +112,7 @@ both a b c d h k = cc
 get_other : (rows : List Row) (r q : ℕ) (row : Row) → r < length rows → q ≢ r → slice_get (slice_set rows r row) q ≡ slice_get rows q
 get_other rows r q row h other = slice_get-set rows r q row h ∙ ap (λ b. cond b (Some row) (slice_get rows q)) (ne_eqb r q (λ e. other (sym e)))
 
--- a row is written over by one of its unit
+-- A row is replaced by one of the same chain.
 pub indexed_set : (rows : List Row) (index : Index) (r : ℕ) (before row : Row) → Indexed rows index → slice_get rows r ≡ Some before → row.unit ≡ before.unit → IndexedBut r row.unit (slice_set rows r row) index
 indexed_set rows index r before row i h same = record {
   chained = chained_set rows r before row i.chained h same;
@@ -124,7 +124,7 @@ indexed_set rows index r before row i h same = record {
   thresholds = λ q other. i.thresholds q ∙ ap (λ o. option_map_or threshold_of o never) (sym (get_other rows r q row (slice_get_within rows r before h) other));
 }
 
--- a row is added behind the others
+-- A row is added at the end.
 get_before : (rows : List Row) (row : Row) (q : ℕ) → q ≢ length rows → slice_get (rows ++ row ∷ []) q ≡ slice_get rows q
 get_before rows row q other = slice_get-push rows q row ∙ ap (λ b. cond b (Some row) (slice_get rows q)) (ne_eqb (length rows) q (λ e. other (sym e)))
 
@@ -139,7 +139,7 @@ indexed_push rows index row i room on = record {
   thresholds = λ q other. i.thresholds q ∙ ap (λ o. option_map_or threshold_of o never) (sym (get_before rows row q other));
 }
 
--- rows are dropped
+-- Rows are dropped from the end.
 
 tie_dropped : (test : Row → Bool) (rows : List Row) (n : ℕ) (old new : List ℕ) → ((r : ℕ) → has old r ≡ passes_at test rows r) → Cleared n (length rows) old new → (r : ℕ) → has new r ≡ passes_at test (take n rows) r
 tie_dropped test rows n old new h c r = elim (cases_lt r n) [
@@ -172,7 +172,7 @@ kept_row rows n r x h = by (cases_lt r n)
     by (inl less) = (less, sym (slice_get-take_below rows n r less) ∙ h)
     by (inr past) = absurd (let e = slice_get-take_above rows n r past in cc)
 
--- a unit that no row is of
+-- A chain without rows blocks nothing.
 no_barrier : (rows : List Row) (u : ℕ) → ((r : ℕ) (x : Row) → slice_get rows r ≡ Some x → x.unit ≢ u) → is_barrier rows u ≡ false
 no_barrier rows u h = and_left _ _ (any_of_none asks_to_drain rows u h)
 
@@ -200,7 +200,7 @@ indexed_none rows old new i f = record {
   thresholds = thresholds_dropped rows 0 old.thresholds new.thresholds i.thresholds f.thresholds;
 }
 
--- the last row that is kept
+-- The last remaining row.
 pub last_kept : (rows : List Row) (n : ℕ) → 0 < n → n ≤ length rows → (last : Row) × (slice_get rows (n - 1) ≡ Some last) × (slice_get (take n rows) (n - 1) ≡ Some last)
 last_kept rows n some h = let w = element rows (n - 1) (omega (arith, some, h)) in (w.0, w.1, slice_get-take_below rows n (n - 1) (omega (arith, some)) ∙ w.1)
   where
@@ -222,7 +222,7 @@ indexed_take rows old new n last i some h f = record {
   thresholds = λ q other. thresholds_dropped rows n old.thresholds new.thresholds i.thresholds f.thresholds q;
 }
 
--- no row, no number in any set, and no threshold
+-- An index with empty sets is that of an empty table.
 pub indexed_empty : (index : Index) → index.unfinished ≡ [] → index.flagged ≡ [] → index.barriers ≡ [] → index.issued ≡ [] → index.thresholds ≡ [] → Indexed [] index
 indexed_empty index a b c d e = record {
   chained = chained-none;

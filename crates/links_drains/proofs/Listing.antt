@@ -1,4 +1,4 @@
--- Lists of endings, row by row.
+-- The result that a list of endings has for each row.
 use Rattle.std.proofs.Common.{◌≡◌, ℕ, ℤ, zero, suc, Bool, true, false, cond, refl, sym, ◌∙◌, ap, subst, List, [], ◌∷◌, ◌+◌, ◌<◌, arith}
 use Rattle.std.specs.Prelude.{Option, Some, None, slice_get, ◌==◌, if◌then◌else◌}
 use Rattle.std.specs.Option.{option_and_then}
@@ -8,7 +8,7 @@ use Rattle.entries.specs.declared.row.Row.{Row}
 use Rattle.links_drains.specs.Phases.{is_unfinished}
 use Rattle.links_drains.specs.Endings.{Ending, result_in, paired, endings_from, endings}
 
--- what a test gives an unfinished row
+-- The result that f has for an unfinished row.
 abbrev pub result_of : (ℕ → Row → Option ℤ) → ℕ → Row → Option ℤ
 result_of f r row = if is_unfinished row.phase then f r row else None
 
@@ -19,7 +19,7 @@ endings_step f n row rows = by (is_unfinished row.phase) (f n row) (endings_from
     by true o es = refl
     by false o es = refl
 
--- no row before the first is listed
+-- No row with a smaller number than the first is listed.
 pub unlisted_below : (f : ℕ → Row → Option ℤ) (n : ℕ) (rows : List Row) (r : ℕ) → r < n → result_in (endings_from f n rows) r ≡ None
 unlisted_below f n [] r h = refl
 unlisted_below f n (row ∷ rows) r h = ap (λ es. result_in es r) (endings_step f n row rows) ∙ by (result_of f n row) (unlisted_below f (n + 1) rows r (omega arith))
@@ -32,7 +32,7 @@ unlisted_below f n (row ∷ rows) r h = ap (λ es. result_in es r) (endings_step
         at true e = absurd (let x = eqb-true n r e in omega arith)
         at false e = k
 
--- the result that is listed for a row
+-- The result listed for a row.
 pub listed_from : (f : ℕ → Row → Option ℤ) (n : ℕ) (rows : List Row) (i : ℕ) → result_in (endings_from f n rows) (n + i) ≡ option_and_then (result_of f (n + i)) (slice_get rows i)
 listed_from f n [] i = refl
 listed_from f n (row ∷ rows) zero =
@@ -60,7 +60,7 @@ listed_from f n (row ∷ rows) (suc i) =
 pub listed_at : (f : ℕ → Row → Option ℤ) (rows : List Row) (r : ℕ) → result_in (endings f rows) r ≡ option_and_then (result_of f r) (slice_get rows r)
 listed_at f rows r = let m : 0 + r ≡ r = omega arith in subst (λ k. result_in (endings f rows) k ≡ option_and_then (result_of f k) (slice_get rows r)) m (listed_from f 0 rows r)
 
--- two tests that give each unfinished row the same list the same
+-- Two functions with the same results for all unfinished rows yield the same list.
 alike_from : (f g : ℕ → Row → Option ℤ) (n : ℕ) (rows : List Row) → ((i : ℕ) (row : Row) → slice_get rows i ≡ Some row → result_of f (n + i) row ≡ result_of g (n + i) row) → endings_from f n rows ≡ endings_from g n rows
 alike_from f g n [] h = refl
 alike_from f g n (row ∷ rows) h =

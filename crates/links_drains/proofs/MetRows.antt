@@ -1,4 +1,4 @@
--- The least row from a number on that is met, by the rows' thresholds.
+-- The first TIMEOUT whose count is reached, found by the thresholds.
 use Rattle.std.proofs.Common.{◌≡◌, ℕ, Bool, true, false, refl, ap, List, ◌<◌, ◌≤◌, arith}
 use Rattle.std.specs.Prelude.{Option, Some, None, slice_get}
 use Rattle.std.specs.Option.{option_map_or}
@@ -7,7 +7,7 @@ use Rattle.entries.specs.declared.row.Row.{Row}
 use Rattle.links_drains.specs.Counts.{is_count_timeout, is_met, threshold_of, threshold_in, IsNextMet, NoneMetFrom}
 use Rattle.number_sets.specs.Thresholds.{never, threshold_at, IsNextReached, NoneReachedFrom}
 
--- a row is met where the total reaches its threshold
+-- If the total reaches the threshold, the count is reached.
 met_reached : (total : ℕ) (row : Row) → total < never → threshold_of row ≤ total → is_met total row ≡ true
 met_reached total row low h = by (is_count_timeout row) refl
   where

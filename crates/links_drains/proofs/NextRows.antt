@@ -1,4 +1,4 @@
--- The least row from a number on that passes a test, by sets of numbers.
+-- The first row, from a number on, that passes a test, found by sets of numbers.
 use Rattle.std.proofs.Common.{◌≡◌, ℕ, Bool, true, false, refl, sym, ◌∙◌, ap, List, ◌<◌, ◌≤◌, ◌⊎◌, inl, inr, arith, not}
 use Rattle.std.specs.Prelude.{Option, Some, None, map, option_map, slice_get, ◌&&◌, nat_le}
 use Rattle.std.specs.Option.{option_map_or}
@@ -18,7 +18,7 @@ use Rattle.links_drains.specs.Queued.{is_queued_row, IsNextQueued, NoneQueuedFro
 use Rattle.links_drains.proofs.Filters.{first_numbered, none_numbered}
 use Rattle.links_drains.proofs.Units.{passes_here}
 
--- ---- by the numbers of the rows that pass
+-- ---- By the set of the rows that pass
 
 module _ (test : Row → Bool) (rows : List Row) (member : ℕ → Bool) (ties : (q : ℕ) → member q ≡ passes_at test rows q) where
   found : (from r : ℕ) → from ≤ r → member r ≡ true → ((i : ℕ) → from ≤ i → i < r → member i ≡ false) → IsNextWhere test rows from r
@@ -43,7 +43,7 @@ next_found test rows words from r ties next = found test rows (has words) ties f
 pub none_found : (test : Row → Bool) (rows : List Row) (words : List ℕ) (from : ℕ) → ((q : ℕ) → has words q ≡ passes_at test rows q) → NoneFrom words from → NoneWhere test rows from
 none_found test rows words from ties absent = none test rows (has words) ties from absent
 
--- a row is queued where it hasn't ended and isn't issued
+-- A request is queued exactly if it is unfinished and not issued.
 phase_queued : (p : Phase) → (is_unfinished p && not (is_issued p)) ≡ is_queued p
 phase_queued Queued = refl
 phase_queued Issued = refl
@@ -65,7 +65,7 @@ pub none_queued : (rows : List Row) (unended going : List ℕ) (from : ℕ) → 
     → NoneBeside unended going from → NoneQueuedFrom rows from
 none_queued rows unended going from f g absent = none is_queued_row rows (is_beside unended going) (beside_queued rows unended going f g) from absent
 
--- ---- as a filter
+-- ---- As a filter
 
 abbrev is_late : (Row → Bool) → ℕ → ℕ × Row → Bool
 is_late test from p = nat_le from p.0 && test p.1

@@ -1,4 +1,4 @@
--- Rows stay where they are, with their entries and units.
+-- Requests retain their entry and chain when the table changes.
 use Rattle.std.proofs.Common.{◌≡◌, ℕ, sym, ◌∙◌, ap, List, ◌++◌, length, map, take, ◌<◌, ◌≤◌, ◌⊎◌, inl, inr, arith}
 use Rattle.std.specs.Prelude.{Some, None, option_map, slice_get, slice_set}
 use Rattle.std.proofs.lemmas.Bool.{cases_lt}
@@ -13,21 +13,21 @@ use Rattle.links_drains.proofs.Fixed.{fixed_at}
 pub stay_then : (a b c : List Row) → length a ≤ length b → Stay a b → Stay b c → Stay a c
 stay_then a b c n h k r l = k r (omega (arith, n, l)) ∙ h r l
 
--- a row is written over by one of the same entry and unit
+-- A row is replaced by one with the same entry and chain.
 pub stay_set : (rows : List Row) (i : ℕ) (row : Row) → option_map fixed_of (slice_get rows i) ≡ Some (fixed_of row) → Stay rows (slice_set rows i row)
 stay_set rows i row h r l = let f = fixed_at rows i row h in field_same fixed_of rows i r f.before row f.there f.same
 
 get_before : (rows more : List Row) (r : ℕ) → r < length rows → slice_get (rows ++ more) r ≡ slice_get rows r
 get_before rows more r h = grind (arith, common_steps, gets)
 
--- others come behind them
+-- Rows are added at the end.
 pub stay_append : (rows more : List Row) → Stay rows (rows ++ more)
 stay_append rows more r l = ap (option_map fixed_of) (get_before rows more r l)
 
 past : (rows : List Row) (r : ℕ) → length rows ≤ r → slice_get rows r ≡ None
 past rows r h = grind (arith, common_steps, gets)
 
--- without those behind them they are the same but for what may change
+-- Without the added rows, the fixed fields are the same as before.
 pub stay_cut : (rows next : List Row) (n : ℕ) → n ≡ length rows → Stay rows next → map fixed_of rows ≡ map fixed_of (take n next)
 stay_cut rows next n e h = same_list _ _ (λ r. slice_get-map fixed_of rows r ∙ by r (cases_lt r n) ∙ sym (slice_get-map fixed_of (take n next) r))
   where
@@ -35,10 +35,10 @@ stay_cut rows next n e h = same_list _ _ (λ r. slice_get-map fixed_of rows r �
     by r (inl less) = sym (h r (omega (arith, less, e))) ∙ ap (option_map fixed_of) (sym (slice_get-take_below next n r less))
     by r (inr more) = ap (option_map fixed_of) (past rows r (omega (arith, more, e)) ∙ sym (slice_get-take_above next n r more))
 
--- a row can be written over by the one that stood there
+-- A row may be replaced by the row that was there before.
 pub stood_there : (rows now : List Row) (i : ℕ) (x : Row) → map fixed_of rows ≡ map fixed_of now → slice_get rows i ≡ Some x → option_map fixed_of (slice_get now i) ≡ Some (fixed_of x)
 stood_there rows now i x e h = sym (slice_get-map fixed_of now i) ∙ ap (λ fs. slice_get fs i) (sym e) ∙ slice_get-map fixed_of rows i ∙ ap (option_map fixed_of) h
 
--- as many rows
+-- The tables have the same length.
 pub as_many : (rows now : List Row) → map fixed_of rows ≡ map fixed_of now → length rows ≡ length now
 as_many rows now e = simp length-map at (ap length e)

@@ -1,4 +1,4 @@
--- The rest of a unit, row by row.
+-- The rest of a chain, computed row by row.
 use Rattle.std.proofs.Common.{◌≡◌, ℕ, zero, suc, Bool, true, false, cond, refl, sym, ◌∙◌, ap, List, [], ◌∷◌, ◌++◌, take, length, ◌<◌, ◌≤◌, ◌+◌, inl, inr, arith}
 use Rattle.std.specs.Prelude.{Option, Some, None, map, option_map, slice_get, ◌==◌, ◌&&◌, nat_lt}
 use Rattle.std.specs.Option.{option_map_or}
@@ -14,7 +14,7 @@ use Rattle.links_drains.proofs.Batching.{take_more}
 use Rattle.links_drains.proofs.Chains.{enumerated}
 use Rattle.links_drains.proofs.Units.{passes_here}
 
--- ---- filters of a list's beginning
+-- ---- Filters of the beginning of a list
 
 pub none_before : {X : Type 0} (p : X → Bool) (k : ℕ) (xs : List X) → ((i : ℕ) (x : X) → i < k → slice_get xs i ≡ Some x → p x ≡ false) → filter p (take k xs) ≡ []
 none_before p zero xs h = refl
@@ -27,16 +27,16 @@ none_behind p zero (x ∷ xs) h = sym (ap (λ b. cond b (x ∷ filter p xs) (fil
 none_behind p (suc k) [] h = refl
 none_behind p (suc k) (x ∷ xs) h = ap (λ ys. cond (p x) (x ∷ ys) ys) (none_behind p k xs (λ i y l e. h (suc i) y (omega (arith, l)) e))
 
--- ---- the rest of a row's unit, among the first rows
+-- ---- The rest of the chain among the first k rows
 
--- the test of a row with its number
+-- The test of a numbered row.
 abbrev in_rest : List Row → ℕ → ℕ × Row → Bool
 in_rest rows r p = is_rest rows r p.0 p.1
 
 abbrev pub rest_to : List Row → ℕ → ℕ → List ℕ
 rest_to rows r k = map (λ (other : ℕ × Row). other.0) (filter (in_rest rows r) (take k (enumerate_from 0 rows)))
 
--- a test of the numbered rows, row by row
+-- A test that fails for a row fails for the numbered row.
 pub numbered : (test : ℕ × Row → Bool) (rows : List Row) (i : ℕ) (p : ℕ × Row) → ((row : Row) → slice_get rows i ≡ Some row → test (i, row) ≡ false) → slice_get (enumerate_from 0 rows) i ≡ Some p → test p ≡ false
 numbered test rows i p h e = by (slice_get rows i) refl (sym (enumerated rows i) ∙ e)
   where
@@ -62,7 +62,7 @@ here_is_rest rows r k head row b h l u e =
     ap (λ c. c && (passes_at (λ (x : Row). row.unit == x.unit) rows r && is_open row)) (lt-ltb r k (omega (arith, l)))
     ∙ ap (λ c. c && is_open row) (passes_here (λ (x : Row). row.unit == x.unit) rows r head h ∙ eq-eqb row.unit head.unit u) ∙ e
 
--- a row of the unit
+-- The next row belongs to the chain.
 pub rest_on : (rows : List Row) (r k : ℕ) (head row : Row) (b : Bool) → slice_get rows r ≡ Some head → slice_get rows k ≡ Some row → r + 1 ≤ k → row.unit ≡ head.unit → is_open row ≡ b → rest_to rows r (k + 1) ≡ rest_to rows r k ++ cond b (k ∷ []) []
 rest_on rows r k head row b h g l u e = rest_more rows r k row g ∙ ap (λ c. rest_to rows r k ++ map (λ (other : ℕ × Row). other.0) (cond c ((k, row) ∷ []) [])) (here_is_rest rows r k head row b h l u e) ∙ ap (λ xs. rest_to rows r k ++ xs) (by b)
   where
@@ -70,7 +70,7 @@ rest_on rows r k head row b h g l u e = rest_more rows r k row g ∙ ap (λ c. r
     by true = refl
     by false = refl
 
--- no row from one on is of the unit
+-- If no row from k on belongs to the chain, the list is complete.
 pub rest_end : (rows : List Row) (r k : ℕ) → ((i : ℕ) (row head : Row) → k ≤ i → slice_get rows i ≡ Some row → slice_get rows r ≡ Some head → row.unit ≡ head.unit → ⊥) → rest_to rows r k ≡ rest_of rows r
 rest_end rows r k other = ap (map (λ (other : ℕ × Row). other.0)) (none_behind (in_rest rows r) k (enumerate_from 0 rows) (λ i p l e. numbered (in_rest rows r) rows i p (λ row g. apart i row l g) e))
   where
@@ -85,15 +85,15 @@ rest_end rows r k other = ap (map (λ (other : ℕ × Row). other.0)) (none_behi
         by false b c e = refl
         by true b c e = ap (λ d. d && c) e
 
--- there is no such row
+-- There is no row r.
 pub rest_none : (rows : List Row) (r : ℕ) → length rows ≤ r → [] ≡ rest_of rows r
 rest_none rows r h = rest_end rows r 0 (λ i row head l g e u. let f = slice_get_past rows r h in let k = sym e ∙ f in cc)
 
--- the rows have been walked over
+-- All rows were examined.
 pub rest_past : (rows : List Row) (r k : ℕ) → length rows ≤ k → rest_to rows r k ≡ rest_of rows r
 rest_past rows r k h = rest_end rows r k (λ i row head l g e u. let f = slice_get_within rows i row g in omega (arith, f, h, l))
 
--- a row of another unit ends it
+-- A row of another chain ends the search.
 pub rest_left : (rows : List Row) (r k : ℕ) (head row : Row) → Chained rows → slice_get rows r ≡ Some head → slice_get rows k ≡ Some row → r + 1 ≤ k → (row.unit ≡ head.unit → ⊥) → rest_to rows r k ≡ rest_of rows r
 rest_left rows r k head row c h g l other = rest_end rows r k (λ i late first m e f u.
     let same : head.unit ≡ first.unit = ap (λ (o : Option Row). option_map_or (λ (x : Row). x.unit) o 0) (sym h ∙ f) in

@@ -1,4 +1,4 @@
--- Endings are of unfinished rows, in the order of their numbers.
+-- Endings are of unfinished rows, by ascending number.
 use Rattle.std.proofs.Common.{◌≡◌, ℕ, ℤ, zero, suc, Bool, true, false, cond, refl, sym, ◌∙◌, ap, subst, List, [], ◌∷◌, ◌+◌, ◌<◌, arith}
 use Rattle.std.specs.Prelude.{Option, Some, None, slice_get}
 use Rattle.std.specs.List.{cons_option}
@@ -7,8 +7,8 @@ use Rattle.links_drains.specs.Phases.{is_unfinished}
 use Rattle.links_drains.specs.Endings.{Ending, paired, endings_from, endings}
 use Rattle.links_drains.proofs.Listing.{result_of, endings_step}
 
--- an ending of a row that is unfinished, with the result that a test gives it; rows are numbered
--- from a first one
+-- The ending belongs to an unfinished row and has the result that f has for it. Rows are numbered
+-- from n.
 pub record EndsFrom (f : ℕ → Row → Option ℤ) (n : ℕ) (rows : List Row) (e : Ending) : Type 0 where
   pub index : ℕ
   pub row : Row

@@ -7,7 +7,7 @@ use Rattle.std.proofs.lemmas.Option.{gets}
 use Rattle.entries.specs.declared.row.Row.{Row}
 use Rattle.places.specs.Lists.{updated}
 
--- a row is added behind the others
+-- A row is added at the end.
 
 pub length-push : (rows : List Row) (row : Row) → length (rows ++ row ∷ []) ≡ length rows + 1
 length-push rows row = grind (arith, common_steps)
@@ -15,7 +15,7 @@ length-push rows row = grind (arith, common_steps)
 pub get-pushed : (rows : List Row) (row : Row) → slice_get (rows ++ row ∷ []) (length rows) ≡ Some row
 get-pushed rows row = grind (arith, common_steps, gets)
 
--- a row is changed
+-- A row is replaced.
 
 pub get-updated : (f : Row → Row) (rows : List Row) (i j : ℕ) → slice_get (updated f rows i) j ≡ cond (i == j) (option_map f (slice_get rows j)) (slice_get rows j)
 get-updated f rows i j = by (i == j) refl
@@ -36,7 +36,7 @@ get-updated f rows i j = by (i == j) refl
     by true h = let e : i ≡ j = eqb-true i j h in rw e (here rows j)
     by false h = there rows i j (λ e. let k = eq-eqb i j e in cc)
 
--- rows are dropped
+-- Rows are dropped from the end.
 
 pub length-dropped : (rows : List Row) (n : ℕ) → length (take n rows) ≡ min n (length rows)
 length-dropped rows n = grind (arith, common_steps)

@@ -1,4 +1,4 @@
--- The counts of held descriptors, once the rows are changed.
+-- The counts of held descriptors remain correct when the table changes.
 use Rattle.std.proofs.Common.{◌≡◌, ℕ, zero, suc, Bool, true, false, cond, refl, sym, ◌∙◌, ap, List, [], ◌∷◌, ◌++◌, length, take, drop, get_or, ◌+◌, ◌-◌, ◌^◌, ◌<◌, ◌≤◌, arith}
 use Rattle.std.specs.Prelude.{Some, slice_get, slice_set, nat_lt, ◌||◌}
 use Rattle.std.specs.List.{filter, list_any}
@@ -14,7 +14,7 @@ use Rattle.links_drains.specs.Holding.{holds, holders_of, is_held_by, Tallied}
 use Rattle.links_drains.proofs.Counting.{matching-more, matching-append, matching-updated, matching-le-length}
 use Rattle.links_drains.proofs.RowsKept.{length-dropped, length-push}
 
--- ---- how many rows hold a descriptor
+-- ---- How many requests hold a descriptor
 
 cut : (rows : List Row) (n fd : ℕ) → holders_of rows fd ≡ holders_of (take n rows) fd + holders_of (drop n rows) fd
 cut rows n fd = ap (λ rs. holders_of rs fd) (sym (take-append-drop n rows)) ∙ matching-append (holds fd) (take n rows) (drop n rows)
@@ -22,13 +22,13 @@ cut rows n fd = ap (λ rs. holders_of rs fd) (sym (take-append-drop n rows)) ∙
 one_more : (rows : List Row) (i : ℕ) (d : Row) (fd : ℕ) → i < length rows → holders_of (take (i + 1) rows) fd ≡ holders_of (take i rows) fd + cond (holds fd (get_or rows i d)) 1 0
 one_more rows i d fd h = length-filter_more (holds fd) rows i d h
 
--- one row is written over
+-- One row is replaced.
 written : (rows : List Row) (r : ℕ) (before row : Row) (fd : ℕ) → slice_get rows r ≡ Some before → holders_of (slice_set rows r row) fd + cond (holds fd before) 1 0 ≡ holders_of rows fd + cond (holds fd row) 1 0
 written rows r before row fd h = ap (λ rs. holders_of rs fd + cond (holds fd before) 1 0) (sym (updated_set (λ x. row) rows r before h)) ∙ matching-updated (holds fd) (λ x. row) rows r before h
 
--- ---- rows go from the counts one after the other
+-- ---- Rows are removed from the counts one after the other
 
--- the next one is among those that are counted
+-- The next row to be removed is counted.
 pub next_counted : (rows : List Row) (i : ℕ) (d : Row) (fd before now : ℕ) → i < length rows → holders_of rows fd ≤ before → before ≡ now + holders_of (take i rows) fd → holds fd (get_or rows i d) ≡ true → 0 < now
 next_counted rows i d fd before now h most e t =
     let a = cut rows (i + 1) fd in
@@ -38,9 +38,9 @@ next_counted rows i d fd before now h most e t =
 pub next_gone : (rows : List Row) (i : ℕ) (d : Row) (fd before now later : ℕ) → i < length rows → before ≡ now + holders_of (take i rows) fd → now ≡ later + cond (holds fd (get_or rows i d)) 1 0 → before ≡ later + holders_of (take (i + 1) rows) fd
 next_gone rows i d fd before now later h e g = omega (arith, one_more rows i d fd h, e, g)
 
--- ---- the counts of a table
+-- ---- The counts of a table
 
--- the rows are too few to fill a count
+-- A count cannot overflow: there are too few rows.
 pub room : (rows : List Row) (held : Held) → Tallied rows held → (fd : ℕ) → holders held fd < 2 ^ 32 - 1
 room rows held t fd =
     let a = t.counts fd in
@@ -54,7 +54,7 @@ positive : (n : ℕ) (b : Bool) (m : ℕ) → n ≡ cond b 1 0 + m → b ≡ tru
 positive n true m h e = omega (arith, h)
 positive n false m h e = absurd cc
 
--- each row that holds is counted
+-- Each request that holds the descriptor is counted.
 pub counts_row : (rows : List Row) (held : Held) (r : ℕ) (row : Row) → Tallied rows held → slice_get rows r ≡ Some row → (fd : ℕ) → holds fd row ≡ true → 0 < holders held fd
 counts_row rows held r row t h fd e =
     let a = t.counts fd in
@@ -70,7 +70,7 @@ counts_row rows held r row t h fd e =
         let n = among xs i g in
         omega (arith, m, n)
 
--- a row was written over
+-- A row was replaced.
 pub tallied_set : (rows : List Row) (held between after : Held) (r : ℕ) (before row : Row) → Tallied rows held → slice_get rows r ≡ Some before →
     ((fd : ℕ) → holders held fd ≡ holders between fd + cond (holds fd before) 1 0) → ((fd : ℕ) → holders after fd ≡ holders between fd + cond (holds fd row) 1 0) → Tallied (slice_set rows r row) after
 tallied_set rows held between after r before row t h off on = record {
@@ -83,7 +83,7 @@ tallied_set rows held between after r before row t h off on = record {
     length-set_row (y ∷ ys) zero x = refl
     length-set_row (y ∷ ys) (suc i) x = ap suc (length-set_row ys i x)
 
--- a row was added behind the others
+-- A row was added at the end.
 pub tallied_push : (rows : List Row) (held after : Held) (row : Row) → Tallied rows held → length rows < 65536 →
     ((fd : ℕ) → holders after fd ≡ holders held fd + cond (holds fd row) 1 0) → Tallied (rows ++ row ∷ []) after
 tallied_push rows held after row t h on = record {
@@ -91,7 +91,7 @@ tallied_push rows held after row t h on = record {
   counts = λ fd. let a = t.counts fd in let b = on fd in let c = matching-append (holds fd) rows (row ∷ []) in let d = matching-more (holds fd) row [] in omega (arith, a, b, c, d);
 }
 
--- rows were dropped
+-- Rows were dropped from the end.
 pub rest : (rows : List Row) (n : ℕ) → take (length rows - n) (drop n rows) ≡ drop n rows
 rest rows n = grind (arith, common_steps)
 
@@ -104,7 +104,7 @@ tallied_cut rows held after n t off = record {
   counts = λ fd. let a = t.counts fd in let b = off fd in omega (arith, a, b, cut rows n fd);
 }
 
--- ---- what the counts tell
+-- ---- A descriptor is held exactly if its count is positive
 
 pub tells : (rows : List Row) (held : Held) → Tallied rows held → (fd : ℕ) → is_held held fd ≡ is_held_by rows fd
 tells rows held t fd = ap (λ n. nat_lt 0 n) (t.counts fd) ∙ some rows

@@ -1,4 +1,4 @@
--- Tests of the rows of a unit, by a set and once the table is changed.
+-- Tests of the rows of a chain, by sets of row numbers and after changes of the table.
 use Rattle.std.proofs.Common.{◌≡◌, ◌≢◌, ℕ, zero, suc, Bool, true, false, refl, sym, ◌∙◌, ap, List, [], ◌∷◌, ◌++◌, take, ◌≤◌, ◌⊎◌, inl, inr, arith}
 use Rattle.std.specs.Prelude.{Some, slice_get, slice_set, ◌==◌, ◌&&◌, ◌||◌, MatchBool}
 use Rattle.std.specs.Option.{option_map_or}
@@ -10,7 +10,7 @@ use Rattle.links_drains.specs.Links.{Chained}
 use Rattle.number_sets.specs.Sets.{has, IsNext}
 use Rattle.links_drains.specs.Units.{passes_at, HasRowOf, HasNoRowOf}
 
--- ---- some element passes
+-- ---- Some item passes a test
 
 pub any_true : {X : Type 0} (test : X → Bool) (xs : List X) (i : ℕ) (x : X) → slice_get xs i ≡ Some x → test x ≡ true → list_any test xs ≡ true
 any_true test [] i x h t = absurd cc
@@ -35,13 +35,13 @@ any_found test (y ∷ ys) h = by (test y) refl h (any_found test ys)
     by true e k more = record { index = 0; element = y; there = refl; passes = e }
     by false e k more = let w = more k in record { index = suc w.index; element = w.element; there = w.there; passes = w.passes }
 
--- an element is written over by one that fares alike
+-- An item is replaced by one with the same test result.
 pub any_set : {X : Type 0} (test : X → Bool) (xs : List X) (i : ℕ) (x y : X) → slice_get xs i ≡ Some x → test y ≡ test x → list_any test (slice_set xs i y) ≡ list_any test xs
 any_set test [] i x y h e = refl
 any_set test (z ∷ zs) zero x y h e = let k : z ≡ x = cc in ap (λ b. b || list_any test zs) (e ∙ ap test (sym k))
 any_set test (z ∷ zs) (suc i) x y h e = ap (λ b. test z || b) (any_set test zs i x y h e)
 
--- an element that fails is added
+-- An item that fails the test is added.
 pub any_push : {X : Type 0} (test : X → Bool) (xs : List X) (y : X) → test y ≡ false → list_any test (xs ++ y ∷ []) ≡ list_any test xs
 any_push test xs y e = list_any-append test xs (y ∷ []) ∙ by (test y) (list_any test xs) e
   where
@@ -49,14 +49,14 @@ any_push test xs y e = list_any-append test xs (y ∷ []) ∙ by (test y) (list_
     by b true e = refl
     by b false e = or_from _ _ e refl
 
--- elements that fail are dropped
+-- Items that fail the test are dropped.
 pub any_take : {X : Type 0} (test : X → Bool) (xs : List X) (n : ℕ) → ((i : ℕ) (x : X) → n ≤ i → slice_get xs i ≡ Some x → test x ≡ false) → list_any test (take n xs) ≡ list_any test xs
 any_take test [] zero h = refl
 any_take test [] (suc n) h = refl
 any_take test (y ∷ ys) zero h = sym (any_false test (y ∷ ys) (λ i x e. h i x (omega arith) e))
 any_take test (y ∷ ys) (suc n) h = ap (λ b. test y || b) (any_take test ys n (λ i x l e. h (suc i) x (omega arith) e))
 
--- ---- rows of a unit
+-- ---- Rows of a chain
 
 abbrev of_unit : (Row → Bool) → ℕ → Row → Bool
 of_unit test unit row = (row.unit == unit) && test row
@@ -64,7 +64,7 @@ of_unit test unit row = (row.unit == unit) && test row
 abbrev pub any_of : (Row → Bool) → List Row → ℕ → Bool
 any_of test rows unit = list_any (λ (row : Row). (row.unit == unit) && test row) rows
 
--- a row of another unit
+-- A row of another chain.
 other_unit : (test : Row → Bool) (unit : ℕ) (row : Row) → row.unit ≢ unit → of_unit test unit row ≡ false
 other_unit test unit row h = and_left _ _ (ne_eqb row.unit unit h)
 
@@ -98,12 +98,12 @@ any_of_found test rows unit h =
     let p = and_parts _ _ w.passes in
     record { number = w.index; row = w.element; there = w.there; same = eqb-true w.element.unit unit p.0; passes = p.1 }
 
--- ---- by a set of row numbers
+-- ---- By a set of row numbers
 
 pub passes_here : (test : Row → Bool) (rows : List Row) (r : ℕ) (row : Row) → slice_get rows r ≡ Some row → passes_at test rows r ≡ test row
 passes_here test rows r row h = ap (λ o. option_map_or test o false) h
 
--- the first number of the set from the unit on
+-- The first number in the set, from the chain's first row on.
 pub first_of_unit : (words : List ℕ) (rows : List Row) (unit r : ℕ) (row : Row) → Chained rows → IsNext words unit r → slice_get rows r ≡ Some row → (b : Bool) → (row.unit == unit) ≡ b → MatchBool b (HasRowOf words rows unit) (HasNoRowOf words rows unit)
 first_of_unit words rows unit r row c next h true e = record { number = r; row = row; there = h; same = eqb-true row.unit unit e; member = next.member }
 first_of_unit words rows unit r row c next h false e = λ k x g same. elim (cases_lt k r) [

@@ -1,19 +1,19 @@
--- TIMEOUTs that end once so many completions were counted (io_uring_enter(2), IORING_OP_TIMEOUT).
+-- TIMEOUTs that complete after a number of completions (io_uring_enter(2), IORING_OP_TIMEOUT).
 use Rattle.std.specs.Prelude.{◌≡◌, ℕ, ◌+◌, ◌==◌, ◌≤◌, ◌<◌, min, Bool, true, false, ◌&&◌, nat_lt, nat_le, if◌then◌else◌, Some, List, slice_get}
 use Rattle.std.specs.Option.{option_map_or}
 use Rattle.entries.specs.declared.row.Row.{Row}
 use Rattle.number_sets.specs.Thresholds.{never}
 use Rattle.links_drains.specs.Phases.{is_issued}
 
--- a TIMEOUT that ends once so many completions were counted
+-- An issued TIMEOUT that waits for a number of completions, given in its `off` field.
 abbrev pub is_count_timeout : Row → Bool
 is_count_timeout row = is_issued row.phase && ((row.entry.opcode == 11) && nat_lt 0 row.entry.off)
 
--- whether as many completions were counted as a TIMEOUT waits for
+-- Whether `total` has reached the count that the TIMEOUT waits for.
 abbrev pub is_met : ℕ → Row → Bool
 is_met total row = is_count_timeout row && nat_le (row.base + row.entry.off) total
 
--- r is the least row from a number on for which as many completions were counted as it waits for.
+-- r is the first request from a number on whose count `total` has reached.
 pub record IsNextMet (rows : List Row) (total from r : ℕ) : Type 0 where
   pub after : from ≤ r
   pub row : Row
@@ -22,16 +22,17 @@ pub record IsNextMet (rows : List Row) (total from r : ℕ) : Type 0 where
   pub least : (i : ℕ) (x : Row) → from ≤ i → i < r → slice_get rows i ≡ Some x
       → is_met total x ≡ false
 
+-- No request from a number on waits for a count that `total` has reached.
 abbrev pub NoneMetFrom : List Row → ℕ → ℕ → Type 0
 NoneMetFrom rows total from =
     (i : ℕ) (x : Row) → from ≤ i → slice_get rows i ≡ Some x → is_met total x ≡ false
 
--- ---- as thresholds
+-- ---- Thresholds
 
--- the total at which a row is met
+-- The total of counted completions at which the request completes.
 abbrev pub threshold_of : Row → ℕ
 threshold_of row = if is_count_timeout row then min (row.base + row.entry.off) never else never
 
--- the threshold of the row of a number
+-- The threshold of request r; `never` if there is none.
 abbrev pub threshold_in : List Row → ℕ → ℕ
 threshold_in rows r = option_map_or threshold_of (slice_get rows r) never

@@ -1,4 +1,4 @@
--- What the sets and thresholds beside the rows have. No public contract cites it.
+-- The invariant of the index of a request table. Public contracts don't use it.
 use Rattle.std.specs.Prelude.{◌≡◌, ◌≢◌, ℕ, ◌*◌, ◌≤◌, ◌<◌, false, List, length}
 use Rattle.entries.specs.declared.row.Row.{Row}
 use Rattle.links_drains.specs.Counts.{threshold_in}
@@ -8,7 +8,7 @@ use Rattle.number_sets.specs.Thresholds.{never, threshold_at}
 use Rattle.links_drains.specs.Units.{passes_at, is_going, is_open, is_barrier}
 use Rattle.links_drains.specs.declared.index.Index.{Index}
 
--- There is room for so many numbers.
+-- The sets and thresholds have room for n requests.
 pub record HasRoom (n : ℕ) (index : Index) : Type 0 where
   pub unfinished : n ≤ 64 * length index.unfinished
   pub flagged : n ≤ 64 * length index.flagged
@@ -16,6 +16,7 @@ pub record HasRoom (n : ℕ) (index : Index) : Type 0 where
   pub issued : n ≤ 64 * length index.issued
   pub thresholds : n ≤ length index.thresholds
 
+-- The index is correct: its sets and thresholds agree with the table.
 pub record Indexed (rows : List Row) (index : Index) : Type 0 where
   pub chained : Chained rows
   pub room : HasRoom (length rows) index
@@ -25,7 +26,7 @@ pub record Indexed (rows : List Row) (index : Index) : Type 0 where
   pub issued : (r : ℕ) → has index.issued r ≡ passes_at is_going rows r
   pub thresholds : (r : ℕ) → threshold_at index.thresholds r ≡ threshold_in rows r
 
--- All but what they say of one row, and of its unit.
+-- The index is correct but for request r and the chain `unit`.
 pub record IndexedBut (r unit : ℕ) (rows : List Row) (index : Index) : Type 0 where
   pub chained : Chained rows
   pub room : HasRoom (length rows) index
@@ -35,21 +36,21 @@ pub record IndexedBut (r unit : ℕ) (rows : List Row) (index : Index) : Type 0 
   pub issued : (q : ℕ) → q ≢ r → has index.issued q ≡ passes_at is_going rows q
   pub thresholds : (q : ℕ) → q ≢ r → threshold_at index.thresholds q ≡ threshold_in rows q
 
--- The numbers from one up to another were taken out of a set.
+-- The numbers in a range were removed from a set.
 pub record Cleared (from to : ℕ) (old new : List ℕ) : Type 0 where
   pub len : length new ≡ length old
   pub below : (i : ℕ) → i < from → has new i ≡ has old i
   pub inside : (i : ℕ) → from ≤ i → i < to → has new i ≡ false
   pub past : (i : ℕ) → to ≤ i → has new i ≡ has old i
 
--- Nothing reaches the numbers from one up to another.
+-- The thresholds in a range were set to `never`.
 pub record Unreached (from to : ℕ) (old new : List ℕ) : Type 0 where
   pub len : length new ≡ length old
   pub below : (i : ℕ) → i < from → threshold_at new i ≡ threshold_at old i
   pub inside : (i : ℕ) → from ≤ i → i < to → threshold_at new i ≡ never
   pub past : (i : ℕ) → to ≤ i → threshold_at new i ≡ threshold_at old i
 
--- They were taken out of each set.
+-- The requests in a range were removed from the index.
 pub record Forgotten (from to : ℕ) (old new : Index) : Type 0 where
   pub unfinished : Cleared from to old.unfinished new.unfinished
   pub flagged : Cleared from to old.flagged new.flagged

@@ -1,4 +1,4 @@
--- How far requests have come, and how many ended.
+-- The phases of requests (queued, issued or completed), and counts of completed requests.
 use Rattle.std.specs.Prelude.{ℕ, Bool, true, false, not, ◌&&◌, List, length}
 use Rattle.std.specs.List.{filter}
 use Rattle.entries.specs.declared.row.Phase.{Phase}
@@ -24,15 +24,15 @@ is_ended (Ended res) = true
 abbrev pub is_unfinished : Phase → Bool
 is_unfinished phase = not (is_ended phase)
 
--- whether the end of a row is one of the completions that a TIMEOUT counts (io_uring_enter(2)): not
--- that of a TIMEOUT or a LINK_TIMEOUT
+-- Whether the completion of a request counts for TIMEOUTs (io_uring_enter(2)): all do but those of
+-- TIMEOUT and LINK_TIMEOUT.
 abbrev pub counts : Row → Bool
 counts row = not (is_timer row.entry.opcode)
 
--- how many rows that count have ended
+-- How many completed requests count for TIMEOUTs.
 abbrev pub counted_of : List Row → ℕ
 counted_of rows = length (filter (λ row. is_ended row.phase && counts row) rows)
 
--- how many rows have ended
+-- How many requests have completed.
 abbrev pub ended_of : List Row → ℕ
 ended_of rows = length (filter (λ row. is_ended row.phase) rows)

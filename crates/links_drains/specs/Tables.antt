@@ -1,4 +1,4 @@
--- What stands beside the rows of a table.
+-- The invariant of a request table: its counts and its index match its rows.
 use Rattle.std.specs.Prelude.{List}
 use Rattle.entries.specs.declared.row.Row.{Row}
 use Rattle.model_files.specs.declared.held.Held.{Held}

@@ -1,4 +1,4 @@
--- Units of rows, and which of them hold later ones.
+-- The requests of a chain, and the chains that later requests wait for.
 use Rattle.std.specs.Prelude.{◌≡◌, ℕ, ◌==◌, Bool, true, false, ◌&&◌, nat_lt, Option, Some, List, slice_get}
 use Rattle.std.specs.Option.{option_map_or}
 use Rattle.std.specs.List.{list_any}
@@ -8,18 +8,19 @@ use Rattle.links_drains.specs.Numbered.{numbers_where, next_where, IsNextWhere, 
 use Rattle.links_drains.specs.Phases.{is_issued, is_unfinished}
 use Rattle.number_sets.specs.Sets.{has}
 
--- whether there is a row of a number, and it passes a test
+-- Whether there is a row r, and it passes a test.
 abbrev pub passes_at : (Row → Bool) → List Row → ℕ → Bool
 passes_at test rows r = option_map_or test (slice_get rows r) false
 
+-- Whether the request has not completed.
 abbrev pub is_open : Row → Bool
 is_open row = is_unfinished row.phase
 
--- whether a row is issued, and hasn't ended
+-- Whether the request was issued and has not completed.
 abbrev pub is_going : Row → Bool
 is_going row = is_issued row.phase
 
--- the least issued row from a number on
+-- The first issued request from a number on.
 abbrev pub next_issued : List Row → ℕ → Option ℕ
 next_issued = next_where is_going
 
@@ -29,24 +30,24 @@ IsNextIssued = IsNextWhere is_going
 abbrev pub NoneIssuedFrom : List Row → ℕ → Type 0
 NoneIssuedFrom = NoneWhere is_going
 
--- whether a row stands behind another of its unit, and hasn't ended
+-- Whether request k is a later, unfinished request of r's chain.
 abbrev pub is_rest : List Row → ℕ → ℕ → Row → Bool
 is_rest rows r k other =
     nat_lt r k && (passes_at (λ (row : Row). other.unit == row.unit) rows r && is_open other)
 
--- the later rows of a row's unit that haven't ended
+-- The later requests of r's chain that have not completed.
 abbrev pub rest_of : List Row → ℕ → List ℕ
 rest_of rows r = numbers_where (is_rest rows r) rows
 
--- whether some row of a unit hasn't ended
+-- Whether some request of the chain has not completed.
 abbrev pub is_under_way : List Row → ℕ → Bool
 is_under_way rows unit = list_any (λ (row : Row). (row.unit == unit) && is_open row) rows
 
--- whether a unit drains and hasn't ended: the rows of all later units wait for it
+-- Whether the chain drains and has not completed. The requests of all later chains wait for it.
 abbrev pub is_barrier : List Row → ℕ → Bool
 is_barrier rows unit = drains rows unit && is_under_way rows unit
 
--- A set of row numbers has a row of a unit.
+-- A set of request numbers has a request of the chain.
 pub record HasRowOf (words : List ℕ) (rows : List Row) (unit : ℕ) : Type 0 where
   pub number : ℕ
   pub row : Row

@@ -1,15 +1,16 @@
-//! The rows of a batch that end as it is submitted (io_uring_enter(2)).
+//! Requests that complete as they are submitted, because an entry of their chain is invalid
+//! (io_uring_enter(2)).
 ghost use Rattle.std.specs.Prelude.{◌≡◌, ◌+◌, ◌<◌, ◌≤◌, ℕ, IfOk, Some, length, slice_get};
 ghost use Rattle.links_drains.specs.Batches.{behind_in, chain_fails, direct_of, error_at, rows_of, shown_on as shown_by};
 ghost use Rattle.links_drains.specs.Endings.{ecanceled, given, or_else};
 
 use crate::links::is_linked;
-use entries::{Row, Sqe};
+use entries::{ECANCELED, Row, Sqe};
 use model_files::World;
-use opcodes::{Context, ECANCELED, check};
+use opcodes::{Context, check};
 use std::alloc::{AllocError, Global};
 
-/// What an entry of a batch fails with as it is submitted, if it does.
+/// Returns the error with which entry i fails as it is submitted, if any.
 pub(crate) fn error_at(world: &World, entries: &[Sqe], i: usize) -> Option<i32>
     requires { i < length entries.now }
     ensures { result ≡ error_at world.now entries.now i }
@@ -18,7 +19,7 @@ pub(crate) fn error_at(world: &World, entries: &[Sqe], i: usize) -> Option<i32>
     check(&entries[i], Context { behind, world }).err()
 }
 
-/// The opcode of the entry before one in its chain.
+/// Returns the opcode of the entry before entry i in its chain, if there is one.
 pub(crate) fn behind_at(entries: &[Sqe], i: usize) -> Option<u8>
     requires { i < length entries.now }
     ensures { result ≡ behind_in entries.now i }
@@ -29,7 +30,7 @@ pub(crate) fn behind_at(entries: &[Sqe], i: usize) -> Option<u8>
     shown_on(&entries[i - 1])
 }
 
-// The opcode that an entry shows to the next one of its chain.
+// The opcode of an entry, if the next entry belongs to its chain.
 fn shown_on(entry: &Sqe) -> Option<u8>
     ensures { result ≡ shown_by entry.now }
 {
@@ -40,8 +41,8 @@ fn shown_on(entry: &Sqe) -> Option<u8>
     }
 }
 
-/// Which rows of a batch end at once, with their results. The rows are numbered from a first one.
-/// It takes time by how many they are.
+/// Returns the requests of a batch that complete as they are submitted, with their results. `first`
+/// is the number of the first. Takes time linear in the size of the batch.
 pub(crate) fn direct_ends(
     alloc: Global,
     world: &World,
@@ -65,7 +66,8 @@ pub(crate) fn direct_ends(
     Ok(direct)
 }
 
-// Whether each chain of a batch has an entry that fails, by the index of its first.
+// For each chain of a batch, says whether one of its entries fails. The index is that of the
+// chain's first entry.
 fn failing_chains(
     alloc: Global,
     world: &World,
@@ -87,7 +89,8 @@ fn failing_chains(
     Ok(failing)
 }
 
-// What a row ends with, if it ends at once: its own error, or ECANCELED where its chain fails.
+// Returns the result of a request that completes as it is submitted: its own error, or ECANCELED if
+// another entry of its chain fails.
 fn result_at_once(error: Option<i32>, chain_fails: bool) -> Option<i32>
     ensures { result ≡ or_else error (given chain_fails ecanceled) }
 {

@@ -1,4 +1,4 @@
-//! The counts of held descriptors follow the rows.
+//! Counts, for each descriptor, how many issued requests hold it.
 ghost use Rattle.std.specs.Prelude.{◌≡◌, ℕ, ◌+◌, ◌-◌, ◌<◌, ◌≤◌, ◌^◌, true, if◌then◌else◌};
 ghost use Rattle.model_files.specs.Holders.{holders};
 ghost use Rattle.links_drains.specs.Holding.{holds, holders_of};
@@ -6,7 +6,7 @@ ghost use Rattle.links_drains.specs.Holding.{holds, holders_of};
 use entries::{Phase, Row};
 use model_files::Held;
 
-/// A row comes to what is counted.
+/// Counts the descriptor that the request holds, if any.
 pub(crate) fn count(held: &mut Held, row: &Row)
     requires { (fd : ℕ) → holders held.old fd < 2 ^ 32 - 1 }
     ensures { (fd : ℕ) → holders held.new fd
@@ -17,7 +17,7 @@ pub(crate) fn count(held: &mut Held, row: &Row)
     }
 }
 
-/// A row goes from what is counted.
+/// Removes the request's descriptor, if any, from the counts.
 pub(crate) fn take_off(held: &mut Held, row: &Row)
     requires { (fd : ℕ) → holds fd row.now ≡ true → 0 < holders held.old fd }
     ensures { (fd : ℕ) → holders held.old fd
@@ -28,7 +28,7 @@ pub(crate) fn take_off(held: &mut Held, row: &Row)
     }
 }
 
-/// Rows go from what is counted.
+/// Removes the descriptors of several requests from the counts.
 pub(crate) fn take_all_off(held: &mut Held, rows: &[Row])
     requires { (fd : ℕ) → holders_of rows.now fd ≤ holders held.old fd }
     ensures { (fd : ℕ) → holders held.old fd ≡ holders held.new fd + holders_of rows.now fd }

@@ -1,5 +1,5 @@
-//! Sets and thresholds beside the rows that tell at once which of them may be issued, and which end
-//! by a count.
+//! An index of the request table: which requests may be issued, and which TIMEOUTs have
+//! reached their count, without a scan of all requests.
 ghost use Rattle.std.specs.Prelude.{◌≡◌, ℕ, ◌+◌, ◌-◌, ◌^◌, ◌<◌, ◌≤◌, [], true, Some, IfOk, IfSome, IfNone, OnOk, MatchBool, length, slice_get, take};
 ghost use Rattle.entries.specs.declared.row.Row.{Row};
 ghost use Rattle.links_drains.specs.Eligible.{is_eligible, GuardsFollow};
@@ -16,25 +16,26 @@ use number_sets::NumberSet;
 use number_sets::thresholds::{NEVER, Thresholds};
 use std::alloc::{AllocError, Global};
 
-/// Which rows and units others wait for.
+/// Sets of request numbers, stored as bitmaps, and the thresholds of TIMEOUTs.
 #[derive(Drop)]
 pub(crate) struct Index {
-    /// The rows that haven't ended.
+    /// The requests that have not completed.
     unfinished: NumberSet,
-    /// The rows with IO_DRAIN.
+    /// The requests with IOSQE_IO_DRAIN.
     flagged: NumberSet,
-    /// The units that drain and haven't ended, by the numbers of their first rows.
+    /// The chains that drain and have an unfinished request, each by the number of its first
+    /// request.
     barriers: NumberSet,
-    /// The issued rows.
+    /// The issued requests.
     issued: NumberSet,
-    /// How many completions have to be counted before a row ends by it.
+    /// The total of counted completions at which each request completes, or `NEVER`.
     thresholds: Thresholds,
 }
 
 impl Index {
     ghost use Rattle.links_drains.specs.Indexes.{Indexed, IndexedBut, HasRoom, Forgotten};
 
-    /// The index of no rows. It takes no memory.
+    /// Builds the index of an empty table, without an allocation.
     pub(crate) fn new(alloc: Global) -> Index
         ensures { Indexed [] result }
     {
@@ -47,7 +48,7 @@ impl Index {
         }
     }
 
-    /// Makes room for one row more.
+    /// Makes room for one more request.
     pub(crate) fn make_room(&mut self, rows: &[Row]) -> Result<(), AllocError>
         requires indexed { Indexed rows.now self.old }
         requires few { length rows.now < 65536 }
@@ -61,7 +62,8 @@ impl Index {
         self.thresholds.make_room(rows.len())
     }
 
-    /// A row has come, or has changed within its unit, or has become the last.
+    /// Updates the index for request r, which is new, has changed within its chain, or is now the
+    /// last.
     pub(crate) fn update(&mut self, rows: &[Row], r: usize)
         requires { (row : Row) × (slice_get rows.now r ≡ Some row)
             × IndexedBut r row.unit rows.now self.old }
@@ -76,7 +78,7 @@ impl Index {
         self.thresholds.write(r, threshold_of(row));
     }
 
-    /// The rows from a number on go. It takes time by how many they are.
+    /// Drops the requests from number n on, in time linear in how many they are.
     pub(crate) fn cut(&mut self, rows: &[Row], n: usize)
         requires indexed { Indexed rows.now self.old }
         requires within { n ≤ length rows.now }
@@ -102,7 +104,7 @@ impl Index {
         }
     }
 
-    /// Whether a row may be issued. It takes constant time.
+    /// Returns whether request r may be issued, in constant time.
     pub(crate) fn is_eligible(&self, rows: &[Row], r: usize) -> bool
         requires indexed { Indexed rows.now self.now }
         requires guards { GuardsFollow rows.now }
@@ -125,7 +127,7 @@ impl Index {
         }
     }
 
-    /// The least row from a number on that hasn't ended. It takes constant time.
+    /// Returns the first unfinished request from a number on, in constant time.
     pub(crate) fn next_unfinished(&self, from: usize) -> Option<usize>
         ensures some { IfSome result (λ r. IsNext self.now.unfinished from r) }
         ensures none { IfNone result (NoneFrom self.now.unfinished from) }
@@ -133,7 +135,7 @@ impl Index {
         self.unfinished.next(from)
     }
 
-    /// The least issued row from a number on. It takes constant time.
+    /// Returns the first issued request from a number on, in constant time.
     pub(crate) fn next_issued(&self, from: usize) -> Option<usize>
         ensures some { IfSome result (λ r. IsNext self.now.issued from r) }
         ensures none { IfNone result (NoneFrom self.now.issued from) }
@@ -141,7 +143,7 @@ impl Index {
         self.issued.next(from)
     }
 
-    /// The least row from a number on that ends as so many completions were counted.
+    /// Returns the first TIMEOUT from a number on whose threshold `total` has reached.
     pub(crate) fn next_met(&self, total: u32, from: usize) -> Option<usize>
         requires { total < 2 ^ 32 - 1 }
         ensures some { IfSome result (λ r. IsNextReached self.now.thresholds total from r) }
@@ -150,7 +152,7 @@ impl Index {
         self.thresholds.next(from, total)
     }
 
-    /// An index of the same rows.
+    /// Copies the index.
     pub(crate) fn copy(&self, alloc: Global) -> Result<Index, AllocError>
         ensures { IfOk result (λ index. index ≡ self.now) }
     {
@@ -164,7 +166,7 @@ impl Index {
     }
 }
 
-// Whether a unit drains and hasn't ended, by the rows that drain and those that haven't ended.
+// Whether the chain drains and has an unfinished request.
 fn is_barrier(flagged: &NumberSet, unfinished: &NumberSet, rows: &[Row], unit: u32) -> bool
     requires chained { Chained rows.now }
     requires flagged { (r : ℕ) → has flagged.now r ≡ passes_at has_drain rows.now r }
@@ -178,7 +180,7 @@ fn is_barrier(flagged: &NumberSet, unfinished: &NumberSet, rows: &[Row], unit: u
     }
 }
 
-// Whether a set of row numbers has a row of a unit.
+// Whether a set of request numbers has a request of the chain.
 fn has_row_of(set: &NumberSet, rows: &[Row], unit: u32) -> bool
     requires chained { Chained rows.now }
     requires within { (r : ℕ) → has set.now r ≡ true → r < length rows.now }

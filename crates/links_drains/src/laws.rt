@@ -1,4 +1,4 @@
-//! Laws of the definitions.
+//! Theorems about the definitions in specs/.
 ghost use Rattle.std.specs.Prelude.{◌≡◌, ◌+◌, ◌++◌, ℕ, List, Some, None, length, slice_get};
 ghost use Rattle.entries.specs.declared.entry.Sqe.{Sqe};
 ghost use Rattle.entries.specs.declared.row.Row.{Row};
@@ -7,19 +7,20 @@ ghost use Rattle.links_drains.specs.Batches.{error_at, rows_of, direct_of};
 ghost use Rattle.links_drains.specs.Endings.{result_in, Direct};
 ghost use Rattle.links_drains.specs.Links.{Chained};
 
-/// Units are runs of rows, also once a batch has come behind the others.
+/// Chains remain contiguous after a batch of requests was added.
 pub fn batch_is_chained()
     ensures { (w : WorldState) (rows : List Row) (entries : List Sqe) → Chained rows
         → Chained (rows ++ rows_of w (length rows) entries) }
 {}
 
-/// The rows that end as a batch is submitted are unfinished rows, in the order of their numbers.
+/// The requests that complete as a batch is submitted are unfinished, and listed by ascending
+/// number.
 pub fn batch_ends_rows()
     ensures { (w : WorldState) (rows : List Row) (entries : List Sqe)
         → Direct (rows ++ rows_of w (length rows) entries) (direct_of w (length rows) entries) }
 {}
 
-/// A row of a batch that doesn't end as it is submitted has passed its tests.
+/// A request of a batch that does not complete as it is submitted is valid.
 pub fn other_rows_pass()
     ensures { (w : WorldState) (first : ℕ) (entries : List Sqe) (i : ℕ) (row : Row)
         → slice_get (rows_of w first entries) i ≡ Some row

@@ -1,4 +1,5 @@
-//! The table of all requests, and how entries come into it.
+//! The table of all requests, and how submitted entries become requests: chains, drains, and errors
+//! at submission.
 #![tactic(auto)]
 
 mod failing;

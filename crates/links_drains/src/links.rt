@@ -1,41 +1,36 @@
-//! Links between the requests of a chain (io_uring_enter(2)).
+//! Tests of a request's link and drain flags, and of its phase (io_uring_enter(2)).
 ghost use Rattle.std.specs.Prelude.{◌≡◌};
 ghost use Rattle.links_drains.specs.Counts.{is_count_timeout, threshold_of};
 ghost use Rattle.links_drains.specs.Links.{is_soft_linked, is_linked, is_guard, asks_to_drain};
 ghost use Rattle.links_drains.specs.Phases.{is_issued, is_queued, is_unfinished};
 
-use entries::{Phase, Row, Sqe};
+use entries::{IOSQE_IO_DRAIN, IOSQE_IO_HARDLINK, IOSQE_IO_LINK, Phase, Row, Sqe};
 use number_sets::thresholds::NEVER;
 use opcodes::Op;
 
-const IO_DRAIN: u8 = 2;
-
-const IO_LINK: u8 = 4;
-
-const IO_HARDLINK: u8 = 8;
-
-/// Whether a bad end of a row severs the rest of its chain: it has IO_LINK and not IO_HARDLINK.
+/// Returns whether a failure of the request severs the rest of its chain: it has IOSQE_IO_LINK and
+/// not IOSQE_IO_HARDLINK.
 pub fn is_soft_linked(row: &Row) -> bool
     ensures { result ≡ is_soft_linked row.now }
 {
-    row.entry.flags & IO_LINK != 0 && !(row.entry.flags & IO_HARDLINK != 0)
+    row.entry.flags & IOSQE_IO_LINK != 0 && !(row.entry.flags & IOSQE_IO_HARDLINK != 0)
 }
 
-/// Whether the next entry is of the same chain.
+/// Returns whether the next entry belongs to the same chain.
 pub(crate) fn is_linked(entry: &Sqe) -> bool
     ensures { result ≡ is_linked entry.now }
 {
-    entry.flags & IO_LINK != 0 || entry.flags & IO_HARDLINK != 0
+    entry.flags & IOSQE_IO_LINK != 0 || entry.flags & IOSQE_IO_HARDLINK != 0
 }
 
-/// Whether a row has IO_DRAIN.
+/// Returns whether the request has IOSQE_IO_DRAIN.
 pub(crate) fn asks_to_drain(row: &Row) -> bool
     ensures { result ≡ asks_to_drain row.now }
 {
-    row.entry.flags & IO_DRAIN != 0
+    row.entry.flags & IOSQE_IO_DRAIN != 0
 }
 
-/// Whether a row is a LINK_TIMEOUT.
+/// Returns whether the request is a linked timeout (LINK_TIMEOUT).
 pub fn is_guard(row: &Row) -> bool
     ensures { result ≡ is_guard row.now }
 {
@@ -48,29 +43,29 @@ pub(crate) fn is_queued(row: &Row) -> bool
     matches!(row.phase, Phase::Queued)
 }
 
-/// Whether a row is issued, and hasn't ended.
+/// Returns whether the request was issued and has not completed.
 pub fn is_issued(row: &Row) -> bool
     ensures { result ≡ is_issued row.now.phase }
 {
     matches!(row.phase, Phase::Issued)
 }
 
-/// Whether a row is an issued TIMEOUT that ends once so many completions were counted.
+/// Returns whether the request is an issued TIMEOUT that waits for a number of completions.
 pub(crate) fn is_count_timeout(row: &Row) -> bool
     ensures { result ≡ is_count_timeout row.now }
 {
     is_issued(row) && row.entry.opcode == Op::Timeout as u8 && 0 < row.entry.off
 }
 
-/// Whether a row hasn't ended.
+/// Returns whether the request has not completed.
 pub fn is_unfinished(row: &Row) -> bool
     ensures { result ≡ is_unfinished row.now.phase }
 {
     !matches!(row.phase, Phase::Ended(_))
 }
 
-/// The total at which a row ends: where it is an issued TIMEOUT that counts completions, what had
-/// been counted as it was issued and what it waits for.
+/// Returns the total of counted completions at which an issued TIMEOUT completes: the total when it
+/// was issued plus the count that it waits for. `NEVER` for all other requests.
 pub(crate) fn threshold_of(row: &Row) -> u32
     ensures { result ≡ threshold_of row.now }
 {

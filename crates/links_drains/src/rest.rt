@@ -1,4 +1,4 @@
-//! The rest of a unit (io_uring_enter(2), IOSQE_IO_LINK).
+//! The rest of a chain after one of its requests (io_uring_enter(2), IOSQE_IO_LINK).
 ghost use Rattle.std.specs.Prelude.{◌≡◌, ◌≤◌, IfOk, length};
 ghost use Rattle.links_drains.specs.Links.{Chained};
 ghost use Rattle.links_drains.specs.Units.{rest_of};
@@ -7,7 +7,7 @@ use crate::links::is_unfinished;
 use entries::Row;
 use std::alloc::{AllocError, Global};
 
-/// The later rows of a row's unit that haven't ended, in the order of their numbers.
+/// Returns the later requests of r's chain that have not completed, by ascending number.
 pub(crate) fn rest_in(alloc: Global, rows: &[Row], r: usize) -> Result<Vec<u32>, AllocError>
     requires chained { Chained rows.now }
     requires few { length rows.now ≤ 65536 }

@@ -1,4 +1,4 @@
-//! Entries become rows (io_uring_enter(2)).
+//! Turns submitted entries into requests (io_uring_enter(2)).
 ghost use Rattle.std.specs.Prelude.{◌≡◌, ◌+◌, ◌<◌, ◌≤◌, ◌++◌, None, Some, IfOk, OnOk, OnErr, length, slice_get, take};
 ghost use Rattle.entries.specs.declared.entry.Sqe.{Sqe};
 ghost use Rattle.opcodes.specs.Check.{time_of as time_in};
@@ -16,21 +16,22 @@ use opcodes::{Context, Op, time_of};
 use places::Recorder;
 use std::alloc::AllocError;
 
-/// What became of a batch of entries.
+/// The outcome of a batch of entries.
 #[derive(Drop)]
 pub struct Batch {
-    /// How many became rows.
+    /// How many entries became requests.
     pub taken: u32,
-    /// Whether the last of them failed, so that nothing behind it is taken.
+    /// Whether the last of them failed and stopped the submission.
     pub halted: bool,
-    /// Which of these rows end at once, with what they end with, in the order of their numbers.
+    /// The requests that complete as they are submitted, with their results, by ascending number.
     pub direct: Vec<(u32, i32)>,
 }
 
 impl Table {
-    /// Makes queued rows of entries, each in the unit of its chain: of all of them, or up to and
-    /// with the first that fails. Times are read from memory. The rows that end at once are Queued
-    /// until their caller ends them.
+    /// Adds a queued request for each entry, or, without `submit_all`, for those up to and
+    /// including the first invalid one. Timeouts are read from memory (struct __kernel_timespec).
+    /// The caller completes the requests in `direct`. If an allocation fails, the table is
+    /// unchanged.
     pub fn take_batch(
         &mut self,
         entries: &[Sqe],
@@ -70,8 +71,8 @@ impl Table {
         }
     }
 
-    // All of the entries become rows. Some of them may have where there is no memory. Says which of
-    // the rows end at once.
+    // Adds a request for each entry, and returns those that complete at once. If an allocation
+    // fails, some requests may have been added.
     fn add_batch(
         &mut self,
         entries: &[Sqe],
@@ -130,8 +131,7 @@ impl Table {
     }
 }
 
-// The row that an entry of a batch becomes, in a unit; the rows of the batch are numbered from a
-// first one.
+// Builds the request of entry i. The batch's requests are numbered from `first`.
 fn row_at(world: &World, entries: &[Sqe], i: usize, first: u32, unit: u32) -> Row
     requires within { i < length entries.now }
     requires few { first + length entries.now ≤ 65536 }
@@ -147,7 +147,7 @@ fn row_at(world: &World, entries: &[Sqe], i: usize, first: u32, unit: u32) -> Ro
     new_row(entries[i], unit, time, target_at(world, entries, i, first))
 }
 
-// The row that an entry of a batch guards.
+// Returns the request that the linked timeout at entry i limits.
 fn target_at(world: &World, entries: &[Sqe], i: usize, first: u32) -> Option<u32>
     requires within { i < length entries.now }
     requires few { first + length entries.now ≤ 65536 }
@@ -160,7 +160,7 @@ fn target_at(world: &World, entries: &[Sqe], i: usize, first: u32) -> Option<u32
     Some((first + i as u32).saturating_sub(1))
 }
 
-// How many of the entries that are offered become rows, and whether the last of these fails.
+// Returns how many entries become requests, and whether the last of them is invalid.
 fn taken_count(entries: &[Sqe], world: &World, submit_all: bool) -> (usize, bool)
     ensures taken { take result.0 entries.now ≡ taken_of submit_all world.now entries.now }
     ensures within { result.0 ≤ length entries.now }

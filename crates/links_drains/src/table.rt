@@ -1,4 +1,4 @@
-//! The table of all rows that were ever submitted.
+//! The table of all requests that were ever submitted.
 ghost use Rattle.std.specs.Prelude.{◌≡◌, ℕ, ◌+◌, ◌-◌, ◌<◌, ◌≤◌, ◌^◌, ◌++◌, ◌∷◌, [], take, map, Some, None, IfOk, IfSome, IfNone, OnOk, OnErr, OnSome, length, option_map, slice_get, slice_set};
 ghost use Rattle.entries.specs.declared.row.Row.{Row};
 ghost use Rattle.entries.specs.declared.row.Phase.TheVariants.{Issued};
@@ -25,16 +25,16 @@ use places::{At, Part, Place, Recorder, Value};
 use std::alloc::{AllocError, Global};
 use std::marker::Model;
 
-/// How many rows are copied at once: 1,920 bytes.
+/// Rows copied at once: 1,920 bytes.
 const PIECE: usize = 12;
 
-/// All rows that were ever submitted, in order.
+/// All requests ever submitted, in order. A request's number is its index.
 #[derive(Drop)]
 pub struct Table {
     rows: Vec<Row>,
-    /// Which descriptors the issued rows hold.
+    /// How many issued requests hold each descriptor.
     held: Held,
-    /// Which rows others wait for.
+    /// Finds requests by their phase, chain and threshold.
     index: Index,
 }
 
@@ -90,7 +90,7 @@ impl Part for Table {
 }
 
 impl Table {
-    /// No rows. It takes no memory.
+    /// Builds an empty table, without an allocation.
     pub fn new(alloc: Global) -> Table
         ensures { result ≡ [] }
     {
@@ -101,12 +101,12 @@ impl Table {
         }
     }
 
-    /// Where the table has its memory from.
+    /// Returns the allocator of the table.
     pub fn allocator(&self) -> Global {
         *self.rows.allocator()
     }
 
-    /// How many rows there are. A run has 65,536 at most, and its units are runs of them.
+    /// Returns the number of requests: at most 65,536 in a run.
     pub fn len(&self) -> usize
         ensures len { result ≡ length self.now }
         ensures few { length self.now ≤ 65536 }
@@ -115,14 +115,14 @@ impl Table {
         self.rows.len()
     }
 
-    /// The row of a number.
+    /// Returns a request by its number.
     pub fn get(&self, r: u32) -> Option<Row>
         ensures { result ≡ slice_get self.now r }
     {
         self.rows.get(r as usize).copied()
     }
 
-    /// The row of a number that has one.
+    /// Returns a request that is known to be present.
     pub fn row(&self, r: u32) -> Row
         requires { r < length self.now }
         ensures { slice_get self.now r ≡ Some result }
@@ -136,7 +136,7 @@ impl Table {
         &self.rows
     }
 
-    /// The phase of a row.
+    /// Returns the phase of a request.
     pub fn phase(&self, r: u32) -> Option<Phase>
         ensures { result ≡ option_map (λ row. row.phase) (slice_get self.now r) }
     {
@@ -146,7 +146,7 @@ impl Table {
         }
     }
 
-    /// The opcode of a row.
+    /// Returns the opcode of a request.
     pub fn opcode(&self, r: u32) -> Option<u8>
         ensures { result ≡ option_map (λ row. row.entry.opcode) (slice_get self.now r) }
     {
@@ -156,14 +156,14 @@ impl Table {
         }
     }
 
-    /// Which descriptors issued rows hold. It takes constant time.
+    /// Returns which descriptors are held by issued requests, in constant time.
     pub fn held(&self) -> &Held
         ensures { (fd : ℕ) → is_held result.now fd ≡ is_held_by self.now fd }
     {
         &self.held
     }
 
-    /// Whether a row may be issued. It takes constant time.
+    /// Returns whether the request may be issued, in constant time.
     pub fn eligible(&self, r: u32) -> bool
         requires guards { GuardsFollow self.now }
         ensures { result ≡ is_eligible self.now r }
@@ -171,7 +171,7 @@ impl Table {
         self.index.is_eligible(&self.rows, r as usize)
     }
 
-    /// The least row from a number on that hasn't ended. It takes constant time.
+    /// Returns the first unfinished request from a number on, in constant time.
     pub fn next_unfinished(&self, from: u32) -> Option<u32>
         ensures some { IfSome result (λ r. IsNextWhere is_open self.now from r) }
         ensures none { IfNone result (NoneWhere is_open self.now from) }
@@ -183,7 +183,7 @@ impl Table {
         }
     }
 
-    /// The least issued row from a number on. It takes constant time.
+    /// Returns the first issued request from a number on, in constant time.
     pub fn next_issued(&self, from: u32) -> Option<u32>
         ensures value { result ≡ next_issued self.now from }
         ensures some { IfSome result (λ r. IsNextIssued self.now from r) }
@@ -196,10 +196,10 @@ impl Table {
         }
     }
 
-    /// The least row from a number on that is an issued TIMEOUT for which as many completions were
-    /// counted as it waits for. Where there is none it takes constant time; where there is one, it
-    /// looks at the blocks of 256 thresholds and at the one block in which it stands, whatever has
-    /// been issued or ended.
+    /// Returns the first issued TIMEOUT, from a number on, that waits for a count of completions
+    /// that `total` has reached. Takes constant time if there is none. Otherwise it reads the
+    /// minimum of each block of 256 thresholds, and searches the blocks whose minimum `total` has
+    /// reached.
     pub fn next_met(&self, total: u32, from: u32) -> Option<u32>
         requires { total < 2 ^ 32 - 1 }
         ensures some { IfSome result (λ r. IsNextMet self.now total from r) }
@@ -212,15 +212,15 @@ impl Table {
         }
     }
 
-    /// The later rows of a row's unit that haven't ended, in the order of their numbers; none where
-    /// there is no such row. It takes time by how many rows the unit has.
+    /// Returns the later requests of r's chain that have not completed, by ascending number; none
+    /// if there is no request r. Takes time linear in the length of the chain.
     pub fn rest_of(&self, r: u32) -> Result<Vec<u32>, AllocError>
         ensures { IfOk result (λ rest. rest.items ≡ rest_of_unit self.now r) }
     {
         rest_in(self.allocator(), &self.rows, r as usize)
     }
 
-    /// Adds a row behind the others.
+    /// Adds a request at the end. If an allocation fails, the table is unchanged.
     pub fn push(&mut self, row: Row, notes: &mut Recorder) -> Result<(), AllocError>
         requires room { length self.old < 65536 }
         requires goes_on { GoesOn self.old row }
@@ -245,7 +245,7 @@ impl Table {
         Ok(())
     }
 
-    /// Moves a row to a phase.
+    /// Sets the phase of a request.
     pub fn set_phase(
         &mut self,
         r: u32,
@@ -270,8 +270,8 @@ impl Table {
         Ok(())
     }
 
-    /// Issues a row, which holds a descriptor from now on, or none, with its deadline, and what was
-    /// counted before.
+    /// Issues a request. It holds the descriptor, if one is given, until it completes. `base` is
+    /// the number of completions counted so far.
     pub fn issue(
         &mut self,
         r: u32,
@@ -307,7 +307,7 @@ impl Table {
         Ok(())
     }
 
-    /// Writes a row over the one of a number.
+    /// Replaces a request, and updates the counts and the index.
     fn set(&mut self, r: usize, after: Row)
         requires { option_map fixed_of (slice_get self.old r) ≡ Some (fixed_of after) }
         ensures { self.new ≡ slice_set self.old r after }
@@ -318,7 +318,8 @@ impl Table {
         self.index.update(&self.rows, r);
     }
 
-    /// Drops the rows from a number on. It takes no memory, and time by the rows that it drops.
+    /// Drops the requests from a number on, without an allocation, in time linear in how many they
+    /// are.
     pub fn truncate(&mut self, n: usize)
         ensures { self.new ≡ take n self.old }
     {
@@ -329,7 +330,7 @@ impl Table {
         }
     }
 
-    /// A table of the same rows.
+    /// Copies the table.
     pub fn copy(&self, alloc: Global) -> Result<Table, AllocError>
         ensures { IfOk result (λ table. table ≡ self.now) }
     {
@@ -341,9 +342,9 @@ impl Table {
     }
 }
 
-/// The same rows, copied in pieces. callgrind counts `rep movsb` as an instruction a byte, by which
-/// glibc copies from a length on that goes by the processor, 2,048 bytes at least. Pieces stay
-/// below it: they change what is counted, and not the time.
+/// Copies the rows in pieces. glibc copies more than 2,048 bytes or so, depending on the processor,
+/// with `rep movsb`, which callgrind counts as an instruction per byte. Smaller pieces keep the
+/// counts comparable, and take the same time.
 fn copy_rows(alloc: Global, rows: &[Row]) -> Result<Vec<Row>, AllocError>
     ensures { IfOk result (λ copy. copy.items ≡ rows.now) }
 {
@@ -357,8 +358,8 @@ fn copy_rows(alloc: Global, rows: &[Row]) -> Result<Vec<Row>, AllocError>
     Ok(copy)
 }
 
-/// The row that an entry becomes as it is submitted, in the unit of a number, with its time and the
-/// row that it guards.
+/// Builds the queued request of an entry. `unit` is the number of the chain's first request, `time`
+/// the timeout read from memory, and `target` the request that a linked timeout limits.
 pub fn new_row(entry: Sqe, unit: u32, time: Option<u128>, target: Option<u32>) -> Row
     ensures { result ≡ new_row_of entry unit time target }
 {

@@ -1,4 +1,4 @@
--- Rows that end at once are as if they ended one after the other.
+-- To complete requests at once is the same as to complete them one after the other.
 use Rattle.std.proofs.Common.{◌≡◌, ℕ, ℤ, Bool, true, false, cond, refl, sym, ◌∙◌, ap, List, [], ◌∷◌, length, ◌+◌, arith}
 use Rattle.std.proofs.lemmas.Bool.{eqb-true}
 use Rattle.std.specs.Prelude.{Option, Some, None, option_map, slice_get, not, ◌==◌}
@@ -27,10 +27,9 @@ use Rattle.machine.proofs.GuardLemmas.{here}
 use Rattle.machine.proofs.MappedRows.{mapped_at}
 use Rattle.machine.proofs.PostedTogether.{none_posted, posted_together}
 
--- ---- machines that post
+-- ---- Machines that can post
 
--- What posting asks of a machine: where completions go is well formed, and the flags word tells
--- what it should.
+-- What posting requires of a machine: well-formed parts to post to, and a right flags word.
 pub record Posts (m : Machine) : Type 0 where
   pub delivery : DeliveryFormed (delivery m)
   pub flags : m.submissions.flags ≡ flag_word (is_asleep m.poller) (not (is_clear m.backlog))
@@ -38,7 +37,7 @@ pub record Posts (m : Machine) : Type 0 where
 pub posts : (m : Machine) → Mostly m → Posts m
 posts m f = record { delivery = delivers m f; flags = f.rings.flags }
 
--- as they are once the words of a submission are taken
+-- This holds after the words of a submission were consumed.
 pub taken_posts : (m : Machine) (k : ℕ) → WellFormed m → Posts (taken m k)
 taken_posts m k f = record { delivery = record { completions = f.mostly.rings.completions; waits = f.mostly.rings.completions_wait; front = f.mostly.kept.front }; flags = f.mostly.rings.flags }
 
@@ -51,13 +50,13 @@ ended_posts m r res h = record {
       told;
 }
 
--- ---- one row ended
+-- ---- One request completes
 
--- the change of a row that ends with a result
+-- A request after it completed.
 abbrev ending : ℤ → Row → Row
 ending res row = record row { phase = Ended res }
 
--- what its end leaves of rows
+-- Fields that the completion of a request doesn't change.
 left_alone : {X : Type 0} (f : Row → X) (rows : List Row) (r j : ℕ) (res : ℤ) → ((row : Row) → f (ending res row) ≡ f row) → option_map f (slice_get (updated (ending res) rows r) j) ≡ option_map f (slice_get rows j)
 left_alone {X} f rows r j res same = ap (option_map f) (get-updated (ending res) rows r j) ∙ by (r == j) (slice_get rows j)
   where
@@ -66,7 +65,7 @@ left_alone {X} f rows r j res same = ap (option_map f) (get-updated (ending res)
     by true None = refl
     by true (Some row) = ap Some (same row)
 
--- the completions of those that end later
+-- The completions of requests that complete later.
 same_completions : (rows : List Row) (r : ℕ) (res : ℤ) (es : List Ending) → completions_of (updated (ending res) rows r) es ≡ completions_of rows es
 same_completions rows r res [] = refl
 same_completions rows r res (e ∷ es) =
@@ -77,7 +76,7 @@ mapped_or : (o : Option Row) → option_map_or counts o false ≡ option_map_or 
 mapped_or None = refl
 mapped_or (Some row) = refl
 
--- whether they count
+-- Whether they count for TIMEOUTs.
 same_counts : (rows : List Row) (r j : ℕ) (res : ℤ) → option_map_or counts (slice_get (updated (ending res) rows r) j) false ≡ option_map_or counts (slice_get rows j) false
 same_counts rows r j res =
     mapped_or (slice_get (updated (ending res) rows r) j) ∙ ap (λ o. option_map_or (λ (b : Bool). b) o false) (left_alone counts rows r j res (λ row. refl)) ∙ sym (mapped_or (slice_get rows j))
@@ -101,7 +100,7 @@ count_same : (o : Option Row) → count_of o ≡ cond (option_map_or counts o fa
 count_same None = refl
 count_same (Some row) = refl
 
--- a row that has ended ends no more
+-- A completed request doesn't complete again.
 listed_once : (rows : List Row) (es : List Ending) (r : ℕ) (row : Row) → CanEnd rows es → slice_get rows r ≡ Some row → is_ended row.phase ≡ true → result_in es r ≡ None
 listed_once rows [] r row h g u = refl
 listed_once rows (e ∷ es) r row h g u = by (e.0 == r) refl (λ k. listed_once (updated (ending e.1) rows e.0) es r row h.3 k u)
@@ -112,7 +111,7 @@ listed_once rows (e ∷ es) r row h g u = by (e.0 == r) refl (λ k. listed_once 
         absurd (let z : false ≡ true = sym h.2 ∙ ap (λ (x : Row). is_ended x.phase) same ∙ u in cc)
     by false k more = more (get-updated (ending e.1) rows e.0 r ∙ ap (λ b. cond b (option_map (ending e.1) (slice_get rows r)) (slice_get rows r)) k ∙ g)
 
--- ---- the first row, and then the others
+-- ---- The first request, then the others
 
 same_rows : (rows : List Row) (e : Ending) (es : List Ending) → CanEnd rows (e ∷ es) → map_numbered (ended_by es) (updated (ending e.1) rows e.0) ≡ map_numbered (ended_by (e ∷ es)) rows
 same_rows rows e es h = same_list _ _ (λ i. mapped_at (ended_by es) (updated (ending e.1) rows e.0) i ∙ ap (option_map (λ row. ended_by es i row)) (get-updated (ending e.1) rows e.0 i) ∙ by i (e.0 == i) refl (slice_get rows i) ∙ sym (mapped_at (ended_by (e ∷ es)) rows i))
@@ -134,7 +133,7 @@ same_rows rows e es h = same_list _ _ (λ i. mapped_at (ended_by es) (updated (e
         ∙ sym (ap (λ c. Some (option_map_or (λ res. ending res row) (cond c (Some e.1) (result_in es i)) row)) k)
     by i false k (Some row) = sym (ap (λ c. Some (option_map_or (λ res. ending res row) (cond c (Some e.1) (result_in es i)) row)) k)
 
--- the machine with other rows and completions
+-- The machine with other requests and completions.
 abbrev made : Machine → Delivery → List Row → ℕ → Machine
 made m d rows n = record (with_delivery m d) { table = rows; counted = n }
 
@@ -168,7 +167,7 @@ none_ended m h =
     by i None = refl
     by i (Some row) = refl
 
--- rows that can end one after the other might as well end at once
+-- Requests that can complete one after the other may complete at once.
 pub at_once : (m : Machine) (es : List Ending) → Posts m → CanEnd m.table es → all_ended m es ≡ ended_in_turn m es
 at_once m [] h k = none_ended m h
 at_once m (e ∷ es) h k = sym (first_ended m e es h k) ∙ at_once (ended m e.0 e.1) es (ended_posts m e.0 e.1 h) k.3

@@ -1,4 +1,4 @@
--- What ends by a cancel: unfinished rows, in the order of their numbers.
+-- A cancellation completes unfinished requests, by ascending number.
 use Rattle.std.proofs.Common.{◌≡◌, ℕ, zero, suc, Bool, true, false, not, cond, refl, sym, ◌∙◌, ap, subst, List, [], ◌∷◌, ◌++◌, length, map, ◌+◌, ◌<◌, ◌≤◌, le_refl, arith}
 use Rattle.std.specs.Prelude.{Option, Some, None, option_map, slice_get, ◌==◌, ◌&&◌, nat_lt, if◌then◌else◌}
 use Rattle.std.specs.List.{filter, enumerate_from}
@@ -23,9 +23,9 @@ use Rattle.machine.specs.Cancels.{Verdict, key_of, takes_all, on_found, on_all, 
 less_of : (a b : ℕ) → nat_lt a b ≡ true → a < b
 less_of a b k = grind (arith, nat_tests, k)
 
--- ---- endings in order
+-- ---- Sorted completions
 
--- Endings of unfinished rows, in the order of their numbers, from one number on and below another.
+-- Completions of unfinished requests, by ascending number, in a range of numbers.
 abbrev Rises : List Row → ℕ → ℕ → List Ending → Type 0
 Rises rows from to [] = from ≤ to
 Rises rows from to (e ∷ es) = (x : Row) × (slice_get rows e.0 ≡ Some x) × (is_unfinished x.phase ≡ true) × (from ≤ e.0) × Rises rows (e.0 + 1) to es
@@ -61,9 +61,9 @@ rises_order rows a b (d ∷ es) h (suc i) (suc j) p q k g l = rises_order rows (
 rises_direct : (rows : List Row) (a b : ℕ) (es : List Ending) → Rises rows a b es → Direct rows es
 rises_direct rows a b es h = record { each = rises_each rows a b es h; rising = rises_order rows a b es h }
 
--- ---- the rows that end by another
+-- ---- The canceled requests
 
--- Unfinished rows, in the order of their numbers, from one on.
+-- Unfinished requests, by ascending number, from a number on.
 abbrev Others : List Row → ℕ → List ℕ → Type 0
 Others rows from [] = Unit {0}
 Others rows from (r ∷ rs) = (x : Row) × (slice_get rows r ≡ Some x) × (is_unfinished x.phase ≡ true) × (from ≤ r) × Others rows (r + 1) rs
@@ -102,12 +102,12 @@ direct_around rows me x v e u o =
     (rises_join rows 0 me (length rows) (canceled (λ r. nat_lt r me) v.1) ((me, v.0) ∷ canceled (λ r. nat_lt me r) v.1) (rises_before rows me 0 v.1 o (omega arith))
     (x, e, ap not u, le_refl me, rises_behind rows me (me + 1) 0 v.1 o (omega (arith, within)) (λ r a b. omega (arith, b))))
 
--- ---- rows that match
+-- ---- Requests that match
 
 abbrev number : ℕ × Row → ℕ
 number p = p.0
 
--- the rows that pass a test, which unfinished ones alone pass
+-- The rows that pass a test that only unfinished ones pass.
 others_from : (all : List Row) (test : ℕ × Row → Bool) → ((p : ℕ × Row) → test p ≡ true → is_unfinished p.1.phase ≡ true) → (n : ℕ) (rows : List Row) → ((i : ℕ) (x : Row) → slice_get rows i ≡ Some x → slice_get all (n + i) ≡ Some x)
     → Others all n (map number (filter test (enumerate_from n rows)))
 others_from all test going n [] there = tt
@@ -122,7 +122,7 @@ others_from all test going n (row ∷ rows) there =
     by true k rest = (row, here, going (n, row) k, le_refl n, rest)
     by false k rest = others_less all n (n + 1) (map number (filter test (enumerate_from (n + 1) rows))) (omega arith) rest
 
--- an element that passes a test is one of the list
+-- An item that passes a filter's test is in the list.
 passing : {X : Type 0} (test : X → Bool) (xs : List X) (i : ℕ) (x : X) → slice_get (filter test xs) i ≡ Some x → (j : ℕ) × (slice_get xs j ≡ Some x) × (test x ≡ true)
 passing test [] i x h = absurd cc
 passing {X} test (y ∷ ys) i x h = by (test y) refl i h (λ k g. passing test ys k x g)
@@ -133,7 +133,7 @@ passing {X} test (y ∷ ys) i x h = by (test y) refl i h (λ k g. passing test y
     by true e (suc k) g more = let m = more k g in (suc m.0, m.1, m.2)
     by false e k g more = let m = more k g in (suc m.0, m.1, m.2)
 
--- the first row that passes a test
+-- The first row that passes a test.
 first_there : (rows : List Row) (test : ℕ × Row → Bool) (p : ℕ × Row) → slice_get (filter test (enumerate_from 0 rows)) 0 ≡ Some p → (slice_get rows p.0 ≡ Some p.1) × (test p ≡ true)
 first_there rows test p h = let m = passing test (enumerate_from 0 rows) 0 p h in by m.0 (slice_get rows m.0) refl (sym (enumerated rows m.0) ∙ m.1) m.2
   where
@@ -172,11 +172,11 @@ others_of rows w me entry = by (takes_all entry)
     by true = others_waiting rows w (key_of entry) me
     by false = others_found rows w (key_of entry) me
 
--- a row that ends, with those that end by it, is what a step can end of itself
+-- A cancellation and the requests that it cancels are valid direct completions.
 pub direct_cancel : (rows : List Row) (w : WorldState) (me : ℕ) (entry : Sqe) (x : Row) → slice_get rows me ≡ Some x → is_ended x.phase ≡ false → Direct rows (ending_with me (verdict_of rows w me entry))
 direct_cancel rows w me entry x e u = direct_around rows me x (verdict_of rows w me entry) e u (others_of rows w me entry)
 
--- ---- how many they are
+-- ---- How many there are
 
 few_from : (test : ℕ × Row → Bool) (n : ℕ) (rows : List Row) → length (map number (filter test (enumerate_from n rows))) ≤ length rows
 few_from test n [] = omega arith
@@ -187,6 +187,6 @@ few_from test n (row ∷ rows) = by (test (n, row)) (few_from test (n + 1) rows)
     by true k = omega (arith, k)
     by false k = omega (arith, k)
 
--- no more rows wait than there are
+-- At most as many requests wait as there are.
 pub few_waiting : (rows : List Row) (w : WorldState) (key : Key) (me : ℕ) → length (waiting_by rows w key me) ≤ length rows
 few_waiting rows w key me = few_from (λ p. is_waiting_match w key me p.0 p.1) 0 rows

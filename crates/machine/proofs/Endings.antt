@@ -1,4 +1,4 @@
--- Rows that end one after the other.
+-- Requests that complete one after the other.
 use Rattle.std.proofs.Common.{◌≡◌, ℕ, ℤ, zero, suc, Bool, true, false, cond, refl, sym, ◌∙◌, ap, subst, List, [], ◌∷◌, ◌++◌, length, drop, ◌+◌, ◌<◌, ◌≤◌, ◌^◌, ◌⊎◌, inl, inr, length-append, arith}
 use Rattle.std.proofs.lemmas.List.{length-drop}
 use Rattle.std.specs.Prelude.{Option, Some, None, option_map, slice_get, ◌==◌}
@@ -27,7 +27,8 @@ pub ended_in_turn-more : (m : Machine) (ps : List (ℕ × ℤ)) (p : ℕ × ℤ)
 ended_in_turn-more m [] p = refl
 ended_in_turn-more m (q ∷ ps) p = ended_in_turn-more (ended m q.0 q.1) ps p
 
--- What holds while rows end: some have ended, and no more was posted or counted than they.
+-- The invariant while the listed requests complete: at most as many completions were posted or
+-- counted.
 pub record Ending (m : Machine) (cs : List Change) (n : Machine) (ds : List Change) (ps : List (ℕ × ℤ)) : Type 0 where
   pub ended : n ≡ ended_in_turn m ps
   pub grows : Grows m n
@@ -37,7 +38,7 @@ pub record Ending (m : Machine) (cs : List Change) (n : Machine) (ds : List Chan
   pub counted : n.counted ≤ m.counted + length ps
   pub rows : length n.table ≡ length m.table
 
--- a row has one completion at most, and counts once at most
+-- A request has at most one completion, and counts at most once.
 posted_most : (m : Machine) (o : Option Row) (res : ℤ) → length (all_posted (delivery m) (completion_at o res)).backlog.items ≤ length m.backlog.items + 1
 posted_most m None res =
     let none : List Cqe = [] in
@@ -81,14 +82,14 @@ ending_on m cs n ds ps p n' es h e g k =
       rows = ap (λ (x : Machine). length x.table) e ∙ ended_length n p.0 p.1 ∙ h.rows;
     }
 
--- ---- rows that can end
+-- ---- Requests that can complete
 
--- Each row of a list is unfinished as its turn to end comes.
+-- Each listed request is unfinished when its turn comes.
 abbrev pub CanEnd : List Row → List (ℕ × ℤ) → Type 0
 CanEnd rows [] = Unit {0}
 CanEnd rows (p ∷ ps) = (x : Row) × (slice_get rows p.0 ≡ Some x) × (is_ended x.phase ≡ false) × CanEnd (updated (λ row. record row { phase = Ended p.1 }) rows p.0) ps
 
--- there are no more of them than unfinished rows
+-- There are at most as many as unfinished requests.
 pub can_end_most : (rows : List Row) (ps : List (ℕ × ℤ)) → CanEnd rows ps → ended_of rows + length ps ≤ length rows
 can_end_most rows [] h = omega (arith, ended-le-length rows)
 can_end_most rows (p ∷ ps) h =
@@ -97,13 +98,13 @@ can_end_most rows (p ∷ ps) h =
     let b = length-updated (λ (row : Row). record row { phase = Ended p.1 }) rows p.0 in
     omega (arith, k, a, b)
 
--- rows in rising order, all of which are unfinished
+-- Unfinished requests, by ascending number.
 pub record Rising (rows : List Row) (from : ℕ) (ps : List (ℕ × ℤ)) : Type 0 where
   pub each : (i : ℕ) (p : ℕ × ℤ) → slice_get ps i ≡ Some p → (x : Row) × (slice_get rows p.0 ≡ Some x) × (is_ended x.phase ≡ false)
   pub above : (i : ℕ) (p : ℕ × ℤ) → slice_get ps i ≡ Some p → from ≤ p.0
   pub less : (i j : ℕ) (p q : ℕ × ℤ) → slice_get ps i ≡ Some p → slice_get ps j ≡ Some q → i < j → p.0 < q.0
 
--- the room that they need
+-- The backlog has room for them.
 pub can_end_room : (m : Machine) (ps : List (ℕ × ℤ)) → Mostly m → CanEnd m.table ps → length m.backlog.items + length ps ≤ 65536
 can_end_room m ps f h = let k = can_end_most m.table ps h in omega (arith, k, f.kept.overflowed, f.table.few)
 
@@ -142,7 +143,7 @@ pub world_ended_in_turn : (m : Machine) (ps : List (ℕ × ℤ)) → (ended_in_t
 world_ended_in_turn m [] = refl
 world_ended_in_turn m (p ∷ ps) = world_ended_in_turn (ended m p.0 p.1) ps
 
--- a row that ends is ended, and no other changes
+-- A completed request is completed, and no other changes.
 one_ended : (rows : List Row) (r : ℕ) (res : ℤ) (j : ℕ) (y : Row) → slice_get (updated (λ row. record row { phase = Ended res }) rows r) j ≡ Some y → ((slice_get rows j ≡ Some y) × ((r == j) ≡ false)) ⊎ (is_ended y.phase ≡ true)
 one_ended rows r res j y h = by (r == j) refl (sym (get-updated (λ (row : Row). record row { phase = Ended res }) rows r j) ∙ h)
   where
@@ -166,7 +167,7 @@ ended_in_turn_rows m (p ∷ ps) j y h = by (ended_in_turn_rows (ended m p.0 p.1)
     by (inl a) = at a.1 (one_ended m.table p.0 p.1 j y a.0)
     by (inr a) = inr a
 
--- a row that isn't listed stays
+-- A request that isn't listed doesn't change.
 pub ended_in_turn_stays : (m : Machine) (ps : List (ℕ × ℤ)) (j : ℕ) → result_in ps j ≡ None → slice_get (ended_in_turn m ps).table j ≡ slice_get m.table j
 ended_in_turn_stays m [] j h = refl
 ended_in_turn_stays m (p ∷ ps) j h = by (p.0 == j) refl h (ended_in_turn_stays (ended m p.0 p.1) ps j)

@@ -1,4 +1,4 @@
--- What an Enter finds, and what room completions have.
+-- Lemmas about Enter, and about events that need a request.
 use Rattle.std.proofs.Common.{◌≡◌, ℕ, Bool, true, false, cond, refl, sym, ◌∙◌, ap, List, [], ◌∷◌, length, ◌+◌, ◌<◌, ◌≤◌, arith}
 use Rattle.std.specs.Result.{OnOk}
 use Rattle.std.specs.Prelude.{Option, Some, None, Result, Ok, Err, not, ◌&&◌, ◌||◌, nat_lt, slice_get, slice_set, if◌then◌else◌}
@@ -28,7 +28,7 @@ use Rattle.scenario.specs.declared.event.Refusal.TheVariants.{WrongPhase, NotEli
 use Rattle.machine.proofs.IssuingRows.{started_at_once}
 use Rattle.machine.proofs.TakingWords.{lt-ltb}
 
--- nothing kept stands in the way of a submission, once there was a flush
+-- After a flush, no overflowed completion prevents the submission.
 pub alone_told : (m : Machine) (k flags : ℕ) → is_busy (flushed m) k ≡ false → submission_refusal m k ≡ alone_refusal m k flags
 unfolding sub_list
 alone_told m k flags h = by (gets_events flags) (nat_lt 0 k) h
@@ -38,7 +38,7 @@ alone_told m k flags h = by (gets_events flags) (nat_lt 0 k) h
     by false true e = sym (ap (λ c. cond c None (submission_refusal (flushed m) k)) e)
     by false false e = refl
 
--- or something does
+-- Overflowed completions remain and prevent it.
 pub busy_refused : (m : Machine) (k flags : ℕ) → is_busy (flushed m) k ≡ true → None ≡ alone_refusal m k flags
 busy_refused m k flags h = by (gets_events flags) (nat_lt 0 k) h
   where
@@ -48,9 +48,9 @@ busy_refused m k flags h = by (gets_events flags) (nat_lt 0 k) h
     by false true e = sym (ap (λ c. cond c None (submission_refusal (flushed m) k)) e)
     by false false e = absurd cc
 
--- ---- answers
+-- ---- Results
 
--- flags that are unknown
+-- Unknown flags.
 pub unknown_told : (m : Machine) (t k w flags : ℕ) → 3 < flags → answered m t einval ≡ entered m m.poller t k w flags
 unknown_told m t k w flags h = by m.poller
   where
@@ -61,7 +61,7 @@ unknown_told m t k w flags h = by m.poller
     by None = sym (ap (λ b. cond b (answered m t einval) (entered_alone m t k w flags)) unknown)
     by (Some p) = sym (ap (λ b. cond b (answered m t einval) (entered_beside m t k w flags)) unknown)
 
--- completions that are kept
+-- Overflowed completions.
 pub busy_told : (m n : Machine) (t k w flags : ℕ) → n ≡ before_submission m k flags → 0 < k → is_clear n.backlog ≡ false → answered n t ebusy ≡ entered_alone m t k w flags
 busy_told m n t k w flags e l h =
     sym (ap (λ b. cond b (answered n t ebusy) (awaited (submitted n k) t (length (entries_for n k)) k w flags)) busy) ∙ ap (λ (x : Machine). submitting x t k w flags) e
@@ -69,13 +69,13 @@ busy_told m n t k w flags e l h =
     busy : is_busy n k ≡ true
     busy = rw (lt-ltb 0 k l, h) refl
 
--- said of the answer that follows
+-- The same, for the result of a function.
 pub busy_answer : {T E : Type 0} (r : Result T E) (m n : Machine) (ts : List ThreadState) (t k w flags : ℕ) → n ≡ before_submission m k flags → 0 < k → is_clear n.backlog ≡ false
     → OnOk r (ts ≡ updated (λ x. record x { counter = x.counter + 1; last = ebusy; stage = Ready }) n.threads t) → OnOk r (record n { threads = ts } ≡ entered_alone m t k w flags)
 busy_answer (Ok x) m n ts t k w flags e l h o = ap (λ us. record n { threads = us }) o ∙ busy_told m n t k w flags e l h
 busy_answer (Err x) m n ts t k w flags e l h o = o
 
--- a row that can be finished is there, and unfinished
+-- A request that can finish is present and unfinished.
 pub finished_row : (m : Machine) (r : ℕ) (c : Choice) → finish_refusal (is_held_by m.table) m.world (slice_get m.table r) c ≡ None → (x : Row) × (slice_get m.table r ≡ Some x) × (is_ended x.phase ≡ false)
 finished_row m r c h = by (slice_get m.table r) refl h
   where
@@ -92,7 +92,7 @@ finished_row m r c h = by (slice_get m.table r) refl h
     by None e k = absurd cc
     by (Some x) e k = timing x e (is_timer x.entry.opcode) k
 
--- A row that can be issued is there, queued, and may be.
+-- A request that can be issued is present and queued.
 pub record CanStart (m : Machine) (r : ℕ) : Type 0 where
   pub row : Row
   pub there : slice_get m.table r ≡ Some row
@@ -115,7 +115,7 @@ can_start m r h = by (slice_get m.table r) refl h
     by None e k = absurd cc
     by (Some x) e k = at x e x.phase refl k
 
--- a row that expires is there, and issued
+-- A request that can expire is present and issued.
 pub expired_row : (m : Machine) (r : ℕ) → expire_refusal m.clock (slice_get m.table r) ≡ None → (x : Row) × (slice_get m.table r ≡ Some x) × (x.phase ≡ Issued)
 expired_row m r h = by (slice_get m.table r) refl h
   where
@@ -135,13 +135,13 @@ expired_row m r h = by (slice_get m.table r) refl h
 pub backlog_most : (m : Machine) → WellFormed m → length m.backlog.items ≤ length m.table
 backlog_most m f = let a = ended-le-length m.table in let b = f.mostly.kept.overflowed in omega (arith, a, b)
 
--- ---- a row that is issued
+-- ---- Issuing a request
 
--- changes that are one at the element that is there
+-- Two functions that agree on an item change the list in the same way.
 updated_alike : {X : Type 0} (f g : X → X) (xs : List X) (i : ℕ) (x : X) → slice_get xs i ≡ Some x → f x ≡ g x → updated f xs i ≡ updated g xs i
 updated_alike f g xs i x h e = updated_set f xs i x h ∙ ap (slice_set xs i) e ∙ sym (updated_set g xs i x h)
 
--- a row that holds, is due and is based as it should be is issued
+-- A request that has its descriptor, deadline and count is issued.
 pub started_told : {T E : Type 0} (res : Result T E) (rows news : List Row) (c n r : ℕ) (x : Row) (held due : Option ℕ) (base : ℕ) → slice_get rows r ≡ Some x → held ≡ held_by x → due ≡ deadline_of c x → base ≡ base_of n x
     → OnOk res (news ≡ updated (λ row. record row { phase = Issued; held = held; deadline = due; base = base }) rows r) → OnOk res (news ≡ updated (started c n) rows r)
 started_told (Err e) rows news c n r x held due base h k d b o = o
@@ -149,12 +149,12 @@ started_told (Ok y) rows news c n r x held due base h k d b o =
     o ∙ updated_alike _ _ rows r x h (ap (λ z. record x { phase = Issued; held = z; deadline = due; base = base }) k ∙ ap (λ z. record x { phase = Issued; held = held_by x; deadline = z; base = base }) d
     ∙ ap (λ z. record x { phase = Issued; held = held_by x; deadline = deadline_of c x; base = z }) b)
 
--- and so is the machine's
+-- The same for the machine's table.
 pub started_machine : {T E : Type 0} (res : Result T E) (m : Machine) (rows news : List Row) → OnOk res (rows ≡ news) → OnOk res (record m { table = rows } ≡ record m { table = news })
 started_machine (Err e) m rows news o = o
 started_machine (Ok y) m rows news o = ap (λ rs. record m { table = rs }) o
 
--- the machine once a row is issued, with its guard or alone
+-- The machine after a request was issued, with or without a linked timeout.
 pub issued_told : (m : Machine) (r : ℕ) (x : Row) (b : Bool) → AllGuardsStand m.table → slice_get m.table r ≡ Some x → lacks_descriptor m.world x ≡ false → option_map_or (is_guard_of r) (slice_get m.table (r + 1)) false ≡ b
     → record m { table = if b then updated (started m.clock m.counted) (updated (started m.clock m.counted) m.table r) (r + 1) else updated (started m.clock m.counted) m.table r } ≡ issued m r (slice_get m.table r)
 issued_told m r x b s h l k =

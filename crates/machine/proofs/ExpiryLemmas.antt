@@ -1,4 +1,4 @@
--- What ends as a row expires.
+-- The direct completions when a timer expires.
 use Rattle.std.proofs.Common.{◌≡◌, ℕ, Bool, true, false, refl, sym, ◌∙◌, ap, List, [], ◌∷◌, arith}
 use Rattle.std.specs.Prelude.{Option, Some, None, slice_get, ◌&&◌, if◌then◌else◌}
 use Rattle.entries.specs.declared.row.Row.{Row}
@@ -13,7 +13,7 @@ use Rattle.machine.specs.Whole.{WellFormed}
 use Rattle.machine.specs.declared.whole.Machine.{Machine}
 use Rattle.machine.proofs.FallenRows.{direct_two}
 
--- a target that waits is one of a guard
+-- Only a linked timeout has a target that waits.
 waiting_told : (rows : List Row) (w : WorldState) (x : Row) (o : Option ℕ) (t : ℕ) → waiting_target rows w x o ≡ Some t → (is_guard x ≡ true) × (o ≡ Some t)
 waiting_told rows w x None t h = absurd cc
 waiting_told rows w x (Some n) t h = by (is_guard x) (waits_at rows w n) refl h
@@ -23,7 +23,7 @@ waiting_told rows w x (Some n) t h = by (is_guard x) (waits_at rows w n) refl h
     by true false k g = absurd cc
     by false b k g = absurd cc
 
--- a guard ends behind its target
+-- The target comes before its linked timeout.
 pub direct_pair : (m : Machine) (r t : ℕ) (x : Row) → WellFormed m → slice_get m.table r ≡ Some x → x.phase ≡ Issued → waiting_target m.table m.world x x.target ≡ Some t → Direct m.table ((t, ecanceled) ∷ (r, etime) ∷ [])
 direct_pair m r t x f h q k =
     let w = waiting_told m.table m.world x x.target t k in

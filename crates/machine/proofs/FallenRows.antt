@@ -1,4 +1,4 @@
--- The rows that fall, and the machine once they have.
+-- The requests of a cascade, and the machine after it.
 use Rattle.std.proofs.Common.{◌≡◌, ℕ, ℤ, zero, suc, Bool, true, false, cond, refl, sym, ◌∙◌, ap, subst, List, [], ◌∷◌, length, ◌+◌, ◌*◌, ◌<◌, ◌≤◌, ◌⊎◌, inl, inr, arith}
 use Rattle.std.proofs.lemmas.Bool.{eq-eqb}
 use Rattle.std.proofs.lemmas.Option.{slice_get_within}
@@ -37,7 +37,7 @@ can_fall rows c direct = can_end rows 0 (fall_of rows c direct) (record {
   less = fall_rising rows c direct;
 })
 
--- they might as well end one after the other
+-- They may complete one after the other.
 pub fall_in_turn : (m : Machine) (direct : List (ℕ × ℤ)) → Posts m → fallen m direct ≡ ended_in_turn m (fall_of m.table m.counted direct)
 unfolding fallen
 fall_in_turn m direct h = at_once m (fall_of m.table m.counted direct) h (can_fall m.table m.counted direct)
@@ -46,7 +46,7 @@ pub threads_fallen : (m : Machine) (direct : List (ℕ × ℤ)) → (fallen m di
 unfolding fallen
 threads_fallen m direct = refl
 
--- each row that falls ends
+-- Each listed request completes.
 ended_all : (m : Machine) (ps : List (ℕ × ℤ)) → CanEnd m.table ps → ended_of (ended_in_turn m ps).table ≡ ended_of m.table + length ps
 ended_all m [] h = omega arith
 ended_all m (p ∷ ps) h =
@@ -54,7 +54,7 @@ ended_all m (p ∷ ps) h =
     let b = ended-ended m.table p.0 h.0 p.1 h.1 h.2 in
     omega (arith, a, b)
 
--- a row that ends of itself is among those that fall
+-- A direct completion is in the cascade's list.
 pub falls_some : (rows : List Row) (c r : ℕ) (res : ℤ) (x : Row) → slice_get rows r ≡ Some x → is_ended x.phase ≡ false → 1 ≤ length (fall_of rows c ((r, res) ∷ []))
 falls_some rows c r res x e u = by (fall_of rows c ((r, res) ∷ [])) refl
   where
@@ -65,7 +65,7 @@ falls_some rows c r res x e u = by (fall_of rows c ((r, res) ∷ [])) refl
     by [] k = absurd (let d = (unlisted rows c ((r, res) ∷ []) r x e (ap not u) (ap (λ ps. result_in ps r) k)).undirected in let z = sym d ∙ listed in cc)
     by (p ∷ ps) k = omega arith
 
--- a row that has ended waits for no count
+-- A completed request waits for no count.
 ended_unmet : (n : ℕ) (x : Row) → is_ended x.phase ≡ true → is_met n x ≡ false
 ended_unmet n x h = by x.phase refl h
   where
@@ -74,7 +74,7 @@ ended_unmet n x h = by x.phase refl h
     by Issued e k = absurd cc
     by (Ended res) e k = ap (λ q. (is_issued q && ((x.entry.opcode == 11) && nat_lt 0 x.entry.off)) && nat_le (x.base + x.entry.off) n) e
 
--- the TIMEOUTs whose count is met are among those that fall
+-- After a cascade, no issued TIMEOUT has reached its count.
 fallen_unmet : (m : Machine) (direct : List (ℕ × ℤ)) → NoneMet (fallen m direct).counted (fallen m direct).table
 unfolding fallen
 fallen_unmet m direct r x h = by (slice_get m.table r) refl (sym (mapped_at (ended_by falls) m.table r) ∙ h)
@@ -97,8 +97,8 @@ fallen_unmet m direct r x h = by (slice_get m.table r) refl (sym (mapped_at (end
     by None e k = absurd cc
     by (Some y) e k = let same : ended_by falls r y ≡ x = cc in ap (is_met total) (sym same) ∙ told y e (result_in falls r) refl
 
--- guards that stand behind their targets, but for some that a step ends of itself, do once rows
--- have fallen
+-- After a cascade, linked timeouts come after their targets, if all but the direct completions did
+-- before.
 guards_in_turn : (m : Machine) (direct : List (ℕ × ℤ)) → ((r : ℕ) (x : Row) → slice_get m.table r ≡ Some x → is_guard x ≡ true → is_unfinished x.phase ≡ true → result_in direct r ≡ None → GuardStands m.table r x) → AllGuardsStand (ended_in_turn m (fall_of m.table m.counted direct)).table
 guards_in_turn m direct h r x e g u = by (ended_in_turn_rows m falls r x e)
   where
@@ -112,7 +112,7 @@ guards_in_turn m direct h r x e g u = by (ended_in_turn_rows m falls r x e)
         let out = target_stays m.table m.counted direct r s.target x s.row k.0 u g s.is s.there (ap is_unfinished s.alike ∙ u) s.other k.1 in
         record { target = s.target; is = s.is; behind = s.behind; row = s.row; there = ended_in_turn_stays m falls s.target out ∙ s.there; other = s.other; unit = s.unit; alike = s.alike }
 
--- rows that aren't well formed end, if they are among those that a step ends of itself
+-- After a cascade, the machine is well formed, if only requests that complete directly weren't.
 formed_in_turn_but : (m : Machine) (direct : List (ℕ × ℤ)) → Mostly m → PutsWithin (65536 * (ended_of m.table + length (fall_of m.table m.counted direct))) m.world → ((j : ℕ) (y : Row) → slice_get m.table j ≡ Some y → RowFormed m.world y ⊎ ((res : ℤ) × (result_in direct j ≡ Some res)))
     → ((r : ℕ) (x : Row) → slice_get m.table r ≡ Some x → is_guard x ≡ true → is_unfinished x.phase ≡ true → result_in direct r ≡ None → GuardStands m.table r x) → WellFormed (ended_in_turn m (fall_of m.table m.counted direct))
 formed_in_turn_but m direct f puts h guards =
@@ -141,11 +141,11 @@ formed_fallen m direct f =
     formed_fallen_but m direct (mostly m f) (puts_more (65536 * ended_of m.table) (65536 * (ended_of m.table + length (fall_of m.table m.counted direct))) m.world (omega arith) f.puts) (λ j y e. inl (f.rows j y e))
     (λ r x e g u n. f.guards r x e g u)
 
--- each of them is a row
+-- Each listed number is that of a request.
 pub fall_within : (rows : List Row) (c : ℕ) (direct : List (ℕ × ℤ)) (i : ℕ) (p : ℕ × ℤ) → slice_get (fall_of rows c direct) i ≡ Some p → p.0 < length rows
 fall_within rows c direct i p h = let w = fall_unfinished rows c direct i p h in slice_get_within rows p.0 w.0 w.1
 
--- two rows that are unfinished, in their order
+-- Two unfinished requests, in order, are valid direct completions.
 pub direct_two : (rows : List Row) (t r : ℕ) (n res : ℤ) (y x : Row) → slice_get rows t ≡ Some y → is_ended y.phase ≡ false → slice_get rows r ≡ Some x → is_ended x.phase ≡ false → t < r → Direct rows ((t, n) ∷ (r, res) ∷ [])
 direct_two rows t r n res y x g v h u l = record { each = each; rising = rising }
   where
@@ -160,7 +160,7 @@ direct_two rows t r n res y x g v h u l = record { each = each; rising = rising 
     rising (suc i) (suc zero) p q e o k = absurd (omega (arith, k))
     rising i (suc (suc j)) p q e o k = absurd cc
 
--- one row that is unfinished is what a step can end of itself
+-- So is one unfinished request.
 pub direct_one : (rows : List Row) (r : ℕ) (res : ℤ) (x : Row) → slice_get rows r ≡ Some x → is_ended x.phase ≡ false → Direct rows ((r, res) ∷ [])
 direct_one rows r res x h u = record { each = each; rising = rising }
   where

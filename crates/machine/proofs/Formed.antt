@@ -1,4 +1,4 @@
--- Accepted events keep machines well formed.
+-- Accepted events preserve well-formedness.
 use Rattle.std.proofs.Common.{◌≡◌, ℕ, ℤ, zero, suc, pos, negsuc, Bool, true, false, cond, refl, sym, ◌∙◌, ap, List, [], ◌∷◌, length, ◌+◌, ◌*◌, ◌%◌, ◌<◌, ◌≤◌, ◌^◌, ◌⊎◌, inl, inr, arith, FitsSigned}
 use Rattle.std.specs.Prelude.{Option, Some, None, not, min, slice_get, slice_set, nat_lt, ◌==◌, ◌&&◌, ◌||◌, if◌then◌else◌}
 use Rattle.std.specs.Int.{w64}
@@ -56,7 +56,7 @@ use Rattle.machine.proofs.PipeCounts.{puts_fit}
 ltb_tells : (a b : ℕ) → ((ltb a b ≡ true) × (a < b)) ⊎ ((ltb a b ≡ false) × (b ≤ a))
 ltb_tells a b = elim (leb_tells (suc a) b) [ inl k ↦ inl (k.0, k.1) | inr k ↦ inr (k.0, let l = k.1 in omega arith) ]
 
--- ---- each event
+-- ---- Each event
 
 formed_tick : (m : Machine) (d : ℕ) → WellFormed m → refusal m (Tick d) ≡ None → WellFormed (after m (Tick d))
 formed_tick m d f h = record {
@@ -124,9 +124,9 @@ formed_finish m r c f h = by (slice_get m.table r) refl h
     by None e k = absurd cc
     by (Some x) e k = timing x e (is_timer x.entry.opcode) k
 
--- ---- each instruction
+-- ---- Each instruction
 
--- an accepted submission
+-- An accepted submission has room for its requests.
 submission_room : (m : Machine) (k : ℕ) → submission_refusal m k ≡ None → length m.table + length (offered m.submissions k) ≤ 65536
 submission_room m k h = by (ltb_tells 65536 (length m.table + length (offered m.submissions k)))
   where
@@ -138,7 +138,7 @@ submission_room m k h = by (ltb_tells 65536 (length m.table + length (offered m.
 pub formed_submission : (m : Machine) (k : ℕ) → WellFormed m → submission_refusal m k ≡ None → WellFormed (submitted m k)
 formed_submission m k f h = formed_submitted m k f (submission_room m k h)
 
--- the threads stay as a submission is done
+-- A submission doesn't change the threads.
 pub submitted_threads : (m : Machine) (k : ℕ) → (submitted m k).threads ≡ m.threads
 submitted_threads m k = threads_fallen (taken m k) (direct_of m.world (length m.table) (entries_for m k))
 
@@ -154,7 +154,7 @@ formed_answered m t x i n f e g l = formed_thread m (λ y. record y { counter = 
 formed_gone_on : (m : Machine) (t : ℕ) (x : ThreadState) (i : Instruction) → WellFormed m → slice_get m.threads t ≡ Some x → slice_get x.program x.counter ≡ Some i → x.stage ≡ Ready → WellFormed (gone_on m t)
 formed_gone_on m t x i f e g r = formed_thread m (λ y. record y { counter = y.counter + 1 }) t x f e (stands_on (length m.submissions.slots) x i x.stage x.last x.got (f.mostly.threads t x e) g r (f.mostly.threads t x e).last)
 
--- a thread that entered the kernel waits, or has its answer
+-- The machine after a thread's Enter: it waits, or has its result.
 formed_awaited : (m : Machine) (t : ℕ) (x : ThreadState) (n k w flags to_submit min_complete asked : ℕ) → WellFormed m → slice_get m.threads t ≡ Some x → slice_get x.program x.counter ≡ Some (Enter to_submit min_complete asked) → n < 2 ^ 32 → w < 2 ^ 32 → WellFormed (awaited m t n k w flags)
 formed_awaited m t x n k w flags to_submit min_complete asked f e g l l' = by (gets_events flags && ((n == k) && nat_lt (ready_count m) wanted))
   where
@@ -360,7 +360,7 @@ formed_take m n f h = by m.poller h
     by (Some Awake) k = formed_submission m n f k
     by (Some Asleep) k = absurd cc
 
--- an accepted event leaves a well formed machine
+-- An accepted event leaves a well-formed machine.
 pub formed_after : (m : Machine) (e : Event) → WellFormed m → refusal m e ≡ None → WellFormed (after m e)
 formed_after m (Step t) f h = formed_step m t f h
 formed_after m (Take n) f h = formed_take m n f h

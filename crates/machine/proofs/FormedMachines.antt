@@ -1,4 +1,4 @@
--- What each change of the machine keeps.
+-- Invariants that each change of the machine preserves.
 use Rattle.std.proofs.Common.{◌≡◌, ℕ, ℤ, pos, negsuc, Bool, true, false, cond, refl, sym, ◌∙◌, ap, subst, [], ◌∷◌, length, drop, ◌+◌, ◌*◌, ◌%◌, ◌<◌, ◌≤◌, ◌^◌, length-append, length-set, arith}
 use Rattle.std.proofs.lemmas.List.{length-drop}
 use Rattle.std.specs.Prelude.{List, Option, Some, None, option_map, nat_lt, nat_le, slice_get, slice_set, not, ◌==◌, ◌&&◌, ◌||◌, if◌then◌else◌}
@@ -43,9 +43,9 @@ mostly m h = h.mostly
 pub formed_of : (m : Machine) → Mostly m → PutsWithin (65536 * ended_of m.table) m.world → FormedRows m.world m.table → AllGuardsStand m.table → NoneMet m.counted m.table → WellFormed m
 formed_of m h puts k guards unmet = record { mostly = h; rows = k.each; guards = guards; unmet = unmet; puts = puts }
 
--- ---- completions
+-- ---- Completions
 
--- the flags word, with one flag set or cleared
+-- The flags word, after one flag was set or cleared.
 pub overflow_flag : (a b c : Bool) → with_flag (flag_word a b) CqOverflow c ≡ flag_word a c
 overflow_flag true true true = refl
 overflow_flag true true false = refl
@@ -66,11 +66,11 @@ wakeup_flag false true false = refl
 wakeup_flag false false true = refl
 wakeup_flag false false false = refl
 
--- where completions go
+-- The parts that receive completions are well formed.
 pub delivers : (m : Machine) → Mostly m → DeliveryFormed (delivery m)
 delivers m h = record { completions = h.rings.completions; waits = h.rings.completions_wait; front = h.kept.front }
 
--- completions are posted or flushed: the flags word tells whether some are kept
+-- After completions were posted or flushed, the flags word says whether some overflow.
 pub told_kept : (m : Machine) (b : BacklogState) → Mostly m → with_flag m.submissions.flags CqOverflow (not (is_clear b)) ≡ flag_word (is_asleep m.poller) (not (is_clear b))
 told_kept m b h = ap (λ f. with_flag f CqOverflow (not (is_clear b))) h.rings.flags ∙ overflow_flag (is_asleep m.poller) (not (is_clear m.backlog)) (not (is_clear b))
 
@@ -96,13 +96,13 @@ mostly_flushed m h =
 pub formed_flushed : (m : Machine) → WellFormed m → WellFormed (flushed m)
 formed_flushed m h = formed_of (flushed m) (mostly_flushed m (mostly m h)) h.puts (record { each = h.rows }) h.guards h.unmet
 
--- ---- a row ends
+-- ---- A request completes
 
 count_one : (n : ℕ) (b : Bool) → cond b (n + 1) n ≡ n + cond b 1 0
 count_one n true = refl
 count_one n false = omega arith
 
--- one completion adds one item at most
+-- One completion adds at most one item to the backlog.
 pub items_one : (d : Delivery) (c : Cqe) → length (all_posted d (c ∷ [])).backlog.items ≤ length d.backlog.items + 1
 items_one d c =
     let n = fits d.completions d.backlog 1 in
@@ -137,9 +137,9 @@ mostly_ended m r x res h e u =
       threads = h.threads;
     })
 
--- ---- a row is issued
+-- ---- A request is issued
 
--- a row that lacks no descriptor holds one once it is issued
+-- A request that lacks no descriptor holds one once it is issued.
 issued_holds : (w : WorldState) (x : Row) → lacks_descriptor w x ≡ false → uses_descriptor x.entry.opcode ≡ true → HoldsDescriptor w (record x { phase = Issued; held = held_by x })
 issued_holds w x l u = by x.entry.fd refl
   where
@@ -152,7 +152,7 @@ issued_holds w x l u = by x.entry.fd refl
 
     fits : (fd : ℕ) → x.entry.fd ≡ pos fd → (o : Option DescriptorState) → descriptor_of w fd ≡ o → is_usable x o ≡ true → HoldsDescriptor w (record x { phase = Issued; held = held_by x })
     fits fd e None g k = absurd cc
-    fits fd e (Some d) g k = record { fd = fd; held = ap (λ b. if b then number_in x.entry.fd else None) u ∙ ap number_in e; descriptor = d; there = g; fits = second d.is_open (fits_end x.entry.opcode d.end) k }
+    fits fd e (Some d) g k = record { fd = fd; held = ap (λ b. if b then number_in x.entry.fd else None) u ∙ ap number_in e; named = e; descriptor = d; there = g; fits = second d.is_open (fits_end x.entry.opcode d.end) k }
       where
         second : (a b : Bool) → (a && b) ≡ true → b ≡ true
         second true b h = h
@@ -162,11 +162,14 @@ issued_holds w x l u = by x.entry.fd refl
     by (pos fd) e = fits fd e (descriptor_of w fd) refl (sym (ap (λ n. is_usable x (descriptor_at w n)) e) ∙ usable)
     by (negsuc n) e = absurd (let k = sym (ap (λ n. is_usable x (descriptor_at w n)) e) ∙ usable in cc)
 
--- a row that is issued is well formed
+-- An issued request is well formed.
 started_row : (w : WorldState) (c n : ℕ) (x : Row) → is_ended x.phase ≡ false → lacks_descriptor w x ≡ false → RowFormed w x → RowFormed w (started c n x)
 started_row w c n x q l h = record {
   opcode = λ u. h.opcode (ap not q);
-  holds = λ i u. let d = issued_holds w x l u in record { fd = d.fd; held = d.held; descriptor = d.descriptor; there = d.there; fits = d.fits };
+  holds = λ i u. let d = issued_holds w x l u in record { fd = d.fd; held = d.held; named = d.named; descriptor = d.descriptor; there = d.there; fits = d.fits };
+  holds_none = λ i u. ap (λ b. if b then number_in x.entry.fd else None) u;
+  not_yet_held = λ z. absurd cc;
+  not_yet_due = λ z. absurd cc;
   time = λ u. h.time (ap not q);
   timed = λ u. h.timed (ap not q);
   due = λ i. deadline_timed c x;
@@ -189,7 +192,7 @@ mostly_started m r c n x h e q = record {
   threads = h.threads;
 }
 
--- Rows of which one is issued: none more has ended, and they are well formed.
+-- After a request was issued, no more have completed, and all are well formed.
 record Started (m : Machine) (rows : List Row) : Type 0 where
   mostly : Mostly (record m { table = rows })
   ended : ended_of rows ≡ ended_of m.table
@@ -207,7 +210,7 @@ started_one m rows r c n x s e q l = record {
         let same : x ≡ y = let o = sym e ∙ k in cc in
         subst (λ (z : Row). RowFormed m.world (started c n z)) same (started_row m.world c n x q l (s.formed.each r x e))
 
--- a guard uses no descriptor
+-- A linked timeout uses no descriptor.
 guard_lacks_none : (w : WorldState) (y : Row) → is_guard y ≡ true → lacks_descriptor w y ≡ false
 guard_lacks_none w y g = ap (λ n. uses_descriptor n && not (is_usable y (descriptor_at w y.entry.fd))) (eqb-true y.entry.opcode 15 g)
 
@@ -216,7 +219,7 @@ queued_not_ended Queued h = refl
 queued_not_ended Issued h = absurd cc
 queued_not_ended (Ended n) h = absurd cc
 
--- a TIMEOUT counts from the moment at which it is issued
+-- A TIMEOUT counts completions from when it is issued.
 started_alone_unmet : (c n : ℕ) (x : Row) → is_met n (started c n x) ≡ false
 started_alone_unmet c n x = by (x.entry.opcode == 11) (nat_lt 0 x.entry.off) refl
   where
@@ -225,7 +228,7 @@ started_alone_unmet c n x = by (x.entry.opcode == 11) (nat_lt 0 x.entry.off) ref
     by true false k = refl
     by false b k = refl
 
--- so that none is met as one is issued
+-- So issuing one leaves no issued TIMEOUT that has reached its count.
 started_unmet : (c n : ℕ) (rows : List Row) (r : ℕ) → NoneMet n rows → NoneMet n (all_started c n rows r)
 started_unmet c n rows r h i y e = at (slice_get rows i) refl (sym (mapped_at (started_with c n r) rows i) ∙ e)
   where
@@ -269,7 +272,7 @@ issued_in_turn m r x h e q plain l = by (slice_get m.table (r + 1)) refl
 pub formed_issued : (m : Machine) (r : ℕ) (x : Row) → WellFormed m → slice_get m.table r ≡ Some x → x.phase ≡ Queued → is_guard x ≡ false → lacks_descriptor m.world x ≡ false → WellFormed (record m { table = all_started m.clock m.counted m.table r })
 formed_issued m r x h e q plain l = subst (λ rows. WellFormed (record m { table = rows })) (sym (started_at_once m.clock m.counted m.table r h.guards)) (issued_in_turn m r x h e q plain l)
 
--- ---- the memory and the objects change
+-- ---- The memory and the objects change
 
 pub mostly_world : (m : Machine) (w : WorldState) → Mostly m → WorldFormed w → Mostly (record m { world = w })
 mostly_world m w h f = record { rings = h.rings; kept = h.kept; table = h.table; world = f; clock = h.clock; threads = h.threads }
@@ -280,7 +283,7 @@ rows_moved m w h s = formed_rows-moved m.world w m.table s (record { each = h.ro
 pub formed_world : (m : Machine) (w : WorldState) → WellFormed m → WorldFormed w → PutsWithin (65536 * ended_of m.table) w → OneWorldSetup m.world w → WellFormed (record m { world = w })
 formed_world m w h f puts s = formed_of (record m { world = w }) (mostly_world m w (mostly m h) f) puts (rows_moved m w h s) h.guards h.unmet
 
--- ---- words of the rings
+-- ---- Words of the rings
 
 pub formed_put : (m : Machine) (slot : ℕ) (entry : Sqe) → WellFormed m → WellFormed (record m { submissions = record m.submissions { slots = slice_set m.submissions.slots slot entry } })
 formed_put m slot entry h = record {

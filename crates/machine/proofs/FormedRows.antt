@@ -1,4 +1,4 @@
--- The rows that a submission adds, and what holds of each row.
+-- The requests that a submission adds, and the invariant of each request.
 use Rattle.std.proofs.Common.{◌≡◌, ℕ, ℤ, suc, Bool, true, false, not, cond, refl, sym, ◌∙◌, ap, subst, List, [], ◌∷◌, length, ◌+◌, ◌-◌, ◌*◌, ◌^◌, ◌<◌, ◌≤◌, ◌⊎◌, inl, inr, arith}
 use Rattle.std.specs.Prelude.{Option, Some, None, IsSome, is_some, option_map, slice_get, is_ok, bit_and, nat_lt, Result, Ok, Err, ◌==◌, ◌&&◌, ◌||◌, if◌then◌else◌}
 use Rattle.std.specs.Option.{option_and_then}
@@ -18,7 +18,7 @@ use Rattle.opcodes.specs.Check.{bad_address, can_guard, check_of, row_of, op_of,
 use Rattle.opcodes.specs.Opcodes.{fits_end, is_timer}
 use Rattle.places.specs.Lists.{updated}
 use Rattle.links_drains.specs.Links.{has_flag}
-use Rattle.links_drains.specs.Phases.{is_ended, is_issued, is_unfinished, counts, counted_of}
+use Rattle.links_drains.specs.Phases.{is_ended, is_issued, is_queued, is_unfinished, counts, counted_of}
 use Rattle.links_drains.specs.Batches.{behind_in, error_at, error_of, rows_of}
 use Rattle.links_drains.proofs.Counting.{matching-more}
 use Rattle.links_drains.proofs.Chains.{became}
@@ -27,9 +27,9 @@ use Rattle.machine.specs.Submission.{entries_at}
 use Rattle.machine.specs.Whole.{HoldsDescriptor, IsTime, RowFormed}
 use Rattle.machine.proofs.ListsChanged.{updated_get}
 
--- ---- entries that pass
+-- ---- Valid entries
 
--- an entry that passes has a supported opcode
+-- A valid entry has a supported opcode.
 passes_supported : (w : WorldState) (behind : Option ℕ) (e : Sqe) → result_err (check_of w behind e) ≡ None → IsSome (op_of e.opcode)
 passes_supported w behind e h = by (bit_and e.flags refused_flags == 0) (op_of e.opcode) h
   where
@@ -38,7 +38,7 @@ passes_supported w behind e h = by (bit_and e.flags refused_flags == 0) (op_of e
     by true None k = absurd cc
     by false o k = absurd cc
 
--- ---- how many
+-- ---- How many there are
 
 pub length-entries_at : (slots : List Sqe) (ws : List ℕ) → length (entries_at slots ws) ≤ length ws
 length-entries_at slots [] = omega arith
@@ -48,7 +48,7 @@ length-entries_at slots (w ∷ ws) = by (slice_get slots w) refl (length-entries
     by None e k = rw e (omega (arith, k))
     by (Some x) e k = rw e (omega (arith, k))
 
--- rows that are queued have not ended
+-- Queued requests have not completed.
 queued_none : (p : Row → Bool) (rows : List Row) → ((i : ℕ) (x : Row) → slice_get rows i ≡ Some x → p x ≡ false) → length (filter p rows) ≡ 0
 queued_none p [] h = refl
 queued_none p (x ∷ rows) h =
@@ -63,13 +63,13 @@ batch_queued w first es i x e = ap (λ (y : Row). y.phase) (became w first es i 
 pub counted-rows_of : (w : WorldState) (first : ℕ) (es : List Sqe) → counted_of (rows_of w first es) ≡ 0
 counted-rows_of w first es = queued_none (λ row. is_ended row.phase && counts row) (rows_of w first es) (λ i x e. ap (λ p. is_ended p && counts x) (batch_queued w first es i x e))
 
--- ---- what holds of each row
+-- ---- The invariant of each request
 
--- Each row is well formed in a world.
+-- Each request is well formed.
 pub record FormedRows (w : WorldState) (rows : List Row) : Type 0 where
   pub each : (r : ℕ) (x : Row) → slice_get rows r ≡ Some x → RowFormed w x
 
--- an ended row is
+-- A completed request is well formed.
 pub ended_row : (w : WorldState) (x : Row) → is_ended x.phase ≡ true → RowFormed w x
 ended_row w x h = by x.phase refl h
   where
@@ -79,14 +79,17 @@ ended_row w x h = by x.phase refl h
     by (Ended n) e k = record {
       opcode = λ u. absurd (let o = ap is_unfinished (sym e) ∙ u in cc);
       holds = λ i. absurd (let o = ap is_issued (sym e) ∙ i in cc);
+      holds_none = λ i. absurd (let o = ap is_issued (sym e) ∙ i in cc);
+      not_yet_held = λ q. absurd (let o = ap is_queued (sym e) ∙ q in cc);
+      not_yet_due = λ q. absurd (let o = ap is_queued (sym e) ∙ q in cc);
       time = λ u. absurd (let o = ap is_unfinished (sym e) ∙ u in cc);
       timed = λ u. absurd (let o = ap is_unfinished (sym e) ∙ u in cc);
       due = λ i. absurd (let o = ap is_issued (sym e) ∙ i in cc);
     }
 
--- ---- times
+-- ---- Timeouts
 
--- a deadline is made of a time
+-- A request gets a deadline exactly if it has a timeout.
 pub deadline_timed : (clock : ℕ) (x : Row) → is_some (deadline_of clock x) ≡ is_some x.time
 deadline_timed clock x = by x.time
   where
@@ -99,7 +102,7 @@ unfinished_issued Queued h = absurd cc
 unfinished_issued Issued h = refl
 unfinished_issued (Ended n) h = absurd cc
 
--- a time that is read is one
+-- A timeout read from memory is in range.
 time_bound : (w : WorldState) (addr : ℕ) → IsTime (time_at w addr)
 time_bound w addr t h = by (nat_lt (number_at w addr) (2 ^ 63)) (nat_lt (number_at w (addr + 8)) (2 ^ 63)) refl refl h
   where
@@ -122,7 +125,7 @@ time_of_bound w behind e = by (is_timer e.opcode && is_ok (check_of w behind e))
     by true = time_bound w e.addr
     by false = no_time
 
--- a timer that passes its tests has a time
+-- A valid timer has a timeout.
 passes_timed : (w : WorldState) (behind : Option ℕ) (e : Sqe) → result_err (check_of w behind e) ≡ None → is_timer e.opcode ≡ true → IsSome (time_of w behind e)
 passes_timed w behind e h t = by_timer (check_of w behind e) refl h
   where
@@ -165,7 +168,7 @@ passes_timed w behind e h t = by_timer (check_of w behind e) refl h
     by_timer (Ok op) m k = ap (λ b. is_some (if b && is_ok (check_of w behind e) then time_at w e.addr else None)) t ∙ ap (λ r. is_some (if is_ok r then time_at w e.addr else None)) m ∙ there
     by_timer (Err n) m k = absurd cc
 
--- an entry that passes its tests has a time just if it is a timer
+-- A valid entry has a timeout exactly if it is a timer.
 passes_time : (w : WorldState) (behind : Option ℕ) (e : Sqe) → result_err (check_of w behind e) ≡ None → is_some (time_of w behind e) ≡ is_timer e.opcode
 passes_time w behind e h = by (is_timer e.opcode) refl
   where
@@ -173,7 +176,7 @@ passes_time w behind e h = by (is_timer e.opcode) refl
     by true t = passes_timed w behind e h t ∙ sym t
     by false t = ap (λ b. is_some (if b && is_ok (check_of w behind e) then time_at w e.addr else None)) t ∙ sym t
 
--- a row of a batch that passed its tests
+-- The request of a valid entry is well formed.
 pub batch_row : (w : WorldState) (first : ℕ) (es : List Sqe) (i : ℕ) (x : Row) → slice_get (rows_of w first es) i ≡ Some x → error_at w es i ≡ None → RowFormed w x
 batch_row w first es i x e p =
     let b = became w first es i x e in
@@ -181,12 +184,15 @@ batch_row w first es i x e p =
     subst (RowFormed w) (sym b.is) (record {
       opcode = λ u. passes_supported w (behind_in es i) b.entry passes;
       holds = λ j. absurd cc;
+      holds_none = λ j. absurd cc;
+      not_yet_held = λ q. refl;
+      not_yet_due = λ q. refl;
       time = λ u. time_of_bound w (behind_in es i) b.entry;
       timed = λ u. passes_time w (behind_in es i) b.entry passes;
       due = λ j. absurd cc;
     })
 
--- one row is changed
+-- One request changes.
 pub formed_rows-updated : (w : WorldState) (f : Row → Row) (rows : List Row) (r : ℕ) → ((x : Row) → slice_get rows r ≡ Some x → RowFormed w (f x)) → FormedRows w rows → FormedRows w (updated f rows r)
 formed_rows-updated w f rows r g h = record { each = λ j y e. by j y (updated_get f rows r j y e) }
   where
@@ -194,12 +200,21 @@ formed_rows-updated w f rows r g h = record { each = λ j y e. by j y (updated_g
     by j y (inl k) = h.each j y k
     by j y (inr k) = subst (RowFormed w) (sym k.3) (g k.0 (ap (slice_get rows) k.1 ∙ k.2))
 
--- in another world of the setup
+-- The objects and the memory change, but not their setup.
 row_moved : (w v : WorldState) (x : Row) → OneWorldSetup w v → RowFormed w x → RowFormed v x
-row_moved w v x s h = record { opcode = h.opcode; holds = λ i u. there (h.holds i u); time = h.time; timed = h.timed; due = h.due }
+row_moved w v x s h = record {
+  opcode = h.opcode;
+  holds = λ i u. there (h.holds i u);
+  holds_none = h.holds_none;
+  not_yet_held = h.not_yet_held;
+  not_yet_due = h.not_yet_due;
+  time = h.time;
+  timed = h.timed;
+  due = h.due;
+}
   where
     there : HoldsDescriptor w x → HoldsDescriptor v x
-    there d = let e = descriptor_alike w v s d.fd d.descriptor d.there in record { fd = d.fd; held = d.held; descriptor = e.0; there = e.1; fits = ap (fits_end x.entry.opcode) e.2 ∙ d.fits }
+    there d = let e = descriptor_alike w v s d.fd d.descriptor d.there in record { fd = d.fd; held = d.held; named = d.named; descriptor = e.0; there = e.1; fits = ap (fits_end x.entry.opcode) e.2 ∙ d.fits }
 
 pub formed_rows-moved : (w v : WorldState) (rows : List Row) → OneWorldSetup w v → FormedRows w rows → FormedRows v rows
 formed_rows-moved w v rows s h = record { each = λ r x e. row_moved w v x s (h.each r x e) }

@@ -1,4 +1,4 @@
--- What a submission keeps.
+-- Invariants that a submission preserves.
 use Rattle.std.proofs.Common.{◌≡◌, ℕ, ℤ, Bool, true, false, refl, sym, ◌∙◌, ap, subst, List, ◌++◌, length, ◌+◌, ◌*◌, ◌-◌, ◌%◌, ◌<◌, ◌≤◌, ◌^◌, ◌⊎◌, inl, inr, length-append, length-take, arith}
 use Rattle.std.specs.Prelude.{Option, Some, None, is_none, slice_get, nat_lt, if◌then◌else◌}
 use Rattle.std.specs.List.{prefix_len}
@@ -32,7 +32,7 @@ use Rattle.machine.proofs.GuardLemmas.{batch_behind, batch_guard, guard_before, 
 use Rattle.machine.proofs.TakingWords.{length-up_to_entry}
 use Rattle.machine.proofs.FormedRows.{length-entries_at, counted-rows_of, batch_row}
 
--- ---- how many
+-- ---- How many entries
 
 pub length-offered : (w : SubWords) (k : ℕ) → SubFormed w → length (offered w k) ≤ waiting w.head w.tail
 length-offered w k f = let a = length-take k (sub_list w) in let b = sub_length w f in omega (arith, a, b)
@@ -44,7 +44,7 @@ length-taken_words b v w k = by (halts b v (offered_entries w k))
     by true = length-up_to_entry w.slots (length (taken_entries b v w k)) (offered w k)
     by false = omega arith
 
--- no more are taken than are offered
+-- At most as many entries are taken as are offered.
 length-taken_of : (b : Bool) (v : WorldState) (es : List Sqe) → length (taken_of b v es) ≤ length es
 length-taken_of true v es = omega arith
 length-taken_of false v es = let a = length-take (prefix_len is_none (errors_of v es) + 1) es in omega (arith, a)
@@ -61,7 +61,7 @@ waits_behind h t k n a b c d = let e = waiting_behind h t k a b c in omega (arit
 pub below_wrap : (n : ℕ) → n % 2 ^ 32 < 2 ^ 32
 below_wrap n = omega arith
 
--- ---- the machine with the rows of a batch
+-- ---- The machine with the requests of a batch
 
 pub mostly_taken : (m : Machine) (k : ℕ) → Mostly m → length m.table + length (offered m.submissions k) ≤ 65536 → Mostly (taken m k)
 mostly_taken m k h l = record {
@@ -95,7 +95,7 @@ mostly_taken m k h l = record {
     more : {a b c : ℕ} → a ≡ b + c → c ≡ 0 → b ≡ a
     more x y = omega arith
 
--- a row is one of those before, or of the batch
+-- A request was there before, or belongs to the batch.
 pub old_or_new : (rows more : List Row) (j : ℕ) (y : Row) → slice_get (rows ++ more) j ≡ Some y → (slice_get rows j ≡ Some y) ⊎ ((i : ℕ) × (j ≡ length rows + i) × (slice_get more i ≡ Some y))
 old_or_new rows more j y h = by (nat_lt j (length rows)) refl
   where
@@ -109,7 +109,7 @@ old_or_new rows more j y h = by (nat_lt j (length rows)) refl
         let m : j ≡ length rows + (j - length rows) = omega (arith, l) in
         inr (j - length rows, m, sym (get-behind rows more (j - length rows)) ∙ ap (slice_get (rows ++ more)) (sym m) ∙ h)
 
--- the rows of a batch that don't end at once are well formed
+-- The requests of a batch that don't complete at once are well formed.
 pub formed_submitted : (m : Machine) (k : ℕ) → WellFormed m → length m.table + length (offered m.submissions k) ≤ 65536 → WellFormed (submitted m k)
 formed_submitted m k f l = formed_fallen_but (taken m k) direct (mostly_taken m k (mostly m f) l) puts (λ j y e. by j y (old_or_new m.table batch j y e)) (λ r x e g u n. guarded r x g u n (old_or_new m.table batch r x e))
   where
@@ -136,7 +136,7 @@ formed_submitted m k f l = formed_fallen_but (taken m k) direct (mostly_taken m 
         let none = sym (ap (result_in direct) e.1) ∙ n in
         subst (λ j. GuardStands (m.table ++ batch) j x) (sym e.1) (batch_guard m.world m.table (entries_for m k) e.0 x e.2 g (unlisted_passes m.world (length m.table) (entries_for m k) e.0 x e.2 none))
 
--- ---- what its fall asks of the machine
+-- ---- What the cascade requires
 
 pub record FallsIn (n : Machine) (direct : List (ℕ × ℤ)) : Type 0 where
   pub direct_rows : Direct n.table direct

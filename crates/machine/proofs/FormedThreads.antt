@@ -1,4 +1,4 @@
--- Threads that go on stand within their programs, and setups stay.
+-- Threads that advance remain within their programs.
 use Rattle.std.proofs.Common.{◌≡◌, ℕ, ℤ, sym, ◌∙◌, ap, subst, List, length, ◌+◌, ◌<◌, ◌^◌, ◌⊎◌, inl, inr, arith, FitsSigned}
 use Rattle.std.specs.Prelude.{Option, Some, slice_get}
 use Rattle.std.specs.Int.{w64}
@@ -14,11 +14,11 @@ use Rattle.scenario.specs.declared.setup.Instruction.TheVariants.{Enter}
 use Rattle.machine.specs.declared.whole.Machine.{Machine}
 use Rattle.machine.proofs.ListsChanged.{updated_get}
 
--- a ready thread waits for nothing
+-- A ready thread doesn't wait.
 waits_not : (x : ThreadState) → x.stage ≡ Ready → (n w : ℕ) → x.stage ≡ Waiting n w → Waits x n w
 waits_not x r n w e = absurd (let k = sym r ∙ e in cc)
 
--- a thread that has an instruction goes on
+-- A thread that has an instruction advances.
 pub stands_on : (size : ℕ) (x : ThreadState) (i : Instruction) (stage : Stage) (n : ℤ) (got : Option Cqe) → Stands size x → slice_get x.program x.counter ≡ Some i → stage ≡ Ready → FitsSigned w64 n → Stands size (record x { counter = x.counter + 1; stage = stage; last = n; got = got })
 stands_on size x i stage n got s h r l = record {
   within = let k = slice_get_within x.program x.counter i h in omega (arith, k);
@@ -27,7 +27,7 @@ stands_on size x i stage n got s h r l = record {
   waits = waits_not (record x { counter = x.counter + 1; stage = stage; last = n; got = got }) r;
 }
 
--- one that stands at an Enter waits there
+-- A thread that is at an Enter waits there.
 pub stands_held : (size : ℕ) (x : ThreadState) (n w to_submit min_complete flags : ℕ) → Stands size x → slice_get x.program x.counter ≡ Some (Enter to_submit min_complete flags) → n < 2 ^ 32 → w < 2 ^ 32 → Stands size (record x { stage = Waiting n w })
 stands_held size x n w to_submit min_complete flags s g a b = record { within = s.within; program = s.program; last = s.last; waits = held }
   where
@@ -41,7 +41,7 @@ stands_held size x n w to_submit min_complete flags s g a b = record { within = 
       enter = g;
     }
 
--- one thread changes
+-- One thread changes.
 pub stands_updated : (size : ℕ) (ts : List ThreadState) (f : ThreadState → ThreadState) (t : ℕ) (x : ThreadState) → ((j : ℕ) (y : ThreadState) → slice_get ts j ≡ Some y → Stands size y) → slice_get ts t ≡ Some x → Stands size (f x)
     → (j : ℕ) (y : ThreadState) → slice_get (updated f ts t) j ≡ Some y → Stands size y
 stands_updated size ts f t x h e s j y g = by (updated_get f ts t j y g)

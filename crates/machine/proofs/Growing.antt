@@ -1,4 +1,4 @@
--- Accepted events leave a setup as it is, and take no row and no item of the backlog away.
+-- Accepted events preserve the setup, and remove no request and no item of the backlog.
 use Rattle.std.proofs.Common.{◌≡◌, ℕ, ℤ, pos, negsuc, Bool, true, false, refl, sym, ap, List, [], ◌∷◌, ◌++◌, length, map, take, drop, ◌+◌, ◌%◌, ◌≤◌, arith, length-set, length-append, le_refl}
 use Rattle.std.specs.Prelude.{Option, Some, None, is_some, min, slice_get, nat_lt, ◌==◌, ◌&&◌, ◌||◌, if◌then◌else◌}
 use Rattle.entries.specs.declared.completion.Cqe.{Cqe}
@@ -53,7 +53,7 @@ grows_then a b c h k = record {
   backlog = let x = h.backlog in let y = k.backlog in omega (arith, x, y);
 }
 
--- ---- completions
+-- ---- Completions
 
 pub grows_posted : (m : Machine) (cs : List Cqe) → Grows m (posted m cs)
 grows_posted m cs =
@@ -91,9 +91,9 @@ pub grows_fallen : (m : Machine) (direct : List (ℕ × ℤ)) → Grows m (falle
 unfolding fallen
 grows_fallen m direct = grows_all_ended m (fall_of m.table m.counted direct)
 
--- ---- submissions
+-- ---- Submissions
 
--- rows come behind the others
+-- Requests are added at the end.
 pub grows_more : (m : Machine) (more : List Row) → Grows m (record m { table = m.table ++ more })
 grows_more m more = record {
   setup = record { array = refl; slots = refl; completions = refl; world = worlds.setup_self _; programs = refl; poller = refl; submit_all = refl };
@@ -113,7 +113,7 @@ grows_taken m k = record {
 pub grows_submitted : (m : Machine) (k : ℕ) → Grows m (submitted m k)
 grows_submitted m k = grows_then m (taken m k) (submitted m k) (grows_taken m k) (grows_fallen (taken m k) (direct_of m.world (length m.table) (entries_for m k)))
 
--- ---- threads
+-- ---- Threads
 
 pub grows_thread : (m : Machine) (f : ThreadState → ThreadState) (t : ℕ) → ((x : ThreadState) → program_of (f x) ≡ program_of x) → Grows m (record m { threads = updated f m.threads t })
 grows_thread m f t h = record {
@@ -191,7 +191,7 @@ grows_entered m t k w flags = by m.poller refl
             grows_then m (woken m flags) _ (grows_woken m flags (ap is_some e))
             (grows_then (woken m flags) (shown (woken m flags) flags) _ (grows_shown (woken m flags) flags) (grows_awaited (shown (woken m flags) flags) t k k w flags))
 
--- ---- memory and objects
+-- ---- Memory and objects
 
 grows_world : (m : Machine) (w : WorldState) → OneWorldSetup m.world w → Grows m (record m { world = w })
 grows_world m w h = record {
@@ -201,7 +201,7 @@ grows_world m w h = record {
   backlog = le_refl _;
 }
 
--- the memory changes, and a thread goes on
+-- The memory or an object changes, and a thread advances.
 pub grows_parts : (m : Machine) (w : WorldState) (ts : List ThreadState) → OneWorldSetup m.world w → map program_of ts ≡ map program_of m.threads → Grows m (record m { world = w; threads = ts })
 grows_parts m w ts h k = record {
   setup = record { array = refl; slots = refl; completions = refl; world = h; programs = sym k; poller = refl; submit_all = refl };
@@ -225,7 +225,7 @@ grows_closed m t (pos fd) = by (is_open (descriptor_of m.world fd))
         grows_then m shut _ (grows_world m (world_closed fd m.world) (worlds.setup_closed fd m.world)) (grows_thread shut (λ x. record x { counter = x.counter + 1; last = pos 0; stage = Ready }) t (λ x. refl))
     by false = grows_thread m (λ x. record x { counter = x.counter + 1; last = ebadf; stage = Ready }) t (λ x. refl)
 
--- ---- events
+-- ---- Events
 
 grows_executed : (m : Machine) (t : ℕ) (x : ThreadState) → WellFormed m → slice_get m.threads t ≡ Some x → (i : Option Instruction) → slice_get x.program x.counter ≡ i → Grows m (executed m t i)
 grows_executed m t x f e None g = grows_self m

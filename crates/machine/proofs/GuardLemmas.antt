@@ -1,4 +1,4 @@
--- Guards stand behind their targets.
+-- Linked timeouts come directly after their targets.
 use Rattle.std.proofs.Common.{◌≡◌, ℕ, ℤ, zero, suc, Bool, true, false, not, cond, refl, sym, ◌∙◌, ap, subst, List, [], ◌∷◌, ◌++◌, length, ◌+◌, ◌-◌, inl, inr, arith}
 use Rattle.std.specs.Prelude.{Option, Some, None, option_map, is_none, slice_get, bit_and, ◌==◌, ◌&&◌, if◌then◌else◌}
 use Rattle.std.specs.Option.{option_and_then, option_map_or}
@@ -24,9 +24,9 @@ use Rattle.machine.specs.Steps.{is_guard_of, started}
 use Rattle.machine.specs.Whole.{AllGuardsStand, GuardStands, WellFormed}
 use Rattle.machine.specs.declared.whole.Machine.{Machine}
 
--- ---- what others ask of guards
+-- ---- What cascades require of linked timeouts
 
--- a guard stands just behind its target
+-- An unfinished linked timeout comes directly after its target.
 pub stand_behind : (rows : List Row) → AllGuardsStand rows → GuardsStand rows
 stand_behind rows h r t row e g u k =
     let s = h r row e g u in
@@ -38,7 +38,7 @@ guards_follow m f k guard e g u =
     let s = f.guards k guard e g u in
     (s.target, s.row, (let b = s.behind in omega (arith, b)), s.there, ap is_unfinished s.alike ∙ u, s.unit)
 
--- ---- rows behind others
+-- ---- Requests added after others
 
 front : (rows more : List Row) (i : ℕ) (x : Row) → slice_get rows i ≡ Some x → slice_get (rows ++ more) i ≡ Some x
 front [] more i x h = absurd cc
@@ -48,9 +48,9 @@ front (y ∷ rows) more (suc i) x h = front rows more i x h
 pub guard_before : (rows more : List Row) (r : ℕ) (x : Row) → GuardStands rows r x → GuardStands (rows ++ more) r x
 guard_before rows more r x s = record { target = s.target; is = s.is; behind = s.behind; row = s.row; there = front rows more s.target s.row s.there; other = s.other; unit = s.unit; alike = s.alike }
 
--- ---- guards of a batch
+-- ---- Linked timeouts of a batch
 
--- a LINK_TIMEOUT that passes its tests stands behind another opcode
+-- A valid LINK_TIMEOUT follows an entry with another opcode.
 passes_behind : (w : WorldState) (behind : Option ℕ) (e : Sqe) → e.opcode ≡ 15 → result_err (check_of w behind e) ≡ None → can_guard behind ≡ true
 passes_behind w behind e o h = flags (bit_and e.flags refused_flags == 0) h
   where
@@ -65,7 +65,7 @@ passes_behind w behind e o h = flags (bit_and e.flags refused_flags == 0) h
     flags true k = both (can_guard behind) (e.off == 0) (sym (ap (λ p. result_err (row_of w behind e p)) op) ∙ k)
     flags false k = absurd cc
 
--- An entry stands before a guard, and is linked to it.
+-- The entry before i is linked, and no LINK_TIMEOUT.
 record Before (es : List Sqe) (i : ℕ) : Type 0 where
   index : ℕ
   is : i ≡ suc index
@@ -118,7 +118,7 @@ batch_guard w rows es i x h g p = subst (GuardStands (rows ++ rows_of w first es
     v : Before es i
     v = stands_before es i (passes_behind w (behind_in es i) b.entry (eqb-true b.entry.opcode 15 number) passes)
 
--- a guard of a batch that has a target passed its tests, and stands behind it
+-- A linked timeout of a batch that has a target is valid, and comes directly after it.
 pub batch_target : (w : WorldState) (rows : List Row) (es : List Sqe) (i t : ℕ) (x : Row) → slice_get (rows_of w (length rows) es) i ≡ Some x → is_guard x ≡ true → x.target ≡ Some t → GuardStands (rows ++ rows_of w (length rows) es) (length rows + i) x
 batch_target w rows es i t x h g k = by (error_of w es i b.entry) refl (sym (ap (λ (y : Row). y.target) b.is) ∙ k)
   where
@@ -129,7 +129,7 @@ batch_target w rows es i t x h g k = by (error_of w es i b.entry) refl (sym (ap 
     by None e q = batch_guard w rows es i x h g (ap (option_and_then (error_of w es i)) b.there ∙ e)
     by (Some n) e q = absurd (let o : None ≡ Some t = sym (ap (λ c. if c && false then Some (length rows + i - 1) else None) (sym (ap is_guard b.is) ∙ g)) ∙ q in cc)
 
--- a guard of a batch has no target, or stands behind it
+-- The target of a linked timeout in a batch, if it has one, is directly before it.
 pub batch_behind : (w : WorldState) (first : ℕ) (es : List Sqe) (i t : ℕ) (x : Row) → slice_get (rows_of w first es) i ≡ Some x → is_guard x ≡ true → x.target ≡ Some t → t + 1 ≡ first + i
 batch_behind w first es i t x h g k = by (error_of w es i b.entry) refl (sym (ap (λ (y : Row). y.target) b.is) ∙ k)
   where
@@ -147,7 +147,7 @@ batch_behind w first es i t x h g k = by (error_of w es i b.entry) refl (sym (ap
         omega (arith, s, k)
     by (Some n) e q = absurd (let o : None ≡ Some t = sym (ap (λ c. if c && false then Some (first + i - 1) else None) number) ∙ q in cc)
 
--- ---- a row is issued, and its guard with it
+-- ---- A request is issued together with its linked timeout
 
 pub here : (f : Row → Row) (rows : List Row) (r : ℕ) (x : Row) → slice_get rows r ≡ Some x → slice_get (updated f rows r) r ≡ Some (f x)
 here f rows r x h = get-updated f rows r r ∙ ap (λ b. cond b (option_map f (slice_get rows r)) (slice_get rows r)) (eq-eqb r r refl) ∙ ap (option_map f) h
@@ -158,7 +158,7 @@ apart f rows r i h = get-updated f rows r i ∙ ap (λ b. cond b (option_map f (
 pub same_row : (a b : Row) → Some a ≡ Some b → a ≡ b
 same_row a b h = cc
 
--- what is told of the queued guard of a row
+-- The request is the queued linked timeout of request r.
 pub record IsGuardOf (r : ℕ) (y : Row) : Type 0 where
   pub guard : is_guard y ≡ true
   pub queued : is_queued y.phase ≡ true
@@ -184,7 +184,7 @@ unfinished_queued Queued h = refl
 unfinished_queued Issued h = absurd cc
 unfinished_queued (Ended n) h = absurd cc
 
--- the rows once one of them is issued, and then the queued guard behind it
+-- The table after request r was issued, and then its queued linked timeout.
 abbrev pub started_in_turn : ℕ → ℕ → List Row → ℕ → List Row
 started_in_turn c n rows r =
     if option_map_or (is_guard_of r) (slice_get rows (r + 1)) false
@@ -200,7 +200,7 @@ started_guards c n rows r x h q plain s = by (slice_get rows (r + 1)) refl
     not_itself : (rs : List Row) (i : ℕ) (y : Row) → slice_get rs i ≡ Some y → is_guard y ≡ true → r ≡ i → slice_get rs r ≡ Some (f x) → ⊥
     not_itself rs i y e g k o = let m = same_row (f x) y (sym o ∙ ap (slice_get rs) k ∙ e) in let z : false ≡ true = sym plain ∙ ap is_guard m ∙ g in cc
 
-    -- the row alone is issued
+    -- The request has no linked timeout.
     alone : ((y : Row) → slice_get rows (r + 1) ≡ Some y → is_guard_of r y ≡ true → ⊥) → AllGuardsStand (updated f rows r)
     alone none i y e g u = elim (cases_eq r i) [
       | inl k ↦ absurd (not_itself (updated f rows r) i y e g k (here f rows r x h))
@@ -215,7 +215,7 @@ started_guards c n rows r x h q plain s = by (slice_get rows (r + 1)) refl
           record { target = w.target; is = w.is; behind = w.behind; row = w.row; there = apart f rows r w.target away ∙ w.there; other = w.other; unit = w.unit; alike = w.alike }
     ]
 
-    -- and its guard with it
+    -- The request has one.
     pair : (y : Row) → slice_get rows (r + 1) ≡ Some y → IsGuardOf r y → AllGuardsStand (updated f (updated f rows r) (r + 1))
     pair y e t i z o g u = elim (cases_eq (r + 1) i) [
       | inl k ↦
@@ -257,7 +257,7 @@ started_guards c n rows r x h q plain s = by (slice_get rows (r + 1)) refl
     by None e = told false (ap (λ o. option_map_or (is_guard_of r) o false) e) (alone (λ z a t. let b : None ≡ Some z = sym e ∙ a in cc))
     by (Some y) e = chosen y e (is_guard_of r y) refl
 
--- a row that may be issued is no guard
+-- A request that may be issued is no linked timeout.
 pub eligible_no_guard : (rows : List Row) (r : ℕ) (x : Row) → slice_get rows r ≡ Some x → is_eligible rows r ≡ true → is_guard x ≡ false
 eligible_no_guard rows r x h e = by (is_queued x.phase) (is_guard x) (list_any (λ (p : ℕ × Row). waits_for rows r x p.0 p.1) (enumerate_from 0 rows)) refl (sym (ap (λ o. option_map_or (may_start rows r) o false) h) ∙ e)
   where

@@ -1,4 +1,4 @@
--- What well-formedness says of a thread's next instruction.
+-- What well-formedness says about a thread's next instruction.
 use Rattle.std.proofs.Common.{◌≡◌, ℕ, refl, sym, ◌∙◌, ap, subst, List, length, ◌+◌, ◌<◌, ◌^◌, arith}
 use Rattle.std.specs.Prelude.{Option, Some, None, slice_get}
 use Rattle.std.proofs.lemmas.Option.{slice_get_within}
@@ -9,7 +9,7 @@ use Rattle.machine.specs.Whole.{WellFormed}
 use Rattle.scenario.specs.declared.setup.Instruction.{Instruction}
 use Rattle.machine.specs.declared.whole.Machine.{Machine}
 
--- the thread whose instruction comes next
+-- There is a thread, whose next instruction this is.
 pub thread_of : (m : Machine) (t : ℕ) (i : Instruction) → next_of (slice_get m.threads t) ≡ Some i → (x : ThreadState) × (slice_get m.threads t ≡ Some x) × (slice_get x.program x.counter ≡ Some i)
 thread_of m t i h = by (slice_get m.threads t) refl h
   where
@@ -26,11 +26,11 @@ goes_on m t f x h = let s = f.mostly.threads t x h in omega (arith, s.within, s.
 pub is_done : (m : Machine) (t : ℕ) (i : Instruction) → WellFormed m → next_of (slice_get m.threads t) ≡ Some i → IsDone (length m.submissions.slots) i
 is_done m t i f h = let x = thread_of m t i h in (f.mostly.threads t x.0 x.1).program.done x.0.counter i x.2
 
--- what comes next, told by what was read
+-- The next instruction, as it was read.
 pub comes_next : (m : Machine) (t : ℕ) (x : ThreadState) (i : Instruction) → Some x ≡ slice_get m.threads t → Some i ≡ slice_get x.program x.counter → next_of (slice_get m.threads t) ≡ Some i
 comes_next m t x i h k = ap next_of (sym h) ∙ sym k
 
--- the same once the machine has changed, and its threads have not
+-- It is the same after a change that doesn't affect the threads.
 pub there_still : (m n : Machine) (t : ℕ) (i : Instruction) → n.threads ≡ m.threads → next_of (slice_get m.threads t) ≡ Some i → t < length n.threads
 there_still m n t i e h = subst (λ (ts : List ThreadState). t < length ts) (sym e) (thread_there m t i h)
 

@@ -1,4 +1,5 @@
--- A row and its guard that are issued at once are as if they were issued one after the other.
+-- To issue a request together with its linked timeout is the same as to issue them one after the
+-- other.
 use Rattle.std.proofs.Common.{◌≡◌, ℕ, Bool, true, false, cond, refl, sym, ◌∙◌, ap, List, ◌+◌, inl, inr, arith}
 use Rattle.std.proofs.lemmas.Bool.{cases_eq, eq-eqb, ne_eqb}
 use Rattle.std.specs.Prelude.{Option, Some, None, option_map, slice_get, ◌==◌, ◌||◌, if◌then◌else◌}
@@ -28,26 +29,26 @@ started_at_once c n rows r s = same_list _ _ (λ i. mapped_at (started_with c n 
     follows : Bool
     follows = option_map_or (is_guard_of r) (slice_get rows (r + 1)) false
 
-    -- with the guard behind the row, and without
+    -- With a linked timeout, and without.
     told : (b : Bool) → follows ≡ b → started_in_turn c n rows r ≡ (if b then updated f (updated f rows r) (r + 1) else updated f rows r)
     told b e = ap (λ (d : Bool). if d then updated f (updated f rows r) (r + 1) else updated f rows r) e
 
-    -- the row itself
+    -- The request itself.
     itself : (row : Row) → slice_get rows r ≡ Some row → (b : Bool) → follows ≡ b → slice_get (started_in_turn c n rows r) r ≡ Some (f row)
     itself row h true e = ap (λ rs. slice_get rs r) (told true e) ∙ apart f (updated f rows r) (r + 1) r (λ o. absurd (omega (arith, o))) ∙ here f rows r row h
     itself row h false e = ap (λ rs. slice_get rs r) (told false e) ∙ here f rows r row h
 
-    -- a row that is neither it nor behind it
+    -- A request that is neither this one nor the next.
     other : (i : ℕ) → (r ≡ i → ⊥) → (r + 1 ≡ i → ⊥) → (b : Bool) → follows ≡ b → slice_get (started_in_turn c n rows r) i ≡ slice_get rows i
     other i away past true e = ap (λ rs. slice_get rs i) (told true e) ∙ apart f (updated f rows r) (r + 1) i past ∙ apart f rows r i away
     other i away past false e = ap (λ rs. slice_get rs i) (told false e) ∙ apart f rows r i away
 
-    -- the row behind it
+    -- The next request.
     next : (row : Row) → slice_get rows (r + 1) ≡ Some row → (b : Bool) → is_guard_of r row ≡ b → slice_get (started_in_turn c n rows r) (r + 1) ≡ Some (if b then f row else row)
     next row h true g = ap (λ rs. slice_get rs (r + 1)) (told true (ap (λ o. option_map_or (is_guard_of r) o false) h ∙ g)) ∙ here f (updated f rows r) (r + 1) row (apart f rows r (r + 1) (λ o. absurd (omega (arith, o))) ∙ h)
     next row h false g = ap (λ rs. slice_get rs (r + 1)) (told false (ap (λ o. option_map_or (is_guard_of r) o false) h ∙ g)) ∙ apart f rows r (r + 1) (λ o. absurd (omega (arith, o))) ∙ h
 
-    -- its guard stands behind it
+    -- The linked timeout is the next request.
     stands : (i : ℕ) (row : Row) → slice_get rows i ≡ Some row → is_guard_of r row ≡ true → r + 1 ≡ i
     stands i row h g =
         let t = guard_told r row g in

@@ -1,4 +1,5 @@
--- What a part keeps, the whole machine keeps.
+-- Changes that a part of the machine records correctly are recorded correctly for the whole
+-- machine.
 use Rattle.std.proofs.Common.{◌≡◌, ℕ, ◌<◌, Bool, true, false, refl, ap, length, List}
 use Rattle.std.specs.Prelude.{Option, Some, unwrap_or, slice_set, if◌then◌else◌}
 use Rattle.entries.specs.declared.entry.Sqe.{Sqe}
@@ -59,7 +60,7 @@ lift_threads m w cs ds h = keeps_whole _ _ _ _ at
     at (Got t) = h.back (Got t) refl
     at p = ap (λ n. unwrap_or n (view m p)) (h.others p refl)
 
--- where completions go
+-- The parts that receive completions.
 pub lift_delivery : (m : Machine) (d : Delivery) (cs ds : List Change) → Keeps delivery_owns (delivery_seen (delivery m)) (delivery_seen d) cs ds → Keeps everywhere (view m) (view (with_delivery m d)) cs ds
 lift_delivery m d cs ds h = keeps_whole _ _ _ _ at
   where
@@ -77,7 +78,7 @@ lift_delivery m d cs ds h = keeps_whole _ _ _ _ at
     at BacklogFront = h.back BacklogFront refl
     at p = ap (λ n. unwrap_or n (view m p)) (h.others p refl)
 
--- ---- what a write shows
+-- ---- The values after a write
 
 pub seen_clock : (m : Machine) (n : ℕ) (q : Place) → view (record m { clock = n }) q ≡ put_at (view m) Clock (Some (Number n)) q
 unfolding same_place
@@ -95,7 +96,7 @@ keeps_clock m n cs ds h = keeps_noted everywhere (view m) (view (record m { cloc
 pub keeps_counted : (m : Machine) (n : ℕ) (cs ds : List Change) → Noted cs ds Counted (Some (Number m.counted)) → Keeps everywhere (view m) (view (record m { counted = n })) cs ds
 keeps_counted m n cs ds h = keeps_noted everywhere (view m) (view (record m { counted = n })) cs ds Counted (Some (Number n)) refl h (seen_counted m n)
 
--- a place that a part owns is none of another's
+-- A place of one part differs from all places of another.
 apart : {X : Type 0} (owns : Place → Bool) (p q : Place) (v x : X) → owns p ≡ true → owns q ≡ false → x ≡ (if same_place p q then v else x)
 apart {X} owns p q v x h k = by (same_place p q) refl
   where
@@ -112,7 +113,7 @@ seen_submissions m w p v o h (Array i) = h (Array i)
 seen_submissions m w p v o h (Slot i) = h (Slot i)
 seen_submissions m w p v o h q = apart sub_owns p q v (view m q) o refl
 
--- an entry slot is noted, and then written
+-- An entry slot is recorded, and then written.
 pub keeps_slot : (m : Machine) (i : ℕ) (e : Sqe) (cs ds : List Change) → i < length m.submissions.slots → Noted cs ds (Slot i) (sub_seen m.submissions (Slot i)) → Keeps everywhere (view m) (view (record m { submissions = record m.submissions { slots = slice_set m.submissions.slots i e } })) cs ds
 keeps_slot m i e cs ds there noted =
     let w = record m.submissions { slots = slice_set m.submissions.slots i e } in

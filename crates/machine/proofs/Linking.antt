@@ -1,4 +1,4 @@
--- Links of a run, and going back over them.
+-- Steps of a run, and going back over them.
 use Rattle.std.proofs.Common.{◌≡◌, ℕ, refl, sym, ◌∙◌, ap, subst, List, [], ◌∷◌, ◌++◌, length, take, ◌+◌, ◌≤◌, arith}
 use Rattle.std.proofs.lemmas.List.{take_more}
 use Rattle.std.proofs.Math.Seq.{take-length}
@@ -13,7 +13,7 @@ use Rattle.machine.specs.declared.whole.Machine.{Machine}
 use Rattle.scenario.specs.declared.event.Event.{Event}
 use Rattle.machine.proofs.Growing.{grows_after}
 
--- a link goes back
+-- The record of a step leads back.
 pub goes_back : (s : Machine) (e : Event) (r : List Change) (m : Machine) → Link s e r m → GoesBack s m r
 goes_back s e r m h =
     record {
@@ -22,17 +22,17 @@ goes_back s e r m h =
       back = h.back;
     }
 
--- nothing is noted yet
+-- Nothing has been recorded yet.
 pub none_named : (cs : List Change) (p : Place) → cs ≡ [] → named cs p ≡ None
 unfolding named
 none_named cs p h = ap (λ xs. named xs p) h
 
--- notes from none
+-- If nothing was recorded before, the notes lead back.
 pub back_from_keeps : (u v : View) (cs ds : List Change) → cs ≡ [] → Keeps everywhere u v cs ds → LeadsBack u v ds
 unfolding named
 back_from_keeps u v cs ds e h p = h.back p refl ∙ ap (λ xs. unwrap_or (named xs p) (u p)) e
 
--- ---- a list of records
+-- ---- A list of records
 
 undo_all-more : (v : View) (rs : List (List Change)) (r : List Change) → undo_all v (rs ++ r ∷ []) ≡ undo_all (undo v r) rs
 undo_all-more v [] r = refl
@@ -42,7 +42,7 @@ undo_all_same : (v w : View) (rs : List (List Change)) → ((p : Place) → v p 
 undo_all_same v w [] h p = h p
 undo_all_same v w (r ∷ rs) h p = ap (unwrap_or (named r p)) (undo_all_same v w rs h p)
 
--- the last link of a run
+-- The last step of a run.
 pub record LastLink (s : Machine) (rs : List (List Change)) (r : List Change) (m : Machine) : Type 0 where
   pub before : Machine
   pub event : Event
@@ -59,7 +59,7 @@ last_link s (e ∷ es) (x ∷ xs) r m h =
     let l = last_link h.0 es xs r m h.2 in
     record { before = l.before; event = l.event; events = e ∷ l.events; linked = (h.0, h.1, l.linked); link = l.link }
 
--- how far a run has been unwound
+-- A run from which all but the first i steps were undone.
 pub record Unwinding (before : Machine) (rs : List (List Change)) (now : Machine) (i : ℕ) : Type 0 where
   pub within : i ≤ length rs
   pub linked : (s : Machine) (es : List Event) → Linked s es rs before → (fs : List Event) × Linked s fs (take i rs) now
@@ -75,7 +75,7 @@ unwinding_from m rs = record {
 split_at_last : (rs : List (List Change)) (j : ℕ) (r : List Change) → slice_get rs j ≡ Some r → take (j + 1) rs ≡ take j rs ++ r ∷ []
 split_at_last rs j r h = take_more rs j r (slice_get_within rs j r h) ∙ ap (λ x. take j rs ++ x ∷ []) (get_or_from_slice_get rs j r r h)
 
--- the link that leads to where the unwinding stands
+-- The next step to undo.
 pub next_link : (s before now : Machine) (es : List Event) (rs : List (List Change)) (j : ℕ) (r : List Change) → slice_get rs j ≡ Some r → Linked s es rs before → Unwinding before rs now (j + 1) → LastLink s (take j rs) r now
 next_link s before now es rs j r h l u = let k = u.linked s es l in last_link s k.0 (take j rs) r now (subst (λ (xs : List (List Change)). Linked s k.0 xs now) (split_at_last rs j r h) k.1)
 

@@ -1,9 +1,9 @@
--- Elements of lists of which one was changed.
+-- Lists in which one item changed.
 use Rattle.std.proofs.Common.{◌≡◌, ℕ, zero, suc, refl, sym, ap, List, [], ◌∷◌, map, ◌⊎◌, inl, inr}
 use Rattle.std.specs.Prelude.{Some, slice_get}
 use Rattle.places.specs.Lists.{updated}
 
--- an element of a changed list
+-- An item of the changed list.
 pub updated_get : {X : Type 0} (f : X → X) (xs : List X) (i j : ℕ) (y : X) → slice_get (updated f xs i) j ≡ Some y → (slice_get xs j ≡ Some y) ⊎ ((x : X) × (i ≡ j) × (slice_get xs j ≡ Some x) × (y ≡ f x))
 updated_get f [] i j y h = absurd cc
 updated_get f (x ∷ xs) zero zero y h = inr (x, refl, refl, cc)
@@ -11,7 +11,7 @@ updated_get f (x ∷ xs) zero (suc j) y h = inl h
 updated_get f (x ∷ xs) (suc i) zero y h = inl h
 updated_get f (x ∷ xs) (suc i) (suc j) y h = elim (updated_get f xs i j y h) [ inl k ↦ inl k | inr k ↦ inr (k.0, ap suc k.1, k.2, k.3) ]
 
--- a field that no change reaches
+-- A field that doesn't change.
 pub map_updated : {X V : Type 0} (g : X → V) (f : X → X) (xs : List X) (i : ℕ) → ((x : X) → g (f x) ≡ g x) → map g xs ≡ map g (updated f xs i)
 map_updated g f [] i h = refl
 map_updated g f (x ∷ xs) zero h = ap (λ v. v ∷ map g xs) (sym (h x))

@@ -1,4 +1,4 @@
--- Runs, some events longer.
+-- Runs that are extended by events.
 use Rattle.std.proofs.Common.{◌≡◌, ℕ, ◌+◌, ◌<◌, List, [], ◌∷◌, ◌++◌, length, take, get_or, None, refl, sym, ap, ◌∙◌, subst}
 use Rattle.std.proofs.lemmas.List.{take_more}
 use Rattle.scenario.specs.declared.event.Event.{Event}
@@ -23,7 +23,7 @@ pub accepts-push : (s : Machine) (es : List Event) (e : Event)
     → Accepts s es → refusal (run s es) e ≡ None → Accepts s (es ++ e ∷ [])
 accepts-push s es e a b = accepts-append s es (e ∷ []) a (b, tt)
 
--- the first events of a list, one more of them
+-- The first i + 1 events of a list.
 taken_more : (es : List Event) (i : ℕ) (e d : Event)
     → i < length es → e ≡ get_or es i d → take (i + 1) es ≡ take i es ++ e ∷ []
 taken_more es i e d h g = take_more es i d h ∙ ap (λ x. take i es ++ x ∷ []) (sym g)

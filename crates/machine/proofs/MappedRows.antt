@@ -1,4 +1,4 @@
--- Rows that a change goes over, each with its number.
+-- Changes of all requests, by their numbers.
 use Rattle.std.proofs.Common.{◌≡◌, ℕ, refl, ◌∙◌, ap, List, length}
 use Rattle.std.specs.Prelude.{Option, Some, None, option_map, slice_get}
 use Rattle.std.specs.List.{enumerate_from}
@@ -20,7 +20,7 @@ mapped_at f rows i = slice_get-map (λ (p : ℕ × Row). f p.0 p.1) (enumerate_f
 pub mapped_length : (f : ℕ → Row → Row) (rows : List Row) → length (map_numbered f rows) ≡ length rows
 mapped_length f rows = length-map (enumerate_from 0 rows) (λ (p : ℕ × Row). f p.0 p.1) ∙ length-enumerate_from 0 rows
 
--- rows stay where they are, if the change leaves what never changes
+-- Requests retain their entry and chain, if the change does.
 pub mapped_stay : (f : ℕ → Row → Row) (rows : List Row) → ((r : ℕ) (row : Row) → fixed_of (f r row) ≡ fixed_of row) → Stay rows (map_numbered f rows)
 mapped_stay f rows same r l = ap (option_map fixed_of) (mapped_at f rows r) ∙ by (slice_get rows r)
   where

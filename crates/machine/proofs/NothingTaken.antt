@@ -27,9 +27,9 @@ use Rattle.machine.proofs.FormedMachines.{mostly}
 use Rattle.machine.proofs.FormedSubmissions.{length-taken_words}
 use Rattle.machine.proofs.SubmissionLemmas.{take_told}
 
--- ---- nothing falls
+-- ---- An empty cascade
 
--- a test that gives nothing lists nothing
+-- A function without results lists nothing.
 none_listed : (f : ℕ → Row → Option ℤ) (rows : List Row) → ((r : ℕ) (row : Row) → slice_get rows r ≡ Some row → f r row ≡ None) → endings f rows ≡ []
 none_listed f rows h = sym (upto_all f rows 0 (λ r row l e. by r row e (is_unfinished row.phase)))
   where
@@ -58,7 +58,7 @@ nothing_listed rows counted h =
 pub nothing_falls : (m : Machine) → WellFormed m → fallen m [] ≡ m
 nothing_falls m f = fall_in_turn m [] (posts m (mostly m f)) ∙ ap (ended_in_turn m) (nothing_listed m.table m.counted f.unmet)
 
--- ---- nothing is taken
+-- ---- Nothing is consumed
 
 no_entries : (b : Bool) (v : WorldState) (w : SubWords) → taken_entries b v w 0 ≡ []
 no_entries true v w = refl
@@ -94,7 +94,7 @@ nothing_submitted m f =
 pub take_of_nothing : (m : Machine) → WellFormed m → after m (Take 0) ≡ m
 take_of_nothing m f = nothing_submitted m f
 
--- ---- an Enter of nothing
+-- ---- An Enter that submits nothing
 
 pub enter_of_nothing : (m : Machine) (t min_complete : ℕ) → WellFormed m → executed m t (Some (Enter 0 min_complete 0)) ≡ answered m t (pos 0)
 enter_of_nothing m t min_complete f = by m.poller

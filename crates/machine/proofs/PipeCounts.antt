@@ -1,4 +1,4 @@
--- How many bytes go into pipes over a whole run.
+-- How many bytes are written to pipes in a whole run.
 use Rattle.std.proofs.Common.{◌*◌, ◌^◌, arith}
 use Rattle.links_drains.specs.Phases.{ended_of}
 use Rattle.links_drains.proofs.Counting.{ended-le-length}
@@ -7,6 +7,6 @@ use Rattle.opcodes.proofs.Counting.{puts_more}
 use Rattle.machine.specs.Whole.{WellFormed}
 use Rattle.machine.specs.declared.whole.Machine.{Machine}
 
--- there is room in the counts of pipes for what one request puts in
+-- The counters of pipes have room for the bytes of one more request.
 pub puts_fit : (m : Machine) → WellFormed m → PutsWithin (2 ^ 63) m.world
 puts_fit m f = puts_more (65536 * ended_of m.table) (2 ^ 63) m.world (let a = ended-le-length m.table in let b = f.mostly.table.few in omega (arith, a, b)) f.puts

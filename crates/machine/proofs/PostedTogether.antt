@@ -1,4 +1,4 @@
--- Completions that are posted together are as if the first had been posted before the others.
+-- To post completions together is the same as to post the first and then the others.
 use Rattle.std.proofs.Common.{◌≡◌, ℕ, zero, suc, Bool, true, false, refl, sym, ◌∙◌, ap, List, [], ◌∷◌, ◌++◌, length, take, drop, append_assoc, length-append, ◌<◌, ◌≤◌, ◌⊎◌, inl, inr, arith}
 use Rattle.std.specs.Prelude.{not, ◌==◌}
 use Rattle.std.proofs.lemmas.Bool.{cases_lt, ne_eqb}
@@ -12,25 +12,25 @@ use Rattle.overflow.proofs.Posting.{posted_slots, posted_waits}
 use Rattle.machine.specs.Whole.{flag_word}
 use Rattle.machine.proofs.FormedMachines.{overflow_flag}
 
--- where a flags word tells what it should, only the last setting of a flag counts
+-- With a right flags word, only the last update of IORING_SQ_CQ_OVERFLOW counts.
 flagged_again : (s : SubWords) (a b : Bool) (x y : BacklogState) → s.flags ≡ flag_word a b → flagged (flagged s x) y ≡ flagged s y
 flagged_again s a b x y h = ap (λ n. record s { flags = n }) (rw h (ap (λ n. with_flag n CqOverflow (not (is_clear y))) (overflow_flag a b (not (is_clear x))) ∙ overflow_flag a (not (is_clear x)) (not (is_clear y)) ∙ sym (overflow_flag a b (not (is_clear y)))))
 
--- the first goes into the ring
+-- The first completion fits in the ring.
 into_ring : (d : Delivery) (a b : Bool) (c : Cqe) (cs : List Cqe) (j : ℕ) → d.submissions.flags ≡ flag_word a b → all_posted_at (all_posted_at d (c ∷ []) 1) cs j ≡ all_posted_at d (c ∷ cs) (suc j)
 into_ring d a b c cs j h =
     ap (λ s. record { submissions = s; completions = posted_in_order (posted_one d.completions c) (take j cs); backlog = backlog_with (backlog_with d.backlog []) (drop j cs) })
     (flagged_again d.submissions a b (backlog_with d.backlog []) (backlog_with (backlog_with d.backlog []) (drop j cs)) h)
     ∙ ap (λ xs. record { submissions = flagged d.submissions (record d.backlog { items = xs ++ drop j cs }); completions = posted_in_order (posted_one d.completions c) (take j cs); backlog = record d.backlog { items = xs ++ drop j cs } }) (append-nil d.backlog.items)
 
--- or none of them does
+-- No completion fits.
 behind_kept : (d : Delivery) (a b : Bool) (c : Cqe) (cs : List Cqe) → d.submissions.flags ≡ flag_word a b → all_posted_at (all_posted_at d (c ∷ []) 0) cs 0 ≡ all_posted_at d (c ∷ cs) 0
 behind_kept d a b c cs h =
     ap (λ s. record { submissions = s; completions = d.completions; backlog = backlog_with (backlog_with d.backlog (c ∷ [])) cs })
     (flagged_again d.submissions a b (backlog_with d.backlog (c ∷ [])) (backlog_with (backlog_with d.backlog (c ∷ [])) cs) h)
     ∙ ap (λ xs. record { submissions = flagged d.submissions (record d.backlog { items = xs }); completions = d.completions; backlog = record d.backlog { items = xs } }) (append_assoc d.backlog.items (c ∷ []) cs)
 
--- as many fit
+-- The same number fits.
 counted_out : (d : Delivery) (c : Cqe) (cs : List Cqe) (i j k : ℕ) → fits d.completions d.backlog 1 ≡ i → fits (all_posted_at d (c ∷ []) i).completions (all_posted_at d (c ∷ []) i).backlog (length cs) ≡ j → fits d.completions d.backlog (suc (length cs)) ≡ k
     → all_posted_at (all_posted_at d (c ∷ []) i) cs j ≡ all_posted_at d (c ∷ cs) k → all_posted (all_posted d (c ∷ [])) cs ≡ all_posted d (c ∷ cs)
 counted_out d c cs i j k e f g h =
@@ -39,7 +39,7 @@ counted_out d c cs i j k e f g h =
     ∙ h
     ∙ sym (ap (all_posted_at d (c ∷ cs)) g)
 
--- a backlog that has one more is not clear
+-- A backlog with one more item isn't empty.
 not_clear : (b : BacklogState) (c : Cqe) → b.front ≤ length b.items → is_clear (backlog_with b (c ∷ [])) ≡ false
 not_clear b c f = ap (λ xs. length xs == 0) (kept_with b (c ∷ []) f) ∙ ne_eqb (length (kept b ++ c ∷ [])) 0 (λ o. absurd (let a = length-append (kept b) (c ∷ []) in omega (arith, a, o)))
 
@@ -68,7 +68,7 @@ posted_together d a b c cs f h = by (is_clear d.backlog) (cases_lt 0 (free_slots
     by true (inr l) e = none (let k = fits_clear d.completions d.backlog 1 e in omega (arith, k, l)) (let k = fits_clear d.completions d.backlog (suc (length cs)) e in omega (arith, k, l))
     by false s e = none (fits_behind d.completions d.backlog 1 e) (fits_behind d.completions d.backlog (suc (length cs)) e)
 
--- posting none changes nothing
+-- Posting none changes nothing.
 pub none_posted : (d : Delivery) (a : Bool) → d.submissions.flags ≡ flag_word a (not (is_clear d.backlog)) → all_posted d [] ≡ d
 none_posted d a h = by (fits d.completions d.backlog 0)
   where

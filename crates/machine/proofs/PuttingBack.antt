@@ -1,4 +1,4 @@
--- What a list of changes puts back.
+-- Undoing a list of changes.
 use Rattle.std.proofs.Common.{◌≡◌, ℕ, Bool, true, false, cond, refl, sym, ◌∙◌, ap, subst, List, ◌∷◌, length, map, arith}
 use Rattle.std.specs.Prelude.{Option, Some, None, is_some, option_map, slice_get, unwrap_or}
 use Rattle.std.proofs.lemmas.Option.{slice_get-map}
@@ -28,7 +28,7 @@ use Rattle.machine.specs.Threads.{ThreadState, program_of}
 use Rattle.machine.specs.Whole.{view, can_put, stage_of, OneSetup, WellFormed}
 use Rattle.machine.specs.declared.whole.Machine.{Machine}
 
--- an exact record leads back
+-- An exact record leads back.
 pub back_from_exact : (u v : View) (cs : List Change) → Exact u v cs → LeadsBack u v cs
 back_from_exact u v cs h p = by (named cs p) refl
   where
@@ -36,7 +36,7 @@ back_from_exact u v cs h p = by (named cs p) refl
     by None e = sym (h.same p e)
     by (Some x) e = (h.differs p x e).0
 
--- putting back the first change first
+-- Undoing a list begins with its first change.
 pub undo-cons : (v w : View) (c : Change) (cs : List Change) → named cs c.place ≡ None → ((q : Place) → w q ≡ put_at v c.place c.old q) → (p : Place) → undo w cs p ≡ undo v (c ∷ cs) p
 unfolding named
 undo-cons v w c cs n h p = ap (unwrap_or (named cs p)) (h p) ∙ by (same_place c.place p) refl
@@ -48,7 +48,7 @@ undo-cons v w c cs n h p = ap (unwrap_or (named cs p)) (h p) ∙ by (same_place 
 same_count : (s m : Machine) → OneSetup s m → length s.threads ≡ length m.threads
 same_count s m h = simp length-map at (ap length h.programs)
 
--- ---- the poller, if there is one
+-- ---- The poller, if there is one
 
 poller_put : (o o' : Option Poller) (v : Value) → is_some o ≡ is_some o' → stage_of o ≡ Some v → (is_some o' ≡ true) × ((b : Bool) × (v ≡ StandsAwake b))
 poller_put None o' v h e = absurd cc
@@ -69,12 +69,12 @@ one_poller (Some p) (Some q) e = ap Some (same_poller p q at)
     at PollerStage = e
     at _ = refl
 
--- ---- the parts
+-- ---- The parts
 
 kept_front : (s : Machine) → WellFormed s → BacklogFormed s.backlog
 kept_front s f = record { front = let k = ended-le-length s.table in omega (arith, f.mostly.kept.front, f.mostly.kept.overflowed, f.mostly.table.few, k) }
 
--- what a machine shows can be put into each machine of its setup
+-- The values of one machine may be written into any machine with the same setup.
 pub seen_can_put : (s m : Machine) → WellFormed s → OneSetup s m → map fixed_of s.table ≡ map fixed_of m.table → length s.backlog.items ≡ length m.backlog.items → (p : Place) (v : Value) → view s p ≡ Some v → can_put m p (Some v)
 seen_can_put s m f h r b SubmissionHead v e = sub_seen_can_put s.submissions m.submissions f.mostly.rings.submissions h.array h.slots SubmissionHead v e
 seen_can_put s m f h r b SubmissionTail v e = sub_seen_can_put s.submissions m.submissions f.mostly.rings.submissions h.array h.slots SubmissionTail v e
@@ -107,7 +107,7 @@ seen_can_put s m f h r b (ThreadStage t) v e = let k = some_here (λ (x : Thread
 seen_can_put s m f h r b (Last t) v e = let k = some_here (λ (x : ThreadState). Signed x.last) s.threads m.threads t v (same_count s m h) e in subst (λ (w : Value). can_put m (Last t) (Some w)) (sym k.1.2) (k.0, (f.mostly.threads t k.1.0 k.1.1).last)
 seen_can_put s m f h r b (Got t) v e = let k = some_here (λ (x : ThreadState). Reaped x.got) s.threads m.threads t v (same_count s m h) e in subst (λ (w : Value). can_put m (Got t) (Some w)) (sym k.1.2) k.0
 
--- where nothing stands, nothing stands in each machine of the setup with as many rows
+-- A place that is absent in one machine is absent in any with the same setup and as many requests.
 pub absent_same : (s m : Machine) → OneSetup s m → map fixed_of s.table ≡ map fixed_of m.table → length s.backlog.items ≡ length m.backlog.items → (p : Place) → view s p ≡ None → view m p ≡ None
 absent_same s m h r b SubmissionHead e = sub_absent_same s.submissions m.submissions h.array h.slots SubmissionHead e
 absent_same s m h r b SubmissionTail e = sub_absent_same s.submissions m.submissions h.array h.slots SubmissionTail e
@@ -140,7 +140,7 @@ absent_same s m h r b (ThreadStage t) e = none_here (λ (x : ThreadState). Stage
 absent_same s m h r b (Last t) e = none_here (λ (x : ThreadState). Signed x.last) s.threads m.threads t (same_count s m h) e
 absent_same s m h r b (Got t) e = none_here (λ (x : ThreadState). Reaped x.got) s.threads m.threads t (same_count s m h) e
 
--- ---- machines of one setup that show the same are one
+-- ---- Machines with the same setup and the same values are equal
 
 slice_get-map_program : (ts : List ThreadState) (t : ℕ) → slice_get (map program_of ts) t ≡ option_map program_of (slice_get ts t)
 slice_get-map_program ts t = slice_get-map program_of ts t

@@ -1,4 +1,4 @@
--- The refusal that is told is the first, in the order of the numbers, whose cause an event has.
+-- The reported refusal is the one with the smallest number among the causes of an event.
 use Rattle.std.proofs.Common.{◌≡◌, ℕ, Bool, true, false, cond, refl, sym, ◌∙◌, ap, subst, List, [], ◌∷◌, length, ◌+◌, ◌-◌, ◌<◌, ◌^◌, ◌⊎◌, inl, inr, arith}
 use Rattle.std.specs.Prelude.{Option, Some, None, is_none, not, ◌==◌, ◌&&◌, ◌||◌, slice_get, nat_lt, nat_le, unwrap_or}
 use Rattle.std.specs.List.{find}
@@ -36,12 +36,12 @@ use Rattle.scenario.specs.declared.event.Event.TheVariants.{Step, Take, Sleep, I
 use Rattle.scenario.specs.declared.event.Refusal.{Refusal}
 use Rattle.scenario.specs.declared.event.Refusal.TheVariants.{NoSuchThread, ThreadDone, SqFull, NothingToReap, StillWaiting, NoSuchRequest, WrongPhase, NotEligible, NotReady, NotDue, BadChoice, NoPoller, Asleep, NotIdle, ClockFull, RequestsFull, Memory}
 
--- ---- the first of all refusals, in the order of their numbers
+-- ---- The first of all refusals, by number
 
 abbrev refusals : List Refusal
 refusals = NoSuchThread ∷ ThreadDone ∷ SqFull ∷ NothingToReap ∷ StillWaiting ∷ NoSuchRequest ∷ WrongPhase ∷ NotEligible ∷ NotReady ∷ NotDue ∷ BadChoice ∷ NoPoller ∷ Asleep ∷ NotIdle ∷ ClockFull ∷ RequestsFull ∷ Memory ∷ []
 
--- each stands where its number says
+-- Each refusal is in the list at the index that its number gives.
 stands_at : (k : Refusal) → (i : ℕ) × (number_of k ≡ i + 1) × (slice_get refusals i ≡ Some k)
 stands_at NoSuchThread = (0, refl, refl)
 stands_at ThreadDone = (1, refl, refl)
@@ -61,11 +61,11 @@ stands_at ClockFull = (14, refl, refl)
 stands_at RequestsFull = (15, refl, refl)
 stands_at Memory = (16, refl, refl)
 
--- so those of one number are one
+-- Refusals with the same number are equal.
 same_number : (j k : Refusal) → number_of j ≡ number_of k → j ≡ k
 same_number j k e = let x = stands_at j in let y = stands_at k in let same : x.0 ≡ y.0 = omega (arith, x.1, y.1, e) in ap (λ o. unwrap_or o j) (sym x.2 ∙ ap (slice_get refusals) same ∙ y.2)
 
--- a list of refusals numbered from one on, to the last
+-- The refusals are numbered consecutively from i to the last.
 Numbered : ℕ → List Refusal → Type 0
 Numbered i [] = i ≡ 18
 Numbered i (x ∷ xs) = (number_of x ≡ i) × Numbered (i + 1) xs
@@ -74,7 +74,7 @@ abbrev all_numbered : Numbered 1 refusals
 unfolding Numbered
 all_numbered = (refl, (refl, (refl, (refl, (refl, (refl, (refl, (refl, (refl, (refl, (refl, (refl, (refl, (refl, (refl, (refl, (refl, refl)))))))))))))))))
 
--- What is told where a test says which causes there are: the least number, or none.
+-- The result is the refusal with the smallest number that passes the test, or none if none does.
 abbrev Told : (Refusal → Bool) → Option Refusal → Type 0
 Told test None = (k : Refusal) → test k ≡ false
 Told test (Some n) = (test n ≡ true) × ((k : Refusal) → number_of k < number_of n → test k ≡ false)
@@ -97,7 +97,7 @@ first_told test i (x ∷ xs) e below = by (λ b. first_told test (i + 1) xs e.1 
     by next true h = (h, λ k l. below k (subst (λ n. number_of k < n) e.0 l))
     by next false h = next (further h)
 
--- ---- events
+-- ---- Events
 
 abbrev First : Machine → Event → Type 0
 First m e = refusal m e ≡ find (has_cause m e) refusals
@@ -138,7 +138,7 @@ issue_first m r = by (slice_get m.table r)
     by None = refl
     by (Some row) = at row.phase
 
--- an issued row that is no timer
+-- An issued request that is no timer.
 choice_first : (m : Machine) (c : Choice) (row : Row) → choice_refusal (is_held_by m.table) m.world row c ≡ cond (is_unready m c row) (Some NotReady) (cond (cannot_end m c row) (Some BadChoice) None)
 choice_first m c row = by (is_cancel row.entry.opcode) c (outcome_of (is_held_by m.table) m.world row c)
   where
@@ -181,7 +181,7 @@ expire_first m r = by (slice_get m.table r)
     by None = refl
     by (Some row) = at row.phase (is_timer row.entry.opcode) (is_due m.clock row)
 
--- more than the greatest number of 64 bits
+-- Whether a number exceeds 64 bits.
 passes_clock : (n : ℕ) → not (nat_lt n (2 ^ 64)) ≡ nat_lt (2 ^ 64 - 1) n
 passes_clock n = grind (arith, nat_tests)
 
@@ -192,13 +192,13 @@ tick_first m d = by (nat_lt (m.clock + d) (2 ^ 64)) ∙ ap (λ b. cond b (Some C
     by true = refl
     by false = refl
 
--- ---- instructions
+-- ---- Instructions
 
--- a program is at its end where it has no instruction
+-- A thread is at the end of its program exactly if it has no next instruction.
 ends : {X : Type 0} (xs : List X) (n : ℕ) → nat_le (length xs) n ≡ is_none (slice_get xs n)
 ends xs n = elim (slice_get_cases xs n).1 [ inl there ↦ lt-leb (length xs) n there.1 ∙ ap is_none (sym there.2) | inr past ↦ le-leb (length xs) n past.0 ∙ ap is_none (sym past.1) ]
 
--- a flush leaves what a submission makes
+-- A flush doesn't change what a submission adds.
 as_before : (m : Machine) (k : ℕ) (b : Bool) → submission_refusal (cond b (flushed m) m) k ≡ submission_refusal m k
 unfolding sub_list
 as_before m k true = refl
@@ -242,7 +242,7 @@ first_is_told m (Finish r c) = finish_first m r c
 first_is_told m (Expire r) = expire_first m r
 first_is_told m (Tick d) = tick_first m d
 
--- ---- the laws
+-- ---- The theorems
 
 told_as : (m : Machine) (e : Event) → Told (has_cause m e) (refusal m e)
 told_as m e = subst (Told (has_cause m e)) (sym (first_is_told m e)) (first_told (has_cause m e) 1 refusals all_numbered (λ k l. let x = stands_at k in absurd (omega (arith, x.1, l))))

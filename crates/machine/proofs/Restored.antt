@@ -1,4 +1,4 @@
--- How far changes have been put back.
+-- Restoring the old values of a record, one change after the other.
 use Rattle.std.proofs.Common.{◌≡◌, ℕ, ◌+◌, Bool, true, false, cond, refl, sym, ◌∙◌, ap, subst, List, [], ◌∷◌, ◌++◌, length, map}
 use Rattle.std.specs.Prelude.{Option, Some, None, IsSome, is_some, unwrap_or}
 use Rattle.places.specs.declared.place.Place.{Place}
@@ -24,7 +24,7 @@ use Rattle.machine.proofs.Lifting.{lift_world}
 use Rattle.machine.proofs.Staying.{Remains}
 use Rattle.machine.proofs.PuttingBack.{undo-cons, seen_can_put, absent_same, same_machine}
 
--- of the changes these are left
+-- The changes in `left` remain to be undone.
 pub record Restored (before : Machine) (cs : List Change) (now : Machine) (left : List Change) : Type 0 where
   pub setup : OneSetup before now
   pub rows : map fixed_of before.table ≡ map fixed_of now.table
@@ -46,7 +46,7 @@ first_named : (c : Change) (left : List Change) → named (c ∷ left) c.place �
 unfolding named
 first_named c left = ap (λ b. cond b (Some c.old) (named left c.place)) (same_place_self c.place)
 
--- the change that comes next is what stands in the machine gone back to
+-- The old value of the next change is the value in the machine to restore.
 next_is : (s before now : Machine) (cs : List Change) (c : Change) (left : List Change) → Overwrites s before cs → Restored before cs now (c ∷ left) → c.old ≡ view s c.place
 next_is s before now cs c left g r = g.stood c.place c.old (r.told c.place c.old (first_named c left))
 
@@ -66,7 +66,7 @@ restored_on before now next cs c left o l b e r = record {
   same = λ p. undo-cons (view now) (view next) c left r.once.0 e p ∙ r.same p;
 }
 
--- a change that takes nothing back
+-- A change of a place that was absent is skipped.
 pub restored_skip : (s before now : Machine) (cs : List Change) (c : Change) (left : List Change) → c.old ≡ None → Overwrites s before cs → Restored before cs now (c ∷ left) → Restored before cs now left
 restored_skip s before now cs c left e g r = restored_on before now now cs c left (setup_self now) refl refl stays r
   where
@@ -80,14 +80,14 @@ restored_skip s before now cs c left e g r = restored_on before now now cs c lef
     stays : (q : Place) → view now q ≡ put_at (view now) c.place c.old q
     stays q = at q (same_place c.place q) refl
 
--- at the end
+-- All changes were undone.
 pub restored_all : (before now : Machine) (cs left : List Change) → left ≡ [] → Restored before cs now left → Overwritten before now cs
 unfolding named
 restored_all before now cs left h r = record { setup = r.setup; rows = r.rows; backlog = r.backlog; undone = λ p. ap (λ ds. undo (view now) ds p) (sym h) ∙ r.same p }
 
--- ---- bytes, a stretch at a time
+-- ---- Bytes, one range at a time
 
--- several changes at once
+-- Several changes are undone at once.
 pub restored_over : (before now next : Machine) (cs ds left : List Change) → Overwritten now next ds → Restored before cs now (ds ++ left) → Restored before cs next left
 restored_over before now next cs ds left o r = record {
   setup = setup_then before now next r.setup o.setup;
@@ -98,14 +98,14 @@ restored_over before now next cs ds left o r = record {
   same = λ p. ap (λ y. unwrap_or (named left p) y) (o.undone p) ∙ sym (undo-append (view now) ds left r.once p) ∙ r.same p;
 }
 
--- what is put into a byte's place is put into the world's
+-- A place of a byte that may be written in the machine is present among the objects and the memory.
 stands : (m : Machine) (g : Region) (j : ℕ) (v : Value) → can_put m (place_in g j) (Some v) → IsSome (world_seen m.world (place_in g j))
 stands m Memory j v h = h.there
 stands m (File o) j v h = h.there
 stands m (Durable o) j v h = h.there
 stands m (Pipe o) j v h = h.there
 
--- where a byte of the next stretch is kept, one stands
+-- Each byte of the next range that has an old value is present.
 pub stretch_stands : (s before now : Machine) (cs : List Change) (g : Region) (i : ℕ) (os : List (Option ℕ)) (left : List Change) → Overwrites s before cs → Restored before cs now (old_bytes g i os ++ left) → BytesStand (world_seen now.world) g i os
 stretch_stands s before now cs g i os left w r k b e =
     let told = r.told (place_in g (i + k)) (Some (Byte b)) (named_front (old_bytes g i os) left (place_in g (i + k)) (Some (Byte b)) (named_here g i os k b e)) in
@@ -116,7 +116,7 @@ unnamed : (p : Place) → named [] p ≡ None
 unfolding named
 unnamed p = refl
 
--- the bytes of a stretch were put back in the world
+-- The bytes of a range were restored among the objects and the memory.
 pub world_put_back : (m : Machine) (w : WorldState) (g : Region) (i : ℕ) (os : List (Option ℕ)) → OneWorldSetup m.world w → ((p : Place) → world_seen w p ≡ undo (world_seen m.world) (old_bytes g i os) p) → Overwritten m (record m { world = w }) (old_bytes g i os)
 world_put_back m w g i os o h = record {
   setup = record { array = refl; slots = refl; completions = refl; world = o; programs = refl; poller = refl; submit_all = refl };
@@ -131,7 +131,7 @@ world_put_back m w g i os o h = record {
     lifted : Keeps everywhere (view m) (view (record m { world = w })) (old_bytes g i os) []
     lifted = lift_world m w (old_bytes g i os) [] kept
 
--- ---- a part of the changes after the other
+-- ---- One part of the changes after the other
 
 overwrites : (s m : Machine) (cs : List Change) → Remains s m cs → Overwrites s m cs
 overwrites s m cs r = record { formed = r.formed; setup = r.setup; rows = r.rows; backlog = r.backlog; stood = λ p x h. sym (ap (λ n. unwrap_or n (view m p)) h) ∙ r.back p }
@@ -156,7 +156,7 @@ overwritten_then m n o cs ds once a b = record {
   undone = λ p. b.undone p ∙ ap (λ y. unwrap_or (named ds p) y) (a.undone p) ∙ sym (undo-append (view m) cs ds once p);
 }
 
--- the changes of a record in three parts
+-- The changes of a record, in three parts.
 module _ (s m : Machine) (cs a b c : List Change) (e : cs ≡ a ++ (b ++ c)) (once : NamesOnce cs) (r : Remains s m cs) where
   parted : NamesOnce (a ++ (b ++ c))
   parted = subst NamesOnce e once
@@ -173,7 +173,7 @@ module _ (s m : Machine) (cs a b c : List Change) (e : cs ≡ a ++ (b ++ c)) (on
   pub third_part : (n o : Machine) → Overwritten m n a → Overwritten n o b → Overwrites s o c
   third_part n o x y = overwrites_back s n o b c (once_back a (b ++ c) parted) (overwrites_back s m n a (b ++ c) parted all x) y
 
-  -- what was gone back to
+  -- The machine to restore.
   pub went_back : (n o q : Machine) → Overwritten m n a → Overwritten n o b → Overwritten o q c → q ≡ s
   went_back n o q x y z =
       let w = overwritten_then m n q a (b ++ c) parted x (overwritten_then n o q b c (once_back a (b ++ c) parted) y z) in

@@ -1,4 +1,4 @@
--- The machine that a setup starts with is well formed.
+-- The initial machine of a setup is well formed.
 use Rattle.std.proofs.Common.{◌≡◌, ℕ, Bool, true, false, cond, refl, sym, ◌∙◌, ap, subst, List, [], ◌∷◌, length, map, ◌+◌, ◌<◌, ◌≤◌, ◌^◌, ◌⊎◌, inl, inr, arith}
 use Rattle.std.specs.Prelude.{Option, Some, None, slice_get, ◌&&◌, not}
 use Rattle.std.specs.List.{list_all}
@@ -39,7 +39,7 @@ both_true : (a b : Bool) → (a && b) ≡ true → (a ≡ true) × (b ≡ true)
 both_true true b h = (refl, h)
 both_true false b h = absurd cc
 
--- ---- facts of each element up to an index
+-- ---- Facts about each item below an index
 
 order : (a b : ℕ) → (a ≤ b) ⊎ (b < a)
 order a b = elim (leb_tells a b) [ inl k ↦ inl k.1 | inr k ↦ inr k.1 ]
@@ -54,14 +54,14 @@ below_on {X} P xs i y at p below j x l h = by (order i j)
 pub all_below : {X : Type 0} (P : X → Type 0) (xs : List X) (i : ℕ) → length xs ≤ i → ((j : ℕ) (x : X) → j < i → slice_get xs j ≡ Some x → P x) → (j : ℕ) (x : X) → slice_get xs j ≡ Some x → P x
 all_below P xs i l below j x h = let w = slice_get_within xs j x h in below j x (omega (arith, w, l)) h
 
--- ---- elements of lists that pass a test
+-- ---- Items of lists that pass a test
 
 list_all_get : {X : Type 0} (q : X → Bool) (xs : List X) (i : ℕ) (x : X) → list_all q xs ≡ true → slice_get xs i ≡ Some x → q x ≡ true
 list_all_get q [] i x h g = absurd cc
 list_all_get q (y ∷ ys) zero x h g = let e : y ≡ x = cc in ap q (sym e) ∙ (both_true (q y) (list_all q ys) h).0
 list_all_get q (y ∷ ys) (suc i) x h g = list_all_get q ys i x (both_true (q y) (list_all q ys) h).1 g
 
--- ---- instructions and programs
+-- ---- Instructions and programs
 
 done : (size : ℕ) (x : Instruction) → is_instruction size x ≡ true → HasWidths x → IsDone size x
 done size (Put slot entry) h w = grind (arith, nat_tests)
@@ -79,7 +79,7 @@ program size p h w =
       done = λ i x g. done size x (list_all_get (is_instruction size) p i x b.1 g) (w i x g);
     }
 
--- ---- the setup's fields
+-- ---- The setup's fields
 
 pub record Accepted (s : Setup) : Type 0 where
   pub sizes : has_ring_sizes s ≡ true
@@ -103,7 +103,7 @@ accepted s h = by (has_ring_sizes s) (keeps_limits s) refl refl h
     by true false d e k = absurd cc
     by false b d e k = absurd cc
 
--- what the memory and the objects of a setup start as
+-- The initial memory and objects of a setup fit.
 pub memory_fits : (s : Setup) → Accepted s → length s.memory ≤ 65536
 memory_fits s a = grind (arith, nat_tests, a.memory)
 
@@ -123,7 +123,7 @@ descriptors_few s a =
     let few = both_true (leb (length s.fds) 64) (list_all (is_descriptor s.objects) s.fds) a.descriptors in
     grind (arith, nat_tests, few.0)
 
--- nothing went into the pipes of a setup
+-- The initial pipes have received no bytes.
 puts_start : (memory : List ℕ) (os : List Object) (ds : List Descriptor) → PutsWithin 0 (world_start memory os ds)
 puts_start memory os ds o p h = by os o h
   where
@@ -154,7 +154,7 @@ completions_between entries (Some n) l m h =
     let c = both_true (leb 1 n) (leb n 8192) b.0 in
     (grind (arith, nat_tests, c.0), grind (arith, nat_tests, c.1))
 
--- ---- the whole
+-- ---- The whole machine
 
 threads_stand : (s : Setup) → Accepted s → HaveWidths s.threads → (t : ℕ) (x : ThreadState) → slice_get (map thread_start s.threads) t ≡ Some x → Stands (rounded s.entries) x
 threads_stand s a w t x h = by (slice_get s.threads t) refl (sym (slice_get-map thread_start s.threads t) ∙ h)
@@ -211,7 +211,7 @@ formed_start s h b w =
     none_there : (x : Row) → None ≡ Some x → ⊥
     none_there x k = cc
 
--- ---- lists that grow by what f makes of each element
+-- ---- Lists that are built by a function of each item
 
 pub mapped_on : {X Y : Type 0} (f : X → Y) (xs : List X) (ys zs : List Y) (i : ℕ) (x : X) (y : Y) → ys ≡ map f (take i xs) → zs ≡ ys ++ y ∷ [] → y ≡ f x → slice_get xs i ≡ Some x → zs ≡ map f (take (i + 1) xs)
 mapped_on f xs ys zs i x y h k e g =

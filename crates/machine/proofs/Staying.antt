@@ -1,4 +1,4 @@
--- How many rows, and items of the backlog, stay when a record is put back.
+-- How many requests and overflowed completions remain when a step is undone.
 use Rattle.std.proofs.Common.{◌≡◌, ℕ, sym, subst, ◌∙◌, List, length, take, map}
 use Rattle.std.proofs.lemmas.List.{length-take-le}
 use Rattle.places.specs.declared.listed.Listed.TheVariants.{Requests, Overflowed}
@@ -14,11 +14,11 @@ use Rattle.links_drains.proofs.Remaining.{stay_cut}
 use Rattle.machine.specs.Whole.{view, GoesBack, OneSetup, WellFormed}
 use Rattle.machine.specs.declared.whole.Machine.{Machine}
 
--- the machine with so many of its rows and of its backlog's items
+-- The machine with fewer requests and fewer items of the backlog.
 abbrev pub cut : ℕ → ℕ → Machine → Machine
 cut rows items m = record m { table = take rows m.table; backlog = record m.backlog { items = take items m.backlog.items } }
 
--- Changes lead back to a machine with as many rows and items.
+-- The changes lead back to a machine with as many requests and items.
 pub record Remains (s m : Machine) (cs : List Change) : Type 0 where
   pub formed : WellFormed s
   pub setup : OneSetup s m
@@ -26,7 +26,7 @@ pub record Remains (s m : Machine) (cs : List Change) : Type 0 where
   pub backlog : length s.backlog.items ≡ length m.backlog.items
   pub back : LeadsBack (view s) (view m) cs
 
--- so they do once those are gone that are named as absent
+-- This holds once the places that were absent are removed.
 pub remains : (s m : Machine) (cs : List Change) (few some rows items : ℕ) → few ≡ length m.table → some ≡ length m.backlog.items → IsLeft Requests cs few rows → IsLeft Overflowed cs some items
     → GoesBack s m cs → Remains s (cut rows items m) cs
 remains s m cs few some left kept e f fewer less g = record {

@@ -1,4 +1,4 @@
--- What a submission takes.
+-- Lemmas about what a submission consumes.
 use Rattle.std.proofs.Common.{◌≡◌, ℕ, Bool, true, false, cond, refl, sym, ◌∙◌, ap, List, ◌++◌, length, take, ◌+◌, ◌-◌, ◌%◌, ◌≤◌, ◌^◌, arith}
 use Rattle.std.specs.Prelude.{Some, None, min}
 use Rattle.std.proofs.Math.Dec.{ltb}
@@ -13,7 +13,7 @@ use Rattle.machine.specs.declared.whole.Machine.{Machine}
 use Rattle.scenario.specs.declared.event.Refusal.TheVariants.{RequestsFull}
 use Rattle.machine.proofs.TakingWords.{take_least}
 
--- ---- refusals
+-- ---- Refusals
 
 pub accepted_fits : (m : Machine) (k : ℕ) → submission_refusal m k ≡ None → length m.table + length (offered m.submissions k) ≤ 65536
 accepted_fits m k h = by (ltb 65536 (length m.table + length (offered m.submissions k))) refl h
@@ -22,13 +22,13 @@ accepted_fits m k h = by (ltb 65536 (length m.table + length (offered m.submissi
     by true e k' = absurd cc
     by false e k' = grind (arith, nat_tests)
 
--- ---- words
+-- ---- Words
 
--- offering all that wait is offering no more
+-- To offer more words than there are offers all of them.
 pub words_least : (w : SubWords) (k count : ℕ) → count ≡ min k (length (sub_list w)) → offered w count ≡ offered w k
 words_least w k count h = ap (λ n. take n (sub_list w)) h ∙ take_least k (sub_list w)
 
--- ---- the machine after it
+-- ---- The machine after it
 
 pub take_told : (m : Machine) (k count taken_rows : ℕ) (ring : SubWords) (rows : List Row) → offered m.submissions count ≡ words_for m k → count ≤ length (sub_list m.submissions)
     → rows ≡ m.table ++ rows_of m.world (length m.table) (entries_for m k) → taken_rows ≡ length (entries_for m k)

@@ -1,4 +1,4 @@
--- How far the words of the submission ring have been read, and which entries they name.
+-- Reading the words of the submission ring, and the entries that they refer to.
 use Rattle.std.proofs.Common.{◌≡◌, ℕ, zero, suc, Bool, true, false, cond, refl, sym, ◌∙◌, ap, List, [], ◌∷◌, ◌++◌, length, take, drop, ◌+◌, ◌-◌, ◌<◌, ◌≤◌, arith}
 use Rattle.std.specs.Prelude.{Option, Some, None, is_some, slice_get, min}
 use Rattle.std.proofs.lemmas.Grind.{common_steps}
@@ -13,11 +13,11 @@ use Rattle.machine.specs.Submission.{entries_at, up_to_entry}
 pub lt-ltb : (a b : ℕ) → a < b → ltb a b ≡ true
 lt-ltb a b h = grind (arith, nat_tests)
 
--- offering all that wait is offering no more
+-- To take more items than there are takes all of them.
 pub take_least : {X : Type 0} (k : ℕ) (xs : List X) → take (min k (length xs)) xs ≡ take k xs
 take_least k xs = grind (arith, common_steps)
 
--- ---- entries that words name
+-- ---- The entries of words
 
 pub one_more : (xs : List ℕ) (i x : ℕ) → slice_get xs i ≡ Some x → take (i + 1) xs ≡ take i xs ++ x ∷ []
 one_more xs i x h = take_more xs i x (slice_get_within xs i x h) ∙ ap (λ y. take i xs ++ y ∷ []) (get_or_from_slice_get xs i x x h)
@@ -28,7 +28,7 @@ entries-named slots words x e h = filter_map-append (slice_get slots) words (x �
 pub entries-skipped : (slots : List Sqe) (words : List ℕ) (x : ℕ) → slice_get slots x ≡ None → entries_at slots (words ++ x ∷ []) ≡ entries_at slots words
 entries-skipped slots words x h = filter_map-append (slice_get slots) words (x ∷ []) ∙ ap (λ es. entries_at slots words ++ es) (rw h refl) ∙ append-nil (entries_at slots words)
 
--- how many entries one word and others name
+-- How many entries one more word refers to.
 entries_more : (slots : List Sqe) (x : ℕ) (words : List ℕ) → length (entries_at slots (x ∷ words)) ≡ cond (is_some (slice_get slots x)) (suc (length (entries_at slots words))) (length (entries_at slots words))
 entries_more slots x words = by (slice_get slots x) refl
   where
@@ -36,7 +36,7 @@ entries_more slots x words = by (slice_get slots x) refl
     by None h = rw h refl
     by (Some e) h = rw h refl
 
--- ---- up to the n-th entry
+-- ---- Up to the n-th entry
 
 pub length-up_to_entry : (slots : List Sqe) (n : ℕ) (words : List ℕ) → length (up_to_entry slots n words) ≤ length words
 length-up_to_entry slots zero words = omega arith
@@ -47,7 +47,7 @@ length-up_to_entry slots (suc n) (x ∷ words) = by (is_some (slice_get slots x)
     by true h k = omega (arith, h)
     by false h k = omega (arith, k)
 
--- So many words have been read, and so many entries are still to come.
+-- `count` words were read, and `left` entries remain to be found.
 pub record Reading (slots : List Sqe) (words : List ℕ) (n count left : ℕ) : Type 0 where
   pub told : up_to_entry slots n words ≡ take count words ++ up_to_entry slots left (drop count words)
   pub named : left ≤ length (entries_at slots (drop count words))
@@ -65,7 +65,7 @@ past_end [] (suc i) h = refl
 past_end (y ∷ words) zero h = absurd (omega (arith, h))
 past_end (y ∷ words) (suc i) h = past_end words i (omega (arith, h))
 
--- while entries are to come there is a word
+-- While entries remain, there is a next word.
 pub reading_there : (slots : List Sqe) (words : List ℕ) (n count left : ℕ) → Reading slots words n count left → 0 < left → count < length words
 reading_there slots words n count left r l = grind (arith, less)
   where
@@ -76,7 +76,7 @@ step_told : (slots : List Sqe) (x : ℕ) (words : List ℕ) (left : ℕ) (b : Bo
 step_told slots x words zero b h l = absurd (omega (arith, l))
 step_told slots x words (suc left) b h l = let m : suc left - 1 ≡ left = omega arith in ap (λ c. x ∷ up_to_entry slots (cond c left (suc left)) words) h ∙ ap (λ k. x ∷ up_to_entry slots (cond b k (suc left)) words) (sym m)
 
--- one word more
+-- One more word is read.
 pub reading_on : (slots : List Sqe) (words : List ℕ) (n count left x : ℕ) (b : Bool) → Reading slots words n count left → 0 < left → slice_get words count ≡ Some x → is_some (slice_get slots x) ≡ b → Reading slots words n (count + 1) (cond b (left - 1) left)
 reading_on slots words n count left x b r l h k = record {
   told = r.told ∙ ap (λ ws. take count words ++ up_to_entry slots left ws) here ∙ ap (λ ws. take count words ++ ws) (step_told slots x (drop (count + 1) words) left b k l)

@@ -1,4 +1,4 @@
--- What is seen of changed threads.
+-- The places of changed threads.
 use Rattle.std.proofs.Common.{◌≡◌, ℕ, zero, suc, ℤ, Bool, true, false, cond, refl, sym, ◌∙◌, ap, List, [], ◌∷◌}
 use Rattle.std.specs.Prelude.{Option, Some, option_map, slice_get, slice_set, ◌==◌, ◌&&◌}
 use Rattle.std.proofs.lemmas.Option.{slice_get_within}
@@ -13,7 +13,7 @@ use Rattle.places.specs.Lists.{updated}
 use Rattle.places.proofs.ListLemmas.{field_set, field_same}
 use Rattle.machine.specs.Threads.{ThreadState, threads_seen}
 
--- a place with one index is told apart by it alone
+-- Places of the same kind differ only by their index.
 one_index : {X : Type 0} (b : Bool) (x y : X) → cond b x y ≡ cond (b && true) x y
 one_index true x y = refl
 one_index false x y = refl
@@ -50,13 +50,13 @@ seen_got ts t x n h (Last j) = field_same (λ y. Signed y.last) ts t j x (record
 seen_got ts t x n h (Got j) = field_set (λ y. Reaped y.got) ts t j (record x { got = n }) (slice_get_within ts t x h) ∙ one_index (t == j) (Some (Reaped n)) (option_map (λ y. Reaped y.got) (slice_get ts j))
 seen_got ts t x n h _ = refl
 
--- a thread changes twice
+-- A thread changes twice.
 pub updated_then : (f g : ThreadState → ThreadState) (ts : List ThreadState) (t : ℕ) → updated g (updated f ts t) t ≡ updated (λ x. g (f x)) ts t
 updated_then f g [] t = refl
 updated_then f g (x ∷ xs) zero = refl
 updated_then f g (x ∷ xs) (suc t) = ap (λ ys. x ∷ ys) (updated_then f g xs t)
 
--- a change that changes nothing
+-- A change that changes nothing.
 pub updated_same : (f : ThreadState → ThreadState) (ts : List ThreadState) (t : ℕ) (x : ThreadState) → slice_get ts t ≡ Some x → f x ≡ x → ts ≡ updated f ts t
 updated_same f [] t x h e = refl
 updated_same f (y ∷ ys) zero x h e = let same : y ≡ x = cc in ap (λ z. z ∷ ys) (same ∙ sym e ∙ ap f (sym same))

@@ -1,4 +1,4 @@
--- Running the filters again over what falls adds none: no unfinished guard's target is a guard.
+-- Cascades are complete, because the target of an unfinished linked timeout is no linked timeout.
 use Rattle.std.proofs.Common.{◌≡◌, ℕ, false, sym, ◌∙◌, ap, List, ◌++◌, length, ◌+◌, ◌⊎◌, inl, inr}
 use Rattle.std.specs.Prelude.{Some, slice_get}
 use Rattle.entries.specs.declared.row.Row.{Row}
@@ -11,7 +11,7 @@ use Rattle.machine.specs.declared.whole.Machine.{Machine}
 use Rattle.machine.proofs.FormedSubmissions.{old_or_new}
 use Rattle.machine.proofs.GuardLemmas.{batch_target, guard_before, same_row}
 
--- the target of a guard that stands is no guard
+-- The target of a linked timeout is no linked timeout.
 stands_formed : (rows : List Row) (r t : ℕ) (x target : Row) → GuardStands rows r x → x.target ≡ Some t → slice_get rows t ≡ Some target → is_guard target ≡ false
 stands_formed rows r t x target s k g =
     let same : s.target ≡ t = let o = sym s.is ∙ k in cc in

@@ -1,5 +1,5 @@
--- Which part of a machine has a place. The rest are its numbers, and what its poller does, if it has
--- one. No public contract cites it.
+-- Which part of the machine a place belongs to. `Rest` is the machine's own numbers and the
+-- poller's stage. Public contracts don't use it.
 use Rattle.std.specs.Prelude.{◌≡◌, true, false, ◌||◌}
 use Rattle.places.specs.declared.place.Place.{Place}
 use Rattle.ring_words.specs.Rings.{sub_owns, com_owns}

@@ -1,4 +1,5 @@
--- The cause of each refusal, by itself. Of all that an event has, that of the least number is told.
+-- The cause of each refusal, independent of other causes. If an event has several, the smallest
+-- number is reported.
 use Rattle.std.specs.Prelude.{ℕ, ◌+◌, ◌-◌, ◌^◌, ◌==◌, Bool, true, false, not, ◌&&◌, ◌||◌, nat_lt, nat_le, if◌then◌else◌, Option, None, is_none, slice_get, length}
 use Rattle.std.specs.Option.{option_map_or, option_and_then}
 use Rattle.entries.specs.declared.row.Row.{Row}
@@ -27,7 +28,7 @@ use Rattle.scenario.specs.declared.event.Event.TheVariants.{Step, Take, Sleep, I
 use Rattle.scenario.specs.declared.event.Refusal.{Refusal}
 use Rattle.scenario.specs.declared.event.Refusal.TheVariants.{NoSuchThread, ThreadDone, SqFull, NothingToReap, StillWaiting, NoSuchRequest, WrongPhase, NotEligible, NotReady, NotDue, BadChoice as IsBadChoice, NoPoller, Asleep, NotIdle, ClockFull, RequestsFull, Memory}
 
--- the number of a refusal
+-- The number of a refusal.
 abbrev pub number_of : Refusal → ℕ
 number_of NoSuchThread = 1
 number_of ThreadDone = 2
@@ -47,17 +48,18 @@ number_of ClockFull = 15
 number_of RequestsFull = 16
 number_of Memory = 17
 
--- ---- threads
+-- ---- Threads
 
--- whether the counter of a thread has come to the end of its program
+-- Whether the thread is at the end of its program.
 abbrev pub is_at_end : ThreadState → Bool
 is_at_end x = nat_le (length x.program) x.counter
 
--- what of its program a thread executes next: nothing while it waits
+-- The instruction that a thread executes next: none while it waits.
 abbrev pub executes : Stage → Option Instruction → Option Instruction
 executes Ready i = i
 executes (Waiting n w) i = None
 
+-- The instruction that thread t executes next.
 abbrev pub instruction_at : Machine → ℕ → Option Instruction
 instruction_at m t =
     option_and_then (λ x. executes x.stage (slice_get x.program x.counter)) (slice_get m.threads t)
@@ -70,31 +72,31 @@ abbrev pub is_reap : Instruction → Bool
 is_reap Reap = true
 is_reap i = false
 
--- whether fewer completions are in the ring than a thread waits for
+-- Whether the thread waits for more completions than the ring has.
 abbrev pub waits_still : Machine → Stage → Bool
 waits_still m Ready = false
 waits_still m (Waiting n w) = nat_lt (ready_count m) w
 
--- ---- submissions
+-- ---- Submissions
 
--- Whether the rows and what a submission of at most k entries is offered are above 65,536. A flush
--- before it changes neither.
+-- Whether a submission of at most k entries might exceed 65,536 requests. A flush doesn't change
+-- this.
 abbrev pub exceeds_rows : Machine → ℕ → Bool
 exceeds_rows m k = nat_lt 65536 (length m.table + length (offered m.submissions k))
 
--- whether an Enter runs a submission: there is no poller, its flags are known (EINVAL), and no
--- completion is kept behind its flush (EBUSY)
+-- Whether an Enter submits: there is no poller, its flags are known (else EINVAL), and no
+-- completion overflows after the flush (else EBUSY).
 abbrev pub runs_submission : Machine → ℕ → ℕ → Bool
 runs_submission m k flags =
     is_none m.poller && (not (is_unknown flags) && not (is_busy (before_submission m k flags) k))
 
--- whether an instruction runs one that is too large
+-- Whether an instruction makes a submission that is too large.
 abbrev pub submits_too_many : Machine → Instruction → Bool
 submits_too_many m (Enter to_submit min_complete flags) =
     runs_submission m to_submit flags && exceeds_rows m to_submit
 submits_too_many m i = false
 
--- ---- ends
+-- ---- Completions
 
 abbrev pub is_in_full : Choice → Bool
 is_in_full Full = true
@@ -111,23 +113,24 @@ is_bad_choice (Res res) = false
 is_bad_choice Waits = false
 is_bad_choice BadChoice = true
 
--- whether a row's outcome is that its object isn't ready; a cancel or a removal has none
+-- Whether the request's object isn't ready. A cancellation or a removal never waits.
 abbrev pub is_unready : Machine → Choice → Row → Bool
 is_unready m c row =
     not (is_cancel row.entry.opcode) && is_waits (outcome_of (is_held_by m.table) m.world row c)
 
--- whether it is that the choice isn't one of the row's; a cancel or a removal ends in full alone
+-- Whether the choice doesn't fit the request. A cancellation or a removal can only complete in
+-- full.
 abbrev pub cannot_end : Machine → Choice → Row → Bool
 cannot_end m c row =
     if is_cancel row.entry.opcode then not (is_in_full c)
     else is_bad_choice (outcome_of (is_held_by m.table) m.world row c)
 
--- ---- the causes
+-- ---- The causes
 
--- Whether an event has the cause of a refusal, whatever others it has; in the order of their
--- numbers. What is asked of a thread or a row is no cause where there is none. A row without a
--- deadline is never due, and a Take exceeds the rows whatever the poller does. Want of memory has
--- no cause in a machine.
+-- Whether an event has the cause of a refusal, whatever other causes it has. An event without such
+-- a thread or request has no cause that depends on it. A request without a deadline never expires,
+-- and a Take may be too large whatever the poller's stage. Running out of memory has no cause in
+-- the machine.
 abbrev pub has_cause : Machine → Event → Refusal → Bool
 has_cause m (Step t) NoSuchThread = is_none (slice_get m.threads t)
 has_cause m (Step t) ThreadDone = option_map_or is_at_end (slice_get m.threads t) false

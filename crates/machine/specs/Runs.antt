@@ -1,4 +1,4 @@
--- Starts, runs with their records, and moments.
+-- Initial machines, runs and their moments, and undo records.
 use Rattle.std.specs.Prelude.{◌≡◌, ℕ, Bool, true, false, Option, Some, None, List, [], ◌∷◌, map, take, slice_get}
 use Rattle.places.specs.declared.value.Change.{Change}
 use Rattle.places.specs.View.{LeadsBack}
@@ -16,15 +16,15 @@ use Rattle.machine.specs.declared.whole.Machine.{Machine}
 use Rattle.scenario.specs.declared.event.Event.{Event}
 use Rattle.scenario.specs.declared.event.Refusal.{Refusal}
 
--- ---- the start
+-- ---- The initial machine
 
--- the poller that a setup starts with, if it has one (IORING_SETUP_SQPOLL)
+-- The initial poller, which is awake, if the setup has one (IORING_SETUP_SQPOLL).
 abbrev pub first_poller : Bool → Option Poller
 first_poller true = Some Awake
 first_poller false = None
 
--- the machine that a setup starts with: empty rings whose words are the base, nothing kept, its
--- memory and objects, descriptors open, no rows, the poller awake, threads ready, all numbers 0
+-- The initial machine: empty rings, whose words are the base, no requests, the setup's memory and
+-- objects, and threads at the start of their programs. All descriptors are open.
 abbrev pub start : Setup → Machine
 start s = record {
   submissions = sub_start s.entries s.base;
@@ -39,38 +39,38 @@ start s = record {
   counted = 0;
 }
 
--- ---- runs
+-- ---- Runs
 
--- the machine after a list of events
+-- The machine after a list of events.
 abbrev pub run : Machine → List Event → Machine
 run m [] = m
 run m (e ∷ es) = run (after m e) es
 
--- None of the events is refused in its turn.
+-- No event is refused, each in the machine after the events before it.
 abbrev pub Accepts : Machine → List Event → Type 0
 Accepts m [] = Unit {0}
 Accepts m (e ∷ es) = (refusal m e ≡ None) × Accepts (after m e) es
 
--- the machine to which the first n events run from the start
+-- Moment n: the machine after the first n events.
 abbrev pub moment : Setup → List Event → ℕ → Machine
 moment s es n = run (start s) (take n es)
 
--- The first i events run from the start, and the next is refused.
+-- The first i events are accepted, and the next one is refused.
 pub record IsRefused (s : Setup) (es : List Event) (i : ℕ) (r : Refusal) : Type 0 where
   pub runs : Accepts (start s) (take i es)
   pub event : Event
   pub there : slice_get es i ≡ Some event
   pub refused : refusal (moment s es i) event ≡ Some r
 
--- ---- records
+-- ---- Records
 
--- The event leads from one machine to the next, and the record from the next back to it.
+-- The event leads from `old` to `new`, and the record leads back.
 pub record Link (old : Machine) (e : Event) (r : List Change) (new : Machine) : Type 0 where
   pub formed : WellFormed old
   pub next : Next old e new
   pub back : LeadsBack (view old) (view new) r
 
--- The events lead from one machine to another, and each record back by one event.
+-- The events lead from `old` to `new`, and each record undoes one of them.
 abbrev pub Linked : Machine → List Event → List (List Change) → Machine → Type 0
 Linked old [] [] new = new ≡ old
 Linked old (e ∷ es) (r ∷ rs) new = (mid : Machine) × Link old e r mid × Linked mid es rs new

@@ -1,5 +1,5 @@
--- The whole machine: what stands in each place, and which machines are well formed.
-use Rattle.std.specs.Prelude.{◌≡◌, ℕ, ◌+◌, ◌-◌, ◌*◌, ◌<◌, ◌≤◌, ◌^◌, Bool, true, false, not, if◌then◌else◌, Option, Some, None, is_some, IsSome, slice_get, map, List, length, FitsSigned}
+-- The whole machine: the values of its places, and the invariants of well-formed machines.
+use Rattle.std.specs.Prelude.{◌≡◌, pos, ℕ, ◌+◌, ◌-◌, ◌*◌, ◌<◌, ◌≤◌, ◌^◌, Bool, true, false, not, if◌then◌else◌, Option, Some, None, is_some, IsSome, slice_get, map, List, length, FitsSigned}
 use Rattle.std.specs.Int.{w64}
 use Rattle.entries.specs.declared.row.Row.{Row}
 use Rattle.places.specs.declared.place.Place.{Place}
@@ -13,7 +13,7 @@ use Rattle.ring_words.specs.Rings.{SubWords, ComWords, waiting, sub_seen, sub_ca
 use Rattle.links_drains.specs.Counts.{is_met}
 use Rattle.links_drains.specs.Links.{is_guard, Chained}
 use Rattle.links_drains.specs.Rows.{fixed_of, Stay, table_seen, table_can_put}
-use Rattle.links_drains.specs.Phases.{is_issued, is_unfinished, counted_of, ended_of}
+use Rattle.links_drains.specs.Phases.{is_queued, is_issued, is_unfinished, counted_of, ended_of}
 use Rattle.model_files.specs.declared.descriptor.DescriptorState.{DescriptorState}
 use Rattle.model_files.specs.Worlds.{WorldState, WorldFormed, world_seen, world_can_put, descriptor_of, OneSetup as OneWorldSetup, PutsWithin}
 use Rattle.opcodes.specs.Check.{op_of}
@@ -26,12 +26,12 @@ use Rattle.scenario.specs.declared.setup.Instruction.TheVariants.{Enter}
 use Rattle.machine.specs.Threads.{ThreadState, program_of, threads_seen, threads_can_put}
 use Rattle.machine.specs.declared.whole.Machine.{Machine}
 
--- what stands in the poller's place, if there is one
+-- The value of the poller's place, if there is a poller.
 abbrev pub stage_of : Option Poller → Option Value
 stage_of None = None
 stage_of (Some p) = poller_seen p PollerStage
 
--- what stands in each place: each case asks the part that owns it
+-- The value of each place, taken from the part that it belongs to.
 abbrev pub view : Machine → View
 view m SubmissionHead = sub_seen m.submissions SubmissionHead
 view m SubmissionTail = sub_seen m.submissions SubmissionTail
@@ -64,7 +64,7 @@ view m (ThreadStage t) = threads_seen m.threads (ThreadStage t)
 view m (Last t) = threads_seen m.threads (Last t)
 view m (Got t) = threads_seen m.threads (Got t)
 
--- whether a value may be put into a place
+-- Whether a value may be written into a place.
 abbrev pub can_put : Machine → Place → Option Value → Type 0
 can_put m SubmissionHead v = sub_can_put m.submissions SubmissionHead v
 can_put m SubmissionTail v = sub_can_put m.submissions SubmissionTail v
@@ -98,8 +98,8 @@ can_put m (Last t) v = threads_can_put m.threads (Last t) v
 can_put m (Got t) v = threads_can_put m.threads (Got t) v
 can_put m p v = ⊥
 
--- Two machines have what a setup fixes in common: sizes, programs, objects and descriptors, whether
--- there is a poller, and how it submits.
+-- The machines agree in all that a setup fixes: the sizes, the programs, the objects and
+-- descriptors, whether there is a poller, and whether a submission continues after an error.
 pub record OneSetup (m n : Machine) : Type 0 where
   pub array : length m.submissions.array ≡ length n.submissions.array
   pub slots : length m.submissions.slots ≡ length n.submissions.slots
@@ -109,25 +109,25 @@ pub record OneSetup (m n : Machine) : Type 0 where
   pub poller : is_some m.poller ≡ is_some n.poller
   pub submit_all : m.submit_all ≡ n.submit_all
 
--- Two machines of one setup, the second of which has the rows of the first, and no fewer items of
--- the backlog.
+-- The machines have the same setup. The second has all requests of the first, and no fewer
+-- overflowed completions.
 pub record Grows (m n : Machine) : Type 0 where
   pub setup : OneSetup m n
   pub rows : length m.table ≤ length n.table
   pub stay : Stay m.table n.table
   pub backlog : length m.backlog.items ≤ length n.backlog.items
 
--- whether the poller is asleep
+-- Whether the poller is asleep.
 abbrev pub is_asleep : Option Poller → Bool
 is_asleep None = false
 is_asleep (Some p) = not (is_awake p)
 
--- the flags word: NEED_WAKEUP while the poller is asleep, CQ_OVERFLOW while completions are kept
--- (io_uring_setup(2))
+-- The flags word: IORING_SQ_NEED_WAKEUP while the poller is asleep, IORING_SQ_CQ_OVERFLOW while
+-- completions overflow (io_uring_setup(2)).
 abbrev pub flag_word : Bool → Bool → ℕ
 flag_word asleep keeps = (if asleep then 1 else 0) + (if keeps then 2 else 0)
 
--- A thread that waits stands at an Enter, and its numbers have their widths.
+-- A waiting thread is at an Enter, and its numbers fit 32 bits.
 pub record Waits (x : ThreadState) (n w : ℕ) : Type 0 where
   pub submitted : n < 2 ^ 32
   pub wanted : w < 2 ^ 32
@@ -136,41 +136,46 @@ pub record Waits (x : ThreadState) (n w : ℕ) : Type 0 where
   pub flags : ℕ
   pub enter : slice_get x.program x.counter ≡ Some (Enter to_submit min_complete flags)
 
--- A thread stands within its program, which the machine can do.
+-- A thread is within its program or at its end, and the program is valid.
 pub record Stands (size : ℕ) (x : ThreadState) : Type 0 where
   pub within : x.counter ≤ length x.program
   pub program : IsProgram size x.program
   pub last : FitsSigned w64 x.last
   pub waits : (n w : ℕ) → x.stage ≡ Waiting n w → Waits x n w
 
--- Each thread does.
+-- All threads are.
 abbrev pub AllStand : ℕ → List ThreadState → Type 0
 AllStand size threads = (t : ℕ) (x : ThreadState) → slice_get threads t ≡ Some x → Stands size x
 
--- The row holds a descriptor of the setup, of an end that fits it.
+-- The request holds the descriptor that its entry names. The setup has this descriptor, and its end
+-- of the object fits the request.
 pub record HoldsDescriptor (w : WorldState) (x : Row) : Type 0 where
   pub fd : ℕ
   pub held : x.held ≡ Some fd
+  pub named : x.entry.fd ≡ pos fd
   pub descriptor : DescriptorState
   pub there : descriptor_of w fd ≡ Some descriptor
   pub fits : fits_end x.entry.opcode descriptor.end ≡ true
 
--- A time is made of two signed numbers of eight bytes that aren't negative, of which 2^63 - 1 is
--- the greatest: seconds and nanoseconds.
+-- A timeout is seconds and nanoseconds, each at most 2^63 - 1 (struct __kernel_timespec).
 abbrev pub IsTime : Option ℕ → Type 0
 IsTime time = (t : ℕ) → time ≡ Some t → t ≤ (2 ^ 63 - 1) * 1000000001
 
--- While a row is unfinished its opcode is a supported one, and it has a time just if it is a
--- TIMEOUT or a LINK_TIMEOUT; while it is issued it holds its descriptor, if it uses one, and has a
--- deadline just if it has a time.
+-- An unfinished request has a supported opcode, and a timeout exactly if it is a timer. A queued
+-- one holds no descriptor and has no deadline. An issued one holds its descriptor exactly if its
+-- opcode uses one, and has a deadline exactly if it is a timer.
 pub record RowFormed (w : WorldState) (x : Row) : Type 0 where
   pub opcode : is_unfinished x.phase ≡ true → IsSome (op_of x.entry.opcode)
   pub holds : is_issued x.phase ≡ true → uses_descriptor x.entry.opcode ≡ true → HoldsDescriptor w x
+  pub holds_none : is_issued x.phase ≡ true → uses_descriptor x.entry.opcode ≡ false → x.held ≡ None
+  pub not_yet_held : is_queued x.phase ≡ true → x.held ≡ None
+  pub not_yet_due : is_queued x.phase ≡ true → x.deadline ≡ None
   pub time : is_unfinished x.phase ≡ true → IsTime x.time
   pub timed : is_unfinished x.phase ≡ true → is_some x.time ≡ is_timer x.entry.opcode
   pub due : is_issued x.phase ≡ true → is_some x.deadline ≡ is_some x.time
 
--- A guard stands just behind its target, which is no guard, of its unit and as far as it is.
+-- A linked timeout comes directly after its target, in the same chain and the same phase. The
+-- target is no linked timeout.
 pub record GuardStands (rows : List Row) (r : ℕ) (x : Row) : Type 0 where
   pub target : ℕ
   pub is : x.target ≡ Some target
@@ -181,18 +186,18 @@ pub record GuardStands (rows : List Row) (r : ℕ) (x : Row) : Type 0 where
   pub unit : row.unit ≡ x.unit
   pub alike : row.phase ≡ x.phase
 
--- A TIMEOUT ends as soon as its count of completions is met, so that no issued one has been.
+-- No issued TIMEOUT has reached its count, because it completes as soon as it does.
 abbrev pub NoneMet : ℕ → List Row → Type 0
 NoneMet counted rows = (r : ℕ) (x : Row) → slice_get rows r ≡ Some x → is_met counted x ≡ false
 
--- Each guard that hasn't ended does.
+-- Each unfinished linked timeout has a target in this way.
 abbrev pub AllGuardsStand : List Row → Type 0
 AllGuardsStand rows =
     (r : ℕ) (x : Row) → slice_get rows r ≡ Some x → is_guard x ≡ true → is_unfinished x.phase ≡ true
     → GuardStands rows r x
 
--- What holds of the two rings: no more waits in them than they have room for, and the flags word
--- tells whether the poller is asleep and whether completions are kept.
+-- The invariant of the rings: they hold at most as many items as they have room for, and the flags
+-- word is right.
 pub record RingsFormed (entry_ring : SubWords) (completion_ring : ComWords) (asleep keeps : Bool) : Type 0 where
   pub submissions : SubFormed entry_ring
   pub completions : ComFormed completion_ring
@@ -201,19 +206,19 @@ pub record RingsFormed (entry_ring : SubWords) (completion_ring : ComWords) (asl
       ≤ length completion_ring.slots
   pub flags : entry_ring.flags ≡ flag_word asleep keeps
 
--- What holds of the backlog: each of its items is of a row that has ended.
+-- The invariant of the backlog: no more completions overflowed than requests completed.
 pub record KeptFormed (backlog : BacklogState) (ended : ℕ) : Type 0 where
   pub front : backlog.front ≤ length backlog.items
   pub overflowed : length backlog.items ≤ ended
 
--- What holds of the rows together: they are few, units are runs of them, and those that have ended
--- are counted.
+-- The invariant of the request table: at most 65,536 requests, chains are contiguous, and `total`
+-- is the number of counted completions.
 pub record TableFormed (rows : List Row) (total : ℕ) : Type 0 where
   pub few : length rows ≤ 65536
   pub chained : Chained rows
   pub counted : total ≡ counted_of rows
 
--- What holds of every machine, also while the rows that a step ends do so one after the other.
+-- What holds even between the completions of a cascade.
 pub record Mostly (m : Machine) : Type 0 where
   pub rings : RingsFormed m.submissions m.completions (is_asleep m.poller)
       (not (is_clear m.backlog))
@@ -223,8 +228,8 @@ pub record Mostly (m : Machine) : Type 0 where
   pub clock : m.clock < 2 ^ 64
   pub threads : AllStand (length m.submissions.slots) m.threads
 
--- What holds of every machine between steps: that, and what holds of each row and of what went into
--- the pipes.
+-- The invariant of a machine between steps. In addition to `Mostly`, each request is well formed,
+-- and the pipes received at most 65,536 bytes per completed request.
 pub record WellFormed (m : Machine) : Type 0 where
   pub mostly : Mostly m
   pub rows : (r : ℕ) (x : Row) → slice_get m.table r ≡ Some x → RowFormed m.world x
@@ -232,19 +237,19 @@ pub record WellFormed (m : Machine) : Type 0 where
   pub unmet : NoneMet m.counted m.table
   pub puts : PutsWithin (65536 * ended_of m.table) m.world
 
--- each place is one of the machine's
+-- Every place belongs to the machine.
 abbrev pub everywhere : Place → Bool
 everywhere p = true
 
--- Undoing the changes on the second machine gives the first, which is well formed and has no more
--- rows or items of the backlog.
+-- Undoing the changes in m leads back to s, which is well formed and has no more requests or
+-- overflowed completions.
 pub record GoesBack (s m : Machine) (cs : List Change) : Type 0 where
   pub formed : WellFormed s
   pub grows : Grows s m
   pub back : LeadsBack (view s) (view m) cs
 
--- The first machine is well formed, the second has its setup and as many rows and items of the
--- backlog, and each change tells what stands in the first.
+-- The machine s is well formed, and m has the same setup and as many requests and overflowed
+-- completions. Each change has the value that s has in its place.
 pub record Overwrites (s m : Machine) (cs : List Change) : Type 0 where
   pub formed : WellFormed s
   pub setup : OneSetup s m
@@ -252,8 +257,7 @@ pub record Overwrites (s m : Machine) (cs : List Change) : Type 0 where
   pub backlog : length s.backlog.items ≡ length m.backlog.items
   pub stood : (p : Place) (x : Option Value) → named cs p ≡ Some x → x ≡ view s p
 
--- The second machine is the first with changes undone, and has as many rows and items of the
--- backlog.
+-- The machine n is m with the changes undone, and has as many requests and overflowed completions.
 pub record Overwritten (m n : Machine) (cs : List Change) : Type 0 where
   pub setup : OneSetup m n
   pub rows : map fixed_of m.table ≡ map fixed_of n.table

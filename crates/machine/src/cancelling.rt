@@ -1,4 +1,5 @@
-//! Cancels and removals end, and the rows that end by them (io_uring_enter(2)).
+//! Completes ASYNC_CANCEL, POLL_REMOVE and TIMEOUT_REMOVE, and the requests that they cancel
+//! (io_uring_enter(2)).
 ghost use Rattle.std.specs.Prelude.{◌≡◌, ◌≤◌, nat_lt, IfOk, OnOk, Some, false, length, slice_get};
 ghost use Rattle.entries.specs.declared.row.Row.{Row};
 ghost use Rattle.links_drains.specs.Phases.{is_ended};
@@ -8,28 +9,22 @@ ghost use Rattle.machine.specs.Steps.{cancelled};
 ghost use Rattle.machine.specs.Whole.{view, everywhere, Grows, WellFormed};
 
 use crate::whole::Machine;
-use entries::Sqe;
-use opcodes::{EALREADY, ECANCELED, ENOENT, Op};
+use entries::{EALREADY, ECANCELED, ENOENT, IORING_ASYNC_CANCEL_ALL, IORING_ASYNC_CANCEL_FD, Sqe};
+use opcodes::Op;
 use places::Recorder;
 use std::alloc::{AllocError, Global};
 use timeouts_cancel::{Found, Key, all_by, find_by};
 
-/// IORING_ASYNC_CANCEL_ALL.
-const CANCEL_ALL: u32 = 1;
-
-/// IORING_ASYNC_CANCEL_FD.
-const CANCEL_FD: u32 = 2;
-
-/// What a cancel or a removal comes to.
+/// The outcome of a cancellation or a removal.
 #[derive(Drop)]
 struct Verdict {
     res: i32,
-    /// The rows that it ends, in the order of their numbers.
+    /// The canceled requests, by ascending number.
     rows: Vec<u32>,
 }
 
 impl Machine {
-    /// A cancel or a removal ends, and the rows that end by it.
+    /// Completes a cancellation or a removal, the requests that it cancels, and their cascade.
     pub(crate) fn cancel(
         &mut self,
         r: u32,
@@ -49,7 +44,7 @@ impl Machine {
         self.fall(&direct, notes)
     }
 
-    // What it comes to.
+    // Determines the outcome, without a change of the state.
     fn verdict(&self, me: u32, entry: &Sqe) -> Result<Verdict, AllocError>
         requires few { length self.now.table ≤ 65536 }
         ensures { IfOk result (λ v. (v.res, v.rows.items)
@@ -70,7 +65,7 @@ impl Machine {
     }
 }
 
-// What a cancel of the least match comes to.
+// The outcome of a cancellation of the first match only.
 fn on_found(alloc: Global, found: Found) -> Result<Verdict, AllocError>
     ensures { IfOk result (λ v. (v.res, v.rows.items) ≡ on_found found) }
 {
@@ -82,7 +77,7 @@ fn on_found(alloc: Global, found: Found) -> Result<Verdict, AllocError>
     Ok(Verdict { res, rows })
 }
 
-// A row with its result, and the rows that it ends, in the order of their numbers.
+// Lists request `me` with its result, and the canceled requests, by ascending number.
 fn ending_with(alloc: Global, me: u32, verdict: &Verdict) -> Result<Vec<(u32, i32)>, AllocError>
     ensures { IfOk result (λ direct. direct.items
         ≡ ending_with me (verdict.now.res, verdict.now.rows.items)) }
@@ -108,7 +103,7 @@ fn canceled_behind(alloc: Global, rows: &[u32], me: u32) -> Result<Vec<(u32, i32
     behind.map(|r| (*r, -ECANCELED)).collect(alloc)
 }
 
-/// What an entry looks for.
+/// Returns what the entry searches for.
 pub(crate) fn key_of(entry: &Sqe) -> Key
     ensures { result ≡ key_of entry.now }
 {
@@ -118,15 +113,15 @@ pub(crate) fn key_of(entry: &Sqe) -> Key
     if entry.opcode == Op::TimeoutRemove as u8 {
         return Key::Timeout(entry.addr);
     }
-    if entry.operation_flags & CANCEL_FD != 0 {
+    if entry.operation_flags & IORING_ASYNC_CANCEL_FD != 0 {
         return Key::Fd(entry.fd);
     }
     Key::User(entry.addr)
 }
 
-/// Whether an entry ends all matches that wait.
+/// Returns whether the entry cancels all matches that wait (IORING_ASYNC_CANCEL_ALL).
 pub fn takes_all(entry: &Sqe) -> bool
     ensures { result ≡ takes_all entry.now }
 {
-    entry.opcode == Op::AsyncCancel as u8 && entry.operation_flags & CANCEL_ALL != 0
+    entry.opcode == Op::AsyncCancel as u8 && entry.operation_flags & IORING_ASYNC_CANCEL_ALL != 0
 }

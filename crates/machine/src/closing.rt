@@ -6,13 +6,14 @@ ghost use Rattle.machine.specs.Whole.{view, everywhere, Grows, WellFormed};
 ghost use Rattle.scenario.specs.declared.setup.Instruction.TheVariants.{Close};
 
 use crate::whole::Machine;
+use entries::EBADF;
 use model_files::DescriptorState;
-use opcodes::EBADF;
 use places::Recorder;
 use std::alloc::AllocError;
 
 impl Machine {
-    /// Closes a descriptor for a thread, if it is an open one. Rows that hold it go on.
+    /// Closes a descriptor for a thread, or returns -EBADF to it if the descriptor isn't open.
+    /// Requests that hold the descriptor are not affected.
     pub(crate) fn close(&mut self, t: u32, fd: i32, notes: &mut Recorder) -> Result<(), AllocError>
         requires next { next_of (slice_get self.old.threads t) ≡ Some (Close fd) }
         requires formed { WellFormed self.old }
@@ -29,7 +30,7 @@ impl Machine {
     }
 }
 
-// Whether a descriptor is there and open.
+// Whether there is a descriptor, and it is open.
 fn is_open(descriptor: Option<DescriptorState>) -> bool
     ensures { result ≡ is_open descriptor }
 {

@@ -1,4 +1,4 @@
-//! Requests end: their completions are posted, and they are counted.
+//! Completes requests: posts and counts their completions.
 ghost use Rattle.std.specs.Prelude.{◌≡◌, ◌+◌, ◌<◌, ◌≤◌, ◌^◌, ℕ, ℤ, OnOk, Some, length, slice_get};
 ghost use Rattle.places.specs.View.{Keeps};
 ghost use Rattle.machine.specs.InTurn.{ended, ended_in_turn};
@@ -17,7 +17,7 @@ use std::alloc::AllocError;
 use timeouts_cancel::fall;
 
 impl Machine {
-    /// A row ends with a result: its completion is posted, and it is counted unless it is a timer.
+    /// Completes a request: posts its completion, and counts it unless the request is a timer.
     pub(crate) fn end(&mut self, r: u32, res: i32, notes: &mut Recorder) -> Result<(), AllocError>
         requires there { r < length self.old.table }
         requires room { length self.old.backlog.items < 65536 }
@@ -50,7 +50,7 @@ impl Machine {
         Ok(())
     }
 
-    /// Rows end that a step ends of itself, and those that fall with them.
+    /// Completes the requests in `direct` and their cascade.
     #[tactic(auto, unfolding(crate::specs::Steps::fallen))]
     pub(crate) fn fall(
         &mut self,
@@ -70,8 +70,8 @@ impl Machine {
         self.end_all(&endings, notes)
     }
 
-    // Takes the memory at once of the notes that so many endings make: of their rows, and of the
-    // completions that the ring has no slots for.
+    // Reserves memory for the notes of n completions at once: for their requests, and for the
+    // completions that overflow the ring.
     fn expect(&self, n: usize, notes: &mut Recorder) -> Result<(), AllocError>
         ensures { notes.new.made ≡ notes.old.made }
     {
@@ -82,7 +82,7 @@ impl Machine {
         notes.expect_rows(n.saturating_add(kept))
     }
 
-    /// Rows end with their results, one after the other.
+    /// Completes requests one after the other, each with its result.
     pub(crate) fn end_all(
         &mut self,
         endings: &[(u32, i32)],

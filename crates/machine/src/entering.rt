@@ -1,4 +1,4 @@
-//! What Enter does (io_uring_enter(2)).
+//! The system call of a thread that submits and waits (io_uring_enter(2)).
 ghost use Rattle.std.specs.Prelude.{◌≡◌, ◌<◌, ◌+◌, ◌^◌, OnOk, None, Some, true, is_some, slice_get, length};
 ghost use Rattle.places.specs.View.{Keeps};
 ghost use Rattle.machine.specs.Steps.{executed, instruction_refusal, alone_refusal, next_of, flushed, before_submission, woken, shown, awaited, entered_beside, entered_alone, with_poller};
@@ -7,20 +7,14 @@ ghost use Rattle.machine.specs.Whole.{view, everywhere, Grows, WellFormed};
 ghost use Rattle.scenario.specs.declared.setup.Instruction.TheVariants.{Enter};
 
 use crate::whole::Machine;
-use opcodes::{EBUSY, EINVAL};
+use entries::{EBUSY, EINVAL, IORING_ENTER_GETEVENTS, IORING_ENTER_SQ_WAKEUP};
 use overflow::flush;
 use places::{Recorder, Stage};
 use sqpoll::Poller;
 use std::alloc::AllocError;
 
-/// The caller asks for completions (IORING_ENTER_GETEVENTS).
-const GETEVENTS: u32 = 1;
-
-/// The caller wakes the poller (IORING_ENTER_SQ_WAKEUP).
-const SQ_WAKEUP: u32 = 2;
-
 impl Machine {
-    /// A thread enters the kernel.
+    /// Enters the kernel for a thread. Unknown flags return -EINVAL.
     pub(crate) fn enter(
         &mut self,
         t: u32,
@@ -40,7 +34,7 @@ impl Machine {
         ensures keeps { Keeps everywhere (view self.old)
             (view self.new) notes.old.made notes.new.made }
     {
-        if flags > GETEVENTS | SQ_WAKEUP {
+        if flags > IORING_ENTER_GETEVENTS | IORING_ENTER_SQ_WAKEUP {
             return self.threads.answer(t, -i64::from(EINVAL), notes);
         }
         if self.poller.is_some() {
@@ -50,7 +44,8 @@ impl Machine {
         }
     }
 
-    // Where there is no poller, the thread submits, unless completions are kept.
+    // Without a poller, the thread submits. It fails with -EBUSY while completions overflow the
+    // ring.
     fn enter_alone(
         &mut self,
         t: u32,
@@ -77,8 +72,8 @@ impl Machine {
         self.answer_or_wait(t, taken, to_submit, min_complete, flags, notes)
     }
 
-    // Kept completions move into the ring, where completions are asked for or entries are to be
-    // submitted.
+    // Moves overflowed completions into the ring, if the caller waits for completions or submits
+    // entries.
     fn make_way(
         &mut self,
         to_submit: u32,
@@ -91,13 +86,13 @@ impl Machine {
         ensures keeps { Keeps everywhere (view self.old)
             (view self.new) notes.old.made notes.new.made }
     {
-        if flags & GETEVENTS == 0 && to_submit == 0 {
+        if flags & IORING_ENTER_GETEVENTS == 0 && to_submit == 0 {
             return Ok(());
         }
         self.flush(notes)
     }
 
-    // Where there is a poller, it submits; the thread wakes it, if it is asked to.
+    // With a poller, the thread only wakes it and moves overflowed completions, as its flags say.
     fn enter_beside(
         &mut self,
         t: u32,
@@ -121,7 +116,7 @@ impl Machine {
         self.answer_or_wait(t, to_submit, to_submit, min_complete, flags, notes)
     }
 
-    // The poller is awake, where it is to be woken.
+    // Wakes the poller, if the flags say so.
     fn wake(&mut self, flags: u32, notes: &mut Recorder) -> Result<(), AllocError>
         requires poller { is_some self.old.poller ≡ true }
         ensures ok { OnOk result (self.new ≡ woken self.old flags) }
@@ -129,13 +124,13 @@ impl Machine {
         ensures keeps { Keeps everywhere (view self.old)
             (view self.new) notes.old.made notes.new.made }
     {
-        if flags & SQ_WAKEUP == 0 {
+        if flags & IORING_ENTER_SQ_WAKEUP == 0 {
             return Ok(());
         }
         self.set_poller(Poller::Awake, notes)
     }
 
-    // Kept completions move into the ring, where completions are asked for.
+    // Moves overflowed completions into the ring, if the caller waits for completions.
     fn show_kept(&mut self, flags: u32, notes: &mut Recorder) -> Result<(), AllocError>
         requires formed { WellFormed self.old }
         ensures ok { OnOk result (self.new ≡ shown self.old flags) }
@@ -143,13 +138,14 @@ impl Machine {
         ensures keeps { Keeps everywhere (view self.old)
             (view self.new) notes.old.made notes.new.made }
     {
-        if flags & GETEVENTS == 0 {
+        if flags & IORING_ENTER_GETEVENTS == 0 {
             return Ok(());
         }
         self.flush(notes)
     }
 
-    // A thread that submitted so many entries waits for completions, or has its answer.
+    // Lets the thread wait, if it submitted all `to_submit` entries and too few completions are
+    // ready; else returns `taken` to it.
     fn answer_or_wait(
         &mut self,
         t: u32,
@@ -169,7 +165,10 @@ impl Machine {
             (view self.new) notes.old.made notes.new.made }
     {
         let wanted = min_complete.min(self.completions.size());
-        if flags & GETEVENTS != 0 && taken == to_submit && self.completions.waiting() < wanted {
+        if flags & IORING_ENTER_GETEVENTS != 0
+            && taken == to_submit
+            && self.completions.waiting() < wanted
+        {
             return self
                 .threads
                 .set_stage(t, Stage::Waiting(taken, wanted), notes);
@@ -177,7 +176,7 @@ impl Machine {
         self.threads.answer(t, i64::from(taken), notes)
     }
 
-    // Kept completions move into the ring, as many as there is room for.
+    // Moves overflowed completions into the ring, as many as fit.
     fn flush(&mut self, notes: &mut Recorder) -> Result<(), AllocError>
         requires formed { WellFormed self.old }
         ensures ok { OnOk result (self.new ≡ flushed self.old) }
@@ -193,7 +192,7 @@ impl Machine {
         )
     }
 
-    /// The poller falls asleep, or is woken.
+    /// Puts the poller to sleep, or wakes it.
     pub(crate) fn set_poller(
         &mut self,
         stage: Poller,

@@ -1,4 +1,4 @@
-//! Timeouts and guards expire (io_uring_enter(2), IORING_OP_TIMEOUT and IORING_OP_LINK_TIMEOUT).
+//! Expires timers (io_uring_enter(2), IORING_OP_TIMEOUT and IORING_OP_LINK_TIMEOUT).
 ghost use Rattle.std.specs.Prelude.{◌≡◌, OnOk, None};
 ghost use Rattle.places.specs.View.{Keeps};
 ghost use Rattle.machine.specs.Steps.{after, refusal, waiting_target, waits_at};
@@ -6,14 +6,15 @@ ghost use Rattle.machine.specs.Whole.{view, everywhere, Grows, WellFormed};
 ghost use Rattle.scenario.specs.declared.event.Event.TheVariants.{Expire};
 
 use crate::whole::Machine;
-use entries::Row;
+use entries::{ECANCELED, ETIME, Row};
 use links_drains::{is_guard, is_issued};
-use opcodes::{ECANCELED, ETIME, is_running};
+use opcodes::is_running;
 use places::Recorder;
 use std::alloc::AllocError;
 
 impl Machine {
-    /// A row that is due ends, and with a guard its target, if that waits.
+    /// Completes a timer with -ETIME. If it is a linked timeout and its target waits, cancels the
+    /// target.
     pub(crate) fn expire(&mut self, r: u32, notes: &mut Recorder) -> Result<(), AllocError>
         requires accepted { refusal self.old (Expire r) ≡ None }
         requires formed { WellFormed self.old }
@@ -29,7 +30,7 @@ impl Machine {
         }
     }
 
-    // The target of a guard, if it waits.
+    // The target of a linked timeout, if it waits.
     fn waiting_target(&self, row: &Row) -> Option<u32>
         ensures { result ≡ waiting_target self.now.table self.now.world row.now row.now.target }
     {

@@ -1,4 +1,4 @@
-//! Requests are issued, and end as a kernel chooses (io_uring_enter(2)).
+//! Issues requests, and completes them with the outcome that the kernel chose (io_uring_enter(2)).
 ghost use Rattle.std.specs.Prelude.{◌≡◌, ◌+◌, ◌<◌, IfNone, IfSome, OnOk, None, Some, false, true, slice_get};
 ghost use Rattle.std.specs.Option.{option_map_or};
 ghost use Rattle.places.specs.Lists.{updated};
@@ -11,20 +11,17 @@ ghost use Rattle.machine.specs.Whole.{view, everywhere, Grows, IsTime, WellForme
 ghost use Rattle.scenario.specs.declared.event.Event.TheVariants.{Issue, Finish};
 
 use crate::whole::Machine;
-use entries::{Phase, Row};
+use entries::{EBADF, IORING_TIMEOUT_ABS, Phase, Row};
 use links_drains::is_guard;
 use model_files::{DescriptorState, World};
-use opcodes::{
-    Choice, EBADF, Op, Outcome, carry_out, fits_end, is_cancel, outcome, uses_descriptor,
-};
+use opcodes::{Choice, Op, Outcome, carry_out, fits_end, is_cancel, outcome, uses_descriptor};
 use places::Recorder;
 use std::alloc::AllocError;
 
-/// IORING_TIMEOUT_ABS.
-const TIMEOUT_ABS: u32 = 1;
-
 impl Machine {
-    /// A queued row is issued, and holds its descriptor; where it has none to hold, it ends.
+    /// Issues a queued request, and with it its linked timeout. The request holds its descriptor
+    /// until it completes. If the descriptor isn't usable, the request completes with -EBADF
+    /// instead.
     pub(crate) fn issue(&mut self, r: u32, notes: &mut Recorder) -> Result<(), AllocError>
         requires accepted { refusal self.old (Issue r) ≡ None }
         requires formed { WellFormed self.old }
@@ -44,7 +41,7 @@ impl Machine {
         }
     }
 
-    // A row is issued by itself, with its deadline if it has a time.
+    // Issues one request, without its linked timeout. A timer gets its deadline.
     fn start(&mut self, r: u32, row: &Row, notes: &mut Recorder) -> Result<(), AllocError>
         requires there { slice_get self.old.table r ≡ Some row.now }
         requires time { IsTime row.now.time }
@@ -62,7 +59,7 @@ impl Machine {
         self.table.issue(r, held_by(row), deadline, base, notes)
     }
 
-    // The queued guard of a row, which stands behind it.
+    // The queued linked timeout of request r, if the next request is one.
     fn guard_of(&self, r: u32) -> Option<Row>
         requires few { r < 65536 }
         ensures some { IfSome result (λ guard. (slice_get self.now.table (r + 1) ≡ Some guard)
@@ -76,7 +73,7 @@ impl Machine {
         }
     }
 
-    /// An issued row ends as a kernel chooses.
+    /// Completes an issued request with the chosen outcome, and its cascade.
     pub(crate) fn finish(
         &mut self,
         r: u32,
@@ -102,7 +99,7 @@ impl Machine {
         self.fall(&[(r, res)], notes)
     }
 
-    /// What an issued row comes to.
+    /// Returns the outcome of an issued request for a choice.
     pub(crate) fn outcome(&self, row: &Row, choice: Choice) -> Outcome
         ensures { result ≡ outcome_of (is_held_by self.now.table) self.now.world row.now choice }
     {
@@ -110,19 +107,20 @@ impl Machine {
     }
 }
 
-// When a row is due that is issued: its time from now on, or by the clock (IORING_TIMEOUT_ABS).
+// The deadline of a request that is issued at time `clock`, in nanoseconds. A timeout is relative,
+// unless it has IORING_TIMEOUT_ABS.
 fn deadline_of(clock: u64, row: &Row) -> Option<u128>
     requires { IsTime row.now.time }
     ensures { result ≡ deadline_of clock row.now }
 {
     match row.time {
-        Some(time) if row.entry.operation_flags & TIMEOUT_ABS != 0 => Some(time),
+        Some(time) if row.entry.operation_flags & IORING_TIMEOUT_ABS != 0 => Some(time),
         Some(time) => Some(time + u128::from(clock)),
         None => None,
     }
 }
 
-// What has been counted as a TIMEOUT is issued.
+// The number of completions counted when a TIMEOUT is issued.
 fn base_of(counted: u32, row: &Row) -> u32
     ensures { result ≡ base_of counted row.now }
 {
@@ -133,14 +131,14 @@ fn base_of(counted: u32, row: &Row) -> u32
     }
 }
 
-// Whether a row is the queued guard of another.
+// Whether the request is the queued linked timeout of request r.
 fn is_guard_of(r: u32, row: &Row) -> bool
     ensures { result ≡ is_guard_of r row.now }
 {
     is_guard(row) && row.phase == Phase::Queued && row.target == Some(r)
 }
 
-// What a row holds once it is issued.
+// The descriptor that a request holds once it is issued.
 fn held_by(row: &Row) -> Option<u32>
     ensures { result ≡ held_by row.now }
 {
@@ -151,7 +149,7 @@ fn held_by(row: &Row) -> Option<u32>
     }
 }
 
-// The descriptor's number that an entry has.
+// The descriptor number, if it isn't negative.
 fn number_in(fd: i32) -> Option<u32>
     ensures { result ≡ number_in fd }
 {
@@ -161,14 +159,14 @@ fn number_in(fd: i32) -> Option<u32>
     Some(fd as u32)
 }
 
-// Whether a row has no descriptor to hold.
+// Whether the request needs a descriptor that isn't usable.
 fn lacks_descriptor(world: &World, row: &Row) -> bool
     ensures { result ≡ lacks_descriptor world.now row.now }
 {
     uses_descriptor(row.entry.opcode) && !is_usable(row, world.descriptor_at(row.entry.fd))
 }
 
-// Whether a descriptor is open, of an end that fits a request.
+// Whether the descriptor is open, and its end of the object fits the request.
 fn is_usable(row: &Row, descriptor: Option<DescriptorState>) -> bool
     ensures { result ≡ is_usable row.now descriptor }
 {

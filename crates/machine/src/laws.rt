@@ -1,4 +1,4 @@
-//! Laws of the definitions.
+//! Theorems about the definitions in specs/.
 ghost use Rattle.std.specs.Prelude.{◌≡◌, ◌<◌, ℕ, pos, true, false, is_some, Some, None, List, [], slice_get};
 ghost use Rattle.entries.specs.declared.row.Row.{Row};
 ghost use Rattle.links_drains.specs.Endings.{Ending};
@@ -18,51 +18,51 @@ ghost use Rattle.scenario.specs.declared.event.Refusal.{Refusal};
 
 use scenario::Refusal;
 
-/// Machines of one setup are one where they show the same in each place.
+/// Two machines with the same setup and the same values in all places are equal.
 pub fn shown_alike()
     ensures { (m n : Machine) → OneSetup m n → ((p : Place) → view m p ≡ view n p) → m ≡ n }
 {}
 
-/// Accepted events keep machines well formed.
+/// Accepted events preserve well-formedness.
 pub fn stays_formed()
     ensures { (m : Machine) (e : Event) → WellFormed m → refusal m e ≡ None
         → WellFormed (after m e) }
 {}
 
-/// Whatever a step of a machine ends of itself, running the filters again over what falls adds
-/// none.
+/// The cascade of any direct completions is complete: to apply its rules again adds no request.
 pub fn falls_whole()
     ensures { (m : Machine) (direct : List Ending) → WellFormed m
         → IsWhole m.table m.counted direct (fall_of m.table m.counted direct) }
 {}
 
-/// And so it is once the entries of a submission have become rows.
+/// The same after the entries of a submission became requests.
 pub fn submissions_fall_whole()
     ensures { (m : Machine) (k : ℕ) (direct : List Ending) → WellFormed m
         → IsWhole (taken m k).table m.counted direct (fall_of (taken m k).table m.counted direct) }
 {}
 
-/// The rows that fall might as well end one after the other.
+/// To complete a cascade at once is the same as to complete its requests one after the other.
 pub fn falls_in_turn()
     ensures { (m : Machine) (direct : List Ending) → WellFormed m
         → fallen m direct ≡ ended_in_turn m (fall_of m.table m.counted direct) }
 {}
 
-/// And so it is once the entries of a submission have become rows.
+/// The same after the entries of a submission became requests.
 pub fn submissions_fall_in_turn()
     ensures { (m : Machine) (k : ℕ) (direct : List Ending) → WellFormed m
         → fallen (taken m k) direct
         ≡ ended_in_turn (taken m k) (fall_of (taken m k).table m.counted direct) }
 {}
 
-/// A submission finds a well formed machine, as kept completions have moved into the ring.
+/// A submission begins with a well-formed machine, after overflowed completions moved into the
+/// ring.
 pub fn submissions_find_formed()
     ensures { (m : Machine) (k flags : ℕ) → WellFormed m
         → WellFormed (before_submission m k flags) }
 {}
 
-/// As an unfinished row is issued a deadline is noted just if it is a TIMEOUT or a LINK_TIMEOUT,
-/// and once it is issued it has one just if it is.
+/// An unfinished request gets a deadline when it is issued exactly if it is a TIMEOUT or a
+/// LINK_TIMEOUT. An issued request has a deadline exactly if it is one of these.
 pub fn timers_alone_have_deadlines()
     ensures noted { (m : Machine) (r : ℕ) (row : Row) → WellFormed m
         → slice_get m.table r ≡ Some row → is_unfinished row.phase ≡ true
@@ -71,8 +71,8 @@ pub fn timers_alone_have_deadlines()
         → is_issued row.phase ≡ true → is_some row.deadline ≡ is_timer row.entry.opcode }
 {}
 
-/// A submission of nothing ends nothing: a Take of no entries changes no place, and an Enter that
-/// submits none and has no flags is answered 0, whether or not there is a poller.
+/// A submission of nothing completes nothing. A Take of no entries changes no place. An Enter that
+/// submits nothing and has no flags returns 0, with or without a poller.
 pub fn nothing_falls_of_itself()
     ensures falls { (m : Machine) → WellFormed m → fallen m [] ≡ m }
     ensures take { (m : Machine) → WellFormed m → after m (Take 0) ≡ m }
@@ -80,14 +80,14 @@ pub fn nothing_falls_of_itself()
         → executed m t (Some (Enter 0 min_complete 0)) ≡ answered m t (pos 0) }
 {}
 
-/// The number of a refusal is that of its variant.
+/// Returns the number of a refusal, which is that of its variant.
 pub fn number_told(refusal: Refusal) -> u32
     ensures { result ≡ number_of refusal }
 {
     refusal as u32
 }
 
-/// Of the causes that an event has to be refused, that of the least number is told.
+/// If an event has several causes for a refusal, the one with the smallest number is reported.
 pub fn least_cause_told()
     ensures told { (m : Machine) (e : Event) (n : Refusal) → refusal m e ≡ Some n
         → has_cause m e n ≡ true }
@@ -95,7 +95,7 @@ pub fn least_cause_told()
         → number_of k < number_of n → has_cause m e k ≡ false }
 {}
 
-/// And where none is told, it has none.
+/// If none is reported, the event has none.
 pub fn no_cause_untold()
     ensures { (m : Machine) (e : Event) → refusal m e ≡ None → (n : Refusal)
         → has_cause m e n ≡ false }

@@ -1,4 +1,4 @@
-//! The machine: rings, rows, threads, and what events change of them.
+//! The machine: io_uring's rings, the requests, the threads, and how each event changes them.
 #![tactic(auto)]
 
 mod cancelling;

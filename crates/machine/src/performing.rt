@@ -1,4 +1,4 @@
-//! What accepted events do.
+//! Carries out accepted events.
 ghost use Rattle.std.specs.Prelude.{◌≡◌, OnOk, None};
 ghost use Rattle.places.specs.View.{Keeps, named};
 ghost use Rattle.places.specs.declared.place.Place.{Place};
@@ -13,8 +13,8 @@ use sqpoll::Poller;
 use std::alloc::AllocError;
 
 impl Machine {
-    /// Does what an accepted event asks for. Where it stops for want of memory, undoing the notes
-    /// still gives what was.
+    /// Carries out an accepted event. If an allocation fails, the machine may be half changed;
+    /// undoing the notes restores it.
     pub(crate) fn perform(&mut self, event: Event, notes: &mut Recorder) -> Result<(), AllocError>
         requires accepted { refusal self.old event ≡ None }
         requires formed { WellFormed self.old }
@@ -35,7 +35,7 @@ impl Machine {
         }
     }
 
-    // The clock goes on.
+    // Advances the clock by d nanoseconds.
     fn tick(&mut self, d: u64, notes: &mut Recorder) -> Result<(), AllocError>
         requires { refusal self.old (Tick d) ≡ None }
         ensures ok { OnOk result (self.new ≡ after self.old (Tick d)) }
@@ -48,7 +48,7 @@ impl Machine {
         Ok(())
     }
 
-    // The poller submits so many entries.
+    // Submits at most n entries, for the poller.
     fn submit_for_poller(&mut self, n: u32, notes: &mut Recorder) -> Result<(), AllocError>
         requires accepted { submission_refusal self.old n ≡ None }
         requires formed { WellFormed self.old }
@@ -61,7 +61,7 @@ impl Machine {
         Ok(())
     }
 
-    // A thread does its next instruction, or has the answer that it waited for.
+    // Carries out a thread's next instruction, or returns from the system call in which it waits.
     fn step_thread(&mut self, t: u32, notes: &mut Recorder) -> Result<(), AllocError>
         requires accepted { refusal self.old (Step t) ≡ None }
         requires formed { WellFormed self.old }

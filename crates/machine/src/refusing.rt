@@ -1,4 +1,4 @@
-//! Which events are refused.
+//! Decides whether an event is possible in the current state.
 ghost use Rattle.std.specs.Prelude.{◌≡◌, ℕ, Some, slice_get, length, min};
 ghost use Rattle.links_drains.specs.Holding.{is_held_by};
 ghost use Rattle.ring_words.specs.Rings.{sub_list};
@@ -16,7 +16,7 @@ use sqpoll::Poller;
 use timeouts_cancel::due;
 
 impl Machine {
-    /// Why an event is refused, if it is. It takes no memory.
+    /// Returns why an event is refused, if it is. Doesn't allocate.
     pub fn refuses(&self, event: Event) -> Option<Refusal>
         requires formed { WellFormed self.now }
         ensures { result ≡ refusal self.now event }
@@ -125,7 +125,7 @@ impl Machine {
         }
     }
 
-    // Where there is a poller, an Enter submits nothing.
+    // With a poller, an Enter submits nothing, so it isn't refused.
     fn refuses_enter(&self, to_submit: u32, flags: u32) -> Option<Refusal>
         ensures { result ≡ enter_refusal self.now self.now.poller to_submit flags }
     {
@@ -135,7 +135,7 @@ impl Machine {
         }
     }
 
-    // Without one it does, unless completions are still kept.
+    // An Enter that returns -EBUSY submits nothing either.
     fn refuses_alone(&self, to_submit: u32) -> Option<Refusal>
         ensures { (flags : ℕ) → result ≡ alone_refusal self.now to_submit flags }
     {
@@ -146,8 +146,7 @@ impl Machine {
         }
     }
 
-    // Whether completions would still be kept once as many have moved into the ring as there is
-    // room for.
+    // Whether completions would still overflow after as many as fit moved into the ring.
     fn stays_busy(&self, to_submit: u32) -> bool
         ensures { result ≡ is_busy (flushed self.now) to_submit }
     {
@@ -158,7 +157,7 @@ impl Machine {
         to_submit > 0 && self.backlog.kept() > free as usize
     }
 
-    /// How many entries a submission is offered.
+    /// Returns how many index words a submission of at most `to_submit` entries can read.
     pub(crate) fn offered(&self, to_submit: u32) -> u32
         ensures offered { result ≡ length (offered self.now.submissions to_submit) }
         ensures least { result ≡ min to_submit (length (sub_list self.now.submissions)) }
@@ -209,7 +208,7 @@ impl Machine {
         }
     }
 
-    // Why an issued row can't end as a kernel chooses.
+    // Why an issued request cannot complete as chosen.
     fn refuses_choice(&self, row: &Row, choice: Choice) -> Option<Refusal>
         ensures { result ≡ choice_refusal
             (is_held_by self.now.table) self.now.world row.now choice }
@@ -221,7 +220,7 @@ impl Machine {
     }
 }
 
-// Only a TIMEOUT and a LINK_TIMEOUT expire, and not before their deadline.
+// Only issued timers expire, and not before their deadline.
 fn refuses_expiry(clock: u64, row: &Row) -> Option<Refusal>
     ensures { result ≡ expire_refusal clock (Some row.now) }
 {
@@ -235,7 +234,7 @@ fn refuses_expiry(clock: u64, row: &Row) -> Option<Refusal>
     }
 }
 
-// A cancel or a removal ends in full alone.
+// A cancellation or a removal can only complete in full.
 fn refuses_a_part(choice: Choice) -> Option<Refusal>
     ensures { result ≡ full_refusal choice }
 {

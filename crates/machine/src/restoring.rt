@@ -1,4 +1,4 @@
-//! Going back by a record.
+//! Restores the machine from an undo record.
 ghost use Rattle.std.specs.Prelude.{◌≡◌};
 ghost use Rattle.places.specs.View.{undo, NamesOnce};
 ghost use Rattle.places.specs.declared.place.Place.{Place};
@@ -9,7 +9,7 @@ use crate::whole::Machine;
 use places::{Changes, Part, Record, Stretches};
 
 impl Machine {
-    /// Puts back what stood in the places that a record names. It takes no memory.
+    /// Restores the old values of all places in the record. Doesn't allocate.
     pub fn restore(&mut self, past: &Record)
         requires { (s : Machine) × GoesBack s self.old past.now }
         ensures undone { (p : Place) → view self.new p ≡ undo (view self.old) past.now p }
@@ -24,7 +24,7 @@ impl Machine {
         self.overwrite(&mut others);
     }
 
-    // Puts back what stood in places, where no row and no item of the backlog has to go.
+    // Restores the old values of places. Places that were absent have been removed before.
     fn overwrite(&mut self, rest: &mut Changes<'_>)
         requires stood { (s : Machine) × Overwrites s self.old rest.old }
         requires once { NamesOnce rest.old }
@@ -40,7 +40,7 @@ impl Machine {
         }
     }
 
-    // The same of bytes, a stretch at a time.
+    // Restores bytes, one contiguous range at a time.
     fn overwrite_bytes(&mut self, rest: &mut Stretches<'_>)
         requires stood { (s : Machine) × Overwrites s self.old rest.old.left }
         requires once { NamesOnce rest.old.left }

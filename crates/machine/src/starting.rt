@@ -1,4 +1,4 @@
-//! The machine that a setup starts with.
+//! Builds the initial machine of a setup.
 ghost use Rattle.std.specs.Prelude.{◌≡◌, ℕ, IfOk, Some, None, map, slice_get};
 ghost use Rattle.scenario.specs.Programs.{HasWidths, HaveWidths};
 ghost use Rattle.machine.specs.Threads.{thread_start};
@@ -18,7 +18,7 @@ use sqpoll::Poller;
 use std::alloc::{AllocError, Global};
 
 impl Machine {
-    /// The start of a setup that has sizes for its rings.
+    /// Builds the initial machine of a valid setup.
     pub fn new(alloc: Global, setup: &Setup) -> Result<Machine, AllocError>
         requires { setup_refusal setup.now ≡ None }
         ensures start { IfOk result (λ m. m ≡ start setup.now) }
@@ -54,7 +54,7 @@ impl Machine {
         })
     }
 
-    /// The same machine again.
+    /// Copies the machine.
     pub fn copy(&self, alloc: Global) -> Result<Machine, AllocError>
         ensures { IfOk result (λ m. m ≡ self.now) }
     {

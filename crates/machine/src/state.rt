@@ -1,4 +1,4 @@
-//! The state of a run.
+//! The state of a run, and its steps.
 
 mod rows;
 
@@ -9,14 +9,14 @@ use scenario::{Event, Refusal, Setup, SetupRefusal, setup_refusal};
 use std::alloc::{AllocError, Global};
 use std::marker::Model;
 
-/// A state.
+/// The state of a run: the machine, and a recorder for the undo record of the next step.
 pub struct State {
     machine: Machine,
-    /// None between steps. What its notes take stays for the next step's.
+    /// Empty between steps. Its memory is reused by the next step.
     notes: Recorder,
 }
 
-// By hand, so that letting a state go is one step of a proof.
+// Written by hand, so that dropping a state is one step of a proof.
 impl Drop for State {
     fn drop(self) {
         let State {
@@ -53,8 +53,8 @@ impl State {
     ghost use Rattle.scenario.specs.declared.event.Refusal.TheVariants.{Memory};
     ghost use Rattle.machine.specs.declared.whole.Machine.{Machine};
 
-    /// The start of a setup. A setup that has none is refused by its first fault, whether or not
-    /// there is memory.
+    /// Builds the initial state. An invalid setup is refused with its first error, even when memory
+    /// is short.
     pub fn new(alloc: Global, setup: &Setup) -> Result<State, SetupRefusal>
         ensures start { IfOk result (λ s. s ≡ start setup.now) }
         ensures refused { (r : SetupRefusal) → setup_refusal setup.now ≡ Some r → result ≡ Err r }
@@ -72,7 +72,7 @@ impl State {
         }
     }
 
-    /// The same state again.
+    /// Copies the state.
     pub fn copy(&self, alloc: Global) -> Result<State, AllocError>
         ensures { IfOk result (λ s. s ≡ self.now) }
     {
@@ -82,7 +82,7 @@ impl State {
         })
     }
 
-    /// What stands in a place. It takes no memory.
+    /// Returns the value of a place. Doesn't allocate.
     pub fn value(&self, place: Place) -> Option<Value>
         ensures value { result ≡ view self.now place }
         ensures formed { WellFormed self.now }
@@ -90,7 +90,7 @@ impl State {
         self.machine.at(place)
     }
 
-    /// The clock.
+    /// Returns the clock, in nanoseconds.
     pub fn clock(&self) -> u64
         ensures value { result ≡ self.now.clock }
         ensures formed { WellFormed self.now }
@@ -98,34 +98,37 @@ impl State {
         self.machine.clock
     }
 
-    /// The submission ring.
+    /// Returns the submission ring.
     pub fn submissions(&self) -> &SubRing
         ensures { result.now ≡ self.now.submissions }
     {
         &self.machine.submissions
     }
 
-    /// The completion ring.
+    /// Returns the completion ring.
     pub fn completions(&self) -> &ComRing
         ensures { result.now ≡ self.now.completions }
     {
         &self.machine.completions
     }
 
-    /// Why an event is refused, if it is. It takes no memory.
+    /// Returns why an event is refused, if it is. Doesn't allocate.
     pub fn refuses(&self, event: Event) -> Option<Refusal>
         ensures { result ≡ refusal self.now event }
     {
         self.machine.refuses(event)
     }
 
-    /// One atomic step. Its record names the places that differ, with what stood there.
+    /// Carries out one event atomically. Returns the undo record: the places whose value changed,
+    /// with their old values. If the event is refused, or an allocation fails, the state is
+    /// unchanged.
     pub fn step(&mut self, event: Event) -> Result<Record, Refusal>
         ensures next { OnOk result (Next self.old event self.new) }
         ensures exact { IfOk result (λ r. Exact (view self.old) (view self.new) r) }
         ensures leads_back { IfOk result (λ r. LeadsBack (view self.old) (view self.new) r) }
 
-        // A refusal is answered, whether or not there is memory; else memory alone is refused.
+        // The reason for a refusal doesn't depend on memory. An accepted event can only run out of
+        // memory.
         ensures refused { (n : Refusal) → refusal self.old event ≡ Some n → result ≡ Err n }
         ensures only_memory { IfErr result (λ n. refusal self.old event ≡ None → n ≡ Memory) }
         ensures err { OnErr result (self.new ≡ self.old) }
@@ -146,7 +149,7 @@ impl State {
         }
     }
 
-    /// Puts back what the record of the last step names. It takes no memory.
+    /// Undoes the last step, given its record. Doesn't allocate.
     pub fn put_back(&mut self, past: &Record)
         requires { (s : Machine) × (e : Event) × Link s e past.now self.old }
         ensures undone { (p : Place) → view self.new p ≡ undo (view self.old) past.now p }
@@ -155,7 +158,7 @@ impl State {
         self.machine.restore(past);
     }
 
-    /// Puts back the records of a list of steps that led here, the last first. It takes no memory.
+    /// Undoes several steps, the last one first, given their records. Doesn't allocate.
     pub fn unwind(&mut self, records: &[Record])
         requires { (s : Machine) × (es : List Event) × Linked s es records.now self.old }
         ensures undone { (p : Place) → view self.new p ≡ undo_all (view self.old) records.now p }

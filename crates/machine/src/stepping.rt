@@ -1,4 +1,4 @@
-//! What the instructions of threads do but for Enter (io_uring(7)).
+//! The instructions of threads, except Enter and Close (io_uring(7)).
 ghost use Rattle.std.specs.Prelude.{◌≡◌, OnOk, None, Some, slice_get};
 ghost use Rattle.places.specs.View.{Keeps};
 ghost use Rattle.machine.specs.Steps.{executed, instruction_refusal, next_of};
@@ -11,7 +11,7 @@ use places::{At, Place, Recorder};
 use std::alloc::AllocError;
 
 impl Machine {
-    /// A thread writes an entry slot.
+    /// Writes an entry into a slot of the submission queue.
     pub(crate) fn put_entry(
         &mut self,
         t: u32,
@@ -32,7 +32,7 @@ impl Machine {
         self.threads.go_on(t, notes)
     }
 
-    /// A thread writes an index at the submission tail.
+    /// Writes the index of an entry at the submission tail, and advances the tail.
     pub(crate) fn push(
         &mut self,
         t: u32,
@@ -52,7 +52,7 @@ impl Machine {
         self.threads.go_on(t, notes)
     }
 
-    /// A thread takes the oldest completion.
+    /// Takes the oldest completion from the ring.
     pub(crate) fn reap(&mut self, t: u32, notes: &mut Recorder) -> Result<(), AllocError>
         requires next { next_of (slice_get self.old.threads t) ≡ Some Reap }
         requires accepted { instruction_refusal self.old Reap ≡ None }

@@ -1,4 +1,4 @@
-//! Entries of the submission ring become rows (io_uring_enter(2)).
+//! Consumes entries of the submission ring (io_uring_enter(2)).
 ghost use Rattle.std.specs.Prelude.{◌≡◌, ◌+◌, ◌≤◌, if◌then◌else◌, IfOk, OnOk, None, length};
 ghost use Rattle.places.specs.View.{Keeps};
 ghost use Rattle.ring_words.specs.Rings.{sub_list};
@@ -14,7 +14,7 @@ use places::Recorder;
 use std::alloc::AllocError;
 
 impl Machine {
-    /// A submission of at most so many entries. Says how many became rows.
+    /// Submits at most `to_submit` entries. Returns how many became requests.
     pub(crate) fn submit(&mut self, to_submit: u32, notes: &mut Recorder) -> Result<u32, AllocError>
         requires accepted { submission_refusal self.old to_submit ≡ None }
         requires formed { WellFormed self.old }
@@ -29,7 +29,7 @@ impl Machine {
         Ok(batch.taken)
     }
 
-    // The words of a submission are taken, and their entries become rows.
+    // Consumes index words of the ring, and turns their entries into requests.
     fn take(&mut self, to_submit: u32, notes: &mut Recorder) -> Result<Batch, AllocError>
         requires { length self.old.table + length (offered self.old.submissions to_submit) ≤ 65536 }
         ensures ok { OnOk result (self.new ≡ taken self.old to_submit) }
@@ -53,8 +53,8 @@ impl Machine {
         Ok(batch)
     }
 
-    // How many of the words that are offered a submission takes: all of them, or those up to and
-    // with the one that names the last entry that it takes.
+    // How many of the offered words a submission consumes: all, or, if an invalid entry stopped it,
+    // those up to and including the word of the last entry taken.
     fn word_count(&self, most: u32, taken: u32, halted: bool) -> u32
         requires offered { most ≤ length (sub_list self.now.submissions) }
         requires named { taken ≤ length (offered_entries self.now.submissions most) }
@@ -71,7 +71,7 @@ impl Machine {
         }
     }
 
-    // How many words there are up to and with the one that names the n-th entry.
+    // How many words there are up to and including that of the n-th entry.
     fn words_up_to(&self, most: u32, n: u32) -> u32
         requires offered { most ≤ length (sub_list self.now.submissions) }
         requires named { n ≤ length (offered_entries self.now.submissions most) }
@@ -95,7 +95,7 @@ impl Machine {
         count
     }
 
-    // The entries that the first words that wait name; the others name none.
+    // Returns the entries that the first `count` words refer to. Words out of range refer to none.
     fn entries_named(&self, count: u32) -> Result<Vec<Sqe>, AllocError>
         requires { count ≤ length (sub_list self.now.submissions) }
         ensures { IfOk result (λ entries. entries.items

@@ -1,4 +1,4 @@
-//! Threads: programs, and how far they have come.
+//! The threads of the program: their code, and how far they have run.
 ghost use Rattle.std.specs.Prelude.{◌≡◌, ◌<◌, ◌+◌, ◌^◌, IfOk, OnOk, Some, None, length, slice_get, map};
 ghost use Rattle.std.specs.Option.{option_copied};
 ghost use Rattle.places.specs.Lists.{updated};
@@ -16,7 +16,7 @@ use std::sync::Arc;
 /// A thread.
 #[derive(Drop)]
 pub struct Thread {
-    /// No step changes it: copies of the thread share it.
+    /// Never changes, so copies of the thread share it.
     program: Arc<Items<Instruction>>,
     counter: u32,
     stage: Stage,
@@ -43,7 +43,7 @@ impl Model for Thread {
 impl Thread {
     ghost use Rattle.machine.specs.Threads.{thread_start};
 
-    /// It stands at the start of its program.
+    /// Builds a thread at the start of its program.
     pub fn new(alloc: Global, program: Items<Instruction>) -> Result<Thread, AllocError>
         ensures { IfOk result (λ thread. thread ≡ thread_start program) }
     {
@@ -56,7 +56,7 @@ impl Thread {
         })
     }
 
-    /// The same thread again. It shares the program.
+    /// Copies the thread. The copy shares the program.
     pub fn copy(&self) -> Result<Thread, AllocError>
         ensures { IfOk result (λ thread. thread ≡ self.now) }
     {
@@ -69,14 +69,14 @@ impl Thread {
         })
     }
 
-    /// What it does next.
+    /// Returns whether the thread is ready or waits in Enter.
     pub fn stage(&self) -> Stage
         ensures { result ≡ self.now.stage }
     {
         self.stage
     }
 
-    /// Its next instruction, if it isn't done.
+    /// Returns the next instruction, or none at the end of the program.
     pub fn next(&self) -> Option<&Instruction>
         ensures { option_copied result ≡ slice_get self.now.program self.now.counter }
     {
@@ -84,7 +84,7 @@ impl Thread {
     }
 }
 
-/// All threads.
+/// All threads of a run.
 #[derive(Drop)]
 pub struct Threads {
     threads: Vec<Thread>,
@@ -188,14 +188,14 @@ impl Threads {
         thread.counter = counter as u32;
     }
 
-    /// The threads, in order.
+    /// Builds the list of threads.
     pub fn of(threads: Vec<Thread>) -> Threads
         ensures { result ≡ threads.items }
     {
         Threads { threads }
     }
 
-    /// The same threads again.
+    /// Copies the threads.
     pub fn copy(&self, alloc: Global) -> Result<Threads, AllocError>
         ensures { IfOk result (λ threads. threads ≡ self.now) }
     {
@@ -206,14 +206,14 @@ impl Threads {
         Ok(Threads { threads: copies })
     }
 
-    /// A thread, if there is one of this number.
+    /// Returns a thread by its number.
     pub fn get(&self, t: u32) -> Option<&Thread>
         ensures { option_copied result ≡ slice_get self.now t }
     {
         self.threads.get(t as usize)
     }
 
-    /// A thread goes on.
+    /// Advances a thread to its next instruction.
     pub fn go_on(&mut self, t: u32, notes: &mut Recorder) -> Result<(), AllocError>
         requires there { t < length self.old }
         requires goes_on { (x : ThreadState) → slice_get self.old t ≡ Some x
@@ -230,7 +230,7 @@ impl Threads {
         Ok(())
     }
 
-    // What a thread's last Enter or Close answered.
+    // Sets the result of a thread's last Enter or Close.
     fn set_last(&mut self, t: u32, n: i64, notes: &mut Recorder) -> Result<(), AllocError>
         requires there { t < length self.old }
         ensures ok { OnOk result (self.new ≡ updated (λ x. record x { last = n }) self.old t) }
@@ -244,7 +244,7 @@ impl Threads {
         Ok(())
     }
 
-    // The completion that a thread reaped last.
+    // Sets the completion that a thread reaped last.
     fn set_got(&mut self, t: u32, completion: Cqe, notes: &mut Recorder) -> Result<(), AllocError>
         requires there { t < length self.old }
         ensures ok { OnOk result (self.new
@@ -259,7 +259,7 @@ impl Threads {
         Ok(())
     }
 
-    /// A thread waits, or is ready.
+    /// Sets whether a thread is ready or waits.
     pub fn set_stage(
         &mut self,
         t: u32,
@@ -278,7 +278,7 @@ impl Threads {
         Ok(())
     }
 
-    /// A thread has an answer, and goes on.
+    /// Returns from a system call: sets the result, and advances the thread.
     pub fn answer(&mut self, t: u32, n: i64, notes: &mut Recorder) -> Result<(), AllocError>
         requires there { t < length self.old }
         requires goes_on { (x : ThreadState) → slice_get self.old t ≡ Some x
@@ -295,7 +295,7 @@ impl Threads {
         self.be_ready(t, notes)
     }
 
-    // A thread that waited is ready.
+    // Makes a thread that waited ready.
     fn be_ready(&mut self, t: u32, notes: &mut Recorder) -> Result<(), AllocError>
         requires there { t < length self.old }
         ensures ok { OnOk result (self.new ≡ updated (λ x. record x { stage = Ready }) self.old t) }
@@ -309,7 +309,7 @@ impl Threads {
         }
     }
 
-    /// A thread has got a completion, and goes on.
+    /// Hands a completion to a thread that reaps, and advances the thread.
     pub fn deliver(
         &mut self,
         t: u32,

@@ -1,4 +1,4 @@
-//! The parts of the machine together.
+//! The machine, made of its parts.
 ghost use Rattle.std.specs.Prelude.{◌≡◌, OnSome, Some, length, map};
 ghost use Rattle.places.specs.declared.value.Value.TheVariants.{Number};
 ghost use Rattle.links_drains.specs.Rows.{fixed_of};
@@ -16,7 +16,7 @@ use places::{At, Part, Place, Region, Value};
 use ring_words::{ComRing, SubRing};
 use sqpoll::Poller;
 
-/// The machine, part by part.
+/// The machine. Each place belongs to one of its parts.
 #[derive(Drop)]
 pub struct Machine {
     pub submissions: SubRing,
@@ -25,7 +25,7 @@ pub struct Machine {
     pub world: World,
     pub table: Table,
     pub poller: Option<Poller>,
-    /// Whether a submission goes on behind an entry that fails (io_uring_setup(2),
+    /// Whether a submission continues after an invalid entry (io_uring_setup(2),
     /// IORING_SETUP_SUBMIT_ALL).
     pub submit_all: bool,
     pub threads: Threads,
@@ -133,7 +133,7 @@ impl Part for Machine {
 impl Machine {
     ghost use Rattle.machine.specs.Whole.{view, can_put, OneSetup};
 
-    /// Sets a number.
+    /// Writes a number into a place.
     pub(crate) fn put_number(&mut self, place: Place, number: u64)
         requires { can_put self.old place (Some (Number number)) }
         ensures put { (q : Place)
@@ -150,7 +150,7 @@ impl Machine {
         }
     }
 
-    // Sets a number that no part owns, or what the poller does.
+    // Writes a place that belongs to no part: a number, or the poller's stage.
     fn put_other(&mut self, place: Place, value: Option<Value>)
         requires can { can_put self.old place value }
         requires rest { Owns Rest place }
@@ -172,8 +172,7 @@ impl Machine {
     }
 }
 
-// Which part of a machine has a place. The rest are its numbers, and what its poller does, if it
-// has one.
+// The part that a place belongs to. `Rest` is the machine's own numbers and the poller's stage.
 #[derive(Clone, Copy)]
 enum Owner {
     Submissions,

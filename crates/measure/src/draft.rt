@@ -1,4 +1,4 @@
-//! A run as it is put together: what it starts from, the threads' programs, and the events.
+//! Builds the setup, the programs and the events of a measured run.
 
 use entries::Sqe;
 use machine::{Event, Instruction, Setup};
@@ -7,25 +7,26 @@ use places::Items;
 use std::alloc::{AllocError, Global};
 use std::mem::replace;
 
-/// The most instructions of a program, and the most entries of the submission ring: the poller
-/// takes so many at once.
+/// The maximum number of instructions in a program, and of submission entries. The poller takes up
+/// to this many at once.
 pub const BATCH: u32 = 4096;
 
-/// A setup, and events that run from it. One thread after the other does instructions, each until
-/// its program is full.
+/// A setup and its events, under construction. The first thread executes instructions until its
+/// program is full, then the next one.
 #[derive(Drop)]
 pub struct Draft {
     pub alloc: Global,
     pub setup: Setup,
     programs: Vec<Items<Instruction>>,
-    // The program of the thread that goes on, and the thread.
+    // The program under construction, and its thread.
     program: Vec<Instruction>,
     thread: u32,
     pub events: Vec<Event>,
 }
 
 impl Draft {
-    /// Rings as large as can be and a poller, without memory, objects, descriptors and events.
+    /// Creates a setup with rings of the maximum size and a poller. It has no memory, objects,
+    /// descriptors or events.
     pub fn new(alloc: Global) -> Draft {
         let setup = Setup {
             entries: BATCH,
@@ -48,7 +49,7 @@ impl Draft {
         }
     }
 
-    /// Ends the program of the thread that goes on.
+    /// Ends the program of the current thread.
     fn end_program(&mut self) -> Result<(), AllocError> {
         let program = replace(&mut self.program, Vec::new(self.alloc));
         self.programs.push(Items::of(program))?;
@@ -56,14 +57,14 @@ impl Draft {
         Ok(())
     }
 
-    /// The last program ends too: the setup has all of them.
+    /// Ends the last program, and stores all programs in the setup.
     pub fn end(&mut self) -> Result<(), AllocError> {
         self.end_program()?;
         self.setup.threads = Items::of(replace(&mut self.programs, Vec::new(self.alloc)));
         Ok(())
     }
 
-    /// A thread does an instruction.
+    /// Appends an instruction of the current thread, and the event that executes it.
     pub fn step(&mut self, instruction: Instruction) -> Result<(), AllocError> {
         if self.program.len() == BATCH as usize {
             self.end_program()?;
@@ -73,7 +74,7 @@ impl Draft {
         Ok(())
     }
 
-    /// Entries are put into the slots from 0 on.
+    /// Puts entries into the slots from 0 on.
     pub fn put(&mut self, entries: &[Sqe]) -> Result<(), AllocError> {
         for (slot, entry) in (0..BATCH).zip(entries) {
             self.step(Instruction::Put(slot, *entry))?;
@@ -81,7 +82,7 @@ impl Draft {
         Ok(())
     }
 
-    /// Slots are pushed, and the poller takes what was pushed.
+    /// Pushes slots, and lets the poller take them.
     pub fn submit(&mut self, slots: &[u32]) -> Result<(), AllocError> {
         for slot in slots {
             self.step(Instruction::Push(*slot))?;
@@ -90,7 +91,7 @@ impl Draft {
         Ok(())
     }
 
-    /// A row is issued and finished.
+    /// Issues and completes a request.
     pub fn end_row(&mut self, row: u32) -> Result<(), AllocError> {
         self.events.push(Event::Issue(row))?;
         self.events.push(Event::Finish(row, Choice::Full))?;

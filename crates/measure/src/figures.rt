@@ -1,27 +1,28 @@
-//! What records name and keep.
+//! Sums over the undo records of a run.
 
 use inverse_log::Walker;
 use machine::State;
 use places::value::is_same;
 use places::{Record, Value};
 
-/// The most changes of a record that are looked at.
+/// The maximum number of a record's changes that are counted.
 const MOST_CHANGES: u32 = 1048576;
 
-/// Sums over records.
+/// Sums over undo records.
 #[derive(Clone, Copy, Default)]
 pub struct Figures {
     pub places: usize,
-    /// How many of the places are bytes.
+    /// Places whose old value is a byte.
     pub bytes: usize,
-    /// In how many of the places the old value doesn't stand in a state.
+    /// Places whose old value differs from the current one.
     pub changed: usize,
-    /// What the records keep in memory, themselves included, in bytes.
+    /// The memory of the records, including the records themselves, in bytes.
     pub kept: usize,
 }
 
 impl Figures {
-    /// What a run's records from a moment on name and keep, beside its state.
+    /// Sums up the records from index `from` on, and compares their old values with the walker's
+    /// state.
     pub fn of(walker: &Walker, from: usize) -> Figures {
         let mut figures = Figures::default();
         for record in walker.records().iter().skip(from) {

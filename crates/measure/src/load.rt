@@ -1,37 +1,32 @@
-//! What each run is of.
+//! The workload of each run.
 
 use crate::draft::{BATCH, Draft};
 use crate::plan::{Plan, Word};
-use entries::Sqe;
+use entries::{IORING_ASYNC_CANCEL_ALL, IOSQE_IO_DRAIN, IOSQE_IO_LINK, POLLIN, Sqe};
 use machine::{Event, Instruction};
 use opcodes::{Choice, Op};
 use places::{Contents, Descriptor, End, Items, Object};
 use std::alloc::{AllocError, Global};
 
-/// IOSQE_IO_DRAIN.
-const DRAIN: u8 = 2;
+/// IORING_ASYNC_CANCEL_ALL for a cancel, and POLLIN for a poll.
+const ASKED: u32 = IORING_ASYNC_CANCEL_ALL | POLLIN;
 
-/// IOSQE_IO_LINK.
-const LINK: u8 = 4;
-
-/// IORING_ASYNC_CANCEL_ALL of a cancel, and POLLIN of a poll.
-const ASKED: u32 = 1;
-
-/// The rows of a full table, but for one, whose push a Put takes the place of.
+/// One request fewer than the maximum: the 16 programs have 65,536 instructions, one of which is a
+/// Put.
 const FULL: u32 = 65535;
 
-/// A count of completions that no run comes to.
+/// A number of completions that no run reaches.
 const FAR: u64 = 1048576;
 
-/// How many rows end, one after the other, as others stand beside them.
+/// The number of requests that complete one after the other, while others are pending.
 const ENDED: u32 = 100;
 
-/// The user_data of the one row that a cancel looks for; that of the others is 0.
+/// The user_data of the only request that a cancel targets. All others have 0.
 const WANTED: u64 = 9;
 
 type Filled = Result<(), AllocError>;
 
-/// Adds what a plan asks for.
+/// Fills a draft with the run of a plan.
 pub fn fill(draft: &mut Draft, Plan { word, size }: Plan) -> Result<(), AllocError> {
     let nop = entry(Op::Nop, 0, 0);
     let cancel_all = asking(entry(Op::AsyncCancel, 0, 0));
@@ -41,8 +36,8 @@ pub fn fill(draft: &mut Draft, Plan { word, size }: Plan) -> Result<(), AllocErr
         Word::Transfers => transfers(draft, size),
         Word::Issues => turns(draft, nop, size),
         Word::Polls => polls(draft, size),
-        Word::Links => turns(draft, flagged(nop, LINK), size),
-        Word::Drains => turns(draft, flagged(nop, DRAIN), size),
+        Word::Links => turns(draft, flagged(nop, IOSQE_IO_LINK), size),
+        Word::Drains => turns(draft, flagged(nop, IOSQE_IO_DRAIN), size),
         Word::Cancels => cancels(draft, size),
         Word::Counts => beside(draft, &[nop, entry(Op::Timeout, 1, FAR)], ENDED, size, &[]),
         Word::Meets => meets(draft, size),
@@ -52,8 +47,8 @@ pub fn fill(draft: &mut Draft, Plan { word, size }: Plan) -> Result<(), AllocErr
     }
 }
 
-// All NOPs are submitted, each taken as it is pushed; behind them the clock ticks. The files are as
-// many, and as long, as a setup can have.
+// Submits 65,535 NOPs, each taken as soon as it is pushed. After that, the clock advances. There is
+// the maximum number of files, each of the maximum size.
 fn full(draft: &mut Draft, events: u32) -> Filled {
     let mut files = Vec::new(draft.alloc);
     for number in 0..32u8 {
@@ -69,8 +64,8 @@ fn full(draft: &mut Draft, events: u32) -> Filled {
     draft.events.resize(events as usize, Event::Tick(1))
 }
 
-// READs of a file's first page and of its second page in turn, and behind each a WRITE of what was
-// read over its third page. The pages differ in each byte.
+// Alternates READs of a file's first and second page. After each READ, a WRITE copies the data to
+// the third page. The pages differ in every byte.
 fn transfers(draft: &mut Draft, events: u32) -> Filled {
     let entries = [
         entry(Op::Read, 4096, 0),
@@ -84,7 +79,7 @@ fn transfers(draft: &mut Draft, events: u32) -> Filled {
     requests(draft, events, &entries, [0, 2, 1, 2])
 }
 
-// So many events of requests of these slots in turn, made one by one.
+// Runs requests of these slots in turn, one at a time, for the given number of events.
 fn requests(draft: &mut Draft, events: u32, entries: &[Sqe], slots: [u32; 4]) -> Filled {
     draft.put(entries)?;
     for row in 0..events.div_ceil(5) {
@@ -96,7 +91,7 @@ fn requests(draft: &mut Draft, events: u32, entries: &[Sqe], slots: [u32; 4]) ->
     Ok(())
 }
 
-// Half of so many rows of an entry end, one after the other.
+// Submits `rows` requests of an entry, and completes half of them, one after the other.
 fn turns(draft: &mut Draft, entry: Sqe, rows: u32) -> Filled {
     submit(draft, &[entry], &vec![in draft.alloc; 0u32; rows as usize]?)?;
     for row in 0..rows / 2 {
@@ -118,7 +113,7 @@ fn cancels(draft: &mut Draft, rows: u32) -> Filled {
     beside(draft, &entries, ENDED, rows.saturating_sub(1), &[2])
 }
 
-// The last of the TIMEOUTs, as many as there are NOPs, wait for one completion, for two, and so on.
+// Each NOP completes one TIMEOUT: one TIMEOUT waits for one completion, one for two, and so on.
 fn meets(draft: &mut Draft, rows: u32) -> Filled {
     let mut entries = Vec::from_slice(
         draft.alloc,
@@ -132,7 +127,8 @@ fn meets(draft: &mut Draft, rows: u32) -> Filled {
     beside(draft, &entries, ENDED, rows.saturating_sub(ENDED), &met)
 }
 
-// So many rows of slot 0, others of slot 1, and the last ones are issued; then the first finish.
+// Submits `firsts` requests of slot 0, `others` of slot 1, and one of each slot in `last`. Issues
+// all of them, and then completes those of slot 0.
 fn beside(draft: &mut Draft, entries: &[Sqe], firsts: u32, others: u32, last: &[u32]) -> Filled {
     let mut slots = vec![in draft.alloc; 0u32; firsts as usize]?;
     slots.resize(firsts as usize + others as usize, 1)?;
@@ -141,10 +137,11 @@ fn beside(draft: &mut Draft, entries: &[Sqe], firsts: u32, others: u32, last: &[
     finish(draft, &slots, u32::MAX)
 }
 
-// A cancel, and chains as long as a batch: it ends the first row of each, and so severs the others.
+// Submits a cancel, and chains as long as a batch. The cancel completes the first request of each
+// chain, and so severs the rest.
 fn severed(draft: &mut Draft, rows: u32) -> Filled {
-    let first = flagged(entry(Op::Timeout, 1, 0), LINK);
-    let later = flagged(entry(Op::Nop, 0, 0), LINK);
+    let first = flagged(entry(Op::Timeout, 1, 0), IOSQE_IO_LINK);
+    let later = flagged(entry(Op::Nop, 0, 0), IOSQE_IO_LINK);
     let mut slots = vec![in draft.alloc; 0u32; 1]?;
     for row in 1..=rows {
         slots.push(if row == 1 || row % BATCH == 0 { 1 } else { 2 })?;
@@ -154,7 +151,7 @@ fn severed(draft: &mut Draft, rows: u32) -> Filled {
     finish(draft, &slots, 2)
 }
 
-// Entries are put into the slots from 0 on, and rows of these slots are submitted, a batch at once.
+// Puts entries into the slots from 0 on, and submits requests of the given slots in batches.
 fn submit(draft: &mut Draft, entries: &[Sqe], slots: &[u32]) -> Filled {
     draft.put(entries)?;
     for batch in slots.chunks(BATCH as usize) {
@@ -163,7 +160,7 @@ fn submit(draft: &mut Draft, entries: &[Sqe], slots: &[u32]) -> Filled {
     Ok(())
 }
 
-// The rows of slots below a bound are issued, and those of slot 0 finish.
+// Issues the requests whose slot is below `bound`, and completes those of slot 0.
 fn finish(draft: &mut Draft, slots: &[u32], bound: u32) -> Filled {
     for (row, slot) in (0..FULL).zip(slots) {
         if *slot < bound {
@@ -178,7 +175,7 @@ fn finish(draft: &mut Draft, slots: &[u32], bound: u32) -> Filled {
     Ok(())
 }
 
-// One object, with so many descriptors.
+// Sets up one object, with the given number of descriptors.
 fn open(draft: &mut Draft, contents: Contents, descriptors: usize) -> Filled {
     let whole = Descriptor {
         object: 0,
@@ -194,7 +191,7 @@ fn object(alloc: Global, name: &[u8], contents: Contents) -> Result<Object, Allo
     Ok(Object { name, contents })
 }
 
-// An entry at descriptor 3 and address 0.
+// Returns an entry for descriptor 3 and address 0.
 fn entry(op: Op, len: u32, off: u64) -> Sqe {
     let mut entry = Sqe::read(&[0; 64]);
     entry.opcode = op as u8;

@@ -1,5 +1,5 @@
-//! Large runs, built in process, walked both ways and timed: counts on standard output, times on
-//! standard error.
+//! Builds large runs in process, and times walks through them in both directions. Counts go to
+//! standard output, times to standard error.
 #![tactic(auto)]
 
 mod draft;
@@ -18,13 +18,13 @@ use std::process::ExitCode;
 use std::time::{Clock, Instant};
 use std::{env, io};
 
-/// How many jumps there are.
+/// The number of jumps.
 const JUMPS: usize = 1000;
 
-/// Knuth's multiplier and increment for numbers of 64 bits that look random.
+/// The multiplier and increment of Knuth's 64-bit linear congruential generator.
 const KNUTH: (u64, u64) = (6364136223846793005, 1442695040888963407);
 
-// So many events in so many microseconds, on standard error.
+// Reports a number of events, their time in microseconds, and the rate on standard error.
 fn report(rt: &impl Eprint, what: &str, events: usize, micros: u128) -> io::Result<()> {
     let rate = events as u128 * 1000000 / micros.max(1);
     eprintln!(rt; "{what}: {events} in {micros} us, {rate} a second")
@@ -37,14 +37,14 @@ fn go(walker: &mut Walker, moment: usize) -> io::Result<()> {
     }
 }
 
-// How long it takes to go to a moment, in microseconds.
+// Returns the time of a jump to a moment, in microseconds.
 fn timed(rt: &impl Clock, walker: &mut Walker, moment: usize) -> io::Result<u128> {
     let start = Instant::now(rt)?;
     go(walker, moment)?;
     Ok(start.elapsed(rt)?.as_micros())
 }
 
-// Jumps to moments that look random, the same ones for each run of a length.
+// Jumps to pseudorandom moments, which depend only on the length of the run.
 fn jump(rt: &(impl Eprint + Clock), walker: &mut Walker) -> io::Result<()> {
     let moments = (walker.len() as u64).saturating_add(1);
     let (mut seed, mut micros) = (0u64, 0u128);
@@ -56,7 +56,7 @@ fn jump(rt: &(impl Eprint + Clock), walker: &mut Walker) -> io::Result<()> {
     report(rt, "jumps", JUMPS, micros)
 }
 
-// Walks the last events on and back, so often.
+// Walks the last events forward and back, `rounds` times.
 fn walk_last(
     rt: &(impl Eprint + Clock),
     walker: &mut Walker,
@@ -75,8 +75,8 @@ fn walk_last(
     report(rt, "events back", events, back)
 }
 
-// Adds the events, each of which is done once, its record kept, and undone once; and walks as a
-// plan asks for.
+// Adds the events, and then walks as the plan says. Adding runs each event, stores its undo record,
+// and undoes it.
 fn walk(
     rt: &(impl Print + Eprint + Clock),
     walker: &mut Walker,
@@ -96,8 +96,8 @@ fn walk(
     print_figures(rt, walker)
 }
 
-// What the records name and keep; of the last one, how much of it differs behind its step, and how
-// much once that is undone; and how many requests ended, TIMEOUTs left out.
+// Prints sums over all records, and the number of completed requests without TIMEOUTs. For the last
+// record, it also prints how many old values differ after the step, and after its undo.
 fn print_figures(rt: &(impl Print + Eprint), walker: &mut Walker) -> io::Result<()> {
     let end = walker.len();
     let from = end.saturating_sub(1);
@@ -124,8 +124,8 @@ fn print_sums(rt: &(impl Print + Eprint), walker: &Walker) -> io::Result<()> {
     println!(rt; "named {} places, {} of them bytes", all.places, all.bytes)
 }
 
-// Where the run jumps, a state is copied at each 1,024th moment; else only the start is, and no way
-// back is too long for single steps: so each way is walked event by event.
+// For jumps, the walker stores a checkpoint at every 1,024th moment. Otherwise it stores only the
+// start, and walks back event by event, however far.
 fn start(rt: &(impl Print + Eprint + Clock), plan: Plan, draft: &mut Draft) -> io::Result<()> {
     fill(draft, plan)?;
     draft.end()?;
@@ -139,7 +139,7 @@ fn start(rt: &(impl Print + Eprint + Clock), plan: Plan, draft: &mut Draft) -> i
     }
 }
 
-// Does what the words behind the program's name ask for. The status is 2 where they aren't read.
+// Runs the plan in the arguments. The exit status is 2 if they are invalid.
 fn run(rt: &(impl Print + Eprint + Clock + AllocGlobal), words: &[String]) -> io::Result<ExitCode> {
     let Some(plan) = plan_of(words) else {
         eprintln!(rt; "{WORDS}")?;

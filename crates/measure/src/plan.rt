@@ -1,51 +1,50 @@
-//! Which run is measured, and its size.
+//! The run to measure, and its size.
 
-/// The words that a run is asked for by. Behind N stands the most that it can be, where that is
-/// told.
+/// The usage message. A number in parentheses is the maximum of N.
 pub const WORDS: &str =
     "measure full N (1048576 at most) | nops N | transfers N | issues N | polls N | links N | drains N | cancels N | counts N | meets N | cascade N | met N | severed N (65334)";
 
-/// The most events of a trace.
+/// The maximum number of events in a trace.
 const MOST_EVENTS: u32 = 1048576;
 
-/// The most rows beside 100 that end: each has an instruction of 16 programs, of which 102 are Puts
-/// at most.
+/// The maximum number of requests, in addition to the 100 that complete. Each needs an instruction
+/// of the 16 programs, at most 102 of which are Puts.
 const MOST_ROWS: u32 = 65334;
 
-/// What is measured.
+/// The run to measure. N is its size.
 #[derive(Clone, Copy)]
 pub enum Word {
-    /// So many events over 32 files of 65,536 bytes: 65,535 NOPs are submitted, and then the clock
-    /// ticks. The run jumps between their moments.
+    /// N events over 32 files of 65,536 bytes: 65,535 NOPs are submitted, and then the clock
+    /// advances. The run jumps between moments.
     Full,
-    /// So many events of NOPs, each pushed, taken, issued, finished and reaped.
+    /// N events of NOPs, each pushed, taken, issued, finished and reaped.
     Nops,
-    /// The same of READs and WRITEs, each of which changes 4,096 bytes.
+    /// The same with READs and WRITEs, each of which changes 4,096 bytes.
     Transfers,
-    /// So many NOPs, of which half end in turn, before the others are issued.
+    /// N NOPs. Half of them complete one after the other, before the others are issued.
     Issues,
-    /// The same of POLL_ADDs of an eventfd, which has 64 descriptors.
+    /// The same with POLL_ADDs of an eventfd that has 64 descriptors.
     Polls,
-    /// The same of NOPs in chains as long as a batch.
+    /// The same with NOPs in chains as long as a batch.
     Links,
-    /// The same of NOPs each of which drains.
+    /// The same with NOPs that have IOSQE_IO_DRAIN.
     Drains,
-    /// 100 cancels beside so many issued rows: each finds the last of them, which is running.
+    /// 100 cancels with N issued requests. Each finds the last request, which is running.
     Cancels,
-    /// 100 NOPs that finish beside so many TIMEOUTs that wait for a count of completions, and none
-    /// is met.
+    /// 100 NOPs that complete while N TIMEOUTs wait for a number of completions that isn't reached.
     Counts,
-    /// The same, but each NOP meets a TIMEOUT.
+    /// The same, but each NOP completes one TIMEOUT.
     Meets,
-    /// A cancel that ends so many rows in one step.
+    /// A cancel that completes N requests in one step.
     Cascade,
-    /// A NOP that meets so many TIMEOUTs in one step.
+    /// A NOP that completes N TIMEOUTs in one step.
     Met,
-    /// A cancel that ends the first row of each chain, of so many rows in all, in one step.
+    /// A cancel that completes N requests in one step: the first of each chain, and with it the
+    /// rest.
     Severed,
 }
 
-/// A run.
+/// A run to measure.
 #[derive(Clone, Copy)]
 pub struct Plan {
     pub word: Word,
@@ -53,8 +52,8 @@ pub struct Plan {
 }
 
 impl Plan {
-    /// How many of its last events are walked, on and back, and how often; none where the run
-    /// jumps.
+    /// Returns how many of the last events are walked forward and back, and how often. Returns
+    /// `None` for a run that jumps.
     pub fn rounds(self) -> Option<(usize, usize)> {
         match self.word {
             Word::Full => None,
@@ -85,7 +84,7 @@ fn word_of(name: &str) -> Option<Word> {
     })
 }
 
-/// Reads the program's name and the words behind it.
+/// Parses the arguments, the first of which is the program's name.
 pub fn plan_of(words: &[String]) -> Option<Plan> {
     let [_, name, size] = words else {
         return None;

@@ -1,4 +1,4 @@
--- Notes of some of the bytes of a region.
+-- Facts about recording some of the bytes of a region, in spans.
 use Rattle.std.proofs.Common.{◌≡◌, ℕ, Bool, true, false, cond, refl, sym, ◌∙◌, ap, List, length, ◌+◌, ◌-◌, ◌<◌, ◌≤◌, arith}
 use Rattle.std.specs.Prelude.{Option, Some, None, option_map, slice_get, ◌⊎◌, unwrap_or}
 use Rattle.std.proofs.Common.{inl, inr}
@@ -26,9 +26,9 @@ first_twice None None = refl
 first_twice None (Some x) = refl
 first_twice (Some x) b = refl
 
--- ---- a part of the bytes
+-- ---- A part of the bytes
 
--- what a part of some bytes says of an index is what they say of it, or nothing
+-- For each index, a part of the bytes has the same note as all of them, or none.
 part_says : (bs : List ℕ) (s a k i : ℕ) → (byte_from (s + a) (part bs a k) i ≡ None) ⊎ (byte_from (s + a) (part bs a k) i ≡ byte_from s bs i)
 part_says bs s a k i = by (below_or_not i (s + a))
   where
@@ -49,7 +49,7 @@ part_in g bs s a k q = by (is_in g q)
     by true = part_says bs s a k (offset_in g q)
     by false = inl refl
 
--- notes of a part are notes among the bytes
+-- Recording a part of the bytes is recording among all of them.
 among_part : (cs ds : List Change) (g : Region) (s a k : ℕ) (bs : List ℕ) → NotedBytes cs ds g (s + a) (part bs a k) → NotedAmong cs ds g s bs
 among_part cs ds g s a k bs n q = by (part_in g bs s a k q)
   where
@@ -67,7 +67,7 @@ among_then cs ds es g s bs n m q = by (n q) (m q)
     by (inl e) (inr f) = inr (f ∙ ap (λ m. first_note m (byte_in g s bs q)) e)
     by (inr e) (inr f) = inr (f ∙ ap (λ m. first_note m (byte_in g s bs q)) e ∙ first_twice (named cs q) (byte_in g s bs q))
 
--- what bytes say of one of their region's places
+-- The note of a place of the region is the one of its index.
 says_there : (g : Region) (t : ℕ) (bs : List ℕ) (i : ℕ) → byte_in g t bs (place_in g i) ≡ byte_from t bs i
 says_there Memory t bs i = refl
 says_there (File o) t bs i = ap (λ b. cond b (byte_from t bs i) None) (eq-eqb o o refl)
@@ -77,7 +77,7 @@ says_there (Pipe o) t bs i = ap (λ b. cond b (byte_from t bs i) None) (eq-eqb o
 past_says : (bs : List ℕ) (t i : ℕ) → t + length bs ≤ i → byte_from t bs i ≡ None
 past_says bs t i h = byte_from_at t bs (i - t) i (omega arith) ∙ ap (option_map (λ b. Some (Byte b))) (slice_get_past bs (i - t) (omega arith))
 
--- what stands behind the bytes is not named by their notes
+-- Recording bytes adds no note of a place after them.
 pub among_fresh : (cs ds : List Change) (g : Region) (s : ℕ) (bs : List ℕ) → NotedAmong cs ds g s bs → (i : ℕ) → s + length bs ≤ i → named cs (place_in g i) ≡ None → named ds (place_in g i) ≡ None
 among_fresh cs ds g s bs n i h e = by (n (place_in g i))
   where
@@ -85,7 +85,7 @@ among_fresh cs ds g s bs n i h e = by (n (place_in g i))
     by (inl f) = f ∙ e
     by (inr f) = f ∙ ap (λ m. first_note m (byte_in g s bs (place_in g i))) e ∙ says_there g s bs i ∙ past_says bs s i h
 
--- nor what stands before them
+-- Nor of a place before them.
 pub among_fresh_before : (cs ds : List Change) (g : Region) (s : ℕ) (bs : List ℕ) → NotedAmong cs ds g s bs → (i : ℕ) → i < s → named cs (place_in g i) ≡ None → named ds (place_in g i) ≡ None
 among_fresh_before cs ds g s bs n i h e = by (n (place_in g i))
   where
@@ -93,7 +93,7 @@ among_fresh_before cs ds g s bs n i h e = by (n (place_in g i))
     by (inl f) = f ∙ e
     by (inr f) = f ∙ ap (λ m. first_note m (byte_in g s bs (place_in g i))) e ∙ says_there g s bs i ∙ byte_from_before s bs i h
 
--- noting un-notes no place
+-- Recording removes no note.
 pub among_named : (cs ds : List Change) (g : Region) (s : ℕ) (bs : List ℕ) → NotedAmong cs ds g s bs → (q : Place) → named ds q ≡ None → named cs q ≡ None
 among_named cs ds g s bs n q h = by (n q)
   where
@@ -105,7 +105,7 @@ among_named cs ds g s bs n q h = by (n q)
     by (inl e) = sym e ∙ h
     by (inr e) = first (named cs q) (byte_in g s bs q) (sym e ∙ h)
 
--- bytes that stand there were noted, and nothing changed yet
+-- If the recorded bytes are the current values, undoing gives the same view as before.
 pub keeps_among : (owns : Place → Bool) (v : View) (cs ds : List Change) (g : Region) (s : ℕ) (bs : List ℕ) → NotedAmong cs ds g s bs → ((q : Place) (x : Option Value) → byte_in g s bs q ≡ Some x → (x ≡ v q) × (owns q ≡ true)) → Keeps owns v v cs ds
 keeps_among owns v cs ds g s bs n there = record { back = λ q _. back q (n q); others = λ q o. others q o (n q) }
   where
@@ -127,7 +127,7 @@ keeps_among owns v cs ds g s bs n there = record { back = λ q _. back q (n q); 
     others q o (inl e) = e
     others q o (inr e) = e ∙ other q (named cs q) (byte_in g s bs q) refl o
 
--- ---- span by span
+-- ---- Span by span
 
 pub as_much : (a b c : Notes) → HasAsMuch a b → HasAsMuch b c → HasAsMuch a c
 as_much a b c h k = record {
@@ -136,8 +136,8 @@ as_much a b c h k = record {
   others = let x = h.others in let y = k.others in omega arith;
 }
 
--- The bytes before an index are noted where they differ, without long stretches that are alike, and
--- none from it on is noted.
+-- The invariant of the loop. The bytes before index `done` that differ have notes, no 16 unchanged
+-- bytes in a row have any, and no byte from `done` on has one.
 pub record NotingSpans (g : Region) (s : ℕ) (old others : List ℕ) (before notes : Notes) (done : ℕ) : Type 0 where
   pub within : done ≤ length old
   pub among : NotedAmong before.made notes.made g s old
@@ -146,7 +146,7 @@ pub record NotingSpans (g : Region) (s : ℕ) (old others : List ℕ) (before no
   pub spared : (i k : ℕ) → Alike old others i (i + 16) → i ≤ k → k < i + 16 → k < done → named notes.made (place_in g (s + k)) ≡ None
   pub room : HasAsMuch before notes
 
--- the bytes of a span are not named yet
+-- No byte of the next span has a note yet.
 pub span_fresh : (g : Region) (s : ℕ) (old others : List ℕ) (before notes : Notes) (done from end : ℕ) (bs : List ℕ) → NotingSpans g s old others before notes done → IsFirst old others done from → IsSpanEnd old others from end → length bs ≤ end - from → (i : ℕ) → i < length bs → named notes.made (place_in g ((s + from) + i)) ≡ None
 span_fresh g s old others before notes done from end bs m first last size i h =
     ap (λ n. named notes.made (place_in g n)) (let e : (s + from) + i ≡ s + (from + i) = omega arith in e) ∙ m.fresh (from + i) (let a = first.from in omega arith) (let b = last.within in omega arith)
@@ -175,7 +175,7 @@ spans_on g s old others before notes next done from end m first last n room = re
         ∙ says_there g (s + from) (part old from (end - from)) (s + i)
         ∙ past_says (part old from (end - from)) (s + from) (s + i) (let a = size in let b = last.some in omega arith)
 
-    -- what stands before the span is noted as it was
+    -- The notes of places before the span are unchanged.
     before_it : (i : ℕ) → i < from → named next.made (place_in g (s + i)) ≡ named notes.made (place_in g (s + i))
     before_it i h =
         n (place_in g (s + i))
@@ -185,7 +185,7 @@ spans_on g s old others before notes next done from end m first last n room = re
     spared : (i k : ℕ) → Alike old others i (i + 16) → i ≤ k → k < i + 16 → k < end → named next.made (place_in g (s + k)) ≡ None
     spared i k a lo hi h = by (below_or_not k done) (below_or_not k from)
       where
-        -- sixteen that are alike and have one of the span go on behind its end
+        -- If 16 unchanged bytes include one of the span, they continue after its end.
         here : from ≤ k → (from < i) ⊎ (i ≤ from) → ⊥
         here l (inr f) = first.differs (a from f (omega arith))
         here l (inl f) = beyond (below_or_not (end - 1) (i + 16))
@@ -215,7 +215,7 @@ spans_on g s old others before notes next done from end m first last n room = re
         by (inr l) (inl k) = first.before i l k
         by (inr l) (inr k) = absurd (here i k h e)
 
--- sixteen that are alike stand before the notes' end or behind it
+-- 16 unchanged bytes in a row are all recorded earlier, or all later, than index `done`.
 pub spans_spare : (g : Region) (s : ℕ) (old others : List ℕ) (before notes : Notes) (done : ℕ) → NotingSpans g s old others before notes done → Spares notes.made g s old others
 spans_spare g s old others before notes done m i k a lo hi h = by (below_or_not k done)
   where
@@ -223,7 +223,7 @@ spans_spare g s old others before notes done m i k a lo hi h = by (below_or_not 
     by (inl l) = m.spared i k a lo hi l
     by (inr l) = m.fresh k l h
 
--- no byte from an index on differs any more
+-- When no byte from `done` on differs, all that differ have notes.
 pub spans_end : (g : Region) (s : ℕ) (old others : List ℕ) (before notes : Notes) (done : ℕ) → NotingSpans g s old others before notes done → length others ≡ length old → Alike old others done (length old) → NamesDiffering notes.made g s old others
 spans_end g s old others before notes done m len alike i e = by (below_or_not i done) (below_or_not i (length old))
   where

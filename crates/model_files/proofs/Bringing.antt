@@ -1,4 +1,4 @@
--- What notes of memory and an object say as bytes come from the one into the other.
+-- Facts about the notes of a transfer from a pipe or an eventfd into memory.
 use Rattle.std.proofs.Common.{◌≡◌, ℕ, Bool, true, false, cond, refl, sym, ◌∙◌, ap, subst, List, ◌++◌, length, take, drop, append_assoc, ◌+◌, ◌-◌, ◌<◌, ◌≤◌, ◌⊎◌, inl, inr, get_or, arith}
 use Rattle.std.specs.Int.{w64, to_le_bytes}
 use Rattle.std.specs.Prelude.{Option, Some, None, IsSome, slice_get}
@@ -30,7 +30,7 @@ use Rattle.model_files.proofs.Remembering.{keeps_memory_bytes, names_memory}
 names_then : (owns : Place → Bool) (u v w : View) (ds : List Change) → NamesChanges owns u v ds → NamesChanges owns v w ds → NamesChanges owns u w ds
 names_then owns u v w ds h k q own e = k q own e ∙ h q own e
 
--- what changes of an object's places is noted, so it is of the world's
+-- If the changes of an object have notes, those of the world do.
 names_object : (w : WorldState) (o : ℕ) (b c : Body) (ds : List Change) → slice_get w.objects o ≡ Some b → NamesChanges (object_owns o) (body_seen b) (body_seen c) ds → NamesChanges world_owns (world_seen w) (world_seen (with_body w o c)) ds
 names_object w o b c ds h k q own e = seen_of_set w o c q (slice_get_within w.objects o b h) ∙ by (object_owns o q) refl
   where
@@ -38,9 +38,9 @@ names_object w o b c ds h k q own e = seen_of_set w o c q (slice_get_within w.ob
     by true f = k q f e ∙ sym (own_seen w o b q h f)
     by false f = refl
 
--- ---- memory, in two parts
+-- ---- Memory in two parts
 
--- the notes of a second part of memory behind the first
+-- Recording the first part of memory adds no note of the second part.
 pub second_part_fresh : (w : WorldState) (addr n m : ℕ) (cs ds : List Change) → addr + n ≤ length w.memory → NotedAmong cs ds Memory addr (part w.memory addr n) → ((i : ℕ) → i < n + m → named cs (MemoryByte (addr + i)) ≡ None) → (i : ℕ) → i < m → named ds (MemoryByte ((addr + n) + i)) ≡ None
 second_part_fresh w addr n m cs ds h a fresh i l =
     let size = length-part w.memory addr n h in
@@ -66,13 +66,13 @@ differing_both xs first second at ds es a one two i e = by (below_or_not i (leng
         ∙ two (i - length first) (ap (λ z. named es (MemoryByte z)) (sym there) ∙ e) ∙ sym (back l)
     by (inr l) (inr b) = slice_get-part_past xs at (length first + length second) i b ∙ sym (back l ∙ slice_get_past second (i - length first) (omega arith))
 
--- two parts of memory were noted, and nothing changed yet
+-- Recording two parts of memory, before they are written, doesn't change what undoing gives.
 pub keeps_two : (w : WorldState) (at k l m : ℕ) (cs ds es : List Change) → NotedAmong cs ds Memory at (part w.memory at k) → NotedAmong ds es Memory l (part w.memory l m) → Keeps world_owns (world_seen w) (world_seen w) cs es
 keeps_two w at k l m cs ds es a b = keeps_then world_owns (world_seen w) (world_seen w) (world_seen w) cs ds es (keeps_memory_bytes w at k cs ds a) (keeps_memory_bytes w l m ds es b)
 
--- ---- bytes that come out of a pipe
+-- ---- Reading from a pipe
 
--- the count of what came out was noted
+-- Recording the count of read bytes doesn't change what undoing gives.
 pub keeps_count : (w : WorldState) (o : ℕ) (p : PipeState) (ds es : List Change) → slice_get w.objects o ≡ Some (Pipe p) → Noted ds es (TakenCount o) (Some (Number p.taken)) → Keeps world_owns (world_seen w) (world_seen w) ds es
 keeps_count w o p ds es h n = keeps_unchanged world_owns (world_seen w) ds es (TakenCount o) refl (subst (λ x. Noted ds es (TakenCount o) x) (sym (ap (option_and_then (λ (b : Body). body_seen b (TakenCount o))) h)) n)
 
@@ -83,7 +83,7 @@ names_count o k p ds es n _ own h = refl
 oldest_of : (w : WorldState) (o k : ℕ) (p : PipeState) → slice_get w.objects o ≡ Some (Pipe p) → oldest k (pipe_of w o) ≡ bytes_from p.slots p.taken k
 oldest_of w o k p h = ap (oldest k) (ap (option_and_then pipe_in) h)
 
--- bytes of a pipe stand in memory, and then the pipe was changed
+-- Storing the bytes in memory and then removing them from the pipe is `world_taken`.
 pub taken_is : (w v : WorldState) (o k addr : ℕ) (b c : Body) → v ≡ world_stored addr (oldest k (pipe_of w o)) w → IsSome (pipe_of w o) → b ≡ get_or v.objects o b → c ≡ on_pipe (taken_out k) b → with_body v o c ≡ world_taken o k addr w
 taken_is w v o k addr b c e there r d =
     let found : slice_get w.objects o ≡ Some b = found_body pipe_in w o b there (r ∙ ap (λ (x : WorldState). get_or x.objects o b) e) in
@@ -92,7 +92,7 @@ taken_is w v o k addr b c e there r d =
 pub keeps_taken : (w v : WorldState) (o k addr : ℕ) (cs ds : List Change) → v ≡ world_taken o k addr w → Keeps world_owns (world_seen w) (world_seen w) cs ds → NamesChanges world_owns (world_seen w) (world_seen (world_taken o k addr w)) ds → Keeps world_owns (world_seen w) (world_seen v) cs ds
 keeps_taken w v o k addr cs ds e h n = subst (λ (x : WorldState). Keeps world_owns (world_seen w) (world_seen x) cs ds) (sym e) (keeps_changed world_owns (world_seen w) (world_seen w) (world_seen (world_taken o k addr w)) cs ds h n)
 
--- all that changes was noted
+-- All changes have notes.
 pub names_taken : (w : WorldState) (o k addr : ℕ) (p : PipeState) (first second : List ℕ) (ds es fs : List Change) → slice_get w.objects o ≡ Some (Pipe p) → first ++ second ≡ bytes_from p.slots p.taken k → addr + (length first + length second) ≤ length w.memory
     → NamesDiffering ds Memory addr (part w.memory addr (length first)) first → NotedAmong ds es Memory (addr + length first) (part w.memory (addr + length first) (length second)) → NamesDiffering es Memory (addr + length first) (part w.memory (addr + length first) (length second)) second
     → Noted es fs (TakenCount o) (Some (Number p.taken)) → NamesChanges world_owns (world_seen w) (world_seen (world_taken o k addr w)) fs
@@ -112,7 +112,7 @@ names_taken w o k addr p first second ds es fs h bytes within one a two n =
     memory : NamesChanges world_owns (world_seen w) (world_seen stored) fs
     memory = subst (λ (xs : List ℕ). NamesChanges world_owns (world_seen w) (world_seen (world_stored addr xs w)) fs) (bytes ∙ sym (oldest_of w o k p h)) (names_memory w addr (length first + length second) (first ++ second) fs within size both)
 
--- bytes stand in memory in two parts
+-- Bytes are stored in two parts.
 front_stays : (xs first : List ℕ) (at : ℕ) → at + length first ≤ length xs → take (at + length first) (overwritten xs at first) ≡ take at xs ++ first
 front_stays xs first at h = same_list _ _ (λ i. grind (arith, common_steps, gets))
 
@@ -132,7 +132,7 @@ brought_is w o k addr p first second one two h bytes within a b =
     ap (λ (xs : List ℕ). record w { memory = xs })
     (b ∙ ap (λ xs. overwritten xs (addr + length first) second) a ∙ overwritten_both w.memory first second addr within ∙ ap (overwritten w.memory addr) (bytes ∙ sym (oldest_of w o k p h)))
 
--- ---- the counter of an eventfd
+-- ---- The counter of an eventfd
 
 pub keeps_cleared : (w : WorldState) (o addr : ℕ) (b c : Body) (bytes memory : List ℕ) (cs ds es : List Change) → slice_get w.objects o ≡ Some b → addr + length bytes ≤ length w.memory → NotedAmong cs ds Memory addr (part w.memory addr (length bytes)) → NamesDiffering ds Memory addr (part w.memory addr (length bytes)) bytes
     → ((q : Place) → named es q ≡ None → named ds q ≡ None) → Keeps (object_owns o) (body_seen b) (body_seen c) ds es → memory ≡ overwritten w.memory addr bytes → Keeps world_owns (world_seen w) (world_seen (record (with_body w o c) { memory = memory })) cs es

@@ -1,4 +1,4 @@
--- Two lists of bytes side by side.
+-- Facts about comparing and overwriting lists of bytes.
 use Rattle.std.proofs.Common.{◌≡◌, ℕ, Bool, sym, ◌∙◌, ap, List, length, ◌+◌, ◌-◌, ◌<◌, ◌≤◌, arith}
 use Rattle.std.specs.Prelude.{None, slice_get, nat_eq, IsTrue, ◌⊎◌, ◌↔◌}
 use Rattle.std.proofs.Common.{inl, inr}
@@ -12,7 +12,7 @@ use Rattle.model_files.specs.Differing.{Alike}
 use Rattle.model_files.specs.Files.{part, overwritten}
 use Rattle.model_files.proofs.Noting.{below_or_not, get-overwritten_other}
 
--- an element of a part of a list
+-- An element of a part of a list.
 pub slice_get-part : (xs : List ℕ) (at k d : ℕ) → d < k → slice_get (part xs at k) d ≡ slice_get xs (at + d)
 slice_get-part xs at k d h = grind (arith, common_steps, gets)
 
@@ -32,17 +32,17 @@ alike_part old others from to e i lo hi =
     ap (slice_get old) at ∙ sym (slice_get-part old from (to - from) (i - from) (omega arith)) ∙ ap (λ xs. slice_get xs (i - from)) e
     ∙ slice_get-part others from (to - from) (i - from) (omega arith) ∙ ap (slice_get others) (sym at)
 
--- what a comparison of parts says
+-- The parts are equal if and only if the lists agree in the range.
 pub parts_tell : (old others : List ℕ) (from to : ℕ) (r : Bool) → r ≡ pointwise nat_eq (part old from (to - from)) (part others from (to - from)) → IsTrue r ↔ Alike old others from to
 parts_tell old others from to r e =
     let d = slice_eq-Decides Decides-eqb (part old from (to - from)) (part others from (to - from)) r e in
     (λ t. alike_part old others from to (d.0 t), λ a. d.1 (part_alike old others from to a))
 
--- a byte that was written over others stands there
+-- An overwritten element is the new one.
 pub get-overwritten : (xs others : List ℕ) (at d : ℕ) → at + length others ≤ length xs → d < length others → slice_get (overwritten xs at others) (at + d) ≡ slice_get others d
 get-overwritten xs others at d h l = grind (arith, common_steps, gets)
 
--- a byte is as it was where the one that was written over it is the same, or none was
+-- An element is unchanged if no other was written over it, or an equal one.
 pub same_overwritten : (xs others : List ℕ) (at k i : ℕ) → at + k ≤ length xs → length others ≡ k → ((d : ℕ) → i ≡ at + d → slice_get (part xs at k) d ≡ slice_get others d) → slice_get (overwritten xs at others) i ≡ slice_get xs i
 same_overwritten xs others at k i h l same = by (below_or_not i at) (below_or_not i (at + k))
   where

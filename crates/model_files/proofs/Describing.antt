@@ -1,4 +1,4 @@
--- What is seen of a world of which one descriptor was changed.
+-- The view of a world in which one descriptor changed.
 use Rattle.std.proofs.Common.{◌≡◌, ℕ, Bool, true, false, cond, refl, sym, ◌∙◌, ap, subst, List, length, get_or, ◌-◌, ◌<◌, ◌≤◌, arith}
 use Rattle.std.specs.Prelude.{Option, Some, None, IsSome, is_some, option_map, slice_get, slice_set, ◌==◌, ◌&&◌, nat_lt, nat_le, IsTrue}
 use Rattle.std.specs.Option.{option_and_then}
@@ -17,11 +17,11 @@ use Rattle.places.proofs.Keeping.{keeps_noted}
 use Rattle.model_files.specs.declared.descriptor.DescriptorState.{DescriptorState}
 use Rattle.model_files.specs.Worlds.{WorldState, world_owns, world_seen, descriptor_of, mark_of, fixed_of, world_at, world_closed, OneSetup}
 
--- the world with another descriptor at a number
+-- The world with the descriptor of one number replaced.
 abbrev pub with_other : WorldState → ℕ → DescriptorState → WorldState
 with_other w fd d = record w { descriptors = slice_set w.descriptors (fd - 3) d }
 
--- a descriptor that is there has a number from 3 on
+-- The number of a present descriptor is at least 3.
 pub number_from_three : (w : WorldState) (fd : ℕ) (d : DescriptorState) → descriptor_of w fd ≡ Some d → (3 ≤ fd) × (slice_get w.descriptors (fd - 3) ≡ Some d)
 number_from_three w fd d h = by (nat_lt fd 3) refl h
   where
@@ -56,7 +56,7 @@ position_here : (w : WorldState) (fd g : ℕ) (d e : DescriptorState) → descri
 position_here w fd g d e h k true i = ap (option_map Number) k ∙ sym (ap (option_and_then (λ (x : DescriptorState). option_map Number x.position)) (ap (descriptor_of w) (sym (eqb-true fd g i)) ∙ h))
 position_here w fd g d e h k false i = refl
 
--- a descriptor has another position
+-- The view after the position of a descriptor is set.
 pub put_position : (w : WorldState) (fd n : ℕ) (d : DescriptorState) → descriptor_of w fd ≡ Some d → (q : Place) → world_seen (with_other w fd (record d { position = Some n })) q ≡ put_at (world_seen w) (Position fd) (Some (Number n)) q
 unfolding same_place
 put_position w fd n d h (Position g) =
@@ -72,7 +72,7 @@ put_position w fd n d h (OpenMark g) =
     ∙ mark_here w fd g d (record d { position = Some n }) h refl (fd == g) refl
 put_position w fd n d h _ = refl
 
--- a descriptor has another open mark
+-- The view after the open mark of a descriptor is set.
 pub put_mark : (w : WorldState) (fd : ℕ) (b : Bool) (d : DescriptorState) → descriptor_of w fd ≡ Some d → (q : Place) → world_seen (with_other w fd (record d { is_open = b })) q ≡ put_at (world_seen w) (OpenMark fd) (Some (Number (mark_of b))) q
 unfolding same_place
 put_mark w fd b d h (OpenMark g) =
@@ -88,15 +88,15 @@ put_mark w fd b d h (Position g) =
     ∙ position_here w fd g d (record d { is_open = b }) h refl (fd == g) refl
 put_mark w fd b d h _ = refl
 
--- a mark is 0 or 1
+-- A mark of 0 or 1 is read back as the same number.
 pub mark_again : (n : ℕ) → n ≤ 1 → mark_of (n == 1) ≡ n
 mark_again n h = grind (arith, nat_tests)
 
--- a descriptor that keeps what the setup fixes makes no other setup
+-- Replacing a descriptor by one with the same fixed properties preserves those of the world.
 pub one_setup_descriptor : (w : WorldState) (fd : ℕ) (d e : DescriptorState) → descriptor_of w fd ≡ Some d → fixed_of e ≡ fixed_of d → OneSetup w (with_other w fd e)
 one_setup_descriptor w fd d e h k = record { memory = refl; objects = refl; descriptors = sym (map_same fixed_of w.descriptors (fd - 3) d e (number_from_three w fd d h).1 k) }
 
--- the descriptor that was read is the one of its number
+-- The descriptor read at index fd - 3 is that of number fd.
 read_is : (w : WorldState) (fd : ℕ) (d : DescriptorState) → IsSome (descriptor_of w fd) → d ≡ get_or w.descriptors (fd - 3) d → descriptor_of w fd ≡ Some d
 read_is w fd d h r = by (descriptor_of w fd) refl h
   where
@@ -114,7 +114,7 @@ keeps_closed w fd d e cs ds h r s n =
     keeps_noted world_owns (world_seen w) (world_seen (with_other w fd (record d { is_open = false }))) cs ds (OpenMark fd) (Some (Number 0)) refl
     (subst (λ (x : Option Value). Noted cs ds (OpenMark fd) x) (sym (ap (option_map (λ (x : DescriptorState). Number (mark_of x.is_open))) k)) n) (put_mark w fd false d (read_is w fd d h r))
 
--- a descriptor with a position is there
+-- If the place of a position is present, so is the descriptor.
 pub positioned_there : (w : WorldState) (fd : ℕ) → IsSome (world_seen w (Position fd)) → IsSome (descriptor_of w fd)
 positioned_there w fd h = by (descriptor_of w fd) h
   where
@@ -132,7 +132,7 @@ keeps_moved w fd n old d e cs ds h r s p m =
     keeps_noted world_owns (world_seen w) (world_seen (with_other w fd (record d { position = Some n }))) cs ds (Position fd) (Some (Number n)) refl
     (subst (λ (x : Option Value). Noted cs ds (Position fd) x) (sym (ap (option_and_then (λ (x : DescriptorState). option_map Number x.position)) k ∙ ap (option_map Number) p)) m) (put_position w fd n d (read_is w fd d h r))
 
--- a descriptor with an open mark is there
+-- If the place of an open mark is present, so is the descriptor.
 pub marked_there : (w : WorldState) (fd : ℕ) → IsSome (world_seen w (OpenMark fd)) → IsSome (descriptor_of w fd)
 marked_there w fd h = by (descriptor_of w fd) h
   where
@@ -147,7 +147,7 @@ within_there w fd h = by (descriptor_of w fd) refl h
     by None e k = absurd cc
     by (Some d) e k = slice_get_within w.descriptors (fd - 3) d (number_from_three w fd d e).1
 
--- a descriptor that keeps what the setup fixes, by what was read
+-- `one_setup_descriptor` for the descriptor that was read.
 pub one_setup_read : (w : WorldState) (fd : ℕ) (d e : DescriptorState) → IsSome (descriptor_of w fd) → d ≡ get_or w.descriptors (fd - 3) d → fixed_of e ≡ fixed_of d → OneSetup w (with_other w fd e)
 one_setup_read w fd d e h r k = one_setup_descriptor w fd d e (read_is w fd d h r) k
 
@@ -157,7 +157,7 @@ put_position_read w fd n d h r = put_position w fd n d (read_is w fd d h r)
 pub put_mark_read : (w : WorldState) (fd n : ℕ) (d : DescriptorState) → IsSome (descriptor_of w fd) → d ≡ get_or w.descriptors (fd - 3) d → n ≤ 1 → (q : Place) → world_seen (with_other w fd (record d { is_open = n == 1 })) q ≡ put_at (world_seen w) (OpenMark fd) (Some (Number n)) q
 put_mark_read w fd n d h r l q = put_mark w fd (n == 1) d (read_is w fd d h r) q ∙ ap (λ m. put_at (world_seen w) (OpenMark fd) (Some (Number m)) q) (mark_again n l)
 
--- with a position a descriptor keeps having one
+-- A descriptor that has a position still has one after it is set.
 pub positioned_same : (w : WorldState) (fd n : ℕ) (d : DescriptorState) → IsSome (world_seen w (Position fd)) → d ≡ get_or w.descriptors (fd - 3) d → fixed_of (record d { position = Some n }) ≡ fixed_of d
 positioned_same w fd n d h r = by d.position refl
   where

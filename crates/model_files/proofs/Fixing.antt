@@ -1,4 +1,4 @@
--- What changes of a world leave as the setup fixed it.
+-- Changes of the world preserve the properties that the setup fixed.
 use Rattle.std.proofs.Common.{◌≡◌, ℕ, zero, suc, true, false, refl, sym, ◌∙◌, ap, List, [], ◌∷◌, length, ◌+◌, ◌-◌, ◌≤◌, drop, length-take, arith}
 use Rattle.std.specs.Prelude.{Option, Some, None, IsSome, IsSomeAnd, is_some, option_map, slice_get, map}
 use Rattle.places.specs.Lists.{updated}
@@ -17,7 +17,7 @@ setup_self w = record { memory = refl; objects = refl; descriptors = refl }
 pub setup_then : (a b c : WorldState) → OneSetup a b → OneSetup b c → OneSetup a c
 setup_then a b c h k = record { memory = h.memory ∙ k.memory; objects = h.objects ∙ k.objects; descriptors = h.descriptors ∙ k.descriptors }
 
--- a field that a change keeps
+-- A field that a change of one element leaves alone is the same in all of them.
 kept : {X V : Type 0} (f : X → V) (g : X → X) (xs : List X) (i : ℕ) → ((x : X) → slice_get xs i ≡ Some x → f (g x) ≡ f x) → map f xs ≡ map f (updated g xs i)
 kept f g [] i h = refl
 kept f g (x ∷ xs) zero h = ap (λ v. v ∷ map f xs) (sym (h x refl))
@@ -54,7 +54,7 @@ setup_synced o w h = record { memory = refl; objects = kept kind_of_body (on_fil
 pub setup_closed : (fd : ℕ) (w : WorldState) → OneSetup w (world_closed fd w)
 setup_closed fd w = record { memory = refl; objects = refl; descriptors = kept fixed_of (λ d. record d { is_open = false }) w.descriptors (fd - 3) (λ d e. refl) }
 
--- a descriptor that has a position keeps having one
+-- Setting the position of a descriptor that has one preserves its fixed properties.
 pub setup_at : (fd n : ℕ) (w : WorldState) → ((d : DescriptorState) → slice_get w.descriptors (fd - 3) ≡ Some d → IsSome d.position) → OneSetup w (world_at fd n w)
 setup_at fd n w h = record { memory = refl; objects = refl; descriptors = kept fixed_of (λ d. record d { position = Some n }) w.descriptors (fd - 3) (λ d e. same d d.position refl (h d e)) }
   where

@@ -1,4 +1,4 @@
--- Worlds stay well formed.
+-- Each step preserves the invariant of the world.
 use Rattle.std.proofs.Common.{◌≡◌, ℕ, zero, suc, false, refl, sym, ◌∙◌, ap, subst, List, [], ◌∷◌, length, take, drop, ◌+◌, ◌-◌, ◌≤◌, length-append, length-take, arith}
 use Rattle.std.specs.Prelude.{Option, Some, None, IsSomeAnd, slice_get, map, ◌<◌, ◌^◌}
 use Rattle.std.specs.Option.{option_and_then}
@@ -67,7 +67,7 @@ taken_formed p k f h =
     let within = f.within in
     record { some = f.some; most = f.most; order = omega (arith, had, h); within = omega arith }
 
--- what holds of each object holds once one is changed by what keeps it
+-- If a change preserves the invariant of an object, changing one object preserves those of all.
 bodies_changed : (g : Body → Body) (os : List Body) (o : ℕ) → ((b : Body) → slice_get os o ≡ Some b → BodyFormed b → BodyFormed (g b)) → ((j : ℕ) (b : Body) → slice_get os j ≡ Some b → BodyFormed b)
     → (j : ℕ) (b : Body) → slice_get (updated g os o) j ≡ Some b → BodyFormed b
 bodies_changed g [] o keep all j b e = all j b e
@@ -76,7 +76,7 @@ bodies_changed g (x ∷ os) zero keep all (suc j) b e = all (suc j) b e
 bodies_changed g (x ∷ os) (suc o) keep all zero b e = all 0 b e
 bodies_changed g (x ∷ os) (suc o) keep all (suc j) b e = bodies_changed g os o keep (λ i h k. all (suc i) h k) j b e
 
--- a file of a well formed world is well formed, and so is a pipe; a counter is one that it may have
+-- The objects of a world that satisfies its invariant satisfy theirs.
 pub file_formed : (w : WorldState) → WorldFormed w → (o : ℕ) (f : FileState) → file_of w o ≡ Some f → FileFormed f
 file_formed w h o f e = by (slice_get w.objects o) refl e
   where
@@ -116,7 +116,7 @@ world_synced_formed o w h = record { memory = h.memory; objects = bodies_changed
     keep (Pipe p) e x = x
     keep (EventFd n) e x = x
 
--- what holds of each descriptor's position holds once one is changed by what keeps it
+-- If a change keeps a position within its limit, changing one descriptor keeps all within it.
 positions_changed : (g : DescriptorState → DescriptorState) → ((d : DescriptorState) (n : ℕ) → ((m : ℕ) → d.position ≡ Some m → m ≤ 65536) → (g d).position ≡ Some n → n ≤ 65536) → (ds : List DescriptorState)
     → ((i : ℕ) (d : DescriptorState) (n : ℕ) → slice_get ds i ≡ Some d → d.position ≡ Some n → n ≤ 65536) → (o i : ℕ) (d : DescriptorState) (n : ℕ) → slice_get (updated g ds o) i ≡ Some d → d.position ≡ Some n → n ≤ 65536
 positions_changed g keep [] all o i d n e p = all i d n e p
@@ -147,7 +147,7 @@ world_stored_formed addr bytes w h within =
     let l = length-overwritten w.memory addr bytes (omega arith) in
     record { memory = l ∙ omega (arith, m); objects = h.objects; few = h.few; positions = h.positions }
 
--- ---- pipes and eventfds
+-- ---- Pipes and eventfds
 
 pub world_taken_formed : (o k addr : ℕ) (w : WorldState) → WorldFormed w → addr + k ≤ 65536 → IsSomeAnd (pipe_of w o) (GivesOut k) → WorldFormed (world_taken o k addr w)
 world_taken_formed o k addr w h within there =
@@ -197,7 +197,7 @@ world_cleared_formed o addr w h within =
     keep (Pipe p) e x = x
     keep (EventFd m) e x = omega arith
 
--- ---- the start
+-- ---- The start of a run
 
 contents_formed : (c : Contents) → ContentsFit c → BodyFormed (body_start c)
 contents_formed (FileOf bytes) h = start_formed bytes h

@@ -1,4 +1,4 @@
--- Notes of bytes that are about to change.
+-- Facts about the notes of bytes before they change.
 use Rattle.std.proofs.Common.{◌≡◌, ℕ, zero, suc, Bool, true, false, cond, refl, sym, ◌∙◌, ap, List, [], ◌∷◌, length, ◌+◌, ◌-◌, ◌<◌, ◌≤◌, arith}
 use Rattle.std.specs.Prelude.{Option, Some, None, option_map, slice_get, ◌==◌, ◌⊎◌, nat_lt, unwrap_or}
 use Rattle.std.proofs.Common.{inl, inr}
@@ -18,7 +18,7 @@ use Rattle.places.proofs.SamePlace.{same_place_self}
 use Rattle.model_files.specs.Objects.{NamesChanges}
 use Rattle.model_files.specs.Files.{part, overwritten}
 
--- what bytes that stand from s on say of an index
+-- Bytes that begin at index s have no note for a smaller index.
 pub byte_from_before : (s : ℕ) (bs : List ℕ) (i : ℕ) → i < s → byte_from s bs i ≡ None
 byte_from_before s [] i h = refl
 byte_from_before s (b ∷ bs) i h = by (s == i) refl (byte_from_before (s + 1) bs i (omega arith))
@@ -36,7 +36,7 @@ byte_from_at s (b ∷ bs) (suc d) i e = by (s == i) refl (byte_from_at (s + 1) b
     by true k h = absurd (let j = eqb-true s i k in omega arith)
     by false k h = h
 
--- an element of a part of a list
+-- An element of a part of a list.
 pub get_part : (xs : List ℕ) (at k d b : ℕ) → slice_get (part xs at k) d ≡ Some b → slice_get xs (at + d) ≡ Some b
 get_part xs at k d b h = grind (arith, common_steps, gets)
 
@@ -50,7 +50,7 @@ below_or_not i s = by (nat_lt i s) refl
     by true e = inl (grind (arith, nat_tests))
     by false e = inr (grind (arith, nat_tests))
 
--- each noted byte is the one that stands there
+-- The note of a byte is its current value.
 there_at : (xs bs : List ℕ) (at i d : ℕ) (x : Option Value) → ((j b : ℕ) → slice_get bs j ≡ Some b → slice_get xs (at + j) ≡ Some b) → i ≡ at + d → byte_from at bs i ≡ Some x → x ≡ option_map Byte (slice_get xs i)
 there_at xs bs at i d x p h e = by (slice_get bs d) refl (sym (byte_from_at at bs d i h) ∙ e)
   where
@@ -65,7 +65,7 @@ bytes_there xs bs at i x p e = by (below_or_not i at)
     by (inl l) = absurd (let n = byte_from_before at bs i l in cc)
     by (inr l) = there_at xs bs at i (i - at) x p (omega arith) e
 
--- a byte that is not noted stands before or behind those that are
+-- A byte without a note, at or after the first one, is after the last one.
 past_at : (bs : List ℕ) (at i d : ℕ) → i ≡ at + d → byte_from at bs i ≡ None → at + length bs ≤ i
 past_at bs at i d h e = by (slice_get bs d) refl (sym (byte_from_at at bs d i h) ∙ e)
   where
@@ -80,14 +80,14 @@ bytes_elsewhere bs at i e = by (below_or_not i at)
     by (inl l) = inl l
     by (inr l) = inr (past_at bs at i (i - at) (omega arith) e)
 
--- the other bytes stay once some are written over
+-- Overwriting leaves the other bytes unchanged.
 pub get-overwritten_other : (xs : List ℕ) (at : ℕ) (others : List ℕ) (i : ℕ) → at + length others ≤ length xs → (i < at) ⊎ (at + length others ≤ i) → slice_get (overwritten xs at others) i ≡ slice_get xs i
 get-overwritten_other xs at others i h (inl l) = grind (arith, common_steps, gets)
 get-overwritten_other xs at others i h (inr l) = grind (arith, common_steps, gets)
 
--- ---- notes
+-- ---- Notes
 
--- a place that is not named once bytes were noted is none of theirs
+-- A place without a note after bytes were recorded is none of those bytes.
 pub unnamed_byte : (cs ds : List Change) (g : Region) (s : ℕ) (bs : List ℕ) → NotedBytes cs ds g s bs → (q : Place) → named ds q ≡ None → byte_in g s bs q ≡ None
 unnamed_byte cs ds g s bs n q h = by (named cs q) (byte_in g s bs q) (sym (n q) ∙ h)
   where
@@ -95,7 +95,7 @@ unnamed_byte cs ds g s bs n q h = by (named cs q) (byte_in g s bs q) (sym (n q) 
     by None b k = k
     by (Some x) b k = absurd cc
 
--- a noted place is named
+-- A recorded place has a note.
 pub noted_named : (cs ds : List Change) (p : Place) (x : Option Value) → Noted cs ds p x → named ds p ≡ None → ⊥
 noted_named cs ds p x n h = by (named cs p) (sym (n p ∙ ap (λ b. first_note (named cs p) (cond b (Some x) None)) (same_place_self p)) ∙ h)
   where
@@ -103,7 +103,7 @@ noted_named cs ds p x n h = by (named cs p) (sym (n p ∙ ap (λ b. first_note (
     by None k = cc
     by (Some y) k = cc
 
--- what notes name may change
+-- Places that have notes may change: undoing still gives the same view.
 pub keeps_changed : (owns : Place → Bool) (u v w : View) (cs ds : List Change) → Keeps owns u v cs ds → NamesChanges owns v w ds → Keeps owns u w cs ds
 keeps_changed owns u v w cs ds k c = record { back = λ p o. by p o (named ds p) refl ∙ k.back p o; others = k.others }
   where

@@ -1,4 +1,4 @@
--- Bytes written over others, with zeros behind them.
+-- Facts about writing to contents that are padded with zeros.
 use Rattle.std.proofs.Common.{◌≡◌, ℕ, zero, suc, refl, sym, ◌∙◌, ap, List, [], ◌∷◌, ◌++◌, length, take, drop, take-append-drop, max, ◌+◌, ◌-◌, ◌<◌, ◌≤◌, append_assoc, length-append, length-drop, arith}
 use Rattle.std.proofs.lemmas.List.{take-append-le, drop-replicate, replicate-append-replicate, length-replicate, length-take-le}
 use Rattle.model_files.specs.Files.{FileState, FileFormed, FileSized, zeros, padded, content, overwritten, content_written, written}
@@ -7,7 +7,7 @@ drop_none : (e : ℕ) → drop {A = ℕ} e [] ≡ []
 drop_none zero = refl
 drop_none (suc e) = refl
 
--- what stays of bytes with zeros behind them
+-- The rest of padded contents after index e.
 drop_padded : (c : List ℕ) (e m : ℕ) → drop e (c ++ zeros m) ≡ drop e c ++ zeros (m - (e - length c))
 drop_padded [] e m = drop-replicate e m 0 ∙ ap (λ xs. xs ++ zeros (m - e)) (sym (drop_none e)) ∙ ap (λ n. drop e [] ++ zeros (m - n)) (omega arith)
 drop_padded (x ∷ xs) zero m = ap (λ n. (x ∷ xs) ++ zeros n) (omega arith)
@@ -20,7 +20,7 @@ more_zeros c k most h =
     ∙ ap (λ xs. c ++ xs) (sym (replicate-append-replicate k (most - length (c ++ zeros k)) 0))
     ∙ sym (append_assoc c (zeros k) (zeros (most - length (c ++ zeros k))))
 
--- how many bytes there are once others are written over them
+-- The length after overwriting.
 pub length-overwritten : (c : List ℕ) (at : ℕ) (others : List ℕ) → at ≤ length c → length (overwritten c at others) ≡ max (length c) (at + length others)
 length-overwritten c at others h =
     let a = length-take-le at c h in
@@ -28,7 +28,7 @@ length-overwritten c at others h =
     let d = length-append others (drop (at + length others) c) in
     length-append (take at c) (others ++ drop (at + length others) c) ∙ omega (arith, a, b, d)
 
--- bytes written within, and then zeros behind, or zeros first
+-- Padding after a write within the contents equals a write to the padded contents.
 over_zeros : (c : List ℕ) (at : ℕ) (others : List ℕ) (most : ℕ) → at ≤ length c → length c ≤ most → at + length others ≤ most → overwritten c at others ++ zeros (most - length (overwritten c at others)) ≡ overwritten (c ++ zeros (most - length c)) at others
 over_zeros c at others most h w k =
     let e = at + length others in
@@ -45,7 +45,7 @@ gap_length c at =
     let z : length (zeros (at - length c)) ≡ at - length c = length-replicate (at - length c) 0 in
     length-append c (zeros (at - length c)) ∙ omega (arith, z)
 
--- how many bytes a file has once others are written
+-- The length of a file after a write.
 pub length-content_written : (c : List ℕ) (at : ℕ) (others : List ℕ) → 0 < length others → length (content_written c at others) ≡ max (length c) (at + length others)
 length-content_written c at [] some = omega arith
 length-content_written c at (b ∷ bs) some =
@@ -56,11 +56,11 @@ pub most_written : (c : List ℕ) (at : ℕ) (others : List ℕ) → length (con
 most_written c at [] = omega arith
 most_written c at (b ∷ bs) = let l = length-content_written c at (b ∷ bs) (omega arith) in omega (arith, l)
 
--- no bytes are written over others
+-- Overwriting with no bytes changes nothing.
 pub overwritten_none : (xs : List ℕ) (at : ℕ) → overwritten xs at [] ≡ xs
 overwritten_none xs at = ap (λ n. take at xs ++ drop n xs) (omega arith) ∙ take-append-drop at xs
 
--- a gap is filled by the zeros that stand there already
+-- The zeros of a gap are those of the padding.
 pub written_over : (c : List ℕ) (at : ℕ) (others : List ℕ) (most : ℕ) → length c ≤ most → at + length others ≤ most → content_written c at others ++ zeros (most - length (content_written c at others)) ≡ overwritten (c ++ zeros (most - length c)) at others
 written_over c at [] most w k = sym (overwritten_none (c ++ zeros (most - length c)) at)
 written_over c at (b ∷ bs) most w k =
@@ -71,7 +71,7 @@ written_over c at (b ∷ bs) most w k =
 pub length-content : (f : FileState) → FileSized f → length (content f) ≡ f.len
 length-content f s = length-take-le f.len f.bytes (let a = s.bytes in let b = s.len in omega arith)
 
--- a file once bytes are written: its bytes with those over them, and the greater length
+-- The file after a write: its stored bytes overwritten, and the larger of the two lengths.
 pub written_is : (f : FileState) (at : ℕ) (others : List ℕ) (n : ℕ) → FileFormed f → 0 < length others → at + length others ≤ 65536 → n ≡ max f.len (at + length others) → record f { bytes = overwritten f.bytes at others; len = n } ≡ written others at f
 written_is f at others n h some k e =
     let l = length-content f h.sized in
@@ -81,7 +81,7 @@ written_is f at others n h some k e =
     let len : n ≡ length (content_written (content f) at others) = omega arith in
     λ i. record f { bytes = bytes i; len = len i }
 
--- a file to which no bytes are written
+-- Writing no bytes changes nothing.
 pub written_none : (f : FileState) (at : ℕ) → FileFormed f → written [] at f ≡ f
 written_none f at h =
     let bytes : padded (content f) ≡ f.bytes = sym h.bytes in

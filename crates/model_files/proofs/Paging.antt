@@ -1,4 +1,4 @@
--- Pages of a file are marked, noted and brought to the device.
+-- Facts about marking the pages of a file, recording them, and making them durable.
 use Rattle.std.proofs.Common.{◌≡◌, ℕ, Bool, true, false, cond, refl, sym, ◌∙◌, ap, List, length, ◌+◌, ◌-◌, ◌*◌, ◌<◌, ◌≤◌, arith}
 use Rattle.std.specs.Prelude.{Option, Some, None, option_map, slice_get, ◌==◌, ◌⊎◌}
 use Rattle.std.proofs.Common.{inl, inr}
@@ -22,27 +22,28 @@ use Rattle.model_files.proofs.Among.{among_fresh, among_named, keeps_among}
 use Rattle.model_files.proofs.Comparing.{slice_get-part}
 use Rattle.model_files.proofs.Noting.{below_or_not, bytes_there, get_part, length-part, noted_named}
 
--- ---- marks
+-- ---- Marks
 
--- The pages from one up to the next are marked, and no mark was taken away.
+-- The invariant of the loop: the pages from `first` up to `next` are marked, and no mark is
+-- removed.
 pub record Marking (before marks : List Bool) (first next : ℕ) : Type 0 where
   pub kept : (p : ℕ) → slice_get marks p ≡ Some false → slice_get before p ≡ Some false
   pub apart : (p : ℕ) → slice_get marks p ≡ Some false → (p < first) ⊎ (next ≤ p)
 
--- where a page is apart from some bytes, its own are before or behind them
+-- If a page does not overlap a range of bytes, each of its bytes is before or after the range.
 pub outside : (p i at count : ℕ) → (p * 4096 + 4096 ≤ at) ⊎ (at + count ≤ p * 4096) → p * 4096 ≤ i → i < p * 4096 + 4096 → (i < at) ⊎ (at + count ≤ i)
 outside p i at count (inl l) lo hi = inl (omega arith)
 outside p i at count (inr l) lo hi = inr (omega arith)
 
--- ---- bringing pages to the device
+-- ---- Making pages durable
 
--- The device has the bytes before a page, and those from it on are as they were.
+-- The invariant of the loop: bytes before the page are durable, and those from it on are unchanged.
 pub record Bringing (bytes before durable : List ℕ) (page : ℕ) : Type 0 where
   pub len : length durable ≡ 65536
   pub there : (i : ℕ) → i < page * 4096 → slice_get durable i ≡ slice_get bytes i
   pub behind : (i : ℕ) → page * 4096 ≤ i → slice_get durable i ≡ slice_get before i
 
--- ---- noting pages
+-- ---- Recording pages
 
 durable_there : (f : FileState) (o at k : ℕ) (q : Place) (x : Option Value) → byte_in (Durable o) at (part f.durable at k) q ≡ Some x → (x ≡ file_seen f q) × (object_owns o q ≡ true)
 durable_there f o at k (DurableByte y j) x e = by (o == y) refl e
@@ -52,11 +53,11 @@ durable_there f o at k (DurableByte y j) x e = by (o == y) refl e
     by false g h = absurd cc
 durable_there f o at k _ x e = absurd cc
 
--- bytes on the device were noted, and nothing changed yet
+-- Recording durable bytes before they change doesn't change what undoing gives.
 pub keeps_durable_bytes : (f : FileState) (o at k : ℕ) (cs ds : List Change) → NotedAmong cs ds (Durable o) at (part f.durable at k) → Keeps (object_owns o) (file_seen f) (file_seen f) cs ds
 keeps_durable_bytes f o at k cs ds n = keeps_among (object_owns o) (file_seen f) cs ds (Durable o) at (part f.durable at k) n (durable_there f o at k)
 
--- a page was noted where it differs, behind those that are noted where they differ
+-- If the earlier pages and this one are recorded where they differ, so are all bytes up to its end.
 pub page_noted : (f : FileState) (o at k : ℕ) (cs ds : List Change) → k ≡ 4096 → NotedAmong cs ds (Durable o) at (part f.durable at k) → NamesDiffering ds (Durable o) at (part f.durable at k) (part f.bytes at k) → NamesUpTo o f cs at → NamesUpTo o f ds (at + 4096)
 page_noted f o at k cs ds e n d before i h unnamed = by (below_or_not i at)
   where
@@ -68,12 +69,12 @@ page_noted f o at k cs ds e n d before i h unnamed = by (below_or_not i at)
     by (inl l) = before i l (among_named cs ds (Durable o) at (part f.durable at k) n (DurableByte o i) unnamed)
     by (inr l) = here (i - at) (omega arith) (omega arith)
 
--- what stands behind a page that was noted is not
+-- Recording a page adds no note of a later byte.
 pub page_fresh : (f : FileState) (o at k : ℕ) (cs ds : List Change) → FileSized f → at + k ≤ 65536 → NotedAmong cs ds (Durable o) at (part f.durable at k) → (i : ℕ) → at + k ≤ i → named cs (DurableByte o i) ≡ None → named ds (DurableByte o i) ≡ None
 page_fresh f o at k cs ds sized within n i h unnamed =
     among_fresh cs ds (Durable o) at (part f.durable at k) n i (let s = length-part f.durable at k (let d = sized.durable in omega arith) in omega arith) unnamed
 
--- The pages before one are noted where they differ.
+-- The invariant of the loop: the differing durable bytes before the page have notes.
 pub record NotingPages (o : ℕ) (f : FileState) (before notes : Notes) (page : ℕ) : Type 0 where
   pub fresh : (i : ℕ) → page * 4096 ≤ i → i < 65536 → named notes.made (DurableByte o i) ≡ None
   pub keeps : Keeps (object_owns o) (file_seen f) (file_seen f) before.made notes.made
@@ -81,7 +82,7 @@ pub record NotingPages (o : ℕ) (f : FileState) (before notes : Notes) (page : 
   pub named : (p : Place) → named notes.made p ≡ None → named before.made p ≡ None
   pub room : HasAsMuch before notes
 
--- ---- the notes of bringing all to the device
+-- ---- The notes of an fsync
 
 pub keeps_synced : (f : FileState) (o : ℕ) (cs ds es : List Change) → Keeps (object_owns o) (file_seen f) (file_seen f) cs ds → Noted ds es (DurableLength o) (Some (Number f.durable_len)) → Keeps (object_owns o) (file_seen f) (file_seen f) cs es
 keeps_synced f o cs ds es k m = keeps_then (object_owns o) (file_seen f) (file_seen f) (file_seen f) cs ds es k (keeps_unchanged (object_owns o) (file_seen f) ds es (DurableLength o) (eq-eqb o o refl) m)

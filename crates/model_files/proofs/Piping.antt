@@ -1,4 +1,4 @@
--- What notes of a pipe and of memory say as bytes go in or come out.
+-- Facts about the notes of a write to a pipe, and of a changed counter.
 use Rattle.std.proofs.Common.{◌≡◌, ℕ, Bool, true, false, cond, refl, sym, ◌∙◌, ap, List, length, take, drop, min, ◌+◌, ◌-◌, ◌%◌, ◌<◌, ◌≤◌, ◌⊎◌, inl, inr, arith}
 use Rattle.std.specs.Prelude.{Option, Some, None, option_map, slice_get, ◌==◌}
 use Rattle.std.proofs.lemmas.Bool.{eqb-true, eq-eqb}
@@ -23,7 +23,7 @@ use Rattle.model_files.proofs.Comparing.{same_overwritten, slice_get-part, slice
 use Rattle.model_files.proofs.Noting.{below_or_not, bytes_there, get_part, get-overwritten_other, keeps_changed, noted_named}
 use Rattle.model_files.proofs.Wrapping.{put_in_parts}
 
--- ---- the slots of a pipe
+-- ---- The slots of a pipe
 
 pipe_bytes_there : (p : PipeState) (o at k : ℕ) (q : Place) (x : Option Value) → byte_in (Pipe o) at (part p.slots at k) q ≡ Some x → (x ≡ pipe_seen p q) × (object_owns o q ≡ true)
 pipe_bytes_there p o at k (PipeByte y j) x e = by (o == y) refl e
@@ -33,11 +33,11 @@ pipe_bytes_there p o at k (PipeByte y j) x e = by (o == y) refl e
     by false g h = absurd cc
 pipe_bytes_there p o at k _ x e = absurd cc
 
--- slots were noted, and nothing changed yet
+-- Recording slots before they change doesn't change what undoing gives.
 pub keeps_slots : (p : PipeState) (o at k : ℕ) (cs ds : List Change) → NotedAmong cs ds (Pipe o) at (part p.slots at k) → Keeps (object_owns o) (pipe_seen p) (pipe_seen p) cs ds
 keeps_slots p o at k cs ds n = keeps_among (object_owns o) (pipe_seen p) cs ds (Pipe o) at (part p.slots at k) n (pipe_bytes_there p o at k)
 
--- how bytes lie that are to go in: n of them up to the last slot, the others from the first slot on
+-- Where bytes are stored: the first n from slot i up to the last slot, the others from slot 0 on.
 pub record Lies (p : PipeState) (bs first second : List ℕ) (i n : ℕ) : Type 0 where
   pub some : 0 < length p.slots
   pub most : length bs ≤ length p.slots
@@ -62,13 +62,13 @@ lies_within p bs first second i n h =
     let two : length second ≡ length bs - n = ap length h.second_is ∙ grind (arith, common_steps) in
     record { start = small; near = omega (arith, small, one, count, most); far = omega (arith, small, two, count, most) }
 
--- the slots from the first one on are not noted with those up to the last
+-- Recording the slots of the first part adds no note of the second part.
 pub second_fresh : (p : PipeState) (bs first second : List ℕ) (i n o : ℕ) (cs ds : List Change) → Lies p bs first second i n → NotedAmong cs ds (Pipe o) i (part p.slots i (length first)) → (d : ℕ) → d < length second → named cs (PipeByte o d) ≡ None → named ds (PipeByte o (0 + d)) ≡ None
 second_fresh p bs first second i n o cs ds h a d l e =
     let w = (lies_within p bs first second i n h).far in
     ap (λ z. named ds (PipeByte o z)) (let z : 0 + d ≡ d = omega arith in z) ∙ among_fresh_before cs ds (Pipe o) i (part p.slots i (length first)) a d (omega (arith, w)) e
 
--- a slot that is not noted is left as it is
+-- A slot without a note is unchanged.
 pub slots_stay : (p : PipeState) (bs first second : List ℕ) (i n o : ℕ) (ds es : List Change) → Lies p bs first second i n → NotedAmong ds es (Pipe o) 0 (part p.slots 0 (length second))
     → NamesDiffering ds (Pipe o) i (part p.slots i (length first)) first → NamesDiffering es (Pipe o) 0 (part p.slots 0 (length second)) second
     → (j : ℕ) → named es (PipeByte o j) ≡ None → slice_get (slots_with p.slots p.put bs) j ≡ slice_get p.slots j
@@ -104,7 +104,7 @@ slots_stay p bs first second i n o ds es h a one two j e =
             slice_get-part over 0 (length second) d l ∙ get-overwritten_other p.slots i first (0 + d) (omega (arith, fits)) (inl (omega (arith, within)))
             ∙ sym (slice_get-part p.slots 0 (length second) d l) ∙ two d (ap (λ z. named es (PipeByte o z)) (sym q) ∙ e)
 
--- ---- the notes of bytes that go in
+-- ---- The notes of a write
 
 pub keeps_put : (p : PipeState) (o : ℕ) (cs ds es : List Change) → Keeps (object_owns o) (pipe_seen p) (pipe_seen p) cs ds → Noted ds es (PutCount o) (Some (Number p.put)) → Keeps (object_owns o) (pipe_seen p) (pipe_seen p) cs es
 keeps_put p o cs ds es k n = keeps_then (object_owns o) (pipe_seen p) (pipe_seen p) (pipe_seen p) cs ds es k (keeps_unchanged (object_owns o) (pipe_seen p) ds es (PutCount o) (eq-eqb o o refl) n)
@@ -115,9 +115,9 @@ names_put p bs o ds es slots n (PipeByte y j) own h = ap (option_map Byte) (slot
 names_put p bs o ds es slots n (PutCount y) own h = absurd (noted_named ds es (PutCount o) (Some (Number p.put)) n (ap (λ z. named es (PutCount z)) (eqb-true o y own) ∙ h))
 names_put p bs o ds es slots n _ own h = refl
 
--- ---- counters
+-- ---- Counters
 
--- a counter was noted, and another stands there
+-- Recording a counter and then changing it doesn't change what undoing gives.
 pub keeps_counter : (o m n : ℕ) (cs ds : List Change) → Noted cs ds (EventCount o) (Some (Number m)) → Keeps (object_owns o) (counter_seen m) (counter_seen n) cs ds
 keeps_counter o m n cs ds k = keeps_changed (object_owns o) (counter_seen m) (counter_seen m) (counter_seen n) cs ds (keeps_unchanged (object_owns o) (counter_seen m) cs ds (EventCount o) (eq-eqb o o refl) k) names
   where

@@ -1,4 +1,4 @@
--- What is seen of objects and of the world once bytes were put back.
+-- The views of objects and of the world after recorded bytes are restored.
 use Rattle.std.proofs.Common.{◌≡◌, ℕ, ◌≤◌, ◌+◌, Bool, true, false, cond, refl, sym, ◌∙◌, ap, subst, List, length, arith, inl, inr}
 use Rattle.std.specs.Prelude.{Option, Some, None, IsSome, option_map, slice_get, unwrap_or, ◌⊎◌}
 use Rattle.std.specs.Option.{option_and_then}
@@ -24,9 +24,9 @@ use Rattle.model_files.proofs.Lifting.{with_body, seen_of_set, own_seen}
 true_false : true ≡ false → ⊥
 true_false e = cc
 
--- ---- an object
+-- ---- An object
 
--- bytes of a file
+-- Restoring bytes of a file.
 pub put_file_bytes : (f : FileState) (x s : ℕ) (os : List (Option ℕ)) (ys : List ℕ) → PutOver f.bytes s os ys → BytesStand (file_seen f) (File x) s os → PutsBack (file_seen f) (file_seen (record f { bytes = ys })) (File x) s os
 put_file_bytes f x s os ys over stand o q p own = undone_bytes (file_seen f) (file_seen (record f { bytes = ys })) (File x) s os f.bytes ys q over stand (inside q) (outside q own)
   where
@@ -38,7 +38,7 @@ put_file_bytes f x s os ys over stand o q p own = undone_bytes (file_seen f) (fi
     outside (FileByte y j) k e = absurd (true_false (sym (same_object o x y p k) ∙ e))
     outside _ k e = refl
 
--- bytes of a file on the device
+-- Restoring durable bytes of a file.
 pub put_durable_bytes : (f : FileState) (x s : ℕ) (os : List (Option ℕ)) (ys : List ℕ) → PutOver f.durable s os ys → BytesStand (file_seen f) (Durable x) s os → PutsBack (file_seen f) (file_seen (record f { durable = ys })) (Durable x) s os
 put_durable_bytes f x s os ys over stand o q p own = undone_bytes (file_seen f) (file_seen (record f { durable = ys })) (Durable x) s os f.durable ys q over stand (inside q) (outside q own)
   where
@@ -50,7 +50,7 @@ put_durable_bytes f x s os ys over stand o q p own = undone_bytes (file_seen f) 
     outside (DurableByte y j) k e = absurd (true_false (sym (same_object o x y p k) ∙ e))
     outside _ k e = refl
 
--- slots of a pipe
+-- Restoring slots of a pipe.
 pub put_pipe_bytes : (d : PipeState) (x s : ℕ) (os : List (Option ℕ)) (ys : List ℕ) → PutOver d.slots s os ys → BytesStand (pipe_seen d) (Pipe x) s os → PutsBack (pipe_seen d) (pipe_seen (record d { slots = ys })) (Pipe x) s os
 put_pipe_bytes d x s os ys over stand o q p own = undone_bytes (pipe_seen d) (pipe_seen (record d { slots = ys })) (Pipe x) s os d.slots ys q over stand (inside q) (outside q own)
   where
@@ -62,7 +62,7 @@ put_pipe_bytes d x s os ys over stand o q p own = undone_bytes (pipe_seen d) (pi
     outside (PipeByte y j) k e = absurd (true_false (sym (same_object o x y p k) ∙ e))
     outside _ k e = refl
 
--- regions that an object doesn't have
+-- Nothing is restored if the object doesn't have the region.
 put_nothing : (v : View) (g : Region) (s : ℕ) (os : List (Option ℕ)) → BytesStand v g s os → ((j : ℕ) → v (place_in g j) ≡ None) → PutsBack v v g s os
 put_nothing v g s os stand none o q p own = undone_nothing v g s os q stand none
 
@@ -90,9 +90,9 @@ put_no_counter_bytes n g s os stand = put_nothing (counter_seen n) g s os stand 
     none (Durable x) j = refl
     none (Pipe x) j = refl
 
--- ---- the world
+-- ---- The world
 
--- bytes of memory
+-- Restoring bytes of memory.
 pub put_memory_bytes : (w : WorldState) (s : ℕ) (os : List (Option ℕ)) (ys : List ℕ) → PutOver w.memory s os ys → BytesStand (world_seen w) Memory s os → (q : Place) → world_seen (record w { memory = ys }) q ≡ undo (world_seen w) (old_bytes Memory s os) q
 put_memory_bytes w s os ys over stand q = undone_bytes (world_seen w) (world_seen (record w { memory = ys })) Memory s os w.memory ys q over stand (inside q) (outside q)
   where
@@ -104,25 +104,25 @@ put_memory_bytes w s os ys over stand q = undone_bytes (world_seen w) (world_see
     outside (MemoryByte a) e = absurd cc
     outside _ e = refl
 
--- a region that is of no object is the memory
+-- A region that belongs to no object is the memory.
 pub is_memory : (g : Region) (s : ℕ) → object_in (place_in g s) ≡ None → g ≡ Memory
 is_memory Memory s e = refl
 is_memory (File x) s e = absurd cc
 is_memory (Durable x) s e = absurd cc
 is_memory (Pipe x) s e = absurd cc
 
--- the bytes of a region are of one object
+-- All bytes of a region belong to the same object.
 owns_alike : (g : Region) (o i j : ℕ) → object_owns o (place_in g i) ≡ object_owns o (place_in g j)
 owns_alike Memory o i j = refl
 owns_alike (File x) o i j = refl
 owns_alike (Durable x) o i j = refl
 owns_alike (Pipe x) o i j = refl
 
--- what stands in the world stands in the object
+-- A recorded byte that is present in the world is present in the object.
 pub stand_body : (w : WorldState) (o : ℕ) (b : Body) (g : Region) (s : ℕ) (os : List (Option ℕ)) → slice_get w.objects o ≡ Some b → object_owns o (place_in g s) ≡ true → BytesStand (world_seen w) g s os → BytesStand (body_seen b) g s os
 stand_body w o b g s os h own stand i c e = subst (λ (x : Option Value). IsSome x) (own_seen w o b (place_in g (s + i)) h (owns_alike g o (s + i) s ∙ own)) (stand i c e)
 
--- bytes of an object
+-- Restoring bytes of an object.
 pub put_body_bytes : (w : WorldState) (o : ℕ) (b c : Body) (g : Region) (s : ℕ) (os : List (Option ℕ)) → slice_get w.objects o ≡ Some b → object_owns o (place_in g s) ≡ true → PutsBack (body_seen b) (body_seen c) g s os → (q : Place) → world_seen (with_body w o c) q ≡ undo (world_seen w) (old_bytes g s os) q
 put_body_bytes w o b c g s os h own k q = seen_of_set w o c q (slice_get_within w.objects o b h) ∙ by (object_owns o q) refl
   where
@@ -134,7 +134,7 @@ put_body_bytes w o b c g s os h own k q = seen_of_set w o c q (slice_get_within 
     by true e = k o q own e ∙ ap (λ x. unwrap_or (named (old_bytes g s os) q) x) (sym (own_seen w o b q h e))
     by false e = sym (ap (λ n. unwrap_or n (world_seen w q)) (named_outside g s os q (outside e (is_in g q) refl)))
 
--- bytes of an object that isn't there
+-- The bytes of an object that doesn't exist are absent.
 absent : (w : WorldState) (o : ℕ) (g : Region) (s j : ℕ) → object_in (place_in g s) ≡ Some o → length w.objects ≤ o → world_seen w (place_in g j) ≡ None
 absent w o Memory s j e l = absurd cc
 absent w o (File x) s j e l = let k : x ≡ o = cc in ap (option_and_then (λ (b : Body). body_seen b (FileByte x j))) (slice_get_past w.objects x (omega arith))
@@ -144,7 +144,7 @@ absent w o (Pipe x) s j e l = let k : x ≡ o = cc in ap (option_and_then (λ (b
 pub put_absent : (w : WorldState) (o : ℕ) (g : Region) (s : ℕ) (os : List (Option ℕ)) → object_in (place_in g s) ≡ Some o → length w.objects ≤ o → BytesStand (world_seen w) g s os → (q : Place) → world_seen w q ≡ undo (world_seen w) (old_bytes g s os) q
 put_absent w o g s os e l stand q = undone_nothing (world_seen w) g s os q stand (λ j. absent w o g s j e l)
 
--- bytes that are put back are the world's
+-- Bytes of a region are places of the world.
 pub named_in_world : (g : Region) (s : ℕ) (os : List (Option ℕ)) (q : Place) → world_owns q ≡ false → named (old_bytes g s os) q ≡ None
 named_in_world g s os q h = named_outside g s os q (by (is_in g q) refl)
   where

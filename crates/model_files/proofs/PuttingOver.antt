@@ -1,4 +1,4 @@
--- Kept bytes are written over others.
+-- Facts about writing recorded bytes over the current ones.
 use Rattle.std.proofs.Common.{◌≡◌, ◌≢◌, ℕ, ◌<◌, ◌≤◌, ◌+◌, ◌-◌, ◌*◌, min, Bool, true, false, cond, refl, sym, ◌∙◌, ap, subst, List, length, take, arith, inl, inr}
 use Rattle.std.specs.Prelude.{Option, Some, None, map, option_map, slice_get, slice_set, slice_index_or, unwrap_or, ◌==◌, ◌⊎◌}
 use Rattle.std.proofs.lemmas.Bool.{eqb-true, eqb-false, ne_eqb}
@@ -16,13 +16,13 @@ over_none : (x : Option ℕ) → option_map (unwrap_or None) x ≡ x
 over_none None = refl
 over_none (Some y) = refl
 
--- a byte over which none is written
+-- A byte for which none is recorded is unchanged.
 pub stays : (s : ℕ) (os : List (Option ℕ)) (i : ℕ) (x : Option ℕ) → kept_at s os i ≡ None → option_map (unwrap_or (kept_at s os i)) x ≡ x
 stays s os i x e = ap (λ k. option_map (unwrap_or k) x) e ∙ over_none x
 
--- ---- the loop
+-- ---- The loop
 
--- The bytes up to one were written over, and those from it on are as they were.
+-- The invariant of the loop: bytes before `next` are restored, and those from it on are unchanged.
 pub record PuttingOver (before now : List ℕ) (s : ℕ) (os : List (Option ℕ)) (next : ℕ) : Type 0 where
   pub len : length now ≡ length before
   pub done : (j : ℕ) → j < next → slice_get now j ≡ option_map (unwrap_or (kept_at s os j)) (slice_get before j)
@@ -52,7 +52,7 @@ putting_one before now s os next o y p w k h = record {
     at j l true e = subst (λ i. Some (unwrap_or o y) ≡ option_map (unwrap_or (kept_at s os i)) (slice_get before i)) (eqb-true next j e) here
     at j l false e = p.done j (let n : next ≢ j = eqb-false next j e in omega arith)
 
--- one byte more
+-- One iteration.
 pub putting_on : (before now : List ℕ) (os : List (Option ℕ)) (s from i y : ℕ) (o : Option ℕ) → PuttingOver before now s os (from + i) → from ≡ s → from + i < length now
     → slice_get os i ≡ Some o → slice_get now (from + i) ≡ Some y → PuttingOver before (slice_set now (from + i) (unwrap_or o y)) s os (from + (i + 1))
 putting_on before now os s from i y o p e w f h =
@@ -60,7 +60,7 @@ putting_on before now os s from i y o p e w f h =
     let n : (from + i) + 1 ≡ from + (i + 1) = omega arith in
     subst (PuttingOver before (slice_set now (from + i) (unwrap_or o y)) s os) n (putting_one before now s os (from + i) o y p w a h)
 
--- once no byte is left, or no kept one
+-- The loop is complete at the end of the list, or at that of the recorded bytes.
 pub putting_all : (before now : List ℕ) (s : ℕ) (os : List (Option ℕ)) (next : ℕ) → PuttingOver before now s os next → (length before ≤ next) ⊎ (s + length os ≤ next) → PutOver before s os now
 putting_all before now s os next p end i = by (below_or_not i next) end
   where
@@ -71,7 +71,7 @@ putting_all before now s os next p end i = by (below_or_not i next) end
         p.rest i l ∙ none ∙ sym (ap (λ (x : Option ℕ). option_map (unwrap_or (kept_at s os i)) x) none)
     by (inr l) (inr m) = p.rest i l ∙ sym (stays s os i (slice_get before i) (kept_past s os i (omega arith)))
 
--- as far as the loop goes
+-- The last iteration reaches one of these ends.
 pub far_enough : (len start many from n i : ℕ) → from ≡ min start len → n ≡ min many (len - from) → n ≤ i → (len ≤ from + i) ⊎ (start + many ≤ from + i)
 far_enough len start many from n i e f l = by (below_or_not (from + i) len)
   where
@@ -79,7 +79,7 @@ far_enough len start many from n i e f l = by (below_or_not (from + i) len)
     by (inl a) = inr (omega arith)
     by (inr a) = inl a
 
--- ---- bytes that are all kept
+-- ---- Stretches without dropped bytes
 
 put_here : (xs others : List ℕ) (s from n i d : ℕ) → from + n ≤ length xs → n ≤ length others → from ≡ s → i ≡ from + d → d < n → slice_get (overwritten xs from (take n others)) i ≡ option_map (unwrap_or (kept_at s (map (λ b. Some b) others) i)) (slice_get xs i)
 put_here xs others s from n i d within few start at below =
@@ -114,10 +114,10 @@ put_all xs others s from n e f i = by (below_or_not i from) (below_or_not i (fro
         get-overwritten_other xs from (take n others) i len (inr (let l = length-take-le n others few in omega arith))
         ∙ none ∙ sym (ap (λ (x : Option ℕ). option_map (unwrap_or (kept_at s (map (λ b. Some b) others) i)) x) none)
 
--- ---- the pages of a file
+-- ---- The pages of a file
 
--- a page that is not marked has none of the bytes, as far as they were cut to those that a file can
--- have
+-- A page that is not marked includes none of the bytes, even before these are limited to the
+-- maximum size of a file.
 pub cut_apart : (page i at count from within : ℕ) → from ≡ min at 65536 → within ≡ min count (65536 - from) → (page * 4096 + 4096 ≤ from) ⊎ (from + within ≤ page * 4096) → page * 4096 ≤ i → i < page * 4096 + 4096 → i < 65536 → (i < at) ⊎ (at + count ≤ i)
 cut_apart page i at count from within e f (inl l) lo hi m = inl (omega arith)
 cut_apart page i at count from within e f (inr l) lo hi m = inr (omega arith)
@@ -129,7 +129,7 @@ cut_nothing i at count from within e f n m = by (below_or_not i at)
     by (inl l) = inl l
     by (inr l) = inr (omega arith)
 
--- a byte of a page that is not marked stays as it was
+-- A byte of a page that is not marked is unchanged.
 unmarked : (before after : List ℕ) (s : ℕ) (os : List (Option ℕ)) (n i : ℕ) → length before ≡ 65536 → PutOver before s os after → length os ≤ n → (i < 65536 → (i < s) ⊎ (s + n ≤ i)) → slice_get after i ≡ slice_get before i
 unmarked before after s os n i len over few apart = over i ∙ by (below_or_not i 65536)
   where
@@ -143,7 +143,7 @@ unmarked before after s os n i len over few apart = over i ∙ by (below_or_not 
         let none : slice_get before i ≡ None = slice_get_past before i (omega arith) in
         ap (λ (x : Option ℕ). option_map (unwrap_or (kept_at s os i)) x) none ∙ sym none
 
--- the pages of bytes that were written over a file's are marked
+-- The page invariant holds after bytes of a file are restored and their pages marked.
 pub tracked_bytes : (f : FileState) (before marks : List Bool) (s : ℕ) (os : List (Option ℕ)) (n : ℕ) (after : List ℕ) → FileTracked f before → PutOver f.bytes s os after → length after ≡ length f.bytes → length os ≤ n
     → ((page : ℕ) → slice_get marks page ≡ Some false → slice_get before page ≡ Some false) → ((page i : ℕ) → slice_get marks page ≡ Some false → page * 4096 ≤ i → i < page * 4096 + 4096 → i < 65536 → (i < s) ⊎ (s + n ≤ i)) → FileTracked (record f { bytes = after }) marks
 tracked_bytes f before marks s os n after t over len few kept apart = record {
@@ -151,7 +151,7 @@ tracked_bytes f before marks s os n after t over len few kept apart = record {
   clean = λ page i e lo hi. unmarked f.bytes after s os n i t.sized.bytes over few (apart page i e lo hi) ∙ t.clean page i (kept page e) lo hi;
 }
 
--- and of those that were written over its durable ones
+-- The same for durable bytes.
 pub tracked_durable : (f : FileState) (before marks : List Bool) (s : ℕ) (os : List (Option ℕ)) (n : ℕ) (after : List ℕ) → FileTracked f before → PutOver f.durable s os after → length after ≡ length f.durable → length os ≤ n
     → ((page : ℕ) → slice_get marks page ≡ Some false → slice_get before page ≡ Some false) → ((page i : ℕ) → slice_get marks page ≡ Some false → page * 4096 ≤ i → i < page * 4096 + 4096 → i < 65536 → (i < s) ⊎ (s + n ≤ i)) → FileTracked (record f { durable = after }) marks
 tracked_durable f before marks s os n after t over len few kept apart = record {

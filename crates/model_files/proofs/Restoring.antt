@@ -1,4 +1,4 @@
--- What a world shows, put into a world of its setup.
+-- Assigning the values of one world to another world with the same fixed properties.
 use Rattle.std.proofs.Common.{◌≡◌, ℕ, Bool, true, false, cond, refl, sym, ◌∙◌, ap, List, length, ◌+◌, ◌-◌, ◌≤◌, arith}
 use Rattle.std.specs.Prelude.{Option, Some, None, is_some, option_map, slice_get, map, nat_lt, nat_le}
 use Rattle.std.specs.Option.{option_and_then}
@@ -18,9 +18,9 @@ use Rattle.model_files.specs.Worlds.{WorldState, WorldFormed, OneSetup, body_see
 use Rattle.model_files.proofs.Forming.{file_formed}
 use Rattle.model_files.proofs.Lifting.{own_seen, owns_own}
 
--- ---- where a value stands
+-- ---- Which places are present
 
--- lists of one length have elements at the same indexes
+-- Lists of the same length have elements at the same indexes.
 some_alike : {X V : Type 0} (f : X → V) (xs ys : List X) (i : ℕ) → length xs ≡ length ys → is_some (option_map f (slice_get xs i)) ≡ is_some (option_map f (slice_get ys i))
 some_alike {X} {V} f xs ys i h = by (slice_get xs i) (slice_get ys i) refl refl
   where
@@ -49,7 +49,7 @@ bodies_alike (Pipe x) (EventFd n) h p = absurd (let e = ap (λ k. k.pipe) h in c
 bodies_alike (EventFd m) (File g) h p = absurd (let e = ap (λ k. k.file) h in cc)
 bodies_alike (EventFd m) (Pipe y) h p = absurd (let e = ap (λ k. k.pipe) h in cc)
 
--- elements at one index of lists that have a field in common
+-- Elements at the same index have the same field, if the lists of fields are equal.
 at_one : {X V : Type 0} (f : X → V) (xs ys : List X) (i : ℕ) → map f xs ≡ map f ys → option_map f (slice_get xs i) ≡ option_map f (slice_get ys i)
 at_one f xs ys i h = sym (slice_get-map f xs i) ∙ ap (λ vs. slice_get vs i) h ∙ slice_get-map f ys i
 
@@ -62,7 +62,7 @@ objects_alike s m h o p = by (slice_get s.objects o) (slice_get m.objects o) (at
     by (Some b) None e = absurd cc
     by (Some b) (Some c) e = bodies_alike b c (cc) p
 
--- descriptors of one number have in common what the setup fixes
+-- Descriptors with the same number have the same fixed properties.
 descriptors_at_one : (s m : WorldState) → OneSetup s m → (fd : ℕ) → option_map fixed_of (descriptor_of s fd) ≡ option_map fixed_of (descriptor_of m fd)
 descriptors_at_one s m h fd = by (nat_lt fd 3)
   where
@@ -70,7 +70,7 @@ descriptors_at_one s m h fd = by (nat_lt fd 3)
     by true = refl
     by false = at_one fixed_of s.descriptors m.descriptors (fd - 3) h.descriptors
 
--- a descriptor of one world is one of the other, of the same end
+-- A descriptor of one world has a counterpart in the other, of the same end.
 pub descriptor_alike : (s m : WorldState) → OneSetup s m → (fd : ℕ) (d : DescriptorState) → descriptor_of s fd ≡ Some d → (e : DescriptorState) × (descriptor_of m fd ≡ Some e) × (e.end ≡ d.end)
 descriptor_alike s m h fd d k = by (descriptor_of m fd) refl (ap (option_map fixed_of) (sym k) ∙ descriptors_at_one s m h fd)
   where
@@ -98,7 +98,7 @@ marks_alike None (Some y) e = absurd cc
 marks_alike (Some x) None e = absurd cc
 marks_alike (Some x) (Some y) e = refl
 
--- worlds of one setup show a value in the same places
+-- The same places are present in both worlds.
 pub world_alike : (s m : WorldState) → OneSetup s m → (p : Place) → is_some (world_seen s p) ≡ is_some (world_seen m p)
 world_alike s m h (MemoryByte a) = some_alike Byte s.memory m.memory a h.memory
 world_alike s m h (FileByte o i) = objects_alike s m h o (FileByte o i)
@@ -118,11 +118,11 @@ none_alike a None h e = refl
 none_alike None (Some v) h e = absurd cc
 none_alike (Some u) (Some v) h e = absurd cc
 
--- where nothing stands, nothing stands in a world of the setup
+-- The same places are absent in both worlds.
 pub world_absent_same : (s m : WorldState) → OneSetup s m → (p : Place) → world_seen s p ≡ None → world_seen m p ≡ None
 world_absent_same s m h p e = none_alike (world_seen s p) (world_seen m p) (world_alike s m h p) e
 
--- ---- what may be put there
+-- ---- What can be assigned
 
 byte_ranged : (x : Option ℕ) (v : Value) (p : Place) → ((b : ℕ) → in_range p (Byte b) ≡ true) → option_map Byte x ≡ Some v → in_range p v ≡ true
 byte_ranged None v p r e = absurd cc
@@ -187,11 +187,11 @@ world_ranged s f _ v e = absurd cc
 some_there : (a b : Option Value) (v : Value) → is_some a ≡ is_some b → a ≡ Some v → is_some b ≡ true
 some_there a b v h e = sym h ∙ ap is_some e
 
--- what a world shows can be put into each world of its setup
+-- A value of one world can be assigned in the other.
 pub world_seen_can_put : (s m : WorldState) → WorldFormed s → OneSetup s m → (p : Place) (v : Value) → world_seen s p ≡ Some v → world_can_put m p (Some v)
 world_seen_can_put s m f h p v e = record { there = some_there (world_seen s p) (world_seen m p) v (world_alike s m h p) e; fits = world_ranged s f p v e }
 
--- ---- worlds that show the same
+-- ---- Worlds with equal views
 
 same_through : {X V : Type 0} (f : X → V) → ((x y : X) → f x ≡ f y → x ≡ y) → (a b : Option X) → option_map f a ≡ option_map f b → a ≡ b
 same_through f inj None None e = refl
@@ -243,7 +243,7 @@ same_objects s m h e = same_list s.objects m.objects (λ o. at o (slice_get s.ob
     at o (Some b) None j k q = absurd cc
     at o (Some b) (Some c) j k q = ap Some (same_body o b c (cc) (λ p i. sym (own_seen s o b p j (owns_own p o i)) ∙ e p ∙ own_seen m o c p k (owns_own p o i)))
 
--- descriptors are numbered from 3
+-- Descriptors are numbered from 3.
 of_number : (w : WorldState) (i : ℕ) → descriptor_of w (i + 3) ≡ slice_get w.descriptors i
 of_number w i =
     let late : nat_lt (i + 3) 3 ≡ false = grind (arith, nat_tests) in
@@ -288,7 +288,7 @@ same_descriptors s m h e = same_list s.descriptors m.descriptors (λ i. at (slic
     at (Some x) None f p q = absurd cc
     at (Some x) (Some y) f p q = ap Some (same_descriptor x y (cc) p (cc))
 
--- worlds of one setup that show the same are one
+-- Worlds with the same fixed properties and equal views are equal.
 pub same_world : (s m : WorldState) → OneSetup s m → ((p : Place) → world_seen s p ≡ world_seen m p) → s ≡ m
 same_world s m h e = λ i. record { memory = memory i; objects = objects i; descriptors = descriptors i }
   where

@@ -1,4 +1,4 @@
--- What is seen of an object of which one place was set.
+-- The view of an object in which one place was set.
 use Rattle.std.proofs.Common.{◌≡◌, ℕ, Bool, true, false, cond, refl, sym, ◌∙◌, ap, List, length, ◌<◌}
 use Rattle.std.specs.Prelude.{Option, Some, None, IsSome, is_some, option_map, slice_get, slice_set, ◌==◌, ◌&&◌}
 use Rattle.std.proofs.lemmas.Bool.{eqb-true, eq-eqb}
@@ -12,7 +12,7 @@ use Rattle.model_files.specs.Objects.{PutsIn}
 use Rattle.model_files.specs.Files.{FileState, file_seen}
 use Rattle.model_files.specs.Pipes.{PipeState, pipe_seen, counter_seen}
 
--- a byte that stands there is within the list
+-- The index of a present byte is within the list.
 pub byte_within : (xs : List ℕ) (i : ℕ) → IsSome (option_map Byte (slice_get xs i)) → i < length xs
 byte_within xs i h = by (slice_get xs i) refl h
   where
@@ -20,7 +20,7 @@ byte_within xs i h = by (slice_get xs i) refl h
     by None e k = absurd cc
     by (Some x) e k = slice_get_within xs i x e
 
--- places of one object
+-- Two places of object o have the same object number.
 pub same_object : (o x y : ℕ) → (o == x) ≡ true → (o == y) ≡ true → (x == y) ≡ true
 same_object o x y h k = eq-eqb x y (sym (eqb-true o x h) ∙ eqb-true o y k)
 

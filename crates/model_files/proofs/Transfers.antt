@@ -1,4 +1,4 @@
--- What notes of a file's bytes say as they are written or brought to the device.
+-- Facts about the notes of a write to a file and of an fsync.
 use Rattle.std.proofs.Common.{◌≡◌, ℕ, Bool, true, false, cond, refl, sym, ◌∙◌, ap, List, length, ◌+◌, ◌<◌, ◌≤◌, max, arith}
 use Rattle.std.specs.Prelude.{Option, Some, None, option_map, slice_get, ◌==◌}
 use Rattle.std.proofs.lemmas.Bool.{eqb-true, eq-eqb}
@@ -27,11 +27,11 @@ file_bytes_there f o at k (FileByte y j) x e = by (o == y) refl e
     by false g h = absurd cc
 file_bytes_there f o at k _ x e = absurd cc
 
--- bytes of a file were noted, and nothing changed yet
+-- Recording bytes of a file before they change doesn't change what undoing gives.
 pub keeps_file_bytes : (f : FileState) (o at k : ℕ) (cs ds : List Change) → NotedAmong cs ds (File o) at (part f.bytes at k) → Keeps (object_owns o) (file_seen f) (file_seen f) cs ds
 keeps_file_bytes f o at k cs ds n = keeps_among (object_owns o) (file_seen f) cs ds (File o) at (part f.bytes at k) n (file_bytes_there f o at k)
 
--- a write changes what is noted
+-- A write changes only places that have notes.
 names_written : (f : FileState) (o at k : ℕ) (others : List ℕ) (cs : List Change) → FileFormed f → 0 < length others → at + length others ≤ 65536 → k ≡ length others → NamesDiffering cs (File o) at (part f.bytes at k) others → (named cs (FileLength o) ≡ None → at + length others ≤ f.len)
     → NamesChanges (object_owns o) (file_seen f) (file_seen (written others at f)) cs
 names_written f o at k others cs formed some within l bytes grows (FileByte y j) own h =
@@ -46,7 +46,7 @@ names_written f o at k others cs formed some within l bytes grows (FileLength y)
     sym (ap (λ (g : FileState). Some (Number g.len)) w) ∙ ap (λ n. Some (Number n)) same
 names_written f o at k others cs formed some within l bytes grows _ own h = refl
 
--- ---- the notes of a write
+-- ---- The notes of a write
 
 pub keeps_written : (f : FileState) (o at k : ℕ) (cs ds es : List Change) → NotedAmong cs ds (File o) at (part f.bytes at k) → Noted ds es (FileLength o) (Some (Number f.len)) → Keeps (object_owns o) (file_seen f) (file_seen f) cs es
 keeps_written f o at k cs ds es n m =

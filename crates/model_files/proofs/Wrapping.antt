@@ -1,4 +1,4 @@
--- Bytes of a pipe, in its slots and one behind the other.
+-- Facts about the bytes of a pipe in its ring buffer.
 use Rattle.std.proofs.Common.{◌≡◌, ℕ, zero, suc, Bool, true, false, cond, refl, sym, ◌∙◌, ap, List, [], ◌∷◌, ◌++◌, length, take, drop, get_or, min, ◌+◌, ◌-◌, ◌%◌, ◌<◌, ◌≤◌, ◌⊎◌, inl, inr, arith, length-set}
 use Rattle.std.specs.Prelude.{Some, slice_get, slice_set, ◌==◌}
 use Rattle.std.proofs.Math.Nat.{add-mod_right, mod-add-mod, mod-eq_of_lt, mod-eq-sub-mod}
@@ -12,7 +12,7 @@ use Rattle.model_files.specs.Pipes.{PipeState, PipeFormed, bytes_from, slots_wit
 use Rattle.model_files.proofs.Noting.{below_or_not, get-overwritten_other}
 use Rattle.model_files.proofs.Comparing.{get-overwritten}
 
--- ---- where a byte stands
+-- ---- The slot of a byte
 
 slot_near : (at d c : ℕ) → at % c + d < c → (at + d) % c ≡ at % c + d
 slot_near at d c h = sym (mod-add-mod at c d) ∙ mod-eq_of_lt h
@@ -20,7 +20,7 @@ slot_near at d c h = sym (mod-add-mod at c d) ∙ mod-eq_of_lt h
 slot_far : (at d c r : ℕ) → d ≤ c → r < c → r ≡ at % c → c ≤ r + d → (at + d) % c ≡ (r + d) - c
 slot_far at d c r h l e k = sym (mod-add-mod at c d) ∙ ap (λ n. (n + d) % c) (sym e) ∙ mod-eq-sub-mod k ∙ mod-eq_of_lt (omega arith)
 
--- bytes less than the capacity apart stand in slots of their own
+-- Bytes whose numbers differ by less than the capacity are in different slots.
 slot_apart : (at d c : ℕ) → 0 < d → d < c → (at + d) % c ≡ at % c → ⊥
 slot_apart at d c s h e = by (below_or_not (at % c + d) c)
   where
@@ -34,7 +34,7 @@ slot_apart at d c s h e = by (below_or_not (at % c + d) c)
 slot_around : (at c : ℕ) → (at + c) % c ≡ at % c
 slot_around at c = add-mod_right at c
 
--- ---- bytes that are in the slots
+-- ---- Reading from the slots
 
 pub length-bytes_from : (slots : List ℕ) (at n : ℕ) → length (bytes_from slots at n) ≡ n
 length-bytes_from slots at zero = refl
@@ -57,7 +57,7 @@ get_second slots i n m d l h k w = grind (arith, common_steps, gets)
 length-parts : (slots : List ℕ) (i n m : ℕ) → i + n ≤ length slots → m ≤ length slots → length (part slots i n ++ take m slots) ≡ n + m
 length-parts slots i n m l w = grind (arith, common_steps)
 
--- the oldest bytes stand in two parts: up to the last slot, and from the first on
+-- The oldest bytes are in two parts: those up to the last slot, and those from the first slot on.
 pub in_parts : (slots : List ℕ) (at k i n m : ℕ) → 0 < length slots → k ≤ length slots → i ≡ at % length slots → n ≡ min k (length slots - i) → n + m ≡ k → part slots i n ++ take m slots ≡ bytes_from slots at k
 in_parts slots at k i n m some most e h s = same_list _ _ (λ d. by d (below_or_not d n) (below_or_not d k))
   where
@@ -77,7 +77,7 @@ in_parts slots at k i n m some most e h s = same_list _ _ (λ d. by d (below_or_
     by d (inr l) (inr b) =
         slice_get_past _ d (let z = length-parts slots i n m fits (omega arith) in omega arith) ∙ sym (slice_get_past _ d (let z = length-bytes_from slots at k in omega arith))
 
--- ---- bytes that go into the slots
+-- ---- Writing to the slots
 
 pub length-slots_with : (slots : List ℕ) (at : ℕ) (bs : List ℕ) → length (slots_with slots at bs) ≡ length slots
 length-slots_with slots at [] = refl
@@ -93,7 +93,7 @@ set_other slots i j b h n = slice_get-set slots i j b h ∙ by (i == j) refl
     by true e = absurd (n (eqb-true i j e))
     by false e = refl
 
--- a slot that none of them goes into
+-- A slot that none of the bytes is stored in.
 pub get_out : (slots : List ℕ) (at : ℕ) (bs : List ℕ) (d j c : ℕ) → length slots ≡ c → length bs ≤ d → d < c → j ≡ (at + d) % c → slice_get (slots_with slots at bs) j ≡ slice_get slots j
 get_out slots at [] d j c e l h k = refl
 get_out slots at (b ∷ bs) zero j c e l h k = absurd (omega arith)
@@ -104,7 +104,7 @@ get_out slots at (b ∷ bs) (suc d) j c e l h k =
     apart : at % length slots ≡ j → ⊥
     apart q = slot_apart at (suc d) c (omega arith) h (sym k ∙ sym q ∙ ap (λ n. at % n) e)
 
--- a slot that one of them goes into
+-- A slot that one of the bytes is stored in.
 pub get_in : (slots : List ℕ) (at : ℕ) (bs : List ℕ) (d j c : ℕ) → length slots ≡ c → length bs ≤ c → d < length bs → j ≡ (at + d) % c → slice_get (slots_with slots at bs) j ≡ slice_get bs d
 get_in slots at [] d j c e l h k = absurd (omega arith)
 get_in slots at (b ∷ bs) zero j c e l h k =
@@ -114,7 +114,7 @@ get_in slots at (b ∷ bs) zero j c e l h k =
 get_in slots at (b ∷ bs) (suc d) j c e l h k =
     get_in (slice_set slots (at % length slots) b) (at + 1) bs d j c (length-set slots (at % length slots) b ∙ e) (omega arith) (omega arith) (k ∙ ap (λ n. n % c) (omega arith))
 
--- the bytes go in in two parts: up to the last slot, and from the first on
+-- The bytes are stored in two parts: those up to the last slot, and those from the first slot on.
 pub put_in_parts : (slots bs : List ℕ) (at i n : ℕ) → 0 < length slots → length bs ≤ length slots → i ≡ at % length slots → n ≡ min (length bs) (length slots - i) → overwritten (overwritten slots i (take n bs)) 0 (drop n bs) ≡ slots_with slots at bs
 put_in_parts slots bs at i n some most e h = same_list _ _ (λ j. by j (below_or_not j i) (below_or_not j (length slots)))
   where
@@ -166,9 +166,9 @@ put_in_parts slots bs at i n some most e h = same_list _ _ (λ j. by j (below_or
     by j (inr l) (inl b) = up j (j - i) (omega (arith, first, second, whole, small, e, h, most)) b (below_or_not (j - i) n)
     by j (inr l) (inr b) = slice_get_past _ j (omega (arith, past, first, second, whole, small, e, h, most)) ∙ sym (slice_get_past _ j (let z = length-slots_with slots at bs in omega arith))
 
--- ---- what is in a pipe
+-- ---- The contents of a pipe
 
--- what is in a pipe once bytes went in: what was in it, and then they
+-- The contents after a write: the earlier contents, followed by the new bytes.
 pub content_put : (p : PipeState) (bs : List ℕ) → PipeFormed p → length bs ≤ room_in p → pipe_content (put_in bs p) ≡ pipe_content p ++ bs
 content_put p bs f room = same_list _ _ (λ d. by d (below_or_not d (filled p)) (below_or_not d (filled p + length bs)))
   where
@@ -216,7 +216,7 @@ content_put p bs f room = same_list _ _ (λ d. by d (below_or_not d (filled p)) 
     by d (inr l) (inr b) =
         slice_get_past _ d (let z = length-bytes_from (slots_with p.slots p.put bs) p.taken now in omega (arith, order, within, some, size, had, room, z)) ∙ sym (back d l ∙ slice_get_past bs (d - filled p) (omega (arith, order, within, some, size, had, room)))
 
--- what came out of a pipe, and then what is left in it
+-- The contents before a read: the bytes read, followed by the contents after it.
 pub content_taken : (p : PipeState) (k : ℕ) → k ≤ filled p → pipe_content p ≡ bytes_from p.slots p.taken k ++ pipe_content (taken_out k p)
 content_taken p k h = ap (bytes_from p.slots p.taken) (omega arith) ∙ split p.taken k (p.put - (p.taken + k))
   where
@@ -224,7 +224,7 @@ content_taken p k h = ap (bytes_from p.slots p.taken) (omega arith) ∙ split p.
     split at zero n = let e : at ≡ at + 0 = omega arith in let z : 0 + n ≡ n = omega arith in ap (bytes_from p.slots at) z ∙ ap (λ a. bytes_from p.slots a n) e
     split at (suc m) n = let z : suc m + n ≡ suc (m + n) = omega arith in ap (bytes_from p.slots at) z ∙ ap (λ xs. get_or p.slots (at % length p.slots) 0 ∷ xs) (split (at + 1) m n ∙ (let e : (at + 1) + m ≡ at + suc m = omega arith in ap (λ a. bytes_from p.slots (at + 1) m ++ bytes_from p.slots a n) e))
 
--- ---- the same, by the words that were read
+-- ---- The same facts in terms of the executable code
 
 pub oldest_is : (slots xs ys : List ℕ) (taken count l m n : ℕ) → xs ≡ slots → ys ≡ slots → l ≡ length slots → m ≡ length slots → n ≡ min count (m - taken % l) → 0 < length slots → count ≤ length slots
     → take ((taken % l + n) - taken % l) (drop (taken % l) xs) ++ take (count - n) ys ≡ bytes_from slots taken count

@@ -1,4 +1,5 @@
--- Memory, objects and descriptors, and what is seen of them.
+-- The world: memory, objects and descriptors, the values of their places, and the effect of each
+-- transfer.
 use Rattle.std.specs.Prelude.{◌≡◌, ℕ, ℤ, pos, negsuc, ◌+◌, ◌-◌, ◌^◌, ◌<◌, ◌≤◌, nat_lt, Bool, true, false, Option, Some, None, option_map, slice_get, List, [], map, length, if◌then◌else◌}
 use Rattle.std.specs.Int.{w64, from_le_bytes, to_le_bytes}
 use Rattle.std.specs.Option.{option_and_then}
@@ -22,13 +23,13 @@ use Rattle.model_files.specs.declared.stock.Stock.TheVariants.{File as FileStock
 use Rattle.model_files.specs.Pipes.{PipeState, PipeFormed, pipe_seen, counter_seen, pipe_start, bytes_from, filled, put_in, taken_out}
 use Rattle.model_files.specs.Files.{FileState, FileFormed, file_seen, file_start, padded, written, synced, overwritten, part}
 
--- the memory, the objects in the setup's order, and the descriptors, numbered from 3 (stdin(3))
+-- The memory, the objects in the setup's order, and the descriptors, numbered from 3 (stdin(3)).
 pub record WorldState : Type 0 where
   pub memory : List ℕ
   pub objects : List Body
   pub descriptors : List DescriptorState
 
--- ---- an object or a descriptor by its number, where there is one
+-- ---- Objects and descriptors by number
 
 abbrev pub file_in : Body → Option FileState
 file_in (File f) = Some f
@@ -54,14 +55,14 @@ pipe_of w o = option_and_then pipe_in (slice_get w.objects o)
 abbrev pub counter_of : WorldState → ℕ → Option ℕ
 counter_of w o = option_and_then counter_in (slice_get w.objects o)
 
--- what a transfer depends on: how many bytes a file has, how many are in a pipe of a capacity, the
--- counter of an eventfd
+-- What the result of a transfer depends on: a file's length, how many bytes a pipe holds and its
+-- capacity, or an eventfd's counter.
 abbrev pub stock_in : Body → Stock
 stock_in (File f) = FileStock f.len
 stock_in (Pipe p) = PipeStock (filled p) (length p.slots)
 stock_in (EventFd n) = EventStock n
 
--- A file has no more bytes than the most.
+-- A file has at most 65,536 bytes.
 abbrev pub StockFits : Stock → Type 0
 StockFits (FileStock len) = len ≤ 65536
 StockFits (PipeStock n capacity) = Unit {0}
@@ -73,13 +74,14 @@ stock_of w o = option_map stock_in (slice_get w.objects o)
 abbrev pub descriptor_of : WorldState → ℕ → Option DescriptorState
 descriptor_of w fd = if nat_lt fd 3 then None else slice_get w.descriptors (fd - 3)
 
--- the descriptor that an entry's number names; a negative number names none
+-- The descriptor in an entry's field `fd`. A negative number is no descriptor.
 abbrev pub descriptor_at : WorldState → ℤ → Option DescriptorState
 descriptor_at w (pos fd) = descriptor_of w fd
 descriptor_at w (negsuc n) = None
 
--- ---- places
+-- ---- Places
 
+-- The places of the world: memory, objects and descriptors.
 abbrev pub world_owns : Place → Bool
 world_owns (MemoryByte a) = true
 world_owns (FileByte o i) = true
@@ -94,10 +96,11 @@ world_owns (TakenCount o) = true
 world_owns (EventCount o) = true
 world_owns _ = false
 
+-- The value of the place `OpenMark`.
 abbrev pub mark_of : Bool → ℕ
 mark_of is_open = if is_open then 1 else 0
 
--- what stands in the places of an object
+-- The values of an object's places.
 abbrev pub body_seen : Body → View
 body_seen (File f) = file_seen f
 body_seen (Pipe p) = pipe_seen p
@@ -106,7 +109,7 @@ body_seen (EventFd n) = counter_seen n
 abbrev pub object_seen : WorldState → ℕ → View
 object_seen w o p = option_and_then (λ (b : Body). body_seen b p) (slice_get w.objects o)
 
--- what stands in each place
+-- The value of each place.
 abbrev pub world_seen : WorldState → View
 world_seen w (MemoryByte a) = option_map Byte (slice_get w.memory a)
 world_seen w (FileByte o i) = object_seen w o (FileByte o i)
@@ -123,31 +126,33 @@ world_seen w (OpenMark fd) =
     option_map (λ (d : DescriptorState). Number (mark_of d.is_open)) (descriptor_of w fd)
 world_seen w _ = None
 
--- A value may be put where one stands, within the range of the place; nothing is taken out.
+-- A present place can be assigned a value in its range. No place can become absent.
 abbrev pub world_can_put : WorldState → Place → Option Value → Type 0
 world_can_put w p None = ⊥
 world_can_put w p (Some v) = CanPut (world_seen w) p v
 
--- ---- the start
+-- ---- The start of a run
 
--- A file of a setup is not above the most, nor is a pipe's capacity, and an eventfd's counter is
--- one that it may have.
+-- The limits of a setup: at most 65,536 bytes in a file, a pipe capacity of 1 to 65,536, and a
+-- counter of at most 2 ^ 64 - 2.
 abbrev pub ContentsFit : Contents → Type 0
 ContentsFit (FileOf bytes) = length bytes ≤ 65536
 ContentsFit (PipeOf capacity) = (0 < capacity) × (capacity ≤ 65536)
 ContentsFit (EventFdOf counter) = counter < 2 ^ 64 - 1
 
+-- An object at the start of a run.
 abbrev pub body_start : Contents → Body
 body_start (FileOf bytes) = File (file_start bytes)
 body_start (PipeOf capacity) = Pipe (pipe_start capacity)
 body_start (EventFdOf counter) = EventFd counter
 
--- a descriptor of a file has a position, the start of the file
+-- The initial file position: 0 for a file, none for other objects.
 abbrev pub position_start : Contents → Option ℕ
 position_start (FileOf bytes) = Some 0
 position_start (PipeOf capacity) = None
 position_start (EventFdOf counter) = None
 
+-- A descriptor at the start of a run: open, and at the start of its file.
 abbrev pub descriptor_start : List Object → Descriptor → DescriptorState
 descriptor_start objects d = record {
   object = d.object;
@@ -157,7 +162,7 @@ descriptor_start objects d = record {
       option_and_then (λ (o : Object). position_start o.contents) (slice_get objects d.object);
 }
 
--- what a setup's memory, objects and descriptors start as
+-- The world at the start of a run.
 abbrev pub world_start : List ℕ → List Object → List Descriptor → WorldState
 world_start memory objects descriptors = record {
   memory = padded memory;
@@ -165,14 +170,14 @@ world_start memory objects descriptors = record {
   descriptors = map (descriptor_start objects) descriptors;
 }
 
--- ---- changes
+-- ---- Changes
 
 abbrev pub on_file : (FileState → FileState) → Body → Body
 on_file g (File f) = File (g f)
 on_file g (Pipe p) = Pipe p
 on_file g (EventFd n) = EventFd n
 
--- the world with a file changed
+-- The world with the file of object o changed.
 abbrev pub with_file : (FileState → FileState) → WorldState → ℕ → WorldState
 with_file g w o = record w { objects = updated (on_file g) w.objects o }
 
@@ -186,89 +191,88 @@ on_counter g (File f) = File f
 on_counter g (Pipe p) = Pipe p
 on_counter g (EventFd n) = EventFd (g n)
 
--- the world with a pipe changed, or the counter of an eventfd
+-- The world with a pipe changed, or the counter of an eventfd.
 abbrev pub with_pipe : (PipeState → PipeState) → WorldState → ℕ → WorldState
 with_pipe g w o = record w { objects = updated (on_pipe g) w.objects o }
 
 abbrev pub with_counter : (ℕ → ℕ) → WorldState → ℕ → WorldState
 with_counter g w o = record w { objects = updated (on_counter g) w.objects o }
 
--- the world with a descriptor changed
+-- The world with a descriptor changed.
 abbrev pub with_descriptor : (DescriptorState → DescriptorState) → WorldState → ℕ → WorldState
 with_descriptor g w fd = record w { descriptors = updated g w.descriptors (fd - 3) }
 
--- the bytes of an object, if it is a file
+-- The stored bytes of a file; none if the object is not a file.
 abbrev pub bytes_of : Option FileState → List ℕ
 bytes_of None = []
 bytes_of (Some f) = f.bytes
 
--- k bytes of a file, from an offset on, stand in memory from an address on (read(2))
+-- The world after k bytes of a file are read from an offset into memory (read(2)).
 abbrev pub world_read : ℕ → ℕ → ℕ → ℕ → WorldState → WorldState
 world_read o offset k addr w =
     record w { memory = overwritten w.memory addr (part (bytes_of (file_of w o)) offset k) }
 
--- k bytes of memory, from an address on, stand in a file from an offset on (write(2))
+-- The world after k bytes of memory are written to a file at an offset (write(2)).
 abbrev pub world_written : ℕ → ℕ → ℕ → ℕ → WorldState → WorldState
 world_written o offset k addr w = with_file (written (part w.memory addr k) offset) w o
 
--- the device has all of a file (fsync(2))
+-- The world after a file became durable (fsync(2)).
 abbrev pub world_synced : ℕ → WorldState → WorldState
 world_synced o w = with_file synced w o
 
--- a descriptor of a file is at a position (lseek(2))
+-- The world after the position of a file descriptor is set (lseek(2)).
 abbrev pub world_at : ℕ → ℕ → WorldState → WorldState
 world_at fd n w = with_descriptor (λ d. record d { position = Some n }) w fd
 
--- a descriptor is closed (close(2))
+-- The world after a descriptor is closed (close(2)).
 abbrev pub world_closed : ℕ → WorldState → WorldState
 world_closed fd w = with_descriptor (λ d. record d { is_open = false }) w fd
 
--- bytes stand in memory from an address on
+-- The world after bytes are stored in memory at an address.
 abbrev pub world_stored : ℕ → List ℕ → WorldState → WorldState
 world_stored addr bytes w = record w { memory = overwritten w.memory addr bytes }
 
--- the k oldest bytes of an object, if it is a pipe
+-- The k oldest bytes of a pipe; none if the object is not a pipe.
 abbrev pub oldest : ℕ → Option PipeState → List ℕ
 oldest k None = []
 oldest k (Some p) = bytes_from p.slots p.taken k
 
--- the k oldest bytes of a pipe came out, and stand in memory from an address on (pipe(7))
+-- The world after the k oldest bytes of a pipe are read into memory (pipe(7)).
 abbrev pub world_taken : ℕ → ℕ → ℕ → WorldState → WorldState
 world_taken o k addr w = with_pipe (taken_out k) (world_stored addr (oldest k (pipe_of w o)) w) o
 
--- k bytes of memory, from an address on, went into a pipe (pipe(7))
+-- The world after k bytes of memory are written to a pipe (pipe(7)).
 abbrev pub world_put : ℕ → ℕ → ℕ → WorldState → WorldState
 world_put o k addr w = with_pipe (put_in (part w.memory addr k)) w o
 
--- the number of the eight bytes from an address on, the lowest first
+-- The 64-bit number at an address, in little-endian order.
 abbrev pub number_at : WorldState → ℕ → ℕ
 number_at w addr = from_le_bytes w64 (part w.memory addr 8)
 
--- a number was added to the counter of an eventfd (eventfd(2))
+-- The world after a number is added to the counter of an eventfd (eventfd(2)).
 abbrev pub world_added : ℕ → ℕ → WorldState → WorldState
 world_added o n w = with_counter (λ m. m + n) w o
 
--- the eight bytes of an object's counter, if it is an eventfd
+-- The eight bytes of a counter, in little-endian order; none if the object is not an eventfd.
 abbrev pub counter_bytes : Option ℕ → List ℕ
 counter_bytes None = []
 counter_bytes (Some n) = to_le_bytes w64 n
 
--- the eight bytes of a counter stand in memory from an address on, and the counter is 0
--- (eventfd(2))
+-- The world after the counter of an eventfd is read into memory and reset to 0 (eventfd(2)).
 abbrev pub world_cleared : ℕ → ℕ → WorldState → WorldState
 world_cleared o addr w =
     with_counter (λ n. 0) (world_stored addr (counter_bytes (counter_of w o)) w) o
 
--- ---- what holds of it
+-- ---- Invariants
 
--- A file or a pipe is well formed; a counter is at most 2 ^ 64 - 2.
+-- A file or a pipe satisfies its invariant; a counter is at most 2 ^ 64 - 2.
 abbrev pub BodyFormed : Body → Type 0
 BodyFormed (File f) = FileFormed f
 BodyFormed (Pipe p) = PipeFormed p
 BodyFormed (EventFd n) = n < 2 ^ 64 - 1
 
--- The memory has its size, each object is well formed, the descriptors are at most 64, and no
--- position is past the most that a file can have.
+-- The invariant of the world: the memory has 65,536 bytes, each object satisfies its invariant,
+-- there are at most 64 descriptors, and no file position is greater than 65,536.
 pub record WorldFormed (w : WorldState) : Type 0 where
   pub memory : length w.memory ≡ 65536
   pub objects : (o : ℕ) (b : Body) → slice_get w.objects o ≡ Some b → BodyFormed b
@@ -276,11 +280,11 @@ pub record WorldFormed (w : WorldState) : Type 0 where
   pub positions : (i : ℕ) (d : DescriptorState) (n : ℕ) → slice_get w.descriptors i ≡ Some d
       → d.position ≡ Some n → n ≤ 65536
 
--- No more bytes than some went into a pipe over the whole run.
+-- At most n bytes have been written to each pipe over the whole run.
 abbrev pub PutsWithin : ℕ → WorldState → Type 0
 PutsWithin n w = (o : ℕ) (p : PipeState) → pipe_of w o ≡ Some p → p.put ≤ n
 
--- what the setup fixes of an object: its kind, and the size of what it holds
+-- What stays fixed of an object after setup: its kind, and the size of its storage.
 pub record Kind : Type 0 where
   pub file : Option ℕ
   pub device : Option ℕ
@@ -295,7 +299,7 @@ kind_of_body b = record {
   counts = option_map (λ (n : ℕ). 0) (counter_in b);
 }
 
--- what the setup fixes of a descriptor: its object, its end, and whether it has a position
+-- What stays fixed of a descriptor after setup: its object, its end, and whether it has a position.
 pub record Fixed : Type 0 where
   pub object : ℕ
   pub end : End
@@ -305,7 +309,7 @@ abbrev pub fixed_of : DescriptorState → Fixed
 fixed_of d =
     record { object = d.object; end = d.end; positioned = option_map (λ (n : ℕ). 0) d.position }
 
--- Two worlds have the same kinds, sizes and numbers of objects and descriptors.
+-- Two worlds have the same fixed properties, for as many objects and descriptors.
 pub record OneSetup (s m : WorldState) : Type 0 where
   pub memory : length s.memory ≡ length m.memory
   pub objects : map kind_of_body s.objects ≡ map kind_of_body m.objects

@@ -1,4 +1,4 @@
-//! What objects hold.
+//! The contents of an object: a file, a pipe or an eventfd.
 ghost use Rattle.std.specs.Prelude.{◌≡◌, ◌≤◌, ◌+◌, ◌<◌, ◌^◌, ℕ, IfOk, OnOk, OnErr, IsSome, IsSomeAnd, None, length};
 ghost use Rattle.places.specs.View.{Keeps, named};
 ghost use Rattle.places.specs.declared.place.Place.{Place};
@@ -15,13 +15,13 @@ use crate::stock::Stock;
 use places::{At, Place, Recorder, Region, Stretch, Value};
 use std::alloc::{AllocError, Global};
 
-/// What an object holds.
+/// The contents of an object.
 #[derive(Drop)]
 pub enum Body {
     /// A regular file.
     File(RegularFile),
     Pipe(PipeBuffer),
-    /// The counter of an eventfd (eventfd(2)).
+    /// An eventfd: its counter (eventfd(2)).
     EventFd(u64),
 }
 
@@ -53,7 +53,7 @@ impl At for Body {
 impl Body {
     ghost use Rattle.model_files.specs.Worlds.{body_seen, file_in, pipe_in, stock_in, StockFits, kind_of_body, counter_in, on_file, on_pipe, on_counter};
 
-    /// The same again.
+    /// Returns a copy.
     pub fn copy(&self, alloc: Global) -> Result<Body, AllocError>
         ensures { IfOk result (λ body. body ≡ self.now) }
     {
@@ -64,7 +64,7 @@ impl Body {
         })
     }
 
-    /// How much it holds.
+    /// Returns how much the object holds.
     pub(crate) fn stock(&self) -> Stock
         ensures value { result ≡ stock_in self.now }
         ensures fits { StockFits result }
@@ -76,7 +76,7 @@ impl Body {
         }
     }
 
-    /// Sets what stands in one of its places.
+    /// Sets the value of one of its places.
     pub(crate) fn set(&mut self, place: Place, value: Value)
         requires { CanPut (body_seen self.old) place value }
         ensures put { PutsIn (body_seen self.old) (body_seen self.new) place value }
@@ -92,7 +92,7 @@ impl Body {
         }
     }
 
-    /// Puts back the bytes of a stretch.
+    /// Restores the recorded bytes of a stretch.
     pub(crate) fn put_back(&mut self, stretch: Stretch<'_>)
         requires count { CanCount stretch }
         requires stand { BytesStand (body_seen self.old) stretch.region stretch.start
@@ -109,7 +109,7 @@ impl Body {
         }
     }
 
-    /// Writes bytes into a file, from an offset on. Want of memory leaves it as it was.
+    /// Writes bytes to a file at an offset. If an allocation fails, the file is unchanged.
     pub(crate) fn write_at(
         &mut self,
         object: u32,
@@ -137,7 +137,7 @@ impl Body {
         }
     }
 
-    /// Puts bytes into a pipe. Want of memory leaves it as it was.
+    /// Writes bytes to a pipe. If an allocation fails, the pipe is unchanged.
     pub(crate) fn put(
         &mut self,
         object: u32,
@@ -162,7 +162,7 @@ impl Body {
         }
     }
 
-    /// The oldest bytes of a pipe came out.
+    /// Removes the oldest bytes of a pipe.
     pub(crate) fn take(&mut self, count: u32)
         requires there { IsSomeAnd (pipe_in self.old) (GivesOut count) }
         ensures { self.new ≡ on_pipe (taken_out count) self.old }
@@ -173,7 +173,7 @@ impl Body {
         }
     }
 
-    /// Adds to the counter of an eventfd. Want of memory leaves it as it was.
+    /// Adds to the counter of an eventfd. If an allocation fails, the counter is unchanged.
     pub(crate) fn add(
         &mut self,
         object: u32,
@@ -201,7 +201,7 @@ impl Body {
         }
     }
 
-    /// Sets the counter of an eventfd to 0. Want of memory leaves it as it was.
+    /// Resets the counter of an eventfd to 0. If an allocation fails, the counter is unchanged.
     pub(crate) fn clear(&mut self, object: u32, notes: &mut Recorder) -> Result<(), AllocError>
         requires counter { IsSome (counter_in self.old) }
         ensures ok { OnOk result (self.new ≡ on_counter (λ n. 0) self.old) }
@@ -224,7 +224,7 @@ impl Body {
         }
     }
 
-    /// Brings all of a file to the device. Want of memory leaves it as it was.
+    /// Makes the contents of a file durable. If an allocation fails, the file is unchanged.
     pub(crate) fn sync(&mut self, object: u32, notes: &mut Recorder) -> Result<(), AllocError>
         requires file { IsSome (file_in self.old) }
         requires fresh { (i : ℕ) → i < 65536 → named notes.old.made (DurableByte object i) ≡ None }

@@ -1,4 +1,4 @@
-//! Bytes in bulk.
+//! Copying ranges of bytes.
 ghost use Rattle.std.specs.Prelude.{◌≡◌, ◌+◌, ◌-◌, ◌≤◌, ◌++◌, length, map, Some, IfOk};
 ghost use Rattle.places.specs.Masked.{PutOver};
 ghost use Rattle.places.specs.Stretched.{kept_of, CanCount};
@@ -7,10 +7,10 @@ ghost use Rattle.model_files.specs.Files.{overwritten, padded, zeros};
 use places::Stretch;
 use std::alloc::{AllocError, Global};
 
-/// The most bytes that a file or the memory can have.
+/// The maximum size of a file, in bytes, and the size of the memory.
 pub const MOST_BYTES: usize = 65536;
 
-/// Writes bytes over others, from an index on.
+/// Overwrites bytes from index `at` on.
 pub fn overwrite(bytes: &mut Vec<u8>, at: usize, others: &[u8])
     requires { at + length others.now ≤ length bytes.old.items }
     ensures next { bytes.new.items ≡ overwritten bytes.old.items at others.now }
@@ -20,7 +20,7 @@ pub fn overwrite(bytes: &mut Vec<u8>, at: usize, others: &[u8])
     bytes[at..end].copy_from_slice(others);
 }
 
-/// Writes the kept bytes of a stretch over others, as far as these reach.
+/// Restores the recorded bytes of a stretch, as far as `bytes` reaches.
 pub fn put_over(bytes: &mut Vec<u8>, stretch: &Stretch<'_>)
     requires { CanCount stretch.now }
     ensures over { PutOver bytes.old.items stretch.now.start (kept_of stretch.now)
@@ -57,7 +57,7 @@ fn put_over_slice(bytes: &mut [u8], stretch: &Stretch<'_>)
     }
 }
 
-/// The bytes, and zeros behind them up to the most.
+/// Returns the bytes, padded with zeros to the maximum size.
 pub fn pad(alloc: Global, bytes: &[u8]) -> Result<Vec<u8>, AllocError>
     requires { length bytes.now ≤ 65536 }
     ensures ok { IfOk result (λ all. all.items ≡ padded bytes.now) }

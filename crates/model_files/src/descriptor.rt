@@ -1,14 +1,15 @@
-//! Descriptors.
+//! File descriptors.
 
 use places::End;
 
-/// A descriptor of an object, and how it stands.
+/// A descriptor: which object it refers to, and its state.
 #[derive(Clone, Copy)]
 pub struct DescriptorState {
-    /// The object's number in the setup, from 0.
+    /// The object's number in the setup, counted from 0.
     pub object: u32,
     pub end: End,
     pub is_open: bool,
-    /// Of a file alone: where the next transfer without an offset of its own begins (lseek(2)).
+    /// The file position, where a transfer without an explicit offset begins (lseek(2)). `None` if
+    /// the object is not a file.
     pub position: Option<u64>,
 }

@@ -1,4 +1,4 @@
-//! Notes of the bytes that are to change, without those that stay.
+//! Recording of the bytes that a write changes, in spans that skip longer unchanged parts.
 ghost use Rattle.std.specs.Prelude.{◌≡◌, ◌+◌, ◌-◌, ◌<◌, ◌≤◌, ◌↔◌, ℕ, IsTrue, MatchOption, OnOk, None, length};
 ghost use Rattle.places.specs.Notes.{HasAsMuch};
 ghost use Rattle.places.specs.Runs.{place_in};
@@ -8,23 +8,23 @@ ghost use Rattle.model_files.specs.Differing.{Alike, DifferAt, IsFirst, IsSpanEn
 use places::{Recorder, Region};
 use std::alloc::AllocError;
 
-/// How many bytes in a row that are alike end a span. To keep as many takes more memory than
-/// another run.
+/// A span ends at this many consecutive unchanged bytes. Recording them would take more memory than
+/// the header of another run.
 const GAP: usize = 16;
 
-/// How many bytes are compared at once while none differs.
+/// How many bytes are compared at once until a difference is found.
 const STRIDE: usize = 1024;
 
-/// Bytes from one that differs up to behind another that does.
+/// A span of bytes. The first and the last one differ.
 #[derive(Clone, Copy)]
 struct Span {
     from: usize,
     end: usize,
 }
 
-/// Notes the old bytes of a region from an index on that differ from what is to stand there, none
-/// of which is noted. Of those that are alike it notes fewer than sixteen in a row, between two
-/// that differ.
+/// Records the old bytes of a region, from index `start` on, that differ from the new ones. None of
+/// them may have a note yet. Unchanged bytes between two changed ones are recorded too, if they are
+/// fewer than 16.
 pub(crate) fn note_differing(
     region: Region,
     start: u32,
@@ -50,7 +50,7 @@ pub(crate) fn note_differing(
     Ok(())
 }
 
-/// The next bytes that differ, from an index on.
+/// Returns the next span of changed bytes from index `done` on.
 fn next_span(old: &[u8], others: &[u8], done: usize) -> Option<Span>
     requires len { length others.now ≡ length old.now }
     requires within { done ≤ length old.now }
@@ -62,7 +62,7 @@ fn next_span(old: &[u8], others: &[u8], done: usize) -> Option<Span>
     Some(Span { from, end })
 }
 
-/// The first index from one on at which two lists of bytes differ.
+/// Returns the first index from `done` on at which the lists differ.
 fn first_difference(old: &[u8], others: &[u8], done: usize) -> Option<usize>
     requires len { length others.now ≡ length old.now }
     requires within { done ≤ length old.now }
@@ -79,7 +79,7 @@ fn first_difference(old: &[u8], others: &[u8], done: usize) -> Option<usize>
     None
 }
 
-/// How far two lists of bytes are alike from an index on, in whole steps.
+/// Returns the index up to which the lists agree, in whole steps from `from` on.
 fn skip_alike(old: &[u8], others: &[u8], from: usize, step: usize) -> usize
     requires some { 0 < step }
     requires len { length others.now ≡ length old.now }
@@ -97,7 +97,7 @@ fn skip_alike(old: &[u8], others: &[u8], from: usize, step: usize) -> usize
     at
 }
 
-/// Behind the last byte that differs before sixteen in a row that are alike, or before the end.
+/// Returns the end, exclusive, of the span that begins at `from`.
 fn span_end(old: &[u8], others: &[u8], from: usize) -> usize
     requires len { length others.now ≡ length old.now }
     requires within { from < length old.now }
@@ -114,7 +114,7 @@ fn span_end(old: &[u8], others: &[u8], from: usize) -> usize
     }
 }
 
-/// Behind the last byte that differs between two indexes, or the first of these.
+/// Returns the index after the last byte that differs in a range, or `from` if none does.
 fn last_end(old: &[u8], others: &[u8], from: usize, to: usize) -> usize
     requires len { length others.now ≡ length old.now }
     requires order { from ≤ to }
@@ -131,7 +131,7 @@ fn last_end(old: &[u8], others: &[u8], from: usize, to: usize) -> usize
     end
 }
 
-/// Whether two lists of bytes have the same from an index up to another.
+/// Returns whether two lists of bytes agree in a range.
 fn are_alike(old: &[u8], others: &[u8], from: usize, to: usize) -> bool
     requires order { from ≤ to }
     requires old { to ≤ length old.now }

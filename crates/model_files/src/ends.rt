@@ -1,4 +1,4 @@
-//! Which ends of pipes are alive, and what objects are ready for (pipe(7), poll(2)).
+//! Which ends of pipes are open, and for which operations objects are ready (pipe(7), poll(2)).
 ghost use Rattle.std.specs.Prelude.{◌≡◌, ◌+◌, ◌<◌, ◌≤◌, Some};
 ghost use Rattle.places.specs.declared.object.End.TheVariants.{Read, Write};
 ghost use Rattle.model_files.specs.Holders.{is_held};
@@ -9,34 +9,27 @@ use crate::descriptor::DescriptorState;
 use crate::held::Held;
 use crate::pipe::PipeBuffer;
 use crate::world::World;
+use entries::{POLLERR, POLLHUP, POLLIN, POLLOUT};
 use places::End;
 
-const POLLIN: u32 = 1;
-
-const POLLOUT: u32 = 4;
-
-const POLLERR: u32 = 8;
-
-const POLLHUP: u32 = 16;
-
 impl World {
-    /// Whether a pipe has a writer: a descriptor of its write end that is open, or that a request
-    /// under way holds.
+    /// Returns whether a pipe has a writer: a descriptor of its write end that is open or held by a
+    /// request in flight.
     pub fn has_writer(&self, object: u32, held: &Held) -> bool
         ensures { result ≡ has_writer (is_held held.now) self.now object }
     {
         some_keeps(self.descriptors(), object, End::Write, held)
     }
 
-    /// Whether a pipe has a reader, likewise.
+    /// Returns whether a pipe has a reader, likewise.
     pub fn has_reader(&self, object: u32, held: &Held) -> bool
         ensures { result ≡ has_reader (is_held held.now) self.now object }
     {
         some_keeps(self.descriptors(), object, End::Read, held)
     }
 
-    /// What a descriptor's object is ready for, by the bits of poll(2). It goes over no more than
-    /// the descriptors.
+    /// Returns the poll(2) events for which a descriptor's object is ready. The time is linear in
+    /// the number of descriptors.
     pub fn ready_mask(&self, fd: u32, held: &Held) -> u32
         ensures mask { result ≡ ready_mask_of (is_held held.now) self.now fd }
         ensures few { result < 32 }
@@ -91,7 +84,7 @@ fn bit_if(bit: u32, is_set: bool) -> u32
     if is_set { bit } else { 0 }
 }
 
-/// Whether some descriptor keeps an end of an object alive.
+/// Returns whether some descriptor keeps an end of an object open.
 fn some_keeps(descriptors: &[DescriptorState], object: u32, end: End, held: &Held) -> bool
     ensures { result ≡ some_keeps (is_held held.now) object end 3 descriptors.now }
 {

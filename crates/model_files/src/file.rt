@@ -11,14 +11,15 @@ use places::{At, Place, Region, Stretch, Value};
 use std::alloc::{AllocError, Global};
 use std::marker::Model;
 
-/// A regular file: what a program reads and writes, and what of it is on the device.
+/// A regular file: its current contents, which a program reads and writes, and its durable
+/// contents.
 #[derive(Drop)]
 pub struct RegularFile {
     bytes: Vec<u8>,
     len: u32,
     durable: Vec<u8>,
     durable_len: u32,
-    /// Which pages may differ between the bytes and the durable ones.
+    /// The pages in which the two contents may differ.
     dirty: Pages,
 }
 
@@ -74,7 +75,7 @@ impl At for RegularFile {
 }
 
 impl RegularFile {
-    /// A file with these bytes, all of which are on the device.
+    /// Returns a file with these bytes, all of them durable.
     pub fn new(alloc: Global, bytes: &[u8]) -> Result<RegularFile, AllocError>
         requires { length bytes.now ≤ 65536 }
         ensures { IfOk result (λ f. f ≡ file_start bytes.now) }
@@ -89,7 +90,7 @@ impl RegularFile {
         })
     }
 
-    /// The same file again.
+    /// Returns a copy.
     pub fn copy(&self, alloc: Global) -> Result<RegularFile, AllocError>
         ensures { IfOk result (λ f. f ≡ self.now) }
     {
@@ -102,7 +103,7 @@ impl RegularFile {
         })
     }
 
-    /// Its bytes, and behind them zeros.
+    /// Returns the stored bytes: the contents, padded with zeros to 65,536.
     pub fn bytes(&self) -> &[u8]
         ensures value { result.now ≡ self.now.bytes }
         ensures len { length result.now ≡ 65536 }
@@ -110,7 +111,7 @@ impl RegularFile {
         &self.bytes
     }
 
-    /// How many bytes it has.
+    /// Returns the length of the file in bytes.
     pub fn len(&self) -> u32
         ensures value { result ≡ self.now.len }
         ensures most { result ≤ 65536 }
@@ -126,7 +127,7 @@ impl RegularFile {
         &self.durable
     }
 
-    /// Whether the device may not have a page as it is.
+    /// Returns whether the durable contents may differ in a page.
     pub(crate) fn is_dirty(&self, page: u32) -> bool
         requires { page < 16 }
         ensures { result ≡ false → (i : ℕ) → page * 4096 ≤ i → i < page * 4096 + 4096
@@ -142,7 +143,7 @@ impl RegularFile {
         self.durable_len
     }
 
-    /// Sets what stands in one of its places.
+    /// Sets the value of one of its places.
     pub(crate) fn set(&mut self, place: Place, value: Value)
         requires { CanPut (file_seen self.old) place value }
         ensures put { PutsIn (file_seen self.old) (file_seen self.new) place value }
@@ -164,7 +165,7 @@ impl RegularFile {
         }
     }
 
-    /// Puts back the bytes of a stretch.
+    /// Restores the recorded bytes of a stretch.
     pub(crate) fn put_back(&mut self, stretch: Stretch<'_>)
         requires count { CanCount stretch }
         requires stand { BytesStand (file_seen self.old) stretch.region stretch.start
@@ -190,7 +191,7 @@ impl RegularFile {
         }
     }
 
-    /// Writes bytes from an offset on.
+    /// Writes bytes at an offset.
     pub(crate) fn write(&mut self, at: usize, others: &[u8])
         requires formed { FileFormed self.old }
         requires some { 0 < length others.now }
@@ -205,7 +206,7 @@ impl RegularFile {
         }
     }
 
-    /// Brings all of it to the device.
+    /// Makes the whole file durable.
     pub(crate) fn sync(&mut self)
         ensures { self.new ≡ synced self.old }
     {

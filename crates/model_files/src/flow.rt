@@ -1,4 +1,4 @@
-//! Bytes go into pipes, and old ones are noted (pipe(7)).
+//! Writing to pipes, with the old values recorded (pipe(7)).
 ghost use Rattle.std.specs.Prelude.{◌≡◌, ◌+◌, ◌<◌, ◌≤◌, ℕ, OnOk, OnErr, None, length, slice_get};
 ghost use Rattle.places.specs.Notes.{HasAsMuch};
 ghost use Rattle.places.specs.View.{Keeps, named};
@@ -16,7 +16,7 @@ use places::{Place, Recorder, Region};
 use std::alloc::AllocError;
 
 impl PipeBuffer {
-    /// Puts bytes in behind the others (pipe(7)). Want of memory leaves the pipe as it was.
+    /// Writes bytes to the pipe (pipe(7)). If an allocation fails, the pipe is unchanged.
     pub(crate) fn put_noted(
         &mut self,
         object: u32,
@@ -59,8 +59,8 @@ impl PipeBuffer {
         Ok(())
     }
 
-    /// Notes the slots that bytes are to stand in, in two parts: up to the last one, and from the
-    /// first on.
+    /// Records the slots that change when the bytes are stored: those up to the last slot, then
+    /// those from the first slot on.
     fn note_slots(&self, object: u32, others: &[u8], notes: &mut Recorder) -> Result<(), AllocError>
         requires room { TakesIn (length others.now) self.now }
         requires fresh { (i : ℕ) → i < 65536 → named notes.old.made (PipeByte object i) ≡ None }
@@ -80,7 +80,7 @@ impl PipeBuffer {
         self.note_part(object, 0, second, notes)
     }
 
-    /// Notes slots from one on that bytes are to stand in.
+    /// Records the slots that change when bytes are stored from slot `at` on.
     fn note_part(
         &self,
         object: u32,

@@ -1,22 +1,22 @@
-//! Which descriptors are held by requests under way.
+//! Which descriptors are held by requests in flight.
 ghost use Rattle.std.specs.Prelude.{◌≡◌, ℕ, ◌+◌, ◌-◌, ◌<◌, ◌^◌, None, Some, true, if◌then◌else◌};
 ghost use Rattle.model_files.specs.Holders.{counted, holders, is_descriptor_number, is_held};
 
-/// How many requests hold each of the 64 descriptors, numbered from 3.
+/// For each of the 64 descriptors, numbered from 3, how many requests hold it.
 #[derive(Clone, Copy)]
 pub struct Held {
     counts: [u32; 64],
 }
 
 impl Held {
-    /// None is held.
+    /// Returns counts of 0.
     pub fn new() -> Held
         ensures { (fd : ℕ) → holders result fd ≡ 0 }
     {
         Held { counts: [0; 64] }
     }
 
-    /// Whether a descriptor is held.
+    /// Returns whether a descriptor is held.
     pub fn holds(&self, fd: u32) -> bool
         ensures { result ≡ is_held self.now fd }
     {
@@ -26,14 +26,15 @@ impl Held {
         }
     }
 
-    /// Whether the descriptor at an index is held; the first one has the number 3.
+    /// Returns whether descriptor `index` + 3 is held.
     pub(crate) fn holds_at(&self, index: usize) -> bool
         ensures { result ≡ is_held self.now (index + 3) }
     {
         index < 64 && self.counts[index] > 0
     }
 
-    /// One more request holds a descriptor. A number that none of them has isn't counted.
+    /// Counts one more request that holds a descriptor. Does nothing for a number outside of 3 to
+    /// 66.
     pub fn add(&mut self, fd: u32)
         requires { holders self.old fd < 2 ^ 32 - 1 }
         ensures { (other : ℕ) → holders self.new other ≡ holders self.old other + counted fd other }
@@ -43,7 +44,7 @@ impl Held {
         }
     }
 
-    /// One request fewer holds a descriptor.
+    /// Counts one request fewer.
     pub fn remove(&mut self, fd: u32)
         requires { is_descriptor_number fd ≡ true → 0 < holders self.old fd }
         ensures { (other : ℕ) → holders self.old other ≡ holders self.new other + counted fd other }
@@ -54,7 +55,7 @@ impl Held {
     }
 }
 
-// Where the count of a descriptor stands.
+// Returns the index of a descriptor's count.
 fn index_of(fd: u32) -> Option<usize>
     ensures { result ≡ (if is_descriptor_number fd then Some (fd - 3) else None) }
 {

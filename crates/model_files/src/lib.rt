@@ -1,4 +1,4 @@
-//! Memory, objects and their descriptors, without a kernel, a real file or a real pipe (read(2),
+//! A model of memory, files, pipes, eventfds and file descriptors, without a kernel (read(2),
 //! write(2), fsync(2), pipe(7), eventfd(2)).
 #![tactic(auto)]
 

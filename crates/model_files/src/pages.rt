@@ -1,30 +1,30 @@
-//! Pages of a file.
+//! Tracking of the pages of a file that may not be durable.
 ghost use Rattle.std.specs.Prelude.{◌≡◌, ◌+◌, ◌*◌, ◌<◌, ◌≤◌, ◌⊎◌, ℕ, Some, false, length, replicate, slice_get};
 ghost use Rattle.model_files.specs.Pages.{Agree};
 
 use crate::bytes::{MOST_BYTES, overwrite};
 
-/// How many bytes a page has.
+/// The size of a page in bytes.
 pub(crate) const PAGE: usize = 4096;
 
-/// How many pages a file can have.
+/// The maximum number of pages of a file.
 pub(crate) const PAGES: usize = 16;
 
-/// Which pages of a file may differ between what a program reads and what is on the device.
+/// Marks for the pages in which the current and the durable contents of a file may differ.
 #[derive(Clone, Copy)]
 pub(crate) struct Pages {
     marks: [bool; 16],
 }
 
 impl Pages {
-    /// No page is marked.
+    /// Returns no marks.
     pub(crate) fn none() -> Pages
         ensures { result.marks ≡ replicate 16 false }
     {
         Pages { marks: [false; 16] }
     }
 
-    /// Whether a page is marked.
+    /// Returns whether a page is marked.
     pub(crate) fn is_marked(&self, page: usize) -> bool
         requires { page < 16 }
         ensures { slice_get self.now.marks page ≡ Some result }
@@ -32,7 +32,7 @@ impl Pages {
         self.marks[page]
     }
 
-    /// Marks the pages that some bytes are in.
+    /// Marks the pages of `count` bytes from index `at` on.
     pub(crate) fn mark(&mut self, at: usize, count: usize)
         requires some { 0 < count }
         requires within { at + count ≤ 65536 }
@@ -46,7 +46,7 @@ impl Pages {
         }
     }
 
-    /// Marks the pages that some bytes are in, as far as a file can reach.
+    /// The same, but ignores bytes past the maximum size of a file.
     pub(crate) fn mark_within(&mut self, at: usize, count: usize)
         ensures kept { (page : ℕ) → slice_get self.new.marks page ≡ Some false
             → slice_get self.old.marks page ≡ Some false }
@@ -61,7 +61,7 @@ impl Pages {
         }
     }
 
-    /// Writes bytes over others in each page that is marked.
+    /// Copies each marked page to the durable contents.
     pub(crate) fn bring(&self, bytes: &[u8], durable: &mut Vec<u8>)
         requires bytes { length bytes.now ≡ 65536 }
         requires durable { length durable.old.items ≡ 65536 }

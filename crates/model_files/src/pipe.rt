@@ -10,14 +10,15 @@ use places::{At, Place, Region, Stretch, Value};
 use std::alloc::{AllocError, Global};
 use std::marker::Model;
 
-/// A pipe. Byte n of it, from 0 over the whole run, stands in slot n modulo its capacity (pipe(7)).
+/// A pipe (pipe(7)). Bytes are numbered from 0 over the whole run, and byte n is in slot n modulo
+/// the capacity.
 #[derive(Drop)]
 pub struct PipeBuffer {
-    /// As many as its capacity.
+    /// A ring buffer; its length is the capacity.
     slots: Vec<u8>,
-    /// How many bytes went in.
+    /// How many bytes have been written.
     put: u64,
-    /// How many came out.
+    /// How many bytes have been read.
     taken: u64,
 }
 
@@ -53,7 +54,7 @@ impl At for PipeBuffer {
 }
 
 impl PipeBuffer {
-    /// An empty pipe.
+    /// Returns an empty pipe.
     pub fn new(alloc: Global, capacity: usize) -> Result<PipeBuffer, AllocError>
         ensures { IfOk result (λ pipe. pipe ≡ pipe_start capacity) }
     {
@@ -64,7 +65,7 @@ impl PipeBuffer {
         })
     }
 
-    /// The same pipe again.
+    /// Returns a copy.
     pub fn copy(&self, alloc: Global) -> Result<PipeBuffer, AllocError>
         ensures { IfOk result (λ pipe. pipe ≡ self.now) }
     {
@@ -75,28 +76,28 @@ impl PipeBuffer {
         })
     }
 
-    /// How many bytes are in it.
+    /// Returns how many bytes are in the pipe.
     pub(crate) fn filled(&self) -> u64
         ensures { result ≡ filled self.now }
     {
         self.put.saturating_sub(self.taken)
     }
 
-    /// How many bytes it can have.
+    /// Returns the capacity in bytes.
     pub(crate) fn capacity(&self) -> u64
         ensures { result ≡ length self.now.slots }
     {
         self.slots.len() as u64
     }
 
-    /// How many bytes went in.
+    /// Returns how many bytes have been written.
     pub(crate) fn put(&self) -> u64
         ensures { result ≡ self.now.put }
     {
         self.put
     }
 
-    /// How many came out.
+    /// Returns how many bytes have been read.
     pub(crate) fn taken(&self) -> u64
         ensures { result ≡ self.now.taken }
     {
@@ -109,7 +110,8 @@ impl PipeBuffer {
         &self.slots
     }
 
-    /// Its oldest bytes, in two parts: up to the last slot, and from the first slot on.
+    /// Returns the `count` oldest bytes in two parts: those up to the last slot, and those from the
+    /// first slot on.
     pub(crate) fn oldest(&self, count: usize) -> (&[u8], &[u8])
         requires some { 0 < length self.now.slots }
         requires within { count ≤ length self.now.slots }
@@ -122,7 +124,7 @@ impl PipeBuffer {
         (&self.slots[at..at + first], &self.slots[..count - first])
     }
 
-    /// Its oldest bytes came out.
+    /// Removes the `count` oldest bytes.
     pub(crate) fn take(&mut self, count: u32)
         requires { GivesOut count self.old }
         ensures { self.new ≡ taken_out count self.old }
@@ -131,7 +133,7 @@ impl PipeBuffer {
         self.taken += count as u64;
     }
 
-    /// Puts bytes in behind the others.
+    /// Appends bytes.
     pub(crate) fn push(&mut self, others: &[u8])
         requires some { 0 < length self.old.slots }
         requires room { length others.now ≤ length self.old.slots }
@@ -145,7 +147,7 @@ impl PipeBuffer {
         self.put += others.len() as u64;
     }
 
-    /// Puts back the bytes of a stretch.
+    /// Restores the recorded bytes of a stretch.
     pub(crate) fn put_back(&mut self, stretch: Stretch<'_>)
         requires count { CanCount stretch }
         requires stand { BytesStand (pipe_seen self.old) stretch.region stretch.start
@@ -161,7 +163,7 @@ impl PipeBuffer {
         }
     }
 
-    /// Sets what stands in one of its places.
+    /// Sets the value of one of its places.
     pub(crate) fn set(&mut self, place: Place, value: Value)
         requires { CanPut (pipe_seen self.old) place value }
         ensures put { PutsIn (pipe_seen self.old) (pipe_seen self.new) place value }

@@ -1,4 +1,4 @@
-//! What a setup's objects and descriptors start as, and copies of them.
+//! The objects and descriptors at the start of a run, and copies of objects.
 ghost use Rattle.std.specs.Prelude.{◌≡◌, ℕ, IfOk, Some, map, slice_get};
 ghost use Rattle.places.specs.declared.object.Object.{Object};
 ghost use Rattle.std.specs.Option.{option_and_then};
@@ -11,7 +11,7 @@ use crate::pipe::PipeBuffer;
 use places::{Contents, Descriptor, Object};
 use std::alloc::{AllocError, Global};
 
-/// What objects start as.
+/// Builds the objects of a setup.
 pub(crate) fn start_objects(alloc: Global, objects: &[Object]) -> Result<Vec<Body>, AllocError>
     requires { (i : ℕ) (o : Object) → slice_get objects.now i ≡ Some o → ContentsFit o.contents }
     ensures { IfOk result (λ bodies. bodies.items ≡ map (λ o. body_start o.contents) objects.now) }
@@ -34,7 +34,7 @@ fn start_body(alloc: Global, contents: &Contents) -> Result<Body, AllocError>
     })
 }
 
-/// What descriptors start as.
+/// Builds the descriptors of a setup, all open.
 pub(crate) fn start_descriptors(
     alloc: Global,
     objects: &[Object],
@@ -73,7 +73,7 @@ fn start_position(objects: &[Object], object: u32) -> Option<u64>
     }
 }
 
-/// The same objects again.
+/// Returns a copy of the objects.
 pub(crate) fn copy_objects(alloc: Global, objects: &[Body]) -> Result<Vec<Body>, AllocError>
     ensures { IfOk result (λ copies. copies.items ≡ objects.now) }
 {

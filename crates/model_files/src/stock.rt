@@ -1,12 +1,12 @@
-//! What an object holds, as far as a transfer depends on it.
+//! How much an object holds, which determines the result of a transfer.
 
 /// How much an object holds.
 #[derive(Clone, Copy)]
 pub enum Stock {
-    /// How many bytes a regular file has.
+    /// A file: its length in bytes.
     File(u32),
-    /// How many bytes are in a pipe, and its capacity.
+    /// A pipe: how many bytes it holds, and its capacity.
     Pipe(u64, u64),
-    /// The counter of an eventfd.
+    /// An eventfd: its counter.
     EventFd(u64),
 }

@@ -1,4 +1,4 @@
-//! Bytes move into files and to the device, and old ones are noted.
+//! Writing files and making them durable, with the old values recorded.
 ghost use Rattle.std.specs.Prelude.{◌≡◌, ◌+◌, ◌*◌, ◌<◌, ◌≤◌, ℕ, OnOk, OnErr, None, length};
 ghost use Rattle.places.specs.View.{Keeps, named};
 ghost use Rattle.places.specs.declared.place.Place.{Place};
@@ -15,7 +15,7 @@ use places::{Place, Recorder, Region};
 use std::alloc::AllocError;
 
 impl RegularFile {
-    /// Writes bytes from an offset on (write(2)). Want of memory leaves the file as it was.
+    /// Writes bytes at an offset (write(2)). If an allocation fails, the file is unchanged.
     pub fn write_at(
         &mut self,
         object: u32,
@@ -79,7 +79,7 @@ impl RegularFile {
         Ok(())
     }
 
-    /// Brings all of the file to the device (fsync(2)). Want of memory leaves the device as it was.
+    /// Makes the whole file durable (fsync(2)). If an allocation fails, the file is unchanged.
     pub fn sync_noted(&mut self, object: u32, notes: &mut Recorder) -> Result<(), AllocError>
         requires fresh { (i : ℕ) → i < 65536 → named notes.old.made (DurableByte object i) ≡ None }
         ensures ok { OnOk result (self.new ≡ synced self.old) }
@@ -115,7 +115,7 @@ impl RegularFile {
         Ok(())
     }
 
-    /// Notes what the device has of each page that may differ.
+    /// Records the durable bytes that change, in each marked page.
     fn note_pages(&self, object: u32, notes: &mut Recorder) -> Result<(), AllocError>
         requires fresh { (i : ℕ) → i < 65536 → named notes.old.made (DurableByte object i) ≡ None }
         ensures keeps { Keeps (object_owns object) (file_seen self.now)

@@ -1,4 +1,4 @@
-//! Memory, objects and descriptors together.
+//! The memory, the objects and the descriptors.
 ghost use Rattle.std.specs.Prelude.{◌≡◌, ◌+◌, ◌<◌, ◌≤◌, ◌^◌, ℕ, IsSome, IfOk, IfSome, IsSomeAnd, None, OnErr, OnOk, IsOk, Some, length, option_map, slice_get};
 ghost use Rattle.places.specs.View.{Keeps, named, put_at, undo};
 ghost use Rattle.places.specs.Runs.{place_in, old_bytes};
@@ -25,7 +25,7 @@ use places::{At, Descriptor, Object, Part, Place, Recorder, Region, Stretch, Val
 use std::alloc::{AllocError, Global};
 use std::marker::Model;
 
-/// The memory, the objects and their descriptors.
+/// The memory, the objects and the descriptors.
 #[derive(Drop)]
 pub struct World {
     memory: Vec<u8>,
@@ -124,7 +124,7 @@ impl Part for World {
 }
 
 impl World {
-    /// What the memory, the objects and the descriptors of a setup start as.
+    /// Returns the world at the start of a run.
     pub fn new(
         alloc: Global,
         memory: &[u8],
@@ -144,7 +144,7 @@ impl World {
         })
     }
 
-    /// The same world again.
+    /// Returns a copy.
     pub fn copy(&self, alloc: Global) -> Result<World, AllocError>
         ensures { IfOk result (λ world. world ≡ self.now) }
     {
@@ -155,7 +155,7 @@ impl World {
         })
     }
 
-    /// Puts back the bytes of a stretch that are kept. It takes no memory.
+    /// Restores the recorded bytes of a stretch. Allocates nothing.
     pub fn put_back(&mut self, stretch: Stretch<'_>)
         requires count { CanCount stretch }
         requires stand { BytesStand (world_seen self.old) stretch.region stretch.start
@@ -174,7 +174,7 @@ impl World {
         put_over(&mut self.memory, &stretch);
     }
 
-    // Puts back the bytes of a stretch of an object, if it is there.
+    // Restores the recorded bytes of a stretch of an object, if there is such an object.
     fn put_object_back(&mut self, object: u32, stretch: Stretch<'_>)
         requires its { object_in (place_in stretch.region stretch.start) ≡ Some object }
         requires count { CanCount stretch }
@@ -193,7 +193,7 @@ impl World {
         }
     }
 
-    /// The descriptor of a number, open or closed.
+    /// Returns the descriptor with a number, open or closed.
     pub fn descriptor(&self, fd: u32) -> Option<DescriptorState>
         ensures { result ≡ descriptor_of self.now fd }
     {
@@ -203,7 +203,7 @@ impl World {
         self.descriptors.get((fd - 3) as usize).copied()
     }
 
-    /// The descriptor that an entry's number names, open or closed. A negative number names none.
+    /// Returns the descriptor in an entry's field `fd`, open or closed. A negative number is none.
     pub fn descriptor_at(&self, fd: i32) -> Option<DescriptorState>
         ensures { result ≡ descriptor_at self.now fd }
     {
@@ -213,7 +213,7 @@ impl World {
         self.descriptor(fd as u32)
     }
 
-    /// How much an object holds, by its number.
+    /// Returns how much an object holds, or `None` if there is no such object.
     pub fn stock(&self, object: u32) -> Option<Stock>
         ensures value { result ≡ stock_of self.now object }
         ensures fits { IfSome result StockFits }
@@ -236,7 +236,7 @@ impl World {
         &self.descriptors
     }
 
-    /// The number of the eight bytes from an address on, the lowest first.
+    /// Returns the 64-bit number at an address, in little-endian order.
     pub fn number_at(&self, address: u32) -> u64
         requires { address + 8 ≤ 65536 }
         ensures { result ≡ number_at self.now address }
@@ -247,7 +247,7 @@ impl World {
         }
     }
 
-    /// The memory.
+    /// Returns the memory, 65,536 bytes.
     pub fn memory(&self) -> &[u8]
         ensures value { result.now ≡ self.now.memory }
         ensures size { length result.now ≡ 65536 }
@@ -255,7 +255,7 @@ impl World {
         &self.memory
     }
 
-    /// Bytes come into memory at an address. Want of memory for the notes leaves all as it was.
+    /// Stores bytes in memory. If an allocation fails, the world is unchanged.
     pub fn store(
         &mut self,
         address: u32,
@@ -282,8 +282,8 @@ impl World {
         Ok(())
     }
 
-    /// Bytes of a file, from an offset on, come into memory at an address (read(2)). Want of memory
-    /// for the notes leaves all as it was.
+    /// Reads `count` bytes of a file from an offset into memory (read(2)). If an allocation fails,
+    /// the world is unchanged.
     pub fn read_at(
         &mut self,
         object: u32,
@@ -318,8 +318,8 @@ impl World {
         Ok(())
     }
 
-    /// Bytes of memory, from an address on, go into a file at an offset (write(2)). Want of memory
-    /// for the notes leaves all as it was.
+    /// Writes `count` bytes of memory to a file at an offset (write(2)). If an allocation fails,
+    /// the world is unchanged.
     pub fn write_at(
         &mut self,
         object: u32,
@@ -348,8 +348,7 @@ impl World {
         self.objects[object as usize].write_at(object, offset, others, notes)
     }
 
-    /// Brings all of a file to the device (fsync(2)). Want of memory for the notes leaves all as it
-    /// was.
+    /// Makes the whole file durable (fsync(2)). If an allocation fails, the world is unchanged.
     pub fn sync(&mut self, object: u32, notes: &mut Recorder) -> Result<(), AllocError>
         requires file { IsSome (file_of self.old object) }
         requires fresh { (i : ℕ) → i < 65536 → named notes.old.made (DurableByte object i) ≡ None }
@@ -366,8 +365,8 @@ impl World {
         self.objects[object as usize].sync(object, notes)
     }
 
-    /// The oldest bytes of a pipe come out, into memory at an address (pipe(7)). Want of memory for
-    /// the notes leaves all as it was.
+    /// Moves the `count` oldest bytes of a pipe into memory (pipe(7)). If an allocation fails, the
+    /// world is unchanged.
     pub fn take_pipe(
         &mut self,
         object: u32,
@@ -395,7 +394,7 @@ impl World {
         Ok(())
     }
 
-    // The oldest bytes of a pipe stand in memory.
+    // Copies the oldest bytes of a pipe into memory.
     fn bring_oldest(&mut self, object: u32, count: u32, address: u32)
         requires there { IsSomeAnd (pipe_of self.old object) (GivesOut count) }
         requires in_memory { address + count ≤ 65536 }
@@ -443,7 +442,7 @@ impl World {
         Ok(())
     }
 
-    // Notes the bytes of memory that others are to stand in place of.
+    // Records the bytes of memory that change when the new bytes are stored.
     fn note_memory(
         &self,
         address: u32,
@@ -465,8 +464,8 @@ impl World {
         note_differing(Region::Memory, address, old, others, notes)
     }
 
-    /// Bytes of memory, from an address on, go into a pipe (pipe(7)). Want of memory for the notes
-    /// leaves all as it was.
+    /// Writes `count` bytes of memory to a pipe (pipe(7)). If an allocation fails, the world is
+    /// unchanged.
     pub fn put_pipe(
         &mut self,
         object: u32,
@@ -492,7 +491,8 @@ impl World {
         self.objects[object as usize].put(object, bytes, notes)
     }
 
-    /// Adds a number to the counter of an eventfd (eventfd(2)). Want of memory leaves it as it was.
+    /// Adds a number to the counter of an eventfd (eventfd(2)). If an allocation fails, the counter
+    /// is unchanged.
     pub fn add_event(
         &mut self,
         object: u32,
@@ -513,8 +513,8 @@ impl World {
         self.objects[object as usize].add(object, number, notes)
     }
 
-    /// The eight bytes of an eventfd's counter come into memory at an address, and it is 0
-    /// (eventfd(2)). Want of memory for the notes leaves all as it was.
+    /// Stores the eight bytes of an eventfd's counter in memory, in little-endian order, and resets
+    /// the counter to 0 (eventfd(2)). If an allocation fails, the world is unchanged.
     pub fn clear_event(
         &mut self,
         object: u32,
@@ -544,8 +544,7 @@ impl World {
         Ok(())
     }
 
-    /// Moves a descriptor of a file to a position (lseek(2)). Want of memory leaves it where it
-    /// was.
+    /// Sets the position of a file descriptor (lseek(2)). If an allocation fails, it is unchanged.
     pub fn set_position(
         &mut self,
         fd: u32,
@@ -573,7 +572,7 @@ impl World {
         Ok(())
     }
 
-    /// Closes a descriptor (close(2)). Want of memory leaves it open.
+    /// Closes a descriptor (close(2)). If an allocation fails, it stays open.
     pub fn close(&mut self, fd: u32, notes: &mut Recorder) -> Result<(), AllocError>
         requires { IsSome (descriptor_of self.old fd) }
         ensures ok { OnOk result (self.new ≡ world_closed fd self.old) }
@@ -594,7 +593,7 @@ impl World {
     }
 }
 
-/// The object whose place it is, if it is an object's.
+/// Returns the number of the object that a place belongs to, if any.
 fn object_in(place: Place) -> Option<u32>
     ensures { result ≡ object_in place }
 {
@@ -611,7 +610,7 @@ fn object_in(place: Place) -> Option<u32>
     }
 }
 
-/// The number in the place of an open mark.
+/// Returns the value of the place `OpenMark`.
 fn mark_number(is_open: bool) -> u64
     ensures { result ≡ mark_of is_open }
 {

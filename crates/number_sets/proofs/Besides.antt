@@ -1,4 +1,4 @@
--- Numbers that one set has and another doesn't, by the bits of their words.
+-- Lemmas for `next_beside`: the numbers in one set and not in another, by the bits of their words.
 use Rattle.std.proofs.Common.{◌≡◌, ℕ, ◌+◌, ◌*◌, ◌/◌, ◌%◌, ◌^◌, ◌<◌, ◌≤◌, true, false, not, ◌==◌, List, length, get_or, refl, sym, ap, ◌∙◌, subst, inl, inr, arith, bit_and, w64}
 use Rattle.std.specs.Prelude.{◌&&◌, ◌-◌, min}
 use Rattle.std.specs.Int.{bit_at, bit_not}
@@ -9,10 +9,11 @@ use Rattle.number_sets.specs.Sets.{has, IsNext, IsNextBit}
 use Rattle.number_sets.specs.Beside.{is_beside, IsNextBeside}
 use Rattle.number_sets.proofs.Bits.{has_is, has_past}
 
+-- The combined word w: the bits that the first set has there and the other one does not.
 abbrev beside_word : List ℕ → List ℕ → ℕ → ℕ
 beside_word words others w = bit_and (get_or words w 0) (bit_not w64 (get_or others w 0))
 
--- one bit of a word, without another's
+-- Bit k of `a` is set and bit k of `b` is not exactly if bit k of `a & !b` is set.
 bit_beside : (a b k : ℕ) → b < 2 ^ 64 → k < 64 → ((bit_at a k == 1) && not (bit_at b k == 1)) ≡ (bit_at (bit_and a (bit_not w64 b)) k == 1)
 bit_beside a b k fits h = rw (bit_at_and a (bit_not w64 b) k, bit_at_not w64 b k fits h) (by (bit_at a k) (bit_at b k) (bit_at-lt a k) (bit_at-lt b k))
   where
@@ -24,7 +25,7 @@ beside_is words others i fits =
     ap (λ b. b && not (has others i)) (sym (has_is words i)) ∙ ap (λ b. (bit_at (get_or words (i / 64) 0) (i % 64) == 1) && not b) (sym (has_is others i))
     ∙ bit_beside (get_or words (i / 64) 0) (get_or others (i / 64) 0) (i % 64) fits (omega arith)
 
--- a number whose bit isn't there
+-- If the bit of number i is 0 in its combined word, i is not in the first set only.
 in_word : (words others : List ℕ) (w i : ℕ) → get_or others w 0 < 2 ^ 64 → i / 64 ≡ w → bit_at (beside_word words others w) (i % 64) ≡ 0 → is_beside words others i ≡ false
 in_word words others w i fits word zero = beside_is words others i (subst (λ (n : ℕ). get_or others n 0 < 2 ^ 64) (sym word) fits) ∙ rw (word, zero) refl
 
@@ -34,14 +35,14 @@ has_below words k h = elim (cases_lt k (64 * length words)) [
   | inr past ↦ absurd (let e = has_past words k past in cc)
 ]
 
--- none before the next of the one set, where there was none so far
+-- If there is none below `at`, there is none below k, the first set's next number from `at` on.
 before_next : (words others : List ℕ) (from at k : ℕ) → ((i : ℕ) → from ≤ i → i < at → is_beside words others i ≡ false) → IsNext words at k → (i : ℕ) → from ≤ i → i < k → is_beside words others i ≡ false
 before_next words others from at k before next i low high = elim (cases_lt i at) [
   | inl earlier ↦ before i low earlier
   | inr later ↦ and_left _ _ (next.least i later high)
 ]
 
--- the least bit of its word
+-- A bit found in the combined word of k is the least number in the first set only.
 pub beside_here : (words others : List ℕ) (from at k bit : ℕ) → get_or others (k / 64) 0 < 2 ^ 64 → from ≤ at → ((i : ℕ) → from ≤ i → i < at → is_beside words others i ≡ false)
     → IsNext words at k → IsNextBit (beside_word words others (k / 64)) (k % 64) bit → IsNextBeside words others from (k / 64 * 64 + bit)
 beside_here words others from at k bit fits start before next found =
@@ -57,7 +58,7 @@ beside_here words others from at k bit fits start before next found =
       ];
     }
 
--- a word that has none
+-- If the combined word of k has no bit, there is no number up to the end of that word.
 pub beside_past : (words others : List ℕ) (from at k : ℕ) → get_or others (k / 64) 0 < 2 ^ 64 → ((i : ℕ) → from ≤ i → i < at → is_beside words others i ≡ false)
     → IsNext words at k → ((b : ℕ) → k % 64 ≤ b → bit_at (beside_word words others (k / 64)) b ≡ 0) → (i : ℕ) → from ≤ i → i < k / 64 * 64 + 64 → is_beside words others i ≡ false
 beside_past words others from at k fits before next none i low high = elim (cases_lt i k) [

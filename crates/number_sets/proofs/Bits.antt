@@ -1,4 +1,4 @@
--- Bits of words.
+-- Lemmas about single bits of words and about sets as lists of words.
 use Rattle.std.proofs.Common.{◌≡◌, ℕ, zero, suc, ◌*◌, ◌/◌, ◌%◌, ◌^◌, ◌<◌, ◌≤◌, Bool, true, false, not, cond, ◌==◌, ◌||◌, eqb, List, [], ◌∷◌, ◌++◌, length, get_or, set, replicate, refl, sym, ap, ◌∙◌, inl, inr, arith, bit_and, bit_or, w64}
 use Rattle.std.specs.Int.{bit_at}
 use Rattle.std.specs.List.{list_any}
@@ -9,20 +9,20 @@ use Rattle.std.proofs.lemmas.Nat.{one_shl, pow_pos}
 use Rattle.std.proofs.lemmas.Nat.Bits.{bit_at-zero, bit_at-lt, and_pow, bit_at_set_same, bit_at_set_other}
 use Rattle.number_sets.specs.Sets.{has}
 
--- ---- a word
+-- ---- One word
 
--- the test of a bit
+-- `word & (1 << bit) != 0` tests the bit.
 pub tested_bit : (word bit : ℕ) → bit < 64 → not (eqb (bit_and word (1 * 2 ^ bit % 2 ^ 64)) 0) ≡ (bit_at word bit == 1)
 tested_bit word bit h = grind (arith, nat_tests, one_shl bit 64 h, and_pow word bit, pow_pos bit, bit_at-lt word bit)
 
--- a bit is set
+-- `word | (1 << bit)` sets that bit and no other.
 pub bit_set : (word bit b : ℕ) (member : Bool) → bit < 64 → member ≡ true → (bit_at (bit_or word (1 * 2 ^ bit % 2 ^ 64)) b == 1) ≡ cond (b == bit) member (bit_at word b == 1)
 bit_set word bit b member h m = elim (cases_eq b bit) [
   | inl same ↦ rw (same, bit_at_set_same w64 word bit h, eq-eqb bit bit refl) (sym m)
   | inr other ↦ rw (bit_at_set_other w64 word bit h b other, ne_eqb b bit other) refl
 ]
 
--- ---- words
+-- ---- Lists of words
 
 pub has_is : (words : List ℕ) (k : ℕ) → (bit_at (get_or words (k / 64) 0) (k % 64) == 1) ≡ has words k
 unfolding has
@@ -32,12 +32,12 @@ pub has_past : (words : List ℕ) (k : ℕ) → 64 * length words ≤ k → has 
 unfolding has
 has_past words k h = let e : get_or words (k / 64) 0 ≡ 0 = get_or_past words (k / 64) 0 (omega arith) in rw (e, bit_at-zero (k % 64)) refl
 
--- a word that is 0 has none
+-- A number whose word is 0 is not in the set.
 pub none_in_zero : (words : List ℕ) (k : ℕ) → get_or words (k / 64) 0 ≡ 0 → has words k ≡ false
 unfolding has
 none_in_zero words k e = rw (e, bit_at-zero (k % 64)) refl
 
--- one bit of a word is written
+-- Changing one bit of one word adds or removes the number of that bit only.
 pub has_written : (words : List ℕ) (k word : ℕ) (member : Bool) → k < 64 * length words
     → ((b : ℕ) → b < 64 → (bit_at word b == 1) ≡ cond (b == k % 64) member (bit_at (get_or words (k / 64) 0) b == 1))
     → (i : ℕ) → has (set words (k / 64) word) i ≡ cond (i == k) member (has words i)
@@ -53,7 +53,7 @@ has_written words k word member within bits i = elim (cases_eq (i / 64) (k / 64)
       rw (there, differ) refl
 ]
 
--- words of zeros behind others
+-- Appending zero words changes no word.
 pub grown_word : (words zeros : List ℕ) (w : ℕ) → ((v : ℕ) → get_or zeros v 0 ≡ 0) → get_or (words ++ zeros) w 0 ≡ get_or words w 0
 grown_word words zeros w none = elim (cases_lt w (length words)) [
   | inl inside ↦ get_or_append_left words zeros 0 w inside
@@ -70,7 +70,7 @@ no_bits n x w e = elim (cases_lt w n) [
   | inr past ↦ get_or_past (replicate n x) w 0 (omega (arith, length-replicate n x))
 ]
 
--- words of which none isn't 0
+-- If no word is nonzero, each word is 0.
 no_word : (words : List ℕ) (w : ℕ) → list_any (λ n. not (n == 0)) words ≡ false → get_or words w 0 ≡ 0
 no_word [] w h = refl
 no_word (n ∷ ns) w h = by (n == 0) refl h w (λ v k. no_word ns v k)
@@ -91,6 +91,6 @@ pub not_cond : (t x : Bool) → not (cond t true x) ≡ cond t false (not x)
 not_cond true x = refl
 not_cond false x = refl
 
--- the test that words lack a bit
+-- `word & (1 << bit) == 0` tests that a number is absent.
 pub lacks_bit : (words : List ℕ) (k : ℕ) → eqb (bit_and (get_or words (k / 64) 0) (1 * 2 ^ (k % 64) % 2 ^ 64)) 0 ≡ not (has words k)
 lacks_bit words k = not_not _ ∙ ap not (tested_bit (get_or words (k / 64) 0) (k % 64) (omega arith) ∙ has_is words k)

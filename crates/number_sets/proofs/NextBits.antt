@@ -1,4 +1,4 @@
--- Bits of a word.
+-- Lemmas for clearing a bit of a word and for finding its next bit.
 use Rattle.std.proofs.Common.{◌≡◌, ℕ, ◌-◌, ◌*◌, ◌%◌, ◌^◌, ◌<◌, ◌≤◌, Bool, false, cond, ◌==◌, refl, sym, ap, ◌∙◌, inl, inr, arith, bit_and, w64}
 use Rattle.std.specs.Int.{bit_at, bit_not, trailing_zeros}
 use Rattle.std.proofs.lemmas.Bool.{cases_eq, cases_lt, eq-eqb, ne_eqb}
@@ -6,14 +6,14 @@ use Rattle.std.proofs.lemmas.Nat.{and_le_l}
 use Rattle.std.proofs.lemmas.Nat.Bits.{bit_at_and, bit_at-zero, bit_at-lt, ones_shl, bit_at_mask_inside, bit_at_mask_below, bit_at_above, bit_at-trailing_zeros, bit_at_clear_same, bit_at_clear_other}
 use Rattle.number_sets.specs.Sets.{IsNextBit}
 
--- a bit is cleared
+-- `word & !(1 << bit)` clears that bit and no other.
 pub bit_cleared : (word bit b : ℕ) (member : Bool) → bit < 64 → b < 64 → member ≡ false → (bit_at (bit_and word (bit_not w64 (1 * 2 ^ bit % 2 ^ 64))) b == 1) ≡ cond (b == bit) member (bit_at word b == 1)
 bit_cleared word bit b member h k m = elim (cases_eq b bit) [
   | inl same ↦ rw (same, bit_at_clear_same w64 word bit h, eq-eqb bit bit refl) (sym m)
   | inr other ↦ rw (bit_at_clear_other w64 word bit h b k other, ne_eqb b bit other) refl
 ]
 
--- the bits from one on
+-- The word with its bits below `from` cleared.
 
 abbrev from_bit : ℕ → ℕ → ℕ
 from_bit word from = bit_and word ((2 ^ 64 - 1) * 2 ^ from % 2 ^ 64)

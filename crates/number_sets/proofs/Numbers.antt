@@ -1,4 +1,4 @@
--- Numbers of a set, by the bits of its words.
+-- Lemmas for finding the next number of a set by its words and their summary.
 use Rattle.std.proofs.Common.{◌≡◌, ℕ, ◌+◌, ◌*◌, ◌/◌, ◌%◌, ◌<◌, ◌≤◌, true, false, not, cond, ◌==◌, List, [], ◌∷◌, ◌++◌, length, get_or, set, replicate, refl, sym, ◌∙◌, inl, inr, arith}
 use Rattle.std.specs.Int.{bit_at}
 use Rattle.std.proofs.lemmas.Bool.{cases_eq, cases_lt, not-false, not-true, eqb-true, eqb-false, eq-eqb, ne_eqb}
@@ -7,7 +7,7 @@ use Rattle.std.proofs.lemmas.Nat.Bits.{bit_at-zero, same_from_bits}
 use Rattle.number_sets.proofs.Bits.{none_in_zero, no_bits, has_grown as words_grown}
 use Rattle.number_sets.specs.Sets.{has, IsNextBit, IsNext, NoneFrom, Summed}
 
--- ---- one number
+-- ---- One number
 
 has_in : (words : List ℕ) (w b : ℕ) → b < 64 → has words (w * 64 + b) ≡ (bit_at (get_or words w 0) b == 1)
 unfolding has
@@ -16,12 +16,12 @@ has_in words w b h =
     let bit : (w * 64 + b) % 64 ≡ b = omega arith in
     rw (word, bit) refl
 
--- ---- changes
+-- ---- Growing the list of words
 
 pub has_grown : (words : List ℕ) (k : ℕ) → has (words ++ 0 ∷ []) k ≡ has words k
 has_grown words k = words_grown words (0 ∷ []) k (λ w. no_bits 1 0 w refl)
 
--- ---- the summary
+-- ---- The summary
 
 zero_word : (n w x : ℕ) → x ≡ 0 → get_or (replicate n x) w 0 ≡ 0
 zero_word n w x e = elim (cases_lt w n) [
@@ -29,7 +29,7 @@ zero_word n w x e = elim (cases_lt w n) [
   | inr past ↦ get_or_past (replicate n x) w 0 (omega (arith, length-replicate n x))
 ]
 
--- no word, and none in the summary
+-- The summary of an empty set is all zeros.
 pub summed_none : (x : ℕ) → x ≡ 0 → Summed [] (replicate 16 x)
 summed_none x e = record { few = omega arith; short = length-replicate 16 x; sums = λ w. none_in_zero (replicate 16 x) w (zero_word 16 (w / 64) x e) }
 
@@ -44,9 +44,9 @@ summed_written words summary after at word s within l h = record {
   ];
 }
 
--- ---- the least number
+-- ---- The next number
 
--- what a word's bits say
+-- If a word has no bit from b on, the set has no number there.
 none_in_word : (words : List ℕ) (w b : ℕ) → ((i : ℕ) → b ≤ i → bit_at (get_or words w 0) i ≡ 0) → (i : ℕ) → w * 64 + b ≤ i → i < w * 64 + 64 → has words i ≡ false
 unfolding has
 none_in_word words w b none i low high =
@@ -71,7 +71,8 @@ next_in_word words w from b k next start before = record {
   ];
 }
 
--- none in a first word from a number on, and in the words behind it
+-- No number from `from` on up to word `at`, if neither the word of `from` nor the
+-- words after it have one.
 pub none_further : (words : List ℕ) (from at : ℕ) → ((b : ℕ) → from % 64 ≤ b → bit_at (get_or words (from / 64) 0) b ≡ 0)
     → ((i : ℕ) → (from / 64 + 1) * 64 ≤ i → i < at * 64 → has words i ≡ false) → (i : ℕ) → from ≤ i → i < at * 64 → has words i ≡ false
 none_further words from at none more i low high = elim (cases_lt i ((from / 64 + 1) * 64)) [
@@ -79,7 +80,7 @@ none_further words from at none more i low high = elim (cases_lt i ((from / 64 +
   | inr later ↦ more i later high
 ]
 
--- one more word has none
+-- Extends such a range by one more word without bits.
 pub none_more : (words : List ℕ) (from at : ℕ) → ((b : ℕ) → 0 ≤ b → bit_at (get_or words at 0) b ≡ 0) → ((i : ℕ) → from ≤ i → i < at * 64 → has words i ≡ false)
     → (i : ℕ) → from ≤ i → i < (at + 1) * 64 → has words i ≡ false
 none_more words from at none before i low high = elim (cases_lt i (at * 64)) [
@@ -87,7 +88,7 @@ none_more words from at none before i low high = elim (cases_lt i (at * 64)) [
   | inr later ↦ none_in_word words at 0 none i (omega arith) (omega arith)
 ]
 
--- words that the summary doesn't have
+-- Words whose summary bit is 0 have no number.
 skipped : (words summary : List ℕ) (a b : ℕ) → Summed words summary → ((w : ℕ) → a ≤ w → w < b → has summary w ≡ false) → (i : ℕ) → a * 64 ≤ i → i < b * 64 → has words i ≡ false
 skipped words summary a b s none i low high =
     none_in_zero words i (eqb-true _ 0 (not-false _ (sym (s.sums (i / 64)) ∙ none (i / 64) (omega arith) (omega arith))))
@@ -103,7 +104,7 @@ next_by_summary words summary from at bit s first word next =
     next_in_word words at from 0 bit next (omega (arith, word.after))
     (λ i low high. none_further words from at first (skipped words summary (from / 64 + 1) at s word.least) i low (omega arith))
 
--- a word that the summary has stands in the list, and isn't 0
+-- A word whose summary bit is set is within the list.
 pub word_there : (words summary : List ℕ) (w : ℕ) → Summed words summary → has summary w ≡ true → w < length words
 word_there words summary w s member = elim (cases_lt w (length words)) [
   | inl inside ↦ inside

@@ -1,13 +1,13 @@
--- Thresholds of numbers, by the minima of their blocks.
+-- Lemmas about thresholds and the minima of their blocks.
 use Rattle.std.proofs.Common.{◌≡◌, ℕ, ◌+◌, ◌-◌, ◌*◌, ◌/◌, ◌<◌, ◌≤◌, List, length, set, drop, min, sym, ap, ◌∙◌, inl, inr, subst, arith}
 use Rattle.std.proofs.lemmas.Bool.{cases_eq, cases_lt}
 use Rattle.std.specs.Prelude.{slice_range}
 use Rattle.std.proofs.lemmas.List.{get_or-set_same, get_or-drop, get_or-take, get_or-set_other, get_or_past, length-set}
 use Rattle.number_sets.specs.Thresholds.{never, threshold_at, Bounded}
 
--- ---- the bounds
+-- ---- The bounds
 
--- a number's threshold is written, and the minimum of its block
+-- Writing one threshold, and new bounds of its block and of all blocks, maintains `Bounded`.
 pub bounded_written : (each minima : List ℕ) (least after k threshold minimum : ℕ) → Bounded each minima least → k < length each
     → ((i : ℕ) → i / 256 ≡ k / 256 → minimum ≤ threshold_at (set each k threshold) i)
     → ((w : ℕ) → after ≤ threshold_at (set minima (k / 256) minimum) w) → Bounded (set each k threshold) (set minima (k / 256) minimum) after
@@ -27,9 +27,9 @@ bounded_written each minima least after k threshold minimum b within block all =
     here : (i : ℕ) → i / 256 ≡ k / 256 → threshold_at (set minima (k / 256) minimum) (i / 256) ≡ minimum
     here i same = ap (threshold_at (set minima (k / 256) minimum)) same ∙ get_or-set_same minima (k / 256) minimum never (let c = b.covered in omega (arith, c, within))
 
--- ---- the least number
+-- ---- Bounds of parts of the list
 
--- a number of a part of a list
+-- A bound of an item of a subslice is a bound of that item of the list.
 pub in_range : (xs : List ℕ) (a b i x : ℕ) → a ≤ i → i < b → x ≤ threshold_at (slice_range xs a b) (i - a) → x ≤ threshold_at xs i
 in_range xs a b i x low high h =
     let part = get_or-take (b - a) (drop a xs) (i - a) never (omega (arith, low, high)) in
@@ -37,18 +37,19 @@ in_range xs a b i x low high h =
     let at : a + (i - a) ≡ i = omega (arith, low) in
     subst (λ n. x ≤ n) (part ∙ rest ∙ ap (threshold_at xs) at) h
 
--- what bounds a number that is there bounds its threshold, and past the end is no threshold
+-- A bound of the threshold of an item within the list bounds it past the end
+-- too, where it is `never`.
 bound_at : (xs : List ℕ) (i x : ℕ) → x < never + 1 → (i < length xs → x ≤ threshold_at xs i) → x ≤ threshold_at xs i
 bound_at xs i x most h = elim (cases_lt i (length xs)) [
   | inl inside ↦ h inside
   | inr past ↦ let e = get_or_past xs i never past in omega (arith, e, most)
 ]
 
--- a bound of a block's numbers is one of each number of the block
+-- A bound of the items of a block bounds the threshold of each number in the block.
 pub block_bound : (xs : List ℕ) (k i end x : ℕ) → i / 256 ≡ k / 256 → end ≡ min (length xs) (k / 256 * 256 + 256) → x < never + 1
     → ((j : ℕ) → k / 256 * 256 ≤ j → j < end → x ≤ threshold_at xs j) → x ≤ threshold_at xs i
 block_bound xs k i end x same last most h = bound_at xs i x most (λ inside. h i (omega (arith, same)) (omega (arith, same, inside, last)))
 
--- a bound of all numbers there are is one of each number
+-- A bound of all items of the list bounds the threshold of every number.
 pub whole_bound : (xs : List ℕ) (i x : ℕ) → x < never + 1 → ((j : ℕ) → 0 ≤ j → j < length xs → x ≤ threshold_at xs j) → x ≤ threshold_at xs i
 whole_bound xs i x most h = bound_at xs i x most (λ inside. h i (omega arith) inside)

@@ -1,4 +1,5 @@
-//! Sets of numbers, as bits of words; and the least number whose threshold is reached.
+//! Bit sets of small numbers, and a search for the least number whose threshold a total reaches.
+//! The request table uses both as indexes over its rows.
 #![tactic(auto)]
 
 pub mod sets;

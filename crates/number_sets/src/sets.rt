@@ -1,4 +1,4 @@
-//! Sets of numbers: a bit for each, and a summary of the words that have any.
+//! Bit sets with a summary level, so that the next member is found in constant time.
 ghost use Rattle.std.specs.Prelude.{◌≡◌, ℕ, ◌+◌, ◌*◌, ◌<◌, ◌≤◌, ◌==◌, [], true, false, length, IfSome, IfNone, IfOk, OnOk, MatchBool, if◌then◌else◌};
 ghost use Rattle.std.specs.Int.{bit_at};
 ghost use Rattle.number_sets.specs.Sets.{has, IsNextBit, IsNext, NoneFrom};
@@ -8,12 +8,12 @@ mod beside;
 use std::alloc::{AllocError, Global};
 use std::marker::Model;
 
-/// A set of numbers below 65,536. Its contracts see the words that have its numbers.
+/// A set of numbers below 65,536. Contracts see it as its list of words.
 #[derive(Drop)]
 pub struct NumberSet {
-    /// A bit for each number, in as many words as numbers have needed.
+    /// One bit per number; as many words as the largest number so far required.
     words: Vec<u64>,
-    /// A bit for each word that isn't 0.
+    /// One bit per word, set if the word is not 0.
     summary: [u64; 16],
 }
 
@@ -29,7 +29,7 @@ impl Model for NumberSet {
 }
 
 impl NumberSet {
-    /// No number. It takes no memory.
+    /// Returns an empty set. Allocates nothing.
     pub fn new(alloc: Global) -> NumberSet
         ensures { result ≡ [] }
     {
@@ -39,7 +39,8 @@ impl NumberSet {
         }
     }
 
-    /// Makes room for a number, where there is room for all below it.
+    /// Allocates the word of number k, if it is missing. There must be room for every number below
+    /// k. If the allocation fails, the set is unchanged.
     pub fn make_room(&mut self, k: usize) -> Result<(), AllocError>
         requires below { k ≤ 64 * length self.old }
         requires small { k < 65536 }
@@ -53,7 +54,7 @@ impl NumberSet {
         Ok(())
     }
 
-    /// Whether a number is in the set. It takes constant time.
+    /// Returns whether k is in the set. Constant time.
     pub fn contains(&self, k: usize) -> bool
         ensures { result ≡ has self.now k }
     {
@@ -63,7 +64,7 @@ impl NumberSet {
         }
     }
 
-    /// Puts a number into the set, or takes it out.
+    /// Inserts or removes k, for which there must be room. Constant time, without allocation.
     pub fn write(&mut self, k: usize, member: bool)
         requires { k < 64 * length self.old }
         ensures len { length self.new ≡ length self.old }
@@ -75,7 +76,7 @@ impl NumberSet {
         self.summary[at / 64] = with_bit(self.summary[at / 64], at % 64, word != 0);
     }
 
-    /// The least number of the set from one on. It takes constant time.
+    /// Returns the least number of the set at or above `from`. Constant time.
     pub fn next(&self, from: usize) -> Option<usize>
         ensures some { IfSome result (λ k. IsNext self.now from k) }
         ensures none { IfNone result (NoneFrom self.now from) }
@@ -92,7 +93,7 @@ impl NumberSet {
         Some(at * 64 + bit)
     }
 
-    /// Whether a number of the set is the least from one on.
+    /// Returns whether k, a number of the set, is the least one at or above `from`.
     pub fn is_next(&self, from: usize, k: usize) -> bool
         requires member { has self.now k ≡ true }
         requires after { from ≤ k }
@@ -102,7 +103,7 @@ impl NumberSet {
         self.next(from) == Some(k)
     }
 
-    /// Whether the set has no number below another.
+    /// Returns whether the set has no number below `limit`.
     pub fn has_none_below(&self, limit: usize) -> bool
         ensures { MatchBool result ((i : ℕ) → i < limit → has self.now i ≡ false) ((i : ℕ)
             × (i < limit) × (has self.now i ≡ true)) }
@@ -113,7 +114,7 @@ impl NumberSet {
         }
     }
 
-    /// A set of the same numbers.
+    /// Copies the set. Fails only if an allocation fails.
     pub fn copy(&self, alloc: Global) -> Result<NumberSet, AllocError>
         ensures { IfOk result (λ set. set ≡ self.now) }
     {
@@ -124,7 +125,7 @@ impl NumberSet {
     }
 }
 
-// A word with a bit set or cleared.
+// Returns the word with one bit set or cleared.
 fn with_bit(word: u64, bit: usize, member: bool) -> u64
     requires { bit < 64 }
     ensures { (b : ℕ) → b < 64
@@ -137,7 +138,7 @@ fn with_bit(word: u64, bit: usize, member: bool) -> u64
     }
 }
 
-// The least bit of a word from one on.
+// Returns the lowest set bit of a word at or above `from`.
 fn next_bit(word: u64, from: usize) -> Option<usize>
     requires { from < 64 }
     ensures some { IfSome result (λ k. IsNextBit word from k) }
@@ -151,7 +152,8 @@ fn next_bit(word: u64, from: usize) -> Option<usize>
     }
 }
 
-// The least number that some words have from one on.
+// Returns the least number at or above `from` in a set given by its words. Used on the summary,
+// whose 16 words it scans.
 fn next_number(words: &[u64], from: usize) -> Option<usize>
     requires { length words.now ≤ 1024 }
     ensures some { IfSome result (λ k. IsNext words.now from k) }

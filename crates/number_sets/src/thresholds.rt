@@ -1,23 +1,24 @@
-//! The least number from one on whose threshold is reached.
+//! Thresholds of numbers, with minima of blocks, to find the least number whose threshold is
+//! reached. The request table stores here the totals at which counting TIMEOUTs complete.
 ghost use Rattle.std.specs.Prelude.{◌≡◌, ◌≢◌, ℕ, ◌+◌, ◌-◌, ◌^◌, ◌<◌, ◌≤◌, ◌==◌, [], IfOk, IfSome, IfNone, OnOk, length, if◌then◌else◌};
 ghost use Rattle.number_sets.specs.Thresholds.{threshold_at, IsNextReached, NoneReachedFrom};
 
 use std::alloc::{AllocError, Global};
 use std::marker::Model;
 
-/// What no total reaches.
+/// A threshold that no total reaches: the number has none.
 pub const NEVER: u32 = u32::MAX;
 
-/// How many numbers have one minimum.
+/// How many numbers share one minimum.
 const BLOCK: usize = 256;
 
-/// Thresholds of the numbers below 65,536. Its contracts see the list of them.
+/// A threshold for each number below 65,536. Contracts see it as the list of thresholds.
 #[derive(Drop)]
 pub struct Thresholds {
     each: Vec<u32>,
-    /// The least threshold of each block.
+    /// A lower bound of the thresholds of each block.
     minima: Vec<u32>,
-    /// The least of them all.
+    /// A lower bound of all thresholds.
     least: u32,
 }
 
@@ -33,7 +34,7 @@ impl Model for Thresholds {
 }
 
 impl Thresholds {
-    /// No number. It takes no memory.
+    /// Returns an empty list of thresholds. Allocates nothing.
     pub fn new(alloc: Global) -> Thresholds
         ensures { result ≡ [] }
     {
@@ -44,7 +45,8 @@ impl Thresholds {
         }
     }
 
-    /// Makes room for a number, where there is room for all below it. Nothing reaches the new one.
+    /// Allocates the threshold of number k, if it is missing, as `NEVER`. There must be room for
+    /// every number below k. If an allocation fails, no threshold has changed.
     pub fn make_room(&mut self, k: usize) -> Result<(), AllocError>
         requires below { k ≤ length self.old }
         requires small { k < 65536 }
@@ -61,7 +63,8 @@ impl Thresholds {
         Ok(())
     }
 
-    /// Gives a number another threshold. Where it is the same one, it takes constant time.
+    /// Sets the threshold of k, for which there must be room. Allocates nothing. Constant time if
+    /// the threshold stays the same; otherwise it scans at most one block and the minima.
     pub fn write(&mut self, k: usize, threshold: u32)
         requires { k < length self.old }
         ensures len { length self.new ≡ length self.old }
@@ -82,8 +85,9 @@ impl Thresholds {
         self.least = bound_after(self.least, bound, block, &self.minima, 0, self.minima.len());
     }
 
-    /// The least number from one on whose threshold a total reaches. It takes constant time where
-    /// the total reaches none at all, and looks into no block of which it reaches none.
+    /// Returns the least number at or above `from` whose threshold is at most `total`.
+    /// Constant time if the total reaches no threshold at all; otherwise it skips each block
+    /// of which it reaches none.
     pub fn next(&self, from: usize, total: u32) -> Option<usize>
         requires { total < 2 ^ 32 - 1 }
         ensures some { IfSome result (λ k. IsNextReached self.now total from k) }
@@ -104,7 +108,7 @@ impl Thresholds {
         None
     }
 
-    /// The same thresholds.
+    /// Copies the thresholds. Fails only if an allocation fails.
     pub fn copy(&self, alloc: Global) -> Result<Thresholds, AllocError>
         ensures { IfOk result (λ thresholds. thresholds ≡ self.now) }
     {
@@ -116,8 +120,8 @@ impl Thresholds {
     }
 }
 
-// A bound of the thresholds from one number on and below another, of which one has changed. It
-// looks at all of them only where that one may have been the least.
+// Returns a lower bound of the thresholds from `from` to `end`, after that of k changed from `old`.
+// Scans them only if the old threshold may have been the minimum.
 fn bound_after(bound: u32, old: u32, k: usize, each: &[u32], from: usize, end: usize) -> u32
     requires there { k < length each.now }
     requires order { from ≤ end }
@@ -135,7 +139,7 @@ fn bound_after(bound: u32, old: u32, k: usize, each: &[u32], from: usize, end: u
     minimum(&each[from..end])
 }
 
-// The least of some thresholds.
+// Returns the least of some thresholds, or `NEVER` if there are none.
 fn minimum(thresholds: &[u32]) -> u32
     ensures { (i : ℕ) → result ≤ threshold_at thresholds.now i }
 {
@@ -148,7 +152,7 @@ fn minimum(thresholds: &[u32]) -> u32
     least
 }
 
-// The least number from one on and below another whose threshold a total reaches.
+// Returns the least number from `from` to `end` whose threshold is at most `total`.
 fn next_between(thresholds: &[u32], from: usize, end: usize, total: u32) -> Option<usize>
     requires { end ≤ length thresholds.now }
     ensures some { IfSome result (λ k. IsNextReached thresholds.now total from k) }

@@ -1,4 +1,4 @@
--- Numbers that were put behind bytes are read there.
+-- What `put_number` appends is read back as the same number, whatever follows it.
 use Rattle.std.proofs.Common.{◌≡◌, ℕ, ◌<◌, ◌≤◌, ◌^◌, refl, sym, ◌∙◌, ap, List, [], ◌∷◌, ◌++◌, length, append_assoc, length-append, drop, arith, false}
 use Rattle.std.specs.Prelude.{◌==◌, nat_lt}
 use Rattle.std.proofs.Math.Seq.{drop-append_seam}

@@ -1,33 +1,33 @@
--- Whole numbers in bytes, the smaller in fewer: one below 253 is a byte, and behind a byte 253, 254 or
--- 255 stand two, four or eight, the lowest first.
+-- The encoding of unsigned integers below 2^64, small numbers in few bytes. A number below 253 is
+-- one byte. Otherwise a first byte of 253, 254 or 255 is followed by 2, 4 or 8 little-endian bytes.
 use Rattle.std.specs.Prelude.{ℕ, zero, suc, ℤ, ◌%◌, ◌^◌, ◌==◌, nat_lt, List, [], ◌∷◌, length, drop, if◌then◌else◌}
 use Rattle.std.specs.Int.{w32, w64, cast_signed}
 use Rattle.byteorder.specs.Endian.{little_number}
 
--- how many bytes stand behind the first
+-- How many bytes follow the first byte of a number.
 abbrev pub width_of : ℕ → ℕ
 width_of b = if b == 253 then 2 else (if b == 254 then 4 else (if b == 255 then 8 else 0))
 
--- the number of so many bytes, where there are so many
+-- The little-endian number in the first n bytes, or 0 if there are fewer.
 abbrev pub wide_number : ℕ → List ℕ → ℕ
 wide_number n bytes = if nat_lt (length bytes) n then 0 else little_number n bytes
 
--- the number that stands first
+-- The number at the start of the bytes, or 0 if there are none.
 unfoldable pub number_of : List ℕ → ℕ
 number_of [] = 0
 number_of (b ∷ bytes) = if width_of b == 0 then b else wide_number (width_of b) bytes
 
--- the bytes behind it
+-- The bytes after that number.
 unfoldable pub after : List ℕ → List ℕ
 after [] = []
 after (b ∷ bytes) = drop (width_of b) bytes
 
--- the bytes behind so many numbers
+-- The bytes after the first n numbers.
 abbrev pub behind : ℕ → List ℕ → List ℕ
 behind zero bytes = bytes
 behind (suc n) bytes = behind n (after bytes)
 
--- ---- the number that stands first, as one of a type
+-- ---- The number at the start of the bytes, truncated to a type: u8, u16, u32, i32, i64
 
 abbrev pub byte_of : List ℕ → ℕ
 byte_of bytes = number_of bytes % 2 ^ 8

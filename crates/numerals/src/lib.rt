@@ -1,4 +1,4 @@
-//! Whole numbers in bytes, the smaller in fewer.
+//! A compact encoding of unsigned integers, in 1, 3, 5 or 9 bytes. Undo records are stored in it.
 #![tactic(auto)]
 
 ghost use Rattle.std.specs.Prelude.{◌≡◌, ◌<◌, ◌∷◌, ◌++◌, [], drop, OnOk};
@@ -10,14 +10,20 @@ use byteorder::{ByteOrder, LittleEndian};
 use std::alloc::AllocError;
 use std::marker::Model;
 
-/// The first bytes of numbers of two, four and eight bytes.
+/// The first byte of a number that the 2 bytes after it hold. A smaller first
+/// byte is the number itself.
 const TWO: u8 = 253;
 
+/// The first byte of a number that the 4 bytes after it hold.
 const FOUR: u8 = 254;
 
+/// The first byte of a number that the 8 bytes after it hold.
 const EIGHT: u8 = 255;
 
-/// Bytes that are left to read.
+/// A cursor over encoded numbers. Contracts see it as the bytes that are left.
+///
+/// Each read consumes one number. At the end, or where bytes are missing, it reads 0. A read of a
+/// narrower type truncates the number, as a cast with `as` does.
 #[derive(Drop)]
 pub struct Numerals<'a> {
     bytes: &'a [u8],
@@ -32,20 +38,21 @@ impl<'a> Model for Numerals<'a> {
 }
 
 impl<'a> Numerals<'a> {
+    /// Returns a cursor at the start of the bytes.
     pub fn of(bytes: &'a [u8]) -> Numerals<'a>
         ensures { result ≡ bytes.now }
     {
         Numerals { bytes }
     }
 
-    /// The next number, or 0 where none is left. It stays the next.
+    /// Returns the next number without consuming it.
     pub fn first(&self) -> u64
         ensures { result ≡ number_of self.now }
     {
         first_number(self.bytes).0
     }
 
-    /// The next number, or 0 where none is left.
+    /// Reads the next number.
     pub fn number(&mut self) -> u64
         ensures value { result ≡ number_of self.old }
         ensures left { self.new ≡ after self.old }
@@ -55,6 +62,7 @@ impl<'a> Numerals<'a> {
         number
     }
 
+    /// Reads the next number as a `u8`.
     pub fn byte(&mut self) -> u8
         ensures value { result ≡ byte_of self.old }
         ensures left { self.new ≡ after self.old }
@@ -62,6 +70,7 @@ impl<'a> Numerals<'a> {
         (self.number() % 256) as u8
     }
 
+    /// Reads the next number as a `u16`.
     pub fn half(&mut self) -> u16
         ensures value { result ≡ half_of self.old }
         ensures left { self.new ≡ after self.old }
@@ -69,6 +78,7 @@ impl<'a> Numerals<'a> {
         (self.number() % 65_536) as u16
     }
 
+    /// Reads the next number as a `u32`.
     pub fn word(&mut self) -> u32
         ensures value { result ≡ word_of self.old }
         ensures left { self.new ≡ after self.old }
@@ -76,6 +86,7 @@ impl<'a> Numerals<'a> {
         (self.number() % 4_294_967_296) as u32
     }
 
+    /// Reads the next number as a `u32`, and returns its bits as an `i32`.
     pub fn signed(&mut self) -> i32
         ensures value { result ≡ signed_of self.old }
         ensures left { self.new ≡ after self.old }
@@ -83,6 +94,7 @@ impl<'a> Numerals<'a> {
         self.word().cast_signed()
     }
 
+    /// Reads the next number, and returns its bits as an `i64`.
     pub fn long(&mut self) -> i64
         ensures value { result ≡ long_of self.old }
         ensures left { self.new ≡ after self.old }
@@ -90,7 +102,7 @@ impl<'a> Numerals<'a> {
         self.number().cast_signed()
     }
 
-    /// Goes past so many numbers, which are not read.
+    /// Skips the given number of encoded numbers.
     pub fn skip(&mut self, count: u64)
         ensures { self.new ≡ behind count self.old }
     {
@@ -98,6 +110,7 @@ impl<'a> Numerals<'a> {
     }
 }
 
+// Returns the number at the start of the bytes and the bytes after it.
 #[tactic(auto, unfolding(crate::specs::Numerals::number_of, crate::specs::Numerals::after))]
 fn first_number(bytes: &[u8]) -> (u64, &[u8])
     ensures value { result.0 ≡ number_of bytes.now }
@@ -114,6 +127,7 @@ fn first_number(bytes: &[u8]) -> (u64, &[u8])
     }
 }
 
+// Returns the bytes after the number at their start.
 #[tactic(auto, unfolding(crate::specs::Numerals::after))]
 fn past_number(bytes: &[u8]) -> &[u8]
     ensures { result.now ≡ after bytes.now }
@@ -171,13 +185,14 @@ fn eight_of(bytes: &[u8]) -> u64
     }
 }
 
+// Returns the bytes after the first n, or none if there are fewer.
 fn past(bytes: &[u8], n: usize) -> &[u8]
     ensures { result.now ≡ drop n bytes.now }
 {
     if bytes.len() < n { &[] } else { &bytes[n..] }
 }
 
-/// Puts a number behind bytes.
+/// Appends a number. Fails only if an allocation fails.
 pub fn put_number(out: &mut Vec<u8>, number: u64) -> Result<(), AllocError>
     ensures { OnOk result (Puts number_of after out.old.items (number ∷ []) out.new.items) }
 {
@@ -189,7 +204,8 @@ pub fn put_number(out: &mut Vec<u8>, number: u64) -> Result<(), AllocError>
     }
 }
 
-/// Puts a number behind bytes in two, four or eight. Apart, so that the test for one is inlined.
+/// Appends a number of 253 or more. A function of its own, so that the test
+/// for one byte is inlined.
 #[inline(never)]
 fn put_wide(out: &mut Vec<u8>, number: u64) -> Result<(), AllocError>
     ensures { OnOk result (Puts number_of after out.old.items (number ∷ []) out.new.items) }
@@ -230,7 +246,7 @@ fn put_eight(out: &mut Vec<u8>, number: u64) -> Result<(), AllocError>
     out.extend_from_slice(&bytes)
 }
 
-/// Puts numbers behind bytes.
+/// Appends numbers. If an allocation fails, some of them may have been appended.
 pub fn put_numbers(out: &mut Vec<u8>, numbers: &[u64]) -> Result<(), AllocError>
     ensures { OnOk result (Puts number_of after out.old.items numbers.now out.new.items) }
 {

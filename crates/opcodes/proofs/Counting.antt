@@ -1,4 +1,4 @@
--- How many bytes went into pipes over the whole run.
+-- Bounds on how many bytes have been written to a pipe over the whole run.
 use Rattle.std.proofs.Common.{◌≡◌, ℕ, ℤ, pos, negsuc, zero, suc, Bool, true, false, cond, refl, sym, ◌∙◌, ap, subst, List, [], ◌∷◌, length, drop, length-take, ◌+◌, ◌≤◌, arith}
 use Rattle.std.specs.Prelude.{Option, Some, None, slice_get}
 use Rattle.std.specs.Option.{option_and_then}
@@ -23,7 +23,7 @@ use Rattle.opcodes.specs.Outcomes.{outcome_of, held_descriptor, is_at_position, 
 use Rattle.opcodes.specs.Effects.{moved_on, bytes_read, bytes_written, done_by, world_after}
 use Rattle.opcodes.proofs.Transferring.{row_written}
 
--- what a change of an object makes of what went into pipes
+-- The bound for a list of objects.
 abbrev PutsIn : ℕ → List Body → Type 0
 PutsIn n os = (j : ℕ) (p : PipeState) → option_and_then pipe_in (slice_get os j) ≡ Some p → p.put ≤ n
 
@@ -89,7 +89,7 @@ puts_put entry o k n w l h =
     let size = length-take k (drop entry.addr w.memory) in
     puts_changed (on_pipe (put_in (part w.memory entry.addr k))) n (n + 65536) (omega arith) (put_grows n 65536 (part w.memory entry.addr k) (omega (arith, size, l))) w.objects o h
 
--- a request puts no more bytes into a pipe than memory has
+-- A request writes at most 65,536 bytes to a pipe.
 pub puts_after : (held : ℕ → Bool) (w : WorldState) (row : Row) (res : ℤ) (c : Choice) (n : ℕ) → outcome_of held w row c ≡ Res res → PutsWithin n w → PutsWithin (n + 65536) (world_after row res w)
 puts_after held w row (negsuc k) c n h puts = puts_more n (n + 65536) w (omega arith) puts
 puts_after held w row (pos k) c n h puts = holding row.held refl

@@ -1,4 +1,4 @@
--- A position for whose note there is room moves.
+-- Setting a file position can't fail if there is room for its note.
 use Rattle.std.proofs.Common.{◌≡◌, ℕ, ◌-◌, ◌<◌, arith}
 use Rattle.std.specs.Prelude.{Some, Result, Ok, Err, IsOk, OnErr}
 use Rattle.std.proofs.lemmas.Option.{slice_get_within}
@@ -6,11 +6,11 @@ use Rattle.model_files.specs.declared.descriptor.DescriptorState.{DescriptorStat
 use Rattle.model_files.specs.Worlds.{WorldState, WorldFormed, descriptor_of}
 use Rattle.model_files.proofs.Describing.{number_from_three}
 
--- the greatest number of a descriptor is 66
+-- Descriptor numbers are at most 66.
 pub number_below : (w : WorldState) (fd : ℕ) (d : DescriptorState) → WorldFormed w → descriptor_of w fd ≡ Some d → fd < 67
 number_below w fd d f h = let n = number_from_three w fd d h in let l = slice_get_within w.descriptors (fd - 3) d n.1 in let few = f.few in let low = n.0 in omega (arith, l, few, low)
 
--- what can't fail needs nothing said of its failing
+-- If a result is not an error, any claim about its error holds.
 pub moves : {A E : Type 0} (r : Result A E) (P : Type 0) → IsOk r → OnErr r P
 moves (Ok x) P h = tt
 moves (Err e) P h = absurd cc

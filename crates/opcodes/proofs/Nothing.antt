@@ -1,4 +1,4 @@
--- A transfer of no bytes changes nothing.
+-- A transfer of 0 bytes changes nothing.
 use Rattle.std.proofs.Common.{◌≡◌, ℕ, zero, suc, ◌+◌, ◌-◌, Bool, true, false, cond, List, [], ◌∷◌, Option, Some, None, refl, sym, ap, ◌∙◌, take, drop, add-zero}
 use Rattle.std.specs.Prelude.{nat_lt, slice_get}
 use Rattle.entries.specs.declared.entry.Sqe.{Sqe}
@@ -36,7 +36,7 @@ written_nothing o at addr w f =
     keep (Pipe p) e = refl
     keep (EventFd n) e = refl
 
--- no bytes of a pipe
+-- A READ of 0 bytes from a pipe.
 pub taken_nothing : (o addr : ℕ) (w : WorldState) → world_taken o 0 addr w ≡ w
 taken_nothing o addr w =
     ap (λ m. record w { memory = m; objects = updated (on_pipe (taken_out 0)) w.objects o }) (ap (overwritten w.memory addr) (none (pipe_of w o)) ∙ overwritten_none w.memory addr)
@@ -81,7 +81,7 @@ moved_nothing entry fd d w there = by d.position refl
         at true = ap (λ ds. record w { descriptors = ds }) (updated_same (λ x. record x { position = Some (p + 0) }) w.descriptors (fd - 3) (stays p e))
         at false = refl
 
--- no bytes of a file
+-- A READ of 0 bytes from a file.
 pub bytes_read_nothing : (entry : Sqe) (fd : ℕ) (d : DescriptorState) (w : WorldState) → descriptor_of w fd ≡ Some d → bytes_read entry fd d 0 w ≡ w
 bytes_read_nothing entry fd d w there =
     ap (moved_on entry fd d.position 0) (read_nothing d.object (offset_of entry (position_of (Some d))) entry.addr w) ∙ moved_nothing entry fd d w there

@@ -1,4 +1,4 @@
--- What the end of a request leaves as it was.
+-- Completing a request preserves the invariant of the world.
 use Rattle.std.proofs.Common.{◌≡◌, ℕ, ℤ, pos, negsuc, zero, suc, Bool, true, false, cond, refl, sym, subst, ◌∙◌, ap, ◌+◌, ◌≤◌, arith}
 use Rattle.std.specs.Prelude.{Option, Some, None, IsSomeAnd, ◌^◌}
 use Rattle.std.specs.Option.{option_and_then}
@@ -22,7 +22,7 @@ use Rattle.opcodes.proofs.Nothing.{bytes_read_nothing, bytes_written_nothing}
 use Rattle.opcodes.specs.Effects.{moved_on, bytes_read, bytes_written, done_by, world_after}
 use Rattle.opcodes.proofs.Transferring.{Moves, row_read, row_written, setup_moved, gives_out, takes_in, counts_to}
 
--- The world that follows is well formed, and one of the setup.
+-- The next world satisfies the invariant, and has the same fixed properties.
 pub record Stays (w v : WorldState) : Type 0 where
   pub formed : WorldFormed v
   pub setup : OneSetup w v
@@ -30,7 +30,7 @@ pub record Stays (w v : WorldState) : Type 0 where
 stays_self : (w : WorldState) → WorldFormed w → Stays w w
 stays_self w f = record { formed = f; setup = setup_self w }
 
--- where a transfer began at the position, that moves on
+-- Advancing the file position preserves both.
 stays_moved : (entry : Sqe) (fd : ℕ) (d : DescriptorState) (k : ℕ) (w : WorldState) → WorldFormed w → descriptor_of w fd ≡ Some d → offset_of entry (position_of (Some d)) + k ≤ 65536 → Stays w (moved_on entry fd d.position k w)
 stays_moved entry fd d k w f there l = by d.position refl
   where
@@ -72,7 +72,7 @@ stays_taken entry o k w f l g = record { formed = world_taken_formed o k entry.a
 stays_put : (entry : Sqe) (o k : ℕ) (w : WorldState) → WorldFormed w → IsSomeAnd (pipe_of w o) (TakesIn k) → Stays w (world_put o k entry.addr w)
 stays_put entry o k w f g = record { formed = world_put_formed o k entry.addr w f g; setup = setup_put o k entry.addr w }
 
--- whatever a request came to
+-- Completing a request preserves both, whatever its result.
 pub stays_after : (held : ℕ → Bool) (w : WorldState) (row : Row) (res : ℤ) (c : Choice) → WorldFormed w → PutsWithin (2 ^ 63) w → outcome_of held w row c ≡ Res res → Stays w (world_after row res w)
 stays_after held w row (negsuc n) c f puts h = stays_self w f
 stays_after held w row (pos k) c f puts h = holding row.held refl

@@ -1,4 +1,4 @@
--- What a transfer that ends well keeps to.
+-- Bounds that a successful transfer satisfies.
 use Rattle.std.proofs.Common.{◌≡◌, ℕ, ℤ, pos, negsuc, zero, suc, Bool, true, false, cond, refl, sym, ◌∙◌, ap, subst, ◌+◌, ◌-◌, ◌<◌, ◌≤◌, ◌^◌, arith}
 use Rattle.std.specs.Prelude.{Option, Some, None, IsSome, IsSomeAnd, is_some, option_map, slice_get, length, Result, Ok, Err, OnOk, OnErr, nat_lt, nat_le, ◌==◌, ◌&&◌, not, min}
 use Rattle.std.specs.Option.{option_and_then}
@@ -25,7 +25,7 @@ use Rattle.opcodes.specs.Check.{op_of}
 use Rattle.opcodes.specs.Outcomes.{fixed, transferred, passes_memory, is_bad_offset, offset_of, file_read, file_written, pipe_read, pipe_written, waits_for_room, event_read, event_written, read_outcome, write_outcome, outcome_on, outcome_of, held_descriptor, position_of, reader_behind, writer_behind}
 use Rattle.opcodes.specs.Effects.{moved_on, bytes_written}
 
--- a world that changed, or stayed for want of memory
+-- The fixed properties are the same, whether the transfer succeeds or an allocation fails.
 pub setup_either : {T E : Type 0} (a b d : WorldState) (r : Result T E) → OnOk r (b ≡ d) → OnErr r (b ≡ a) → OneSetup a d → OneSetup a b
 setup_either a b d (Ok x) h k s = subst (OneSetup a) (sym h) s
 setup_either a b d (Err e) h k s = subst (OneSetup a) (sym k) (setup_self a)
@@ -53,12 +53,12 @@ transferred_most m k (Short n) h = by (nat_lt 0 n) (nat_lt n m) refl h
     by false b e g = absurd cc
 transferred_most m k Eio h = absurd cc
 
--- what a transfer of a file that moved k bytes keeps to
+-- The bounds of a file transfer of k bytes.
 pub record Moves (entry : Sqe) (position k : ℕ) : Type 0 where
   pub memory : entry.addr + k ≤ 65536
   pub file : 0 < k → offset_of entry position + k ≤ 65536
 
--- what a READ keeps to, and a WRITE, by how much the object held
+-- The bounds of a READ, and of a WRITE, for each kind of object.
 abbrev pub ReadKeeps : Sqe → ℕ → ℕ → Stock → Type 0
 ReadKeeps entry p k (File len) = Moves entry p k
 ReadKeeps entry p k (Pipe filled capacity) = (k ≤ filled) × (entry.addr + k ≤ 65536)
@@ -143,7 +143,7 @@ write_keeps entry p number k reader stock c h = by (passes_memory entry) refl h
     by true e g = absurd (fixed_bad 13 k c g)
     by false e g = at (grind (arith, nat_tests)) stock g
 
--- what holds of how much an object of a well formed world holds
+-- The bounds on how much an object holds.
 pub stock_fits : (w : WorldState) → WorldFormed w → (o : ℕ) (s : Stock) → stock_of w o ≡ Some s → StockFits s
 stock_fits w f o s h = by (slice_get w.objects o) refl h
   where
@@ -189,7 +189,7 @@ counts_to w o n number h l = by (slice_get w.objects o) h
     by (Some (PipeBody p)) g = absurd cc
     by (Some (EventBody m)) g = let same : m ≡ n = cc in subst (λ z. z + number < 2 ^ 64 - 1) (sym same) l
 
--- a row's own
+-- The outcome of a request, for its opcode and descriptor.
 told : (held : ℕ → Bool) (w : WorldState) (row : Row) (d : DescriptorState) (op : Op) (c : Choice) (res : ℤ) (k : ℕ) → op_of row.entry.opcode ≡ Some op → held_descriptor w row ≡ Some d → pos k ≡ res → outcome_of held w row c ≡ Res res → outcome_on held w row.entry (Some op) (Some d) c ≡ Res (pos k)
 told held w row d op c res k o h e g = sym (ap (λ x. outcome_on held w row.entry x (held_descriptor w row) c) o ∙ ap (λ x. outcome_on held w row.entry (Some op) x c) h) ∙ g ∙ ap Res (sym e)
 
@@ -203,7 +203,7 @@ row_written held w row d s c res k o h i e g =
     write_keeps row.entry (position_of (Some d)) (number_at w row.entry.addr) k (reader_behind held w (Some d)) s c
     (sym (ap (λ x. cond (passes_memory row.entry) (fixed (negsuc 13) c) (write_outcome row.entry (position_of (Some d)) (reader_behind held w (Some d)) (number_at w row.entry.addr) x c)) i) ∙ told held w row d Write c res k o h e g)
 
--- bytes that were written, and the position behind them
+-- Writing the bytes and then advancing the position is `bytes_written`.
 pub written_then : (entry : Sqe) (fd : ℕ) (d : DescriptorState) (k : ℕ) (w v x : WorldState) → v ≡ world_written d.object (offset_of entry (position_of (Some d))) k entry.addr w → x ≡ moved_on entry fd d.position k v → x ≡ bytes_written entry fd d k w
 written_then entry fd d k w v x h e = e ∙ ap (moved_on entry fd d.position k) h
 
@@ -215,7 +215,7 @@ pub some_bytes : (k : ℕ) → (k ≡ 0 → ⊥) → 0 < k
 some_bytes zero h = absurd (h refl)
 some_bytes (suc k) h = omega arith
 
--- a file that is there is well formed
+-- A present file satisfies its invariant.
 pub file_there : (w : WorldState) → WorldFormed w → (o : ℕ) → IsSome (file_of w o) → IsSomeAnd (file_of w o) FileFormed
 file_there w f o h = by (file_of w o) refl h
   where
@@ -223,7 +223,7 @@ file_there w f o h = by (file_of w o) refl h
     by None e k = absurd cc
     by (Some g) e k = file_formed w f o g e
 
--- of worlds that a transfer leaves, or that stay for want of memory
+-- The fixed properties are the same after each kind of transfer, or if an allocation fails.
 pub taken_setup : {T E : Type 0} (entry : Sqe) (o k : ℕ) (w b : WorldState) (r : Result T E) → WorldFormed w → entry.addr + k ≤ 65536 → IsSomeAnd (pipe_of w o) (GivesOut k) → OnOk r (b ≡ world_taken o k entry.addr w) → OnErr r (b ≡ w) → OneSetup w b
 taken_setup entry o k w b r f l g h e = setup_either w b (world_taken o k entry.addr w) r h e (setup_taken o k entry.addr w f l g)
 

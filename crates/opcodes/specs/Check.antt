@@ -1,5 +1,5 @@
--- What an entry is tested for as it is submitted (io_uring_enter(2)). The tests run in this order:
--- its flags, its opcode, the row of the opcode; the first that fails gives the error.
+-- The checks of an entry at submission (io_uring_enter(2)): first its flags, then its opcode, then
+-- what the opcode requires. The first check that fails determines the error.
 use Rattle.std.specs.Prelude.{ℕ, ℤ, negsuc, ◌+◌, ◌*◌, ◌^◌, ◌==◌, Bool, false, not, ◌&&◌, nat_lt, nat_le, Option, Some, None, is_ok, is_some, Result, Ok, Err, if◌then◌else◌, bit_and}
 use Rattle.entries.specs.declared.entry.Sqe.{Sqe}
 use Rattle.model_files.specs.Worlds.{WorldState, number_at}
@@ -7,20 +7,20 @@ use Rattle.opcodes.specs.declared.op.Op.{Op}
 use Rattle.opcodes.specs.declared.op.Op.TheVariants.{Nop, Fsync, PollAdd, PollRemove, Timeout, TimeoutRemove, AsyncCancel, LinkTimeout, Read, Write}
 use Rattle.opcodes.specs.Opcodes.{is_timer}
 
--- the invalid argument of errno(3), negated
+-- -EINVAL (errno(3)).
 abbrev pub invalid : Result Op ℤ
 invalid = Err (negsuc 21)
 
--- the bad address of errno(3), negated
+-- -EFAULT (errno(3)).
 abbrev pub bad_address : Result Op ℤ
 bad_address = Err (negsuc 13)
 
--- every entry flag but IOSQE_IO_DRAIN, which is 2, IOSQE_IO_LINK, 4, IOSQE_IO_HARDLINK, 8, and
--- IOSQE_ASYNC, 16
+-- All entry flags except IOSQE_IO_DRAIN (2), IOSQE_IO_LINK (4), IOSQE_IO_HARDLINK (8) and
+-- IOSQE_ASYNC (16).
 abbrev pub refused_flags : ℕ
 refused_flags = 225
 
--- the opcodes that are supported
+-- The supported opcodes.
 abbrev pub op_of : ℕ → Option Op
 op_of opcode =
     if opcode == 0 then Some Nop else
@@ -35,18 +35,18 @@ op_of opcode =
     if opcode == 23 then Some Write else
     None
 
--- ---- times
+-- ---- Times
 
--- The time at an address, in nanoseconds: two signed numbers of eight bytes, the seconds and the
--- nanoseconds (timespec(3)). There is none where one of them is negative.
+-- The time at an address, in nanoseconds. It is stored as two signed 64-bit numbers, seconds and
+-- nanoseconds (timespec(3)). There is none if one of them is negative.
 abbrev pub time_at : WorldState → ℕ → Option ℕ
 time_at w addr =
     if nat_lt (number_at w addr) (2 ^ 63) && nat_lt (number_at w (addr + 8)) (2 ^ 63)
     then Some (number_at w addr * 1000000000 + number_at w (addr + 8))
     else None
 
--- Of the flags of a time, IORING_TIMEOUT_ABS, which is 1, is supported. All of its sixteen bytes
--- stand in memory.
+-- The checks of an entry with a time. The only supported flag is IORING_TIMEOUT_ABS (1). All 16
+-- bytes of the time have to be in memory.
 abbrev pub timed : WorldState → Sqe → Op → Result Op ℤ
 timed w entry op =
     if not (entry.len == 1) then invalid else
@@ -55,18 +55,17 @@ timed w entry op =
     if is_some (time_at w entry.addr) then Ok op else
     invalid
 
--- whether a LINK_TIMEOUT can stand behind an entry of an opcode: not behind another one, nor first
--- in a chain
+-- Whether a LINK_TIMEOUT can follow an entry with this opcode in its chain. It can neither follow
+-- another LINK_TIMEOUT nor be first.
 abbrev pub can_guard : Option ℕ → Bool
 can_guard None = false
 can_guard (Some opcode) = not (opcode == 15)
 
--- ---- the tests
+-- ---- The checks
 
--- What an entry of each opcode is tested for. IORING_FSYNC_DATASYNC, which is 1, changes nothing.
--- The length of a POLL_ADD or a POLL_REMOVE is for command flags, which aren't supported. Of the
--- flags of an ASYNC_CANCEL, IORING_ASYNC_CANCEL_ALL, which is 1, and IORING_ASYNC_CANCEL_FD, 2,
--- are.
+-- The checks of each opcode. IORING_FSYNC_DATASYNC (1) is allowed, and changes nothing. The length
+-- of a POLL_ADD or POLL_REMOVE has command flags, none of which is supported. The supported flags
+-- of an ASYNC_CANCEL are IORING_ASYNC_CANCEL_ALL (1) and IORING_ASYNC_CANCEL_FD (2).
 abbrev pub tested : WorldState → Option ℕ → Sqe → Op → Result Op ℤ
 tested w behind entry Nop = Ok Nop
 tested w behind entry Fsync = if nat_le entry.operation_flags 1 then Ok Fsync else invalid
@@ -83,17 +82,19 @@ tested w behind entry LinkTimeout =
 tested w behind entry Read = if entry.operation_flags == 0 then Ok Read else invalid
 tested w behind entry Write = if entry.operation_flags == 0 then Ok Write else invalid
 
--- an entry of an opcode, behind an entry of another in its chain
+-- The result of the checks after the flags. `behind` is the opcode of the previous entry in the
+-- chain.
 abbrev pub row_of : WorldState → Option ℕ → Sqe → Option Op → Result Op ℤ
 row_of w behind entry None = invalid
 row_of w behind entry (Some op) = tested w behind entry op
 
+-- The result of all checks: the opcode, or a negated error number.
 abbrev pub check_of : WorldState → Option ℕ → Sqe → Result Op ℤ
 check_of w behind entry =
     if bit_and entry.flags refused_flags == 0 then row_of w behind entry (op_of entry.opcode)
     else invalid
 
--- the time of a TIMEOUT or a LINK_TIMEOUT that passes its tests
+-- The time of a TIMEOUT or LINK_TIMEOUT that passes the checks.
 abbrev pub time_of : WorldState → Option ℕ → Sqe → Option ℕ
 time_of w behind entry =
     if is_timer entry.opcode && is_ok (check_of w behind entry) then time_at w entry.addr else None

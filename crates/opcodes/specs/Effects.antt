@@ -1,5 +1,5 @@
--- What the end of a request does to memory, objects and descriptors (read(2), write(2), fsync(2),
--- pipe(7), eventfd(2)).
+-- The effect of a completed request on memory, objects and descriptors (read(2), write(2),
+-- fsync(2), pipe(7), eventfd(2)).
 use Rattle.std.specs.Prelude.{ℕ, ℤ, pos, negsuc, ◌+◌, Option, Some, if◌then◌else◌}
 use Rattle.std.specs.Option.{option_map_or}
 use Rattle.entries.specs.declared.entry.Sqe.{Sqe}
@@ -13,12 +13,12 @@ use Rattle.opcodes.specs.declared.op.Op.TheVariants.{Fsync, Read, Write}
 use Rattle.opcodes.specs.Check.{op_of}
 use Rattle.opcodes.specs.Outcomes.{is_at_position, offset_of, position_of}
 
--- the position moves on behind the bytes of a transfer that began there
+-- The world after the file position advances by k bytes, if the transfer used it.
 abbrev pub moved_on : Sqe → ℕ → Option ℕ → ℕ → WorldState → WorldState
 moved_on entry fd position k w =
     option_map_or (λ n. if is_at_position entry then world_at fd (n + k) w else w) position w
 
--- k bytes come from a file, or go to it
+-- The world after k bytes are read from a file, or written to it.
 abbrev pub bytes_read : Sqe → ℕ → DescriptorState → ℕ → WorldState → WorldState
 bytes_read entry fd d k w =
     moved_on entry fd d.position k
@@ -29,7 +29,8 @@ bytes_written entry fd d k w =
     moved_on entry fd d.position k
     (world_written d.object (offset_of entry (position_of (Some d))) k entry.addr w)
 
--- what a good result did through a descriptor, by how much its object held
+-- The effect of a request that succeeded with result k. It depends on the opcode and on the object
+-- that its descriptor refers to.
 abbrev pub done_by : Sqe → Option Op → Option Stock → ℕ → DescriptorState → ℕ → WorldState
     → WorldState
 done_by entry (Some Fsync) (Some (File len)) fd d k w = world_synced d.object w
@@ -44,8 +45,8 @@ done_by entry (Some Write) (Some (EventFd counter)) fd d k w =
     world_added d.object (number_at w entry.addr) w
 done_by entry op stock fd d k w = w
 
--- The world once a request has ended with a result. A bad one changed nothing, and nor did one that
--- holds no descriptor.
+-- The world after a request has completed. A request that failed, or that holds no descriptor,
+-- changes nothing.
 abbrev pub world_after : Row → ℤ → WorldState → WorldState
 world_after row (negsuc n) w = w
 world_after row (pos k) w = option_map_or (λ fd. option_map_or (λ d. done_by row.entry (op_of row.entry.opcode) (stock_of w d.object) fd d k w) (descriptor_of w fd) w) row.held w

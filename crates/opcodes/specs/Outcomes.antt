@@ -1,5 +1,5 @@
--- What an issued request comes to as it ends, by what a kernel chooses (read(2), write(2),
--- fsync(2), pipe(7), eventfd(2), poll(2), io_uring_enter(2)).
+-- The result of an issued request, which depends on the state and on the kernel's choice (read(2),
+-- write(2), fsync(2), pipe(7), eventfd(2), poll(2), io_uring_enter(2)).
 use Rattle.std.specs.Prelude.{ℕ, ℤ, pos, negsuc, ◌+◌, ◌-◌, ◌^◌, ◌==◌, ◌&&◌, ◌||◌, not, nat_lt, nat_le, min, unwrap_or, Bool, true, false, Option, Some, None, if◌then◌else◌, bit_and, bit_or}
 use Rattle.std.specs.Option.{option_and_then}
 use Rattle.entries.specs.declared.entry.Sqe.{Sqe}
@@ -18,12 +18,12 @@ use Rattle.opcodes.specs.declared.ending.Outcome.TheVariants.{Res, Waits, BadCho
 use Rattle.opcodes.specs.Check.{op_of}
 use Rattle.opcodes.specs.Opcodes.{always_runs, runs_on_file}
 
--- ---- what a row holds
+-- ---- The descriptor of a request
 
 abbrev pub held_descriptor : WorldState → Row → Option DescriptorState
 held_descriptor w row = option_and_then (descriptor_of w) row.held
 
--- how much its object holds
+-- How much the descriptor's object holds.
 abbrev pub stock_behind : WorldState → Option DescriptorState → Option Stock
 stock_behind w None = None
 stock_behind w (Some d) = stock_of w d.object
@@ -32,8 +32,8 @@ abbrev pub position_of : Option DescriptorState → ℕ
 position_of None = 0
 position_of (Some d) = unwrap_or d.position 0
 
--- whether its pipe has a writer, or a reader, where `held` says which descriptors requests under
--- way hold
+-- Whether the descriptor's pipe has a writer, or a reader. `held` says which descriptors are held
+-- by requests in flight.
 abbrev pub writer_behind : (ℕ → Bool) → WorldState → Option DescriptorState → Bool
 writer_behind held w None = false
 writer_behind held w (Some d) = has_writer held w d.object
@@ -42,7 +42,7 @@ abbrev pub reader_behind : (ℕ → Bool) → WorldState → Option DescriptorSt
 reader_behind held w None = false
 reader_behind held w (Some d) = has_reader held w d.object
 
--- ---- how far an issued row is
+-- ---- Running requests
 
 abbrev pub is_file : Option Stock → Bool
 is_file None = false
@@ -50,57 +50,59 @@ is_file (Some (File len)) = true
 is_file (Some (Pipe filled capacity)) = false
 is_file (Some (EventFd counter)) = false
 
--- Whether an issued row is running, so that a cancel finds it but can't end it. A READ or a WRITE
--- of a pipe or an eventfd, a POLL_ADD and a TIMEOUT wait.
+-- Whether an issued request is running, so that a cancel finds it but can't stop it. A POLL_ADD, a
+-- TIMEOUT, and a READ or WRITE of a pipe or an eventfd wait instead.
 abbrev pub is_running : WorldState → Row → Bool
 is_running w row =
     always_runs row.entry.opcode
     || (runs_on_file row.entry.opcode && is_file (stock_behind w (held_descriptor w row)))
 
--- ---- results
+-- ---- Results
 
--- a result that only a full end has
+-- A result for which the kernel has no other choice.
 abbrev pub fixed : ℤ → Choice → Outcome
 fixed res Full = Res res
 fixed res (Short n) = BadChoice
 fixed res Eio = BadChoice
 
--- a transfer that can move k bytes: all of them, some but not all, or none, since the device fails
+-- The result of a transfer of at most k bytes: k, or fewer but at least 1, or -EIO if the device
+-- fails.
 abbrev pub transferred : ℕ → Choice → Outcome
 transferred k Full = Res (pos k)
 transferred k (Short n) = if nat_lt 0 n && nat_lt n k then Res (pos n) else BadChoice
 transferred k Eio = Res (negsuc 4)
 
--- the whole range of memory counts, before all else
+-- Whether the entry's buffer exceeds the memory. All `len` bytes count, even if fewer would be
+-- transferred, and this check comes first.
 abbrev pub passes_memory : Sqe → Bool
 passes_memory entry = nat_lt 65536 (entry.addr + entry.len)
 
--- an offset of 2 ^ 64 - 1 stands for the position
+-- An offset of 2 ^ 64 - 1, which is -1 as a signed number, means the file position.
 abbrev pub is_at_position : Sqe → Bool
 is_at_position entry = entry.off == 2 ^ 64 - 1
 
--- other offsets have to fit a signed number
+-- Any other offset is invalid if it is negative as a signed number.
 abbrev pub is_bad_offset : Sqe → Bool
 is_bad_offset entry = nat_le (2 ^ 63) entry.off && not (is_at_position entry)
 
--- where a transfer begins
+-- The offset at which a transfer begins.
 abbrev pub offset_of : Sqe → ℕ → ℕ
 offset_of entry position = if is_at_position entry then position else entry.off
 
--- ---- files
+-- ---- Files
 
 abbrev pub file_synced : Choice → Outcome
 file_synced Full = Res (pos 0)
 file_synced (Short n) = BadChoice
 file_synced Eio = Res (negsuc 4)
 
--- a READ moves what stands from the offset on, no more than it asks for
+-- A READ transfers at most `len` bytes, up to the end of the file.
 abbrev pub file_read : Sqe → ℕ → ℕ → Choice → Outcome
 file_read entry position len c =
     if is_bad_offset entry then fixed (negsuc 21) c
     else transferred (min entry.len (len - offset_of entry position)) c
 
--- a WRITE moves what there is room for from the offset on, no more than it asks for
+-- A WRITE transfers at most `len` bytes, up to the maximum size of a file.
 abbrev pub file_written : Sqe → ℕ → Choice → Outcome
 file_written entry position c =
     if is_bad_offset entry then fixed (negsuc 21) c
@@ -108,7 +110,7 @@ file_written entry position c =
     else if nat_le 65536 (offset_of entry position) then fixed (negsuc 26) c
     else transferred (min entry.len (65536 - offset_of entry position)) c
 
--- ---- pipes: a READ waits for a byte while there is a writer
+-- ---- Pipes: a READ of an empty pipe waits while the pipe has a writer
 
 abbrev pub pipe_read : ℕ → Bool → ℕ → Choice → Outcome
 pipe_read len writer filled c =
@@ -116,11 +118,11 @@ pipe_read len writer filled c =
     else if filled == 0 then (if writer then Waits else fixed (pos 0) c)
     else fixed (pos (min len filled)) c
 
--- as many bytes as 4,096 or the capacity, whichever is less, go in at once
+-- The largest write that is atomic: 4,096 bytes (PIPE_BUF), or the capacity if that is smaller.
 abbrev pub at_once : ℕ → ℕ
 at_once capacity = min 4096 capacity
 
--- a WRITE of no more than that waits for room for all its bytes, a longer one for room for any
+-- An atomic WRITE waits until all its bytes fit, a longer one until any byte fits.
 abbrev pub waits_for_room : ℕ → ℕ → ℕ → Bool
 waits_for_room len room capacity =
     if nat_le len (at_once capacity) then nat_lt room len else room == 0
@@ -132,7 +134,7 @@ pipe_written len reader filled capacity c =
     else if waits_for_room len (capacity - filled) capacity then Waits
     else fixed (pos (min len (capacity - filled))) c
 
--- ---- eventfds: a READ waits for a counter above 0, a WRITE until the sum is at most 2 ^ 64 - 2
+-- ---- Eventfds: a READ waits while the counter is 0, a WRITE while the sum exceeds 2 ^ 64 - 2
 
 abbrev pub event_read : ℕ → ℕ → Choice → Outcome
 event_read len counter c =
@@ -147,22 +149,25 @@ event_written len counter number c =
     else if nat_lt (2 ^ 64 - 2) (counter + number) then Waits
     else fixed (pos 8) c
 
--- ---- a line for each opcode
+-- ---- By opcode
 
+-- The outcome of an FSYNC: -EINVAL for a pipe or an eventfd.
 abbrev pub fsync_outcome : Option Stock → Choice → Outcome
 fsync_outcome None c = BadChoice
 fsync_outcome (Some (File len)) c = file_synced c
 fsync_outcome (Some (Pipe filled capacity)) c = fixed (negsuc 21) c
 fsync_outcome (Some (EventFd counter)) c = fixed (negsuc 21) c
 
--- what is asked for and ready; an error and a hang-up, which are 8 and 16, always count
+-- The requested events that are ready. POLLERR (8) and POLLHUP (16) are always reported.
 abbrev pub ready_of : Sqe → ℕ → ℕ
 ready_of entry mask = bit_and mask (bit_or entry.operation_flags 24)
 
+-- The outcome of a POLL_ADD. It waits until a requested event is ready.
 abbrev pub poll_outcome : Sqe → ℕ → Choice → Outcome
 poll_outcome entry mask c =
     if ready_of entry mask == 0 then Waits else fixed (pos (ready_of entry mask)) c
 
+-- The outcome of a READ, after the check of its buffer.
 abbrev pub read_outcome : Sqe → ℕ → Bool → Option Stock → Choice → Outcome
 read_outcome entry position writer None c = BadChoice
 read_outcome entry position writer (Some (File len)) c = file_read entry position len c
@@ -170,6 +175,8 @@ read_outcome entry position writer (Some (Pipe filled capacity)) c =
     pipe_read entry.len writer filled c
 read_outcome entry position writer (Some (EventFd counter)) c = event_read entry.len counter c
 
+-- The outcome of a WRITE, after the check of its buffer. `number` is the 64-bit number in the
+-- buffer.
 abbrev pub write_outcome : Sqe → ℕ → Bool → ℕ → Option Stock → Choice → Outcome
 write_outcome entry position reader number None c = BadChoice
 write_outcome entry position reader number (Some (File len)) c = file_written entry position c
@@ -178,8 +185,8 @@ write_outcome entry position reader number (Some (Pipe filled capacity)) c =
 write_outcome entry position reader number (Some (EventFd counter)) c =
     event_written entry.len counter number c
 
--- a line for each opcode but ASYNC_CANCEL, POLL_REMOVE and TIMEOUT_REMOVE: what these come to is
--- told by all rows, and nobody asks for it here
+-- Only these opcodes complete by a choice. The result of an ASYNC_CANCEL, POLL_REMOVE or
+-- TIMEOUT_REMOVE depends on the other requests, and is not defined here.
 abbrev pub outcome_on : (ℕ → Bool) → WorldState → Sqe → Option Op → Option DescriptorState → Choice
     → Outcome
 outcome_on held w entry (Some Nop) d c = fixed (pos 0) c
@@ -194,7 +201,7 @@ outcome_on held w entry (Some Write) d c =
     (stock_behind w d) c
 outcome_on held w entry op d c = BadChoice
 
--- what a request comes to, where `held` says which descriptors requests under way hold
+-- The result of a request. `held` says which descriptors are held by requests in flight.
 abbrev pub outcome_of : (ℕ → Bool) → WorldState → Row → Choice → Outcome
 outcome_of held w row c =
     outcome_on held w row.entry (op_of row.entry.opcode) (held_descriptor w row) c

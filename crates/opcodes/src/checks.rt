@@ -1,30 +1,29 @@
-//! The errors of submission.
+//! The checks of an entry at submission.
 ghost use Rattle.std.specs.Prelude.{◌≡◌, ◌+◌, ◌≤◌};
 ghost use Rattle.opcodes.specs.Check.{can_guard, check_of, tested, timed, time_at, time_of};
 
-use crate::errno::{EFAULT, EINVAL};
 use crate::op::{Op, is_timer};
-use entries::Sqe;
+use entries::{EFAULT, EINVAL, IOSQE_ASYNC, IOSQE_IO_DRAIN, IOSQE_IO_HARDLINK, IOSQE_IO_LINK, Sqe};
 use model_files::World;
 
-/// The entry flags that may stand: IOSQE_IO_DRAIN, IOSQE_IO_LINK, IOSQE_IO_HARDLINK, and
-/// IOSQE_ASYNC, which changes nothing.
-const ALLOWED_FLAGS: u8 = 30;
+/// The supported entry flags: IOSQE_IO_DRAIN, IOSQE_IO_LINK, IOSQE_IO_HARDLINK, and IOSQE_ASYNC,
+/// which has no effect in the model.
+const ALLOWED_FLAGS: u8 = IOSQE_IO_DRAIN | IOSQE_IO_LINK | IOSQE_IO_HARDLINK | IOSQE_ASYNC;
 
-/// The nanoseconds of a second.
+/// Nanoseconds in a second.
 const SECOND: u128 = 1_000_000_000;
 
-/// What an entry is tested with.
+/// What the checks need besides the entry.
 #[derive(Clone, Copy)]
 pub struct Context<'a> {
-    /// The opcode of the entry before it in its chain; none for the first of a chain.
+    /// The opcode of the previous entry in the chain; `None` for the first one.
     pub behind: Option<u8>,
-    /// The memory that a time is read from.
+    /// The memory that has the time of a timeout.
     pub world: &'a World,
 }
 
-/// Whether an entry can be submitted, and what it asks for. The error is the negated number that
-/// its completion has (io_uring_enter(2)).
+/// Checks an entry and returns its opcode. The error is the result of its completion, a negated
+/// error number (io_uring_enter(2)).
 pub fn check(entry: &Sqe, context: Context) -> Result<Op, i32>
     ensures { result ≡ check_of context.entry.world.now context.entry.behind entry.now }
 {
@@ -37,7 +36,8 @@ pub fn check(entry: &Sqe, context: Context) -> Result<Op, i32>
     }
 }
 
-/// The time of a TIMEOUT or a LINK_TIMEOUT that can be submitted, in nanoseconds.
+/// Returns the time of a TIMEOUT or LINK_TIMEOUT in nanoseconds; `None` for another opcode, or if a
+/// check fails.
 pub fn time_of(entry: &Sqe, context: Context) -> Option<u128>
     ensures { result ≡ time_of context.entry.world.now context.entry.behind entry.now }
 {
@@ -50,7 +50,7 @@ pub fn time_of(entry: &Sqe, context: Context) -> Option<u128>
     }
 }
 
-// The tests of each opcode.
+// Checks what the opcode requires.
 fn test(entry: &Sqe, context: Context, op: Op) -> Result<Op, i32>
     ensures { result ≡ tested context.entry.world.now context.entry.behind entry.now op }
 {
@@ -70,7 +70,7 @@ fn test(entry: &Sqe, context: Context, op: Op) -> Result<Op, i32>
     if passes { Ok(op) } else { Err(-EINVAL) }
 }
 
-// The tests of a TIMEOUT or a LINK_TIMEOUT.
+// Checks a TIMEOUT or LINK_TIMEOUT.
 fn test_time(entry: &Sqe, world: &World, op: Op) -> Result<Op, i32>
     ensures { result ≡ timed world.now entry.now op }
 {
@@ -86,7 +86,7 @@ fn test_time(entry: &Sqe, world: &World, op: Op) -> Result<Op, i32>
     }
 }
 
-// The time at an address, if neither of its numbers is negative.
+// Returns the time at an address in nanoseconds, unless one of its numbers is negative.
 fn time_at(world: &World, address: u32) -> Option<u128>
     requires within { address + 16 ≤ 65536 }
     ensures { result ≡ time_at world.now address }
@@ -98,8 +98,8 @@ fn time_at(world: &World, address: u32) -> Option<u128>
     Some(u128::from(seconds) * SECOND + u128::from(nanoseconds))
 }
 
-// Whether a LINK_TIMEOUT can stand behind an entry of an opcode: not behind another one, nor first
-// in a chain.
+// Returns whether a LINK_TIMEOUT can follow an entry with this opcode in its chain. It can neither
+// follow another LINK_TIMEOUT nor be first.
 fn can_guard(behind: Option<u8>) -> bool
     ensures { result ≡ can_guard behind }
 {

@@ -1,5 +1,5 @@
-//! What the end of a request does to memory, objects and descriptors (read(2), write(2), fsync(2),
-//! pipe(7), eventfd(2)).
+//! The effect of a completed request on memory, objects and descriptors (read(2), write(2),
+//! fsync(2), pipe(7), eventfd(2)).
 ghost use Rattle.std.specs.Prelude.{◌≡◌, ◌+◌, ◌-◌, ◌^◌, ◌<◌, ◌≤◌, ◌≤ℤ◌, ℕ, Bool, pos, OnOk, OnErr, IsOk, IsSome, IsSomeAnd, None, Some, unwrap_or};
 ghost use Rattle.model_files.specs.declared.descriptor.DescriptorState.{DescriptorState};
 ghost use Rattle.places.specs.View.{Keeps, named};
@@ -18,8 +18,8 @@ use model_files::{DescriptorState, Stock, World};
 use places::Recorder;
 use std::alloc::AllocError;
 
-/// Does what the end of a request with a result does. Want of memory for the notes leaves all as it
-/// was.
+/// Applies the effect of a request that completes with this result. If an allocation fails, the
+/// world is unchanged.
 pub fn carry_out(
     world: &mut World,
     row: &Row,
@@ -65,7 +65,7 @@ pub fn carry_out(
     }
 }
 
-// How many bytes a result tells that isn't bad.
+// Returns the number of transferred bytes in a result that is not an error.
 fn count_of(res: i32) -> u32
     requires { pos 0 ≤ℤ res }
     ensures { pos result ≡ res }
@@ -73,7 +73,7 @@ fn count_of(res: i32) -> u32
     res as u32
 }
 
-// An offset or an address within the most that a file or the memory has.
+// Converts an offset or an address that is at most 65,536.
 fn narrow(n: u64) -> u32
     requires { n ≤ 65536 }
     ensures { result ≡ n }
@@ -81,7 +81,7 @@ fn narrow(n: u64) -> u32
     n as u32
 }
 
-// So many bytes come from a file into memory.
+// Reads `count` bytes of a file into memory.
 fn read_bytes(
     world: &mut World,
     entry: &Sqe,
@@ -106,7 +106,7 @@ fn read_bytes(
     if count == 0 {
         return Ok(());
     }
-    // The position.
+    // One note: the file position.
     notes.room_for_numbers(1)?;
     let offset = offset_of(entry, position_of(Some(*descriptor)));
     world.read_at(
@@ -119,7 +119,7 @@ fn read_bytes(
     move_on(world, entry, fd, descriptor.position, count, notes)
 }
 
-// So many bytes go from memory to a file.
+// Writes `count` bytes of memory to a file.
 fn write_bytes(
     world: &mut World,
     entry: &Sqe,
@@ -145,7 +145,7 @@ fn write_bytes(
     if count == 0 {
         return Ok(());
     }
-    // The position, and the length of the file.
+    // Two notes: the file position and the length of the file.
     notes.room_for_numbers(2)?;
     let offset = offset_of(entry, position_of(Some(*descriptor)));
     world.write_at(
@@ -158,7 +158,7 @@ fn write_bytes(
     move_on(world, entry, fd, descriptor.position, count, notes)
 }
 
-// So many bytes come out of a pipe into memory.
+// Reads `count` bytes of a pipe into memory.
 fn take_bytes(
     world: &mut World,
     entry: &Sqe,
@@ -182,7 +182,7 @@ fn take_bytes(
     world.take_pipe(object, count, narrow(entry.addr), notes)
 }
 
-// So many bytes go from memory into a pipe.
+// Writes `count` bytes of memory to a pipe.
 fn put_bytes(
     world: &mut World,
     entry: &Sqe,
@@ -206,7 +206,7 @@ fn put_bytes(
     world.put_pipe(object, count, narrow(entry.addr), notes)
 }
 
-// The counter of an eventfd comes into memory, and is 0.
+// Reads the counter of an eventfd into memory and resets it to 0.
 fn clear(
     world: &mut World,
     entry: &Sqe,
@@ -226,7 +226,7 @@ fn clear(
     world.clear_event(object, narrow(entry.addr), notes)
 }
 
-// A number in memory is added to the counter of an eventfd.
+// Adds a number in memory to the counter of an eventfd.
 fn add(world: &mut World, entry: &Sqe, object: u32, notes: &mut Recorder) -> Result<(), AllocError>
     requires formed { WorldFormed world.old }
     requires in_memory { entry.now.addr + 8 ≤ 65536 }
@@ -243,7 +243,7 @@ fn add(world: &mut World, entry: &Sqe, object: u32, notes: &mut Recorder) -> Res
     world.add_event(object, number, notes)
 }
 
-// The position goes on behind the bytes of a transfer that began there.
+// Advances the file position by `count` bytes, if the transfer used it.
 fn move_on(
     world: &mut World,
     entry: &Sqe,

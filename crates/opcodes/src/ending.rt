@@ -1,12 +1,13 @@
-//! What a request can come to.
+//! Possible outcomes of a request.
 
-/// What a request comes to, by what a kernel chooses.
+/// The outcome of an issued request for one choice of the kernel.
 #[derive(Clone, Copy)]
 pub enum Outcome {
-    /// It ends with this result: a number of bytes, a number of its own, or a negated error number.
+    /// It completes with this result: a number of bytes, an opcode's own number, or a negated error
+    /// number.
     Res(i32),
-    /// Its object isn't ready, whatever is chosen.
+    /// It can't complete yet, whatever the choice, since its object isn't ready.
     Waits,
-    /// It can't end so.
+    /// The kernel can't make this choice for the request.
     BadChoice,
 }

@@ -1,10 +1,9 @@
-//! What each opcode asks for, and what it can come to.
+//! For each opcode: the checks at submission, the possible results, and the effect of completing.
 #![tactic(auto)]
 
 pub mod checks;
 pub mod effect;
 pub mod ending;
-pub mod errno;
 pub mod op;
 pub mod results;
 pub mod running;
@@ -14,9 +13,6 @@ pub use checks::{Context, check, time_of};
 pub use effect::carry_out;
 pub use ending::Outcome;
 pub use entries::Choice;
-pub use errno::{
-    EALREADY, EBADF, EBUSY, ECANCELED, EFAULT, EFBIG, EINVAL, EIO, ENOENT, EPIPE, ETIME,
-};
 pub use op::{Op, fits_end, is_cancel, is_timer, uses_descriptor};
 pub use results::outcome;
 pub use running::is_running;

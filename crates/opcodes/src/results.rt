@@ -1,4 +1,4 @@
-//! What a request comes to as it ends (read(2), write(2), fsync(2), poll(2)).
+//! The results of issued requests (read(2), write(2), fsync(2), poll(2)).
 ghost use Rattle.std.specs.Prelude.{◌≡◌, ◌+◌, ◌<◌, ◌≤◌, IfSome, false};
 ghost use Rattle.model_files.specs.Ends.{mask_behind};
 ghost use Rattle.model_files.specs.Holders.{is_held};
@@ -6,14 +6,13 @@ ghost use Rattle.model_files.specs.Worlds.{StockFits, number_at};
 ghost use Rattle.opcodes.specs.Outcomes.{outcome_of, held_descriptor, stock_behind, position_of, writer_behind, reader_behind, fixed, transferred, passes_memory, is_at_position, is_bad_offset, offset_of, file_synced, file_read, file_written, fsync_outcome, poll_outcome, read_outcome, write_outcome};
 
 use crate::ending::Outcome;
-use crate::errno::{EFAULT, EFBIG, EINVAL, EIO};
 use crate::op::Op;
 use crate::streams::{event_read, event_written, pipe_read, pipe_written};
-use entries::{Choice, Row, Sqe};
+use entries::{Choice, EFAULT, EFBIG, EINVAL, EIO, Row, Sqe};
 use model_files::{DescriptorState, Held, Stock, World};
 
-/// What an issued request comes to, by which descriptors requests under way hold. It takes no
-/// memory, and isn't asked about a cancel or a removal, which depends on the other requests.
+/// Returns the outcome of an issued request for a choice of the kernel. Allocates nothing. Not for
+/// cancels, removals and timeouts, for which it returns `BadChoice`.
 pub fn outcome(world: &World, held: &Held, row: &Row, choice: Choice) -> Outcome
     ensures { result ≡ outcome_of (is_held held.now) world.now row.now choice }
 {
@@ -38,7 +37,7 @@ pub fn outcome(world: &World, held: &Held, row: &Row, choice: Choice) -> Outcome
     }
 }
 
-/// The descriptor that a row holds.
+/// Returns the descriptor that a request holds.
 pub(crate) fn held_descriptor(world: &World, row: &Row) -> Option<DescriptorState>
     ensures { result ≡ held_descriptor world.now row.now }
 {
@@ -48,7 +47,7 @@ pub(crate) fn held_descriptor(world: &World, row: &Row) -> Option<DescriptorStat
     }
 }
 
-/// What the object of the descriptor is ready for that a row holds.
+/// Returns the poll(2) events for which the object of a request's descriptor is ready.
 fn mask_behind(world: &World, held: &Held, row: &Row) -> u32
     ensures mask { result ≡ mask_behind (is_held held.now) world.now
         (held_descriptor world.now row.now) }
@@ -60,7 +59,7 @@ fn mask_behind(world: &World, held: &Held, row: &Row) -> u32
     }
 }
 
-/// The position of a descriptor; 0 where there is none.
+/// Returns the file position of a descriptor, or 0 if it has none.
 pub(crate) fn position_of(descriptor: Option<DescriptorState>) -> u64
     ensures { result ≡ position_of descriptor }
 {
@@ -70,7 +69,7 @@ pub(crate) fn position_of(descriptor: Option<DescriptorState>) -> u64
     }
 }
 
-/// How much the object of a descriptor holds.
+/// Returns how much the descriptor's object holds.
 pub(crate) fn stock_behind(world: &World, descriptor: Option<DescriptorState>) -> Option<Stock>
     ensures value { result ≡ stock_behind world.now descriptor }
     ensures fits { IfSome result StockFits }
@@ -99,7 +98,7 @@ fn reader_behind(world: &World, held: &Held, descriptor: Option<DescriptorState>
     }
 }
 
-/// A result that only a full end has.
+/// Returns a result for which the kernel has no other choice than `Full`.
 pub(crate) fn fixed(res: i32, choice: Choice) -> Outcome
     ensures { result ≡ fixed res choice }
 {
@@ -121,7 +120,7 @@ fn transferred(count: u32, choice: Choice) -> Outcome
     }
 }
 
-/// Whether the range of memory that an entry names passes the last byte.
+/// Returns whether the entry's buffer exceeds the memory.
 fn passes_memory(entry: &Sqe) -> bool
     ensures value { result ≡ passes_memory entry.now }
     ensures within { result ≡ false → entry.now.addr + entry.now.len ≤ 65536 }
@@ -129,7 +128,7 @@ fn passes_memory(entry: &Sqe) -> bool
     u128::from(entry.addr) + u128::from(entry.len) > 65536
 }
 
-/// Whether a transfer begins at the position of its descriptor.
+/// Returns whether a transfer uses the file position.
 pub(crate) fn is_at_position(entry: &Sqe) -> bool
     ensures { result ≡ is_at_position entry.now }
 {
@@ -142,7 +141,7 @@ fn is_bad_offset(entry: &Sqe) -> bool
     entry.off >= 1 << 63 && !is_at_position(entry)
 }
 
-/// Where a transfer begins.
+/// Returns the offset at which a transfer begins.
 pub(crate) fn offset_of(entry: &Sqe, position: u64) -> u64
     ensures { result ≡ offset_of entry.now position }
 {
@@ -173,7 +172,7 @@ fn file_synced(choice: Choice) -> Outcome
     }
 }
 
-/// An error and a hang-up, which are 8 and 16, are told whether they are asked for or not.
+/// Returns the outcome of a POLL_ADD. POLLERR (8) and POLLHUP (16) are always reported.
 fn poll_outcome(entry: &Sqe, mask: u32, choice: Choice) -> Outcome
     requires { mask < 32 }
     ensures { result ≡ poll_outcome entry.now mask choice }

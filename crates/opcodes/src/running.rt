@@ -1,4 +1,4 @@
-//! Which issued requests run, and which wait (io_uring_enter(2)).
+//! Which issued requests are running, and which are waiting (io_uring_enter(2)).
 ghost use Rattle.std.specs.Prelude.{◌≡◌};
 ghost use Rattle.opcodes.specs.Opcodes.{always_runs, runs_on_file};
 ghost use Rattle.opcodes.specs.Outcomes.{is_file, is_running};
@@ -7,8 +7,8 @@ use crate::results::{held_descriptor, stock_behind};
 use entries::Row;
 use model_files::{Stock, World};
 
-/// Whether an issued row is running, so that a cancel finds it but can't end it. Other issued rows
-/// wait: for a pipe or an eventfd, for an event of a poll, or for the clock.
+/// Returns whether an issued request is running, so that a cancel finds it but can't stop it. Other
+/// issued requests wait: for a pipe or an eventfd, for a poll event, or for the clock.
 pub fn is_running(world: &World, row: &Row) -> bool
     ensures { result ≡ is_running world.now row.now }
 {

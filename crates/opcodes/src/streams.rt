@@ -1,18 +1,17 @@
-//! What transfers of pipes and eventfds come to (pipe(7), eventfd(2)).
+//! The results of reading and writing pipes and eventfds (pipe(7), eventfd(2)).
 ghost use Rattle.std.specs.Prelude.{◌≡◌, ◌+◌, ◌≤◌, min, pos};
 ghost use Rattle.model_files.specs.Worlds.{number_at};
 ghost use Rattle.opcodes.specs.Outcomes.{pipe_read, pipe_written, waits_for_room, event_read, event_written};
 
 use crate::ending::Outcome;
-use crate::errno::{EINVAL, EPIPE};
 use crate::results::fixed;
-use entries::{Choice, Sqe};
+use entries::{Choice, EINVAL, EPIPE, Sqe};
 use model_files::World;
 
-/// How many bytes go into a pipe at once, if its capacity isn't less (PIPE_BUF).
+/// PIPE_BUF: writes of up to this many bytes are atomic, if the pipe's capacity isn't smaller.
 const AT_ONCE: u64 = 4096;
 
-/// A READ waits for a byte while the pipe has a writer.
+/// Returns the outcome of a READ of a pipe. It waits while the pipe is empty and has a writer.
 pub(crate) fn pipe_read(len: u32, writer: bool, filled: u64, choice: Choice) -> Outcome
     requires { len ≤ 65536 }
     ensures { result ≡ pipe_read len writer filled choice }
@@ -30,8 +29,8 @@ pub(crate) fn pipe_read(len: u32, writer: bool, filled: u64, choice: Choice) -> 
     fixed(least(len, filled), choice)
 }
 
-/// A WRITE of so few bytes that they go in at once waits for room for all of them, a longer one for
-/// room for any.
+/// Returns the outcome of a WRITE to a pipe. An atomic one waits until all its bytes fit, a longer
+/// one until any byte fits.
 pub(crate) fn pipe_written(
     len: u32,
     reader: bool,
@@ -72,7 +71,7 @@ fn least(len: u32, count: u64) -> i32
     u64::from(len).min(count) as i32
 }
 
-/// A READ waits for a counter above 0.
+/// Returns the outcome of a READ of an eventfd. It waits while the counter is 0.
 pub(crate) fn event_read(len: u32, counter: u64, choice: Choice) -> Outcome
     ensures { result ≡ event_read len counter choice }
 {
@@ -85,7 +84,7 @@ pub(crate) fn event_read(len: u32, counter: u64, choice: Choice) -> Outcome
     fixed(8, choice)
 }
 
-/// A WRITE waits until the sum is at most 2^64 - 2.
+/// Returns the outcome of a WRITE to an eventfd. It waits while the sum would exceed 2^64 - 2.
 pub(crate) fn event_written(world: &World, entry: &Sqe, counter: u64, choice: Choice) -> Outcome
     requires within { entry.now.addr + entry.now.len ≤ 65536 }
     ensures { result ≡ event_written entry.now.len counter

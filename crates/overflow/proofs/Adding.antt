@@ -1,4 +1,4 @@
--- Completions are added to a backlog: their places are noted as absent first.
+-- Facts about adding completions to the backlog: their places are first recorded as absent.
 use Rattle.std.proofs.Common.{◌≡◌, ℕ, refl, sym, ◌∙◌, ap, List, [], ◌∷◌, ◌++◌, length, take, append_assoc, length-append, ◌+◌, ◌≤◌, ◌<◌, ◌⊎◌, inl, inr, get_or, arith}
 use Rattle.std.specs.Prelude.{Some, None, option_map, slice_get}
 use Rattle.std.proofs.lemmas.Grind.{common_steps}
@@ -14,8 +14,8 @@ use Rattle.places.proofs.Keeping.{keeps_then, keeps_noted, noted_keeps}
 use Rattle.overflow.specs.Backlogs.{BacklogState, backlog_owns, backlog_seen, backlog_with}
 use Rattle.overflow.proofs.Seen.{seen_more}
 
--- The first i places behind the end were noted as absent: the notes serve as well for the
--- completions that will stand there.
+-- The invariant of the loop: the first i places after the end are recorded as absent. The same
+-- notes are right once these completions are there.
 pub record Adding (b : BacklogState) (old new : Notes) (list : List Cqe) (i : ℕ) : Type 0 where
   pub within : i ≤ length list
   pub keeps : Keeps backlog_owns (backlog_seen b) (backlog_seen (backlog_with b (take i list))) old.made new.made
@@ -33,7 +33,7 @@ element xs i h = by (slice_get_cases xs i).1
     by (inl k) = (k.0, k.2)
     by (inr k) = absurd (let l = k.0 in omega arith)
 
--- one place more
+-- One iteration.
 pub adding_on : (b : BacklogState) (old mid new : Notes) (list : List Cqe) (i : ℕ) → Adding b old mid list i → i < length list → Noted mid.made new.made (Backlog (length b.items + i)) None → mid.numbers ≤ new.numbers → mid.completions ≤ new.completions → Adding b old new list (i + 1)
 adding_on b old mid new list i a h n x y =
     let c = element list i h in

@@ -1,4 +1,4 @@
--- What posting and flushing keep, of the definitions alone.
+-- Facts about posting and flushing, from the definitions only.
 use Rattle.std.proofs.Common.{◌≡◌, ℕ, Bool, true, false, cond, refl, sym, ◌∙◌, ap, List, [], ◌∷◌, ◌++◌, length, take, drop, append_assoc, length-append, length-drop, drop-drop, ◌+◌, ◌≤◌, min, arith}
 use Rattle.std.specs.Prelude.{not, ◌==◌}
 use Rattle.std.proofs.lemmas.Bool.{eqb-true}
@@ -15,22 +15,22 @@ none_left : (xs : List Cqe) → (length xs == 0) ≡ true → xs ≡ []
 none_left [] h = refl
 none_left (x ∷ xs) h = absurd (let e = eqb-true (length (x ∷ xs)) 0 h in omega arith)
 
--- nothing is kept of a clear backlog
+-- An empty list of pending completions.
 pub kept_clear : (b : BacklogState) → is_clear b ≡ true → kept b ≡ []
 kept_clear b h = none_left (kept b) h
 
--- what is kept of a longer backlog
+-- The pending completions after an append.
 pub kept_with : (b : BacklogState) (cs : List Cqe) → b.front ≤ length b.items → kept (backlog_with b cs) ≡ kept b ++ cs
 kept_with b cs f = drop-append-le b.front b.items cs f
 
 drop_more : (n k : ℕ) (xs : List Cqe) → drop (n + k) xs ≡ drop k (drop n xs)
 drop_more n k xs = sym (drop-drop k n xs)
 
--- what is kept once the front has gone on
+-- The pending completions after k of them are flushed.
 pub kept_behind : (b : BacklogState) (k : ℕ) → kept (backlog_behind b k) ≡ drop k (kept b)
 kept_behind b k = drop_more b.front k b.items
 
--- no more go into the ring than there are, and than have room
+-- At most n completions go into the ring, and at most as many as it has room for.
 pub fits_least : (w : ComWords) (b : BacklogState) (n : ℕ) → fits w b n ≤ n
 fits_least w b n = by (is_clear b)
   where
@@ -51,11 +51,11 @@ fits_clear w b n h = rw h refl
 pub fits_behind : (w : ComWords) (b : BacklogState) (n : ℕ) → is_clear b ≡ false → fits w b n ≡ 0
 fits_behind w b n h = rw h refl
 
--- there is room for those that fit
+-- The completions that go into the ring fit.
 room_for : (d : Delivery) (cs : List Cqe) (i : ℕ) → DeliveryFormed d → i ≤ length cs → i ≤ free_slots d.completions → waiting d.completions.head d.completions.tail + length (take i cs) ≤ length d.completions.slots
 room_for d cs i f l r = let n = length-take-le i cs l in let w = f.waits in omega (arith, n, w)
 
--- posting loses nothing and keeps the order
+-- Posting loses no completion and preserves the order.
 pub posted_in_row : (d : Delivery) (cs : List Cqe) → DeliveryFormed d → com_list (all_posted d cs).completions ++ kept (all_posted d cs).backlog ≡ (com_list d.completions ++ kept d.backlog) ++ cs
 posted_in_row d cs f =
     let i = fits d.completions d.backlog (length cs) in
@@ -69,11 +69,11 @@ posted_in_row d cs f =
         rw (kept_clear d.backlog e) (append_assoc (com_list d.completions) (take i cs) (drop i cs) ∙ ap (λ xs. com_list d.completions ++ xs) (take-append-drop i cs) ∙ ap (λ xs. xs ++ cs) (sym (append-nil (com_list d.completions))))
     by false e = ap (λ xs. xs ++ (kept d.backlog ++ cs)) (append-nil (com_list d.completions)) ∙ sym (append_assoc (com_list d.completions) (kept d.backlog) cs)
 
--- nothing posted passes a kept completion
+-- No posted completion overtakes a pending one.
 pub posted_behind_kept : (d : Delivery) (cs : List Cqe) → is_clear d.backlog ≡ false → com_list (all_posted d cs).completions ≡ com_list d.completions
 posted_behind_kept d cs h = rw (fits_behind d.completions d.backlog (length cs) h) refl
 
--- where none is kept, as many go into the ring as its size allows
+-- If none is pending, as many completions go into the ring as fit.
 pub posted_into_ring : (d : Delivery) (cs : List Cqe) → DeliveryFormed d → is_clear d.backlog ≡ true → length (com_list (all_posted d cs).completions) ≡ min (length (com_list d.completions) + length cs) (length d.completions.slots)
 posted_into_ring d cs f h =
     let i = fits d.completions d.backlog (length cs) in
@@ -87,11 +87,11 @@ posted_into_ring d cs f h =
     let many = fits_clear d.completions d.backlog (length cs) h in
     omega (arith, list, both, some, waits, most, many)
 
--- the overflow flag is set exactly where a completion is kept
+-- The overflow flag is set if and only if a completion is pending.
 pub posted_flag : (d : Delivery) (cs : List Cqe) → has_flag (all_posted d cs).submissions.flags CqOverflow ≡ not (is_clear (all_posted d cs).backlog)
 posted_flag d cs = flag_set d.submissions.flags CqOverflow (not (is_clear (all_posted d cs).backlog))
 
--- the three parts stay well formed
+-- The invariant is preserved.
 pub posted_formed : (d : Delivery) (cs : List Cqe) → DeliveryFormed d → DeliveryFormed (all_posted d cs)
 posted_formed d cs f =
     let i = fits d.completions d.backlog (length cs) in
@@ -106,11 +106,11 @@ posted_formed d cs f =
       front = omega (arith, items, front);
     }
 
--- the ring has as many slots
+-- The ring keeps its size.
 pub posted_size : (d : Delivery) (cs : List Cqe) → length (all_posted d cs).completions.slots ≡ length d.completions.slots
 posted_size d cs = posted_slots d.completions (take (fits d.completions d.backlog (length cs)) cs)
 
--- how many a flush moves
+-- How many completions a flush moves.
 abbrev pub moved : Delivery → ℕ
 moved d = min (length (kept d.backlog)) (free_slots d.completions)
 
@@ -120,7 +120,7 @@ moved_least d = omega arith
 moved_room : (d : Delivery) → moved d ≤ free_slots d.completions
 moved_room d = omega arith
 
--- a flush loses nothing and keeps the order
+-- A flush loses no completion and preserves the order.
 pub flushed_in_row : (d : Delivery) → DeliveryFormed d → com_list (flushed d).completions ++ kept (flushed d).backlog ≡ com_list d.completions ++ kept d.backlog
 flushed_in_row d f =
     let k = moved d in
@@ -129,7 +129,7 @@ flushed_in_row d f =
     ∙ append_assoc (com_list d.completions) (take k (kept d.backlog)) (drop k (kept d.backlog))
     ∙ ap (λ xs. com_list d.completions ++ xs) (take-append-drop k (kept d.backlog))
 
--- after a flush the ring has as many as its size allows
+-- A flush moves as many completions into the ring as fit.
 pub flushed_into_ring : (d : Delivery) → DeliveryFormed d → length (com_list (flushed d).completions) ≡ min (length (com_list d.completions) + length (kept d.backlog)) (length d.completions.slots)
 flushed_into_ring d f =
     let k = moved d in
@@ -140,11 +140,11 @@ flushed_into_ring d f =
     let most = f.waits in
     omega (arith, list, both, some, waits, most)
 
--- the overflow flag is set exactly where a completion is kept
+-- The overflow flag is set if and only if a completion is pending.
 pub flushed_flag : (d : Delivery) → has_flag (flushed d).submissions.flags CqOverflow ≡ not (is_clear (flushed d).backlog)
 flushed_flag d = flag_set d.submissions.flags CqOverflow (not (is_clear (flushed d).backlog))
 
--- the three parts stay well formed
+-- The invariant is preserved.
 pub flushed_formed : (d : Delivery) → DeliveryFormed d → DeliveryFormed (flushed d)
 flushed_formed d f =
     let k = moved d in
@@ -160,6 +160,6 @@ flushed_formed d f =
       front = omega (arith, least, count, front);
     }
 
--- the ring has as many slots
+-- The ring keeps its size.
 pub flushed_size : (d : Delivery) → length (flushed d).completions.slots ≡ length d.completions.slots
 flushed_size d = posted_slots d.completions (take (moved d) (kept d.backlog))

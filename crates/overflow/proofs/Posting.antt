@@ -1,4 +1,4 @@
--- Completions posted in order stand behind the others.
+-- Facts about posting completions into the ring in order.
 use Rattle.std.proofs.Common.{◌≡◌, ℕ, refl, sym, ◌∙◌, ap, subst, List, [], ◌∷◌, ◌++◌, length, take, append_assoc, length-set, ◌+◌, ◌%◌, ◌≤◌, ◌<◌, arith}
 use Rattle.std.specs.Prelude.{None, Some, slice_get}
 use Rattle.std.proofs.lemmas.Grind.{common_steps}
@@ -14,12 +14,12 @@ use Rattle.ring_words.proofs.Laws.{com_posted, formed_posted}
 use Rattle.ring_words.proofs.Order.{waiting_more}
 use Rattle.overflow.specs.Backlogs.{posted_one, posted_in_order}
 
--- one completion more
+-- Posting one more completion.
 pub posted_more : (w : ComWords) (cs : List Cqe) (c : Cqe) → posted_in_order w (cs ++ c ∷ []) ≡ posted_one (posted_in_order w cs) c
 posted_more w [] c = refl
 posted_more w (x ∷ xs) c = posted_more (posted_one w x) xs c
 
--- the ring has as many slots, and its head stays
+-- The ring keeps its size and its head.
 pub posted_slots : (w : ComWords) (cs : List Cqe) → length (posted_in_order w cs).slots ≡ length w.slots
 posted_slots w [] = refl
 posted_slots w (c ∷ cs) = posted_slots (posted_one w c) cs ∙ length-set w.slots (w.tail % length w.slots) c
@@ -31,7 +31,7 @@ posted_well w (c ∷ cs) f = posted_well (posted_one w c) cs (formed_posted w c 
 one_waits : (w : ComWords) (c : Cqe) → ComFormed w → waiting w.head w.tail < length w.slots → waiting (posted_one w c).head (posted_one w c).tail ≡ waiting w.head w.tail + 1
 one_waits w c f l = waiting_more w.head w.tail (length w.slots) f.head f.tail f.size.most l
 
--- where there is room for all, they wait behind the others
+-- If all fit, they follow the earlier ones.
 pub posted_waits : (w : ComWords) (cs : List Cqe) → ComFormed w → waiting w.head w.tail + length cs ≤ length w.slots → waiting (posted_in_order w cs).head (posted_in_order w cs).tail ≡ waiting w.head w.tail + length cs
 posted_waits w [] f l = omega arith
 posted_waits w (c ∷ cs) f l =
@@ -49,7 +49,7 @@ posted_list w (c ∷ cs) f l =
     ∙ ap (λ xs. xs ++ cs) (com_posted w c f (omega arith))
     ∙ append_assoc (com_list w) (c ∷ []) cs
 
--- The first i of a list have been posted.
+-- The invariant of the loop: the first i completions are posted.
 pub record Posting (before now : ComWords) (old new : Notes) (list : List Cqe) (i : ℕ) : Type 0 where
   pub next : now ≡ posted_in_order before (take i list)
   pub formed : ComFormed before
@@ -68,7 +68,7 @@ posting_starts w notes list f = record {
   completions = omega arith;
 }
 
--- there is room for the next
+-- The next completion fits.
 pub posting_room : (before now : ComWords) (old new : Notes) (list : List Cqe) (i : ℕ) → Posting before now old new list i → waiting before.head before.tail + length list ≤ length before.slots → i < length list → waiting now.head now.tail < length now.slots
 posting_room before now old new list i p r l =
     let n = length-take-le i list (omega arith) in
@@ -79,7 +79,7 @@ posting_room before now old new list i p r l =
 take_more : (xs : List Cqe) (i : ℕ) (x : Cqe) → slice_get xs i ≡ Some x → take (i + 1) xs ≡ take i xs ++ x ∷ []
 take_more xs i x g = grind (arith, common_steps, gets)
 
--- the next has been posted
+-- One iteration.
 pub posting_on : (before now next : ComWords) (old mid new : Notes) (list : List Cqe) (i : ℕ) (x : Cqe) → Posting before now old mid list i → slice_get list i ≡ Some x → next ≡ posted_one now x
     → Keeps com_owns (com_seen now) (com_seen next) mid.made new.made → ((p : Place) → named new.made p ≡ None → named mid.made p ≡ None) → mid.numbers ≤ new.numbers + 1 → mid.completions ≤ new.completions + 1 → Posting before next old new list (i + 1)
 posting_on before now next old mid new list i x p g e k n a b = record {

@@ -1,4 +1,4 @@
--- What a backlog shows, put into a backlog as long.
+-- Assigning the values of one backlog to another of the same length.
 use Rattle.std.proofs.Common.{◌≡◌, refl, sym, subst, length}
 use Rattle.std.specs.Prelude.{Some, None}
 use Rattle.places.specs.declared.place.Place.{Place}
@@ -9,7 +9,7 @@ use Rattle.places.proofs.ListLemmas.{same_list}
 use Rattle.ring_words.proofs.Restoring.{none_here, some_here, same_through}
 use Rattle.overflow.specs.Backlogs.{BacklogState, BacklogFormed, backlog_seen, backlog_can_put}
 
--- it can be put there
+-- Each value can be assigned.
 pub backlog_seen_can_put : (s m : BacklogState) → BacklogFormed s → length s.items ≡ length m.items → (p : Place) (v : Value) → backlog_seen s p ≡ Some v → backlog_can_put m p (Some v)
 backlog_seen_can_put s m f h (Backlog i) v e =
     let k = some_here Completed s.items m.items i v h e in
@@ -17,13 +17,13 @@ backlog_seen_can_put s m f h (Backlog i) v e =
 backlog_seen_can_put s m f h BacklogFront v e = subst (backlog_can_put m BacklogFront) e f.front
 backlog_seen_can_put s m f h _ v e = absurd cc
 
--- where nothing stands, nothing stands in a backlog as long
+-- The same places are absent in both backlogs.
 pub backlog_absent_same : (s m : BacklogState) → length s.items ≡ length m.items → (p : Place) → backlog_seen s p ≡ None → backlog_seen m p ≡ None
 backlog_absent_same s m h (Backlog i) e = none_here Completed s.items m.items i h e
 backlog_absent_same s m h BacklogFront e = absurd cc
 backlog_absent_same s m h _ e = refl
 
--- backlogs that show the same are one
+-- Backlogs with equal views are equal.
 pub same_backlog : (s m : BacklogState) → ((p : Place) → backlog_seen s p ≡ backlog_seen m p) → s ≡ m
 same_backlog s m e = λ i. record { items = items i; front = front i }
   where

@@ -1,4 +1,4 @@
--- What is seen of a changed backlog.
+-- The view of a changed backlog.
 use Rattle.std.proofs.Common.{◌≡◌, ℕ, Bool, true, false, cond, refl, ◌∙◌, ap, [], ◌∷◌, ◌++◌, take, length, ◌<◌, ◌+◌}
 use Rattle.std.specs.Prelude.{Some, None, option_map, slice_get, slice_set, ◌==◌, ◌&&◌}
 use Rattle.entries.specs.declared.completion.Cqe.{Cqe}
@@ -10,13 +10,13 @@ use Rattle.places.specs.View.{put_at}
 use Rattle.places.proofs.ListLemmas.{slice_get-set, slice_get-push, slice_get-take}
 use Rattle.overflow.specs.Backlogs.{BacklogState, backlog_seen}
 
--- the front is another
+-- After the front is set.
 pub seen_front : (b : BacklogState) (n : ℕ) (q : Place) → backlog_seen (record b { front = n }) q ≡ put_at (backlog_seen b) BacklogFront (Some (Number n)) q
 unfolding same_place
 seen_front b n BacklogFront = refl
 seen_front b n _ = refl
 
--- a completion was written over
+-- After a completion is replaced.
 pub seen_item : (b : BacklogState) (i : ℕ) (c : Cqe) → i < length b.items → (q : Place) → backlog_seen (record b { items = slice_set b.items i c }) q ≡ put_at (backlog_seen b) (Backlog i) (Some (Completed c)) q
 unfolding same_place
 seen_item b i c h (Backlog j) = ap (option_map Completed) (slice_get-set b.items i j c h) ∙ chosen (i == j)
@@ -26,7 +26,7 @@ seen_item b i c h (Backlog j) = ap (option_map Completed) (slice_get-set b.items
     chosen false = refl
 seen_item b i c h _ = refl
 
--- a completion was added behind the others
+-- After a completion is appended.
 pub seen_more : (b : BacklogState) (c : Cqe) (q : Place) → backlog_seen (record b { items = b.items ++ c ∷ [] }) q ≡ put_at (backlog_seen b) (Backlog (length b.items)) (Some (Completed c)) q
 unfolding same_place
 seen_more b c (Backlog j) = ap (option_map Completed) (slice_get-push b.items j c) ∙ chosen (length b.items == j)
@@ -36,7 +36,7 @@ seen_more b c (Backlog j) = ap (option_map Completed) (slice_get-push b.items j 
     chosen false = refl
 seen_more b c _ = refl
 
--- the last was taken out
+-- After the last completion is removed.
 pub seen_taken : (b : BacklogState) (i : ℕ) → i + 1 ≡ length b.items → (q : Place) → backlog_seen (record b { items = take i b.items }) q ≡ put_at (backlog_seen b) (Backlog i) None q
 unfolding same_place
 seen_taken b i h (Backlog j) = ap (option_map Completed) (slice_get-take b.items i j h) ∙ chosen (i == j)

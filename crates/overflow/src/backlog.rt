@@ -1,4 +1,4 @@
-//! The backlog.
+//! The backlog of overflowed completions.
 ghost use Rattle.std.specs.Prelude.{◌≡◌, ◌==◌, ◌+◌, ◌<◌, ◌≤◌, ◌^◌, length, take, IfOk, OnOk, OnErr, OnSome, None};
 ghost use Rattle.places.specs.View.{Keeps, named, put_at};
 ghost use Rattle.places.specs.declared.place.Place.{Place};
@@ -10,8 +10,8 @@ use places::{At, Part, Place, Recorder, Value};
 use std::alloc::{AllocError, Global};
 use std::marker::Model;
 
-/// The completions that did not fit into the ring as they were made, numbered over the whole run.
-/// Those from the front on are still kept.
+/// All completions that ever overflowed, numbered over the whole run. Those from number `front` on
+/// are pending; the others have been flushed.
 #[derive(Drop)]
 pub struct Backlog {
     items: Vec<Cqe>,
@@ -71,7 +71,7 @@ impl Part for Backlog {
 }
 
 impl Backlog {
-    /// No completions. It takes no memory.
+    /// Returns an empty backlog. Allocates nothing.
     pub fn new(alloc: Global) -> Backlog
         ensures { result ≡ backlog_start }
     {
@@ -81,7 +81,7 @@ impl Backlog {
         }
     }
 
-    /// The same backlog again.
+    /// Returns a copy.
     pub fn copy(&self, alloc: Global) -> Result<Backlog, AllocError>
         ensures { IfOk result (λ b. b ≡ self.now) }
     {
@@ -91,7 +91,7 @@ impl Backlog {
         })
     }
 
-    /// How many completions it ever took, those that were flushed included.
+    /// Returns how many completions ever overflowed, the flushed ones included.
     pub fn len(&self) -> usize
         ensures len { result ≡ length self.now.items }
         ensures small { result < 2 ^ 63 }
@@ -99,7 +99,7 @@ impl Backlog {
         self.items.len()
     }
 
-    /// The number of the first that is still kept.
+    /// Returns the number of the first pending completion.
     pub fn front(&self) -> u32
         ensures value { result ≡ self.now.front }
         ensures small { result < 2 ^ 32 }
@@ -107,7 +107,7 @@ impl Backlog {
         self.front
     }
 
-    /// How many are still kept.
+    /// Returns how many completions are pending.
     pub fn kept(&self) -> usize
         ensures value { result ≡ length (kept self.now) }
         ensures all { self.now.front ≤ length self.now.items
@@ -117,21 +117,21 @@ impl Backlog {
         all.saturating_sub(self.front as usize)
     }
 
-    /// Whether none is kept.
+    /// Returns whether none is pending.
     pub fn is_empty(&self) -> bool
         ensures { result ≡ is_clear self.now }
     {
         self.kept() == 0
     }
 
-    /// Drops the completions from a number on, kept or not. It takes no memory.
+    /// Removes the completions from number n on, pending or flushed. Allocates nothing.
     pub fn truncate(&mut self, n: usize)
         ensures { self.new ≡ record self.old { items = take n self.old.items } }
     {
         self.items.truncate(n);
     }
 
-    /// The first n of those that are kept.
+    /// Returns the first n pending completions.
     pub(crate) fn first(&self, n: usize) -> &[Cqe]
         requires { self.now.front + n ≤ length self.now.items }
         ensures { result.now ≡ take n (kept self.now) }
@@ -140,7 +140,7 @@ impl Backlog {
         &self.items[front..front + n]
     }
 
-    /// Adds completions behind the others.
+    /// Appends completions.
     pub(crate) fn add(&mut self, list: &[Cqe], notes: &mut Recorder) -> Result<(), AllocError>
         requires { length self.old.items + length list.now ≤ 65536 }
         ensures ok { OnOk result (self.new ≡ backlog_with self.old list.now) }
@@ -159,7 +159,7 @@ impl Backlog {
         self.items.extend_from_slice(list)
     }
 
-    /// Lets go of the first so many that are kept.
+    /// Marks the first `count` pending completions as flushed.
     pub(crate) fn pass(&mut self, count: u32, notes: &mut Recorder)
         requires kept { self.old.front + count ≤ 65536 }
         requires numbers { 0 < notes.old.numbers }

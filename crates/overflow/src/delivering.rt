@@ -1,4 +1,4 @@
-//! Where completions go: into the ring while it has room and none is kept, else into the backlog.
+//! Posting of completions to the ring or, if they don't fit, to the backlog.
 ghost use Rattle.std.specs.Prelude.{◌≡◌, ◌+◌, ◌<◌, ◌≤◌, ◌++◌, not, length, min, true, false, None, OnOk, OnErr};
 ghost use Rattle.places.specs.View.{Keeps, named};
 ghost use Rattle.places.specs.declared.place.Place.{Place};
@@ -12,8 +12,8 @@ use places::{Place, Recorder};
 use ring_words::{ComRing, RingFlag, SubRing};
 use std::alloc::AllocError;
 
-/// Posts completions: into the ring while it has room and none is kept, the others into the
-/// backlog. Want of memory leaves the three parts as they were.
+/// Posts completions: into the ring while it has room and nothing is pending in the backlog, the
+/// rest into the backlog. If an allocation fails, the three parts are unchanged.
 pub fn post_all(
     submissions: &mut SubRing,
     completions: &mut ComRing,
@@ -30,7 +30,7 @@ pub fn post_all(
     ensures err { OnErr result (delivery_of submissions.new completions.new backlog.new
         ≡ delivery_of submissions.old completions.old backlog.old) }
 
-    // Nothing is lost, and nothing passes a kept completion.
+    // No completion is lost, and none overtakes a pending one.
     ensures in_order { OnOk result (com_list completions.new ++ kept backlog.new
         ≡ (com_list completions.old ++ kept backlog.old) ++ list.now) }
     ensures behind_kept { OnOk result (is_clear backlog.old ≡ false
@@ -64,8 +64,8 @@ pub fn post_all(
     Ok(())
 }
 
-/// Moves the first kept completions into the ring, while there is room.
-/// Want of memory leaves the three parts as they were.
+/// Moves the first pending completions from the backlog into the ring, while there is room. If an
+/// allocation fails, the three parts are unchanged.
 pub fn flush(
     submissions: &mut SubRing,
     completions: &mut ComRing,
@@ -81,7 +81,7 @@ pub fn flush(
     ensures err { OnErr result (delivery_of submissions.new completions.new backlog.new
         ≡ delivery_of submissions.old completions.old backlog.old) }
 
-    // Nothing is lost, and the order stays.
+    // No completion is lost, and their order is preserved.
     ensures in_order { OnOk result (com_list completions.new ++ kept backlog.new
         ≡ com_list completions.old ++ kept backlog.old) }
     ensures into_ring { OnOk result (length (com_list completions.new)
@@ -111,7 +111,7 @@ pub fn flush(
     Ok(())
 }
 
-/// For how many more completions the ring has room.
+/// Returns how many more completions fit into the ring.
 fn free_slots(completions: &ComRing) -> usize
     requires { waiting completions.now.head completions.now.tail ≤ length completions.now.slots }
     ensures value { result ≡ free_slots completions.now }
@@ -120,7 +120,7 @@ fn free_slots(completions: &ComRing) -> usize
     (completions.size() - completions.waiting()) as usize
 }
 
-/// How many of so many new completions go into the ring.
+/// Returns how many of `count` new completions go into the ring.
 fn fits(completions: &ComRing, backlog: &Backlog, count: usize) -> usize
     requires { waiting completions.now.head completions.now.tail ≤ length completions.now.slots }
     ensures value { result ≡ fits completions.now backlog.now count }
@@ -134,7 +134,7 @@ fn fits(completions: &ComRing, backlog: &Backlog, count: usize) -> usize
     }
 }
 
-/// Posts completions where there is room for all.
+/// Posts completions that all fit into the ring.
 fn post_in_order(completions: &mut ComRing, list: &[Cqe], notes: &mut Recorder)
     requires formed { ComFormed completions.old }
     requires free { waiting completions.old.head completions.old.tail + length list.now
@@ -152,7 +152,7 @@ fn post_in_order(completions: &mut ComRing, list: &[Cqe], notes: &mut Recorder)
     }
 }
 
-/// Sets the overflow flag exactly where a completion is kept.
+/// Sets IORING_SQ_CQ_OVERFLOW if a completion is pending, and clears it if none is.
 fn flag(submissions: &mut SubRing, backlog: &Backlog, notes: &mut Recorder)
     requires { 0 < notes.old.numbers }
     ensures next { submissions.new ≡ flagged submissions.old backlog.now }

@@ -1,4 +1,4 @@
--- Notes of bytes, a run at a time.
+-- Lemmas about recorded bytes in runs.
 use Rattle.std.proofs.Common.{◌≡◌, ℕ, zero, suc, ◌<◌, ◌≤◌, ◌+◌, Bool, true, false, cond, refl, sym, ◌∙◌, ap, subst, List, [], ◌∷◌, ◌++◌, ◌^◌, length, take, drop, arith, append_assoc}
 use Rattle.std.specs.Prelude.{Option, Some, None, map, is_some, ◌==◌, ◌&&◌, ◌||◌, nat_le, nat_lt}
 use Rattle.std.specs.List.{list_any}
@@ -19,7 +19,7 @@ use Rattle.places.specs.Runs.{place_in, is_in, offset_in, covers, run_total, old
 use Rattle.places.proofs.SamePlace.{same_place_is, same_place_self}
 use Rattle.places.proofs.Naming.{named-append}
 
--- a run behind the others
+-- The changes of runs, after one more run at the end.
 pub run_changes-more : (rs : List Run) (r : Run) (os ps : List (Option ℕ)) → run_total rs ≡ length os → r.len ≡ length ps → run_changes (rs ++ r ∷ []) (os ++ ps) ≡ run_changes rs os ++ old_bytes r.region r.start ps
 run_changes-more [] r [] ps h e = append-nil _ ∙ ap (old_bytes r.region r.start) (take_all r.len ps (omega arith))
 run_changes-more [] r (o ∷ os) ps h e = absurd (omega arith)
@@ -32,7 +32,7 @@ run_total-more : (rs : List Run) (r : Run) → run_total (rs ++ r ∷ []) ≡ ru
 run_total-more [] r = omega arith
 run_total-more (q ∷ rs) r = let h = run_total-more rs r in omega arith
 
--- a byte of memory has no second index
+-- A byte of memory has no second index.
 memory_second : (p : Place) → 9 ≡ kind_of p → second_of p ≡ 0
 unfolding place_of
 memory_second p k = ap second_of (sym (place_again p) ∙ ap (λ n. place_of n (index_of p) (second_of p)) (sym k))
@@ -45,7 +45,7 @@ and_true : (a : Bool) → (a && true) ≡ a
 and_true true = refl
 and_true false = refl
 
--- a byte's place is told by its region and its index there
+-- A place is byte s of a region exactly if it is in the region and has index s there.
 pub same_in : (g : Region) (s : ℕ) (p : Place) → same_place (place_in g s) p ≡ (is_in g p && (s == offset_in g p))
 unfolding same_place
 same_in Memory s p = by (9 == kind_of p) refl
@@ -94,7 +94,7 @@ byte_in_there g s bs p h = by (is_in g p) refl h
     by true e m = let t = byte_from_there s bs (offset_in g p) m in (t.0, t.1, same_place_is (place_in g (s + t.0)) p (same_in g (s + t.0) p ∙ rw (e, eq-eqb (s + t.0) (offset_in g p) (sym t.2)) refl))
     by false e m = absurd cc
 
--- notes that name no place twice, behind others that name none of their places
+-- Two lists of notes, each without a second note of a place, that share no place.
 pub once_append : (cs ds : List Change) → NamesOnce cs → NamesOnce ds → ((p : Place) → is_some (named ds p) ≡ true → named cs p ≡ None) → NamesOnce (cs ++ ds)
 unfolding named
 once_append [] ds h k apart = k
@@ -209,7 +209,7 @@ length_take zero os h = refl
 length_take (suc n) [] h = absurd (omega arith)
 length_take (suc n) (o ∷ os) h = ap suc (length_take n os (omega arith))
 
--- a byte is noted where a run has it, as long as all old bytes are kept
+-- If no byte is dropped, a place has a note exactly if a run covers it.
 pub covered : (rs : List Run) (os : List (Option ℕ)) (p : Place) → AllKept os → run_total rs ≡ length os → list_any (λ r. covers r p) rs ≡ is_some (named (run_changes rs os) p)
 unfolding named between
 covered [] os p h e = refl
@@ -239,7 +239,7 @@ old_none g s [] h = refl
 old_none g s (None ∷ os) h = old_none g (s + 1) os h
 old_none g s (Some b ∷ os) h = let e : true ≡ false = h in cc
 
--- runs of which no old byte is kept name nothing
+-- Runs of which all bytes are dropped have no changes.
 pub none_kept : (rs : List Run) (os : List (Option ℕ)) → list_any (λ o. is_some o) os ≡ false → run_changes rs os ≡ []
 none_kept [] os h = refl
 none_kept (r ∷ rs) os h = rw (old_none r.region r.start (take r.len os) (any_take r.len os h), none_kept rs (drop r.len os) (any_drop r.len os h)) refl

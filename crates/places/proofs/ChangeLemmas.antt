@@ -1,4 +1,4 @@
--- Changes that were put behind bytes are read there.
+-- A change that was appended to packed bytes is read back.
 use Rattle.std.proofs.Common.{◌≡◌, ℕ, ◌+◌, ◌*◌, ◌-◌, ◌%◌, ◌^◌, ◌<◌, ℤ, Bool, false, refl, sym, ◌∙◌, ap, List, [], ◌∷◌, ◌++◌, length, arith, append-nil, FitsSigned, w64}
 use Rattle.std.specs.Prelude.{Option, Some, None, ◌==◌}
 use Rattle.std.specs.Int.{cast_signed, cast_unsigned}
@@ -57,7 +57,7 @@ module _ (old new : List ℕ) where
       let e : completion_of (after p.put) ≡ x = ap completion_of m ∙ q.reads.0 in
       record { put = p.put; joined = q.joined ∙ p.joined; reads = (rw (p.reads.0) (ap Some e), ap (behind 3) m ∙ q.reads.1) }
 
-  -- ---- what stood in a place, by its shape
+  -- ---- Old values, by their shapes
 
   pub signed_put : (z : ℤ) → FitsSigned w64 z → Puts number_of after old (cast_unsigned w64 z ∷ []) new → Puts (value_of_shape 2) (behind 1) old (Some (Signed z) ∷ []) new
   unfolding value_of_shape
@@ -95,7 +95,7 @@ pub none_put : (old : List ℕ) → Puts (value_of_shape 0) (behind 0) old (None
 unfolding value_of_shape
 none_put old rest = record { put = rest; joined = refl; reads = (refl, refl) }
 
--- ---- changes
+-- ---- Changes
 
 abbrev change_at : Place → Option Value → Change
 change_at p x = record { place = p; old = x }
@@ -109,7 +109,7 @@ kind_again k s h = omega arith
 shape_again : (k s : ℕ) → k < 30 → shape_from (k + 30 * s) ≡ s
 shape_again k s h = omega arith
 
--- What begins with a kind and a shape, an index, and a value of that shape is a change.
+-- Bytes that begin with a head, an index and a value of the head's shape begin with that change.
 module _ (bs : List ℕ) (p : Place) (x : Option Value) (s i : ℕ) (again : place_of (kind_of p) i 0 ≡ p) (fits : i < 2 ^ 32) (head : number_of bs ≡ kind_of p + 30 * s) (index : number_of (after bs) ≡ i) where
   first_shape : shape_from (number_of bs) ≡ s
   first_shape = ap shape_from head ∙ shape_again (kind_of p) s (kind_small p)
@@ -143,9 +143,9 @@ number_change_put p i n old new again fits g rest =
     let f = first_behind q.put p (Some (Number n)) 1 i again fits q.reads.0 q.reads.1.0 in
     record { put = q.put; joined = q.joined; reads = (e, f ∙ q.reads.1.1.1) }
 
--- ---- the places of notes, by their kinds
+-- ---- The places of notes, by their kinds
 
--- a place of its kind and an index
+-- The place is the one with its kind and index i.
 abbrev IsAt : ℕ → Place → Type 0
 IsAt i p = place_of (kind_of p) i 0 ≡ p
 
@@ -165,9 +165,9 @@ pub other_at : (k i : ℕ) → IsAt i (other_place k i)
 unfolding other_place place_of
 other_at k i = behind_of (IsAt i) k (other_places i) (Got i) (all_others_at i) refl
 
--- ---- packed changes
+-- ---- Packed changes
 
--- what is read behind a count
+-- A number of changes, followed by that many changes, is read as these.
 pub packed_put : (old mid new : List ℕ) (n : ℕ) (cs : List Change) → old ≡ [] → length cs ≡ n → Puts number_of after old (n ∷ []) mid → Puts change_of after_change mid cs new → packed new ≡ cs
 packed_put old mid new n cs z l g h =
     let q = h [] in

@@ -1,4 +1,5 @@
--- What is left of notes once those that say what stands there now are dropped.
+-- Closing a recorder: dropping the notes of places that have their old
+-- value leaves an exact record.
 use Rattle.std.proofs.Common.{◌≡◌, ◌≢◌, Bool, true, false, cond, refl, sym, ◌∙◌, ap, subst, List, ◌∷◌, ◌⊎◌, inl, inr}
 use Rattle.std.specs.Prelude.{Option, Some, None, unwrap_or}
 use Rattle.places.specs.declared.place.Place.{Place}
@@ -8,7 +9,7 @@ use Rattle.places.specs.Places.{same_place}
 use Rattle.places.specs.View.{View, named, undo, LeadsBack, Exact, NamesOnce}
 use Rattle.places.proofs.SamePlace.{same_place_is}
 
--- what is left of a note, by what stands there now
+-- What remains of the note of a place whose value is x now: nothing if that is its old value.
 abbrev pub RestAt : Option Value → Option (Option Value) → Option (Option Value) → Type 0
 RestAt x None m = m ≡ None
 RestAt x (Some y) m = ((m ≡ Some y) × (y ≢ x)) ⊎ ((m ≡ None) × (y ≡ x))
@@ -16,7 +17,7 @@ RestAt x (Some y) m = ((m ≡ Some y) × (y ≢ x)) ⊎ ((m ≡ None) × (y ≡ 
 abbrev pub Leaves : View → List Change → List Change → Type 0
 Leaves v cs ds = (p : Place) → RestAt (v p) (named cs p) (named ds p)
 
--- a note that stays, before the others
+-- A note that remains, in front of others.
 pub stays : (v : View) (c : Change) (cs ds : List Change) → c.old ≢ v c.place → Leaves v cs ds → NamesOnce ds → named cs c.place ≡ None → Leaves v (c ∷ cs) (c ∷ ds) × NamesOnce (c ∷ ds)
 unfolding named
 stays v c cs ds m r o n = (λ p. at p (same_place c.place p) refl, (none c.place n, o))
@@ -28,7 +29,7 @@ stays v c cs ds m r o n = (λ p. at p (same_place c.place p) refl, (none c.place
     at p true e = inl (refl, λ k. m (k ∙ ap v (sym (same_place_is c.place p e))))
     at p false e = r p
 
--- a note that goes
+-- A note that is dropped, in front of others.
 pub goes : (v : View) (c : Change) (cs ds : List Change) → c.old ≡ v c.place → Leaves v cs ds → named cs c.place ≡ None → Leaves v (c ∷ cs) ds
 unfolding named
 goes v c cs ds m r n p = at (same_place c.place p) refl
@@ -53,7 +54,7 @@ exact_rest old v cs ds b r = record { differs = λ p x e. told p x (named cs p) 
     untold p (Some y) (inl k) b e = absurd cc
     untold p (Some y) (inr k) b e = sym b ∙ k.1
 
--- What notes that lead back leave is just where the old view differs.
+-- If undoing the notes leads back to `old`, the record that closing leaves is exact for `old`.
 pub exact_led : (old v : View) (cs ds : List Change) → LeadsBack old v cs → Exact (undo v cs) v ds → Exact old v ds
 exact_led old v cs ds b h = record {
   differs = λ p x e. let d = h.differs p x e in (d.0 ∙ b p, λ k. d.1 (b p ∙ k));

@@ -1,4 +1,4 @@
--- What packed changes name, and what they take back, by their heads.
+-- Lemmas about packed changes of which only the heads are read.
 use Rattle.std.proofs.Common.{◌≡◌, ℕ, ◌+◌, ◌<◌, ◌≤◌, ◌/◌, ◌%◌, Bool, true, false, not, cond, refl, sym, ◌∙◌, ap, List, arith}
 use Rattle.std.proofs.lemmas.Bool.{eqb-true}
 use Rattle.std.specs.Prelude.{◌==◌, Option, Some, None, is_some}
@@ -16,7 +16,7 @@ use Rattle.places.specs.Packed.{value_of_shape, change_of, after_change as after
 use Rattle.places.specs.Heads.{IsHead, IsFirst, number_was}
 use Rattle.places.proofs.Left.{after_some}
 
--- ---- the head that stands first
+-- ---- Reading a head
 
 either_some : (b : Bool) (x y : Option Value) → is_some x ≡ true → is_some y ≡ true → is_some (cond b x y) ≡ true
 either_some true x y e f = e
@@ -26,7 +26,7 @@ none_or_some : (b : Bool) (y : Option Value) → is_some y ≡ true → is_some 
 none_or_some true y f = refl
 none_or_some false y f = f
 
--- by its shape, something stood there or not
+-- A place was absent exactly if the shape is 0.
 some_by_shape : (s : ℕ) (bytes : List ℕ) → is_some (value_of_shape s bytes) ≡ not (s == 0)
 unfolding value_of_shape
 some_by_shape s bytes =
@@ -40,18 +40,18 @@ head_read bytes n i e f = record {
   stood = rw e (some_by_shape (number_of bytes / 30) (behind 2 bytes));
 }
 
--- by its shape, a number stood there
+-- The change whose shape is 1: its old value is a number.
 number_first : (bytes : List ℕ) → number_of bytes / 30 ≡ 1 → (change_of bytes ≡ number_was (place_of (number_of bytes % 30) (word_of (behind 1 bytes)) 0) (number_of (behind 2 bytes))) × (after_packed bytes ≡ behind 3 bytes)
 unfolding change_of after_packed value_of_shape
 number_first bytes e = (rw e refl, rw e refl)
 
--- its head, index and number, read one after the other
+-- The same, by the head, index and number as they are read one after the other.
 pub number_read : (bytes a b c : List ℕ) (h i n : ℕ) (p : Place) → h ≡ number_of bytes → h / 30 ≡ 1 → a ≡ after bytes → i ≡ word_of a → b ≡ after a → n ≡ number_of b → c ≡ after b → p ≡ place_of (h % 30) i 0 → (change_of bytes ≡ number_was p n) × (after_packed bytes ≡ c)
 number_read bytes a b c h i n p eh one ea ei eb en ec ep = rw (ep, en, ec, ei, eb, ea, eh) (number_first bytes (ap (λ k. k / 30) (sym eh) ∙ one))
 
--- ---- places of two kinds are two
+-- ---- Places of different kinds differ
 
--- one kind after the other
+-- One case of the next lemma.
 step : (k n : ℕ) (p q : Place) → kind_of p ≡ n → n ≤ k → (n + 1 ≤ k → kind_of q ≡ k) → kind_of (cond (k == n) p q) ≡ k
 step k n p q e h f = by (k == n) refl
   where
@@ -59,7 +59,7 @@ step k n p q e h f = by (k == n) refl
     by true t = e ∙ sym (eqb-true k n t)
     by false t = f (grind arith)
 
--- the place of a kind has it
+-- The place with kind k has kind k.
 kind_placed : (k i : ℕ) → k < 30 → kind_of (place_of k i 0) ≡ k
 unfolding place_of
 kind_placed k i h =
@@ -98,7 +98,7 @@ pub other_kind : (k i n : ℕ) (p : Place) → k < 30 → n ≡ kind_of p → (k
 unfolding same_place
 other_kind k i n p h e t = t ∙ sym (rw (kind_placed k i h, ← e, t) refl)
 
--- ---- the first of some changes, by its head
+-- ---- The first of some changes, by its head
 
 module _ (h : Head) (cs ds : List Change) (f : IsFirst h cs ds) where
   pub names_first : (p : Place) → same_place (place_of h.kind h.index 0) p ≡ true → is_some (named cs p) ≡ true
@@ -109,7 +109,7 @@ module _ (h : Head) (cs ds : List Change) (f : IsFirst h cs ds) where
   unfolding named
   names_later p e = rw (f.first, f.head.place, e) refl
 
-  -- nothing stood in its place: what is there is taken back
+  -- If its place was absent, undoing it removes that element and all after it.
   pub left_absent : (l : Listed) (m n : ℕ) → not h.stood ≡ true → m ≡ after_change l (place_of h.kind h.index 0) None n → left l ds m ≡ left l cs n
   left_absent l m n s e = rw f.first (ap (left l ds) (by f.change.old (ap not f.head.stood ∙ s)))
     where
@@ -117,7 +117,7 @@ module _ (h : Head) (cs ds : List Change) (f : IsFirst h cs ds) where
       by None k = e ∙ ap (λ p. after_change l p None n) (sym f.head.place)
       by (Some v) k = absurd cc
 
-  -- something stood there: nothing is taken back
+  -- If its place was present, undoing it removes no element.
   pub left_stood : (l : Listed) (n : ℕ) → not h.stood ≡ false → left l ds n ≡ left l cs n
   left_stood l n s = rw f.first (ap (left l ds) (by f.change.old (ap not f.head.stood ∙ s)))
     where

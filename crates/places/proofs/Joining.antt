@@ -1,4 +1,4 @@
--- Notes of several kinds, one kind behind the other.
+-- Notes of several kinds, joined into one list.
 use Rattle.std.proofs.Common.{◌≡◌, ◌≢◌, ℕ, Bool, true, false, cond, refl, sym, ◌∙◌, ap, List, ◌++◌}
 use Rattle.std.specs.Prelude.{Option, Some, None, is_some, ◌==◌}
 use Rattle.std.proofs.lemmas.Bool.{eqb-true, eq-eqb}
@@ -16,7 +16,7 @@ some_or : (n : Option (Option Value)) → n ≡ first_note n None
 some_or None = refl
 some_or (Some y) = refl
 
--- the notes behind name none of the places that the note may be of
+-- A note added in front of other notes that have none of its place.
 pub noted_before_others : (cs ds es : List Change) (p : Place) (x : Option Value) → Noted cs ds p x → named es p ≡ None → Noted (cs ++ es) (ds ++ es) p x
 noted_before_others cs ds es p x h none q =
     named-append ds es q ∙ ap (λ n. first_note n (named es q)) (h q) ∙ by (named cs q) ∙ ap (λ n. first_note n (cond (same_place p q) (Some x) None)) (sym (named-append cs es q))
@@ -29,6 +29,7 @@ noted_before_others cs ds es p x h none q =
     by None = at (same_place p q) refl
     by (Some y) = refl
 
+-- A note added after other notes.
 pub noted_behind_others : (cs ds es : List Change) (p : Place) (x : Option Value) → Noted ds es p x → Noted (cs ++ ds) (cs ++ es) p x
 noted_behind_others cs ds es p x h q =
     named-append cs es q ∙ ap (first_note (named cs q)) (h q) ∙ by (named cs q) ∙ ap (λ n. first_note n (cond (same_place p q) (Some x) None)) (sym (named-append cs ds q))
@@ -37,7 +38,7 @@ noted_behind_others cs ds es p x h q =
     by None = refl
     by (Some y) = refl
 
--- notes of bytes behind others
+-- Notes of bytes added after other notes.
 pub bytes_behind : (cs ds es : List Change) (g : Region) (s : ℕ) (bs : List ℕ) → NotedBytes ds es g s bs → NotedBytes (cs ++ ds) (cs ++ es) g s bs
 bytes_behind cs ds es g s bs h q =
     named-append cs es q ∙ ap (first_note (named cs q)) (h q) ∙ by (named cs q) ∙ ap (λ n. first_note n (byte_in g s bs q)) (sym (named-append cs ds q))
@@ -46,7 +47,7 @@ bytes_behind cs ds es g s bs h q =
     by None = refl
     by (Some y) = refl
 
--- notes of bytes before others that name none of them
+-- Notes of bytes added in front of other notes that have none of their places.
 pub bytes_before : (cs ds es : List Change) (g : Region) (s : ℕ) (bs : List ℕ) → NotedBytes cs ds g s bs → ((q : Place) → is_some (byte_in g s bs q) ≡ true → named es q ≡ None) → NotedBytes (cs ++ es) (ds ++ es) g s bs
 bytes_before cs ds es g s bs h none q =
     named-append ds es q ∙ ap (λ n. first_note n (named es q)) (h q) ∙ by (named cs q) ∙ ap (λ n. first_note n (byte_in g s bs q)) (sym (named-append cs es q))
@@ -63,7 +64,7 @@ none_first : (m n : Option (Option Value)) → first_note m n ≡ None → (m �
 none_first None n e = (refl, e)
 none_first (Some x) n e = cc
 
--- a place that is not named in all is not named in the parts
+-- A place without a note in a joined list has none in either part.
 pub none_parts : (cs ds : List Change) (p : Place) → named (cs ++ ds) p ≡ None → (named cs p ≡ None) × (named ds p ≡ None)
 none_parts cs ds p e = none_first (named cs p) (named ds p) (sym (named-append cs ds p) ∙ e)
 
@@ -78,7 +79,8 @@ pub not_some : (n : Option (Option Value)) → is_some n ≡ false → n ≡ Non
 not_some None e = refl
 not_some (Some x) e = cc
 
--- notes that name none of another list's places still do, with one more
+-- Two lists that share no place still share none after a note of a new
+-- place was added to the first.
 pub apart_noted : (os cs ds : List Change) (p : Place) (x : Option Value) → ((q : Place) → is_some (named os q) ≡ true → named cs q ≡ None) → Noted cs ds p x → named os p ≡ None → (q : Place) → is_some (named os q) ≡ true → named ds q ≡ None
 apart_noted os cs ds p x h n none q s = n q ∙ rw (h q s) (by (same_place p q) refl)
   where
@@ -93,7 +95,7 @@ apart_bytes os cs ds g s bs h n none q t = n q ∙ rw (h q t) (by (byte_in g s b
     by None e = refl
     by (Some y) e = absurd (none_some (named os q) (none q (ap is_some e)) t)
 
--- one more of the others
+-- The same after a note of a new place was added to the second.
 pub apart_more : (os qs cs : List Change) (p : Place) (x : Option Value) → ((q : Place) → is_some (named os q) ≡ true → named cs q ≡ None) → Noted os qs p x → named cs p ≡ None → (q : Place) → is_some (named qs q) ≡ true → named cs q ≡ None
 apart_more os qs cs p x h n none q s = by (named os q) refl
   where
@@ -105,7 +107,7 @@ apart_more os qs cs p x h n none q s = by (named os q) refl
     by (Some y) e = h q (ap is_some e)
     by None e = at (same_place p q) refl (sym (ap is_some (n q ∙ rw (e) refl)) ∙ s)
 
--- kinds of places that differ
+-- Lists of notes of different sorts share no place.
 pub sorts_apart : (sort : Place → ℕ) (s : ℕ) (cs ds : List Change) → ((p : Place) → sort p ≢ s → named cs p ≡ None) → ((p : Place) → sort p ≡ s → named ds p ≡ None) → (p : Place) → is_some (named ds p) ≡ true → named cs p ≡ None
 sorts_apart sort s cs ds h k p t = by (sort p == s) refl
   where

@@ -1,4 +1,4 @@
--- Notes that keep what undoing gives.
+-- Lemmas for `Keeps`: recording a place and then writing it, and doing this repeatedly.
 use Rattle.std.proofs.Common.{◌≡◌, Bool, true, false, cond, refl, sym, ◌∙◌, ap, List}
 use Rattle.std.specs.Prelude.{Option, Some, None, unwrap_or}
 use Rattle.places.specs.declared.place.Place.{Place}
@@ -14,7 +14,7 @@ keeps_same owns v cs = record { back = λ p _. refl; others = λ p _. refl }
 pub keeps_then : (owns : Place → Bool) (u v w : View) (cs ds es : List Change) → Keeps owns u v cs ds → Keeps owns v w ds es → Keeps owns u w cs es
 keeps_then owns u v w cs ds es h k = record { back = λ p o. k.back p o ∙ h.back p o; others = λ p o. k.others p o ∙ h.others p o }
 
--- a place was noted with its old value, and then that place alone was changed
+-- Undoing gives the same before and after a place is recorded and then written.
 pub undo_noted : (v w : View) (cs ds : List Change) (p : Place) (x : Option Value) → Noted cs ds p (v p) → (q : Place) → w q ≡ put_at v p x q → undo w ds q ≡ undo v cs q
 undo_noted v w cs ds p x h q e =
     ap (λ n. unwrap_or n (w q)) (h q) ∙ ap (unwrap_or (first_note (named cs q) (cond (same_place p q) (Some (v p)) None))) e ∙ by_note (named cs q)
@@ -27,7 +27,7 @@ undo_noted v w cs ds p x h q e =
     by_note None = noted (same_place p q) refl
     by_note (Some y) = refl
 
--- a note of a place, and a write of it
+-- Recording a place of a part and then writing it satisfies `Keeps`.
 pub keeps_noted : (owns : Place → Bool) (v w : View) (cs ds : List Change) (p : Place) (x : Option Value) → owns p ≡ true → Noted cs ds p (v p) → ((q : Place) → w q ≡ put_at v p x q) → Keeps owns v w cs ds
 keeps_noted owns v w cs ds p x o n h = record {
   back = λ q _. undo_noted v w cs ds p x n q (h q);
@@ -42,7 +42,7 @@ keeps_noted owns v w cs ds p x o n h = record {
     by_note None q o' = other (same_place p q) q refl o'
     by_note (Some y) q o' = refl
 
--- a note with no write
+-- So does recording a place without writing it.
 pub keeps_unchanged : (owns : Place → Bool) (v : View) (cs ds : List Change) (p : Place) → owns p ≡ true → Noted cs ds p (v p) → Keeps owns v v cs ds
 keeps_unchanged owns v cs ds p o n = keeps_noted owns v v cs ds p (v p) o n same
   where
@@ -53,7 +53,7 @@ keeps_unchanged owns v cs ds p o n = keeps_noted owns v v cs ds p (v p) o n same
     same : (q : Place) → v q ≡ put_at v p (v p) q
     same q = at q (same_place p q) refl
 
--- a note un-notes no place
+-- Adding a note removes none.
 pub noted_keeps : (cs ds : List Change) (p : Place) (x : Option Value) → Noted cs ds p x → (q : Place) → named ds q ≡ None → named cs q ≡ None
 noted_keeps cs ds p x n q h = by (named cs q) (sym (n q) ∙ h)
   where

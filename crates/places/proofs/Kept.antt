@@ -1,4 +1,4 @@
--- What closing leaves of notes.
+-- What remains of notes when a recorder is closed.
 use Rattle.std.proofs.Common.{◌≡◌, ◌≢◌, ℕ, suc, ◌+◌, Bool, true, false, refl, sym, ◌∙◌, ap, subst, List, [], ◌∷◌, ◌++◌, inl, inr, length, take, drop, arith}
 use Rattle.std.specs.Prelude.{Option, Some, None, slice_get, map, MatchBool}
 use Rattle.std.specs.List.Retain.{ReturnsInTurn, IsFiltered}
@@ -17,7 +17,7 @@ kept_append v [] ds cs' ds' h k = subst (λ es. KeptOf v ds (es ++ ds')) (sym h)
 kept_append v (c ∷ cs) ds cs' ds' (inl h) k = inl (h.0, h.1 ++ ds', ap (λ es. es ++ ds') h.2, kept_append v cs ds h.1 ds' h.3 k)
 kept_append v (c ∷ cs) ds cs' ds' (inr h) k = inr (h.0, kept_append v cs ds cs' ds' h.1 k)
 
--- what is left of notes that name each place once is exact
+-- Place by place, what remains of notes that have at most one for each place.
 pub kept_leaves : (v : View) (cs ds : List Change) → NamesOnce cs → KeptOf v cs ds → Leaves v cs ds × NamesOnce ds
 unfolding named
 kept_leaves v [] ds o h = subst (λ es. Leaves v [] es × NamesOnce es) (sym h) (λ p. refl, tt)
@@ -29,7 +29,7 @@ kept_leaves v (c ∷ cs) ds o (inr h) = let k = kept_leaves v cs ds o.1 h.1 in (
 pub kept_exact : (old v : View) (cs ds : List Change) → NamesOnce cs → KeptOf v cs ds → LeadsBack old v cs → Exact old v ds
 kept_exact old v cs ds o h b = exact_rest old v cs ds b (kept_leaves v cs ds o h).0
 
--- the bytes that are left, place by place
+-- What remains of recorded bytes, if each is dropped or not by the current value of its place.
 pub kept_bytes : (v : View) (g : Region) (s : ℕ) (os ps : List (Option ℕ)) → length ps ≡ length os → ((k : ℕ) (o p : Option ℕ) → slice_get os k ≡ Some o → slice_get ps k ≡ Some p → LeftOf (v (place_in g (s + k))) o p) → KeptOf v (old_bytes g s os) (old_bytes g s ps)
 kept_bytes v g s [] [] l h = refl
 kept_bytes v g s [] (p ∷ ps) l h = absurd (omega arith)
@@ -42,18 +42,19 @@ kept_bytes v g s (o ∷ os) (p ∷ ps) l h = one o p (subst (λ i. LeftOf (v (pl
     one (Some b) p (inl e) k = subst (λ q. KeptOf v (old_bytes g s (Some b ∷ os)) (old_bytes g s (q ∷ ps))) (sym e.0) (inl (e.1, old_bytes g (s + 1) ps, refl, k))
     one (Some b) p (inr e) k = subst (λ q. KeptOf v (old_bytes g s (Some b ∷ os)) (old_bytes g s (q ∷ ps))) (sym e.0) (inr (e.1, k))
 
--- what is left of a run and of the runs behind it
+-- What remains of a run and of the runs after it.
 pub kept_runs : (v : View) (r : Run) (rs : List Run) (os fs bs : List (Option ℕ)) → length fs ≡ r.len → KeptOf v (old_bytes r.region r.start (take r.len os)) (old_bytes r.region r.start fs) → KeptOf v (run_changes rs (drop r.len os)) (run_changes rs bs) → KeptOf v (run_changes (r ∷ rs) os) (run_changes (r ∷ rs) (fs ++ bs))
 kept_runs v r rs os fs bs e h k =
     let a : take r.len (fs ++ bs) ≡ fs = ap (λ n. take n (fs ++ bs)) (sym e) ∙ take-append_seam fs bs in
     let b : drop r.len (fs ++ bs) ≡ bs = ap (λ n. drop n (fs ++ bs)) (sym e) ∙ drop-append_seam fs bs in
     rw (a, b) (kept_append v (old_bytes r.region r.start (take r.len os)) (run_changes rs (drop r.len os)) (old_bytes r.region r.start fs) (run_changes rs bs) h k)
 
--- runs, once some of their old bytes went
+-- Dropping bytes maintains the invariant of runs.
 pub runs_closed : (v : View) (rs : List Run) (os ps : List (Option ℕ)) → RunsOnce rs os → length ps ≡ length os → KeptOf v (run_changes rs os) (run_changes rs ps) → RunsOnce rs ps
 runs_closed v rs os ps o l k = record { fits = o.fits ∙ sym l; within = o.within; once = (kept_leaves v (run_changes rs os) (run_changes rs ps) o.once k).1 }
 
--- what a retaining test leaves of notes of one kind
+-- What `Vec::retain` leaves of notes of one kind, if its test compares the old
+-- value with the current one.
 module _ {X F : Type 0} (change : X → Change) (R : F → X → Bool → F → Type 0) (v : View) (f : F) (h : (x : X) (b : Bool) (f' : F) → R f x b f' → MatchBool b ((change x).old ≢ v (change x).place) ((change x).old ≡ v (change x).place) × (f' ≡ f)) where
   kept_told : (bs : List Bool) (xs : List X) (g q : F) → g ≡ f → length bs ≡ length xs → ReturnsInTurn R g bs xs q → KeptOf v (map change xs) (map change (items_where_true bs xs))
   kept_told [] [] g q e l t = refl
@@ -73,6 +74,6 @@ map_self : (cs : List Change) → map (λ c. c) cs ≡ cs
 map_self [] = refl
 map_self (c ∷ cs) = ap (λ ds. c ∷ ds) (map_self cs)
 
--- the same of changes
+-- The same for a list of changes.
 pub kept_rest : {F : Type 0} (R : F → Change → Bool → F → Type 0) (v : View) (f : F) → ((c : Change) (b : Bool) (f' : F) → R f c b f' → MatchBool b (c.old ≢ v c.place) (c.old ≡ v c.place) × (f' ≡ f)) → (cs ds : List Change) → IsFiltered R f cs ds → KeptOf v cs ds
 kept_rest R v f h cs ds k = rw (map_self cs, map_self ds) at (kept_filtered (λ c. c) R v f h cs ds k)

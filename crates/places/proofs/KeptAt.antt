@@ -1,4 +1,4 @@
--- Kept bytes by their index.
+-- Recorded bytes by their index.
 use Rattle.std.proofs.Common.{◌≡◌, ◌≢◌, ℕ, zero, suc, ◌<◌, ◌≤◌, ◌+◌, ◌-◌, Bool, true, false, cond, refl, sym, ◌∙◌, ap, List, [], ◌∷◌, length, arith}
 use Rattle.std.specs.Prelude.{Option, Some, None, is_some, option_map, slice_get, unwrap_or, ◌==◌, ◌&&◌, nat_lt}
 use Rattle.std.specs.Option.{option_flatten}
@@ -15,7 +15,7 @@ use Rattle.places.specs.Masked.{masked, kept_at, mark_at, PutOver, BytesStand}
 use Rattle.places.proofs.SamePlace.{same_place_is}
 use Rattle.places.proofs.ByteLemmas.{same_in, offset_again, tests}
 
--- ---- by the index
+-- ---- By index
 
 pub kept_before : (s : ℕ) (os : List (Option ℕ)) (i : ℕ) → i < s → kept_at s os i ≡ None
 kept_before s os i h = ap (λ t. cond t None (option_flatten (slice_get os (i - s)))) (lt-ltb i s h)
@@ -29,7 +29,7 @@ kept_here s os i o h =
     let k : (s + i) - s ≡ i = omega arith in
     ap (λ t. cond t None (option_flatten (slice_get os ((s + i) - s)))) (le-ltb (s + i) s (omega arith)) ∙ ap (λ n. option_flatten (slice_get os n)) k ∙ ap (λ (x : Option (Option ℕ)). option_flatten x) h
 
--- where a byte is kept, it is one of them
+-- If a byte is recorded for index j, j is the index of one of the bytes.
 pub kept_there : (s : ℕ) (os : List (Option ℕ)) (j b : ℕ) → kept_at s os j ≡ Some b → (i : ℕ) × (j ≡ s + i) × (slice_get os i ≡ Some (Some b))
 kept_there s os j b h = by (nat_lt j s) (slice_get os (j - s)) refl refl h
   where
@@ -38,7 +38,7 @@ kept_there s os j b h = by (nat_lt j s) (slice_get os (j - s)) refl refl h
     by false None e f k = absurd cc
     by false (Some o) e f k = (j - s, (let l : s ≤ j = ltb-false j s e in omega arith), f ∙ ap (λ (x : Option ℕ). Some x) k)
 
--- the first byte, and those behind it
+-- The byte recorded for an index: the first one, or one of those after it.
 kept_first : (s : ℕ) (o : Option ℕ) (os : List (Option ℕ)) (i : ℕ) → kept_at s (o ∷ os) i ≡ cond (s == i) o (kept_at (s + 1) os i)
 kept_first s o os i = by (s == i) (nat_lt i s) refl refl
   where
@@ -60,7 +60,7 @@ kept_skip s os i = kept_first s None os i ∙ by (s == i) refl
     by true e = sym (kept_before (s + 1) os i (let g = eqb-true s i e in omega arith))
     by false e = refl
 
--- ---- places
+-- ---- By place
 
 none_at_all : (a b : Bool) → ◌≡◌ {A = Option (Option Value)} None (cond a (option_map (λ (x : ℕ). Some (Byte x)) (cond b None None)) None)
 none_at_all true true = refl
@@ -71,7 +71,7 @@ told_cond : (t : Bool) (x y : Option ℕ) → cond t (option_map (λ (z : ℕ). 
 told_cond true x y = refl
 told_cond false x y = refl
 
--- kept bytes name the places where they stood
+-- The note of a place, in terms of its region and index.
 pub named_kept : (g : Region) (s : ℕ) (os : List (Option ℕ)) (q : Place) → named (old_bytes g s os) q ≡ cond (is_in g q) (option_map (λ (x : ℕ). Some (Byte x)) (kept_at s os (offset_in g q))) None
 unfolding named
 named_kept g s [] q = none_at_all (is_in g q) (nat_lt (offset_in g q) s)
@@ -99,11 +99,11 @@ named_here g s os i b h =
     ∙ ap (λ j. option_map (λ (x : ℕ). Some (Byte x)) (kept_at s os j)) (offset_again g (s + i))
     ∙ ap (option_map (λ (x : ℕ). Some (Byte x))) (kept_here s os i (Some b) h)
 
--- no byte of another region is named
+-- A place outside of the region has no note.
 pub named_outside : (g : Region) (s : ℕ) (os : List (Option ℕ)) (q : Place) → is_in g q ≡ false → named (old_bytes g s os) q ≡ None
 named_outside g s os q h = named_kept g s os q ∙ ap (λ t. cond t (option_map (λ (x : ℕ). Some (Byte x)) (kept_at s os (offset_in g q))) None) h
 
--- ---- by marks
+-- ---- By bit
 
 marked_get : (bs : List ℕ) (ks : List Bool) (n : ℕ) → length ks ≡ length bs → unwrap_or (slice_get ks n) false ≡ is_some (option_map (λ (x : ℕ). Some (Byte x)) (option_flatten (slice_get (masked bs ks) n)))
 marked_get [] [] n l = refl
@@ -113,7 +113,7 @@ marked_get (b ∷ bs) (true ∷ ks) zero l = refl
 marked_get (b ∷ bs) (false ∷ ks) zero l = refl
 marked_get (b ∷ bs) (k ∷ ks) (suc n) l = marked_get bs ks n (omega arith)
 
--- a place is named where it is a byte's whose mark is set
+-- A place has a note exactly if it is one of the bytes and is not dropped.
 pub named_marked : (g : Region) (s : ℕ) (bs : List ℕ) (ks : List Bool) (q : Place) → length ks ≡ length bs → (is_in g q && unwrap_or (mark_at s ks (offset_in g q)) false) ≡ is_some (named (old_bytes g s (masked bs ks)) q)
 named_marked g s bs ks q l = by (is_in g q) ∙ ap is_some (sym (named_kept g s (masked bs ks) q))
   where
@@ -125,7 +125,7 @@ named_marked g s bs ks q l = by (is_in g q) ∙ ap is_some (sym (named_kept g s 
     by true = at (nat_lt (offset_in g q) s)
     by false = refl
 
--- ---- bytes that were put back
+-- ---- Bytes written back
 
 over_none : (x : Option ℕ) → option_map Byte (option_map (unwrap_or None) x) ≡ option_map Byte x
 over_none None = refl
@@ -135,7 +135,7 @@ over_some : (x : Option ℕ) (b : ℕ) → is_some (option_map Byte x) ≡ true 
 over_some None b h = absurd cc
 over_some (Some y) b h = refl
 
--- a view where kept bytes of a region were written over those that stood there
+-- Writing the recorded bytes over those of the region undoes their changes.
 pub undone_bytes : (u w : View) (g : Region) (s : ℕ) (os : List (Option ℕ)) (xs ys : List ℕ) (q : Place) → PutOver xs s os ys → BytesStand u g s os
     → (is_in g q ≡ true → (u q ≡ option_map Byte (slice_get xs (offset_in g q))) × (w q ≡ option_map Byte (slice_get ys (offset_in g q)))) → (is_in g q ≡ false → w q ≡ u q) → w q ≡ undo u (old_bytes g s os) q
 undone_bytes u w g s os xs ys q over stand inside outside = by (is_in g q) refl ∙ ap (λ n. unwrap_or n (u q)) (sym (named_kept g s os q))
@@ -152,7 +152,7 @@ undone_bytes u w g s os xs ys q over stand inside outside = by (is_in g q) refl 
     by true e = (inside e).1 ∙ ap (option_map Byte) (over (offset_in g q)) ∙ at e (kept_at s os (offset_in g q)) refl
     by false e = outside e
 
--- where nothing stands in a region, none of its bytes is kept
+-- If all places of the region are absent, no byte of it is recorded.
 pub undone_nothing : (u : View) (g : Region) (s : ℕ) (os : List (Option ℕ)) (q : Place) → BytesStand u g s os → ((j : ℕ) → u (place_in g j) ≡ None) → u q ≡ undo u (old_bytes g s os) q
 undone_nothing u g s os q stand none = sym (ap (λ n. unwrap_or n (u q)) (named_kept g s os q ∙ by (is_in g q) (kept_at s os (offset_in g q)) refl))
   where

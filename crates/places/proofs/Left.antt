@@ -1,4 +1,4 @@
--- Which notes take elements of a list back.
+-- Which notes shorten a list when they are undone.
 use Rattle.std.proofs.Common.{◌≡◌, ℕ, ◌+◌, refl, ◌∙◌, ap, List, [], ◌∷◌, ◌++◌, take, drop}
 use Rattle.std.specs.Prelude.{Option, Some, None, map}
 use Rattle.places.specs.declared.place.Place.{Place}
@@ -22,7 +22,7 @@ pub left-append : (l : Listed) (cs ds : List Change) (n : ℕ) → left l (cs ++
 left-append l [] ds n = refl
 left-append l (c ∷ cs) ds n = left-append l cs ds (after_change l c.place c.old n)
 
--- a note with an old value takes nothing back
+-- A note with an old value removes no element.
 pub after_some : (l : Listed) (p : Place) (v : Value) (n : ℕ) → after_change l p (Some v) n ≡ n
 after_some l p v n = by (number_in l p)
   where
@@ -49,7 +49,7 @@ left-bytes l (r ∷ rs) os n =
     left-append l (old_bytes r.region r.start (take r.len os)) (run_changes rs (drop r.len os)) n
     ∙ ap (left l (run_changes rs (drop r.len os))) (left-old l r.region r.start (take r.len os) n) ∙ left-bytes l rs (drop r.len os) n
 
--- only the notes of rows and the other notes can take elements back
+-- Only notes of requests and other places, and single notes, can remove elements.
 pub left_everywhere : (l : Listed) (ns : List NumberNote) (cs : List CompletionNote) (rs : List RowNote) (x : RestList) (n : ℕ) → left l (all_changes ns cs rs x) n ≡ left l x.odd (left l (map row_change rs) n)
 left_everywhere l ns cs rs x n =
     let bs = run_changes x.runs x.olds in

@@ -1,4 +1,4 @@
--- Marks of old bytes, as bits.
+-- Lemmas about the bit set of dropped bytes.
 use Rattle.std.proofs.Common.{◌≡◌, ◌≢◌, ℕ, zero, suc, ◌<◌, ◌≤◌, ◌+◌, ◌-◌, Bool, true, false, cond, refl, sym, ◌∙◌, ap, subst, List, ◌∷◌, ◌++◌, inl, inr, length, take, drop, arith}
 use Rattle.std.specs.Prelude.{Some, None, slice_get, replicate, ◌==◌, ◌||◌, ◌⊎◌}
 use Rattle.std.specs.List.{list_any}
@@ -9,7 +9,7 @@ pub length_marks : (gone : List ℕ) (i n : ℕ) → length (marks_from gone i n
 length_marks gone i zero = refl
 length_marks gone i (suc n) = ap suc (length_marks gone (i + 1) n)
 
--- ---- one mark
+-- ---- One bit
 
 pub mark_there : (gone : List ℕ) (i n q : ℕ) → q < n → slice_get (marks_from gone i n) q ≡ Some (is_kept gone (i + q))
 mark_there gone i zero q h = absurd (omega arith)
@@ -26,7 +26,7 @@ mark_is gone i zero q k h = absurd cc
 mark_is gone i (suc n) zero k h = let e : is_kept gone i ≡ k = cc in sym e ∙ ap (is_kept gone) (let a : i ≡ i + 0 = omega arith in a)
 mark_is gone i (suc n) (suc q) k h = mark_is gone (i + 1) n q k h ∙ ap (is_kept gone) (let a : (i + 1) + q ≡ i + suc q = omega arith in a)
 
--- ---- some of them
+-- ---- Ranges of bits
 
 pub marks_front : (gone : List ℕ) (i n m : ℕ) → m ≤ n → marks_from gone i m ≡ take m (marks_from gone i n)
 marks_front gone i n zero h = refl
@@ -57,7 +57,7 @@ pub all_marks : (gone : List ℕ) (i n : ℕ) → ((q : ℕ) → i ≤ q → is_
 all_marks gone i zero h = refl
 all_marks gone i (suc n) h = ap (λ k. k ∷ marks_from gone (i + 1) n) (h i (omega arith)) ∙ ap (λ ks. true ∷ ks) (all_marks gone (i + 1) n (λ q l. h q (omega arith)))
 
--- ---- marks that go
+-- ---- Dropping bytes
 
 pub outside_more : (before after : List ℕ) (i n m : ℕ) → n ≤ m → SameOutside before after i n → SameOutside before after i m
 outside_more before after i n m h o q (inl l) = o q (inl l)
@@ -70,7 +70,7 @@ outside_one before now after i n m o w q side = w q ∙ ap (λ t. cond t m (is_k
     apart (inl l) e = absurd (omega arith)
     apart (inr l) e = absurd (omega arith)
 
--- one more byte is settled
+-- A loop over bytes, one step: byte i now has the bit m.
 pub settled : (x : ℕ → ℕ → Bool → Bool → Type 0) (olds before now after : List ℕ) (mark i b : ℕ) (m : Bool) → slice_get olds i ≡ Some b → ((q : ℕ) → is_kept after q ≡ cond (q == mark + i) m (is_kept now q)) → x i b (is_kept before (mark + i)) m
     → ((j c : ℕ) → j < i → slice_get olds j ≡ Some c → x j c (is_kept before (mark + j)) (is_kept now (mark + j)))
     → (j c : ℕ) → j < i + 1 → slice_get olds j ≡ Some c → x j c (is_kept before (mark + j)) (is_kept after (mark + j))
@@ -84,7 +84,7 @@ settled x olds before now after mark i b m e w h done j c l f = elim (cases_eq i
       subst (λ y. x j c (is_kept before (mark + j)) y) two (done j c (omega arith) f)
 ]
 
--- one more byte stays as it was
+-- The same if byte i stays as it was.
 pub settled_same : (x : ℕ → ℕ → Bool → Bool → Type 0) (olds before now : List ℕ) (mark i b : ℕ) → SameOutside before now mark i → slice_get olds i ≡ Some b → x i b (is_kept before (mark + i)) (is_kept before (mark + i))
     → ((j c : ℕ) → j < i → slice_get olds j ≡ Some c → x j c (is_kept before (mark + j)) (is_kept now (mark + j)))
     → (j c : ℕ) → j < i + 1 → slice_get olds j ≡ Some c → x j c (is_kept before (mark + j)) (is_kept now (mark + j))
@@ -95,7 +95,7 @@ settled_same x olds before now mark i b o e h done j c l f = elim (cases_eq i j)
   | inr other ↦ done j c (omega arith) f
 ]
 
--- ---- whether one is set
+-- ---- Whether any byte is recorded
 
 pub none_set : (gone : List ℕ) (i n : ℕ) → ((q : ℕ) → i ≤ q → q < i + n → is_kept gone q ≡ false) → list_any (λ k. k) (marks_from gone i n) ≡ false
 none_set gone i zero h = refl

@@ -1,4 +1,4 @@
--- Marks that say where the note of a slot stands.
+-- Lemmas about marks, which say at which index the note of a slot is.
 use Rattle.std.proofs.Common.{◌≡◌, ◌≢◌, ℕ, zero, suc, ◌<◌, Bool, true, false, cond, refl, sym, ◌∙◌, ap, subst, List, [], ◌∷◌, ◌++◌, length}
 use Rattle.std.specs.Prelude.{Option, Some, None, map, slice_get, slice_set, ◌==◌, is_some}
 use Rattle.std.proofs.lemmas.Bool.{eqb-true, eq-eqb}
@@ -13,7 +13,7 @@ use Rattle.places.proofs.SamePlace.{same_place_is, same_place_self}
 use Rattle.places.proofs.Naming.{once_more, noted_at_end}
 use Rattle.places.proofs.ListLemmas.{slice_get-set, slice_get-push}
 
--- a note with a mark of its own, behind the others
+-- Appending a note and setting the mark of its slot, which had no note.
 marked_more : {X : Type 0} (slot : X → ℕ) (xs : List X) (ms : List ℕ) (x : X) → Marked slot xs ms → slot x < length ms → ¬ (IsMarked slot xs ms (slot x)) → Marked slot (xs ++ x ∷ []) (slice_set ms (slot x) (length xs))
 marked_more slot xs ms x m h free k y e = by (length xs == k) refl
   where
@@ -30,7 +30,7 @@ marked_more slot xs ms x m h free k y e = by (length xs == k) refl
         slice_get-set ms (slot x) (slot y) (length xs) h ∙ ap (λ b. cond b (Some (length xs)) (slice_get ms (slot y))) (eq-eqb _ _ (ap slot one)) ∙ ap Some (eqb-true _ _ i)
     by false i = slice_get-set ms (slot x) (slot y) (length xs) h ∙ old (slot x == slot y) refl (got false i)
 
--- marks that reach further
+-- Extending the marks.
 marked_reached : {X : Type 0} (slot : X → ℕ) (xs : List X) (ms ns : List ℕ) → Marked slot xs ms → ((i : ℕ) → i < length ms → slice_get ns i ≡ slice_get ms i) → Marked slot xs ns
 marked_reached slot xs ms ns m h k x e = h (slot x) (slice_get_within ms (slot x) k (m k x e)) ∙ m k x e
 
@@ -38,7 +38,7 @@ unmarked_reached : {X : Type 0} (slot : X → ℕ) (xs : List X) (ms ns : List �
 unmarked_reached slot xs ms ns i m h free k = free (record { at = k.at; note = k.note; mark = ap (slice_get ms) (sym k.its) ∙ m k.at k.note k.there; there = k.there; its = k.its })
 
 module _ {X : Type 0} (change : X → Change) where
-  -- a place that one of the notes is of
+  -- The place of a note in the list has a note.
   named_there : (xs : List X) (k : ℕ) (x : X) → slice_get xs k ≡ Some x → is_some (named (map change xs) (change x).place) ≡ true
   unfolding named
   named_there [] k x e = absurd cc
@@ -58,7 +58,7 @@ module _ {X : Type 0} (change : X → Change) where
       by true e n = absurd (h 0 y refl (same_place_is _ _ e))
       by false e n = n
 
-  -- a place that none of the notes is of
+  -- A place that is not that of any note has none.
   pub named_nowhere : (xs : List X) (p : Place) → ((x : X) → (change x).place ≢ p) → named (map change xs) p ≡ None
   named_nowhere xs p h = named_unseen xs p (λ k x e. h x)
 
@@ -70,7 +70,7 @@ some_none : (n : Option (Option Value)) → n ≡ None → is_some n ≡ true �
 some_none None e f = cc
 some_none (Some x) e f = cc
 
--- a note of a place that is named changes nothing
+-- A second note of a place changes nothing.
 pub noted_again : (cs : List Change) (p : Place) (x : Option Value) → is_some (named cs p) ≡ true → Noted cs cs p x
 noted_again cs p x h q = by (named cs q) refl
   where
@@ -83,11 +83,11 @@ noted_again cs p x h q = by (named cs q) refl
     by (Some y) e = refl
 
 module _ {X : Type 0} (slot : X → ℕ) (change : X → Change) (one : (x y : X) → slot x ≡ slot y → (change x).place ≡ (change y).place) (apart : (x y : X) → (change x).place ≡ (change y).place → slot x ≡ slot y) where
-  -- a slot with a note
+  -- If the slot has a note, its place has one already.
   pub marked_noted : (xs : List X) (ms : List ℕ) (x : X) → IsMarked slot xs ms (slot x) → Noted (map change xs) (map change xs) (change x).place (change x).old
   marked_noted xs ms x k = noted_again _ _ _ (subst (λ p. is_some (named (map change xs) p) ≡ true) (one k.note x k.its) (named_there change xs k.at k.note k.there))
 
-  -- a slot without a note is not named
+  -- If the slot has no note, its place has none.
   unmarked_unnamed : (xs : List X) (ms : List ℕ) (x : X) → Marked slot xs ms → ¬ (IsMarked slot xs ms (slot x)) → named (map change xs) (change x).place ≡ None
   unmarked_unnamed xs ms x m free = named_unseen change xs _ (λ k y g i. free (record { at = k; note = y; mark = ap (slice_get ms) (sym (apart y x i)) ∙ m k y g; there = g; its = apart y x i }))
 
@@ -97,7 +97,7 @@ module _ {X : Type 0} (slot : X → ℕ) (change : X → Change) (one : (x y : X
   pub slots_reached : (xs : List X) (ms ns : List ℕ) → SlotsOnce slot change xs ms → ((i : ℕ) → i < length ms → slice_get ns i ≡ slice_get ms i) → SlotsOnce slot change xs ns
   slots_reached xs ms ns o h = record { marked = marked_reached slot xs ms ns o.marked h; once = o.once }
 
-  -- one more note, with its mark, once the marks reach it
+  -- Appending a note and setting its mark maintains the invariant.
   pub slots_once : (xs : List X) (ms ns : List ℕ) (x : X) → SlotsOnce slot change xs ms → ((i : ℕ) → i < length ms → slice_get ns i ≡ slice_get ms i) → slot x < length ns → ¬ (IsMarked slot xs ms (slot x)) → SlotsOnce slot change (xs ++ x ∷ []) (slice_set ns (slot x) (length xs))
   slots_once xs ms ns x o h l free = record {
     marked = marked_more slot xs ns x (marked_reached slot xs ms ns o.marked h) l (unmarked_reached slot xs ms ns (slot x) o.marked h free);

@@ -1,4 +1,4 @@
--- Old bytes beside marks.
+-- Lemmas about old bytes together with the bit set of dropped ones.
 use Rattle.std.proofs.Common.{◌≡◌, ◌≢◌, ℕ, zero, suc, not, ◌<◌, ◌≤◌, ◌+◌, Bool, true, false, refl, sym, ◌∙◌, ap, subst, List, [], ◌∷◌, ◌++◌, inl, inr, length, take, drop, ◌-◌, ◌^◌, arith, length-append}
 use Rattle.std.specs.Prelude.{Option, Some, None, map, is_some, slice_get, option_map, replicate, slice_index_or}
 use Rattle.std.specs.List.{list_any}
@@ -50,7 +50,7 @@ masked-all (b ∷ bs) = ap (λ os. Some b ∷ os) (masked-all bs)
 pub length_kept : (bs gone : List ℕ) (i : ℕ) → length (masked bs (marks_from gone i (length bs))) ≡ length bs
 length_kept bs gone i = length-masked bs (marks_from gone i (length bs)) (length_marks gone i (length bs))
 
--- bytes that are appended, all of them kept
+-- Appended bytes are not dropped.
 pub masked_more : (bs cs before after : List ℕ) → ((q : ℕ) → is_kept after q ≡ is_kept before q) → ((q : ℕ) → length bs ≤ q → is_kept before q ≡ true)
     → masked (bs ++ cs) (marks_from after 0 (length (bs ++ cs))) ≡ masked bs (marks_from before 0 (length bs)) ++ map Some cs
 masked_more bs cs before after same fresh =
@@ -61,7 +61,7 @@ masked_more bs cs before after same fresh =
     ∙ ap (λ ks. masked bs (marks_from before 0 (length bs)) ++ masked cs ks) (all_marks after (0 + length bs) (length cs) (λ q l. same q ∙ fresh q (omega arith)))
     ∙ ap (λ os. masked bs (marks_from before 0 (length bs)) ++ os) (masked-all cs)
 
--- bytes of which none has gone
+-- Without any bits no byte is dropped.
 pub masked_whole : (bs : List ℕ) (mark : ℕ) → masked bs (marks_from [] mark (length bs)) ≡ map (λ b. Some b) bs
 masked_whole bs mark = ap (masked bs) (all_marks [] mark (length bs) (λ q h. ap not (has_past [] q (omega arith)))) ∙ masked-all bs
 
@@ -71,7 +71,7 @@ no_marks (b ∷ bs) [] h = refl
 no_marks (b ∷ bs) (true ∷ ks) h = cc
 no_marks (b ∷ bs) (false ∷ ks) h = no_marks bs ks h
 
--- a byte and its mark
+-- A recorded or dropped byte, as its value and its bit.
 pub masked_at : (bs : List ℕ) (ks : List Bool) (i : ℕ) (o : Option ℕ) → slice_get (masked bs ks) i ≡ Some o → (b : ℕ) × (k : Bool) × (slice_get bs i ≡ Some b) × (slice_get ks i ≡ Some k) × (o ≡ kept_byte k b)
 masked_at [] ks i o h = absurd cc
 masked_at (b ∷ bs) [] i o h = absurd cc
@@ -94,7 +94,7 @@ mark_left x b false l (inr h) = rw (h.0) refl
 mark_left x b true l (inl h) = rw (h.0) (inl (refl, some_other x b h.1))
 mark_left x b true l (inr h) = rw (h.0, h.1) (inr (refl, refl))
 
--- what is left of bytes, by their marks
+-- What remains of bytes, if each bit changes as the current value of its place requires.
 pub each_left : (v : View) (g : Region) (s : ℕ) (bs before after : List ℕ) (mark : ℕ)
     → ((i b : ℕ) → slice_get bs i ≡ Some b → LeftOf (v (place_in g (s + i))) (kept_byte (is_kept before (mark + i)) b) (kept_byte (is_kept after (mark + i)) b))
     → KeptOf v (old_bytes g s (masked bs (marks_from before mark (length bs)))) (old_bytes g s (masked bs (marks_from after mark (length bs))))
@@ -116,7 +116,7 @@ each_left v g s bs before after mark h =
         let r' : kept_byte (is_kept after (mark + i)) a.0 ≡ r = sym (b.4 ∙ ap (kept_byte b.1) same ∙ ap (λ k. kept_byte k a.0) (mark_is after mark (length bs) i b.1 b.3)) in
         subst (λ x. LeftOf (v (place_in g (s + i))) x r) o' (subst (λ x. LeftOf (v (place_in g (s + i))) (kept_byte (is_kept before (mark + i)) a.0) x) r' (h i a.0 a.2))
 
--- the same, where marks were taken from the bytes that are the same as those of a slice
+-- The same if the current bytes are compared as a slice.
 pub marks_left : (v : View) (g : Region) (s : ℕ) (bs now before after : List ℕ) (mark : ℕ) → ((i : ℕ) → v (place_in g i) ≡ option_map Byte (slice_get now i))
     → ((i b : ℕ) → slice_get bs i ≡ Some b → LeftMark (slice_get now (s + i)) b (is_kept before (mark + i)) (is_kept after (mark + i)))
     → KeptOf v (old_bytes g s (masked bs (marks_from before mark (length bs)))) (old_bytes g s (masked bs (marks_from after mark (length bs))))
@@ -124,7 +124,7 @@ marks_left v g s bs now before after mark seen h =
     each_left v g s bs before after mark
     (λ i b e. subst (λ x. LeftOf x (kept_byte (is_kept before (mark + i)) b) (kept_byte (is_kept after (mark + i)) b)) (sym (seen (s + i))) (mark_left (slice_get now (s + i)) b (is_kept before (mark + i)) (is_kept after (mark + i)) (h i b e)))
 
--- what stands there decides
+-- A byte whose place has the old value is dropped, and any other stays.
 pub left_gone : (x : Option Value) (b : ℕ) (k : Bool) → x ≡ Some (Byte b) → LeftOf x (kept_byte k b) (kept_byte false b)
 left_gone x b false h = refl
 left_gone x b true h = inr (refl, sym h)
@@ -133,7 +133,7 @@ pub left_kept : (x : Option Value) (b : ℕ) (k : Bool) → x ≢ Some (Byte b) 
 left_kept x b false h = refl
 left_kept x b true h = inl (refl, λ e. h (sym e))
 
--- what is left of a run and of the runs behind it
+-- What remains of a run and of the runs after it.
 pub masked_runs : (v : View) (r : Run) (rs : List Run) (bs fb bb : List ℕ) (ks fk bk fl bl : List Bool) → fb ≡ take r.len bs → bb ≡ drop r.len bs → fk ≡ take r.len ks → bk ≡ drop r.len ks → length fb ≡ r.len → length fl ≡ length fb
     → KeptOf v (old_bytes r.region r.start (masked fb fk)) (old_bytes r.region r.start (masked fb fl)) → KeptOf v (run_changes rs (masked bb bk)) (run_changes rs (masked bb bl)) → KeptOf v (run_changes (r ∷ rs) (masked bs ks)) (run_changes (r ∷ rs) (masked bs (fl ++ bl)))
 masked_runs v r rs bs fb bb ks fk bk fl bl a b c d e f h k =
@@ -142,7 +142,7 @@ masked_runs v r rs bs fb bb ks fk bk fl bl a b c d e f h k =
     (subst (λ os. KeptOf v (old_bytes r.region r.start os) (old_bytes r.region r.start (masked fb fl))) (sym (masked-take r.len bs ks ∙ ap (λ x. masked x (take r.len ks)) (sym a) ∙ ap (masked fb) (sym c))) h)
     (subst (λ os. KeptOf v (run_changes rs os) (run_changes rs (masked bb bl))) (sym (masked-drop r.len bs ks ∙ ap (λ x. masked x (drop r.len ks)) (sym b) ∙ ap (masked bb) (sym d))) k))
 
--- the same, by the marks that begin at one
+-- The same for bits that begin at number `mark`.
 pub marked_runs : (v : View) (r : Run) (rs : List Run) (bs fb bb before mid after : List ℕ) (mark : ℕ) → fb ≡ take r.len bs → bb ≡ drop r.len bs → length fb ≡ r.len → length bs ≡ length fb + length bb
     → SameOutside before mid mark (length fb) → SameOutside mid after (mark + r.len) (length bb)
     → KeptOf v (old_bytes r.region r.start (masked fb (marks_from before mark (length fb)))) (old_bytes r.region r.start (masked fb (marks_from mid mark (length fb))))
@@ -170,7 +170,7 @@ marked_runs v r rs bs fb bb before mid after mark a b e n o p h k =
     others : marks_from mid (mark + r.len) (length bb) ≡ marks_from before (mark + r.len) (length bb)
     others = same_marks before mid (mark + r.len) (length bb) (λ q l m. o q (inr (omega arith)))
 
--- a first byte that is kept, and those behind it
+-- The first byte, if it is recorded, and the changes after it.
 first_is : (g : Region) (s n b : ℕ) (os : List ℕ) (k : Bool) (ks : List Bool) (rs : List Run) → 1 ≤ n → k ≡ true
     → old_bytes g s (take n (masked (b ∷ os) (k ∷ ks))) ++ run_changes rs (drop n (masked (b ∷ os) (k ∷ ks))) ≡ record { place = place_in g s; old = Some (Byte b) } ∷ (old_bytes g (s + 1) (take (n - 1) (masked os ks)) ++ run_changes rs (drop (n - 1) (masked os ks)))
 first_is g s zero b os k ks rs h e = absurd (omega arith)
@@ -185,7 +185,7 @@ first_kept g s n (o ∷ os) gone mark rs b h i k =
     let l : suc (length os) - 1 ≡ length os = omega arith in
     rw (l, take_all (length os) os (omega arith)) (first_is g s n o os (is_kept gone mark) (marks_from gone (mark + 1) (length os)) rs h k)
 
--- a run behind the others, with its bytes
+-- Appending a run maintains the invariant of recorded bytes.
 pub masked_once : (rs : List Run) (r : Run) (os before after bs : List ℕ) → MaskedOnce rs os before → ((q : ℕ) → is_kept after q ≡ is_kept before q) → r.len ≡ length bs → r.start + r.len ≤ 2 ^ 32
     → ((i : ℕ) → i < length bs → named (run_changes rs (masked os (marks_from before 0 (length os)))) (place_in r.region (r.start + i)) ≡ None) → MaskedOnce (rs ++ r ∷ []) (os ++ bs) after
 masked_once rs r os before after bs o same l w fresh = record {
@@ -193,7 +193,7 @@ masked_once rs r os before after bs o same l w fresh = record {
   fresh = λ q h. same q ∙ o.fresh q (omega (arith, length-append os bs));
 }
 
--- runs, once some of their bytes went
+-- So does dropping bytes.
 pub marks_closed : (v : View) (rs : List Run) (bs before after : List ℕ) → MaskedOnce rs bs before → ((q : ℕ) → length bs ≤ q → is_kept after q ≡ is_kept before q)
     → KeptOf v (run_changes rs (masked bs (marks_from before 0 (length bs)))) (run_changes rs (masked bs (marks_from after 0 (length bs)))) → MaskedOnce rs bs after
 marks_closed v rs bs before after o same k = record {
@@ -204,7 +204,7 @@ marks_closed v rs bs before after o same k = record {
 pub masked_nothing : MaskedOnce [] [] []
 masked_nothing = record { once = record { fits = refl; within = tt; once = tt }; fresh = λ q h. ap not (has_past [] q (omega arith)) }
 
--- the first run, and those behind it
+-- The changes of the first run, and those of the runs after it.
 pub first_run : (rs : List Run) (d : Run) (bs fb bb : List ℕ) (ks fk bk : List Bool) → 1 ≤ length rs → fb ≡ take (slice_index_or rs 0 d).len bs → bb ≡ drop (slice_index_or rs 0 d).len bs → fk ≡ take (slice_index_or rs 0 d).len ks → bk ≡ drop (slice_index_or rs 0 d).len ks
     → run_changes rs (masked bs ks) ≡ old_bytes (slice_index_or rs 0 d).region (slice_index_or rs 0 d).start (masked fb fk) ++ run_changes (take (length rs - 1) (drop 1 rs)) (masked bb bk)
 first_run [] d bs fb bb ks fk bk h a b e f = absurd (omega arith)
@@ -216,7 +216,7 @@ first_fits : (rs : List Run) (d : Run) → 1 ≤ length rs → (slice_index_or r
 first_fits [] d h = absurd (omega arith)
 first_fits (r ∷ rs) d h = omega arith
 
--- the same, by the marks that begin at one
+-- The same for bits that begin at number `mark`.
 pub first_stretch : (rs : List Run) (d : Run) (bs fb bb gone : List ℕ) (mark : ℕ) → 1 ≤ length rs → run_total rs ≡ length bs → fb ≡ take (slice_index_or rs 0 d).len bs → bb ≡ drop (slice_index_or rs 0 d).len bs
     → run_changes rs (masked bs (marks_from gone mark (length bs))) ≡ old_bytes (slice_index_or rs 0 d).region (slice_index_or rs 0 d).start (masked fb (marks_from gone mark (length fb))) ++ run_changes (take (length rs - 1) (drop 1 rs)) (masked bb (marks_from gone (mark + (slice_index_or rs 0 d).len) (length bb)))
 first_stretch rs d bs fb bb gone mark h total a b =

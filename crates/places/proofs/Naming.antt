@@ -1,4 +1,4 @@
--- What a list of notes names.
+-- Which places a list of notes names.
 use Rattle.std.proofs.Common.{◌≡◌, Bool, true, false, cond, refl, ◌∙◌, ap, List, [], ◌∷◌, ◌++◌}
 use Rattle.std.specs.Prelude.{Option, Some, None, is_some, map, ◌||◌}
 use Rattle.std.specs.List.{list_any}
@@ -18,14 +18,14 @@ pub named-one : (c : Change) (p : Place) → named (c ∷ []) p ≡ cond (same_p
 unfolding named
 named-one c p = refl
 
--- one more note, at the end
+-- One more note at the end.
 pub named-more : (cs : List Change) (c : Change) (p : Place) → named (cs ++ c ∷ []) p ≡ first_note (named cs p) (cond (same_place c.place p) (Some c.old) None)
 named-more cs c p = named-append cs (c ∷ []) p ∙ ap (first_note (named cs p)) (named-one c p)
 
 some_is_none : {X : Type 0} (x : X) → Some x ≡ None → ⊥
 some_is_none x h = cc
 
--- a place that was not named is named once, at the end
+-- Appending the note of a new place leaves at most one note for each place.
 pub once_more : (cs : List Change) (c : Change) → NamesOnce cs → named cs c.place ≡ None → NamesOnce (cs ++ c ∷ [])
 unfolding named
 once_more [] c h n = (refl, tt)
@@ -37,7 +37,7 @@ once_more (d ∷ cs) c h n =
     unnamed true e k = absurd (some_is_none d.old k)
     unnamed false e k = (same_place-sym c.place d.place ∙ e, k)
 
--- a place is named where one of the notes is of it
+-- A place is named exactly if it is the place of one of the notes.
 pub list_any-named : (cs : List Change) (p : Place) → list_any (λ c. same_place c.place p) cs ≡ is_some (named cs p)
 unfolding named
 list_any-named [] p = refl

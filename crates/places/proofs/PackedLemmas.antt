@@ -1,4 +1,4 @@
--- Notes that are put behind bytes, one after the other.
+-- Appending notes to packed bytes, one after the other.
 use Rattle.std.proofs.Common.{◌≡◌, ℕ, ◌+◌, ◌<◌, refl, sym, ◌∙◌, ap, subst, List, [], ◌∷◌, ◌++◌, length, take, get_or}
 use Rattle.std.specs.Prelude.{map}
 use Rattle.std.proofs.lemmas.List.{take_more}
@@ -10,7 +10,7 @@ map_push : {X : Type 0} (change : X → Change) (ys : List X) (z : X) → map ch
 map_push change [] z = refl
 map_push change (w ∷ ys) z = ap (λ zs. change w ∷ zs) (map_push change ys z)
 
--- the next note's change
+-- Appending note i after the first i notes appends the first i + 1.
 pub puts_note : {X : Type 0} (change : X → Change) (read : List ℕ → Change) (behind : List ℕ → List ℕ) (a b c : List ℕ) (xs : List X) (i : ℕ) (d : X) (y : Change) → i < length xs → y ≡ change (get_or xs i d) → Puts read behind a (map change (take i xs)) b → Puts read behind b (y ∷ []) c → Puts read behind a (map change (take (i + 1) xs)) c
 puts_note change read behind a b c xs i d y h e f g =
     let m : map change (take i xs) ++ y ∷ [] ≡ map change (take (i + 1) xs) = ap (λ z. map change (take i xs) ++ z ∷ []) e ∙ sym (map_push change (take i xs) (get_or xs i d)) ∙ ap (map change) (sym (take_more xs i d h)) in

@@ -1,4 +1,4 @@
--- The changes of a record are those of the notes that it was made of.
+-- A record has the changes of the notes that it was made of.
 use Rattle.std.proofs.Common.{◌≡◌, ℕ, ◌+◌, ◌<◌, ◌≤◌, true, false, refl, sym, ◌∙◌, ap, subst, List, [], ◌∷◌, ◌++◌, length, append_assoc, length-append, arith, inl, inr}
 use Rattle.std.proofs.lemmas.List.{length-map}
 use Rattle.std.specs.Prelude.{map}
@@ -20,7 +20,7 @@ use Rattle.numerals.proofs.ReadingLemmas.{puts_more}
 use Rattle.places.proofs.ChangeLemmas.{packed_put}
 use Rattle.places.specs.All.{all_changes, record_changes, NothingNoted, IsReady}
 
--- nothing is kept of nothing
+-- Nothing remains of no notes.
 pub kept_nothing : {X : Type 0} (change : X → Change) (v : View) (xs ys : List X) → xs ≡ [] → KeptOf v (map change xs) (map change ys) → ys ≡ []
 kept_nothing change v xs [] e k = refl
 kept_nothing change v xs (y ∷ ys) e k = absurd (let h : map change (y ∷ ys) ≡ [] = subst (λ zs. KeptOf v (map change zs) (map change (y ∷ ys))) e k in cc)
@@ -30,7 +30,7 @@ nothing_there ns cs rs r w (inl e) f = absurd (let t : true ≡ false = sym e �
 nothing_there ns cs rs r w (inr n) f = n
 
 module _ (ns : List NumberNote) (cs : List CompletionNote) (rs : List RowNote) (x : RestList) (ps : List Change) (w : WideList) where
-  -- all of them packed
+  -- The changes of a record whose notes are packed.
   pub packed_changes : ps ≡ map number_change ns ++ (map completion_change cs ++ map row_change rs) → w.numbers ≡ [] → w.completions ≡ [] → w.rows ≡ [] → record_changes ps w x ≡ all_changes ns cs rs x
   packed_changes e f g h =
       let a = map number_change ns in
@@ -40,11 +40,11 @@ module _ (ns : List NumberNote) (cs : List CompletionNote) (rs : List RowNote) (
       rw (e, f, g, h)
       (sym (append_assoc (a ++ (b ++ c)) d x.odd) ∙ ap (λ zs. zs ++ x.odd) (append_assoc a (b ++ c) d ∙ ap (λ zs. a ++ zs) (append_assoc b c d)))
 
-  -- or as they were made
+  -- The changes of a record whose notes are not packed.
   pub wide_changes : ps ≡ [] → w.numbers ≡ ns → w.completions ≡ cs → w.rows ≡ rs → record_changes ps w x ≡ all_changes ns cs rs x
   wide_changes e f g h = rw (e, f, g, h) refl
 
--- notes that were put behind their count
+-- The number of notes, followed by the notes of each kind, is read as their changes.
 pub notes_packed : (ns : List NumberNote) (cs : List CompletionNote) (rs : List RowNote) (n : ℕ) (a b c d e : List ℕ) → a ≡ [] → n ≡ length ns + (length cs + length rs) → Puts number_of after a (n ∷ []) b → Puts change_of after_change b (map number_change ns) c → Puts change_of after_change c (map completion_change cs) d → Puts change_of after_change d (map row_change rs) e → packed e ≡ map number_change ns ++ (map completion_change cs ++ map row_change rs)
 notes_packed ns cs rs n a b c d e z l f g h k =
     let A = map number_change ns in
@@ -55,12 +55,12 @@ notes_packed ns cs rs n a b c d e z l f g h k =
     f
     (puts_more change_of after_change b c e A (B ++ C) g (puts_more change_of after_change c d e B C h k))
 
--- memory that is promised is there
+-- If memory for notes is reserved, the box for unpacked notes is allocated.
 pub ready_held : (ns : List NumberNote) (cs : List CompletionNote) (rs : List RowNote) (r : Room) (w : WideList) → IsReady ns cs rs r w → 0 < r.held → w.is_ready ≡ true
 ready_held ns cs rs r w (inl e) h = e
 ready_held ns cs rs r w (inr n) h = absurd (let k = n.held in omega arith)
 
--- and where less is promised
+-- This stays so if less is reserved.
 pub ready_less : (ns : List NumberNote) (cs : List CompletionNote) (rs : List RowNote) (r q : Room) (w : WideList) → IsReady ns cs rs r w → q.held ≤ r.held → IsReady ns cs rs q w
 ready_less ns cs rs r q w (inl e) h = inl e
 ready_less ns cs rs r q w (inr n) h = inr (record { numbers = n.numbers; completions = n.completions; rows = n.rows; held = let k = n.held in omega arith })

@@ -1,4 +1,4 @@
--- A list whose elements come and go at its end, as a record gives it back: first it is cut, then written over.
+-- Restoring a list that had grown: it is truncated, and then its elements are overwritten.
 use Rattle.std.proofs.Common.{◌≡◌, ℕ, Bool, true, false, cond, refl, sym, ◌∙◌, ap, subst, List, [], ◌∷◌, length, take, ◌<◌, ◌≤◌, ◌⊎◌, inl, inr, arith}
 use Rattle.std.specs.Prelude.{Option, Some, None, option_map, slice_get, unwrap_or}
 use Rattle.std.proofs.lemmas.Option.{slice_get_past}
@@ -18,14 +18,14 @@ use Rattle.places.proofs.ListLemmas.{slice_get_none, slice_get-take_below, slice
 order : (a b : ℕ) → (a ≤ b) ⊎ (b < a)
 order a b = elim (leb_tells a b) [ inl k ↦ inl k.1 | inr k ↦ inr k.1 ]
 
--- a place with a number is that element's
+-- A place that has number i in a list is the place of element i.
 numbered : (l : Listed) (p : Place) (i : ℕ) → number_in l p ≡ Some i → p ≡ element l i
 numbered Requests (Request j) i e = let k : j ≡ i = cc in ap Request k
 numbered Requests _ i e = absurd cc
 numbered Overflowed (Backlog j) i e = let k : j ≡ i = cc in ap Backlog k
 numbered Overflowed _ i e = absurd cc
 
--- and an element's place has its number
+-- The place of element i has number i.
 number_of_element : (l : Listed) (i : ℕ) → number_in l (element l i) ≡ Some i
 number_of_element Requests i = refl
 number_of_element Overflowed i = refl
@@ -41,12 +41,12 @@ after_cases l p v n = by (number_in l p) v refl
 after_le : (l : Listed) (p : Place) (v : Option Value) (n : ℕ) → after_change l p v n ≤ n
 after_le l p v n = elim (after_cases l p v n) [ inl k ↦ omega arith | inr k ↦ let a = k.3 in let b = k.4 in omega arith ]
 
--- no more stay than there were
+-- No more elements remain than there were.
 pub left_le : (l : Listed) (cs : List Change) (n : ℕ) → left l cs n ≤ n
 left_le l [] n = omega arith
 left_le l (c ∷ cs) n = let a = left_le l cs (after_change l c.place c.old n) in let b = after_le l c.place c.old n in omega arith
 
--- an element that is named as absent goes
+-- An element that is named as absent does not remain.
 pub left_named : (l : Listed) (cs : List Change) (n i : ℕ) → named cs (element l i) ≡ Some None → left l cs n ≤ i
 unfolding named
 left_named l [] n i h = absurd cc
@@ -65,7 +65,7 @@ left_named l (c ∷ cs) n i h = by (same_place c.place (element l i)) refl h (le
         omega arith
     by false e k later = later k
 
--- all stay, or the first that goes is named as absent
+-- All elements remain, or the first that does not is named as absent.
 pub left_is : (l : Listed) (cs : List Change) (n : ℕ) → NamesOnce cs → (left l cs n ≡ n) ⊎ ((i : ℕ) × (left l cs n ≡ i) × (named cs (element l i) ≡ Some None))
 unfolding named
 left_is l [] n o = inl refl
@@ -84,7 +84,7 @@ left_is l (c ∷ cs) n o = by (after_cases l c.place c.old n) (left_is l cs (aft
     by (inl e) (inl k) = inl (k ∙ e)
     by (inr e) (inl k) = inr (e.0, k ∙ e.3, here e.0 e.1 e.2)
 
--- what is counted note by note is up to the least that is named as absent
+-- The number computed change by change satisfies `IsLeft`.
 pub left_least : (l : Listed) (cs : List Change) (n : ℕ) → NamesOnce cs → IsLeft l cs n (left l cs n)
 left_least l cs n o = record {
   most = left_le l cs n;
@@ -95,7 +95,7 @@ left_least l cs n o = record {
   ];
 }
 
--- what the notes give back of a list that had grown
+-- ---- A list `ys` that had grown from `xs`, and changes that lead back to `xs`
 
 module _ {X : Type 0} (f : X → Value) (l : Listed) (xs ys : List X) (cs : List Change) (left : ℕ) (h : IsLeft l cs (length ys) left) (grown : length xs ≤ length ys) (back : (i : ℕ) → unwrap_or (named cs (element l i)) (option_map f (slice_get ys i)) ≡ option_map f (slice_get xs i)) where
   absent : (zs : List X) (i : ℕ) → option_map f (slice_get zs i) ≡ None → length zs ≤ i
@@ -105,7 +105,7 @@ module _ {X : Type 0} (f : X → Value) (l : Listed) (xs ys : List X) (cs : List
       by None k = refl
       by (Some x) k = absurd cc
 
-  -- as many stay as there were
+  -- As many elements remain as `xs` has.
   pub left_all : left ≡ length xs
   left_all = let a = up h.reached in let b = down (order (length ys) (length xs)) in omega arith
     where
@@ -131,7 +131,7 @@ module _ {X : Type 0} (f : X → Value) (l : Listed) (xs ys : List X) (cs : List
           let n : named cs (element l (length xs)) ≡ Some None = taken (named cs (element l (length xs))) x.0 (ap (unwrap_or (named cs (element l (length xs)))) (sym x.1) ∙ back (length xs) ∙ ap (option_map f) (slice_get_past xs (length xs) (omega arith))) in
           h.least (length xs) n
 
-  -- once those that go are gone, the others are written over
+  -- Undoing the changes on the truncated list gives `xs`.
   pub left_back : (i : ℕ) → unwrap_or (named cs (element l i)) (option_map f (slice_get (take left ys) i)) ≡ option_map f (slice_get xs i)
   left_back i = by (order left i)
     where

@@ -1,4 +1,4 @@
--- The tests of sameness decide what is one and the same.
+-- The tests of equality in `Sameness` decide whether values are equal.
 use Rattle.std.proofs.Common.{◌≡◌, ℕ, Bool, false, refl, ap}
 use Rattle.std.specs.Prelude.{Option, Some, None}
 use Rattle.std.specs.Bool.{Decides}
@@ -17,7 +17,7 @@ use Rattle.places.specs.declared.value.Value.{Value}
 use Rattle.places.specs.declared.value.Value.TheVariants.{Number, Signed, Byte, Entry, Completed, Requested, Staged, Reaped, Awake}
 use Rattle.places.specs.Sameness.{same_number, numbers_of, same_entry, same_completion, same_phase, same_row, same_stage, same_value, is_same}
 
--- two that differ, by a test that says no
+-- A test that returns false decides a statement that is false.
 differing : {P : Type 0} → (P → ⊥) → Decides false P
 differing f = (λ e. cc, λ p. absurd (f p))
 
@@ -117,7 +117,7 @@ value_decides (Reaped a) (Reaped b) = Decides-like _ (λ e. ap Reaped e) (λ e. 
 value_decides (Awake a) (Awake b) = Decides-like _ (λ e. ap Awake e) (λ e. cc) (booleans_Decides a b)
 value_decides _ _ = differing (λ e. cc)
 
--- whether the same stands in a place at two moments
+-- `is_same` decides whether two optional values are equal.
 pub same_decides : (a b : Option Value) → Decides (is_same a b) (a ≡ b)
 unfolding is_same
 same_decides = optional same_value value_decides

@@ -1,4 +1,4 @@
--- Notes of one kind name no places of another.
+-- Notes of different kinds share no place.
 use Rattle.std.proofs.Common.{◌≡◌, ◌≢◌, ℕ, ◌+◌, Bool, true, false, cond, refl, sym, ◌∙◌, ap, List, [], ◌∷◌, ◌++◌, take, drop}
 use Rattle.std.specs.Prelude.{Option, Some, None, map, ◌==◌}
 use Rattle.std.proofs.lemmas.Bool.{eq-eqb}
@@ -28,7 +28,7 @@ use Rattle.places.proofs.ByteLemmas.{once_append}
 use Rattle.places.proofs.Kept.{kept_append}
 use Rattle.places.proofs.Joining.{noted_before_others, noted_behind_others, bytes_behind, none_append, sorts_apart}
 
--- the kinds of notes: numbers, completions, rows and other places, bytes
+-- The kinds of notes: numbers 0, completions 1, requests and other places 2, bytes 3.
 pub sort_of : Place → ℕ
 sort_of SubmissionHead = 0
 sort_of SubmissionTail = 0
@@ -178,7 +178,7 @@ other : {m n k : ℕ} → m ≡ n → (n == k) ≡ false → m ≢ k
 other {m} {n} {k} e f g = absurd (let h : n ≡ k = sym e ∙ g in let t : (n == n) ≡ false = ap (λ i. n == i) h ∙ f in cc (eq-eqb n n refl))
 
 module _ (ns : List NumberNote) (cs : List CompletionNote) (rs : List RowNote) (xs : List Run) (os : List (Option ℕ)) where
-  -- what is behind numbers, completions, rows
+  -- The notes after those of numbers, of completions, and of requests name no place of that kind.
   behind_numbers : (p : Place) → sort_of p ≡ 0 → named (map completion_change cs ++ (map row_change rs ++ run_changes xs os)) p ≡ None
   behind_numbers p e = none_append (map completion_change cs) (map row_change rs ++ run_changes xs os) p (completions_elsewhere cs p (other e refl)) (none_append (map row_change rs) (run_changes xs os) p (rows_elsewhere rs p (other e refl)) (bytes_elsewhere xs os p (other e refl)))
 
@@ -188,7 +188,7 @@ module _ (ns : List NumberNote) (cs : List CompletionNote) (rs : List RowNote) (
   behind_rows : (p : Place) → sort_of p ≡ 2 → named (run_changes xs os) p ≡ None
   behind_rows p e = bytes_elsewhere xs os p (other e refl)
 
-  -- a note of one kind is a note of all
+  -- Adding a note to one kind adds it to the joined list.
   pub number_of_kinds : (ms : List NumberNote) (p : Place) (x : Option Value) → is_number p ≡ true → Noted (map number_change ns) (map number_change ms) p x → Noted (kind_changes ns cs rs (run_changes xs os)) (kind_changes ms cs rs (run_changes xs os)) p x
   number_of_kinds ms p x i h = noted_before_others (map number_change ns) (map number_change ms) (map completion_change cs ++ (map row_change rs ++ run_changes xs os)) p x h (behind_numbers p (number_sort p i))
 
@@ -201,7 +201,7 @@ module _ (ns : List NumberNote) (cs : List CompletionNote) (rs : List RowNote) (
   pub bytes_of_kinds : (ys : List Run) (ps : List (Option ℕ)) (g : Region) (s : ℕ) (bs : List ℕ) → NotedBytes (run_changes xs os) (run_changes ys ps) g s bs → NotedBytes (kind_changes ns cs rs (run_changes xs os)) (kind_changes ns cs rs (run_changes ys ps)) g s bs
   bytes_of_kinds ys ps g s bs h = bytes_behind (map number_change ns) _ (map completion_change cs ++ (map row_change rs ++ run_changes ys ps)) g s bs (bytes_behind (map completion_change cs) _ (map row_change rs ++ run_changes ys ps) g s bs (bytes_behind (map row_change rs) (run_changes xs os) (run_changes ys ps) g s bs h))
 
-  -- the kinds together name each place once
+  -- The joined list has at most one note for each place.
   pub kinds_once : NamesOnce (map number_change ns) → NamesOnce (map completion_change cs) → NamesOnce (map row_change rs) → NamesOnce (run_changes xs os) → NamesOnce (kind_changes ns cs rs (run_changes xs os))
   kinds_once a b c d =
       once_append (map number_change ns) (map completion_change cs ++ (map row_change rs ++ run_changes xs os)) a
@@ -210,7 +210,7 @@ module _ (ns : List NumberNote) (cs : List CompletionNote) (rs : List RowNote) (
       (sorts_apart sort_of 1 (map completion_change cs) (map row_change rs ++ run_changes xs os) (completions_elsewhere cs) behind_completions))
       (sorts_apart sort_of 0 (map number_change ns) (map completion_change cs ++ (map row_change rs ++ run_changes xs os)) (numbers_elsewhere ns) behind_numbers)
 
--- what closing leaves of all
+-- What remains of the joined list when a recorder is closed.
 pub all_kept : (v : View) (ns ns' : List NumberNote) (cs cs' : List CompletionNote) (rs rs' : List RowNote) (x x' : RestList) → KeptOf v (map number_change ns) (map number_change ns') → KeptOf v (map completion_change cs) (map completion_change cs') → KeptOf v (map row_change rs) (map row_change rs') → KeptOf v (run_changes x.runs x.olds) (run_changes x'.runs x'.olds) → KeptOf v x.odd x'.odd → KeptOf v (all_changes ns cs rs x) (all_changes ns' cs' rs' x')
 all_kept v ns ns' cs cs' rs rs' x x' a b c d e =
     kept_append v (kind_changes ns cs rs (run_changes x.runs x.olds)) x.odd (kind_changes ns' cs' rs' (run_changes x'.runs x'.olds)) x'.odd

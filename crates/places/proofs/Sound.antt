@@ -1,4 +1,4 @@
--- What a recorder's notes say together.
+-- The invariant of a recorder is maintained by each call.
 use Rattle.std.proofs.Common.{◌≡◌, ℕ, ◌+◌, ◌-◌, ◌<◌, ◌≤◌, true, refl, sym, ◌∙◌, ap, List, ◌++◌, [], ◌∷◌, arith, length}
 use Rattle.std.specs.Prelude.{Option, Some, None, is_some, map, ◌||◌}
 use Rattle.places.specs.declared.place.Place.{Place}
@@ -22,7 +22,7 @@ use Rattle.places.proofs.ByteLemmas.{once_append, byte_in_there}
 use Rattle.places.proofs.Joining.{noted_before_others, noted_behind_others, bytes_before, none_parts, apart_noted, apart_bytes, apart_more}
 use Rattle.places.proofs.Sorts.{sort_of, number_of_kinds, completion_of_kinds, row_of_kinds, bytes_of_kinds, kinds_once}
 
--- a recorder with no notes
+-- A recorder without notes satisfies the invariant.
 pub sound_empty : (ns : SlotList NumberNote) (cs : SlotList CompletionNote) (rs : SlotList RowNote) (x : RestList) (r : Room) → x.olds ≡ [] → x.odd ≡ [] → r ≡ record { numbers = 0; completions = 0; others = 0; held = 0 } → IsSound ns cs rs x r
 unfolding named
 sound_empty ns cs rs x r d e f = rw (f) (record {
@@ -35,7 +35,7 @@ sound_empty ns cs rs x r d e f = rw (f) (record {
   spare = omega arith;
 })
 
--- less is promised of one kind, and no more is taken of it than that
+-- After one note of a kind there is memory for one fewer.
 pub less_room : {X : Type 0} (n m limit : ℕ) (s t : SlotList X) → HasRoom n limit s → m ≡ n - 1 → s.spare ≤ t.spare + 1 → s.reached ≤ t.reached → HasRoom m limit t
 less_room n m limit s t h e f g = record { spare = let k = h.spare in omega arith; reached = λ l. let k = h.reached (omega arith) in omega arith }
 
@@ -43,7 +43,7 @@ pub same_room : {X : Type 0} (n m limit : ℕ) (s : SlotList X) → HasRoom n li
 same_room n m limit s h e = record { spare = let k = h.spare in omega arith; reached = λ l. h.reached (omega arith) }
 
 module _ (ns : SlotList NumberNote) (cs : SlotList CompletionNote) (rs : SlotList RowNote) (x : RestList) (r q : Room) where
-  -- a number was noted, or wasn't
+  -- Recording a number maintains the invariant.
   pub number_sound : (ms : SlotList NumberNote) → IsSound ns cs rs x r → ((p : Place) → is_some (named x.odd p) ≡ true → named (kind_changes ms.notes cs.notes rs.notes (run_changes x.runs x.olds)) p ≡ None) → ns.spare ≤ ms.spare + 1 → ns.reached ≤ ms.reached → q.numbers ≡ r.numbers - 1 → q.completions ≡ r.completions → q.others ≡ r.others → q.held ≡ q.numbers + (q.completions + q.others) → IsSound ms cs rs x q
   number_sound ms h a s t e f g k = record {
     apart = a;
@@ -93,7 +93,7 @@ module _ (ns : SlotList NumberNote) (cs : SlotList CompletionNote) (rs : SlotLis
       let n : named (all_changes ns.notes cs.notes rs.notes x) (place_in g (s + t.0)) ≡ None = fresh t.0 t.1 in
       ap (named x.odd) (sym t.2) ∙ (none_parts (kind_changes ns.notes cs.notes rs.notes (run_changes x.runs x.olds)) x.odd (place_in g (s + t.0)) n).1
 
-  -- bytes were noted, none of which had been
+  -- Recording bytes, none of which was recorded, maintains it.
   pub bytes_sound : (y : RestList) (g : Region) (s : ℕ) (bs : List ℕ) → NotedBytes (run_changes x.runs x.olds) (run_changes y.runs y.olds) g s bs → ((i : ℕ) → i < length bs → named (all_changes ns.notes cs.notes rs.notes x) (place_in g (s + i)) ≡ None) → y.odd ≡ x.odd → AllKept y.olds → x.spare ≤ y.spare → IsSound ns cs rs y r
   bytes_sound y g s bs n fresh e k m = record {
     apart = rw (e) (apart_bytes x.odd _ (kind_changes ns.notes cs.notes rs.notes (run_changes y.runs y.olds)) g s bs h.apart (bytes_of_kinds ns.notes cs.notes rs.notes x.runs x.olds y.runs y.olds g s bs n) (fresh_odd g s bs fresh));
@@ -105,7 +105,7 @@ module _ (ns : SlotList NumberNote) (cs : SlotList CompletionNote) (rs : SlotLis
     spare = let l = h.spare in omega arith;
   }
 
-  -- one more of the others
+  -- Adding a single note of a new place maintains it.
   pub other_sound : (y : RestList) (q : Room) (p : Place) (v : Option Value) → named (all_changes ns.notes cs.notes rs.notes x) p ≡ None → y.odd ≡ x.odd ++ record { place = p; old = v } ∷ [] → y.runs ≡ x.runs → y.olds ≡ x.olds → q.numbers ≤ r.numbers → q.completions ≤ r.completions → q.others ≤ r.others → q.held ≡ q.numbers + (q.completions + q.others) → q.held ≤ y.spare → IsSound ns cs rs y q
   other_sound y q p v none e f g a b c d m = record {
     apart = rw (e, f, g) (apart_more x.odd (x.odd ++ record { place = p; old = v } ∷ []) (kind_changes ns.notes cs.notes rs.notes (run_changes x.runs x.olds)) p v h.apart (noted_at_end x.odd p v) (none_parts (kind_changes ns.notes cs.notes rs.notes (run_changes x.runs x.olds)) x.odd p none).0);
@@ -121,7 +121,7 @@ module _ (ns : SlotList NumberNote) (cs : SlotList CompletionNote) (rs : SlotLis
   all_once a b c d e = once_append (kind_changes ns.notes cs.notes rs.notes (run_changes x.runs x.olds)) x.odd (kinds_once ns.notes cs.notes rs.notes x.runs x.olds a b c d) e h.apart
 
 module _ (ns : List NumberNote) (cs : List CompletionNote) (rs : List RowNote) (x : RestList) where
-  -- a note of one kind among all notes
+  -- Adding a note to one kind adds it to all notes.
   pub number_noted : (ms : List NumberNote) (p : Place) (v : Option Value) → is_number p ≡ true → Noted (map number_change ns) (map number_change ms) p v → named x.odd p ≡ None → Noted (all_changes ns cs rs x) (all_changes ms cs rs x) p v
   number_noted ms p v i n none = noted_before_others (kind_changes ns cs rs (run_changes x.runs x.olds)) (kind_changes ms cs rs (run_changes x.runs x.olds)) x.odd p v (number_of_kinds ns cs rs x.runs x.olds ms p v i n) none
 
@@ -137,7 +137,7 @@ module _ (ns : List NumberNote) (cs : List CompletionNote) (rs : List RowNote) (
   pub other_noted : (y : RestList) (p : Place) (v : Option Value) → y.odd ≡ x.odd ++ record { place = p; old = v } ∷ [] → y.runs ≡ x.runs → y.olds ≡ x.olds → Noted (all_changes ns cs rs x) (all_changes ns cs rs y) p v
   other_noted y p v e f g = rw (e, f, g) (noted_behind_others (kind_changes ns cs rs (run_changes x.runs x.olds)) x.odd (x.odd ++ record { place = p; old = v } ∷ []) p v (noted_at_end x.odd p v))
 
-  -- a place that one of the others is of
+  -- A place with a single note needs no other.
   pub odd_noted : (p : Place) (v : Option Value) → is_some (named x.odd p) ≡ true → Noted (all_changes ns cs rs x) (all_changes ns cs rs x) p v
   odd_noted p v h = noted_again (all_changes ns cs rs x) p v (ap is_some (named-append (kind_changes ns cs rs (run_changes x.runs x.olds)) x.odd p) ∙ by (named (kind_changes ns cs rs (run_changes x.runs x.olds)) p))
     where
@@ -155,7 +155,7 @@ module _ (ns : List NumberNote) (cs : List CompletionNote) (rs : List RowNote) (
   pub fresh_other : (p : Place) → named (all_changes ns cs rs x) p ≡ None → named x.odd p ≡ None
   fresh_other p e = (none_parts (kind_changes ns cs rs (run_changes x.runs x.olds)) x.odd p e).1
 
-  -- whether a place is named
+  -- Searching each kind of notes decides whether a place is recorded.
   pub is_named_all : (p : Place) → (is_some (named x.odd p) || (is_some (named (run_changes x.runs x.olds) p) || (is_some (named (map number_change ns) p) || (is_some (named (map completion_change cs) p) || is_some (named (map row_change rs) p))))) ≡ is_some (named (all_changes ns cs rs x) p)
   is_named_all p =
       by (named (map number_change ns) p) (named (map completion_change cs) p) (named (map row_change rs) p) (named (run_changes x.runs x.olds) p) (named x.odd p)

@@ -1,4 +1,4 @@
--- Changes that are undone a part at a time.
+-- Undoing changes in two parts.
 use Rattle.std.proofs.Common.{◌≡◌, Bool, true, false, cond, refl, sym, ◌∙◌, ap, List, [], ◌∷◌, ◌++◌}
 use Rattle.std.specs.Prelude.{Option, Some, None, is_some, unwrap_or, ◌||◌}
 use Rattle.places.specs.declared.place.Place.{Place}
@@ -10,7 +10,7 @@ use Rattle.places.proofs.SamePlace.{same_place_is}
 use Rattle.places.proofs.Naming.{named-append}
 use Rattle.places.proofs.Joining.{none_parts, none_some}
 
--- of changes that name no place twice, the first ones name none of the others' places
+-- If no place is named twice, the two parts share no place.
 pub once_apart : (cs ds : List Change) → NamesOnce (cs ++ ds) → (p : Place) → is_some (named ds p) ≡ true → named cs p ≡ None
 unfolding named
 once_apart [] ds o p h = refl
@@ -28,15 +28,15 @@ pub once_back : (cs ds : List Change) → NamesOnce (cs ++ ds) → NamesOnce ds
 once_back [] ds o = o
 once_back (c ∷ cs) ds o = once_back cs ds o.1
 
--- what the first ones name is named so
+-- What the first part names, the whole names with the same old value.
 pub named_front : (cs ds : List Change) (p : Place) (x : Option Value) → named cs p ≡ Some x → named (cs ++ ds) p ≡ Some x
 named_front cs ds p x h = named-append cs ds p ∙ ap (λ n. first_note n (named ds p)) h
 
--- and what the others name, where no place is named twice
+-- If no place is named twice, this holds for the second part as well.
 pub named_back : (cs ds : List Change) (p : Place) (x : Option Value) → NamesOnce (cs ++ ds) → named ds p ≡ Some x → named (cs ++ ds) p ≡ Some x
 named_back cs ds p x o h = named-append cs ds p ∙ ap (λ n. first_note n (named ds p)) (once_apart cs ds o p (ap is_some h)) ∙ h
 
--- changes that name no place twice are undone a part at a time
+-- If no place is named twice, undoing the whole is undoing one part and then the other.
 pub undo-append : (v : View) (cs ds : List Change) → NamesOnce (cs ++ ds) → (p : Place) → undo v (cs ++ ds) p ≡ undo (undo v cs) ds p
 undo-append v cs ds o p = ap (λ n. unwrap_or n (v p)) (named-append cs ds p) ∙ by (named cs p) (named ds p) refl refl
   where
@@ -45,7 +45,7 @@ undo-append v cs ds o p = ap (λ n. unwrap_or n (v p)) (named-append cs ds p) �
     by (Some x) None e f = refl
     by (Some x) (Some y) e f = absurd (none_some (named cs p) (once_apart cs ds o p (ap is_some f)) (ap is_some e))
 
--- ---- what is named, a part at a time
+-- ---- Which places are named, part by part
 
 pub named_either : (cs ds : List Change) (p : Place) → is_some (named (cs ++ ds) p) ≡ (is_some (named cs p) || is_some (named ds p))
 named_either cs ds p = ap is_some (named-append cs ds p) ∙ by (named cs p) (named ds p)

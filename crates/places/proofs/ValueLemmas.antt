@@ -1,4 +1,4 @@
--- Values whose numbers were put behind bytes are read there.
+-- A value whose numbers were appended to packed bytes is read back.
 use Rattle.std.proofs.Common.{◌≡◌, ℕ, zero, suc, ◌+◌, ◌*◌, ◌/◌, ◌%◌, ◌^◌, ◌<◌, ◌≤◌, ℤ, refl, sym, ◌∙◌, ap, List, [], ◌∷◌, ◌++◌, length, take, drop, slice_index, arith, FitsSigned, w32, of_z, drop-cons, length-drop, get_or-drop}
 use Rattle.std.specs.Prelude.{Option, Some, None}
 use Rattle.std.specs.Int.{cast_signed, cast_unsigned, byte_at, bytes_low_first}
@@ -23,7 +23,7 @@ of_z_small z f = omega (arith, ints)
 same_signed : {m : ℕ} (z : ℤ) → m ≡ cast_unsigned w32 z → FitsSigned w32 z → cast_signed w32 (m % 2 ^ 32) ≡ z
 same_signed z e f = ap (cast_signed w32) (same_part (2 ^ 32) e (of_z_small z f)) ∙ to_z-of_z w32 z f
 
--- ---- the bytes of a number that bytes hold
+-- ---- The bytes of a number, and back
 
 byte_at_is : (j r : ℕ) → byte_at j r ≡ r / 256 ^ j % 256
 byte_at_is zero r = ap (λ q. q % 256) (sym (div-one r))
@@ -46,7 +46,7 @@ bytes_back (suc n) i xs l h =
     let e : (slice_index xs i + 256 * r) % 256 ≡ slice_index xs i = omega arith in
     rw (e, bytes_shifted n 0 (slice_index xs i) r b, bytes_back n (suc i) xs (omega arith) h, drop-cons xs i 0 (omega arith)) refl
 
--- ---- values
+-- ---- Values
 
 pub completion_put : (x : Cqe) (old new : List ℕ) → CompletionFits x → Puts number_of after old (completion_list x) new → Puts completion_of (behind 3) old (x ∷ []) new
 completion_put x old new f g rest =

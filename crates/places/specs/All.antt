@@ -1,4 +1,4 @@
--- The notes of all kinds as one list of changes.
+-- The notes of all kinds as one list of changes, and the invariant of a recorder.
 use Rattle.std.specs.Prelude.{◌≡◌, ◌⊎◌, ℕ, List, [], ◌++◌, None, map, true, is_some, ◌+◌, ◌<◌, ◌≤◌}
 use Rattle.places.specs.declared.place.Place.{Place}
 use Rattle.places.specs.declared.value.Change.{Change}
@@ -13,34 +13,36 @@ use Rattle.places.specs.RestList.{RestList}
 use Rattle.places.specs.WideList.{WideList}
 use Rattle.places.specs.View.{named}
 
--- the notes of numbers, completions and rows, and then those of bytes
+-- The notes of numbers, completions, and requests and other places, followed by those of bytes.
 abbrev pub kind_changes : List NumberNote → List CompletionNote → List RowNote → List Change → List Change
 kind_changes ns cs rs bs = map number_change ns ++ (map completion_change cs ++ (map row_change rs ++ bs))
 
--- and behind them the others
+-- These, followed by the notes of single places.
 abbrev pub all_changes : List NumberNote → List CompletionNote → List RowNote → RestList → List Change
 all_changes ns cs rs x = kind_changes ns cs rs (run_changes x.runs x.olds) ++ x.odd
 
--- the changes of a record: those that are packed, and then those of notes
+-- The changes of a record: the packed ones, and then those of its unpacked notes.
 abbrev pub record_changes : List Change → WideList → RestList → List Change
 record_changes cs w x = cs ++ all_changes w.numbers w.completions w.rows x
 
--- Nothing was noted or promised, or there is memory for notes to be kept as they were made.
+-- There are no notes of numbers, completions or rows, and no memory is reserved.
 pub record NothingNoted (ns : List NumberNote) (cs : List CompletionNote) (rs : List RowNote) (r : Room) : Type 0 where
   pub numbers : ns ≡ []
   pub completions : cs ≡ []
   pub rows : rs ≡ []
   pub held : r.held ≡ 0
 
+-- Either the box for unpacked notes is allocated, or there are no notes that it may have to take.
 abbrev pub IsReady : List NumberNote → List CompletionNote → List RowNote → Room → WideList → Type 0
 IsReady ns cs rs r w = (w.is_ready ≡ true) ⊎ NothingNoted ns cs rs r
 
--- There is memory for n more notes of slots below a limit.
+-- There is memory for n more notes with slots below `limit`.
 pub record HasRoom {X : Type 0} (n limit : ℕ) (s : SlotList X) : Type 0 where
   pub spare : n ≤ s.spare
   pub reached : 0 < n → limit ≤ s.reached
 
--- The notes of a recorder name no place in two kinds, and there is the memory that it promises.
+-- The invariant of a recorder: no place has both a single note and a note of a kind, and the
+-- reserved memory is there.
 pub record IsSound (ns : SlotList NumberNote) (cs : SlotList CompletionNote) (rs : SlotList RowNote) (x : RestList) (r : Room) : Type 0 where
   pub apart : (p : Place) → is_some (named x.odd p) ≡ true → named (kind_changes ns.notes cs.notes rs.notes (run_changes x.runs x.olds)) p ≡ None
   pub kept : AllKept x.olds

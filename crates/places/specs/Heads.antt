@@ -1,4 +1,4 @@
--- What a packed change begins with.
+-- The heads of packed changes.
 use Rattle.std.specs.Prelude.{◌≡◌, ℕ, ◌<◌, List, ◌∷◌, Some, is_some}
 use Rattle.places.specs.declared.place.Place.{Place}
 use Rattle.places.specs.declared.value.Value.TheVariants.{Number}
@@ -6,18 +6,18 @@ use Rattle.places.specs.declared.value.Change.{Change}
 use Rattle.places.specs.declared.packing.changes.Head.{Head}
 use Rattle.places.specs.PlaceNumbers.{place_of}
 
--- A head is that of a change.
+-- `h` is the head of the change `c`.
 pub record IsHead (h : Head) (c : Change) : Type 0 where
   pub kind : h.kind < 30
   pub place : c.place ≡ place_of h.kind h.index 0
   pub stood : is_some c.old ≡ h.stood
 
--- A head is that of the first of some changes, before the others.
+-- `h` is the head of the first of the changes `cs`, and `ds` are the others.
 pub record IsFirst (h : Head) (cs ds : List Change) : Type 0 where
   pub change : Change
   pub first : cs ≡ change ∷ ds
   pub head : IsHead h change
 
--- the change of a place where a number stood
+-- The change of a place that held the number n.
 abbrev pub number_was : Place → ℕ → Change
 number_was p n = record { place = p; old = Some (Number n) }

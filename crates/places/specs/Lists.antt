@@ -1,7 +1,7 @@
--- Lists with one element changed.
+-- Updating one element of a list.
 use Rattle.std.specs.Prelude.{ℕ, zero, suc, List, [], ◌∷◌}
 
--- the list with f of the element at an index, where there is one
+-- The list with `f` applied to element i, if there is one.
 abbrev pub updated : {X : Type 0} → (X → X) → List X → ℕ → List X
 updated f [] i = []
 updated f (x ∷ xs) zero = f x ∷ xs

@@ -1,4 +1,4 @@
--- Notes that a record keeps besides what is packed.
+-- The unpacked notes of a record.
 use Rattle.places.specs.WideList.{WideList}
 use Rattle.places.specs.RestList.{RestList}
 

@@ -1,4 +1,4 @@
--- The notes of one box, if there is one.
+-- The notes in the box of a record, if it has one.
 use Rattle.std.specs.Prelude.{[], false, Some}
 use Rattle.places.specs.declared.notes.more.Held.{Held}
 use Rattle.places.specs.declared.notes.more.Held.TheVariants.{Nothing, Few, Each}

@@ -1,4 +1,5 @@
--- Changes in bytes: the numbers of a place, and then those of what stood there.
+-- The packed form of a change: a head, an index, and the numbers of the old value, each in the
+-- compact encoding of integers.
 use Rattle.std.specs.Prelude.{◌≡◌, ℕ, ◌+◌, ◌-◌, ◌/◌, ◌%◌, ◌^◌, ◌<◌, ◌==◌, List, [], ◌∷◌, ◌++◌, Option, Some, None, drop, if◌then◌else◌}
 use Rattle.std.specs.Int.{w32, cast_signed, cast_unsigned}
 use Rattle.byteorder.specs.Endian.{little_bytes, little_number}
@@ -16,9 +17,9 @@ use Rattle.places.specs.PlaceNumbers.{place_of}
 use Rattle.numerals.specs.Reading.{read_all}
 use Rattle.numerals.specs.Numerals.{number_of, after, behind, byte_of, half_of, word_of, signed_of, long_of}
 
--- ---- small parts, as numbers and back
+-- ---- Small values as numbers, and back
 
--- 0 where there is none, and else one more
+-- 0 for `None`, n + 1 for n.
 abbrev pub option_number : Option ℕ → ℕ
 option_number None = 0
 option_number (Some n) = n + 1
@@ -40,12 +41,12 @@ phase_from n = if n == 0 then Queued else (if n == 1 then Issued else Ended (cas
 abbrev pub stage_from : ℕ → ℕ → Stage
 stage_from n wanted = if n == 0 then Ready else Waiting ((n - 1) % 2 ^ 32) wanted
 
--- a stage's numbers are words
+-- The numbers of a stage fit into 32 bits.
 abbrev pub StageFits : Stage → Type 0
 StageFits Ready = Unit {0}
 StageFits (Waiting submitted wanted) = (submitted < 2 ^ 32) × (wanted < 2 ^ 32)
 
--- ---- the numbers of a value
+-- ---- Values as lists of numbers
 
 abbrev pub stage_list : Stage → List ℕ
 stage_list Ready = 0 ∷ 0 ∷ []
@@ -59,13 +60,13 @@ entry_list e =
     e.opcode ∷ e.flags ∷ e.ioprio ∷ cast_unsigned w32 e.fd ∷ e.off ∷ e.addr ∷ e.len ∷ e.operation_flags ∷ e.user_data
     ∷ e.buf_index ∷ e.personality ∷ cast_unsigned w32 e.splice_fd_in ∷ little_number 8 e.rest ∷ little_number 8 (drop 8 e.rest) ∷ []
 
--- those of a row besides its entry
+-- The numbers of a row; those of its entry follow them.
 abbrev pub row_list : Row → List ℕ
 row_list r =
     option_number r.deadline ∷ option_number r.time ∷ r.base ∷ r.unit ∷ option_number r.target ∷ option_number r.held
     ∷ phase_number r.phase ∷ []
 
--- ---- the value whose numbers stand first
+-- ---- Values read from bytes
 
 abbrev pub completion_of : List ℕ → Cqe
 completion_of bytes = record {
@@ -109,10 +110,10 @@ stage_of bytes = stage_from (number_of bytes) (word_of (behind 1 bytes))
 abbrev pub reaped_of : List ℕ → Option Cqe
 reaped_of bytes = if number_of bytes == 0 then None else Some (completion_of (behind 1 bytes))
 
--- ---- a change
+-- ---- Changes
 
--- how many numbers stand behind a shape: of a number, a signed number, an entry, a completion, a row,
--- a stage, what was reaped, and whether the poller is awake
+-- How many numbers encode an old value, by its shape. The shapes are: absent, number, signed
+-- number, entry, completion, row, stage, last reaped completion, poller awake.
 abbrev pub size_of_shape : ℕ → ℕ
 size_of_shape s =
     if s == 0 then 0 else (
@@ -124,7 +125,7 @@ size_of_shape s =
     if s == 6 then 2 else (
     if s == 7 then 4 else 1)))))))
 
--- what stood there, by its shape
+-- The old value, read by its shape.
 unfoldable pub value_of_shape : ℕ → List ℕ → Option Value
 value_of_shape s bytes =
     if s == 0 then None else (
@@ -136,27 +137,29 @@ value_of_shape s bytes =
     if s == 6 then Some (Staged (stage_of bytes)) else (
     if s == 7 then Some (Reaped (reaped_of bytes)) else Some (Awake (number_of bytes == 1)))))))))
 
--- its head has its kind and the shape of its value
+-- A head is the kind of the place plus 30 times the shape of the old value.
 abbrev pub kind_from : ℕ → ℕ
 kind_from head = head % 30
 
 abbrev pub shape_from : ℕ → ℕ
 shape_from head = head / 30
 
+-- The change at the start of the bytes.
 unfoldable pub change_of : List ℕ → Change
 change_of bytes = record {
   place = place_of (kind_from (number_of bytes)) (word_of (behind 1 bytes)) 0;
   old = value_of_shape (shape_from (number_of bytes)) (behind 2 bytes);
 }
 
+-- The bytes after that change.
 unfoldable pub after_change : List ℕ → List ℕ
 after_change bytes = behind (size_of_shape (shape_from (number_of bytes))) (behind 2 bytes)
 
--- changes behind their count
+-- The changes in bytes that begin with their number.
 abbrev pub packed : List ℕ → List Change
 packed bytes = read_all change_of after_change (number_of bytes) (after bytes)
 
--- A row's small parts are those that their numbers give.
+-- Each field of a row but its entry and its times is read back from its number as it was.
 pub record RowAgain (r : Row) : Type 0 where
   pub base : r.base < 2 ^ 32
   pub unit : r.unit < 2 ^ 32

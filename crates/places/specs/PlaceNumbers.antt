@@ -1,11 +1,11 @@
--- Places are told apart by their numbers.
+-- A place is determined by three numbers: its kind and two indexes.
 use Rattle.std.proofs.Common.{◌≡◌, ℕ, cond, refl, sym, ◌∙◌, ap}
 use Rattle.std.specs.Prelude.{◌==◌}
 use Rattle.places.specs.declared.place.Place.{Place}
 use Rattle.places.specs.declared.place.Place.TheVariants.{SubmissionHead, SubmissionTail, SubmissionFlags, SubmissionDropped, CompletionHead, CompletionTail, Array, Slot, Completion, MemoryByte, FileByte, DurableByte, FileLength, DurableLength, Position, OpenMark, PipeByte, PutCount, TakenCount, EventCount, Request, Backlog, BacklogFront, Clock, Counted, PollerStage, ProgramCounter, ThreadStage, Last, Got}
 use Rattle.places.specs.Places.{kind_of, index_of, second_of}
 
--- the place of a kind and two indexes
+-- The place with a kind and two indexes.
 unfoldable pub place_of : ℕ → ℕ → ℕ → Place
 place_of k i j =
     cond (k == 0) SubmissionHead (
@@ -38,6 +38,7 @@ place_of k i j =
     cond (k == 27) (ThreadStage i) (
     cond (k == 28) (Last i) (Got i)))))))))))))))))))))))))))))
 
+-- A place is the one with its kind and indexes.
 pub place_again : (p : Place) → place_of (kind_of p) (index_of p) (second_of p) ≡ p
 unfolding place_of
 place_again SubmissionHead = refl
@@ -71,7 +72,7 @@ place_again (ThreadStage t) = refl
 place_again (Last t) = refl
 place_again (Got t) = refl
 
--- places with the same numbers are one
+-- Places with equal kinds and indexes are equal.
 pub same_numbers : (p q : Place) → kind_of p ≡ kind_of q → index_of p ≡ index_of q → second_of p ≡ second_of q → p ≡ q
 same_numbers p q k i j =
     sym (place_again p) ∙ ap (λ n. place_of n (index_of p) (second_of p)) k ∙ ap (λ n. place_of (kind_of q) n (second_of p)) i ∙ ap (place_of (kind_of q) (index_of q)) j ∙ place_again q

@@ -1,9 +1,9 @@
--- Places, told apart by numbers.
+-- The kind and indexes of a place, what it holds, and its limits.
 use Rattle.std.specs.Prelude.{ℕ, ◌<◌, ◌==◌, ◌&&◌, Bool, true, false}
 use Rattle.places.specs.declared.place.Place.{Place}
 use Rattle.places.specs.declared.place.Place.TheVariants.{SubmissionHead, SubmissionTail, SubmissionFlags, SubmissionDropped, CompletionHead, CompletionTail, Array, Slot, Completion, MemoryByte, FileByte, DurableByte, FileLength, DurableLength, Position, OpenMark, PipeByte, PutCount, TakenCount, EventCount, Request, Backlog, BacklogFront, Clock, Counted, PollerStage, ProgramCounter, ThreadStage, Last, Got}
 
--- the number of a place's kind
+-- The number of the place's kind.
 abbrev pub kind_of : Place → ℕ
 kind_of SubmissionHead = 0
 kind_of SubmissionTail = 1
@@ -36,7 +36,7 @@ kind_of (ThreadStage t) = 27
 kind_of (Last t) = 28
 kind_of (Got t) = 29
 
--- its object, descriptor, thread or index
+-- The number of its object, descriptor, thread, slot or address, or 0.
 abbrev pub index_of : Place → ℕ
 index_of SubmissionHead = 0
 index_of SubmissionTail = 0
@@ -69,7 +69,7 @@ index_of (ThreadStage t) = t
 index_of (Last t) = t
 index_of (Got t) = t
 
--- its index within an object
+-- The index of a byte within its object, or 0.
 abbrev pub second_of : Place → ℕ
 second_of SubmissionHead = 0
 second_of SubmissionTail = 0
@@ -102,11 +102,11 @@ second_of (ThreadStage t) = 0
 second_of (Last t) = 0
 second_of (Got t) = 0
 
--- whether two places are one
+-- Whether two places are equal.
 unfoldable pub same_place : Place → Place → Bool
 same_place p q = (kind_of p == kind_of q) && ((index_of p == index_of q) && (second_of p == second_of q))
 
--- whether an unsigned number stands there
+-- Whether the place holds an unsigned number.
 abbrev pub is_number : Place → Bool
 is_number SubmissionHead = true
 is_number SubmissionTail = true
@@ -139,12 +139,12 @@ is_number (ThreadStage t) = false
 is_number (Last t) = false
 is_number (Got t) = false
 
--- whether a completion of the ring stands there
+-- Whether the place is a slot of the completion ring.
 abbrev pub is_completion : Place → Bool
 is_completion (Completion i) = true
 is_completion _ = false
 
--- whether neither a number, a byte, a row nor a completion of the ring stands there
+-- Whether the place holds neither a number, a byte, a request nor a completion of the ring.
 abbrev pub is_other : Place → Bool
 is_other (Slot i) = true
 is_other (Backlog i) = true
@@ -154,7 +154,7 @@ is_other (Last t) = true
 is_other (Got t) = true
 is_other _ = false
 
--- A place that some setup has.
+-- The place exists in some setup within the limits.
 abbrev pub InLimits : Place → Type 0
 InLimits (Array i) = i < 4096
 InLimits (Slot i) = i < 4096

@@ -1,4 +1,4 @@
--- Whether what stands in a place at two moments is one and the same: each kind of value by its parts.
+-- Equality of values as a test, field by field.
 use Rattle.std.specs.Prelude.{ℕ, ◌==◌, ◌&&◌, List, ◌∷◌, Bool, true, false, Option}
 use Rattle.std.specs.Bool.{beq}
 use Rattle.std.specs.Ordering.{int_eq}
@@ -17,7 +17,7 @@ use Rattle.places.specs.declared.value.Value.TheVariants.{Number, Signed, Byte, 
 abbrev pub same_number : ℕ → ℕ → Bool
 same_number a b = a == b
 
--- the unsigned numbers of an entry in a row
+-- The unsigned fields of an entry, and its uninterpreted bytes.
 abbrev pub numbers_of : Sqe → List ℕ
 numbers_of e = e.opcode ∷ e.flags ∷ e.ioprio ∷ e.off ∷ e.addr ∷ e.len ∷ e.operation_flags ∷ e.user_data ∷ e.buf_index ∷ e.personality ∷ e.rest
 
@@ -56,6 +56,6 @@ same_value (Reaped a) (Reaped b) = option_eq same_completion a b
 same_value (Awake a) (Awake b) = beq a b
 same_value _ _ = false
 
--- the same for places in which nothing may stand
+-- Whether two values are equal, or both absent.
 unfoldable pub is_same : Option Value → Option Value → Bool
 is_same = option_eq same_value

@@ -1,4 +1,4 @@
--- Slots tell the places of a kind of note apart.
+-- Within a kind of note, places and slots correspond one to one.
 use Rattle.std.proofs.Common.{◌≡◌, ℕ, ◌+◌, ◌*◌, ◌<◌, Bool, true, false, cond, refl, sym, ◌∙◌, ap, arith, List, [], ◌∷◌}
 use Rattle.std.specs.Prelude.{◌==◌}
 use Rattle.std.proofs.lemmas.Bool.{eqb-true}
@@ -12,6 +12,7 @@ use Rattle.places.specs.Places.{kind_of, index_of, second_of, is_number, InLimit
 use Rattle.places.specs.Slots.{number_places, place_behind, number_place, number_slot, number_slot_of, number_change, completion_slot_of, completion_change, row_slot_of, row_change, other_places, other_place, slot_at}
 use Rattle.places.specs.PlaceNumbers.{same_numbers}
 
+-- There are 30 kinds of places.
 pub kind_small : (p : Place) → kind_of p < 30
 kind_small SubmissionHead = omega arith
 kind_small SubmissionTail = omega arith
@@ -44,6 +45,7 @@ kind_small (ThreadStage i) = omega arith
 kind_small (Last i) = omega arith
 kind_small (Got i) = omega arith
 
+-- Places of numbers with equal slots have equal kinds and indexes.
 same_slot : (p q : Place) → number_slot p ≡ number_slot q → (kind_of p ≡ kind_of q) × (index_of p ≡ index_of q)
 unfolding number_slot
 same_slot p q e = by (kind_of p == 6) (kind_of q == 6) refl refl e
@@ -54,7 +56,7 @@ same_slot p q e = by (kind_of p == 6) (kind_of q == 6) refl refl e
     by false true h k f = absurd (omega arith)
     by false false h k f = let m = kind_small p in let n = kind_small q in (omega arith, omega arith)
 
--- what holds of each place of a list
+-- P holds for each place of a table.
 unfoldable pub AllOf : (Place → Type 0) → List (ℕ × Place) → Type 0
 AllOf P [] = Unit {0}
 AllOf P (c ∷ cs) = P c.1 × AllOf P cs
@@ -63,13 +65,13 @@ either : (P : Place → Type 0) (b : Bool) (p q : Place) → P p → P q → P (
 either P true p q h k = h
 either P false p q h k = k
 
--- holds of the one behind a number
+-- What holds for each place of a table, and for the default, holds for the place looked up.
 pub behind_of : (P : Place → Type 0) (k : ℕ) (cs : List (ℕ × Place)) (p : Place) → AllOf P cs → P p → P (place_behind k cs p)
 unfolding AllOf
 behind_of P k [] p a h = h
 behind_of P k (c ∷ cs) p a h = either P (k == c.0) c.1 (place_behind k cs p) a.0 (behind_of P k cs p a.1 h)
 
--- a number's place, with no second index
+-- The place holds a number and has no second index.
 pub record IsPlain (p : Place) : Type 0 where
   pub number : is_number p ≡ true
   pub second : second_of p ≡ 0
@@ -99,7 +101,7 @@ one_completion x y e = ap Completion e
 pub one_completion_slot : (x y : CompletionNote) → (completion_change x).place ≡ (completion_change y).place → completion_slot_of x ≡ completion_slot_of y
 one_completion_slot x y e = cc
 
--- another place, with no second index
+-- The place is one of the others (`is_other`) and has no second index.
 pub record IsLone (p : Place) : Type 0 where
   pub other : is_other p ≡ true
   pub second : second_of p ≡ 0
@@ -150,7 +152,7 @@ one_row x y e =
 pub one_row_slot : (x y : RowNote) → (row_change x).place ≡ (row_change y).place → row_slot_of x ≡ row_slot_of y
 one_row_slot x y e = ap slot_at e
 
--- another place, again from its kind and its index
+-- Such a place is the one with its kind and index.
 pub other_again : (p : Place) → is_other p ≡ true → other_place (kind_of p) (index_of p) ≡ p
 unfolding other_place
 other_again SubmissionHead h = absurd cc
@@ -184,7 +186,7 @@ other_again (ThreadStage i) h = refl
 other_again (Last i) h = refl
 other_again (Got i) h = refl
 
--- the slots of the other places that some setup has
+-- The slots of such places within the limits of a setup are below 262,144.
 pub other_below : (p : Place) → is_other p ≡ true → InLimits p → slot_at p < 262144
 unfolding slot_at
 other_below SubmissionHead h l = absurd cc
@@ -218,11 +220,12 @@ other_below (ThreadStage i) h l = omega arith
 other_below (Last i) h l = omega arith
 other_below (Got i) h l = omega arith
 
+-- So are the slots of requests.
 pub row_below : (r : ℕ) → r < 65536 → slot_at (Request r) < 262144
 unfolding slot_at
 row_below r h = omega arith
 
--- a number's place, again from its kind and its index
+-- The place of a number is the one with its kind and index.
 pub number_again : (p : Place) → is_number p ≡ true → number_place (kind_of p) (index_of p) ≡ p
 unfolding number_place
 number_again SubmissionHead h = refl
@@ -256,7 +259,7 @@ number_again (ThreadStage i) h = absurd cc
 number_again (Last i) h = absurd cc
 number_again (Got i) h = absurd cc
 
--- the slots of the numbers that some setup has
+-- The slots of numbers within the limits of a setup are below 8,192.
 pub number_below : (p : Place) → is_number p ≡ true → InLimits p → number_slot p < 8192
 unfolding number_slot
 number_below SubmissionHead h l = omega arith

@@ -1,4 +1,4 @@
--- The notes of numbers, completions and rows as changes of places, and the slots of their places.
+-- Notes as changes of places, and the slots of their places.
 use Rattle.std.specs.Prelude.{ℕ, ◌+◌, ◌*◌, ◌==◌, List, [], ◌∷◌, Some, None, option_map, if◌then◌else◌}
 use Rattle.places.specs.declared.place.Place.{Place}
 use Rattle.places.specs.declared.place.Place.TheVariants.{SubmissionHead, SubmissionTail, SubmissionFlags, SubmissionDropped, CompletionHead, CompletionTail, Array, Completion, FileLength, DurableLength, Position, OpenMark, PutCount, TakenCount, EventCount, Request, BacklogFront, Clock, Counted, ProgramCounter, Slot, Backlog, PollerStage, ThreadStage, Last, Got}
@@ -13,20 +13,20 @@ use Rattle.places.specs.declared.notes.rows.Small.{Small}
 use Rattle.places.specs.declared.notes.rows.Small.TheVariants.{Amount, Answer, Octet, Submitted, Posted, Next, Taken, Up}
 use Rattle.places.specs.Places.{kind_of, index_of}
 
--- the places of numbers at an index, each behind the number of its kind
+-- A table of the places of numbers at index i, by the numbers of their kinds.
 abbrev pub number_places : ℕ → List (ℕ × Place)
 number_places i = (0, SubmissionHead) ∷ (1, SubmissionTail) ∷ (2, SubmissionFlags) ∷ (3, SubmissionDropped) ∷ (4, CompletionHead) ∷ (5, CompletionTail) ∷ (6, Array i) ∷ (12, FileLength i) ∷ (13, DurableLength i) ∷ (14, Position i) ∷ (15, OpenMark i) ∷ (17, PutCount i) ∷ (18, TakenCount i) ∷ (19, EventCount i) ∷ (22, BacklogFront) ∷ (23, Clock) ∷ (24, Counted) ∷ []
 
--- the place behind a number, or else another
+-- Looks up kind k in a table. The place p is the default.
 abbrev pub place_behind : ℕ → List (ℕ × Place) → Place → Place
 place_behind k [] p = p
 place_behind k (c ∷ cs) p = if k == c.0 then c.1 else place_behind k cs p
 
--- the place of a number, by its kind and its index
+-- The place of a number with kind k and index i.
 unfoldable pub number_place : ℕ → ℕ → Place
 number_place k i = place_behind k (number_places i) (ProgramCounter i)
 
--- the slot of a number's place: the words of the submission ring have the odd ones
+-- The slot of the place of a number: odd for the words of the submission array, even for others.
 unfoldable pub number_slot : Place → ℕ
 number_slot p = if kind_of p == 6 then 2 * index_of p + 1 else 2 * (30 * index_of p + kind_of p)
 
@@ -42,7 +42,7 @@ completion_slot_of n = n.slot
 abbrev pub completion_change : CompletionNote → Change
 completion_change n = record { place = Completion n.slot; old = Some (Completed n.old) }
 
--- a value that is no row
+-- The value that a `Small` represents.
 abbrev pub value_of : Small → Value
 value_of (Amount n) = Number n
 value_of (Answer n) = Signed n
@@ -53,15 +53,16 @@ value_of (Next t) = Staged t
 value_of (Taken c) = Reaped c
 value_of (Up a) = Awake a
 
--- the other places at an index, each behind the number of its kind
+-- A table of the other places at index i, by the numbers of their kinds.
 abbrev pub other_places : ℕ → List (ℕ × Place)
 other_places i = (7, Slot i) ∷ (21, Backlog i) ∷ (25, PollerStage) ∷ (27, ThreadStage i) ∷ (28, Last i) ∷ []
 
--- another place, by its kind and its index
+-- The other place with kind k and index i.
 unfoldable pub other_place : ℕ → ℕ → Place
 other_place k i = place_behind k (other_places i) (Got i)
 
--- the slot of a row or of another place: rows, backlog, entries and the rest in turn
+-- The slot of a request or another place. The slots modulo 4 are: requests 0, overflowed
+-- completions 1, entry slots 2, all others 3.
 unfoldable pub slot_at : Place → ℕ
 slot_at p =
     if kind_of p == 20 then 4 * index_of p else (

@@ -1,4 +1,4 @@
--- Values as text.
+-- The text of values, as `show` prints it.
 use Rattle.std.specs.Prelude.{ℕ, Bool, true, false, List, [], ◌∷◌, ◌++◌, Option, Some, None, codes}
 use Rattle.std.specs.Fmt.{decimal, signed_decimal}
 use Rattle.hex.specs.Hex.{encode_lower}
@@ -17,18 +17,19 @@ phase_text Queued = codes "queued"
 phase_text Issued = codes "issued"
 phase_text (Ended result) = codes "ended " ++ signed_decimal result
 
--- a request: its operation's number, its user_data, the first row of its chain, and how far it has come
+-- A request: opcode, user_data, the number of its chain's first request, and its phase.
 abbrev pub row_text : Row → List ℕ
 row_text r =
     codes "op " ++ (decimal r.entry.opcode ++ (codes " user " ++ (decimal r.entry.user_data
     ++ (codes " unit " ++ (decimal r.unit ++ (codes " " ++ phase_text r.phase))))))
 
--- what a thread does next: where it waits, what its Enter submitted and how many completions it waits for
+-- A thread's stage. If it waits: how many entries its Enter submitted, and how many
+-- completions it waits for.
 abbrev pub stage_text : Stage → List ℕ
 stage_text Ready = codes "ready"
 stage_text (Waiting submitted wanted) = codes "waiting " ++ (decimal submitted ++ (codes " " ++ decimal wanted))
 
--- two hex digits a byte of its layout
+-- The bytes of the completion in hex.
 abbrev pub completion_text : Cqe → List ℕ
 completion_text c = encode_lower (completion_bytes c)
 
@@ -40,7 +41,7 @@ abbrev pub awake_text : Bool → List ℕ
 awake_text true = codes "awake"
 awake_text false = codes "asleep"
 
--- numbers are decimal, bytes are two hex digits each
+-- Numbers in decimal, bytes as two hex digits each.
 abbrev pub value_text : Value → List ℕ
 value_text (Number n) = decimal n
 value_text (Signed n) = signed_decimal n

@@ -1,4 +1,4 @@
--- What a turn over changes that are left to tell found.
+-- The meaning of one step of the iterator over recorded bytes.
 use Rattle.std.specs.Prelude.{◌≡◌, List, [], ◌∷◌}
 use Rattle.places.specs.declared.value.Change.{Change}
 use Rattle.places.specs.declared.notes.telling.Turn.{Turn}

@@ -1,4 +1,4 @@
--- Notes of each kind, where there are some.
+-- The notes in a box of unpacked notes, if there is one.
 use Rattle.std.specs.Prelude.{[], true, false, Option, Some, None, Box}
 use Rattle.places.specs.declared.notes.wide.Kinds.{Kinds}
 use Rattle.places.specs.WideList.{WideList}

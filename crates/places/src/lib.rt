@@ -1,4 +1,6 @@
-//! The places of a state, what stands in them, and records of what stood there before.
+//! Places, values and undo records. A place is a named location of the modelled state: a ring word,
+//! a byte, a request. A recorder collects the old values while a step changes the state. It closes
+//! them into a record that undoes the step.
 #![tactic(auto)]
 
 pub mod items;

@@ -1,10 +1,11 @@
-//! Lists whose elements are places.
+//! The two lists of the state that grow while a run goes forward.
 
-/// A list whose elements come and go at its end, each in the place of its number.
+/// A list that grows and shrinks at its end. Each element is a place, and a
+/// place past the end is absent.
 #[derive(Clone, Copy)]
 pub enum Listed {
-    /// The rows of the table.
+    /// The request table.
     Requests,
-    /// The completions that did not fit into the ring.
+    /// The overflowed completions: those that did not fit into the completion ring.
     Overflowed,
 }

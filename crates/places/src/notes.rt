@@ -1,4 +1,5 @@
-//! Notes of old values, compact and of one kind each.
+//! Notes: places with their old values. Each kind of place has a compact form, and a
+//! place has at most one note.
 
 pub mod clearing;
 pub mod completions;

@@ -1,4 +1,4 @@
-//! Changes, packed in bytes.
+//! The packed form of records: changes in one string of bytes.
 
 pub mod changes;
 pub mod packed;

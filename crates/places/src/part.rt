@@ -1,4 +1,4 @@
-//! Parts of a state.
+//! Traits for reading and writing the places of a state or of one part of it.
 ghost use Rattle.std.specs.Prelude.{◌≡◌, ℕ, Bool, Option, Some, IfSome, option_map, slice_get};
 ghost use Rattle.places.specs.declared.place.Place.{Place};
 ghost use Rattle.places.specs.declared.value.Value.{Value};
@@ -12,15 +12,17 @@ use crate::place::Place;
 use crate::value::Value;
 use entries::{Cqe, Row};
 
-/// What stands in places.
+/// A state, or a part of one, whose places can be read.
 pub trait At {
-    /// What stands in each place.
+    /// The value of each place, or `None` where it is absent.
     ghost seen: { Self → View };
 
+    /// Returns the value of a place, or `None` if the place is absent.
     fn at(&self, place: Place) -> Option<Value>
         ensures { result ≡ seen self.now place };
 
-    /// The bytes of a region, from its first on, where they stand in a row.
+    /// Returns the bytes of a region as one slice, if they are stored that way. Like the methods
+    /// below, it makes closing a recorder faster and may return `None`.
     fn bytes_in(&self, _region: Region) -> Option<&[u8]>
         ensures { IfSome result (λ bytes. (i : ℕ)
             → seen self.now (place_in _region i) ≡ option_map Byte (slice_get bytes.now i)) }
@@ -28,21 +30,21 @@ pub trait At {
         None
     }
 
-    /// The number in a place, where it is told without a value.
+    /// Returns the number in a place without building a `Value`.
     fn number_at(&self, _place: Place) -> Option<u64>
         ensures { IfSome result (λ n. seen self.now _place ≡ Some (Number n)) }
     {
         None
     }
 
-    /// The completion in a slot of the ring, where it is lent.
+    /// Returns a reference to the completion in a slot of the completion ring.
     fn completion_at(&self, _slot: u32) -> Option<&Cqe>
         ensures { IfSome result (λ c. seen self.now (Completion _slot) ≡ Some (Completed c.now)) }
     {
         None
     }
 
-    /// A row, where it is lent.
+    /// Returns a reference to a request.
     fn row_at(&self, _row: u32) -> Option<&Row>
         ensures { IfSome result (λ r. seen self.now (Request _row) ≡ Some (Requested r.now)) }
     {
@@ -50,15 +52,16 @@ pub trait At {
     }
 }
 
-/// A part of a state, whose places can be set one at a time, without memory.
+/// A part of a state whose places can be written one at a time. Undoing a record does
+/// this; it allocates nothing.
 pub trait Part: At {
-    /// Its places.
+    /// Whether a place belongs to this part.
     ghost owns: { Place → Bool };
 
-    /// Whether the value may be put into the place.
+    /// Whether the place can be given this value.
     ghost can_put: { Self → Place → Option Value → Type 0 };
 
-    /// Sets the named place alone.
+    /// Sets the value of a place, and changes no other place.
     fn put(&mut self, place: Place, value: Option<Value>)
         requires { can_put self.old place value }
         ensures { (q : Place) → Self.seen self.new q ≡ put_at (Self.seen self.old) place value q };

@@ -1,9 +1,9 @@
-//! The places that a state can have.
+//! The places of a state.
 ghost use Rattle.std.specs.Prelude.{◌≡◌};
 ghost use Rattle.places.specs.Places.{kind_of, index_of, second_of, same_place, is_number, is_other};
 
-/// A place of a state. Objects and threads are numbered from 0 in the setup's order, descriptors by
-/// their own numbers.
+/// A named location of the state. Objects and threads are numbered from 0 in the setup's order,
+/// descriptors by their own numbers.
 #[derive(Clone, Copy)]
 pub enum Place {
     SubmissionHead,
@@ -12,54 +12,55 @@ pub enum Place {
     SubmissionDropped,
     CompletionHead,
     CompletionTail,
-    /// A word of the submission ring.
+    /// An element of the submission queue's index array (io_uring(7)).
     Array(u32),
-    /// An entry slot.
+    /// A slot for a submission entry.
     Slot(u32),
-    /// A completion slot.
+    /// A slot of the completion ring.
     Completion(u32),
     /// A byte of memory, by its address.
     MemoryByte(u32),
     /// A byte of a file: object, offset.
     FileByte(u32, u32),
-    /// A byte of a file that is on the device: object, offset.
+    /// A byte of a file's durable contents, which an fsync updates: object, offset.
     DurableByte(u32, u32),
     FileLength(u32),
     DurableLength(u32),
-    /// A descriptor's position in its file.
+    /// The file position of a descriptor.
     Position(u32),
-    /// Whether a descriptor is open, 0 or 1.
+    /// Whether a descriptor is open: 0 or 1.
     OpenMark(u32),
-    /// A slot of a pipe: object, slot.
+    /// A byte of a pipe's ring buffer: object, index.
     PipeByte(u32, u32),
-    /// How many bytes went into a pipe.
+    /// How many bytes have been written to a pipe.
     PutCount(u32),
-    /// How many bytes came out of a pipe.
+    /// How many bytes have been read from a pipe.
     TakenCount(u32),
-    /// An eventfd's counter.
+    /// The counter of an eventfd.
     EventCount(u32),
-    /// A row of the table of requests.
+    /// A request.
     Request(u32),
-    /// A completion that did not fit into the ring as it was made, numbered over the whole run.
+    /// An overflowed completion: one that did not fit into the ring when it was posted. They are
+    /// numbered over the whole run.
     Backlog(u32),
-    /// The first that is still kept.
+    /// The number of the first overflowed completion that is still pending.
     BacklogFront,
     Clock,
-    /// How many requests ended, timeouts and guards left out.
+    /// How many requests other than TIMEOUT and LINK_TIMEOUT have completed.
     Counted,
-    /// Whether the poller is awake.
+    /// Whether the submission queue poller is awake (io_uring_setup(2), IORING_SETUP_SQPOLL).
     PollerStage,
     /// The index of a thread's next instruction.
     ProgramCounter(u32),
     ThreadStage(u32),
-    /// What a thread's last Enter or Close answered.
+    /// The result of a thread's last Enter or Close.
     Last(u32),
     /// The completion that a thread reaped last.
     Got(u32),
 }
 
 impl Place {
-    /// Whether two places are one and the same.
+    /// Returns whether two places are equal.
     #[tactic(auto, unfolding(crate::specs::Places::same_place))]
     pub fn is(&self, other: &Place) -> bool
         ensures { result ≡ same_place self.now other.now }
@@ -68,7 +69,7 @@ impl Place {
             && (self.index() == other.index() && self.second() == other.second())
     }
 
-    /// Where its kind stands among the kinds, from 0 on.
+    /// Returns the number of the place's kind, from 0 to 29.
     pub fn kind(&self) -> u8
         ensures { result ≡ kind_of self.now }
     {
@@ -106,7 +107,7 @@ impl Place {
         }
     }
 
-    /// The number of its object, descriptor, thread, slot or byte of memory; 0 where it has none.
+    /// Returns the number of the place's object, descriptor, thread, slot or memory address, or 0.
     pub fn index(&self) -> u32
         ensures { result ≡ index_of self.now }
     {
@@ -133,7 +134,7 @@ impl Place {
         }
     }
 
-    /// The index of its byte within its object; 0 where it has none.
+    /// Returns the index of a byte within its object, or 0.
     pub fn second(&self) -> u32
         ensures { result ≡ second_of self.now }
     {
@@ -143,8 +144,8 @@ impl Place {
         }
     }
 
-    /// Whether an unsigned number stands there: a ring word, a counter, a length, a position, a
-    /// mark.
+    /// Returns whether the place holds an unsigned number: a ring word, a counter, a length, a
+    /// position or an open mark.
     pub fn is_number(&self) -> bool
         ensures { result ≡ is_number self.now }
     {
@@ -165,7 +166,8 @@ impl Place {
         )
     }
 
-    /// Whether neither a number, a byte, a row nor a completion of the ring stands there.
+    /// Returns whether the place holds neither a number, a byte, a request nor
+    /// a completion of the ring.
     pub fn is_other(&self) -> bool
         ensures { result ≡ is_other self.now }
     {

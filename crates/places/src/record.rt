@@ -1,4 +1,4 @@
-//! Records: the places that differ, with what stood there.
+//! Undo records: the places that a step changed, with their old values.
 ghost use Rattle.std.specs.Prelude.{◌≡◌, ◌∷◌, ◌++◌, [], map, is_some, MatchOption, None};
 ghost use Rattle.places.specs.View.{named, NamesOnce};
 ghost use Rattle.places.specs.Heads.{number_was};
@@ -23,8 +23,8 @@ use crate::place::Place;
 use crate::value::Change;
 use std::marker::Model;
 
-/// The places where two states differ, each once, with what stood there in the earlier one. Its
-/// numbers, completions and rows are packed, or as they were noted where that took no memory.
+/// The undo record of one step: each place whose value changed, once, with its old value. Notes of
+/// numbers, completions and rows are packed; if packing failed, they are stored as they were made.
 #[derive(Drop)]
 pub struct Record {
     packed: Packed,
@@ -44,7 +44,7 @@ impl Model for Record {
     ghost invariant = { λ a. NamesOnce (record_changes a.packed a.more.wide a.more.rest) };
 }
 
-/// The changes of a record that are left, one after the other.
+/// An iterator over the changes of a record.
 #[derive(Drop)]
 pub struct Changes<'a> {
     packed: PackedChanges<'a>,
@@ -67,7 +67,7 @@ impl<'a> Model for Changes<'a> {
 }
 
 impl<'a> Changes<'a> {
-    /// The next change, if one is left.
+    /// Returns the next change.
     pub fn next(&mut self) -> Option<Change>
         ensures told { MatchOption result (self.old ≡ []) (λ c. self.old ≡ c ∷ self.new) }
         ensures none { result ≡ None → self.new ≡ [] }
@@ -99,8 +99,8 @@ impl<'a> Changes<'a> {
         }
     }
 
-    /// The place and the number of the next change, where it is packed and a number stood there.
-    /// Another change stays the next.
+    /// Returns the place and old number of the next change, if it is packed and its old value is a
+    /// number. Otherwise it consumes nothing.
     pub fn next_number(&mut self) -> Option<(Place, u64)>
         ensures { MatchOption result (self.new ≡ self.old)
             (λ n. self.old ≡ number_was n.0 n.1 ∷ self.new) }
@@ -120,7 +120,7 @@ impl Record {
         }
     }
 
-    /// The changes, each of another place.
+    /// Returns an iterator over the changes, each of another place.
     pub fn changes(&self) -> Changes<'_>
         ensures value { result ≡ self.now }
         ensures once { NamesOnce self.now }
@@ -135,8 +135,8 @@ impl Record {
         }
     }
 
-    /// The changes in three parts: those of numbers, completions and rows, those of bytes a run at
-    /// a time, and the others.
+    /// Returns the changes as three iterators: numbers, completions and rows; runs
+    /// of bytes; single places.
     pub fn parts(&self) -> (Changes<'_>, Stretches<'_>, Changes<'_>)
         ensures value { self.now ≡ result.0 ++ (result.1.left ++ result.2) }
         ensures once { NamesOnce self.now }
@@ -160,7 +160,7 @@ impl Record {
         (kinds, self.more.stretches(), others)
     }
 
-    /// Whether a place is named.
+    /// Returns whether the record names a place.
     pub fn names(&self, place: Place) -> bool
         ensures { result ≡ is_some (named self.now place) }
     {
@@ -176,13 +176,13 @@ impl Record {
         either(packed.names(place), either(self.more.names(place), by_kind))
     }
 
-    /// Lets the record go.
+    /// Drops the record.
     pub fn discard(self) {
         drop(self);
     }
 
-    /// How many of so many rows, and of so many completions that did not fit into the ring, stay
-    /// once those go that are named as absent, with all behind them.
+    /// Returns how many of `rows` requests and of `backlog` overflowed completions remain after
+    /// undoing the record. An element that was absent is removed with all after it.
     pub fn lengths_left(&self, rows: usize, backlog: usize) -> (usize, usize)
         ensures rows { IsLeft Requests self.now rows result.0 }
         ensures backlog { IsLeft Overflowed self.now backlog result.1 }
@@ -195,7 +195,7 @@ impl Record {
         )
     }
 
-    /// What the record keeps in memory, itself included, in bytes.
+    /// Returns how many bytes of memory the record takes, this struct included.
     pub fn kept_bytes(&self) -> usize {
         size_of::<Record>()
             .saturating_add(self.packed.kept_bytes())

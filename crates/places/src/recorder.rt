@@ -1,4 +1,4 @@
-//! Notes of old values, made while a state changes.
+//! Records old values while a step changes the state.
 ghost use Rattle.std.specs.Prelude.{◌≡◌, ◌+◌, ◌<◌, ◌≤◌, ◌^◌, [], ℕ, length, None, Some, IsOk, OnOk, OnErr, option_map, true, is_some};
 ghost use Rattle.places.specs.Places.{is_number, is_other, InLimits};
 ghost use Rattle.places.specs.Slots.{value_of};
@@ -26,28 +26,34 @@ use std::alloc::{AllocError, Global};
 use std::marker::Model;
 use std::mem;
 
-/// The slots of the numbers, the completions, and the rows and other places that a setup can have.
+/// How many slots places can have within the limits of a setup: those of numbers, of completions,
+/// and of requests and other places.
 const NUMBER_SLOTS: usize = 8192;
 
 const COMPLETION_SLOTS: usize = 8192;
 
 const ROW_SLOTS: usize = 262144;
 
-/// Notes of what stood in places before they were changed.
+/// Notes of the places that a step changes, with their old values. A part of the state adds a note
+/// before it writes a place.
+///
+/// The first note of a place counts. A caller that cannot handle an allocation failure between two
+/// writes reserves room for its notes first.
 pub struct Recorder {
     numbers: Slots<NumberNote>,
     completions: Slots<CompletionNote>,
     rows: Slots<RowNote>,
     rest: Rest,
     room: Room,
-    /// Memory for a record that keeps notes as they were made.
+    /// A box for notes that cannot be packed, allocated before the first of them is added, so
+    /// that closing cannot fail.
     spare: Wide,
-    /// Memory in which records are packed.
+    /// The buffer in which records are packed.
     scratch: Vec<u8>,
     alloc: Global,
 }
 
-// By hand, so that letting a recorder go is one step of a proof.
+// Written by hand, so that dropping a recorder is one step of a proof.
 impl Drop for Recorder {
     fn drop(self) {
         let Recorder {
@@ -82,7 +88,7 @@ impl Model for Recorder {
 }
 
 impl Recorder {
-    /// No notes. It takes no memory.
+    /// Returns a recorder without notes. Allocates nothing.
     pub fn new(alloc: Global) -> Recorder
         ensures { result.made ≡ [] }
     {
@@ -98,8 +104,8 @@ impl Recorder {
         }
     }
 
-    /// The next n notes of each sort take no memory: of numbers, of completion slots, and of the
-    /// other places that a setup has.
+    /// Reserves memory for the next n notes of each kind: numbers, completion slots, and other
+    /// places. The places must be within the limits of a setup.
     pub fn room(&mut self, n: usize) -> Result<(), AllocError>
         ensures made { self.new.made ≡ self.old.made }
         ensures numbers { OnOk result (n ≤ self.new.numbers) }
@@ -114,7 +120,8 @@ impl Recorder {
         self.room_for_others(n)
     }
 
-    /// The next n notes of places that hold neither numbers nor completion slots take no memory.
+    /// Reserves memory for the next n notes of places that hold neither numbers nor
+    /// completions of the ring.
     pub fn room_for_others(&mut self, n: usize) -> Result<(), AllocError>
         ensures made { self.new.made ≡ self.old.made }
         ensures room { OnOk result (n ≤ self.new.others) }
@@ -134,8 +141,8 @@ impl Recorder {
         Ok(())
     }
 
-    /// Takes the memory of n more notes of rows at once, where so many are to come. It promises
-    /// none.
+    /// Allocates memory for n notes of requests at once, for speed only: unlike
+    /// `room_for_others` it guarantees nothing.
     pub fn expect_rows(&mut self, n: usize) -> Result<(), AllocError>
         ensures made { self.new.made ≡ self.old.made }
         ensures kept { HasAsMuch self.old self.new }
@@ -143,7 +150,7 @@ impl Recorder {
         self.rows.room(n, 0)
     }
 
-    /// The next n notes of numbers take no memory.
+    /// Reserves memory for the next n notes of numbers.
     pub fn room_for_numbers(&mut self, n: usize) -> Result<(), AllocError>
         ensures made { self.new.made ≡ self.old.made }
         ensures room { OnOk result (n ≤ self.new.numbers) }
@@ -163,7 +170,7 @@ impl Recorder {
         Ok(())
     }
 
-    /// The next n notes of completion slots take no memory.
+    /// Reserves memory for the next n notes of completion slots.
     pub fn room_for_completions(&mut self, n: usize) -> Result<(), AllocError>
         ensures made { self.new.made ≡ self.old.made }
         ensures room { OnOk result (n ≤ self.new.completions) }
@@ -183,9 +190,11 @@ impl Recorder {
         Ok(())
     }
 
-    /// Notes what stands in a place, unless the place is noted. It takes no memory where there is
-    /// room. A value that cannot stand in the place is noted as well, in time that grows with the
-    /// notes.
+    /// Records the value of a place, unless the place is recorded already. Allocates nothing if
+    /// there is room. If an allocation fails, nothing is recorded.
+    ///
+    /// A single byte, or a value of another type than its place holds, takes time
+    /// linear in the number of notes.
     pub fn note(&mut self, place: Place, old: Option<Value>) -> Result<(), AllocError>
         ensures ok { OnOk result (Noted self.old.made self.new.made place old) }
         ensures err { OnErr result (self.new.made ≡ self.old.made) }
@@ -230,7 +239,7 @@ impl Recorder {
         }
     }
 
-    /// Notes the value of a place of none of the other kinds, or that there is none.
+    /// Records the value of a place for which `is_other` holds, or that the place is absent.
     fn note_small(&mut self, place: Place, old: Option<Small>) -> Result<(), AllocError>
         requires { is_other place ≡ true }
         ensures ok { OnOk result
@@ -249,7 +258,7 @@ impl Recorder {
         Ok(())
     }
 
-    /// Notes the number in a place of a number.
+    /// Records the number in a place.
     pub fn note_number(&mut self, place: Place, old: u64) -> Result<(), AllocError>
         requires { is_number place ≡ true }
         ensures ok { OnOk result (Noted self.old.made self.new.made place (Some (Number old))) }
@@ -267,7 +276,7 @@ impl Recorder {
         Ok(())
     }
 
-    /// Notes the completion in a slot of the ring.
+    /// Records the completion in a slot of the completion ring.
     pub fn note_completion(&mut self, slot: u32, old: Cqe) -> Result<(), AllocError>
         ensures ok { OnOk result
             (Noted self.old.made self.new.made (Completion slot) (Some (Completed old))) }
@@ -285,7 +294,7 @@ impl Recorder {
         Ok(())
     }
 
-    /// Notes a row, or that there is none yet.
+    /// Records a request, or that it is absent.
     pub fn note_row(&mut self, row: u32, old: Option<Row>) -> Result<(), AllocError>
         ensures ok { OnOk result
             (Noted self.old.made self.new.made (Request row) (option_map Requested old)) }
@@ -303,7 +312,7 @@ impl Recorder {
         Ok(())
     }
 
-    /// Notes the old bytes of a region from an index on, none of which is noted.
+    /// Records the bytes of a region from `start` on, none of which is recorded.
     pub fn note_bytes(&mut self, region: Region, start: u32, old: &[u8]) -> Result<(), AllocError>
         requires fresh { (i : ℕ) → i < length old.now
             → named self.old.made (place_in region (start + i)) ≡ None }
@@ -316,6 +325,7 @@ impl Recorder {
         Ok(())
     }
 
+    // Records a place and its value as a single note, after a search through all notes.
     fn note_other(&mut self, place: Place, old: Option<Value>) -> Result<(), AllocError>
         ensures ok { OnOk result (Noted self.old.made self.new.made place old) }
         ensures err { OnErr result (self.new.made ≡ self.old.made) }
@@ -337,6 +347,7 @@ impl Recorder {
         Ok(())
     }
 
+    // Returns whether a place is recorded, by a search through all notes.
     fn is_noted(&self, place: Place) -> bool
         ensures { result ≡ is_some (named self.now.made place) }
     {
@@ -348,8 +359,8 @@ impl Recorder {
         either(self.rest.names(place), by_kind)
     }
 
-    /// Drops the notes whose place has its old value, and keeps the others. It can't fail: where
-    /// there is no memory for the record's own, it has that of the notes.
+    /// Returns the undo record: the notes whose place has another value in `whole`. It cannot fail.
+    /// If there is no memory to pack the notes, the record takes them with their memory.
     pub fn close<A: At>(self, whole: &A) -> Record
         ensures { Exact (undo (A.seen whole.now) self.made) (A.seen whole.now) result }
     {
@@ -357,8 +368,8 @@ impl Recorder {
         notes.finish(whole)
     }
 
-    /// The same, but that the next notes are made here: they take the memory that these had, and
-    /// note places in constant time from the start.
+    /// The same, but the recorder stays and takes the next notes. It keeps its marks, and the
+    /// memory of the notes if it is small.
     pub fn finish<A: At>(&mut self, whole: &A) -> Record
         ensures exact { Exact (undo (A.seen whole.now) self.old.made) (A.seen whole.now) result }
         ensures none { self.new.made ≡ [] }

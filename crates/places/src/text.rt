@@ -1,4 +1,4 @@
-//! Values as text.
+//! The text of a value, as the command `show` prints it.
 ghost use Rattle.std.specs.Prelude.{◌≡◌, IfOk, string_bytes};
 ghost use Rattle.hex.specs.Hex.{encode_lower};
 ghost use Rattle.entries.specs.Layout.{entry_bytes};
@@ -10,7 +10,8 @@ use entries::{Cqe, Phase, Row, Sqe};
 use std::alloc::{AllocError, Global};
 
 impl Value {
-    /// The value as text: bytes are lower case hex, all numbers are decimal.
+    /// Returns the value as text. Bytes, entries and completions are in lower-case
+    /// hex, numbers in decimal.
     pub fn text(&self, alloc: Global) -> Result<Items<u8>, AllocError>
         ensures { IfOk result (λ text. text ≡ value_text self.now) }
     {

@@ -1,32 +1,38 @@
-//! What can stand in a place.
+//! The values of places.
 ghost use Rattle.std.specs.Prelude.{◌≡◌, ◌↔◌, IsTrue};
 
 use crate::place::Place;
 use entries::{Cqe, Row, Sqe};
 
-/// What a thread does next.
+/// Whether a thread can do its next instruction or waits.
 #[derive(Clone, Copy, PartialEq, Eq)]
 pub enum Stage {
     Ready,
-    /// It waits in an Enter: what the Enter submitted, and how many completions it waits for.
+    /// The thread waits in an Enter: the number of entries submitted, and how many
+    /// completions it waits for.
     Waiting(u32, u32),
 }
 
-/// What stands in a place.
+/// The value of a place.
 #[derive(Clone, Copy)]
 pub enum Value {
+    /// An unsigned number: a ring word, a counter, a length, a position or a mark.
     Number(u64),
+    /// The result of an Enter or a Close.
     Signed(i64),
     Byte(u8),
     Entry(Sqe),
     Completed(Cqe),
     Requested(Row),
+    /// Whether a thread waits in an Enter.
     Staged(Stage),
+    /// The completion that a thread reaped last, if any.
     Reaped(Option<Cqe>),
+    /// Whether the poller is awake.
     Awake(bool),
 }
 
-/// A place, and what stood there.
+/// A place and its old value, or `None` if the place was absent.
 #[derive(Clone, Copy)]
 pub struct Change {
     pub place: Place,
@@ -34,7 +40,7 @@ pub struct Change {
 }
 
 impl Stage {
-    /// Whether two stages are one and the same.
+    /// Returns whether two stages are equal.
     pub fn is(&self, other: &Stage) -> bool
         ensures { IsTrue result ↔ (self.now ≡ other.now) }
     {
@@ -43,7 +49,7 @@ impl Stage {
 }
 
 impl Value {
-    /// Whether two values are one and the same.
+    /// Returns whether two values are equal.
     pub fn is(&self, other: &Value) -> bool
         ensures { IsTrue result ↔ (self.now ≡ other.now) }
     {
@@ -72,7 +78,7 @@ fn is_same_completion(a: Option<Cqe>, b: Option<Cqe>) -> bool
     }
 }
 
-/// Whether two values, or none, are one and the same.
+/// Returns whether two values are equal, or both absent.
 pub fn is_same(a: Option<Value>, b: Option<Value>) -> bool
     ensures { IsTrue result ↔ (a ≡ b) }
 {

@@ -1,4 +1,4 @@
--- The flags word.
+-- Facts about the flags word.
 use Rattle.std.proofs.Common.{◌≡◌, ℕ, zero, suc, Bool, true, false, refl, sym, ◌∙◌, ap, ◌*◌, ◌%◌, ◌-◌, ◌<◌, ◌^◌, ◌⊎◌, inl, inr, arith}
 use Rattle.std.specs.Prelude.{not, ◌==◌}
 use Rattle.std.proofs.lemmas.Nat.{or_lt, and_le_l, and_or_self, and_or_apart, and_assoc, and_comm, and_mask}
@@ -9,13 +9,13 @@ use Rattle.ring_words.specs.declared.flag.RingFlag.{RingFlag}
 use Rattle.ring_words.specs.declared.flag.RingFlag.TheVariants.{NeedWakeup, CqOverflow}
 use Rattle.ring_words.specs.Rings.{bit_of, has_flag, with_flag}
 
--- it stays a word
+-- The flags word still fits into 32 bits.
 pub with_flag_fits : (n : ℕ) (f : RingFlag) (on : Bool) → n < 2 ^ 32 → with_flag n f on < 2 ^ 32
 with_flag_fits n NeedWakeup true h = or_lt 32 n 1 h (omega arith)
 with_flag_fits n CqOverflow true h = or_lt 32 n 2 h (omega arith)
 with_flag_fits n f false h = let l = and_le_l n (2 ^ 32 - 1 - bit_of f) in omega (arith, l)
 
--- the flag is set where it was set, and cleared where it was cleared
+-- A flag is set after setting it, and clear after clearing it.
 pub flag_set : (n : ℕ) (f : RingFlag) (on : Bool) → has_flag (with_flag n f on) f ≡ on
 flag_set n NeedWakeup true = ap (λ a. not (a == 0)) (and_or_self 1 n)
 flag_set n CqOverflow true = ap (λ a. not (a == 0)) (and_or_self 2 n)
@@ -26,17 +26,17 @@ pub overflow_kept : (n : ℕ) (on : Bool) → has_flag (with_flag n NeedWakeup o
 overflow_kept n true = ap (λ a. not (a == 0)) (and_or_apart 2 n 1 refl)
 overflow_kept n false = ap (λ a. not (a == 0)) (and_assoc 2 n 4294967294)
 
--- a bit that is there already
+-- Setting a bit that is set changes nothing.
 set_again : (n m : ℕ) → bit_and n m ≡ m → bit_or n m ≡ n
 set_again n m e = let k = or_add_and n m in omega (arith, k, e)
 
--- a bit that is not there
+-- Clearing a bit that is clear changes nothing.
 cleared_again : (n m a : ℕ) → bit_or a m ≡ 2 ^ 32 - 1 → bit_and n m ≡ 0 → n < 2 ^ 32 → bit_and n a ≡ n
 cleared_again n m a all e l =
     let whole : n % 2 ^ 32 ≡ n = omega arith in
     and_comm n a ∙ sym (and_or_apart n a m (and_comm m n ∙ e)) ∙ ap (λ x. bit_and x n) all ∙ and_comm (2 ^ 32 - 1) n ∙ and_mask n 32 ∙ whole
 
--- a bit is not there, or it is there whole
+-- Masking with a power of two gives 0 or that power.
 bit_cases : (n k : ℕ) → (bit_and n (2 ^ k) ≡ 0) ⊎ (bit_and n (2 ^ k) ≡ 2 ^ k)
 bit_cases n k = by (bit_at n k) (bit_at-lt n k) (and_pow n k)
   where
@@ -45,7 +45,7 @@ bit_cases n k = by (bit_at n k) (bit_at-lt n k) (and_pow n k)
     by (suc zero) l e = inr (omega arith)
     by (suc (suc b)) l e = absurd (omega arith)
 
--- a flag that stands so already changes nothing
+-- Setting a flag to its current value changes nothing.
 pub with_flag_same : (n : ℕ) (f : RingFlag) (on : Bool) → n < 2 ^ 32 → has_flag n f ≡ on → with_flag n f on ≡ n
 with_flag_same n NeedWakeup true h e = by (bit_cases n 0)
   where

@@ -1,4 +1,4 @@
--- What holds of the rings as lists, whoever changes them.
+-- Facts about the lists of pending elements and the invariants of the rings.
 use Rattle.std.proofs.Common.{◌≡◌, ℕ, zero, suc, Bool, true, false, cond, sym, ◌∙◌, List, [], ◌∷◌, ◌++◌, length, ◌+◌, ◌%◌, ◌<◌, ◌≤◌, ◌^◌, arith, length-set}
 use Rattle.std.specs.Prelude.{Some, slice_get, slice_set, ◌==◌}
 use Rattle.std.proofs.Math.ListN.{replicate}
@@ -13,7 +13,7 @@ use Rattle.ring_words.proofs.Sizes.{size_divides, rounded_size, size_some}
 use Rattle.ring_words.proofs.Flags.{with_flag_fits}
 use Rattle.places.proofs.ListLemmas.{slice_get-set}
 
--- the list is as long as the words say
+-- The list is as long as head and tail say.
 pub sub_length : (w : SubWords) → SubFormed w → length (sub_list w) ≡ waiting w.head w.tail
 unfolding sub_list
 sub_length w f = items_length w.array w.head (waiting w.head w.tail) (size_some f.size)
@@ -22,7 +22,7 @@ pub com_length : (w : ComWords) → ComFormed w → length (com_list w) ≡ wait
 unfolding com_list
 com_length w f = items_length w.slots w.head (waiting w.head w.tail) (size_some f.size)
 
--- posting appends
+-- Posting appends to the list.
 pub com_posted : (w : ComWords) (c : Cqe) → ComFormed w → waiting w.head w.tail < length w.slots
     → com_list (record w { tail = (w.tail + 1) % 2 ^ 32; slots = slice_set w.slots (w.tail % length w.slots) c }) ≡ com_list w ++ c ∷ []
 unfolding com_list
@@ -35,7 +35,7 @@ set_word xs j x l b h i y e = by (j == i) (sym (slice_get-set xs j i x l) ∙ e)
     by true k = let same : x ≡ y = cc in omega arith
     by false k = h i y k
 
--- each change leaves a ring that is well formed
+-- Each change preserves the invariant.
 pub formed_pushed : (w : SubWords) (x : ℕ) → SubFormed w → x < 2 ^ 32 → SubFormed (record w { tail = (w.tail + 1) % 2 ^ 32; array = slice_set w.array (w.tail % length w.array) x })
 formed_pushed w x f b =
     let same = length-set w.array (w.tail % length w.array) x in
@@ -69,7 +69,7 @@ zero_word zero i y e = absurd cc
 zero_word (suc n) zero y e = let z : 0 ≡ y = cc in omega arith
 zero_word (suc n) (suc i) y e = zero_word n i y e
 
--- the rings that a setup starts with
+-- The rings at the start of a run satisfy the invariant.
 pub formed_sub_start : (n base : ℕ) → 0 < n → n ≤ 4096 → base < 2 ^ 32 → SubFormed (sub_start n base)
 formed_sub_start n base s l b =
     let fits : 0 < 2 ^ 32 = omega arith in

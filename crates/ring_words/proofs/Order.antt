@@ -1,5 +1,5 @@
--- A ring is a list: a word written at the tail goes behind the others, a word read at the head is
--- the first.
+-- A ring is a queue: writing at the tail appends to the list, and reading at the head takes from
+-- its front.
 use Rattle.std.proofs.Common.{◌≡◌, ◌≢◌, ℕ, zero, suc, Bool, true, false, cond, refl, sym, ◌∙◌, ap, List, [], ◌∷◌, ◌++◌, length, drop, get_or, ◌+◌, ◌-◌, ◌%◌, ◌<◌, ◌≤◌, ◌^◌, ◌⊎◌, inl, inr, append_assoc, arith, length-set}
 use Rattle.std.specs.Prelude.{Some, None, option_to_list, slice_get, slice_set, ◌==◌}
 use Rattle.std.proofs.lemmas.Bool.{eqb-true}
@@ -18,15 +18,15 @@ waiting_less h t a b c = omega arith
 pub waiting_more : (h t n : ℕ) → h < 2 ^ 32 → t < 2 ^ 32 → n ≤ 8192 → waiting h t < n → waiting h ((t + 1) % 2 ^ 32) ≡ waiting h t + 1
 waiting_more h t n a b c d = omega arith
 
--- so many were taken at once
+-- Taking k elements leaves k fewer pending.
 pub waiting_behind : (h t k : ℕ) → h < 2 ^ 32 → t < 2 ^ 32 → k ≤ waiting h t → waiting ((h + k) % 2 ^ 32) t + k ≡ waiting h t
 waiting_behind h t k a b c = omega arith
 
--- nothing waits between a word and itself
+-- Nothing is pending if head and tail are equal.
 pub waiting_none : (h : ℕ) → h < 2 ^ 32 → waiting h h ≡ 0
 waiting_none h a = omega arith
 
--- the place after a word, or after another word for the same place
+-- Counter values with the same index have successors with the same index.
 next_place : (a b n : ℕ) → a % n ≡ b % n → (a + 1) % n ≡ (b + 1) % n
 next_place a b n e = add-mod a 1 n ∙ ap (λ x. (x + 1 % n) % n) e ∙ sym (add-mod b 1 n)
 
@@ -36,11 +36,11 @@ items_same xs a b (suc n) e =
     ap (λ i. option_to_list (slice_get xs i) ++ items_from xs (a + 1) n) e
     ∙ ap (λ ys. option_to_list (slice_get xs (b % length xs)) ++ ys) (items_same xs (a + 1) (b + 1) n (next_place a b (length xs) e))
 
--- words that wrap name the same places
+-- Counter values modulo 2 ^ 32 have the same indexes.
 pub items_wrapped : {X : Type 0} (xs : List X) (h n : ℕ) → length xs ∣ 2 ^ 32 → items_from xs h n ≡ items_from xs (h % 2 ^ 32) n
 items_wrapped xs h n d = items_same xs h (h % 2 ^ 32) n (sym (mod-mod_of_dvd (length xs) h d))
 
--- a place of a ring has an element
+-- Each index of a ring has an element.
 pub item_here : {X : Type 0} (xs : List X) (h : ℕ) → 0 < length xs → (x : X) × (slice_get xs (h % length xs) ≡ Some x)
 item_here {X = X} xs h s = by (slice_get_cases xs (h % length xs)).1
   where
@@ -48,7 +48,7 @@ item_here {X = X} xs h s = by (slice_get_cases xs (h % length xs)).1
     by (inl k) = (k.0, k.2)
     by (inr k) = let b = mod_below h (length xs) s in absurd (omega (arith, k.0, b))
 
--- taking drops the first
+-- Taking one element drops the first of the list.
 pub list_front : {X : Type 0} (xs : List X) (h t : ℕ) (x : X) → length xs ∣ 2 ^ 32 → h < 2 ^ 32 → t < 2 ^ 32 → 0 < waiting h t → slice_get xs (h % length xs) ≡ Some x
     → items_from xs h (waiting h t) ≡ x ∷ items_from xs ((h + 1) % 2 ^ 32) (waiting ((h + 1) % 2 ^ 32) t)
 list_front xs h t x d a b c here =
@@ -70,7 +70,7 @@ items_drop xs h (suc n) (suc k) s l =
     ∙ items_drop xs (h + 1) n k s (omega arith)
     ∙ ap (λ o. drop (suc k) (option_to_list o ++ items_from xs (h + 1) n)) (sym here.1)
 
--- taking many drops the first of them
+-- Taking k elements drops the first k of the list.
 pub list_behind : {X : Type 0} (xs : List X) (h t k : ℕ) → 0 < length xs → length xs ∣ 2 ^ 32 → h < 2 ^ 32 → t < 2 ^ 32 → k ≤ waiting h t
     → items_from xs ((h + k) % 2 ^ 32) (waiting ((h + k) % 2 ^ 32) t) ≡ drop k (items_from xs h (waiting h t))
 list_behind xs h t k s d a b c =
@@ -78,7 +78,7 @@ list_behind xs h t k s d a b c =
     let e : waiting ((h + k) % 2 ^ 32) t ≡ waiting h t - k = omega arith in
     ap (items_from xs ((h + k) % 2 ^ 32)) e ∙ sym (items_wrapped xs (h + k) _ d) ∙ items_drop xs h (waiting h t) k s c
 
--- each element of the list, by its place
+-- Each element of the list, by its index in the ring.
 pub items_get : {X : Type 0} (xs : List X) (h n i : ℕ) → 0 < length xs → i < n → slice_get (items_from xs h n) i ≡ slice_get xs ((h + i) % length xs)
 items_get xs h zero i s l = absurd (omega arith)
 items_get xs h (suc n) zero s l =
@@ -90,7 +90,7 @@ items_get xs h (suc n) (suc i) s l =
     let e : (h + 1) + i ≡ h + suc i = omega arith in
     ap (λ o. slice_get (option_to_list o ++ items_from xs (h + 1) n) (suc i)) here.1 ∙ items_get xs (h + 1) n i s (omega arith) ∙ ap (λ a. slice_get xs (a % length xs)) e
 
--- as many as asked for
+-- The list has n elements.
 pub items_length : {X : Type 0} (xs : List X) (h n : ℕ) → 0 < length xs → length (items_from xs h n) ≡ n
 items_length xs h zero s = refl
 items_length xs h (suc n) s =
@@ -108,7 +108,7 @@ items_more xs h (suc n) =
     ∙ ap (λ ys. option_to_list (slice_get xs (h % length xs)) ++ ys) (items_more xs (h + 1) n ∙ ap (λ k. items_from xs (h + 1) n ++ option_to_list (slice_get xs (k % length xs))) f)
     ∙ sym (append_assoc (option_to_list (slice_get xs (h % length xs))) (items_from xs (h + 1) n) _)
 
--- a place that none of the items stands in
+-- Writing an index that the list doesn't include leaves the list unchanged.
 items_other : {X : Type 0} (xs : List X) (j : ℕ) (x : X) (h n : ℕ) → j < length xs → ((i : ℕ) → i < n → (h + i) % length xs ≢ j) → items_from (slice_set xs j x) h n ≡ items_from xs h n
 items_other xs j x h zero l o = refl
 items_other xs j x h (suc n) l o =
@@ -123,7 +123,7 @@ items_other xs j x h (suc n) l o =
 order : (a b : ℕ) → (a < b) ⊎ (b ≤ a)
 order a b = elim (leb_tells b a) [ inl k ↦ inr k.1 | inr k ↦ inl k.1 ]
 
--- words less than a size apart name different places
+-- Counter values that differ by less than the size have different indexes.
 apart : (h i w n : ℕ) → i < w → w < n → (h + i) % n ≢ (h + w) % n
 apart h i w n a b e = by (order ((h + i) % n + (w - i)) n)
   where
@@ -147,7 +147,7 @@ apart h i w n a b e = by (order ((h + i) % n + (w - i)) n)
         let g = mod-eq_of_lt l in
         omega (arith, moved, m, g, r)
 
--- what is written at the tail goes behind the others
+-- Writing at the tail appends to the list.
 pub list_back : {X : Type 0} (xs : List X) (h t : ℕ) (x : X) → 0 < length xs → length xs ≤ 8192 → length xs ∣ 2 ^ 32 → h < 2 ^ 32 → t < 2 ^ 32 → waiting h t < length xs
     → items_from (slice_set xs (t % length xs) x) h (waiting h ((t + 1) % 2 ^ 32)) ≡ items_from xs h (waiting h t) ++ x ∷ []
 list_back xs h t x s l d a b f =

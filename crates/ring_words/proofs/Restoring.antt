@@ -1,4 +1,4 @@
--- What the rings show, put into rings of the same sizes.
+-- Assigning the values of one ring to another of the same size.
 use Rattle.std.proofs.Common.{◌≡◌, ℕ, refl, sym, ap, subst, List, length, ◌<◌, arith}
 use Rattle.std.specs.Prelude.{Option, Some, None, option_map, slice_get}
 use Rattle.std.proofs.lemmas.Option.{slice_get_within, slice_get_past}
@@ -9,7 +9,7 @@ use Rattle.places.specs.declared.value.Value.TheVariants.{Number, Entry, Complet
 use Rattle.places.proofs.ListLemmas.{same_list, slice_get_none}
 use Rattle.ring_words.specs.Rings.{SubWords, ComWords, SubFormed, ComFormed, sub_seen, com_seen, sub_can_put, com_can_put}
 
--- lists of one length have elements at the same indexes
+-- Lists of the same length have elements at the same indexes.
 pub none_here : {X V : Type 0} (f : X → V) (xs ys : List X) (i : ℕ) → length xs ≡ length ys → option_map f (slice_get xs i) ≡ None → option_map f (slice_get ys i) ≡ None
 none_here {X} {V} f xs ys i h e = by (slice_get xs i) refl e
   where
@@ -30,7 +30,7 @@ same_through f inj None (Some y) e = absurd cc
 same_through f inj (Some x) None e = absurd cc
 same_through f inj (Some x) (Some y) e = ap Some (inj x y (cc))
 
--- what one ring shows can be put into each of its sizes
+-- Each value of one ring can be assigned in the other.
 pub sub_seen_can_put : (s m : SubWords) → SubFormed s → length s.array ≡ length m.array → length s.slots ≡ length m.slots → (p : Place) (v : Value) → sub_seen s p ≡ Some v → sub_can_put m p (Some v)
 sub_seen_can_put s m f a h SubmissionHead v e = subst (sub_can_put m SubmissionHead) e f.head
 sub_seen_can_put s m f a h SubmissionTail v e = subst (sub_can_put m SubmissionTail) e f.tail
@@ -52,7 +52,7 @@ com_seen_can_put s m f h (Completion i) v e =
     subst (λ (w : Value). com_can_put m (Completion i) (Some w)) (sym k.1.2) k.0
 com_seen_can_put s m f h _ v e = absurd cc
 
--- where nothing stands, nothing stands in a ring of the same sizes
+-- The same places are absent in both rings.
 pub sub_absent_same : (s m : SubWords) → length s.array ≡ length m.array → length s.slots ≡ length m.slots → (p : Place) → sub_seen s p ≡ None → sub_seen m p ≡ None
 sub_absent_same s m a h SubmissionHead e = absurd cc
 sub_absent_same s m a h SubmissionTail e = absurd cc
@@ -68,7 +68,7 @@ com_absent_same s m h CompletionTail e = absurd cc
 com_absent_same s m h (Completion i) e = none_here Completed s.slots m.slots i h e
 com_absent_same s m h _ e = refl
 
--- rings that show the same are one
+-- Rings with equal views are equal.
 pub same_sub : (s m : SubWords) → ((p : Place) → sub_seen s p ≡ sub_seen m p) → s ≡ m
 same_sub s m e = λ i. record { head = head i; tail = tail i; flags = flags i; dropped = dropped i; array = array i; slots = slots i }
   where

@@ -1,4 +1,4 @@
--- What is seen of a changed ring.
+-- The view of a changed ring.
 use Rattle.std.proofs.Common.{◌≡◌, ℕ, Bool, true, false, cond, refl, ◌∙◌, length, ◌<◌}
 use Rattle.std.specs.Prelude.{Some, option_map, slice_get, slice_set, ◌==◌, ◌&&◌}
 use Rattle.entries.specs.declared.completion.Cqe.{Cqe}

@@ -1,4 +1,4 @@
--- Sizes of rings.
+-- Facts about the sizes of rings.
 use Rattle.std.proofs.Common.{length, slice_index_or, ◌≡◌, ◌-◌, ◌*◌, ℕ, zero, suc, Bool, true, false, cond, refl, sym, ◌∙◌, ap, List, [], ◌∷◌, ◌+◌, ◌/◌, ◌%◌, ◌<◌, ◌≤◌, ◌^◌, ◌⊎◌, inl, inr, nat_lt, subst, arith, pow_mono, pow-add}
 use Rattle.std.proofs.lemmas.Bool.{ltb-true, ltb-false}
 use Rattle.std.proofs.Math.Nat.{pow-succ', mul-mod_right}
@@ -9,7 +9,7 @@ use Rattle.std.proofs.lemmas.Nat.Gcd.{dvd_of_mod-eq-zero}
 use Rattle.std.specs.Int.{◌∣◌, IsNextPowerOfTwo}
 use Rattle.ring_words.specs.Rings.{IsSize, sizes, first_not_below, rounded}
 
--- the next powers of two above 2 ^ k, with it
+-- The powers of two from 2 ^ k to 2 ^ (k + j).
 powers : ℕ → ℕ → List ℕ
 powers k zero = 2 ^ k ∷ []
 powers k (suc j) = 2 ^ k ∷ powers (suc k) j
@@ -18,7 +18,7 @@ sizes_are : sizes ≡ powers 0 13
 unfolding powers
 sizes_are = refl
 
--- the power at an index
+-- The power at index i.
 power_at : (k j i n : ℕ) → i < length (powers k j) → slice_index_or (powers k j) i n ≡ 2 ^ (k + i)
 unfolding powers
 power_at k zero zero n l = ap (λ m. 2 ^ m) (omega arith)
@@ -32,7 +32,7 @@ size_at i n l =
     let same : 2 ^ (0 + i) ≡ 2 ^ i = ap (λ k. 2 ^ k) (omega arith) in
     ap (λ ps. slice_index_or ps i n) sizes_are ∙ (there ∙ same)
 
--- a size is two to the power of its index
+-- A size is 2 to the power of its index in the list.
 size_is : (limit n : ℕ) → IsSize limit n → (i : ℕ) × (i < 14) × (n ≡ 2 ^ i)
 size_is limit n h =
     let (i, l, e) = h.power in
@@ -41,14 +41,14 @@ size_is limit n h =
 pub size_some : {limit n : ℕ} → IsSize limit n → 0 < n
 size_some {limit} {n} h = let (i, l, e) = size_is limit n h in let p = pow_pos i in omega (arith, e, p)
 
--- words wrap at a multiple of each size
+-- Each size divides 2 ^ 32, so counters wrap at a multiple of it.
 pub size_divides : (limit n : ℕ) → IsSize limit n → n ∣ 2 ^ 32
 size_divides limit n h =
     let (i, l, e) = size_is limit n h in
     let parts : 32 ≡ i + (32 - i) = omega arith in
     dvd_of_mod-eq-zero n (subst (λ (x : ℕ). 2 ^ 32 % x ≡ 0) (sym e) (ap (λ k. 2 ^ k % 2 ^ i) parts ∙ ap (λ x. x % 2 ^ i) (pow-add 2 i (32 - i)) ∙ mul-mod_right (2 ^ i) (2 ^ (32 - i))))
 
--- the first power that is not below a number is the least one
+-- The first power in the list that is at least n is the smallest one.
 walk : (n k j : ℕ) → 0 < n → n ≤ 2 ^ (k + j) → 2 ^ k / 2 < n → IsNextPowerOfTwo n (first_not_below n (powers k j))
 unfolding powers
 walk n k zero s l h = by (nat_lt (2 ^ k) n) refl
@@ -71,7 +71,7 @@ walk n k (suc j) s l h = by (nat_lt (2 ^ k) n) refl (walk n (suc k) j)
     by true t more = let a = ltb-true _ _ t in more s (omega (arith, e)) (omega (arith, f))
     by false t more = let a = ltb-false _ _ t in ((k, refl), a, omega arith)
 
--- a number of entries is rounded up to the least power of two that is not below it
+-- `rounded` is the next power of two.
 pub rounded_next : (n : ℕ) → 0 < n → n ≤ 8192 → IsNextPowerOfTwo n (rounded n)
 unfolding rounded
 rounded_next n s l = subst (λ (ps : List ℕ). IsNextPowerOfTwo n (first_not_below n ps)) (sym sizes_are) (walk n 0 13 s (omega arith) (omega arith))
@@ -83,7 +83,7 @@ not_below n a b s l h = by (leb_tells b a)
     by (inl k) = k.1
     by (inr k) = let m : 2 ^ suc a ≤ 2 ^ b = pow_mono {i = suc a} {j = b} (omega arith) in let f = pow-succ' 2 a in absurd (omega (arith, m, f))
 
--- there is one least power
+-- The next power of two is unique.
 pub next_is_one : (n p q : ℕ) → 0 < n → IsNextPowerOfTwo n p → IsNextPowerOfTwo n q → p ≡ q
 next_is_one n p q s h k =
     let a : n ≤ 2 ^ h.0.0 = omega (arith, h.0.1, h.1) in
@@ -93,7 +93,7 @@ next_is_one n p q s h k =
     let e : h.0.0 ≡ k.0.0 = omega (arith, not_below n h.0.0 k.0.0 s a d, not_below n k.0.0 h.0.0 s b c) in
     h.0.1 ∙ ap (λ i. 2 ^ i) e ∙ sym k.0.1
 
--- it is a size, where the number is within a limit that is one
+-- The next power of two is a size, if n is within the limit 2 ^ l.
 pub next_size : (n p l : ℕ) → 0 < n → n ≤ 2 ^ l → l ≤ 13 → IsNextPowerOfTwo n p → IsSize (2 ^ l) p
 next_size n p l s m few h =
     let d : 2 ^ h.0.0 / 2 < n = subst (λ (x : ℕ). x / 2 < n) h.0.1 (omega (arith, h.2)) in

@@ -1,4 +1,4 @@
--- The two rings as lists of what waits (io_uring(7), io_uring_setup(2)).
+-- The two rings, and the lists of their pending elements (io_uring(7), io_uring_setup(2)).
 use Rattle.std.specs.Prelude.{◌≡◌, ℕ, zero, suc, pos, ◌+◌, ◌-◌, ◌%◌, ◌^◌, ◌<◌, ◌≤◌, nat_lt, ◌==◌, not, Bool, true, false, Option, Some, None, option_map, option_to_list, slice_get, slice_index, List, [], ◌∷◌, ◌++◌, length, if◌then◌else◌}
 use Rattle.std.specs.List.{Contains}
 use Rattle.std.proofs.Math.ListN.{replicate}
@@ -15,7 +15,7 @@ use Rattle.ring_words.specs.declared.taken.Taken.TheVariants.{Entry as Taking, D
 use Rattle.ring_words.specs.declared.flag.RingFlag.{RingFlag}
 use Rattle.ring_words.specs.declared.flag.RingFlag.TheVariants.{NeedWakeup, CqOverflow}
 
--- the submission ring: its four words, the array of slot indexes, and the entry slots
+-- The submission ring: its four words, the index array, and the entry slots.
 pub record SubWords : Type 0 where
   pub head : ℕ
   pub tail : ℕ
@@ -24,79 +24,79 @@ pub record SubWords : Type 0 where
   pub array : List ℕ
   pub slots : List Sqe
 
--- the completion ring: its two words and its slots
+-- The completion ring: its two words and its slots.
 pub record ComWords : Type 0 where
   pub head : ℕ
   pub tail : ℕ
   pub slots : List Cqe
 
--- the powers of two that a ring can have as its size
+-- The sizes that a ring can have: powers of two.
 abbrev pub sizes : List ℕ
 sizes = 1 ∷ 2 ∷ 4 ∷ 8 ∷ 16 ∷ 32 ∷ 64 ∷ 128 ∷ 256 ∷ 512 ∷ 1024 ∷ 2048 ∷ 4096 ∷ 8192 ∷ []
 
--- one of them, at most a limit
+-- One of these sizes, at most a limit.
 pub record IsSize (limit n : ℕ) : Type 0 where
   pub power : Contains sizes n
   pub most : n ≤ limit
 
--- the first of a rising list that is not below n
+-- The first element of an ascending list that is at least n.
 abbrev pub first_not_below : ℕ → List ℕ → ℕ
 first_not_below n [] = 0
 first_not_below n (x ∷ xs) = if nat_lt x n then first_not_below n xs else x
 
--- a number of entries rounded up to a size (io_uring_setup(2))
+-- A number of entries rounded up to a power of two (io_uring_setup(2)); 0 if it is above 8,192.
 unfoldable pub rounded : ℕ → ℕ
 rounded n = first_not_below n sizes
 
--- how many wait between two free-running words
+-- How many elements are pending. Head and tail are free-running 32-bit counters.
 abbrev pub waiting : ℕ → ℕ → ℕ
 waiting head tail = (tail + (2 ^ 32 - head)) % 2 ^ 32
 
--- what stands in n places of a ring from a word on, the place of a word being the word modulo the
--- size
+-- The n elements of a ring from counter value h on. The index of an element is its counter value
+-- modulo the size.
 abbrev pub items_from : {X : Type 0} → List X → ℕ → ℕ → List X
 items_from xs h zero = []
 items_from xs h (suc n) = option_to_list (slice_get xs (h % length xs)) ++ items_from xs (h + 1) n
 
--- the array words that wait, the oldest first
+-- The pending words of the index array, the oldest first.
 unfoldable pub sub_list : SubWords → List ℕ
 sub_list w = items_from w.array w.head (waiting w.head w.tail)
 
--- the completions that wait, the oldest first
+-- The pending completions, the oldest first.
 unfoldable pub com_list : ComWords → List Cqe
 com_list w = items_from w.slots w.head (waiting w.head w.tail)
 
--- the array word at the head
+-- The word of the index array at the head.
 abbrev pub front_word : SubWords → ℕ
 front_word w = slice_index w.array (w.head % length w.array)
 
--- whether a number names an entry slot
+-- Whether a word is the index of an entry slot.
 abbrev pub is_index : SubWords → ℕ → Bool
 is_index w i = nat_lt i (length w.slots)
 
--- what taking the word at the head comes to
+-- The result of taking the word at the head.
 abbrev pub taken_of : SubWords → Taken
 taken_of w = if is_index w (front_word w) then Taking (front_word w) else Dropped
 
--- the dropped word after it
+-- The `dropped` word after that.
 abbrev pub dropped_after : ℕ → Taken → ℕ
 dropped_after d (Taking slot) = d
 dropped_after d Dropped = (d + 1) % 2 ^ 32
 
--- the bit of a flag in the flags word
+-- The bit of a flag in the flags word.
 abbrev pub bit_of : RingFlag → ℕ
 bit_of NeedWakeup = 1
 bit_of CqOverflow = 2
 
--- whether a flag is set in a flags word
+-- Whether a flag is set in a flags word.
 abbrev pub has_flag : ℕ → RingFlag → Bool
 has_flag flags f = not (bit_and flags (bit_of f) == 0)
 
--- the flags word with one flag set or cleared
+-- The flags word with one flag set or cleared.
 abbrev pub with_flag : ℕ → RingFlag → Bool → ℕ
 with_flag flags f on = if on then bit_or flags (bit_of f) else bit_and flags (2 ^ 32 - 1 - bit_of f)
 
--- the entry of 64 zero bytes
+-- The entry of 64 zero bytes.
 abbrev pub zero_entry : Sqe
 zero_entry = record {
   opcode = 0;
@@ -114,11 +114,11 @@ zero_entry = record {
   rest = replicate 16 0;
 }
 
--- a completion slot at the start
+-- The initial value of a completion slot.
 abbrev pub zero_completion : Cqe
 zero_completion = record { user_data = 0; res = pos 0; flags = 0 }
 
--- the submission ring that a setup starts with: both of its words at the base, nothing waits
+-- The submission ring at the start of a run: head and tail equal the base, and nothing is pending.
 abbrev pub sub_start : ℕ → ℕ → SubWords
 sub_start entries base = record {
   head = base;
@@ -129,12 +129,12 @@ sub_start entries base = record {
   slots = replicate (rounded entries) zero_entry;
 }
 
--- the completion ring that a setup starts with
+-- The completion ring at the start of a run.
 abbrev pub com_start : ℕ → ℕ → ComWords
 com_start entries base =
     record { head = base; tail = base; slots = replicate (rounded entries) zero_completion }
 
--- What holds of each submission ring: its sizes, and the width of its words.
+-- The invariant of a submission ring: its sizes, and that its words fit into 32 bits.
 pub record SubFormed (w : SubWords) : Type 0 where
   pub size : IsSize 4096 (length w.array)
   pub slots : length w.slots ≡ length w.array
@@ -144,13 +144,13 @@ pub record SubFormed (w : SubWords) : Type 0 where
   pub dropped : w.dropped < 2 ^ 32
   pub words : (i x : ℕ) → slice_get w.array i ≡ Some x → x < 2 ^ 32
 
--- What holds of each completion ring.
+-- The invariant of a completion ring.
 pub record ComFormed (w : ComWords) : Type 0 where
   pub size : IsSize 8192 (length w.slots)
   pub head : w.head < 2 ^ 32
   pub tail : w.tail < 2 ^ 32
 
--- the places of the submission ring
+-- The places of the submission ring.
 abbrev pub sub_owns : Place → Bool
 sub_owns SubmissionHead = true
 sub_owns SubmissionTail = true
@@ -160,7 +160,7 @@ sub_owns (Array i) = true
 sub_owns (Slot i) = true
 sub_owns _ = false
 
--- what stands in them
+-- Their values.
 abbrev pub sub_seen : SubWords → View
 sub_seen w SubmissionHead = Some (Number w.head)
 sub_seen w SubmissionTail = Some (Number w.tail)
@@ -170,7 +170,7 @@ sub_seen w (Array i) = option_map Number (slice_get w.array i)
 sub_seen w (Slot i) = option_map Entry (slice_get w.slots i)
 sub_seen w _ = None
 
--- whether a value may be put into a place of the submission ring
+-- Whether a value can be assigned to a place of the submission ring.
 abbrev pub sub_can_put : SubWords → Place → Option Value → Type 0
 sub_can_put w SubmissionHead (Some (Number n)) = n < 2 ^ 32
 sub_can_put w SubmissionTail (Some (Number n)) = n < 2 ^ 32
@@ -180,21 +180,21 @@ sub_can_put w (Array i) (Some (Number n)) = (i < length w.array) × (n < 2 ^ 32)
 sub_can_put w (Slot i) (Some (Entry e)) = i < length w.slots
 sub_can_put w p v = ⊥
 
--- the places of the completion ring
+-- The places of the completion ring.
 abbrev pub com_owns : Place → Bool
 com_owns CompletionHead = true
 com_owns CompletionTail = true
 com_owns (Completion i) = true
 com_owns _ = false
 
--- what stands in them
+-- Their values.
 abbrev pub com_seen : ComWords → View
 com_seen w CompletionHead = Some (Number w.head)
 com_seen w CompletionTail = Some (Number w.tail)
 com_seen w (Completion i) = option_map Completed (slice_get w.slots i)
 com_seen w _ = None
 
--- whether a value may be put into a place of the completion ring
+-- Whether a value can be assigned to a place of the completion ring.
 abbrev pub com_can_put : ComWords → Place → Option Value → Type 0
 com_can_put w CompletionHead (Some (Number n)) = n < 2 ^ 32
 com_can_put w CompletionTail (Some (Number n)) = n < 2 ^ 32

@@ -13,7 +13,7 @@ use places::{At, Part, Place, Recorder, Value};
 use std::alloc::{AllocError, Global};
 use std::marker::Model;
 
-/// The completion ring: the kernel posts at the tail, the application reaps at the head.
+/// The completion ring: the kernel posts at the tail, and the application reaps at the head.
 #[derive(Drop)]
 pub struct ComRing {
     head: u32,
@@ -83,7 +83,8 @@ impl Part for ComRing {
 }
 
 impl ComRing {
-    /// An empty ring of at least so many slots, both of its words at the base.
+    /// Returns an empty ring with room for `entries` completions, 1 to 8,192, rounded up to a power
+    /// of two. Head and tail start at `base`.
     pub fn new(alloc: Global, entries: u32, base: u32) -> Result<ComRing, RingRefusal>
         ensures ok { IfOk result (λ r. r ≡ com_start entries base) }
         ensures power { IfOk result (λ r. IsNextPowerOfTwo entries (length r.slots)) }
@@ -107,7 +108,7 @@ impl ComRing {
         }
     }
 
-    /// The same ring again.
+    /// Returns a copy.
     pub fn copy(&self, alloc: Global) -> Result<ComRing, AllocError>
         ensures { IfOk result (λ r. r ≡ self.now) }
     {
@@ -118,7 +119,7 @@ impl ComRing {
         })
     }
 
-    /// How many slots it has.
+    /// Returns the number of slots.
     pub fn size(&self) -> u32
         ensures value { result ≡ length self.now.slots }
         ensures formed { ComFormed self.now }
@@ -126,42 +127,42 @@ impl ComRing {
         self.slots.len() as u32
     }
 
-    /// The word where the application reaps.
+    /// Returns the head, which the application advances.
     pub fn head(&self) -> u32
         ensures { result ≡ self.now.head }
     {
         self.head
     }
 
-    /// The word where the kernel posts.
+    /// Returns the tail, which the kernel advances.
     pub fn tail(&self) -> u32
         ensures { result ≡ self.now.tail }
     {
         self.tail
     }
 
-    /// How many completions wait.
+    /// Returns how many completions are pending.
     pub fn waiting(&self) -> u32
         ensures { result ≡ waiting self.now.head self.now.tail }
     {
         self.tail.wrapping_sub(self.head)
     }
 
-    /// Whether no completion waits.
+    /// Returns whether no completion is pending.
     pub fn is_empty(&self) -> bool
         ensures { result ≡ (waiting self.now.head self.now.tail == 0) }
     {
         self.waiting() == 0
     }
 
-    /// Whether no slot is free.
+    /// Returns whether no slot is free.
     pub fn is_full(&self) -> bool
         ensures { IsFalse result ↔ (waiting self.now.head self.now.tail < length self.now.slots) }
     {
         self.waiting() >= self.size()
     }
 
-    /// Adds a completion behind the others.
+    /// Appends a completion.
     pub fn post(&mut self, completion: Cqe, notes: &mut Recorder)
         requires free { waiting self.old.head self.old.tail < length self.old.slots }
         requires numbers { 0 < notes.old.numbers }
@@ -188,7 +189,7 @@ impl ComRing {
         self.tail = self.tail.wrapping_add(1);
     }
 
-    /// Takes the oldest completion.
+    /// Removes the oldest completion and returns it.
     pub fn reap(&mut self, notes: &mut Recorder) -> Cqe
         requires some { 0 < waiting self.old.head self.old.tail }
         requires numbers { 0 < notes.old.numbers }

@@ -2,23 +2,25 @@
 ghost use Rattle.std.specs.Prelude.{◌≡◌};
 ghost use Rattle.ring_words.specs.Rings.{bit_of};
 
-/// A flag of the submission ring's flags word, with its bit.
+use entries::{IORING_SQ_CQ_OVERFLOW, IORING_SQ_NEED_WAKEUP};
+
+/// A bit of the submission ring's flags word.
 #[derive(Clone, Copy)]
 pub enum RingFlag {
-    /// The poller sleeps until it is woken.
+    /// IORING_SQ_NEED_WAKEUP: the poller sleeps until it is woken.
     NeedWakeup = 1,
-    /// Completions are kept that did not fit into the ring.
+    /// IORING_SQ_CQ_OVERFLOW: completions that did not fit into the ring are pending.
     CqOverflow = 2,
 }
 
 impl RingFlag {
-    /// Its bit.
+    /// Returns the bit.
     pub fn bit(self) -> u32
         ensures { result ≡ bit_of self }
     {
         match self {
-            RingFlag::NeedWakeup => 1,
-            RingFlag::CqOverflow => 2,
+            RingFlag::NeedWakeup => IORING_SQ_NEED_WAKEUP,
+            RingFlag::CqOverflow => IORING_SQ_CQ_OVERFLOW,
         }
     }
 }

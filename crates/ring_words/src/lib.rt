@@ -1,5 +1,5 @@
-//! The submission ring and the completion ring: free-running words, and lists of what waits
-//! between them (io_uring(7)).
+//! The submission ring and the completion ring, with their free-running head and tail, as lists of
+//! pending elements (io_uring(7)).
 #![tactic(auto)]
 
 pub mod com_ring;

@@ -1,4 +1,4 @@
-//! Notes that take no memory.
+//! Recording of ring words, into memory that is already reserved.
 ghost use Rattle.std.specs.Prelude.{◌≡◌, ◌+◌, ◌<◌, ◌≤◌, Some, true};
 ghost use Rattle.places.specs.Places.{is_number, InLimits};
 ghost use Rattle.places.specs.View.{Noted};
@@ -8,7 +8,7 @@ ghost use Rattle.places.specs.declared.value.Value.TheVariants.{Number, Complete
 use entries::Cqe;
 use places::{Place, Recorder};
 
-/// Notes a word of a ring, where there is room for the note.
+/// Records a ring word. There must be room for the note, so this cannot fail.
 pub(crate) fn note_word(notes: &mut Recorder, place: Place, old: u32)
     requires kind { is_number place ≡ true }
     requires limits { InLimits place }
@@ -24,7 +24,7 @@ pub(crate) fn note_word(notes: &mut Recorder, place: Place, old: u32)
     }
 }
 
-/// Notes a completion slot, where there is room for the note.
+/// Records a completion slot. There must be room for the note, so this cannot fail.
 pub(crate) fn note_slot(notes: &mut Recorder, slot: u32, old: Cqe)
     requires limits { slot < 8192 }
     requires room { 0 < notes.old.completions }

@@ -1,9 +1,9 @@
-//! Why a ring can't be made.
+//! The errors of creating a ring.
 
-/// Why a ring can't be made.
+/// Why a ring can't be created.
 #[derive(Clone, Copy)]
 pub enum RingRefusal {
-    /// No entries, or more than a ring can have.
+    /// The number of entries is 0 or too large.
     Size = 1,
     Memory = 2,
 }

@@ -3,7 +3,7 @@ ghost use Rattle.std.specs.Prelude.{◌≡◌, ◌<◌, ◌≤◌};
 ghost use Rattle.std.specs.Int.{IsNextPowerOfTwo};
 ghost use Rattle.ring_words.specs.Rings.{rounded};
 
-/// The least power of two that is not below the number of entries.
+/// Returns the smallest power of two that is at least `entries`.
 pub(crate) fn size_for(entries: u32) -> usize
     requires some { 0 < entries }
     requires most { entries ≤ 8192 }

@@ -16,8 +16,8 @@ use places::{At, Part, Place, Recorder, Value};
 use std::alloc::{AllocError, Global};
 use std::marker::Model;
 
-/// The submission ring: the application pushes indexes of entry slots at the tail, the kernel takes
-/// them at the head. It has as many entry slots as array words.
+/// The submission ring: the application pushes indexes of entry slots at the tail, and the kernel
+/// takes them at the head. It has as many entry slots as words in the index array.
 #[derive(Drop)]
 pub struct SubRing {
     head: u32,
@@ -117,8 +117,8 @@ impl Part for SubRing {
 }
 
 impl SubRing {
-    /// An empty ring of at least so many entries, both of its words at the base, every slot the
-    /// entry of 64 zero bytes.
+    /// Returns an empty ring with room for `entries` entries, 1 to 4,096, rounded up to a power of
+    /// two. Head and tail start at `base`, and each slot is 64 zero bytes.
     pub fn new(alloc: Global, entries: u32, base: u32) -> Result<SubRing, RingRefusal>
         ensures ok { IfOk result (λ r. r ≡ sub_start entries base) }
         ensures power { IfOk result (λ r. IsNextPowerOfTwo entries (length r.array)) }
@@ -170,7 +170,7 @@ impl SubRing {
         })
     }
 
-    /// The same ring again.
+    /// Returns a copy.
     pub fn copy(&self, alloc: Global) -> Result<SubRing, AllocError>
         ensures { IfOk result (λ r. r ≡ self.now) }
     {
@@ -184,7 +184,7 @@ impl SubRing {
         })
     }
 
-    /// How many array words it has, and entry slots.
+    /// Returns the length of the index array, which is also the number of entry slots.
     pub fn size(&self) -> u32
         ensures value { result ≡ length self.now.array }
         ensures formed { SubFormed self.now }
@@ -192,42 +192,42 @@ impl SubRing {
         self.array.len() as u32
     }
 
-    /// The word where the kernel takes.
+    /// Returns the head, which the kernel advances.
     pub fn head(&self) -> u32
         ensures { result ≡ self.now.head }
     {
         self.head
     }
 
-    /// The word where the application pushes.
+    /// Returns the tail, which the application advances.
     pub fn tail(&self) -> u32
         ensures { result ≡ self.now.tail }
     {
         self.tail
     }
 
-    /// The flags word.
+    /// Returns the flags word.
     pub fn flags(&self) -> u32
         ensures { result ≡ self.now.flags }
     {
         self.flags
     }
 
-    /// Whether a flag is set.
+    /// Returns whether a flag is set.
     pub fn has_flag(&self, flag: RingFlag) -> bool
         ensures { result ≡ has_flag self.now.flags flag }
     {
         self.flags & flag.bit() != 0
     }
 
-    /// How many taken words named no slot, modulo 2^32.
+    /// Returns how many words were dropped because they were not the index of a slot, modulo 2^32.
     pub fn dropped(&self) -> u32
         ensures { result ≡ self.now.dropped }
     {
         self.dropped
     }
 
-    /// How many array words wait.
+    /// Returns how many words of the index array are pending.
     pub fn waiting(&self) -> u32
         ensures value { result ≡ waiting self.now.head self.now.tail }
         ensures list { result ≡ length (sub_list self.now) }
@@ -235,21 +235,21 @@ impl SubRing {
         self.tail.wrapping_sub(self.head)
     }
 
-    /// Whether no array word waits.
+    /// Returns whether no word is pending.
     pub fn is_empty(&self) -> bool
         ensures { result ≡ (waiting self.now.head self.now.tail == 0) }
     {
         self.waiting() == 0
     }
 
-    /// Whether no array word is free.
+    /// Returns whether no word is free.
     pub fn is_full(&self) -> bool
         ensures { IsFalse result ↔ (waiting self.now.head self.now.tail < length self.now.array) }
     {
         self.waiting() >= self.size()
     }
 
-    /// The i-th array word that waits, from 0.
+    /// Returns the i-th pending word, counted from 0.
     pub fn word(&self, i: u32) -> u32
         requires { i < length (sub_list self.now) }
         ensures { slice_get (sub_list self.now) i ≡ Some result }
@@ -258,14 +258,14 @@ impl SubRing {
         self.array[at]
     }
 
-    /// The entry in a slot, if the index names one.
+    /// Returns the entry in slot `index`, if there is such a slot.
     pub fn entry(&self, index: u32) -> Option<Sqe>
         ensures { result ≡ slice_get self.now.slots index }
     {
         self.slots.get(index as usize).copied()
     }
 
-    /// Writes an entry slot, as an application does. What stood there is its caller's to note.
+    /// Writes an entry slot, as an application does. The caller records the old entry.
     pub fn put_entry(&mut self, slot: u32, entry: Sqe)
         requires { slot < length self.old.slots }
         ensures { self.new ≡ record self.old { slots = slice_set self.old.slots slot entry } }
@@ -273,7 +273,7 @@ impl SubRing {
         self.slots[slot as usize] = entry;
     }
 
-    /// Adds an index behind the others.
+    /// Appends an index.
     pub fn push(&mut self, index: u32, notes: &mut Recorder)
         requires free { waiting self.old.head self.old.tail < length self.old.array }
         requires numbers { 2 ≤ notes.old.numbers }
@@ -297,7 +297,8 @@ impl SubRing {
         self.tail = self.tail.wrapping_add(1);
     }
 
-    /// Takes the oldest index. One that names no slot is skipped and counted as dropped.
+    /// Takes the oldest word. If it is not the index of a slot, it is skipped and counted as
+    /// dropped.
     pub fn take(&mut self, notes: &mut Recorder) -> Taken
         requires some { 0 < waiting self.old.head self.old.tail }
         requires numbers { 2 ≤ notes.old.numbers }
@@ -325,7 +326,7 @@ impl SubRing {
         Taken::Dropped
     }
 
-    /// Moves behind the oldest words at once: so many were read, and so many of them dropped.
+    /// Takes the `count` oldest words at once, and counts `dropped` of them as dropped.
     pub fn take_first(&mut self, count: u32, dropped: u32, notes: &mut Recorder)
         requires some { count ≤ length (sub_list self.old) }
         requires numbers { 2 ≤ notes.old.numbers }
@@ -347,7 +348,7 @@ impl SubRing {
         self.dropped = self.dropped.wrapping_add(dropped);
     }
 
-    /// Sets or clears a flag, and leaves the others.
+    /// Sets or clears a flag, and leaves the others unchanged.
     pub fn set_flag(&mut self, flag: RingFlag, on: bool, notes: &mut Recorder)
         requires { 0 < notes.old.numbers }
         ensures next { self.new ≡ record self.old { flags = with_flag self.old.flags flag on } }

@@ -1,10 +1,10 @@
-//! What taking a word of the submission ring comes to.
+//! The result of taking a word from the submission ring.
 
-/// What the taken word names.
+/// What a taken word is.
 #[derive(Clone, Copy)]
 pub enum Taken {
-    /// An entry slot.
+    /// The index of an entry slot.
     Entry(u32),
-    /// No slot: the word is skipped.
+    /// No valid index: the word is skipped.
     Dropped,
 }

@@ -1,4 +1,4 @@
--- Logs that go on by an event, or end at one.
+-- A log after one more event, and a log that ends early.
 use Rattle.std.proofs.Common.{◌≡◌, ◌⊎◌, inl, inr, ℕ, ◌+◌, ◌<◌, suc, List, ◌++◌, length, get_or, slice_get, Bool, true, Option, Some, None, refl, sym, ap, ◌∙◌, subst, arith, append_assoc}
 use Rattle.std.specs.Prelude.{⊤, Result, Ok, Err, OnOk, IfErr}
 use Rattle.std.proofs.KnownBytes.{Appends-trans, Appends-kept}
@@ -44,7 +44,7 @@ halted_write told s i m n e past f a b t next exact (inr h) =
 
 -- ---- events in a row
 
--- the log of the first i events was written, and the next one finds their machine
+-- The log of the first i events was written, and `m` is the state after them.
 pub record Logging (s : Setup) (es : List Event) (r : EventRange) (i : ℕ) (m : Machine) (held held' : Option (List ℕ)) : Type 0 where
   pub here : m ≡ moment s es i
   pub done : Written s es r i held held'
@@ -99,7 +99,7 @@ logging_stops s es r i m e d a b c Memory h l g stop = (i, kept s es r i a b c l
 logging_stops s es r i m e d a b c (Script f) h l g stop = absurd stop
 logging_stops s es r i m e d a b c (Trace f) h l g stop = absurd stop
 
--- ---- the same of results
+-- ---- from the results of calls
 
 pub told_ok : (r : Result ⊤ LogFault) (told : Bool) (s : Setup) (i : ℕ) (m n : Machine) (e : Event) (past : List Change) (a b : Option (List ℕ)) → told ≡ true → Next m e n → Exact (view m) (view n) past
     → OnOk r ((text : List ℕ) × Shows s i e (view n) past text × Appends a b text) → OnOk r (Reported told s i m e a b)

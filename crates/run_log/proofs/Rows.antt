@@ -1,4 +1,4 @@
--- Changes parted into rows, from the front.
+-- Splitting changes into rows, from the front.
 use Rattle.std.proofs.Common.{◌≡◌, ℕ, ◌+◌, ◌<◌, ◌≤◌, arith, zero, suc, List, [], ◌∷◌, length, take, drop, get_or, cond, Bool, true, false, refl, sym, ap, ◌∙◌, ◌++◌, append_assoc}
 use Rattle.std.proofs.Math.Seq.{drop-cons}
 use Rattle.std.proofs.lemmas.List.{drop_all}
@@ -7,12 +7,12 @@ use Rattle.places.specs.declared.place.Place.{Place}
 use Rattle.run_log.specs.declared.changed.Changed.{Changed}
 use Rattle.run_log.specs.Lines.{is_next, onto, rows}
 
--- how many changes at the front go on from a byte
+-- The number of changes at the front that are consecutive bytes after a place.
 abbrev pub length_from : Place → List Changed → ℕ
 length_from p [] = zero
 length_from p (d ∷ ds) = cond (is_next p d.place) (suc (length_from d.place ds)) zero
 
--- the first row, and those behind it
+-- The first row, and the rest.
 pub parted : (d : Changed) (ds : List Changed) → rows (d ∷ ds) ≡ (d ∷ take (length_from d.place ds) ds) ∷ rows (drop (length_from d.place ds) ds)
 parted d [] = refl
 parted d (e ∷ es) = ap (onto d) (parted e es) ∙ by (is_next d.place e.place) (parted e es)
@@ -23,7 +23,7 @@ parted d (e ∷ es) = ap (onto d) (parted e es) ∙ by (is_next d.place e.place)
     by true h = refl
     by false h = ap (λ x. (d ∷ []) ∷ x) (sym h)
 
--- the next change goes on, or doesn't
+-- The next change continues the row, or doesn't.
 pub from_next : (p : Place) (ds : List Changed) (i : ℕ) (d : Changed) → i < length ds → length_from p (drop i ds) ≡ cond (is_next p (get_or ds i d).place) (suc (length_from (get_or ds i d).place (drop (i + 1) ds))) zero
 from_next p ds i d h =
     let e : suc i ≡ i + 1 = omega arith in
@@ -32,7 +32,7 @@ from_next p ds i d h =
 parted_at : (d : Changed) (ds : List Changed) (n : ℕ) → length_from d.place ds ≡ n → rows (d ∷ ds) ≡ (d ∷ take n ds) ∷ rows (drop n ds)
 parted_at d ds n e = parted d ds ∙ ap (λ k. (d ∷ take k ds) ∷ rows (drop k ds)) e
 
--- the row ends before a change
+-- The row ends before a change.
 pub parted_before : (d : Changed) (ds : List Changed) (i count : ℕ) (last : Place) (x : Changed) → i < length ds → is_next last (get_or ds i x).place ≡ false
     → length_from d.place ds ≡ count + length_from last (drop i ds) → rows (d ∷ ds) ≡ (d ∷ take count ds) ∷ rows (drop count ds)
 parted_before d ds i count last x h ends all =
@@ -40,7 +40,7 @@ parted_before d ds i count last x h ends all =
     let none : length_from last (drop i ds) ≡ zero = from_next last ds i x h ∙ ap (λ b. cond b more zero) ends in
     parted_at d ds count (omega (arith, all, none))
 
--- the row ends with the changes
+-- The row ends with the last change.
 pub parted_whole : (d : Changed) (ds : List Changed) (i count : ℕ) (last : Place) → length ds ≤ i → length_from d.place ds ≡ count + length_from last (drop i ds) → rows (d ∷ ds) ≡ (d ∷ take count ds) ∷ rows (drop count ds)
 parted_whole d ds i count last h all =
     let none : length_from last (drop i ds) ≡ zero = ap (length_from last) (drop_all i ds h) in
@@ -48,7 +48,7 @@ parted_whole d ds i count last h all =
 
 -- ---- text
 
--- the line of a row behind those before it
+-- The line of a row, after the earlier lines.
 pub line_more : (f : List Changed → List ℕ) (start out written : List ℕ) (all rest row behind : List Changed) (n : ℕ) → rows rest ≡ take n rest ∷ rows (drop n rest) → row ≡ take n rest → behind ≡ drop n rest → written ≡ out ++ f row
     → out ++ flat_map f (rows rest) ≡ start ++ flat_map f (rows all) → written ++ flat_map f (rows behind) ≡ start ++ flat_map f (rows all)
 line_more f start out written all rest row behind n parts e g w before =

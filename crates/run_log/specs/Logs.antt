@@ -1,4 +1,4 @@
--- What is written of a run.
+-- The output of a log.
 use Rattle.std.specs.Prelude.{◌≡◌, ◌≤◌, ◌⊎◌, ℕ, zero, suc, List, [], ◌++◌, length, slice_get, take, Bool, true, false, Option, Some, None, Ok, Err}
 use Rattle.std.specs.Io.KnownBytes.{Appends, Keeps}
 use Rattle.places.specs.declared.value.Change.{Change}
@@ -23,33 +23,33 @@ use Rattle.run_log.specs.Lines.{event_lines}
 
 -- ---- an event
 
--- The lines of an event, by a record and what stands in each place behind it: all that the record
--- names, each place once.
+-- The lines of an event, from its undo record and the values after it. They list each place of the
+-- record once.
 pub record Shows (s : Setup) (i : ℕ) (e : Event) (behind : View) (past : List Change) (text : List ℕ) : Type 0 where
   pub once : NamesOnce past
   pub listed : List Changed
   pub listing : IsListing behind past listed
   pub lines : text ≡ event_lines s i e listed
 
--- The lines of an event at a machine: the record names just the places that differ, with what stood
--- there.
+-- The lines of an event in a state. The record names exactly the places whose values change, with
+-- their old values.
 pub record Reports (s : Setup) (i : ℕ) (m : Machine) (e : Event) (text : List ℕ) : Type 0 where
   pub past : List Change
   pub exact : Exact (view m) (view (after m e)) past
   pub shows : Shows s i e (view (after m e)) past text
 
--- an event's lines where it is told, and else nothing
+-- The lines of an event, or nothing if it isn't in the range.
 abbrev pub Tells : Bool → Setup → ℕ → Machine → Event → List ℕ → Type 0
 Tells true s i m e text = Reports s i m e text
 Tells false s i m e text = text ≡ []
 
--- What an event tells was written.
+-- The text of an event was written.
 pub record Reported (told : Bool) (s : Setup) (i : ℕ) (m : Machine) (e : Event) (held held' : Option (List ℕ)) : Type 0 where
   pub text : List ℕ
   pub tells : Tells told s i m e text
   pub appended : Appends held held' text
 
--- Why a log ends at an event: it is refused, or a beginning of what it tells was written.
+-- Why a log ends at an event: the event is refused, a write fails, or an allocation fails.
 abbrev pub Halts : Bool → Setup → ℕ → Machine → Event → LogFault → Option (List ℕ) → Option (List ℕ)
     → Type 0
 Halts told s i m e (Schedule j n) held held' = (j ≡ i) × (refusal m e ≡ Some n) × Keeps held held'
@@ -61,15 +61,14 @@ Halts told s i m e (Trace f) held held' = ⊥
 
 -- ---- a run
 
--- The texts of the first n events of a run in a row: of those in the range their lines, each at its
--- moment.
+-- The text of the first n events: the lines of each event in the range, in the state before it.
 abbrev pub Logs : Setup → List Event → EventRange → ℕ → List ℕ → Type 0
 Logs s es r zero text = text ≡ []
 Logs s es r (suc n) text =
     (before : List ℕ) × (last : List ℕ) × (e : Event) × (text ≡ before ++ last)
     × (slice_get es n ≡ Some e) × Tells (has r n) s n (moment s es n) e last × Logs s es r n before
 
--- The first n events run, and their log was written.
+-- The first n events ran, and their log was written.
 pub record Written (s : Setup) (es : List Event) (r : EventRange) (n : ℕ) (held held' : Option (List ℕ)) : Type 0 where
   pub within : n ≤ length es
   pub runs : Accepts (start s) (take n es)
@@ -77,7 +76,7 @@ pub record Written (s : Setup) (es : List Event) (r : EventRange) (n : ℕ) (hel
   pub log : Logs s es r n text
   pub appended : Appends held held' text
 
--- The first n events run, and a beginning of their log was written.
+-- The first n events ran, and a prefix of their log was written.
 pub record Begun (s : Setup) (es : List Event) (r : EventRange) (n : ℕ) (held held' : Option (List ℕ)) : Type 0 where
   pub within : n ≤ length es
   pub runs : Accepts (start s) (take n es)
@@ -86,8 +85,8 @@ pub record Begun (s : Setup) (es : List Event) (r : EventRange) (n : ℕ) (held 
   pub log : Logs s es r n (front ++ rest)
   pub appended : Appends held held' front
 
--- Where a log stopped: at the first event that is refused, or at a write; the log of the events
--- before it was written.
+-- Where a log stopped. Before a refused event or a failed allocation, the log is complete. A failed
+-- write leaves a prefix.
 abbrev pub Stopped : Setup → List Event → EventRange → LogFault → Option (List ℕ) → Option (List ℕ)
     → Type 0
 Stopped s es r (Schedule i n) held held' = IsRefused s es i n × Written s es r i held held'
@@ -98,19 +97,19 @@ Stopped s es r (Trace f) held held' = ⊥
 
 -- ---- scripts and traces
 
--- the whole log of the schedule of a script was written
+-- The log of a script's whole schedule was written.
 abbrev pub LoggedScript : List ℕ → EventRange → Option (List ℕ) → Option (List ℕ) → Type 0
 LoggedScript text r held held' =
     (p : Scenario) × Reads text (Ok p) × Written p.setup p.schedule r (length p.schedule) held held'
 
--- the same of a trace
+-- The log of a trace was written.
 abbrev pub LoggedTrace : List ℕ → EventRange → Option (List ℕ) → Option (List ℕ) → Type 0
 LoggedTrace trace r held held' =
     (setup : Setup) × (events : List Event) × IsTrace2 setup events trace
     × Written setup events r (length events) held held'
 
--- A script that isn't logged: a fault of it is its first one, and then nothing was written. Memory
--- can be refused before any event.
+-- Why a script isn't logged. If it has a fault, nothing was written. An allocation can fail before
+-- the first event.
 abbrev pub FailsScript : List ℕ → EventRange → LogFault → Option (List ℕ) → Option (List ℕ) → Type 0
 FailsScript text r (Script f) held held' = Reads text (Err f) × Keeps held held'
 FailsScript text r (Trace f) held held' = ⊥
@@ -122,7 +121,7 @@ FailsScript text r Memory held held' =
     Keeps held held'
     ⊎ ((p : Scenario) × Reads text (Ok p) × Stopped p.setup p.schedule r Memory held held')
 
--- the same of a trace
+-- Why a trace isn't logged.
 abbrev pub FailsTrace : List ℕ → EventRange → LogFault → Option (List ℕ) → Option (List ℕ) → Type 0
 FailsTrace trace r (Script f) held held' = ⊥
 FailsTrace trace r (Trace f) held held' = IsFault2 trace f × Keeps held held'
@@ -134,11 +133,12 @@ FailsTrace trace r Memory held held' =
     Keeps held held'
     ⊎ ((s : Setup) × (es : List Event) × IsTrace2 s es trace × Stopped s es r Memory held held')
 
--- bytes are a trace, or else a script
+-- The bytes are a trace or a script.
 abbrev pub LoggedRun : Bool → List ℕ → EventRange → Option (List ℕ) → Option (List ℕ) → Type 0
 LoggedRun true bytes r held held' = LoggedTrace bytes r held held'
 LoggedRun false bytes r held held' = LoggedScript bytes r held held'
 
+-- Why a trace or a script isn't logged.
 abbrev pub FailsRun : Bool → List ℕ → EventRange → LogFault → Option (List ℕ) → Option (List ℕ)
     → Type 0
 FailsRun true bytes r f held held' = FailsTrace bytes r f held held'

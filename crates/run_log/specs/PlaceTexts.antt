@@ -1,4 +1,4 @@
--- The names of places as text: a word, and behind it the object's name, the number, or both.
+-- The names of places: a word, followed by an object's name, a number, or both.
 use Rattle.std.specs.Prelude.{ℕ, List, [], ◌++◌, codes, decimal, slice_get, Option, None, Some}
 use Rattle.std.specs.Option.{option_map_or}
 use Rattle.places.specs.declared.object.Object.{Object}
@@ -6,6 +6,7 @@ use Rattle.places.specs.declared.place.Place.{Place}
 use Rattle.places.specs.declared.place.Place.TheVariants.{SubmissionHead, SubmissionTail, SubmissionFlags, SubmissionDropped, CompletionHead, CompletionTail, Array, Slot, Completion, MemoryByte, FileByte, DurableByte, FileLength, DurableLength, Position, OpenMark, PipeByte, PutCount, TakenCount, EventCount, Request, Backlog, BacklogFront, Clock, Counted, PollerStage, ProgramCounter, ThreadStage, Last, Got}
 use Rattle.scenario.specs.declared.setup.Setup.{Setup}
 
+-- The first word of a place's name.
 abbrev pub word_of : Place → List ℕ
 word_of SubmissionHead = codes "sq.head"
 word_of SubmissionTail = codes "sq.tail"
@@ -38,7 +39,7 @@ word_of (ThreadStage t) = codes "stage"
 word_of (Last t) = codes "last"
 word_of (Got t) = codes "got"
 
--- the object whose name stands in a place's name
+-- The object that a place belongs to, if its name says so.
 abbrev pub owner_of : Place → Option ℕ
 owner_of (FileByte o i) = Some o
 owner_of (DurableByte o i) = Some o
@@ -50,7 +51,7 @@ owner_of (TakenCount o) = Some o
 owner_of (EventCount o) = Some o
 owner_of _ = None
 
--- the number that a place's name ends with
+-- The number at the end of a place's name.
 abbrev pub number_of : Place → Option ℕ
 number_of (Array i) = Some i
 number_of (Slot i) = Some i
@@ -69,18 +70,20 @@ number_of (Last t) = Some t
 number_of (Got t) = Some t
 number_of _ = None
 
--- the name that a setup gives an object
+-- The name of an object of the setup.
 abbrev pub name_of : Setup → ℕ → List ℕ
 name_of s o = option_map_or (λ (x : Object). x.name) (slice_get s.objects o) []
 
+-- An object's name after a space, if there is an object.
 abbrev pub owner_text : Setup → Option ℕ → List ℕ
 owner_text s None = []
 owner_text s (Some o) = codes " " ++ name_of s o
 
--- a number behind a text, if there is one
+-- A number after a text, if there is a number.
 abbrev pub number_text : List ℕ → Option ℕ → List ℕ
 number_text before None = []
 number_text before (Some n) = before ++ decimal n
 
+-- The name of a place.
 abbrev pub place_text : Setup → Place → List ℕ
 place_text s p = word_of p ++ (owner_text s (owner_of p) ++ number_text (codes " ") (number_of p))

@@ -1,4 +1,4 @@
-//! What a step changed, in the order of places.
+//! The changes of a step, in the order of places.
 ghost use Rattle.std.specs.Prelude.{◌≡◌, map, IfOk, OnOk};
 ghost use Rattle.places.specs.View.{NamesOnce};
 ghost use Rattle.machine.specs.Whole.{view};
@@ -8,10 +8,10 @@ use machine::State;
 use places::{Change, Place, Record, Value};
 use std::alloc::{AllocError, Global};
 
-/// How many indexes of 32 bits there are.
+/// The number of 32-bit indexes.
 const INDEXES: u128 = 4294967296;
 
-/// A place that a step changed: what stood there before it, and what stands there behind it.
+/// A place that a step changed, with its values before and after the step. `None` means absent.
 #[derive(Clone, Copy)]
 pub struct Changed {
     pub place: Place,
@@ -19,8 +19,8 @@ pub struct Changed {
     pub new: Option<Value>,
 }
 
-// Where a place stands among all places: by its kind, then its object or index, then its index
-// within the object.
+// Returns a key for the order of places: by kind, then by object or index, then by the index within
+// the object.
 fn rank(place: Place) -> u128
     ensures { result ≡ rank place }
 {
@@ -38,7 +38,7 @@ fn told(change: Change, state: &State) -> Changed
     }
 }
 
-// The changes of a record, with what stands in their places now.
+// Returns the changes of an undo record, together with the current values.
 fn gathered(alloc: Global, past: &Record, state: &State) -> Result<Vec<Changed>, AllocError>
     ensures listed { IfOk result (λ list. list.items ≡ map (told (view state.now)) past.now) }
     ensures once { OnOk result (NamesOnce past.now) }
@@ -51,7 +51,8 @@ fn gathered(alloc: Global, past: &Record, state: &State) -> Result<Vec<Changed>,
     Ok(list)
 }
 
-/// The changes of the record of the step that led to a state, in the order of places.
+/// Returns the changes of a step in the order of places. `past` is its undo record, and `state` the
+/// state after it.
 pub(crate) fn changes_of(
     alloc: Global,
     past: &Record,

@@ -1,11 +1,11 @@
-//! Bytes that stand in a row.
+//! Joins changes of consecutive bytes into one line.
 ghost use Rattle.std.specs.Prelude.{◌≡◌, ◌<◌, ◌≤◌, ◌∷◌, take, drop, length};
 ghost use Rattle.run_log.specs.Lines.{is_next, next_byte, rows};
 
 use crate::changed::Changed;
 use places::Place;
 
-// The place of the byte behind one, of the same kind and object.
+// Returns the next byte of the same kind and object.
 fn next_byte(place: Place) -> Option<Place>
     ensures { result ≡ next_byte place }
 {
@@ -30,7 +30,7 @@ fn is_next(first: Place, second: Place) -> bool
     }
 }
 
-// How many changes behind one stand on its line: the bytes that go on in a row.
+// Returns how many further changes belong to the first one's line: the consecutive bytes after it.
 fn following(first: &Changed, rest: &[Changed]) -> usize
     ensures within { result ≤ length rest.now }
     ensures parted { rows (first.now ∷ rest.now) ≡ (first.now ∷ take result rest.now)
@@ -48,7 +48,7 @@ fn following(first: &Changed, rest: &[Changed]) -> usize
     count
 }
 
-/// How many changes the first line tells: one, or bytes that stand in a row.
+/// Returns the number of changes on the first line: one change, or consecutive bytes.
 pub(crate) fn first_row(changes: &[Changed]) -> usize
     requires { 0 < length changes.now }
     ensures some { 0 < result }

@@ -5,12 +5,12 @@ ghost use Rattle.run_log.specs.Lines.{rows};
 ghost use Rattle.run_log.specs.RowShapes.{IsRow};
 ghost use Rattle.run_log.specs.declared.changed.Changed.{Changed};
 
-/// The lines of an event hold all changes that it lists, in their order, each once.
+/// The lines of an event contain all listed changes, in their order, each once.
 pub fn rows_hold_all()
     ensures { (ds : List Changed) → flat_map (λ row. row) (rows ds) ≡ ds }
 {}
 
-/// On a line stands one change, or each byte stands just behind the one before it.
+/// A line has a single change, or consecutive bytes.
 pub fn rows_go_on()
     ensures { (ds : List Changed) → All IsRow (rows ds) }
 {}

@@ -1,4 +1,4 @@
-//! The log of a run: what each of its events changed, as lines of text.
+//! The log of a run: a text that lists the changes of each event.
 #![tactic(auto)]
 
 mod changed;

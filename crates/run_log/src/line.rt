@@ -12,7 +12,7 @@ use places::Value;
 use script::EventText;
 use std::alloc::{AllocError, Global};
 
-// Writes what stands in a place, if anything does.
+// Writes a value, or `absent`.
 fn put_value(alloc: Global, out: &mut Vec<u8>, value: Option<Value>) -> Result<(), AllocError>
     ensures { OnOk result (out.new.items ≡ out.old.items ++ value_shown value) }
 {
@@ -22,7 +22,7 @@ fn put_value(alloc: Global, out: &mut Vec<u8>, value: Option<Value>) -> Result<(
     }
 }
 
-// Writes what stood in the places of a line.
+// Writes the old values of a line.
 fn put_olds(alloc: Global, out: &mut Vec<u8>, row: &[Changed]) -> Result<(), AllocError>
     ensures { OnOk result (out.new.items ≡ out.old.items ++ olds_text row.now) }
 {
@@ -32,7 +32,7 @@ fn put_olds(alloc: Global, out: &mut Vec<u8>, row: &[Changed]) -> Result<(), All
     Ok(())
 }
 
-// Writes what stands in them now.
+// Writes the new values of a line.
 fn put_news(alloc: Global, out: &mut Vec<u8>, row: &[Changed]) -> Result<(), AllocError>
     ensures { OnOk result (out.new.items ≡ out.old.items ++ news_text row.now) }
 {
@@ -42,7 +42,7 @@ fn put_news(alloc: Global, out: &mut Vec<u8>, row: &[Changed]) -> Result<(), All
     Ok(())
 }
 
-// The number of the last of some bytes.
+// Returns the index of the last of several bytes.
 fn end_of(bytes: &[Changed]) -> Option<u32>
     ensures { number_text (codes "..") result ≡ end_text bytes.now }
 {
@@ -52,7 +52,7 @@ fn end_of(bytes: &[Changed]) -> Option<u32>
     }
 }
 
-// Writes where a row of bytes ends, if it goes on behind its first.
+// Writes the end of a row of several bytes, such as `..7`.
 fn put_end(alloc: Global, out: &mut Vec<u8>, bytes: &[Changed]) -> Result<(), AllocError>
     ensures { OnOk result (out.new.items ≡ out.old.items ++ end_text bytes.now) }
 {
@@ -62,7 +62,7 @@ fn put_end(alloc: Global, out: &mut Vec<u8>, bytes: &[Changed]) -> Result<(), Al
     }
 }
 
-// Writes what stood in the places of a line, and what stands there now.
+// Writes the old and the new values of a line.
 fn put_values(alloc: Global, out: &mut Vec<u8>, row: &[Changed]) -> Result<(), AllocError>
     ensures { OnOk result (out.new.items ≡ out.old.items ++ values_text row.now) }
 {
@@ -73,7 +73,7 @@ fn put_values(alloc: Global, out: &mut Vec<u8>, row: &[Changed]) -> Result<(), A
     out.extend_from_slice(b"\n")
 }
 
-// Writes the line of a place, or of a row of bytes, which goes on behind the first.
+// Writes the line of a single change or of consecutive bytes.
 fn put_line(
     alloc: Global,
     out: &mut Vec<u8>,
@@ -89,7 +89,7 @@ fn put_line(
     put_values(alloc, out, row)
 }
 
-// Writes the lines of what a step changed.
+// Writes the lines of a step's changes.
 fn put_lines(
     alloc: Global,
     out: &mut Vec<u8>,
@@ -108,7 +108,7 @@ fn put_lines(
     Ok(())
 }
 
-/// The lines of an event: its number and its words, and below it what it changed.
+/// Returns the lines of an event: its index and words, followed by its changes.
 pub(crate) fn event_lines(
     alloc: Global,
     setup: &Setup,

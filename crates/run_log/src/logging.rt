@@ -1,4 +1,4 @@
-//! Logging a run, event by event.
+//! Logs a run, event by event.
 ghost use Rattle.std.specs.Prelude.{◌≡◌, ◌≤◌, ◌<◌, ◌^◌, ◌⊎◌, ℕ, List, None, length, IfOk, OnOk, IfErr};
 ghost use Rattle.std.specs.Io.KnownBytes.{Appends, Keeps};
 ghost use Rattle.scenario.specs.Setups.{setup_refusal};
@@ -19,7 +19,7 @@ use script::{LogFault, fault_by};
 use std::alloc::{AllocError, Global};
 use std::io::Write;
 
-// The lines of the event that led to a state, by its record.
+// Returns the lines of the event that led to `state`, from its undo record.
 fn report(
     alloc: Global,
     setup: &Setup,
@@ -35,7 +35,7 @@ fn report(
     event_lines(alloc, setup, index, event, &changes)
 }
 
-// Writes the lines of the event that led to a state.
+// Writes the lines of the event that led to `state`.
 fn write_report<W: Write>(
     alloc: Global,
     setup: &Setup,
@@ -60,7 +60,7 @@ fn write_report<W: Write>(
     }
 }
 
-// Does an event, and writes its lines if it is in the range.
+// Runs an event, and writes its lines if it is in the range.
 fn log_event<W: Write>(
     alloc: Global,
     state: &mut State,
@@ -89,7 +89,7 @@ fn log_event<W: Write>(
     write_report(alloc, setup, index, event, &past, state, writer)
 }
 
-// Does some events from the start, and writes the lines of those in the range.
+// Runs events from the start, and writes the lines of those in the range.
 fn log_all<W: Write>(
     alloc: Global,
     state: &mut State,
@@ -113,7 +113,7 @@ fn log_all<W: Write>(
     Ok(())
 }
 
-/// Runs some events from a setup, and writes the lines of those in the range, each as it has run.
+/// Runs events from a setup. Writes the lines of each event in the range as soon as it has run.
 pub fn log_events<W: Write>(
     alloc: Global,
     setup: &Setup,

@@ -1,4 +1,4 @@
-//! The names of places, as text.
+//! The names of places.
 ghost use Rattle.std.specs.Prelude.{◌≡◌, ◌++◌, Some, OnOk};
 ghost use Rattle.run_log.specs.PlaceTexts.{word_of, owner_of, number_of, owner_text, number_text, place_text};
 
@@ -6,7 +6,7 @@ use machine::Setup;
 use places::Place;
 use std::alloc::{AllocError, Global};
 
-/// The word that a place's name begins with.
+/// Returns the first word of a place's name.
 fn word_of(place: Place) -> &'static str
     ensures { result.now ≡ word_of place }
 {
@@ -44,7 +44,7 @@ fn word_of(place: Place) -> &'static str
     }
 }
 
-// The object whose name stands in a place's name.
+// Returns the object that a place belongs to, if its name says so.
 fn owner_of(place: Place) -> Option<u32>
     ensures { result ≡ owner_of place }
 {
@@ -61,7 +61,7 @@ fn owner_of(place: Place) -> Option<u32>
     }
 }
 
-/// The number that a place's name ends with, if one does.
+/// Returns the number at the end of a place's name, if it has one.
 pub(crate) fn number_of(place: Place) -> Option<u32>
     ensures { result ≡ number_of place }
 {
@@ -85,7 +85,7 @@ pub(crate) fn number_of(place: Place) -> Option<u32>
     }
 }
 
-// Writes an object's name behind a space.
+// Writes an object's name after a space.
 fn put_owner(out: &mut Vec<u8>, setup: &Setup, object: u32) -> Result<(), AllocError>
     ensures { OnOk result (out.new.items ≡ out.old.items ++ owner_text setup.now (Some object)) }
 {
@@ -96,7 +96,7 @@ fn put_owner(out: &mut Vec<u8>, setup: &Setup, object: u32) -> Result<(), AllocE
     }
 }
 
-// Writes a number behind a text.
+// Writes a number after a text.
 pub(crate) fn put_number(
     alloc: Global,
     out: &mut Vec<u8>,

@@ -1,8 +1,8 @@
-//! Which events are logged.
+//! The range of events to log.
 ghost use Rattle.std.specs.Prelude.{◌≡◌};
 ghost use Rattle.run_log.specs.Ranges.{has, is_below};
 
-/// The events from a number on, and below another if there is one, counted from 0.
+/// The events with indexes from..to, counted from 0. Without `to`, there is no end.
 #[derive(Clone, Copy)]
 pub struct EventRange {
     pub from: u32,
@@ -10,7 +10,7 @@ pub struct EventRange {
 }
 
 impl EventRange {
-    /// Whether an event is one of them.
+    /// Whether an event is in the range.
     pub fn has(&self, index: usize) -> bool
         ensures { result ≡ has self.now index }
     {

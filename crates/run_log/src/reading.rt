@@ -1,4 +1,4 @@
-//! Logging a script or a trace.
+//! Logs a script or a trace.
 ghost use Rattle.std.specs.Prelude.{OnOk, IfErr, length};
 ghost use Rattle.run_log.specs.Logs.{Written, Stopped, LoggedScript, LoggedTrace, LoggedRun, FailsScript, FailsTrace, FailsRun};
 ghost use Rattle.script.specs.Logs.{is_trace};
@@ -10,10 +10,10 @@ use std::alloc::Global;
 use std::io::Write;
 use traces::{TraceFault, read_trace2};
 
-/// What a trace begins with, and no script.
+/// The first byte of every trace. No script begins with it.
 const TRACE_MARK: u8 = b'U';
 
-// Runs a script's schedule, and logs it.
+// Runs and logs a script's schedule.
 fn log_plan<W: Write>(
     alloc: Global,
     script: &Script,
@@ -51,8 +51,7 @@ pub fn log_script<W: Write>(
     Ok(())
 }
 
-/// Reads a trace of the second form, runs its events from its setup, and writes the lines of those
-/// in the range.
+/// Reads a trace of the second form, runs its events, and writes the lines of those in the range.
 pub fn log_trace<W: Write>(
     alloc: Global,
     trace: &[u8],
@@ -73,7 +72,7 @@ pub fn log_trace<W: Write>(
     Ok(())
 }
 
-/// Logs what the bytes are: a trace where the first one is a `U`, and else a script.
+/// Logs a trace if the bytes begin with a `U`, and otherwise a script.
 pub fn log_run<W: Write>(
     alloc: Global,
     bytes: &[u8],

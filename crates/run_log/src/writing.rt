@@ -1,4 +1,4 @@
-//! Writing text whole.
+//! Writes a whole text.
 ghost use Rattle.std.specs.Prelude.{◌≡◌, OnOk, OnErr, Err};
 ghost use Rattle.std.specs.Io.KnownBytes.{Appends};
 ghost use Rattle.whole_files.specs.Writes.{WritesFront};
@@ -6,7 +6,7 @@ ghost use Rattle.whole_files.specs.Writes.{WritesFront};
 use script::LogFault;
 use std::io::Write;
 
-/// Writes all of the bytes, and flushes them. An `Err` may leave a beginning of them.
+/// Writes all bytes and flushes them. After an error, a prefix may have been written.
 pub(crate) fn write_out<W: Write>(writer: &mut W, bytes: &[u8]) -> Result<(), LogFault>
     ensures ok { OnOk result (Appends (W.contents writer.old) (W.contents writer.new) bytes.now) }
     ensures err { OnErr result

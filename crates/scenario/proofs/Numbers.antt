@@ -1,4 +1,4 @@
--- What `parse` makes of a numeral.
+-- The value of a parsed number.
 use Rattle.std.proofs.Common.{◌≡◌, ℕ, ◌^◌, ◌<◌, List, length, Bool, true, false, ◌&&◌, Some, None, Result, Ok, Err, nat_lt, cond, refl, ◌∙◌, arith, rules}
 use Rattle.std.proofs.lemmas.Str.Parse.{IsNumeralModel, numerals_by_value, parse_digits}
 use Rattle.std.proofs.lemmas.Bool.Decides.{nat_tests}
@@ -11,7 +11,7 @@ use Rattle.std.specs.Str.{IsUtf8}
 use Rattle.std.specs.Str.Parse.{ParsesUnsigned, digits_value}
 use Rattle.scenario.specs.Names.{is_numeral, number_of}
 
--- digits have the value that reading them gives
+-- Parsing gives the value of the digits.
 pub numerals : IsNumeralModel (λ word. list_all is_ascii_digit word ≡ true) (digits_value 10)
 numerals = numerals_by_value (λ word. list_all is_ascii_digit word ≡ true) (search (rules, nat_tests))
 
@@ -28,7 +28,7 @@ within : {E : Type 0} (r : Result ℕ E) (len v k : ℕ) → OkIff r ((0 < len) 
 within (Ok n) len v k h l = grind (arith, nat_tests)
 within (Err e) len v k h l = grind (arith, nat_tests)
 
--- the value of a numeral, where parsing finds one
+-- The result of parsing a number into the given number of bits.
 pub numeral_parsed : {E : Type 0} (bits : ℕ) (word : List ℕ) (r : Result ℕ E) → is_numeral word ≡ true → ParsesUnsigned bits 10 word r → result_ok r ≡ cond (nat_lt (digits_value 10 word) (2 ^ bits)) (Some (digits_value 10 word)) None
 numeral_parsed bits word r h p =
     let digits : list_all is_ascii_digit word ≡ true = first_true _ _ _ h in
@@ -36,10 +36,10 @@ numeral_parsed bits word r h p =
     let some_bytes : 0 < length word = search (rules, nat_tests) in
     within r (length word) (digits_value 10 word) (2 ^ bits) (parse_digits numerals bits word r p digits) some_bytes
 
--- the same of 32 bits
+-- The same for 32 bits.
 pub number_parsed : {E : Type 0} (word : List ℕ) (r : Result ℕ E) → is_numeral word ≡ true → ParsesUnsigned 32 10 word r → result_ok r ≡ number_of word
 number_parsed word r h p = numeral_parsed 32 word r h p ∙ rw h
 
--- a numeral is text
+-- A number is valid UTF-8.
 pub numeral_is_text : (word : List ℕ) → is_numeral word ≡ true → IsUtf8 word
 numeral_is_text word h = IsUtf8-from_ascii word (IsAscii-from_digits word (numerals.to word (first_true _ _ _ h)))

@@ -1,4 +1,4 @@
--- The names of places, as words over a setup.
+-- The names of places in commands and scripts: one to three words, interpreted with a setup.
 use Rattle.std.specs.Prelude.{ℕ, ◌-◌, ◌^◌, ◌&&◌, ◌||◌, ◌==◌, List, [], ◌∷◌, length, codes, nat_lt, not, slice_get, slice_index, Bool, true, false, if◌then◌else◌, Option, Some, None, option_map, ok_or, Result, Ok, Err, is_some}
 use Rattle.std.specs.Char.{is_ascii_digit}
 use Rattle.std.specs.List.{list_all, position}
@@ -25,23 +25,23 @@ use Rattle.scenario.specs.declared.owned.ObjectPlace.TheVariants as of_object
 use Rattle.scenario.specs.declared.owned.BytePlace.{BytePlace}
 use Rattle.scenario.specs.declared.owned.BytePlace.TheVariants as of_byte
 
--- digits without a zero before another
+-- Whether a word is a decimal number without leading zeros.
 abbrev pub is_numeral : List ℕ → Bool
 is_numeral word =
     list_all is_ascii_digit word && nat_lt 0 (length word)
     && (nat_lt (length word) 2 || not (slice_index word 0 == 48))
 
--- a number of 32 bits
+-- The number, if it fits into 32 bits.
 abbrev pub fitting : ℕ → Option ℕ
 fitting n = if nat_lt n (2 ^ 32) then Some n else None
 
--- the number that a word writes, below 2 ^ 32
+-- The number that a word denotes; `None` if it is no number or is at least 2 ^ 32.
 abbrev pub number_of : List ℕ → Option ℕ
 number_of word = if is_numeral word then fitting (digits_value 10 word) else None
 
--- ---- one word
+-- ---- One word
 
--- the place that one word names
+-- The place with a name of one word.
 abbrev pub single_named : Setup → List ℕ → Option Place
 single_named s w =
     if bytes_eq w (codes "sq.head") then Some SubmissionHead
@@ -56,9 +56,9 @@ single_named s w =
     else if bytes_eq w (codes "poller") then (if s.sqpoll then Some PollerStage else None)
     else None
 
--- ---- a word and a number
+-- ---- A word and a number
 
--- the places that one word and a number name
+-- The kind of place that a word followed by a number names.
 abbrev pub kind_named : List ℕ → Option PlaceKind
 kind_named w =
     if bytes_eq w (codes "array") then Some kind.Array
@@ -81,10 +81,11 @@ is_of object_kind.Pipe (contents.Pipe capacity) = true
 is_of object_kind.EventFd (contents.EventFd counter) = true
 is_of _ _ = false
 
--- a descriptor of a setup; they are numbered from 3
+-- The descriptor with a number. Descriptors are numbered from 3.
 abbrev pub descriptor_at : Setup → ℕ → Option Descriptor
 descriptor_at s f = if nat_lt f 3 then None else slice_get s.fds (f - 3)
 
+-- Whether a descriptor refers to a file, so that it has a position.
 abbrev pub is_open_file : Setup → Option Descriptor → Bool
 is_open_file s None = false
 is_open_file s (Some d) =
@@ -97,7 +98,7 @@ submission_size s = rounded s.entries
 abbrev pub completion_size : Setup → ℕ
 completion_size s = rounded (completion_entries s.entries s.cq)
 
--- whether a setup has the place of a kind that a number tells
+-- Whether the place of this kind and number exists.
 abbrev pub is_member : Setup → PlaceKind → ℕ → Bool
 is_member s kind.Array i = nat_lt i (submission_size s)
 is_member s kind.Slots i = nat_lt i (submission_size s)
@@ -126,14 +127,14 @@ place_in kind.Stages i = ThreadStage i
 place_in kind.Lasts i = Last i
 place_in kind.Gots i = Got i
 
--- the place of a kind that a number tells
+-- The place of this kind and number.
 abbrev pub member_of : Setup → PlaceKind → Option ℕ → Result Place PlaceFault
 member_of s k None = Err fault.Number
 member_of s k (Some i) = if is_member s k i then Ok (place_in k i) else Err fault.Place
 
--- ---- a word, an object's name, and for its bytes a number
+-- ---- A word, an object's name and, for a byte, its index
 
--- the places that a word and an object's name name
+-- The kind of place that a word followed by an object's name names.
 abbrev pub object_place_named : List ℕ → Option ObjectPlace
 object_place_named w =
     if bytes_eq w (codes "len") then Some of_object.FileLength
@@ -143,7 +144,7 @@ object_place_named w =
     else if bytes_eq w (codes "event") then Some of_object.EventCount
     else None
 
--- the places that a word, an object's name and a number name
+-- The kind of byte that a word, an object's name and a number name.
 abbrev pub byte_place_named : List ℕ → Option BytePlace
 byte_place_named w =
     if bytes_eq w (codes "file") then Some of_byte.FileByte
@@ -151,7 +152,7 @@ byte_place_named w =
     else if bytes_eq w (codes "pipe") then Some of_byte.PipeByte
     else None
 
--- whose they are
+-- The kind of object that has such a place.
 abbrev pub owner_of : ObjectPlace → ObjectKind
 owner_of of_object.FileLength = object_kind.File
 owner_of of_object.DurableLength = object_kind.File
@@ -167,11 +168,11 @@ owner_of_byte of_byte.PipeByte = object_kind.Pipe
 abbrev pub is_object_of : ObjectKind → List ℕ → Object → Bool
 is_object_of k name o = is_named name o && is_of k o.contents
 
--- the number of the object of that name and kind
+-- The number of the object with this name and kind.
 abbrev pub object_named : Setup → ObjectKind → List ℕ → Option ℕ
 object_named s k name = option_and_then fitting (position (is_object_of k name) s.objects)
 
--- how many bytes an object can have
+-- How many bytes an object can hold.
 abbrev pub most_bytes : Contents → ℕ
 most_bytes (contents.File bytes) = 65536
 most_bytes (contents.Pipe capacity) = capacity
@@ -196,7 +197,7 @@ abbrev pub object_place : Setup → Option ObjectPlace → List ℕ → Option P
 object_place s None name = None
 object_place s (Some p) name = option_map (place_of_object p) (object_named s (owner_of p) name)
 
--- the byte of an object that a number tells
+-- The byte of object o at an index.
 abbrev pub byte_of : Setup → BytePlace → ℕ → Option ℕ → Result Place PlaceFault
 byte_of s p o None = Err fault.Number
 byte_of s p o (Some i) =
@@ -206,18 +207,19 @@ abbrev pub byte_in : Setup → BytePlace → Option ℕ → List ℕ → Result 
 byte_in s p None word = Err fault.Place
 byte_in s p (Some o) word = byte_of s p o (number_of word)
 
--- The object is looked for before the number is read.
+-- The byte of the object with this name. If there is no such object, the number is not read.
 abbrev pub byte_named : Setup → Option BytePlace → List ℕ → List ℕ → Result Place PlaceFault
 byte_named s None name word = Err fault.Place
 byte_named s (Some p) name word = byte_in s p (object_named s (owner_of_byte p) name) word
 
--- ---- the whole
+-- ---- All names
 
+-- The place with a name of two words.
 abbrev pub pair_named : Setup → Option PlaceKind → List ℕ → List ℕ → Result Place PlaceFault
 pair_named s (Some k) w word = member_of s k (number_of word)
 pair_named s None w name = ok_or (object_place s (object_place_named w) name) fault.Place
 
--- the place that some words name
+-- The place that the words name.
 abbrev pub place_named : Setup → List (List ℕ) → Result Place PlaceFault
 place_named s [] = Err fault.Place
 place_named s (w ∷ []) = ok_or (single_named s w) fault.Place

@@ -1,57 +1,59 @@
-//! What can happen, and why it is refused.
+//! The events of a run, and the reasons for which one is refused.
 
 use entries::Choice;
 
-/// One atomic step.
+/// An atomic step of a run.
 #[derive(Clone, Copy, PartialEq, Eq)]
 pub enum Event {
-    /// A thread does its next instruction.
+    /// The thread with this number executes its next instruction.
     Step(u32),
-    /// The poller submits so many entries.
+    /// The poller submits this many entries.
     Take(u32),
     /// The poller falls asleep.
     Sleep,
-    /// A queued row is issued.
+    /// A queued request is issued.
     Issue(u32),
-    /// An issued row ends.
+    /// An issued request completes, with this choice of the kernel.
     Finish(u32, Choice),
-    /// A timeout or a guard is due.
+    /// A TIMEOUT or LINK_TIMEOUT expires.
     Expire(u32),
-    /// The clock goes on by so many nanoseconds.
+    /// The clock advances by this many nanoseconds.
     Tick(u64),
 }
 
-/// Why an event is refused. The least number whose condition holds is answered.
+/// Why an event is refused. If several reasons apply, the one with the smallest number is given.
 #[derive(Clone, Copy, Debug)]
 pub enum Refusal {
     NoSuchThread = 1,
-    /// The thread's program is at its end.
+    /// The thread has no next instruction.
     ThreadDone = 2,
-    /// A push on a full submission ring.
+    /// A push to a full submission ring.
     SqFull = 3,
-    /// A reap of an empty completion ring.
+    /// A reap from an empty completion ring.
     NothingToReap = 4,
-    /// A waiting thread, and fewer completions than it waits for.
+    /// The thread waits in io_uring_enter(2) for more completions than there are.
     StillWaiting = 5,
     NoSuchRequest = 6,
+    /// The request isn't in the phase that the event requires.
     WrongPhase = 7,
-    /// Rows before it hold it back.
+    /// Earlier requests have to complete first, because of a link or a drain. A LINK_TIMEOUT is
+    /// never eligible, since it is issued with its target.
     NotEligible = 8,
-    /// Its object isn't ready.
+    /// The request's object isn't ready.
     NotReady = 9,
-    /// The deadline is still to come.
+    /// The timeout isn't due yet.
     NotDue = 10,
-    /// The choice isn't one of the request's.
+    /// The request can't complete with this choice.
     BadChoice = 11,
     NoPoller = 12,
     /// The poller is asleep.
     Asleep = 13,
-    /// Entries wait in the submission ring.
+    /// Entries are pending in the submission ring.
     NotIdle = 14,
-    /// The clock would pass 2^64 - 1.
+    /// The clock would exceed 2^64 - 1.
     ClockFull = 15,
-    /// There would be more than 65,536 rows.
+    /// There would be more than 65,536 requests.
     RequestsFull = 16,
-    /// Memory was refused, and nothing has changed.
+    /// An allocation failed, and nothing has changed.
     Memory = 17,
 }

@@ -1,4 +1,4 @@
-//! Limits of objects and descriptors.
+//! The limits of objects and descriptors.
 ghost use Rattle.std.specs.Prelude.{◌≡◌};
 ghost use Rattle.std.specs.List.{list_all, list_any};
 ghost use Rattle.scenario.specs.Setups.{is_name_byte, is_name, is_contents, is_object, is_named, names_once, has_objects, is_end, is_descriptor, has_descriptors};
@@ -6,7 +6,7 @@ ghost use Rattle.scenario.specs.Setups.{is_name_byte, is_name, is_contents, is_o
 use crate::setup::Setup;
 use places::{Contents, Descriptor, End, Object};
 
-/// Whether the objects are few enough, each is within its limits, and no two have one name.
+/// Returns whether there are at most 32 objects, each within its limits, all with different names.
 pub(crate) fn has_objects(setup: &Setup) -> bool
     ensures { result ≡ has_objects setup.now }
 {
@@ -26,7 +26,7 @@ fn is_object(object: &Object) -> bool
     is_name(object.name.as_slice()) && is_contents(&object.contents)
 }
 
-/// Whether bytes can be an object's name: 1 to 16 of a to z, 0 to 9 and the underscore.
+/// Returns whether bytes are a valid object name: 1 to 16 of a to z, 0 to 9 and the underscore.
 pub fn is_name(name: &[u8]) -> bool
     ensures { result ≡ is_name name.now }
 {
@@ -55,21 +55,21 @@ fn is_contents(contents: &Contents) -> bool
     }
 }
 
-/// Whether an object has a name.
+/// Returns whether the object has this name.
 pub(crate) fn is_named(name: &[u8], object: &Object) -> bool
     ensures { result ≡ is_named name.now object.now }
 {
     name == object.name.as_slice()
 }
 
-// Whether an object of a list has a name.
+// Returns whether some object has this name.
 fn has_name(name: &[u8], objects: &[Object]) -> bool
     ensures { result ≡ list_any (is_named name.now) objects.now }
 {
     objects.iter().any(|object| is_named(name, object))
 }
 
-// Whether no two objects have one name.
+// Returns whether all objects have different names.
 fn names_once(objects: &[Object]) -> bool
     ensures { result ≡ names_once objects.now }
 {
@@ -79,7 +79,7 @@ fn names_once(objects: &[Object]) -> bool
     }
 }
 
-/// Whether the descriptors are few enough, and each is a side that its object has.
+/// Returns whether there are at most 64 descriptors, each of an end that its object has.
 pub(crate) fn has_descriptors(setup: &Setup) -> bool
     ensures { result ≡ has_descriptors setup.now }
 {
@@ -94,7 +94,7 @@ fn are_descriptors(objects: &[Object], descriptors: &[Descriptor]) -> bool
         .all(|descriptor| is_descriptor(objects, *descriptor))
 }
 
-/// Whether a descriptor's object is there, and has its side.
+/// Returns whether a descriptor's object exists and has its end.
 pub fn is_descriptor(objects: &[Object], descriptor: Descriptor) -> bool
     ensures { result ≡ is_descriptor objects.now descriptor }
 {
@@ -104,7 +104,8 @@ pub fn is_descriptor(objects: &[Object], descriptor: Descriptor) -> bool
     }
 }
 
-// A descriptor of a pipe is one of its ends; one of another object is all of it.
+// Returns whether an object has such an end. A pipe has a read end and a write end, other objects
+// only the whole.
 fn is_end(contents: &Contents, end: End) -> bool
     ensures { result ≡ is_end contents.now end }
 {

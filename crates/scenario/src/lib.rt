@@ -1,4 +1,4 @@
-//! What a run starts from, what can happen in it, and the names of its places.
+//! Setups, from which runs start; events, of which runs consist; and the names of places.
 #![tactic(auto)]
 
 pub mod event;

@@ -1,4 +1,4 @@
-//! Which setups a run can start from (io_uring_setup(2)).
+//! The limits of a setup (io_uring_setup(2)).
 ghost use Rattle.std.specs.Prelude.{◌≡◌};
 ghost use Rattle.std.specs.List.{list_all};
 ghost use Rattle.ring_words.specs.Rings.{rounded};
@@ -12,7 +12,7 @@ const SIZES: [u32; 14] = [
     1, 2, 4, 8, 16, 32, 64, 128, 256, 512, 1024, 2048, 4096, 8192,
 ];
 
-/// Why there is no start for a setup, but for want of memory, which only a start can meet.
+/// Returns why a run can't start from a setup. Allocation failures are not considered.
 pub fn setup_refusal(setup: &Setup) -> Option<SetupRefusal>
     ensures { result ≡ setup_refusal setup.now }
 {
@@ -26,7 +26,8 @@ pub fn setup_refusal(setup: &Setup) -> Option<SetupRefusal>
     }
 }
 
-/// A number of entries, rounded up to the size of a ring; 0 where it is above 8,192.
+/// Returns the size of a ring: the number of entries, rounded up to a power of two; 0 if it is
+/// above 8,192.
 pub fn ring_size(entries: u32) -> u32
     ensures { result ≡ rounded entries }
 {
@@ -38,8 +39,8 @@ pub fn ring_size(entries: u32) -> u32
     0
 }
 
-/// How many completion entries a setup asks for: twice the submission ring's places, unless it says
-/// so.
+/// Returns the requested number of completion entries. The default is twice the size of the
+/// submission ring.
 pub fn completion_entries(entries: u32, cq: Option<u32>) -> u32
     ensures { result ≡ entries_for entries cq }
 {
@@ -70,7 +71,7 @@ fn is_completion_size(entries: u32, cq: Option<u32>) -> bool
     }
 }
 
-// Whether all but the ring sizes lies within its limits.
+// Returns whether everything but the ring sizes is within its limits.
 fn keeps_limits(setup: &Setup) -> bool
     ensures { result ≡ keeps_limits setup.now }
 {

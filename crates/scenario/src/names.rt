@@ -1,4 +1,4 @@
-//! The names of places: words over a setup.
+//! Parsing of the names of places. A name has one to three words.
 ghost use Rattle.std.specs.Prelude.{◌≡◌, map, true};
 ghost use Rattle.std.specs.Char.{is_ascii_digit};
 ghost use Rattle.std.specs.List.{list_all};
@@ -10,19 +10,19 @@ use crate::owned::{byte_of_name, byte_place, object_place, object_place_of_name}
 use crate::setup::Setup;
 use places::Place;
 
-/// What is wrong with the words of a place.
+/// What is wrong with the name of a place.
 #[derive(Clone, Copy)]
 pub enum PlaceFault {
-    /// No name with its number of words, or an object, a descriptor, a thread or an index that
-    /// isn't there.
+    /// No name of this many words, or an object, a descriptor, a thread or an index that doesn't
+    /// exist.
     Place,
-    /// A word in a number's place isn't a number.
+    /// A word that should be a number isn't one.
     Number,
 }
 
-/// The place that some words name over a setup. The name and the number of words are tested first,
-/// then that the object is there and of its kind, then that the words in a number's place are
-/// numbers, then their ranges, to which descriptors and threads belong.
+/// Returns the place that the words name. The checks have this order: the name and the number of
+/// words, the object and its kind, the syntax of numbers, their ranges. The numbers of descriptors
+/// and threads are checked as ranges.
 pub fn place_of(setup: &Setup, words: &[&[u8]]) -> Result<Place, PlaceFault>
     ensures { result ≡ place_named setup.now (map (λ w. w.now) words.now) }
 {
@@ -34,7 +34,7 @@ pub fn place_of(setup: &Setup, words: &[&[u8]]) -> Result<Place, PlaceFault>
     }
 }
 
-// The place that a name with a number, or with an object's name, names.
+// Parses a name that is followed by a number, or by an object's name.
 fn pair(setup: &Setup, name: &[u8], word: &[u8]) -> Result<Place, PlaceFault>
     ensures { result ≡ pair_named setup.now (kind_named name.now) name.now word.now }
 {
@@ -47,7 +47,7 @@ fn pair(setup: &Setup, name: &[u8], word: &[u8]) -> Result<Place, PlaceFault>
     }
 }
 
-// The place that a name with an object's name and a number names.
+// Parses a name that is followed by an object's name and a number.
 fn triple(setup: &Setup, name: &[u8], object: &[u8], index: &[u8]) -> Result<Place, PlaceFault>
     ensures { result ≡ byte_named setup.now (byte_place_named name.now) object.now index.now }
 {
@@ -57,7 +57,7 @@ fn triple(setup: &Setup, name: &[u8], object: &[u8], index: &[u8]) -> Result<Pla
     }
 }
 
-/// The number that a word writes: decimal, without a zero before another digit, at most 4294967295.
+/// Parses a decimal number without leading zeros, at most 4294967295.
 pub fn read_number(word: &[u8]) -> Option<u32>
     ensures { result ≡ number_of word.now }
 {
@@ -67,14 +67,14 @@ pub fn read_number(word: &[u8]) -> Option<u32>
     read_digits(word)
 }
 
-// Whether a word is of decimal digits.
+// Returns whether a word consists of decimal digits.
 fn is_digits(word: &[u8]) -> bool
     ensures { result ≡ list_all is_ascii_digit word.now }
 {
     word.iter().all(|b| b.is_ascii_digit())
 }
 
-// Whether a word is a number without a zero before another digit.
+// Returns whether a word is a decimal number without leading zeros.
 fn is_numeral(word: &[u8]) -> bool
     ensures { result ≡ is_numeral word.now }
 {
@@ -91,14 +91,14 @@ fn read_digits(word: &[u8]) -> Option<u32>
     }
 }
 
-/// Whether a name is a word.
+/// Returns whether two words are equal.
 pub(crate) fn is_word(name: &[u8], word: &[u8]) -> bool
     ensures { result ≡ bytes_eq name.now word.now }
 {
     name == word
 }
 
-// The place that one word names.
+// Parses a name of one word.
 fn single(setup: &Setup, name: &[u8]) -> Option<Place>
     ensures { result ≡ single_named setup.now name.now }
 {

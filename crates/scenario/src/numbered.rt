@@ -1,4 +1,4 @@
-//! Places that a word and a number name.
+//! Names of places that consist of a word and a number.
 ghost use Rattle.std.specs.Prelude.{◌≡◌};
 ghost use Rattle.scenario.specs.Names.{kind_named, number_of, member_of, descriptor_at, is_open_file, completion_size};
 
@@ -8,7 +8,7 @@ use crate::owned::{ObjectKind, is_of};
 use crate::setup::Setup;
 use places::{Descriptor, Place};
 
-/// Places that have one name, and a number each.
+/// A kind of place of which there are several, told apart by number.
 #[derive(Clone, Copy)]
 pub enum PlaceKind {
     Array,
@@ -25,7 +25,7 @@ pub enum PlaceKind {
     Gots,
 }
 
-/// The places that a word names with a number.
+/// Returns the kind of place that a word followed by a number names.
 pub(crate) fn kind_of_name(name: &[u8]) -> Option<PlaceKind>
     ensures { result ≡ kind_named name.now }
 {
@@ -58,7 +58,7 @@ pub(crate) fn kind_of_name(name: &[u8]) -> Option<PlaceKind>
     }
 }
 
-/// The place of a kind that a word tells.
+/// Returns the place of this kind with the number in `word`.
 pub(crate) fn member(setup: &Setup, kind: PlaceKind, word: &[u8]) -> Result<Place, PlaceFault>
     ensures { result ≡ member_of setup.now kind (number_of word.now) }
 {
@@ -75,7 +75,7 @@ pub(crate) fn member(setup: &Setup, kind: PlaceKind, word: &[u8]) -> Result<Plac
 impl PlaceKind {
     ghost use Rattle.scenario.specs.Names.{is_member, place_in};
 
-    // Whether a setup has its place of this number.
+    // Returns whether the place of this kind and number exists.
     fn is_member(self, setup: &Setup, index: u32) -> bool
         ensures { result ≡ is_member setup.now self index }
     {
@@ -111,14 +111,14 @@ impl PlaceKind {
     }
 }
 
-// How many completion slots there are.
+// Returns how many slots the completion ring has.
 fn completion_size(setup: &Setup) -> u32
     ensures { result ≡ completion_size setup.now }
 {
     ring_size(completion_entries(setup.entries, setup.cq))
 }
 
-// A descriptor of a setup; they are numbered from 3.
+// Returns the descriptor with a number. Descriptors are numbered from 3.
 fn descriptor_at(setup: &Setup, number: u32) -> Option<Descriptor>
     ensures { result ≡ descriptor_at setup.now number }
 {

@@ -1,4 +1,4 @@
-//! Places of an object, which its name tells.
+//! Names of places that include the name of an object.
 ghost use Rattle.std.specs.Prelude.{◌≡◌, Some};
 ghost use Rattle.std.specs.List.{position};
 ghost use Rattle.scenario.specs.Names.{object_place_named, byte_place_named, is_of, is_object_of, object_named, most_bytes, bytes_of, owner_of, object_place, byte_of, byte_named, number_of};
@@ -8,6 +8,7 @@ use crate::names::{PlaceFault, is_word, read_number};
 use crate::setup::Setup;
 use places::{Contents, Object, Place};
 
+/// The kind of an object.
 #[derive(Clone, Copy)]
 pub enum ObjectKind {
     File,
@@ -15,7 +16,7 @@ pub enum ObjectKind {
     EventFd,
 }
 
-/// Places that an object has once.
+/// A place that an object has once.
 #[derive(Clone, Copy)]
 pub enum ObjectPlace {
     FileLength,
@@ -25,7 +26,7 @@ pub enum ObjectPlace {
     EventCount,
 }
 
-/// Bytes of an object.
+/// A kind of byte of an object.
 #[derive(Clone, Copy)]
 pub enum BytePlace {
     FileByte,
@@ -33,7 +34,7 @@ pub enum BytePlace {
     PipeByte,
 }
 
-/// The places that a word names with an object's name.
+/// Returns the kind of place that a word followed by an object's name names.
 pub(crate) fn object_place_of_name(name: &[u8]) -> Option<ObjectPlace>
     ensures { result ≡ object_place_named name.now }
 {
@@ -52,7 +53,7 @@ pub(crate) fn object_place_of_name(name: &[u8]) -> Option<ObjectPlace>
     }
 }
 
-/// The bytes that a word names with an object's name and a number.
+/// Returns the kind of byte that a word, an object's name and a number name.
 pub(crate) fn byte_of_name(name: &[u8]) -> Option<BytePlace>
     ensures { result ≡ byte_place_named name.now }
 {
@@ -67,7 +68,7 @@ pub(crate) fn byte_of_name(name: &[u8]) -> Option<BytePlace>
     }
 }
 
-/// Whether an object is of a kind.
+/// Returns whether an object has this kind.
 pub(crate) fn is_of(kind: ObjectKind, contents: &Contents) -> bool
     ensures { result ≡ is_of kind contents.now }
 {
@@ -93,7 +94,7 @@ fn index_of(objects: &[Object], kind: ObjectKind, name: &[u8]) -> Option<usize>
         .position(|object| is_object_of(kind, name, object))
 }
 
-// The number of the object of that name and kind.
+// Returns the number of the object with this name and kind.
 fn object_named(setup: &Setup, kind: ObjectKind, name: &[u8]) -> Option<u32>
     ensures { result ≡ object_named setup.now kind name.now }
 {
@@ -113,7 +114,7 @@ fn most_bytes(contents: &Contents) -> u32
     }
 }
 
-// How many bytes an object can have.
+// Returns how many bytes an object can hold.
 fn bytes_of(setup: &Setup, object: u32) -> u32
     ensures { result ≡ bytes_of setup.now object }
 {
@@ -123,7 +124,7 @@ fn bytes_of(setup: &Setup, object: u32) -> u32
     }
 }
 
-/// The place of an object that its name tells.
+/// Returns the place of the object with this name.
 pub(crate) fn object_place(setup: &Setup, place: ObjectPlace, name: &[u8]) -> Option<Place>
     ensures { result ≡ object_place setup.now (Some place) name.now }
 {
@@ -131,8 +132,8 @@ pub(crate) fn object_place(setup: &Setup, place: ObjectPlace, name: &[u8]) -> Op
     Some(place.of(object))
 }
 
-/// The byte of an object that its name and a word tell. The object is looked for before the number
-/// is read.
+/// Returns the byte with the index in `word`, of the object with this name. If there is no such
+/// object, `word` is not read.
 pub(crate) fn byte_place(
     setup: &Setup,
     place: BytePlace,
@@ -163,7 +164,7 @@ fn byte_of(setup: &Setup, place: BytePlace, object: u32, word: &[u8]) -> Result<
 impl ObjectPlace {
     ghost use Rattle.scenario.specs.Names.{owner_of, place_of_object};
 
-    // Whose it is.
+    // Returns the kind of object that has such a place.
     fn owner(self) -> ObjectKind
         ensures { result ≡ owner_of self }
     {
@@ -190,7 +191,7 @@ impl ObjectPlace {
 impl BytePlace {
     ghost use Rattle.scenario.specs.Names.{owner_of_byte, place_of_byte};
 
-    // Whose it is.
+    // Returns the kind of object that has such a byte.
     fn owner(self) -> ObjectKind
         ensures { result ≡ owner_of_byte self }
     {

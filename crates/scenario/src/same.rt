@@ -1,11 +1,11 @@
-//! Whether setups are one and the same.
+//! Equality of setups.
 ghost use Rattle.std.specs.Prelude.{◌≡◌, ◌↔◌, IsTrue};
 
 use crate::setup::{Instruction, Setup};
 use places::{Contents, Descriptor, Items, Object};
 
 impl Setup {
-    /// Whether two setups are one and the same. It takes no memory.
+    /// Returns whether two setups are equal. Allocates nothing.
     pub fn is(&self, other: &Setup) -> bool
         ensures { IsTrue result ↔ (self.now ≡ other.now) }
     {
@@ -21,7 +21,7 @@ impl Setup {
         are_same_threads(self.threads.as_slice(), other.threads.as_slice())
     }
 
-    // Whether the sizes, the flags and the base of two setups are the same.
+    // Returns whether two setups have the same sizes, flags and base.
     fn has_numbers_of(&self, other: &Setup) -> bool
         ensures { IsTrue result
             ↔ ((self.now.entries ≡ other.now.entries) × (self.now.cq ≡ other.now.cq)
@@ -39,7 +39,7 @@ impl Setup {
 }
 
 impl Instruction {
-    /// Whether two instructions are one and the same.
+    /// Returns whether two instructions are equal.
     pub fn is(&self, other: &Instruction) -> bool
         ensures { IsTrue result ↔ (self.now ≡ other.now) }
     {

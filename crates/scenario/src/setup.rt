@@ -1,4 +1,4 @@
-//! What a run starts from.
+//! Setups, from which runs start.
 ghost use Rattle.std.specs.Prelude.{◌≡◌, IfOk};
 ghost use Rattle.scenario.specs.Programs.{HasWidths};
 
@@ -6,42 +6,42 @@ use entries::Sqe;
 use places::{Contents, Descriptor, Items, Object};
 use std::alloc::{AllocError, Global};
 
-/// What a thread does in one step.
+/// An instruction, which a thread executes in one step.
 #[derive(Drop)]
 pub enum Instruction {
     /// Writes an entry into a slot.
     Put(u32, Sqe),
-    /// Writes an index at the submission tail.
+    /// Writes an index at the tail of the submission ring, and advances the tail.
     Push(u32),
-    /// Writes bytes, at most 4,096, into memory from an address on.
+    /// Stores at most 4,096 bytes in memory at an address.
     Store(u32, Items<u8>),
-    /// io_uring_enter(2).
+    /// Calls io_uring_enter(2).
     Enter {
         to_submit: u32,
         min_complete: u32,
         flags: u32,
     },
-    /// Takes the oldest completion.
+    /// Takes the oldest completion from the ring.
     Reap,
-    /// close(2).
+    /// Calls close(2) on a descriptor.
     Close(i32),
 }
 
-/// What a run starts from: sizes, memory, objects, descriptors and programs.
+/// The start of a run: ring sizes, memory, objects, descriptors and programs.
 #[derive(Drop)]
 pub struct Setup {
     /// Submission entries, 1 to 4,096, rounded up to a power of two.
     pub entries: u32,
-    /// Completion entries, 1 to 8,192, rounded up likewise; twice the submission entries where
-    /// there is none.
+    /// Completion entries, 1 to 8,192, also rounded up. The default is twice the size of the
+    /// submission ring.
     pub cq: Option<u32>,
-    /// A poller stands beside the threads (IORING_SETUP_SQPOLL).
+    /// Whether a kernel thread polls the submission ring (IORING_SETUP_SQPOLL).
     pub sqpoll: bool,
-    /// A submission goes on behind an entry that fails (IORING_SETUP_SUBMIT_ALL).
+    /// Whether a submission continues after an entry that fails (IORING_SETUP_SUBMIT_ALL).
     pub submit_all: bool,
-    /// Where the four ring words start.
+    /// The initial value of the heads and tails of both rings.
     pub base: u32,
-    /// Memory from address 0 on, at most 65,536 bytes; the rest is zeros.
+    /// The memory from address 0 on, at most 65,536 bytes; the rest is zeros.
     pub memory: Items<u8>,
     /// At most 32.
     pub objects: Items<Object>,
@@ -51,10 +51,10 @@ pub struct Setup {
     pub threads: Items<Items<Instruction>>,
 }
 
-/// Why there is no start for a setup. They are tested in this order.
+/// Why a run can't start from a setup. The checks have this order.
 #[derive(Clone, Copy, Debug)]
 pub enum SetupRefusal {
-    /// A ring has a size that it can't have.
+    /// The size of a ring is out of its range.
     RingSize = 1,
     /// Another value is out of its range.
     Limit = 2,
@@ -68,7 +68,7 @@ const _: () = prove!(SetupRefusal::Limit as u32 == 2);
 const _: () = prove!(SetupRefusal::Memory as u32 == 3);
 
 impl Setup {
-    /// The same setup again.
+    /// Returns a copy.
     pub fn copy(&self, alloc: Global) -> Result<Setup, AllocError>
         ensures { IfOk result (λ copy. copy ≡ self.now) }
     {
@@ -87,7 +87,7 @@ impl Setup {
 }
 
 impl Instruction {
-    /// The same instruction again.
+    /// Returns a copy.
     pub fn copy(&self, alloc: Global) -> Result<Instruction, AllocError>
         ensures same { IfOk result (λ copy. copy ≡ self.now) }
         ensures widths { HasWidths self.now }

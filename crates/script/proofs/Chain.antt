@@ -1,4 +1,4 @@
--- The readings of a script's keys, one after the other.
+-- The keys of a script, read one after the other.
 use Rattle.std.proofs.Common.{◌≡◌, ℕ, Bool, List, Option, Result, Ok, ap, ◌∙◌}
 use Rattle.std.specs.Prelude.{codes}
 use Rattle.serde_json.specs.Data.{Data}
@@ -58,7 +58,7 @@ with_keys d u = entries_of (get (codes "entries") d) >>= with_entries d
 bound : {A B : Type 0} → (r : Result A ScriptFault) (x : A) (f : A → Result B ScriptFault) → r ≡ Ok x → (r >>= f) ≡ f x
 bound r x f h = ap (λ q. q >>= f) h
 
--- what each key gives makes the script
+-- If each key reads, the values form the script.
 pub scripted : (d : Data) (u : Unit {0}) (entries : ℕ) (cq : Option ℕ) (sqpoll submit_all : Bool) (base : ℕ) (memory : List ℕ) (objects : List Object) (fds : List Descriptor) (threads : List (List Instruction)) (schedule : List Event)
     → keyed is_script_key (at_key key.Document) d ≡ Ok u
     → entries_of (get (codes "entries") d) ≡ Ok entries

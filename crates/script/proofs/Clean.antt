@@ -1,4 +1,4 @@
--- A JSON value that was read is never told as no JSON.
+-- A text that is valid JSON never results in NotJson.
 use Rattle.std.proofs.Common.{◌≡◌, ◌≢◌, ℕ, ◌+◌, Bool, true, false, cond, nat_le, nat_lt, List, [], ◌∷◌, ◌++◌, length, Option, Some, None, Result, Ok, Err}
 use Rattle.std.specs.Prelude.{codes, ok_or, option_map, IsUtf8}
 use Rattle.serde_json.specs.Data.{Data, null, boolean, number, string, array, object}
@@ -153,7 +153,7 @@ clean_is (Err Memory) h e = absurd (cc)
 pub script_is_json : (d : Data) → script_of d ≢ Err NotJson
 script_is_json d = clean_is (script_of d) (script_clean d)
 
--- what was answered for a value that was read is no NotJson
+-- The result for a value that was read isn't NotJson.
 pub answered : (text : List ℕ) (told : Result Scenario ScriptFault) (d : Data) → Gives (λ s. s) told (script_of d) → told ≡ Err NotJson → IsNoJson text
 answered text (Ok s) d g e = absurd (cc)
 answered text (Err NotJson) d g e = absurd (script_is_json d g)

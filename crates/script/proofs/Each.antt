@@ -12,11 +12,11 @@ use Rattle.script.specs.Faults.{◌>>=◌, Fails}
 use Rattle.std.specs.List.{list_all}
 use Rattle.std.specs.Map.{keys_of}
 
--- what was read so far, and then the rest
+-- The items read so far, followed by the rest.
 abbrev pub with_front : {A : Type 0} → List A → Result (List A) ScriptFault → Result (List A) ScriptFault
 with_front done rest = rest >>= λ xs. Ok (done ++ xs)
 
--- an error answers itself
+-- A fault is the fault of its own reading.
 pub fails_at : {Y : Type 0} → (e : ScriptFault) (found : Result Y ScriptFault) → found ≡ Err e → Fails e found
 fails_at NotJson found h = h
 fails_at (Shape p) found h = h
@@ -33,7 +33,7 @@ pushed : {A : Type 0} → (done : List A) (x : A) (rest : Result (List A) Script
 pushed done x (Ok xs) = ap Ok (sym (append_assoc done (x ∷ []) xs))
 pushed done x (Err e) = refl
 
--- an item that reads
+-- An item that reads.
 pub each_on : {A : Type 0} → (f : ℕ → Data → Result A ScriptFault) (vs : List Value) (i : ℕ) (v : Value) (x : A) (done : List A) (all : Result (List A) ScriptFault) → i < length vs → v ≡ get_or vs i v → with_front done (each f i (drop i (map view vs))) ≡ all → f i (view v) ≡ Ok x → with_front (done ++ x ∷ []) (each f (i + 1) (drop (i + 1) (map view vs))) ≡ all
 each_on f vs i v x done all h e so_far ok =
     let rest = each f (i + 1) (drop (i + 1) (map view vs)) in
@@ -42,7 +42,7 @@ each_on f vs i v x done all h e so_far ok =
     ∙ ap (λ ds. with_front done (each f i ds)) (sym (item_view vs i v h e))
     ∙ so_far
 
--- an item that doesn't
+-- An item that doesn't.
 pub each_err : {A : Type 0} → (f : ℕ → Data → Result A ScriptFault) (vs : List Value) (i : ℕ) (v : Value) (y : ScriptFault) (done : List A) (all : Result (List A) ScriptFault) → i < length vs → v ≡ get_or vs i v → with_front done (each f i (drop i (map view vs))) ≡ all → f i (view v) ≡ Err y → all ≡ Err y
 each_err f vs i v y done all h e so_far bad =
     let rest = each f (i + 1) (drop (i + 1) (map view vs)) in
@@ -76,7 +76,7 @@ has_keys_some test (string s) es b h g = absurd (cc)
 has_keys_some test (array ds) es b h g = absurd (cc)
 has_keys_some test (object ms) es b h g = let e : members_view es ≡ ms = cc in g ∙ sym (pass_all test es) ∙ ap (keys_pass test) e
 
--- the items of a value that is a list
+-- The items of a JSON value that is a list.
 pub of_list_some : {A : Type 0} → (form : List Data → Option A) (d : Data) (vs : List Value) → Some (items_view vs) ≡ as_array d → of_list form d ≡ form (map view vs)
 of_list_some form null vs h = absurd (cc)
 of_list_some form (boolean x) vs h = absurd (cc)
@@ -85,7 +85,7 @@ of_list_some form (string s) vs h = absurd (cc)
 of_list_some form (array ds) vs h = let e : items_view vs ≡ ds = cc in ap (λ es. form (list_of es)) (sym e) ∙ ap form (list_of-items_of (map view vs))
 of_list_some form (object ms) vs h = absurd (cc)
 
--- an item whose reading failed, or ran out of memory
+-- An item that has a fault, or for which an allocation failed.
 pub each_fails : {A : Type 0} → (f : ℕ → Data → Result A ScriptFault) (vs : List Value) (i : ℕ) (v : Value) (y : ScriptFault) (done : List A) (all : Result (List A) ScriptFault) → i < length vs → v ≡ get_or vs i v → with_front done (each f i (drop i (map view vs))) ≡ all → Fails y (f i (view v)) → Fails y all
 each_fails f vs i v NotJson done all h e so_far bad = each_err f vs i v NotJson done all h e so_far bad
 each_fails f vs i v (Shape p) done all h e so_far bad = each_err f vs i v (Shape p) done all h e so_far bad
@@ -93,9 +93,9 @@ each_fails f vs i v (Range p) done all h e so_far bad = each_err f vs i v (Range
 each_fails f vs i v (Limit p) done all h e so_far bad = each_err f vs i v (Limit p) done all h e so_far bad
 each_fails f vs i v Memory done all h e so_far bad = tt
 
--- ---- what items come to, one after the other
+-- ---- reading that carries a state from item to item
 
--- an item that reads
+-- An item that reads.
 pub folded_on : {S : Type 0} → (f : S → ℕ → Data → Result S ScriptFault) (vs : List Value) (i : ℕ) (v : Value) (s t : S) (all : Result S ScriptFault) → i < length vs → v ≡ get_or vs i v → folded f s i (drop i (map view vs)) ≡ all → f s i (view v) ≡ Ok t → folded f t (i + 1) (drop (i + 1) (map view vs)) ≡ all
 folded_on f vs i v s t all h e so_far ok =
     let rest = drop (i + 1) (map view vs) in
@@ -103,7 +103,7 @@ folded_on f vs i v s t all h e so_far ok =
     ∙ ap (λ ds. folded f s i ds) (sym (item_view vs i v h e))
     ∙ so_far
 
--- an item that doesn't
+-- An item that doesn't.
 folded_err : {S : Type 0} → (f : S → ℕ → Data → Result S ScriptFault) (vs : List Value) (i : ℕ) (v : Value) (y : ScriptFault) (s : S) (all : Result S ScriptFault) → i < length vs → v ≡ get_or vs i v → folded f s i (drop i (map view vs)) ≡ all → f s i (view v) ≡ Err y → all ≡ Err y
 folded_err f vs i v y s all h e so_far bad =
     let rest = drop (i + 1) (map view vs) in
@@ -111,7 +111,7 @@ folded_err f vs i v y s all h e so_far bad =
     ∙ ap (λ ds. folded f s i ds) (item_view vs i v h e)
     ∙ ap (λ r. r >>= λ t. folded f t (i + 1) rest) bad
 
--- an item whose reading failed, or ran out of memory
+-- An item that has a fault, or for which an allocation failed.
 pub folded_fails : {S : Type 0} → (f : S → ℕ → Data → Result S ScriptFault) (vs : List Value) (i : ℕ) (v : Value) (y : ScriptFault) (s : S) (all : Result S ScriptFault) → i < length vs → v ≡ get_or vs i v → folded f s i (drop i (map view vs)) ≡ all → Fails y (f s i (view v)) → Fails y all
 folded_fails f vs i v NotJson s all h e so_far bad = folded_err f vs i v NotJson s all h e so_far bad
 folded_fails f vs i v (Shape p) s all h e so_far bad = folded_err f vs i v (Shape p) s all h e so_far bad

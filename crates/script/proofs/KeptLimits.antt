@@ -1,4 +1,4 @@
--- Threads and schedules that were read keep their limits.
+-- Threads and schedules that were read are within their limits.
 use Rattle.std.proofs.Common.{◌≡◌, ℕ, zero, suc, ◌+◌, ◌≤◌, Bool, true, false, cond, ◌&&◌, ◌||◌, nat_le, nat_lt, List, [], ◌∷◌, length, Option, Some, None, Result, Ok, Err, refl, sym, ap, ◌∙◌, arith}
 use Rattle.std.specs.Prelude.{option_map}
 use Rattle.std.specs.List.{list_all, list_any}
@@ -30,7 +30,7 @@ use Rattle.script.specs.Instructions.{instruction_form, keeps_limits, instructio
 use Rattle.script.specs.Events.{event_form, choice_in_range, event_in_range, event_at}
 use Rattle.script.specs.Scripts.{entries_of, large_enough, cq_of, threads_of, schedule_of, is_short_of_nothing}
 
--- ---- what two readings in a row gave
+-- ---- the result of two readings in a row
 
 abbrev pub Both : {A B : Type 0} → Result A ScriptFault → (A → Result B ScriptFault) → B → Type 0
 Both {A} {B} r f y = (x : A) × (r ≡ Ok x) × (f x ≡ Ok y)
@@ -145,7 +145,7 @@ each_none test f i (d ∷ ds) xs k h =
     let o = each_one f i d ds xs h in
     ap (list_any test) o.4 ∙ ap (λ b. b || list_any test o.1) (k i d o.0 o.2) ∙ each_none test f (i + 1) ds o.1 k o.3
 
--- the items of a list that keeps its limit
+-- The items of a list that is within its limit.
 pub at_most_ok : {A : Type 0} → (most : ℕ) (p : Path) (f : ℕ → Data → Result A ScriptFault) (ds : List Data) (xs : List A) → at_most most p f ds ≡ Ok xs → (length xs ≤ most) × (each f 0 ds ≡ Ok xs)
 at_most_ok most p f ds xs h = by (nat_lt most (length ds)) refl h
   where

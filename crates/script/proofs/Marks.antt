@@ -1,4 +1,4 @@
--- What stands before a mark.
+-- The text before a `:r` or `:w` mark.
 use Rattle.std.proofs.Common.{◌≡◌, ℕ, ◌-◌, cond, List, length, take, true, false, Option, Some, None, ap, ◌∙◌, arith}
 use Rattle.std.specs.Prelude.{option_map, MatchOption}
 use Rattle.std.specs.Str.Pattern.{FindsTextSuffix, StripsSuffix}
@@ -6,7 +6,7 @@ use Rattle.std.proofs.lemmas.Str.Pattern.{ends_text}
 use Rattle.script.specs.Objects.{before_mark}
 use denote.Ref.{Bor}
 
--- a text without its suffix is what stands before it
+-- Stripping a suffix leaves the text before it.
 pub stripped : (mark text : List ℕ) (r : Option (Bor (List ℕ))) → MatchOption r (FindsTextSuffix mark text None) (λ x. StripsSuffix (FindsTextSuffix mark) text x.now) → option_map (λ x. x.now) r ≡ before_mark mark text
 stripped mark text None h = ap (λ b. cond b (Some (take (length text - length mark) text)) None) (ends_text false mark text h)
 stripped mark text (Some x) h =

@@ -1,4 +1,4 @@
--- Objects by their names.
+-- Objects, looked up by name.
 use Rattle.std.proofs.Common.{◌≡◌, ℕ, ◌+◌, Bool, true, false, not, cond, ◌&&◌, ◌||◌, nat_lt, List, [], ◌∷◌, ◌++◌, length, map, Some, None, refl, sym, ap, ◌∙◌}
 use Rattle.std.specs.List.{list_any, position, position_or_len}
 use Rattle.std.specs.Str.{bytes_eq}
@@ -14,7 +14,7 @@ use denote.Ref.{Bor}
 abbrev names_of : List Object → List (List ℕ)
 names_of os = map (λ o. o.name) os
 
--- ---- the set of names tells of the objects
+-- ---- the set of names agrees with the objects
 
 any_text : (name : List ℕ) (ks : List (Bor (List ℕ))) → list_any (λ k. bytes_eq name k.now) ks ≡ list_any (bytes_eq name) (texts ks)
 any_text name [] = refl
@@ -51,18 +51,18 @@ names-append : (os ps : List Object) → names_of (os ++ ps) ≡ names_of os ++ 
 names-append [] ps = refl
 names-append (o ∷ os) ps = ap (λ xs. o.name ∷ xs) (names-append os ps)
 
--- one name and one object more
+-- One more name, and its object.
 pub one_more : (ks : List (Bor (List ℕ))) (os : List Object) (k : Bor (List ℕ)) (o : Object) → texts ks ≡ names_of os → o.name ≡ k.now → texts (ks ++ k ∷ []) ≡ names_of (os ++ o ∷ [])
 one_more ks os k o h e =
     texts-append ks (k ∷ []) ∙ ap (λ xs. xs ++ k.now ∷ []) h ∙ ap (λ x. names_of os ++ x ∷ []) (sym e) ∙ sym (names-append os (o ∷ []))
 
--- a name that is new, and its object
+-- A new name, and its object.
 pub kept_names : (ks new : List (Bor (List ℕ))) (os : List Object) (k : Bor (List ℕ)) (o : Object) → texts ks ≡ names_of os → o.name ≡ k.now → list_any (is_named o.name) os ≡ false → new ≡ cond (list_any (λ l. bytes_eq k.now l.now) ks) ks (ks ++ k ∷ []) → texts new ≡ names_of (os ++ o ∷ [])
 kept_names ks new os k o h e n i =
     let none : list_any (λ l. bytes_eq k.now l.now) ks ≡ false = any_named k.now ks os h ∙ ap (λ name. list_any (is_named name) os) (sym e) ∙ n in
     ap texts (i ∙ ap (λ b. cond b ks (ks ++ k ∷ [])) none) ∙ one_more ks os k o h e
 
--- ---- no two have one name
+-- ---- names are unique
 
 bytes_eq-symm : (xs ys : List ℕ) → bytes_eq xs ys ≡ bytes_eq ys xs
 bytes_eq-symm xs ys =

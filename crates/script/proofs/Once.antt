@@ -1,4 +1,4 @@
--- A text is read as one thing.
+-- A text has one reading.
 use Rattle.std.proofs.Common.{◌≡◌, ℕ, List, Result, refl, ap, arith}
 use Rattle.script.specs.declared.fault.ScriptFault.{ScriptFault}
 use Rattle.script.specs.Scripts.{Scenario, Reads, long, unread, value, script_of}

@@ -1,4 +1,4 @@
--- A run can start from what was read.
+-- A run can start from every setup that was read.
 use Rattle.std.proofs.Common.{◌≡◌, ℕ, ◌+◌, ◌-◌, ◌^◌, ◌≤◌, Bool, true, false, not, cond, ◌&&◌, nat_le, nat_lt, List, [], ◌∷◌, ◌++◌, length, take, drop, Option, Some, None, Result, Ok, Err, refl, sym, ap, ◌∙◌, subst, arith, length-append, length-drop}
 use Rattle.std.specs.Prelude.{option_map, codes}
 use Rattle.std.specs.List.{list_all, list_any, position}
@@ -31,7 +31,7 @@ use Rattle.script.specs.Scripts.{entries_of, cq_of, threads_of, schedule_of, Sta
 use Rattle.script.proofs.Numbered.{still_once}
 use Rattle.script.proofs.KeptLimits.{bind_ok, some_both, some_mapped, formed_ok, limited_ok, tested, between_ok, placed_ok, each_all, at_most_ok, le_true, entries_ok, cq_ok, KeepPrograms, threads_kept, schedule_ok}
 
--- what each step keeps, the whole does
+-- A property that each step preserves holds at the end.
 folded_keeps : {S : Type 0} → (P : S → Type 0) (f : S → ℕ → Data → Result S ScriptFault) (s : S) (i : ℕ) (ds : List Data) (t : S) → ((r u : S) (j : ℕ) (d : Data) → P r → f r j d ≡ Ok u → P u) → P s → folded f s i ds ≡ Ok t → P t
 folded_keeps P f s i [] t k p h = let e : s ≡ t = cc in subst P e p
 folded_keeps P f s i (d ∷ ds) t k p h =
@@ -117,7 +117,7 @@ more_objects os o a n = record {
   once = still_once os o a.once n.1;
 }
 
--- one object more
+-- One more object.
 object_adds : (os ps : List Object) (i : ℕ) (d : Data) → object_at os i d ≡ Ok ps → (o : Object) × IsNext os o × (ps ≡ os ++ o ∷ [])
 object_adds os ps i d h =
     let w = limited_ok (at_item key.Objects i) (object_form d) is_small (λ (f : ObjectForm). option_map (λ x. os ++ x ∷ []) (object_in_range os f)) ps h in
@@ -178,7 +178,7 @@ fds_ok os d fds h =
     let m = at_most_ok 64 (at_key key.Fds) (descriptor_at os) b.0 fds b.2 in
     (m.0, each_all (is_descriptor os) (descriptor_at os) 0 b.0 fds (descriptor_ok os) m.1)
 
--- ---- the whole
+-- ---- the whole setup
 
 abbrev setup_of : ℕ → Option ℕ → Bool → Bool → ℕ → List ℕ → List Object → List Descriptor → List (List Instruction) → Setup
 setup_of entries cq sqpoll submit_all base memory objects fds threads = record {

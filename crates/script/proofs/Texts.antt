@@ -1,4 +1,4 @@
--- What a text is, from what was answered.
+-- From the result of a call to the reading of the text.
 use Rattle.std.proofs.Common.{◌≡◌, ◌≢◌, ℕ, ◌≤◌, List, length, Some, Result, Ok, Err, refl, subst}
 use Rattle.std.specs.Prelude.{IsUtf8, IfOk, IfErr}
 use Rattle.serde_json.specs.Data.{Data}

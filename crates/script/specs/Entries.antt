@@ -1,4 +1,4 @@
--- Entries of the submission ring, as a script writes them (io_uring_enter(2)).
+-- Submission entries in a script (io_uring_enter(2)).
 use Rattle.std.specs.Prelude.{ℕ, pos, replicate, ◌||◌, List, codes, Bool, if◌then◌else◌, Option, Some, None, option_map}
 use Rattle.std.specs.Result.{result_ok}
 use Rattle.std.specs.Str.{bytes_eq}
@@ -19,15 +19,17 @@ abbrev pub ◌>>=◌ : {A B : Type 0} → Option A → (A → Option B) → Opti
 (Some x) >>= f = f x
 None >>= f = None
 
+-- The keys of an entry.
 abbrev pub is_entry_key : List ℕ → Bool
 is_entry_key k =
     bytes_eq k (codes "op") || bytes_eq k (codes "flags") || bytes_eq k (codes "ioprio") || bytes_eq k (codes "fd") || bytes_eq k (codes "off")
     || bytes_eq k (codes "addr") || bytes_eq k (codes "len") || bytes_eq k (codes "opflags") || bytes_eq k (codes "ud")
 
--- the whole number at a key, 0 where it is missing
+-- The whole number at a key, 0 if the key is missing.
 abbrev pub whole_at : List ℕ → Data → Option Whole
 whole_at k d = whole_or_zero (get k d)
 
+-- The numbers of an entry, without a range check.
 abbrev pub entry_numbers : Data → Option EntryNumbers
 entry_numbers d = do
   op ← whole_at (codes "op") d
@@ -41,20 +43,20 @@ entry_numbers d = do
   ud ← whole_at (codes "ud") d
   Some (record { op = op; flags = flags; ioprio = ioprio; fd = fd; off = off; addr = addr; len = len; opflags = opflags; ud = ud })
 
--- an object with no other key than these
+-- A JSON object with only these keys.
 abbrev pub object_form : Data → Option EntryForm
 object_form d = if has_keys is_entry_key d then option_map Numbers (entry_numbers d) else None
 
--- 128 hex digits, of either case
+-- The 64 bytes of an entry, as 128 hex digits in either case.
 abbrev pub entry_of_text : List ℕ → Option Sqe
 entry_of_text text = option_map entry_of_bytes (result_ok (decode_sized text 64))
 
--- a text, or an object
+-- An entry is a text of hex digits, or a JSON object.
 abbrev pub entry_form : Data → Option EntryForm
 entry_form (string text) = option_map Written (entry_of_text text)
 entry_form d = object_form d
 
--- all other bytes are 0
+-- The entry with these numbers, if each is in its range. All other bytes are 0.
 abbrev pub entry_of_numbers : EntryNumbers → Option Sqe
 entry_of_numbers n = do
   opcode ← between 0 255 n.op
@@ -82,7 +84,7 @@ entry_of_numbers n = do
     rest = replicate 16 0;
   })
 
--- an entry whose numbers keep their ranges
+-- The entry, if its numbers are in their ranges.
 abbrev pub entry_in_range : EntryForm → Option Sqe
 entry_in_range (Written e) = Some e
 entry_in_range (Numbers n) = entry_of_numbers n

@@ -1,4 +1,4 @@
--- The memory that a script gives.
+-- The initial memory of a script.
 use Rattle.std.specs.Prelude.{ℕ, ◌+◌, nat_le, List, [], ◌∷◌, ◌++◌, length, take, drop, replicate, Bool, if◌then◌else◌, Option, Some, None, option_map, Result}
 use Rattle.std.specs.Result.{result_ok}
 use Rattle.hex.specs.Hex.{decode_of}
@@ -14,42 +14,45 @@ use Rattle.script.specs.Faults.{at_item, form_limits_ranges}
 use Rattle.script.specs.Lists.{of_list, list_at, folded}
 use Rattle.script.specs.Numbers.{whole_of}
 
--- the bytes that a text writes as pairs of hex digits, of either case
+-- The bytes in a text of hex digits, in either case.
 abbrev pub bytes_of : Data → Option (List ℕ)
 bytes_of (string text) = result_ok (decode_of text)
 bytes_of _ = None
 
--- an address from which bytes lie within the memory
+-- The address, if all of the bytes fit into the 65,536 bytes of memory.
 abbrev pub placed : List ℕ → Whole → Option ℕ
 placed bytes (Natural n) = if nat_le (n + length bytes) 65536 then Some n else None
 placed bytes (Negative z) = None
 
--- an address, and the bytes from there on
+-- A piece: a list of an address and its bytes.
 abbrev pub piece_words : List Data → Option Piece
 piece_words (a ∷ x ∷ []) = whole_of a >>= λ address. option_map (λ bytes. record { address = address; bytes = bytes }) (bytes_of x)
 piece_words _ = None
 
+-- A piece in a JSON value, without range checks.
 abbrev pub piece_form : Data → Option Piece
 piece_form d = of_list piece_words d
 
+-- Whether a piece has at most 65,536 bytes.
 abbrev pub is_short : Piece → Bool
 is_short piece = nat_le (length piece.bytes) 65536
 
--- bytes written over others, from an index on
+-- Overwrites bytes with others, from index `at` on.
 abbrev pub overwritten : List ℕ → ℕ → List ℕ → List ℕ
 overwritten bytes at others = take at bytes ++ (others ++ drop (at + length others) bytes)
 
--- memory with a piece written over it
+-- Memory after a piece is written.
 abbrev pub with_piece : List ℕ → Piece → Option (List ℕ)
 with_piece memory piece = option_map (λ address. overwritten memory address piece.bytes) (placed piece.bytes piece.address)
 
--- memory with item i written over it
+-- Memory after item i is written.
 abbrev pub piece_at : List ℕ → ℕ → Data → Result (List ℕ) ScriptFault
 piece_at memory i d = form_limits_ranges (at_item key.Memory i) (piece_form d) is_short (with_piece memory)
 
+-- n zero bytes.
 unfoldable pub zeros : ℕ → List ℕ
 zeros n = replicate n 0
 
--- The pieces are written in their order.
+-- The memory: zeros, over which the pieces are written in order.
 abbrev pub memory_of : Option Data → Result (List ℕ) ScriptFault
 memory_of d = faults.◌>>=◌ (list_at key.Memory d) (folded piece_at (zeros 65536) 0)

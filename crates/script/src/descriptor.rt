@@ -1,4 +1,4 @@
-//! Descriptors, as a script writes them.
+//! The descriptors of a script.
 ghost use Rattle.std.specs.Prelude.{◌≡◌, ◌≤◌, map, option_map, length};
 ghost use Rattle.serde_json.specs.View.{view};
 ghost use Rattle.script.specs.Faults.{Gives};
@@ -13,7 +13,7 @@ use scenario::is_descriptor;
 use serde_json::Value;
 use std::alloc::Global;
 
-// An end of an object, where the object has it.
+// Returns the descriptor of an object's end, if the object has this end.
 fn descriptor_of(objects: &[Object], end: End, object: u32) -> Option<Descriptor>
     ensures { result ≡ descriptor_of objects.now end object }
 {
@@ -25,7 +25,7 @@ fn descriptor_of(objects: &[Object], end: End, object: u32) -> Option<Descriptor
     }
 }
 
-// An end of the object that has a name.
+// Returns the descriptor of an end of the object with this name.
 fn end_named(objects: &NamedObjects<'_>, end: End, name: &str) -> Option<Descriptor>
     ensures { result ≡ end_named objects.now end name.now }
 {
@@ -35,14 +35,15 @@ fn end_named(objects: &NamedObjects<'_>, end: End, name: &str) -> Option<Descrip
     }
 }
 
-// What stands before a mark, in a text that ends with it.
+// Returns the text before a mark, if the text ends with the mark.
 fn before_mark<'a>(mark: &str, text: &'a str) -> Option<&'a str>
     ensures { option_map (λ name. name.now) result ≡ before_mark mark.now text.now }
 {
     text.strip_suffix(mark)
 }
 
-// What a text names: a file or an eventfd by its name, the ends of a pipe by its name with a mark.
+// Returns the descriptor that a text names: a file or eventfd by its name, a pipe's end by `NAME:r`
+// or `NAME:w`.
 fn descriptor_named(objects: &NamedObjects<'_>, text: &str) -> Option<Descriptor>
     ensures { result ≡ descriptor_named objects.now text.now }
 {
@@ -55,7 +56,7 @@ fn descriptor_named(objects: &NamedObjects<'_>, text: &str) -> Option<Descriptor
     }
 }
 
-/// A descriptor of the list.
+/// Reads the descriptor at an index of the list.
 pub fn read_descriptor(
     objects: &NamedObjects<'_>,
     index: u32,
@@ -73,7 +74,7 @@ pub fn read_descriptor(
     }
 }
 
-/// The descriptors of a list, up to the first fault.
+/// Reads the descriptors of a list, up to the first fault.
 pub fn read_descriptors(
     alloc: Global,
     objects: &NamedObjects<'_>,

@@ -1,4 +1,4 @@
-//! Entries of the submission ring, as a script writes them.
+//! Submission entries in a script: hex digits, or JSON objects.
 ghost use Rattle.std.specs.Prelude.{◌≡◌};
 ghost use Rattle.serde_json.specs.View.{view};
 ghost use Rattle.script.specs.Entries.{entry_numbers, object_form, entry_of_text, entry_form, entry_of_numbers, entry_in_range};
@@ -8,7 +8,7 @@ use crate::number::{Whole, byte, half_word, long, signed_word, whole_or_zero, wo
 use entries::Sqe;
 use serde_json::Value;
 
-/// The numbers of an entry, before their ranges are tested.
+/// The numbers of an entry, before their ranges are checked.
 #[derive(Clone, Copy)]
 pub struct EntryNumbers {
     pub op: Whole,
@@ -22,15 +22,15 @@ pub struct EntryNumbers {
     pub ud: Whole,
 }
 
-/// An entry, before the ranges of its numbers are tested.
+/// An entry, before the ranges of its numbers are checked.
 #[derive(Clone, Copy)]
 pub enum EntryForm {
-    /// All of its bytes.
+    /// All 64 bytes, as hex digits.
     Written(Sqe),
     Numbers(EntryNumbers),
 }
 
-// The numbers at an entry's keys, 0 where a key is missing.
+// Reads the numbers at an entry's keys. A missing one is 0.
 fn entry_numbers(value: &Value) -> Option<EntryNumbers>
     ensures { result ≡ entry_numbers (view value.now) }
 {
@@ -66,7 +66,7 @@ fn object_form(value: &Value) -> Option<EntryForm>
     }
 }
 
-// The entry whose bytes 128 hex digits are.
+// Decodes an entry's 64 bytes from 128 hex digits.
 fn entry_of_text(text: &str) -> Option<Sqe>
     ensures { result ≡ entry_of_text text.now }
 {
@@ -77,7 +77,7 @@ fn entry_of_text(text: &str) -> Option<Sqe>
     }
 }
 
-/// The form of an entry.
+/// Reads an entry without checking the ranges of its numbers.
 pub fn entry_form(value: &Value) -> Option<EntryForm>
     ensures { result ≡ entry_form (view value.now) }
 {
@@ -107,7 +107,7 @@ fn entry_of_numbers(numbers: &EntryNumbers) -> Option<Sqe>
     })
 }
 
-/// The entry of a form whose numbers keep their ranges.
+/// Returns the entry if its numbers are in their ranges.
 pub fn entry_in_range(form: &EntryForm) -> Option<Sqe>
     ensures { result ≡ entry_in_range form.now }
 {

@@ -1,4 +1,4 @@
-//! Events of the schedule.
+//! The events of a schedule.
 ghost use Rattle.std.specs.Prelude.{◌≡◌, ◌≤◌, map, length};
 ghost use Rattle.serde_json.specs.View.{view};
 ghost use Rattle.script.specs.Faults.{Gives};
@@ -13,7 +13,7 @@ use scenario::Event;
 use serde_json::Value;
 use std::alloc::Global;
 
-/// What a Finish chooses, before the range of its number is tested.
+/// The choice of a Finish, before the range of its number is checked.
 #[derive(Clone, Copy)]
 pub enum ChoiceForm {
     Full,
@@ -21,7 +21,7 @@ pub enum ChoiceForm {
     Eio,
 }
 
-/// An event, before the ranges of its numbers are tested.
+/// An event, before the ranges of its numbers are checked.
 #[derive(Clone, Copy)]
 pub enum EventForm {
     Step(Whole),
@@ -33,7 +33,7 @@ pub enum EventForm {
     Tick(Whole),
 }
 
-// The events of a word and one number.
+// Returns the event that has a word and one number.
 fn event_of_number(word: &str, n: Whole) -> Option<EventForm>
     ensures { result ≡ event_of_number word.now n }
 {
@@ -71,7 +71,7 @@ fn choice_words(items: &[Value]) -> Option<ChoiceForm>
     choice_by(first.as_str()?, rest)
 }
 
-// An event by its word and the items after it.
+// Returns the event by its word and the items after it.
 fn event_by(word: &str, rest: &[Value]) -> Option<EventForm>
     ensures { result ≡ event_by word.now (map view rest.now) }
 {
@@ -131,7 +131,7 @@ fn event_in_range(form: &EventForm) -> Option<Event>
     }
 }
 
-/// An event of the schedule.
+/// Reads the event at an index of the schedule.
 pub fn read_event(index: u32, value: &Value) -> Result<Event, ScriptFault>
     ensures { result ≡ event_at index (view value.now) }
 {
@@ -145,7 +145,7 @@ pub fn read_event(index: u32, value: &Value) -> Result<Event, ScriptFault>
     }
 }
 
-/// The events of a list, up to the first fault.
+/// Reads the events of a list, up to the first fault.
 pub fn read_events(alloc: Global, items: &[Value]) -> Result<Vec<Event>, ScriptFault>
     requires { length items.now ≤ 65536 }
     ensures { Gives (λ v. v.items) result (each event_at 0 (map view items.now)) }

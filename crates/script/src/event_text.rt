@@ -4,7 +4,7 @@ use entries::Choice;
 use scenario::Event;
 use std::fmt;
 
-/// An event as it stands in a schedule, without its marks.
+/// Formats an event as a schedule writes it, without quotes and brackets.
 #[derive(Clone, Copy)]
 pub struct EventText(pub Event);
 
@@ -28,7 +28,7 @@ impl fmt::Display for EventText {
     }
 }
 
-// A choice behind a space, or nothing where all goes well.
+// Formats a choice after a space. A full success has no text.
 #[derive(Clone, Copy)]
 struct ChoiceText(Choice);
 

@@ -1,6 +1,6 @@
-//! What can be wrong with a script, and where.
+//! The faults of a script, and their positions.
 
-/// A key of a script, in the order in which they are tested.
+/// A key of a script, in the order in which the keys are checked.
 #[derive(Clone, Copy, Debug, PartialEq, Eq)]
 pub enum Key {
     /// The whole text.
@@ -17,7 +17,7 @@ pub enum Key {
     Schedule,
 }
 
-/// Where in a script something stands: a key, and up to two indexes of its items.
+/// A position in a script: a key, and up to two indexes.
 #[derive(Clone, Copy, Debug, PartialEq, Eq)]
 pub struct Path {
     pub key: Key,
@@ -26,18 +26,18 @@ pub struct Path {
     pub inner: Option<u32>,
 }
 
-/// What is wrong with a script: the first fault in the order of its keys.
+/// The first fault of a script, in the order of its keys.
 #[derive(Clone, Copy, Debug, PartialEq, Eq)]
 pub enum ScriptFault {
-    /// The text is no JSON value, or nests too deep for one.
+    /// The text isn't valid JSON, or it is nested too deeply.
     NotJson,
-    /// A value is of another form than its key or item asks for.
+    /// A value doesn't have the shape that its key or item requires.
     Shape(Path),
-    /// A whole number is out of its range.
+    /// A number is out of its range, or a name or a descriptor is invalid.
     Range(Path),
-    /// There are more items or bytes than a script may have.
+    /// There are too many items or bytes.
     Limit(Path),
-    /// Memory was refused.
+    /// An allocation failed.
     Memory,
 }
 
@@ -45,7 +45,7 @@ impl ScriptFault {
     ghost use Rattle.std.specs.Prelude.{◌≡◌};
     ghost use Rattle.script.specs.Faults.{number_of};
 
-    /// Its number, 1 to 5.
+    /// Returns the fault's number, 1 to 5.
     pub fn number(&self) -> u32
         ensures { result ≡ number_of self.now }
     {

@@ -1,4 +1,4 @@
-//! Instructions of a thread.
+//! The instructions of a thread.
 ghost use Rattle.std.specs.Prelude.{◌≡◌, map};
 ghost use Rattle.serde_json.specs.View.{view};
 ghost use Rattle.script.specs.Faults.{Gives, shaped};
@@ -15,7 +15,7 @@ use scenario::Instruction;
 use serde_json::Value;
 use std::alloc::Global;
 
-/// An instruction, before its limits and ranges are tested.
+/// An instruction, before its limits and ranges are checked.
 #[derive(Drop)]
 pub enum InstructionForm {
     Put(Whole, EntryForm),
@@ -26,7 +26,7 @@ pub enum InstructionForm {
     Close(Whole),
 }
 
-// An instruction by its word and the items after it.
+// Returns the instruction by its word and the items after it.
 fn instruction_by(word: &str, rest: &[Value]) -> Option<InstructionForm>
     ensures { result ≡ instruction_by word.now (map view rest.now) }
 {
@@ -56,7 +56,7 @@ fn instruction_by(word: &str, rest: &[Value]) -> Option<InstructionForm>
     }
 }
 
-// A store, by the items after its word.
+// Returns a store by the items after its word.
 fn store_by(alloc: Global, path: Path, rest: &[Value]) -> Result<InstructionForm, ScriptFault>
     ensures { Gives (λ form. form) result (shaped path (store_by (map view rest.now))) }
 {
@@ -111,7 +111,7 @@ fn keeps_limits(form: &InstructionForm) -> bool
     }
 }
 
-// A slot that a ring of this size has.
+// Returns the slot if a ring of this size has it.
 fn slot_below(size: u32, slot: Whole) -> Option<u32>
     ensures { result ≡ below size slot }
 {
@@ -147,7 +147,7 @@ fn instruction_in_range(size: u32, form: InstructionForm) -> Option<Instruction>
     }
 }
 
-/// An instruction of a thread, over a ring of so many slots.
+/// Reads an instruction of a thread. The submission ring has `size` slots.
 pub fn read_instruction(
     alloc: Global,
     size: u32,

@@ -1,4 +1,4 @@
-//! Readers of single keys and items, for those who look behind a script's first fault.
+//! Readers of single keys and items, for a caller that reports all faults of a script.
 
 pub use crate::descriptor::read_descriptor;
 pub use crate::event::read_event;

@@ -1,4 +1,4 @@
-//! Where things stand, the keys of objects, and lists.
+//! Paths of faults, the allowed keys of JSON objects, and lists.
 ghost use Rattle.std.specs.Prelude.{◌≡◌, map, option_map, string_bytes};
 ghost use Rattle.std.specs.List.{list_all};
 ghost use Rattle.std.specs.BTreeMap.{keys};
@@ -12,7 +12,7 @@ ghost use Rattle.script.specs.Scripts.{is_script_key};
 use crate::fault::{Key, Path, ScriptFault};
 use serde_json::{Map, Value};
 
-/// A key by itself.
+/// Returns the path of a key.
 pub fn key_path(key: Key) -> Path
     ensures { result ≡ at_key key }
 {
@@ -23,7 +23,7 @@ pub fn key_path(key: Key) -> Path
     }
 }
 
-/// An item at a key.
+/// Returns the path of an item of the list at a key.
 pub fn item_path(key: Key, item: u32) -> Path
     ensures { result ≡ at_item key item }
 {
@@ -34,7 +34,7 @@ pub fn item_path(key: Key, item: u32) -> Path
     }
 }
 
-/// An item of an item at a key.
+/// Returns the path of an item within an item.
 pub fn inner_path(key: Key, item: u32, inner: u32) -> Path
     ensures { result ≡ at_inner key item inner }
 {
@@ -45,7 +45,7 @@ pub fn inner_path(key: Key, item: u32, inner: u32) -> Path
     }
 }
 
-/// The items of a list.
+/// Returns the items of a list, or a shape fault.
 pub fn items_of(value: &Value, path: Path) -> Result<&[Value], ScriptFault>
     ensures { Gives (λ items. map view items.now) result (listed path (view value.now)) }
 {
@@ -55,7 +55,7 @@ pub fn items_of(value: &Value, path: Path) -> Result<&[Value], ScriptFault>
     }
 }
 
-/// The items of a list at a key that may be missing, and has none then.
+/// Returns the list at an optional key, which is empty by default.
 pub fn items_at<'a>(key: Key, found: Option<&'a Value>) -> Result<&'a [Value], ScriptFault>
     ensures { Gives (λ items. map view items.now) result
         (list_at key (option_map (λ v. view v.now) found.entry)) }
@@ -66,7 +66,7 @@ pub fn items_at<'a>(key: Key, found: Option<&'a Value>) -> Result<&'a [Value], S
     }
 }
 
-/// Whether a key is one of a script.
+/// Whether a script can have this key.
 pub fn is_script_key(key: &str) -> bool
     ensures { result ≡ is_script_key key.now }
 {
@@ -85,7 +85,7 @@ pub fn is_script_key(key: &str) -> bool
     )
 }
 
-/// Whether a key is one of an entry.
+/// Whether an entry can have this key.
 pub fn is_entry_key(key: &str) -> bool
     ensures { result ≡ is_entry_key key.now }
 {
@@ -107,7 +107,7 @@ fn has_entry_keys(members: &Map<String, Value>) -> bool
     members.keys().all(|key| is_entry_key(key))
 }
 
-/// Whether a key is one of an object of a setup.
+/// Whether an object of a setup can have this key.
 pub fn is_object_key(key: &str) -> bool
     ensures { result ≡ is_object_key key.now }
 {
@@ -129,7 +129,7 @@ fn is_script_object(value: &Value) -> bool
     }
 }
 
-/// Whether a value is an object with no other key than an entry's.
+/// Whether a value is a JSON object with only the keys of an entry.
 pub fn is_entry_object(value: &Value) -> bool
     ensures { result ≡ has_keys is_entry_key (view value.now) }
 {
@@ -139,7 +139,7 @@ pub fn is_entry_object(value: &Value) -> bool
     }
 }
 
-/// Whether a value is an object of JSON with no other key than an object's of a setup.
+/// Whether a value is a JSON object with only the keys of an object of a setup.
 pub fn is_object_of_script(value: &Value) -> bool
     ensures { result ≡ has_keys is_object_key (view value.now) }
 {
@@ -149,7 +149,7 @@ pub fn is_object_of_script(value: &Value) -> bool
     }
 }
 
-/// Tests that a document is an object with no other key than a script's.
+/// Checks that a document is a JSON object with only the keys of a script.
 pub fn script_object(value: &Value, path: Path) -> Result<(), ScriptFault>
     ensures { result ≡ keyed is_script_key path (view value.now) }
 {

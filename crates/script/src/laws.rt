@@ -3,7 +3,7 @@ ghost use Rattle.std.specs.Prelude.{◌≡◌, ℕ, List, Result};
 ghost use Rattle.script.specs.declared.fault.ScriptFault.{ScriptFault};
 ghost use Rattle.script.specs.Scripts.{Scenario, Reads};
 
-/// A text is read as one thing: one script, or one first fault.
+/// A text has one reading: a script, or its first fault.
 pub fn texts_read_alike()
     ensures { (text : List ℕ) (one other : Result Scenario ScriptFault) → Reads text one
         → Reads text other → one ≡ other }

@@ -1,5 +1,5 @@
-//! Scripts: a JSON text that gives a setup and a schedule of events; and traces, given on from
-//! their crate. And what those that read either have in common: an event's words, and the faults.
+//! Reads scripts: JSON texts with a setup and a schedule of events. It re-exports the functions for
+//! traces, and defines what readers of both share: event texts and faults.
 #![tactic(auto)]
 
 mod descriptor;

@@ -1,4 +1,4 @@
-//! What ends a log early.
+//! Why the log of a run ends early.
 ghost use Rattle.std.specs.Prelude.{◌≡◌};
 ghost use Rattle.script.specs.Logs.{fault_by};
 
@@ -6,21 +6,21 @@ use crate::fault::ScriptFault;
 use scenario::Refusal;
 use traces::TraceFault;
 
-/// Why a log, or what else is told of a run, ended early.
+/// Why a log, or another report of a run, ended early.
 #[derive(Clone, Copy)]
 pub enum LogFault {
     /// The first fault of the script.
     Script(ScriptFault),
     /// The first fault of the trace.
     Trace(TraceFault),
-    /// The event at this index was refused, and why.
+    /// The event at this index was refused for this reason.
     Schedule(u32, Refusal),
-    /// A write or a flush failed, or a write took nothing.
+    /// A write or a flush failed, or a write accepted no bytes.
     Write,
     Memory,
 }
 
-/// What an event that is refused ends a log by.
+/// Returns the fault of a log that ends at a refused event.
 pub fn fault_by(index: u32, refusal: Refusal) -> LogFault
     ensures { result ≡ fault_by index refusal }
 {

@@ -1,4 +1,4 @@
-//! Bytes in hex, and the memory that they make.
+//! Bytes in hex, and the initial memory.
 ghost use Rattle.std.specs.Prelude.{◌≡◌, ◌+◌, ◌≤◌, map, length, IfOk};
 ghost use Rattle.serde_json.specs.View.{view};
 ghost use Rattle.script.specs.Faults.{Gives, shaped};
@@ -15,14 +15,14 @@ use std::alloc::{AllocError, Global};
 
 const MEMORY_SIZE: usize = 65536;
 
-/// Bytes of memory from an address on, before their limit and their place are tested.
+/// Bytes at an address of memory, before their number and the address are checked.
 #[derive(Drop)]
 pub struct Piece {
     pub address: Whole,
     pub bytes: Items<u8>,
 }
 
-/// The bytes that a text writes in hex.
+/// Decodes a text of hex digits.
 pub fn read_bytes(alloc: Global, path: Path, value: &Value) -> Result<Items<u8>, ScriptFault>
     ensures { Gives (λ bytes. bytes) result (shaped path (bytes_of (view value.now))) }
 {
@@ -36,7 +36,7 @@ pub fn read_bytes(alloc: Global, path: Path, value: &Value) -> Result<Items<u8>,
     }
 }
 
-/// An address from which bytes lie within the memory.
+/// Returns the address if all of the bytes fit into the 65,536 bytes of memory.
 pub fn placed(bytes: &Items<u8>, address: Whole) -> Option<u32>
     ensures { result ≡ placed bytes.now address }
 {
@@ -74,7 +74,7 @@ fn piece_form(alloc: Global, path: Path, value: &Value) -> Result<Piece, ScriptF
     }
 }
 
-// Writes bytes over others, from an index on.
+// Overwrites bytes with others, from index `at` on.
 fn overwrite(bytes: &mut Vec<u8>, at: usize, others: &[u8])
     requires { at + length others.now ≤ length bytes.old.items }
     ensures next { bytes.new.items ≡ overwritten bytes.old.items at others.now }
@@ -84,7 +84,7 @@ fn overwrite(bytes: &mut Vec<u8>, at: usize, others: &[u8])
     bytes[at..end].copy_from_slice(others);
 }
 
-/// Writes an item over the memory.
+/// Writes the piece at an index of the list to memory.
 pub fn write_piece(
     alloc: Global,
     memory: &mut Vec<u8>,
@@ -96,7 +96,7 @@ pub fn write_piece(
         (piece_at memory.old.items index (view value.now)) }
     ensures len { length memory.new.items ≡ 65536 }
 {
-    // No text is long enough for so many items.
+    // A script of at most 8,388,608 bytes has fewer items.
     let Ok(number) = u32::try_from(index) else {
         return Err(ScriptFault::Memory);
     };
@@ -112,7 +112,7 @@ pub fn write_piece(
     Ok(())
 }
 
-/// So many zeros.
+/// Returns `size` zero bytes.
 #[tactic(auto, unfolding(crate::specs::Memory::zeros))]
 pub fn make_zeros(alloc: Global, size: usize) -> Result<Vec<u8>, AllocError>
     ensures ok { IfOk result (λ v. v.items ≡ zeros size) }
@@ -121,7 +121,7 @@ pub fn make_zeros(alloc: Global, size: usize) -> Result<Vec<u8>, AllocError>
     vec![in alloc; 0; size]
 }
 
-/// The memory that a list of pieces makes, one written over the other.
+/// Returns the memory: zeros, over which the pieces are written in order.
 pub fn read_pieces(alloc: Global, items: &[Value]) -> Result<Items<u8>, ScriptFault>
     ensures { Gives (λ memory. memory) result
         (folded piece_at (zeros 65536) 0 (map view items.now)) }

@@ -1,4 +1,4 @@
-//! Objects, numbered by their names in the order of the script.
+//! Looks up objects by name.
 ghost use Rattle.std.specs.Prelude.{◌≡◌, ◌<◌, ◌++◌, ◌∷◌, [], IfOk, IfErr, length, false, position};
 ghost use Rattle.std.specs.List.{list_any};
 ghost use Rattle.scenario.specs.Setups.{is_named};
@@ -9,7 +9,7 @@ use places::{Items, Object};
 use std::alloc::Global;
 use std::marker::Model;
 
-/// At most 32 objects, and the set of their names, which gives each name its number.
+/// At most 32 objects, and an index from their names to their numbers.
 #[derive(Drop)]
 pub struct NamedObjects<'a> {
     objects: Vec<Object>,
@@ -29,7 +29,7 @@ impl<'a> Model for NamedObjects<'a> {
 }
 
 impl<'a> NamedObjects<'a> {
-    /// No objects. It takes no memory.
+    /// Returns an empty set. It doesn't allocate.
     pub fn new(alloc: Global) -> NamedObjects<'a>
         ensures { result ≡ [] }
     {
@@ -39,14 +39,14 @@ impl<'a> NamedObjects<'a> {
         }
     }
 
-    /// Whether an object has a name.
+    /// Whether an object has this name.
     pub fn has(&self, name: &str) -> bool
         ensures { result ≡ list_any (is_named name.now) self.now }
     {
         self.names.contains(name)
     }
 
-    /// One object more.
+    /// Returns the set with one more object. An error is `ScriptFault::Memory`.
     pub fn with(self, name: &'a str, object: Object) -> Result<NamedObjects<'a>, ScriptFault>
         requires same { object.name ≡ name.now }
         requires new { list_any (is_named object.name) self ≡ false }
@@ -68,7 +68,7 @@ impl<'a> NamedObjects<'a> {
         Ok(named)
     }
 
-    /// The number of the object that has a name.
+    /// Returns the number of the object with this name.
     pub fn number_of(&self, name: &str) -> Option<u32>
         ensures { result ≡ position (is_named name.now) self.now }
     {
@@ -78,14 +78,14 @@ impl<'a> NamedObjects<'a> {
         }
     }
 
-    /// The objects, lent.
+    /// Borrows the objects.
     pub fn as_slice(&self) -> &[Object]
         ensures { result.now ≡ self.now }
     {
         &self.objects
     }
 
-    /// The objects.
+    /// Returns the objects.
     pub fn into_items(self) -> Items<Object>
         ensures { result ≡ self.entry }
     {

@@ -1,4 +1,4 @@
-//! Whole numbers, as a JSON text writes them.
+//! Whole numbers in a JSON text, and their ranges.
 ghost use Rattle.std.specs.Prelude.{◌≡◌, option_map};
 ghost use Rattle.serde_json.specs.View.{view};
 ghost use Rattle.script.specs.Numbers.{whole_of, whole_or_zero, between, signed_word, number_between};
@@ -6,14 +6,14 @@ ghost use Rattle.script.specs.Numbers.{whole_of, whole_or_zero, between, signed_
 use crate::fault::{Path, ScriptFault};
 use serde_json::Value;
 
-/// A whole number, before its range is tested.
+/// A whole number, before its range is checked.
 #[derive(Clone, Copy)]
 pub enum Whole {
     Natural(u64),
     Negative(i64),
 }
 
-/// The whole number that a value is. 1.0, 1e2 and -0 are none.
+/// Returns the whole number in a value. 1.0, 1e2 and -0 aren't accepted.
 pub fn whole_of(value: &Value) -> Option<Whole>
     ensures { result ≡ whole_of (view value.now) }
 {
@@ -26,7 +26,7 @@ pub fn whole_of(value: &Value) -> Option<Whole>
     }
 }
 
-/// The whole number of a member that may be missing, and is 0 then.
+/// Returns the whole number of an optional member, which is 0 by default.
 pub fn whole_or_zero(found: Option<&Value>) -> Option<Whole>
     ensures { result ≡ whole_or_zero (option_map (λ v. view v.now) found.entry) }
 {
@@ -36,7 +36,7 @@ pub fn whole_or_zero(found: Option<&Value>) -> Option<Whole>
     }
 }
 
-/// A number from low to high.
+/// Returns the number if it is within low..=high.
 pub fn between(low: u64, high: u64, number: Whole) -> Option<u64>
     ensures { result ≡ between low high number }
 {
@@ -46,7 +46,7 @@ pub fn between(low: u64, high: u64, number: Whole) -> Option<u64>
     }
 }
 
-/// A number of a `u8`.
+/// Returns the number if it fits a `u8`.
 pub fn byte(number: Whole) -> Option<u8>
     ensures { result ≡ between 0 255 number }
 {
@@ -56,7 +56,7 @@ pub fn byte(number: Whole) -> Option<u8>
     }
 }
 
-/// A number of a `u16`.
+/// Returns the number if it fits a `u16`.
 pub fn half_word(number: Whole) -> Option<u16>
     ensures { result ≡ between 0 65535 number }
 {
@@ -66,7 +66,7 @@ pub fn half_word(number: Whole) -> Option<u16>
     }
 }
 
-/// A number of a `u32`.
+/// Returns the number if it fits a `u32`.
 pub fn word(number: Whole) -> Option<u32>
     ensures { result ≡ between 0 4294967295 number }
 {
@@ -76,14 +76,14 @@ pub fn word(number: Whole) -> Option<u32>
     }
 }
 
-/// A number of a `u64`.
+/// Returns the number if it fits a `u64`.
 pub fn long(number: Whole) -> Option<u64>
     ensures { result ≡ between 0 18446744073709551615 number }
 {
     between(0, u64::MAX, number)
 }
 
-/// A number of an `i32`.
+/// Returns the number if it fits an `i32`.
 pub fn signed_word(number: Whole) -> Option<i32>
     ensures { result ≡ signed_word number }
 {
@@ -101,7 +101,7 @@ pub fn signed_word(number: Whole) -> Option<i32>
     }
 }
 
-/// A whole number from low to high at a key, or its fault.
+/// Reads a whole number within low..=high, or returns a fault at the path.
 pub fn number_between(path: Path, low: u64, high: u64, value: &Value) -> Result<u64, ScriptFault>
     ensures { result ≡ number_between path low high (view value.now) }
 {

@@ -1,4 +1,4 @@
-//! Objects, as a script writes them.
+//! The objects of a script.
 ghost use Rattle.std.specs.Prelude.{◌≡◌, ◌<◌, ◌≤◌, ◌+◌, [], map, option_map, length, IfOk};
 ghost use Rattle.serde_json.specs.View.{view};
 ghost use Rattle.script.specs.Faults.{Gives, shaped};
@@ -15,10 +15,10 @@ use scenario::is_name;
 use serde_json::Value;
 use std::alloc::Global;
 
-// An eventfd never counts to the largest number of 64 bits (eventfd(2)).
+// The maximum of an eventfd's counter is 2^64 - 2 (eventfd(2)).
 const LARGEST_COUNTER: u64 = u64::MAX - 1;
 
-/// What an object is, before its limits and ranges are tested.
+/// The contents of an object, before their limits and ranges are checked.
 #[derive(Drop)]
 pub enum ContentsForm {
     File(Items<u8>),
@@ -26,14 +26,14 @@ pub enum ContentsForm {
     EventFd(Whole),
 }
 
-/// An object, before its limits and ranges are tested.
+/// An object, before its limits and ranges are checked.
 #[derive(Drop)]
 pub struct Found<'a> {
     pub name: &'a str,
     pub contents: ContentsForm,
 }
 
-// Just one of the three.
+// Requires exactly one of the three.
 fn one_of(
     alloc: Global,
     path: Path,
@@ -125,7 +125,7 @@ fn is_new_name(before: &NamedObjects<'_>, name: &str) -> bool
     is_name(name.as_bytes()) && !before.has(name)
 }
 
-/// The objects before, and then an item.
+/// Reads the object at an index of the list, and appends it to the earlier ones.
 pub fn with_object<'a>(
     alloc: Global,
     before: NamedObjects<'a>,
@@ -157,7 +157,7 @@ pub fn with_object<'a>(
     before.with(found.name, object)
 }
 
-/// The objects of a list, up to the first fault.
+/// Reads the objects of a list, up to the first fault.
 pub fn read_object_list<'a>(
     alloc: Global,
     items: &'a [Value],

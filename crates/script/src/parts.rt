@@ -12,7 +12,7 @@ pub struct Script {
     schedule: Items<Event>,
 }
 
-// By hand, so that letting a script go is one step of a proof.
+// Written by hand, so that dropping a script is one step of a proof.
 impl Drop for Script {
     fn drop(self) {
         let Script {
@@ -40,7 +40,7 @@ impl Script {
         Script { setup, schedule }
     }
 
-    /// What its run starts from.
+    /// The start of the run.
     pub fn setup(&self) -> &Setup
         ensures value { result.now ≡ self.now.setup }
         ensures kept { Startable self.now }
@@ -48,7 +48,7 @@ impl Script {
         &self.setup
     }
 
-    /// The events that it runs at first.
+    /// The events of the run.
     pub fn schedule(&self) -> &[Event]
         ensures value { result.now ≡ self.now.schedule }
         ensures kept { Startable self.now }

@@ -1,4 +1,4 @@
-//! Reading a script, key by key.
+//! Reads a script, key by key.
 ghost use Rattle.std.specs.Prelude.{◌≡◌, ◌≢◌, ◌<◌, ◌⊎◌, length, option_map, IfOk, IfErr};
 ghost use Rattle.serde_json.specs.View.{view};
 ghost use Rattle.script.specs.Faults.{Gives};
@@ -23,7 +23,7 @@ use std::alloc::Global;
 
 const LIMIT: usize = 8388608;
 
-/// The places of the submission ring.
+/// Reads the number of submission entries.
 pub fn read_entries(found: Option<&Value>) -> Result<u32, ScriptFault>
     ensures { result ≡ entries_of (option_map (λ v. view v.now) found.entry) }
 {
@@ -35,7 +35,7 @@ pub fn read_entries(found: Option<&Value>) -> Result<u32, ScriptFault>
     Ok(n as u32)
 }
 
-/// The places of the completion ring, if the key is there.
+/// Reads the number of completion entries, if the key is there.
 pub fn read_cq(entries: u32, found: Option<&Value>) -> Result<Option<u32>, ScriptFault>
     ensures { result ≡ cq_of entries (option_map (λ v. view v.now) found.entry) }
 {
@@ -51,7 +51,7 @@ pub fn read_cq(entries: u32, found: Option<&Value>) -> Result<Option<u32>, Scrip
     }
 }
 
-/// A key that is true or false.
+/// Reads an optional boolean, which is false by default.
 pub fn read_flag(key: Key, found: Option<&Value>) -> Result<bool, ScriptFault>
     ensures { result ≡ flag_of key (option_map (λ v. view v.now) found.entry) }
 {
@@ -61,7 +61,7 @@ pub fn read_flag(key: Key, found: Option<&Value>) -> Result<bool, ScriptFault>
     value.as_bool().ok_or(ScriptFault::Shape(key_path(key)))
 }
 
-/// Where the ring words start.
+/// Reads the initial value of the heads and tails of both rings, which is 0 by default.
 pub fn read_base(found: Option<&Value>) -> Result<u32, ScriptFault>
     ensures { result ≡ base_of (option_map (λ v. view v.now) found.entry) }
 {
@@ -142,7 +142,7 @@ fn read_fds(
     Ok(Items::of(descriptors))
 }
 
-// The script that a JSON value is.
+// Reads a script from a JSON value.
 fn script_from(alloc: Global, value: &Value) -> Result<Script, ScriptFault>
     ensures { Gives (λ s. s) result (script_of (view value.now)) }
 {
@@ -171,7 +171,7 @@ fn script_from(alloc: Global, value: &Value) -> Result<Script, ScriptFault>
     Ok(Script::of(setup, schedule))
 }
 
-/// The script that a text is, or its first fault. A text has at most 8,388,608 bytes.
+/// Reads a script from a text of at most 8,388,608 bytes, or returns its first fault.
 pub fn read_script(alloc: Global, text: &[u8]) -> Result<Script, ScriptFault>
     ensures ok { IfOk result (λ s. Reads text.now (Ok s)) }
     ensures fault { IfErr result (λ e. e ≢ ScriptFault.Memory → Reads text.now (Err e)) }

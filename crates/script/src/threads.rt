@@ -1,4 +1,4 @@
-//! Programs of the threads.
+//! The programs of the threads.
 ghost use Rattle.std.specs.Prelude.{◌≤◌, map, length};
 ghost use Rattle.serde_json.specs.View.{view};
 ghost use Rattle.script.specs.Faults.{Gives};
@@ -50,7 +50,7 @@ fn read_thread(
     Ok(Items::of(instructions))
 }
 
-/// The programs of a list, up to the first fault.
+/// Reads the programs of a list, up to the first fault.
 pub fn read_thread_list(
     alloc: Global,
     size: u32,

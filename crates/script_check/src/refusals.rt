@@ -1,6 +1,6 @@
 //! Sentences about events that are refused: why, and what would let them happen.
 
-use entries::{Phase, Row};
+use entries::{IORING_SQ_CQ_OVERFLOW, Phase, Row};
 use links_drains::is_guard;
 use machine::{Event, Refusal, Setup, State, ring_size};
 use opcodes::{Choice, is_timer};
@@ -11,9 +11,6 @@ use std::alloc::{AllocError, Global};
 
 /// The most rows of a run.
 const MOST_ROWS: u32 = 65536;
-
-/// The bit of sq.flags that says that completions are kept (io_uring_setup(2), CQ_OVERFLOW).
-const CQ_OVERFLOW: u64 = 2;
 
 /// The bits of a ring's word.
 const WORD: u64 = 0xffff_ffff;
@@ -57,7 +54,7 @@ fn completions_waiting(state: &State) -> u64 {
 
 // What brings completions into the ring. One that is posted while others are kept goes behind those.
 fn remedy_for_completions(state: &State) -> &'static str {
-    if number_at(state, Place::SubmissionFlags) & CQ_OVERFLOW == 0 {
+    if number_at(state, Place::SubmissionFlags) & IORING_SQ_CQ_OVERFLOW as u64 == 0 {
         "requests must end first"
     } else {
         "some are kept in the backlog, which an enter with GETEVENTS (flags 1) moves into the ring"

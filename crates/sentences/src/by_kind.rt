@@ -120,7 +120,7 @@ pub fn sentence(alloc: Global, run: &Run<'_>, index: usize) -> Result<String, Al
             uses::closed(alloc, run, finding.subject, finding.moment, stood)
         }
         Kind::RefusedFlags => rings::refused_flags(alloc, run, finding.subject, finding.moment),
-        Kind::Waits => rings::waits(alloc, run, finding.subject),
+        Kind::Waits => rings::waits(alloc, run, finding.subject, finding.moment),
         Kind::LostWakeUp => rings::lost_wake_up(alloc, run),
         Kind::NotTaken => rings::not_taken(alloc, run),
         Kind::NotReaped => rings::not_reaped(alloc, run),

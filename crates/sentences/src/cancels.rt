@@ -3,7 +3,7 @@
 use crate::about::About;
 use crate::names::{OpcodeName, ResultName, RowName};
 use crate::run::Run;
-use entries::{Row, Sqe};
+use entries::{IORING_ASYNC_CANCEL_FD, Row, Sqe};
 use finding_kinds::MOST_ROWS;
 use opcodes::{Op, uses_descriptor};
 use std::alloc::{AllocError, Global};
@@ -14,11 +14,8 @@ const POLL_REMOVE_RULE: &str = "(io_uring_enter(2), IORING_OP_POLL_REMOVE)";
 
 const TIMEOUT_REMOVE_RULE: &str = "(io_uring_enter(2), IORING_OP_TIMEOUT_REMOVE)";
 
-/// IORING_ASYNC_CANCEL_FD.
-const BY_DESCRIPTOR: u32 = 2;
-
 fn is_by_descriptor(entry: &Sqe) -> bool {
-    entry.opcode == Op::AsyncCancel as u8 && entry.operation_flags & BY_DESCRIPTOR != 0
+    entry.opcode == Op::AsyncCancel as u8 && entry.operation_flags & IORING_ASYNC_CANCEL_FD != 0
 }
 
 /// The rule of a cancel or a removal.

@@ -6,20 +6,17 @@ use crate::listing::Listing;
 use crate::names::ResultName;
 use crate::rules::{ERROR_RULE, LINK_RULE, LINK_TIMEOUT_RULE};
 use crate::run::Run;
-use entries::Row;
+use entries::{IOSQE_IO_HARDLINK, Row};
 use finding_kinds::distance_to_next;
 use machine::Event;
 use std::alloc::{AllocError, Global};
 
 const HARD_RULE: &str = "(io_uring_enter(2), IOSQE_IO_HARDLINK)";
 
-/// IOSQE_IO_HARDLINK.
-const IO_HARDLINK: u8 = 8;
-
 // The rule of a row's link.
 fn rule_of_link(row: Option<Row>) -> &'static str {
     match row {
-        Some(row) if row.entry.flags & IO_HARDLINK != 0 => HARD_RULE,
+        Some(row) if row.entry.flags & IOSQE_IO_HARDLINK != 0 => HARD_RULE,
         _ => LINK_RULE,
     }
 }

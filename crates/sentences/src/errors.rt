@@ -6,30 +6,27 @@ use crate::objects::{reason_of_descriptor, reason_of_object};
 use crate::rules::ERROR_RULE;
 use crate::run::Run;
 use crate::submitting::reason_of_entry;
-use entries::Sqe;
+use entries::{EBADF, EFAULT, EFBIG, EINVAL, EPIPE, Sqe};
 use machine::Event;
 use opcodes::{Choice, Op};
 use std::alloc::{AllocError, Global};
 
-/// EBADF, EFAULT, EINVAL, EFBIG and EPIPE, negated.
-const BAD_DESCRIPTOR: i32 = -9;
+/// Where the class of an `ioprio` begins; its level is in the lowest bits (ioprio_set(2)).
+const CLASS_SHIFT: u32 = 13;
 
-const BAD_ADDRESS: i32 = -14;
+const LEVEL_MASK: u16 = 7;
 
-const INVALID: i32 = -22;
-
-const TOO_LARGE: i32 = -27;
-
-const BROKEN_PIPE: i32 = -32;
+/// IOPRIO_CLASS_IDLE, the last class.
+const IDLE_CLASS: u16 = 3;
 
 fn word_of_end(res: i32) -> &'static str {
-    if res == BAD_ADDRESS {
+    if res == -EFAULT {
         return "its buffer leaves memory";
     }
-    if res == TOO_LARGE {
+    if res == -EFBIG {
         return "a file cannot grow so far";
     }
-    if res == BROKEN_PIPE {
+    if res == -EPIPE {
         return "no descriptor of the pipe's read end is left";
     }
     "it could not be carried out"
@@ -42,10 +39,10 @@ fn reason_of_end(
     entry: &Sqe,
     res: i32,
 ) -> Result<String, AllocError> {
-    if res == BAD_DESCRIPTOR {
+    if res == -EBADF {
         return reason_of_descriptor(alloc, run, entry);
     }
-    if res == INVALID {
+    if res == -EINVAL {
         return reason_of_object(alloc, run, entry);
     }
     String::from_str(alloc, word_of_end(res))
@@ -116,6 +113,24 @@ fn named_fields(alloc: Global, entry: &Sqe) -> Result<(String, bool), AllocError
     Ok((text, are_several))
 }
 
+// Returns whether a kernel doesn't know an `ioprio`: its class is above the last one, or it has a
+// level without a class.
+fn is_unknown_priority(ioprio: u16) -> bool {
+    let class = ioprio >> CLASS_SHIFT;
+    class > IDLE_CLASS || (class == 0 && ioprio & LEVEL_MASK != 0)
+}
+
+// Returns whether a kernel answers EINVAL for a field that has no effect here: `ioprio`, or `addr`
+// of a request that has no address.
+fn is_invalid_to_kernel(entry: &Sqe) -> bool {
+    match Op::of(entry.opcode) {
+        Some(Op::Nop | Op::AsyncCancel | Op::Timeout | Op::LinkTimeout) => entry.ioprio != 0,
+        Some(Op::Read | Op::Write) => is_unknown_priority(entry.ioprio),
+        Some(Op::Fsync | Op::PollAdd) => entry.addr != 0,
+        Some(Op::PollRemove | Op::TimeoutRemove) | None => false,
+    }
+}
+
 /// Fields that have no effect.
 pub(crate) fn no_effect(alloc: Global, about: &About) -> Result<String, AllocError> {
     let name = about.name();
@@ -125,7 +140,12 @@ pub(crate) fn no_effect(alloc: Global, about: &About) -> Result<String, AllocErr
     } else {
         ("has", "it")
     };
+    let kernel = if is_invalid_to_kernel(&about.row.entry) {
+        " A kernel answers EINVAL."
+    } else {
+        ""
+    };
     format!(in alloc;
-        "Row {name} has {fields}, which {verb} no effect here: no request of this profile looks at {object} (io_uring_enter(2))."
+        "Row {name} has {fields}, which {verb} no effect here: no request of this profile looks at {object} (io_uring_enter(2)).{kernel}"
     )
 }

@@ -4,7 +4,7 @@ use crate::names::RowName;
 use crate::rules::{LINK_RULE, LINK_TIMEOUT_RULE, TIMEOUT_RULE};
 use crate::run::Run;
 use crate::waiting::waits;
-use entries::{Phase, Row};
+use entries::{IOSQE_IO_DRAIN, Phase, Row};
 use finding_kinds::{History, MOST_ROWS};
 use links_drains::{is_guard, is_unfinished};
 use machine::{Event, Refusal, Setup, State};
@@ -13,9 +13,6 @@ use places::Place;
 use std::alloc::{AllocError, Global};
 
 const DRAIN_RULE: &str = "(io_uring_enter(2), IOSQE_IO_DRAIN)";
-
-/// IOSQE_IO_DRAIN.
-const IO_DRAIN: u8 = 2;
 
 // Whether a row of a number is unfinished, no guard, and before another in its chain.
 fn is_before_in_chain(run: &Run<'_>, number: u32, unit: u32) -> bool {
@@ -30,7 +27,7 @@ fn drains(run: &Run<'_>, unit: u32) -> bool {
     for number in unit..MOST_ROWS {
         match run.row(number) {
             Some(row) if row.unit == unit => {
-                if row.entry.flags & IO_DRAIN != 0 {
+                if row.entry.flags & IOSQE_IO_DRAIN != 0 {
                     return true;
                 }
             }

@@ -1,8 +1,10 @@
 //! Sentences about rings, and threads at them.
 
 use crate::run::Run;
-use finding_kinds::instruction_at;
+use entries::{ETIME, IORING_ENTER_GETEVENTS, IORING_ENTER_SQ_WAKEUP, Phase, Row};
+use finding_kinds::{MOST_ROWS, instruction_at};
 use machine::{Event, Instruction};
+use opcodes::Op;
 use places::{Place, Stage, Value};
 use std::alloc::{AllocError, Global};
 
@@ -13,6 +15,10 @@ const WAIT_RULE: &str = "(io_uring_enter(2), IORING_ENTER_GETEVENTS)";
 const SUBMIT_RULE: &str = "(io_uring_enter(2), to_submit)";
 
 const POLLER_RULE: &str = "(io_uring_setup(2), IORING_SETUP_SQPOLL)";
+
+/// How a kernel differs: here a wait ends with as many completions as the enter asked for.
+const TIMEOUT_RETURNS: &str =
+    " A kernel returns from this enter once a TIMEOUT completes (io_uring_enter(2)).";
 
 // How many wait between a head and a tail, which are free-running words of 32 bits.
 fn waiting(run: &Run<'_>, head: Place, tail: Place) -> u64 {
@@ -56,7 +62,7 @@ pub(crate) fn busy(
 }
 
 /// The flags that an Enter may have: IORING_ENTER_GETEVENTS and IORING_ENTER_SQ_WAKEUP.
-const ENTER_FLAGS: u32 = 3;
+const ENTER_FLAGS: u32 = IORING_ENTER_GETEVENTS | IORING_ENTER_SQ_WAKEUP;
 
 /// An Enter that was answered EINVAL.
 pub(crate) fn refused_flags(
@@ -160,8 +166,36 @@ fn beyond_ring(
     }
 }
 
-/// A thread that waits.
-pub(crate) fn waits(alloc: Global, run: &Run<'_>, thread: u32) -> Result<String, AllocError> {
+// Returns whether a row is a TIMEOUT that expired, or whose count was met.
+fn is_completed_timeout(row: &Row) -> bool {
+    let completed = match row.phase {
+        Phase::Ended(res) => res == 0 || res == -ETIME,
+        Phase::Queued | Phase::Issued => false,
+    };
+    row.entry.opcode == Op::Timeout as u8 && completed
+}
+
+// Returns whether such a TIMEOUT completed by the event at a moment, or by a later one.
+fn has_completed_timeout(run: &Run<'_>, since: u32) -> bool {
+    for number in 0..run.history.rows.len().min(MOST_ROWS as usize) as u32 {
+        let completed = match run.row(number) {
+            Some(row) => is_completed_timeout(&row),
+            None => false,
+        };
+        if completed && run.ends_since(number, since) {
+            return true;
+        }
+    }
+    false
+}
+
+/// A thread that waits from a moment to the end.
+pub(crate) fn waits(
+    alloc: Global,
+    run: &Run<'_>,
+    thread: u32,
+    since: u32,
+) -> Result<String, AllocError> {
     let counter = run.number(Place::ProgramCounter(thread));
     let ready = completions(run);
     let wanted = match run.state.value(Place::ThreadStage(thread)) {
@@ -173,8 +207,13 @@ pub(crate) fn waits(alloc: Global, run: &Run<'_>, thread: u32) -> Result<String,
         Some(_) => "",
         None => ". It has what it wants, and could go on: the schedule just ends",
     };
+    let returns = if has_completed_timeout(run, since) {
+        TIMEOUT_RETURNS
+    } else {
+        ""
+    };
     format!(in alloc;
-        "Thread {thread} waits in its enter, instruction {counter}, to the end. It wants completions: {wanted}{beyond}; in the ring: {ready}{outlook} {WAIT_RULE}."
+        "Thread {thread} waits in its enter, instruction {counter}, to the end. It wants completions: {wanted}{beyond}; in the ring: {ready}{outlook} {WAIT_RULE}.{returns}"
     )
 }
 

@@ -111,6 +111,14 @@ impl Run<'_> {
         }
     }
 
+    /// Returns whether a row completed by the event at a moment, or by a later one.
+    pub(crate) fn ends_since(&self, number: u32, moment: u32) -> bool {
+        match self.times_of(number) {
+            Some(times) => times.ended.is_some() && !times.has_ended_at(moment),
+            None => false,
+        }
+    }
+
     fn unit(&self, number: u32) -> Option<u32> {
         Some(self.row(number)?.unit)
     }

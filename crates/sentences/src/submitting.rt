@@ -2,15 +2,12 @@
 
 use crate::about::About;
 use crate::run::Run;
-use entries::Sqe;
+use entries::{EFAULT, Sqe};
 use opcodes::Op;
 use std::alloc::{AllocError, Global};
 
 /// The flags of an entry that are not modelled.
 const LEFT_OUT: [u8; 4] = [1, 32, 64, 128];
-
-/// EFAULT, negated.
-const BAD_ADDRESS: i32 = -14;
 
 /// A field that an opcode refuses.
 #[derive(Clone, Copy)]
@@ -142,7 +139,7 @@ fn reason_of_op(
     {
         return format!(in alloc; "its {field} is {value}, where its opcode takes {taken}");
     }
-    if res == BAD_ADDRESS {
+    if res == -EFAULT {
         return String::from_str(alloc, "its time leaves memory");
     }
     String::from_str(

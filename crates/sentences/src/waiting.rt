@@ -2,7 +2,7 @@
 
 use crate::objects::descriptor_at;
 use crate::run::Run;
-use entries::{Row, Sqe};
+use entries::{POLLIN, POLLOUT, Row, Sqe};
 use finding_kinds::FIRST_DESCRIPTOR;
 use opcodes::Op;
 use places::{Contents, Descriptor, End, Object, Place, Value};
@@ -10,10 +10,6 @@ use std::alloc::{AllocError, Global};
 
 /// The most descriptors of a setup.
 const MOST_DESCRIPTORS: usize = 64;
-
-const POLLIN: u32 = 1;
-
-const POLLOUT: u32 = 4;
 
 /// What a request waits for at an object.
 #[derive(Clone, Copy)]

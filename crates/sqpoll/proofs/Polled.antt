@@ -1,4 +1,4 @@
--- What the poller and the ring whose flag tells of it keep together.
+-- Facts about the poller and the submission ring that has its flag.
 use Rattle.std.proofs.Common.{◌≡◌, Bool, true, false, refl, ap, List}
 use Rattle.std.specs.Prelude.{Some, unwrap_or}
 use Rattle.places.specs.declared.place.Place.{Place}
@@ -43,7 +43,7 @@ lift_submissions p s r cs ds h = record { back = back; others = others }
     others (Slot i) o = absurd cc
     others q o = h.others q refl
 
--- the poller is noted, then the flag
+-- The poller's state is recorded first, then the flags word.
 pub keeps_both : (p r : Poller) (s n : SubWords) (cs ds es : List Change) → Noted cs ds PollerStage (Some (StandsAwake (is_awake p))) → Keeps sub_owns (sub_seen s) (sub_seen n) ds es → Keeps polling_owns (polling_seen (polling_of p s)) (polling_seen (polling_of r n)) cs es
 keeps_both p r s n cs ds es h k =
     keeps_then polling_owns _ (polling_seen (polling_of r s)) _ cs ds es

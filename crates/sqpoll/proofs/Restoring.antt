@@ -1,4 +1,4 @@
--- What a poller shows, put into another.
+-- Assigning the value of one poller to another.
 use Rattle.std.proofs.Common.{◌≡◌, refl}
 use Rattle.places.specs.declared.place.Place.{Place}
 use Rattle.places.specs.declared.place.Place.TheVariants.{PollerStage}
@@ -6,7 +6,7 @@ use Rattle.sqpoll.specs.declared.poller.Poller.{Poller}
 use Rattle.sqpoll.specs.declared.poller.Poller.TheVariants.{Awake, Asleep}
 use Rattle.sqpoll.specs.Pollers.{poller_seen}
 
--- pollers that show the same are one
+-- Pollers with equal views are equal.
 pub same_poller : (s m : Poller) → ((p : Place) → poller_seen s p ≡ poller_seen m p) → s ≡ m
 same_poller Awake Awake e = refl
 same_poller Awake Asleep e = let k = e PollerStage in absurd cc

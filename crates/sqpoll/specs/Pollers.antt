@@ -1,4 +1,4 @@
--- The kernel's poller of the submission ring (io_uring_setup(2), IORING_SETUP_SQPOLL).
+-- The kernel thread that polls the submission ring (io_uring_setup(2), IORING_SETUP_SQPOLL).
 use Rattle.std.specs.Prelude.{Bool, true, false, Option, Some, None}
 use Rattle.places.specs.declared.place.Place.{Place}
 use Rattle.places.specs.declared.place.Place.TheVariants.{SubmissionHead, SubmissionTail, SubmissionFlags, SubmissionDropped, Array, Slot, PollerStage}
@@ -10,27 +10,27 @@ use Rattle.ring_words.specs.declared.flag.RingFlag.TheVariants.{NeedWakeup}
 use Rattle.sqpoll.specs.declared.poller.Poller.{Poller}
 use Rattle.sqpoll.specs.declared.poller.Poller.TheVariants.{Awake, Asleep}
 
--- whether a poller takes entries
+-- Whether the poller is awake, so that it takes entries.
 abbrev pub is_awake : Poller → Bool
 is_awake Awake = true
 is_awake Asleep = false
 
--- the poller's place
+-- The place of the poller.
 abbrev pub poller_owns : Place → Bool
 poller_owns PollerStage = true
 poller_owns _ = false
 
--- what stands in it
+-- Its value.
 abbrev pub poller_seen : Poller → View
 poller_seen p PollerStage = Some (StandsAwake (is_awake p))
 poller_seen p _ = None
 
--- whether a value may be put into it
+-- Whether a value can be assigned to it.
 abbrev pub poller_can_put : Poller → Place → Option Value → Type 0
 poller_can_put p PollerStage (Some (StandsAwake b)) = Unit {0}
 poller_can_put p place value = ⊥
 
--- the poller and the ring whose flag tells of it
+-- The poller and the submission ring that has its flag.
 pub record Polling : Type 0 where
   pub poller : Poller
   pub submissions : SubWords
@@ -38,7 +38,7 @@ pub record Polling : Type 0 where
 abbrev pub polling_of : Poller → SubWords → Polling
 polling_of p s = record { poller = p; submissions = s }
 
--- their places
+-- Their places.
 abbrev pub polling_owns : Place → Bool
 polling_owns SubmissionHead = true
 polling_owns SubmissionTail = true
@@ -49,7 +49,7 @@ polling_owns (Slot i) = true
 polling_owns PollerStage = true
 polling_owns _ = false
 
--- what stands in them: each case asks the part that owns the place
+-- The values of their places, taken from the part that owns each.
 abbrev pub polling_seen : Polling → View
 polling_seen x SubmissionHead = sub_seen x.submissions SubmissionHead
 polling_seen x SubmissionTail = sub_seen x.submissions SubmissionTail
@@ -60,10 +60,10 @@ polling_seen x (Slot i) = sub_seen x.submissions (Slot i)
 polling_seen x PollerStage = poller_seen x.poller PollerStage
 polling_seen x _ = None
 
--- the two once the poller sleeps: the flag asks the application to wake it
+-- Both after the poller falls asleep: IORING_SQ_NEED_WAKEUP is set.
 abbrev pub sleeping : Polling → Polling
 sleeping x = record { poller = Asleep; submissions = record x.submissions { flags = with_flag x.submissions.flags NeedWakeup true } }
 
--- the two once it is woken
+-- Both after the poller is woken: the flag is clear.
 abbrev pub woken : Polling → Polling
 woken x = record { poller = Awake; submissions = record x.submissions { flags = with_flag x.submissions.flags NeedWakeup false } }

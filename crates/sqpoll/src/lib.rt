@@ -1,4 +1,4 @@
-//! The kernel's poller of the submission ring (io_uring_setup(2), IORING_SETUP_SQPOLL).
+//! The kernel thread that polls the submission ring (io_uring_setup(2), IORING_SETUP_SQPOLL).
 #![tactic(auto)]
 
 mod noting;

@@ -1,4 +1,4 @@
-//! Notes that take no memory.
+//! Recording of the poller's state, into memory that is already reserved.
 ghost use Rattle.std.specs.Prelude.{◌+◌, ◌<◌, ◌≤◌, Some};
 ghost use Rattle.places.specs.View.{Noted};
 ghost use Rattle.places.specs.declared.place.Place.TheVariants.{PollerStage};
@@ -6,7 +6,7 @@ ghost use Rattle.places.specs.declared.value.Value.TheVariants.{Awake};
 
 use places::{Place, Recorder, Value};
 
-/// Notes whether the poller is awake, where there is room for the note.
+/// Records whether the poller is awake. There must be room for the note, so this cannot fail.
 pub(crate) fn note_stage(notes: &mut Recorder, awake: bool)
     requires { 0 < notes.old.others }
     ensures noted { Noted notes.old.made notes.new.made PollerStage (Some (Awake awake)) }

@@ -1,4 +1,4 @@
-//! The poller.
+//! The submission queue poller.
 ghost use Rattle.std.specs.Prelude.{◌≡◌, ◌+◌, ◌<◌, ◌≤◌, not, None};
 ghost use Rattle.places.specs.View.{Keeps, named, put_at};
 ghost use Rattle.places.specs.declared.place.Place.{Place};
@@ -9,7 +9,7 @@ use crate::noting::note_stage;
 use places::{At, Part, Place, Recorder, Value};
 use ring_words::{RingFlag, SubRing};
 
-/// The poller, which takes entries while it is awake.
+/// The submission queue poller, which takes entries while it is awake.
 #[derive(Clone, Copy)]
 pub enum Poller {
     Awake,
@@ -58,7 +58,7 @@ impl Poller {
         if awake { Poller::Awake } else { Poller::Asleep }
     }
 
-    /// Whether it takes entries: it is awake.
+    /// Returns whether the poller is awake, so that it takes entries.
     pub fn may_take(&self) -> bool
         ensures { result ≡ is_awake self.now }
     {
@@ -68,7 +68,7 @@ impl Poller {
         }
     }
 
-    /// It goes to sleep, and the ring's flag asks to wake it.
+    /// Puts the poller to sleep and sets IORING_SQ_NEED_WAKEUP.
     pub fn sleep(&mut self, submissions: &mut SubRing, notes: &mut Recorder)
         requires numbers { 0 < notes.old.numbers }
         requires others { 0 < notes.old.others }
@@ -90,7 +90,7 @@ impl Poller {
         submissions.set_flag(RingFlag::NeedWakeup, true, notes);
     }
 
-    /// It is awake, and the flag is cleared.
+    /// Wakes the poller and clears IORING_SQ_NEED_WAKEUP.
     pub fn wake(&mut self, submissions: &mut SubRing, notes: &mut Recorder)
         requires numbers { 0 < notes.old.numbers }
         requires others { 0 < notes.old.others }

@@ -1,4 +1,4 @@
--- Running the filters of a fall again adds nothing.
+-- Applying the rules of the cascade again adds nothing.
 use Rattle.std.proofs.Common.{◌≡◌, ℕ, ℤ, zero, suc, Bool, true, false, cond, refl, ◌∙◌, ap, List, [], ◌∷◌}
 use Rattle.std.specs.Prelude.{Option, Some, None, slice_get, ◌==◌, ◌||◌}
 use Rattle.std.specs.Option.{option_and_then}
@@ -10,7 +10,7 @@ use Rattle.links_drains.specs.Endings.{Ending, result_in, endings, or_else, give
 use Rattle.timeouts_cancel.specs.Falls.{joined}
 use Rattle.links_drains.proofs.Listing.{result_of, listed_at, alike}
 
--- ---- some element passes a test
+-- ---- Some item passes a test
 
 pub any_at : {X : Type 0} (p : X → Bool) (xs : List X) (i : ℕ) (x : X) → slice_get xs i ≡ Some x → p x ≡ true → list_any p xs ≡ true
 any_at p [] i x h k = absurd cc
@@ -29,9 +29,9 @@ any_found {X} p (y ∷ ys) h = by (p y) refl h (any_found p ys)
     by true e k more = (0, y, refl, e)
     by false e k more = let r = more k in (suc r.0, r.1, r.2, r.3)
 
--- ---- what is listed
+-- ---- What is listed
 
--- the result that a list has stands in it
+-- If the list has a result for a row, it has a completion with that result.
 pub result_there : (es : List Ending) (r : ℕ) (res : ℤ) → result_in es r ≡ Some res → (i : ℕ) × (slice_get es i ≡ Some (r, res))
 result_there [] r res h = absurd cc
 result_there (e ∷ es) r res h = by (e.0 == r) refl h (result_there es r res)
@@ -43,7 +43,7 @@ result_there (e ∷ es) r res h = by (e.0 == r) refl h (result_there es r res)
         (0, ap (λ x. Some (x, e.1)) a ∙ ap (λ y. Some (r, y)) b)
     by false g k more = let w = more k in (suc w.0, w.1)
 
--- what a test lists, row by row
+-- The result listed for a row.
 pub listed_row : (f : ℕ → Row → Option ℤ) (rows : List Row) (r : ℕ) (row : Row) → slice_get rows r ≡ Some row → is_unfinished row.phase ≡ true → result_in (endings f rows) r ≡ f r row
 listed_row f rows r row h u = listed_at f rows r ∙ ap (option_and_then (result_of f r)) h ∙ ap (λ b. cond b (f r row) None) u
 
@@ -59,7 +59,7 @@ pub given_is : (b : Bool) (res got : ℤ) → given b res ≡ Some got → (b �
 given_is true res got h = (refl, cc)
 given_is false res got h = absurd cc
 
--- ---- a test that gives nothing to rows that aren't listed adds nothing
+-- ---- A rule without results for unlisted rows adds nothing
 
 pub joined_nothing : (f g : ℕ → Row → Option ℤ) (rows : List Row)
     → ((r : ℕ) (row : Row) → slice_get rows r ≡ Some row → is_unfinished row.phase ≡ true → g r row ≡ None → f r row ≡ None) → joined rows f (endings g rows) ≡ endings g rows

@@ -1,4 +1,4 @@
--- The four filters, one after the other.
+-- The rules of the cascade, one after the other.
 use Rattle.std.proofs.Common.{◌≡◌, ℕ, sym, ◌∙◌, ap, subst, List, length, ◌+◌, ◌≤◌, arith}
 use Rattle.entries.specs.declared.row.Row.{Row}
 use Rattle.links_drains.specs.Endings.{Ending, result_in, Direct}
@@ -12,7 +12,7 @@ use Rattle.timeouts_cancel.proofs.Tallying.{few_counted}
 use Rattle.timeouts_cancel.proofs.Targets.{guard_result}
 use Rattle.timeouts_cancel.proofs.Whole.{ms}
 
--- ---- each filter's list is of unfinished rows, in the order of their numbers
+-- ---- Each rule's list has unfinished rows, by ascending number
 
 pub met_direct : (rows : List Row) (total : ℕ) (es : List Ending) → es ≡ met_rows rows total → Direct rows es
 met_direct rows total es h = subst (Direct rows) (sym h) (direct_endings (met_result total) rows)
@@ -23,7 +23,7 @@ joined_direct rows more es all h = subst (Direct rows) (sym h) (direct_endings _
 pub guards_direct : (rows : List Row) (listed es : List Ending) → es ≡ guarding rows listed → Direct rows es
 guards_direct rows listed es h = subst (Direct rows) (sym h) (direct_endings (guard_result listed) rows)
 
--- ---- how many there are
+-- ---- How many there are
 
 pub severed_few : (rows : List Row) (direct es : List Ending) → es ≡ severed_endings rows direct → length es ≤ length rows
 severed_few rows direct es h = let l = few_endings (result_by rows direct) rows in let e = ap length h in omega (arith, l, e)
@@ -31,7 +31,7 @@ severed_few rows direct es h = let l = few_endings (result_by rows direct) rows 
 pub counted_few : (rows : List Row) (direct es : List Ending) → es ≡ severed_endings rows direct → counted_in rows es ≤ length rows
 counted_few rows direct es h = let l = severed_few rows direct es h in let m = few_counted rows es in omega (arith, l, m)
 
--- ---- the third filter and the fourth
+-- ---- The third rule and the fourth
 
 pub met_so : (rows : List Row) (c total : ℕ) (direct severed met all : List Ending) → severed ≡ severed_endings rows direct → total ≡ c + counted_in rows severed → met ≡ met_rows rows total → all ≡ joined rows (λ r row. result_in met r) severed → all ≡ ms rows c direct
 met_so rows c total direct severed met all a t m h =

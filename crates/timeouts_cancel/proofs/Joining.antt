@@ -1,4 +1,4 @@
--- Two lists of endings are put together, one ending after the other.
+-- Merging two lists of completions, one by one.
 use Rattle.std.proofs.Common.{◌≡◌, ℕ, ℤ, Bool, true, false, cond, refl, sym, ◌∙◌, ap, List, [], ◌∷◌, ◌++◌, length, ◌+◌, ◌-◌, ◌<◌, ◌≤◌, ◌⊎◌, inl, inr, arith}
 use Rattle.std.specs.Prelude.{Option, Some, None, slice_get}
 use Rattle.entries.specs.declared.row.Row.{Row}
@@ -11,7 +11,7 @@ use Rattle.timeouts_cancel.specs.Walks.{upto}
 use Rattle.timeouts_cancel.proofs.Listed.{splits_to, splits_out, splits_past, upto_all}
 use Rattle.timeouts_cancel.proofs.Walking.{of_one, result_at, upto_more, upto_gap}
 
--- the result of the first list, or else of the second
+-- The result in the first list, or else in the second.
 abbrev pub both_of : List Ending → List Ending → ℕ → Row → Option ℤ
 both_of first second r row = or_else (result_in first r) (result_in second r)
 
@@ -25,9 +25,9 @@ neither first second r row a b = ap (λ o. cond (is_unfinished row.phase) (or_el
     none true = refl
     none false = refl
 
--- ---- the next of two lists
+-- ---- The next completion of the two lists
 
--- it is of no row that was walked over
+-- It is for none of the rows already merged.
 pub least_on : (rows : List Row) (first second : List Ending) (k i j : ℕ) (es : List Ending) (e : Ending) → Merged rows first second k i j es → IsLeast first second i j e → k ≤ e.0
 least_on rows first second k i j es e m least = by least.from
   where
@@ -41,7 +41,7 @@ firsts_least rows first second k i j es e d m least = splits_to first k i e.0 d.
 pub seconds_least : (rows : List Row) (first second : List Ending) (k i j : ℕ) (es : List Ending) (e : Ending) → Direct rows second → Merged rows first second k i j es → IsLeast first second i j e → Splits second e.0 j
 seconds_least rows first second k i j es e d m least = splits_to second k j e.0 d.rising m.seconds (least_on rows first second k i j es e m least) least.second_later
 
--- its row, and the result there
+-- It is for an unfinished row, and has the result of the merged list.
 there_is : (rows : List Row) (first second : List Ending) (k i j : ℕ) (es : List Ending) (e : Ending) → Direct rows first → Direct rows second → Merged rows first second k i j es → IsLeast first second i j e
     → (row : Row) × (slice_get rows e.0 ≡ Some row) × (result_of (both_of first second) e.0 row ≡ Some e.1)
 there_is rows first second k i j es e d f m least = by least.from
@@ -81,7 +81,7 @@ merged_next rows first second k i j p q es fs e d f m least a b h =
         (splits_out first k e.0 i r m.firsts (firsts_least rows first second k i j es e d m least) l g)
         (splits_out second k e.0 j r m.seconds (seconds_least rows first second k i j es e f m least) l g)
 
--- ---- the end of both
+-- ---- The end of both lists
 
 pub merged_all : (rows : List Row) (first second : List Ending) (k i j : ℕ) (es : List Ending) → Merged rows first second k i j es → length first ≤ i → length second ≤ j → es ≡ joined rows (λ r row. result_in second r) first
 merged_all rows first second k i j es m a b = m.listed ∙ upto_all (both_of first second) rows k (λ r row l t. neither first second r row (splits_past first k i r m.firsts a l) (splits_past second k j r m.seconds b l))

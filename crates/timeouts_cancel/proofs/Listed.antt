@@ -1,4 +1,4 @@
--- Lists of endings: how long they are, and where they split.
+-- Lists of completions: their length, and where a row number splits them.
 use Rattle.std.proofs.Common.{◌≡◌, ℕ, ℤ, Bool, true, false, cond, refl, sym, ◌∙◌, ap, List, [], ◌∷◌, length, ◌+◌, ◌<◌, ◌≤◌, ◌⊎◌, inl, inr, arith}
 use Rattle.std.specs.Prelude.{Option, Some, None, slice_get, ◌==◌}
 use Rattle.std.specs.List.{cons_option}
@@ -17,7 +17,7 @@ use Rattle.timeouts_cancel.proofs.Again.{listed_row}
 use Rattle.timeouts_cancel.proofs.Sweeping.{none_within}
 use Rattle.timeouts_cancel.proofs.Walking.{split, undirected, upto_gap}
 
--- ---- what a test lists
+-- ---- What a function lists
 
 pub direct_endings : (f : ℕ → Row → Option ℤ) (rows : List Row) → Direct rows (endings f rows)
 direct_endings f rows = record { each = λ i e h. let w = ends_at f rows i e h in (w.0, w.1, w.2); rising = rising f rows }
@@ -33,11 +33,11 @@ few_from f n (row ∷ rows) = let e = ap length (endings_step f n row rows) in l
 pub few_endings : (f : ℕ → Row → Option ℤ) (rows : List Row) → length (endings f rows) ≤ length rows
 few_endings f rows = few_from f 0 rows
 
--- rows behind the ones walked over that a test gives nothing
+-- If no row from k on has a result, the completions of the first k rows are all.
 pub upto_all : (f : ℕ → Row → Option ℤ) (rows : List Row) (k : ℕ) → ((r : ℕ) (row : Row) → k ≤ r → slice_get rows r ≡ Some row → result_of f r row ≡ None) → upto f rows k ≡ endings f rows
 upto_all f rows k h = sym (upto_gap f rows k (length rows) (λ r row l m e. h r row l e)) ∙ ap (endings f) (take_all (k + length rows) rows (omega arith))
 
--- a test by what another one lists
+-- The results may be taken from the list or from the function that made it.
 pub joined_listed : (f : ℕ → Row → Option ℤ) (rows : List Row) (es : List Ending) → joined rows (λ r row. result_in (endings f rows) r) es ≡ joined rows f es
 joined_listed f rows es = alike (λ r row. or_else (result_in es r) (result_in (endings f rows) r)) (λ r row. or_else (result_in es r) (f r row)) rows (λ r row h. by r row h (is_unfinished row.phase) refl)
   where
@@ -53,7 +53,7 @@ pub nothing_in : (es : List Ending) → (length es == 0) ≡ true → es ≡ []
 nothing_in [] h = refl
 nothing_in (e ∷ es) h = absurd (let k = eqb-true (length (e ∷ es)) 0 h in omega (arith, k))
 
--- a test that gives nothing adds none
+-- A list joined with an empty one is unchanged.
 pub joined_none : (f : ℕ → Row → Option ℤ) (rows : List Row) → joined rows (λ r row. result_in [] r) (endings f rows) ≡ endings f rows
 joined_none f rows = alike (λ r row. or_else (result_in (endings f rows) r) None) f rows (λ r row h. by r row h (is_unfinished row.phase) refl)
   where
@@ -61,9 +61,9 @@ joined_none f rows = alike (λ r row. or_else (result_in (endings f rows) r) Non
     by r row h true u = or_else_same (result_in (endings f rows) r) ∙ listed_row f rows r row h u
     by r row h false u = refl
 
--- ---- where a list splits
+-- ---- Splitting a list at a row number
 
--- what an element's row is at least, those of all later ones are
+-- A lower bound for one completion's row holds for all later ones.
 later_rows : (es : List Ending) (i n : ℕ) → Rises es → ((e : Ending) → slice_get es i ≡ Some e → n ≤ e.0) → (j : ℕ) (e : Ending) → slice_get es j ≡ Some e → i ≤ j → n ≤ e.0
 later_rows es i n rises low j e h l = by (slice_get es i) refl (split i j)
   where
@@ -72,11 +72,11 @@ later_rows es i n rises low j e h l = by (slice_get es i) refl (split i j)
     by None g (inl a) = let b = slice_get_within es j e h in absurd (none_within es i g (omega (arith, a, b)))
     by (Some p) g (inl a) = let x = low p g in let y = rises i j p e g h a in omega (arith, x, y)
 
--- no element is of the rows up to the next one's
+-- The split remains correct for a larger row number, up to the next completion's.
 pub splits_to : (es : List Ending) (k i n : ℕ) → Rises es → Splits es k i → k ≤ n → ((e : Ending) → slice_get es i ≡ Some e → n ≤ e.0) → Splits es n i
 splits_to es k i n rises s l low = record { below = λ j e h m. let x = s.below j e h m in omega (arith, x, l); above = later_rows es i n rises low }
 
--- between two rows that an index splits a list at, none is listed
+-- If an index splits a list at two row numbers, no row between them is listed.
 pub splits_out : (es : List Ending) (k n i r : ℕ) → Splits es k i → Splits es n i → k ≤ r → r < n → result_in es r ≡ None
 splits_out es k n i r s t l m = undirected es r (λ j e h same. by j e h same (split j i))
   where
@@ -84,6 +84,6 @@ splits_out es k n i r s t l m = undirected es r (λ j e h same. by j e h same (s
     by j e h same (inl a) = let x = s.below j e h a in omega (arith, x, same, l)
     by j e h same (inr a) = let x = t.above j e h a in omega (arith, x, same, m)
 
--- behind a whole list none is listed
+-- If the index is past the end of the list, no row from k on is listed.
 pub splits_past : (es : List Ending) (k i r : ℕ) → Splits es k i → length es ≤ i → k ≤ r → result_in es r ≡ None
 splits_past es k i r s l m = undirected es r (λ j e h same. let n = slice_get_within es j e h in let x = s.below j e h (omega (arith, n, l)) in omega (arith, x, same, m))

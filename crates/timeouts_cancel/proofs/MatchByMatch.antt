@@ -1,4 +1,4 @@
--- What is found, match by match.
+-- Finding matches, one by one.
 use Rattle.std.proofs.Common.{◌≡◌, ℕ, Bool, true, false, not, cond, refl, sym, ◌∙◌, ap, List, [], ◌∷◌, ◌++◌, take, ◌+◌, ◌<◌, ◌≤◌, ◌⊎◌, inl, inr, arith}
 use Rattle.std.specs.Prelude.{Some, map, option_map, slice_get, length, ◌&&◌}
 use Rattle.std.specs.List.{filter, enumerate_from}
@@ -17,19 +17,19 @@ use Rattle.timeouts_cancel.specs.declared.matching.Key.{Key}
 use Rattle.timeouts_cancel.specs.declared.matching.Found.TheVariants.{Absent}
 use Rattle.timeouts_cancel.specs.Matches.{is_match, is_waiting_match, matches_of, found_by, found_first, waiting_by, IsNextMatch, NoMatchFrom, Passed}
 
--- the tests of a row with its number
+-- The tests of a numbered row.
 abbrev matches : Key → ℕ → ℕ × Row → Bool
 matches key me p = is_match key me p.0 p.1
 
 abbrev waits_in : WorldState → Key → ℕ → ℕ × Row → Bool
 waits_in w key me p = is_waiting_match w key me p.0 p.1
 
--- ---- from one issued row to the next
+-- ---- From one issued request to the next
 
 pub passed_none : (rows : List Row) (key : Key) (me from : ℕ) → Passed rows key me from from
 passed_none rows key me from = record { after = omega arith; none = λ i x low high g. absurd (omega (arith, low, high)) }
 
--- the next issued row doesn't match
+-- The next issued request doesn't match.
 pub passed_on : (rows : List Row) (key : Key) (me from at r : ℕ) (row : Row) → Passed rows key me from at → IsNextIssued rows at r → slice_get rows r ≡ Some row → matches key me (r, row) ≡ false → Passed rows key me from (r + 1)
 passed_on rows key me from at r row p next h fails = record {
   after = let a = p.after in let b = next.after in omega (arith, a, b);
@@ -63,7 +63,7 @@ match_none rows key me from at p none i x low g = by (cases_lt i at)
     by (inl less) = p.none i x low less g
     by (inr le) = and_left _ _ (none i x le g)
 
--- ---- the least match
+-- ---- The first match
 
 pub found_next : (rows : List Row) (w : WorldState) (key : Key) (me r : ℕ) (row : Row) → IsNextMatch rows key me 0 r row → found_first w (Some (r, row)) ≡ found_by rows w key me
 found_next rows w key me r row m = ap (found_first w) (sym (first_numbered (matches key me) rows r row m.there m.matching (λ i x l g. m.least i x (omega arith) l g)))
@@ -71,7 +71,7 @@ found_next rows w key me r row m = ap (found_first w) (sym (first_numbered (matc
 pub found_none : (rows : List Row) (w : WorldState) (key : Key) (me : ℕ) → NoMatchFrom rows key me 0 → Absent ≡ found_by rows w key me
 found_none rows w key me none = ap (λ (ps : List (ℕ × Row)). found_first w (slice_get ps 0)) (sym (none_numbered (matches key me) rows (λ i x g. none i x (omega arith) g)))
 
--- ---- the matches, among the first rows
+-- ---- The matches among the first rows
 
 abbrev pub matches_to : List Row → Key → ℕ → ℕ → List (ℕ × Row)
 matches_to rows key me k = filter (matches key me) (take k (enumerate_from 0 rows))
@@ -87,12 +87,12 @@ count_more rows key me from r n row m e =
 pub count_past : (rows : List Row) (key : Key) (me from n : ℕ) → NoMatchFrom rows key me from → n ≡ length (matches_to rows key me from) → n ≡ length (matches_of rows key me)
 count_past rows key me from n none e = e ∙ ap length (none_behind (matches key me) from (enumerate_from 0 rows) (λ i p low g. numbered (matches key me) rows i p (λ x h. none i x low h) g))
 
--- ---- the matches that wait, among the first rows
+-- ---- The matches among the first rows that wait
 
 abbrev pub waiting_to : List Row → WorldState → Key → ℕ → ℕ → List ℕ
 waiting_to rows w key me k = map (λ (p : ℕ × Row). p.0) (filter (waits_in w key me) (take k (enumerate_from 0 rows)))
 
--- a row that doesn't match isn't among them
+-- A row that doesn't match isn't one of them.
 not_waiting : (w : WorldState) (key : Key) (me : ℕ) (p : ℕ × Row) → matches key me p ≡ false → waits_in w key me p ≡ false
 not_waiting w key me p fails = and_left _ _ fails
 

@@ -1,4 +1,4 @@
--- The TIMEOUTs whose count of completions is met, one after the other.
+-- Finding the TIMEOUTs whose count is reached, one by one.
 use Rattle.std.proofs.Common.{◌≡◌, ℕ, ℤ, pos, Bool, true, false, cond, refl, sym, ◌∙◌, ap, List, [], ◌∷◌, ◌++◌, ◌+◌, ◌-◌, arith}
 use Rattle.std.specs.Prelude.{Option, Some, None, ◌==◌, ◌&&◌, nat_lt, nat_le}
 use Rattle.entries.specs.declared.row.Phase.{Phase}
@@ -15,9 +15,9 @@ use Rattle.timeouts_cancel.proofs.Listed.{upto_all}
 use Rattle.timeouts_cancel.proofs.Severing.{both}
 use Rattle.timeouts_cancel.proofs.Walking.{of_one, upto_more, upto_gap}
 
--- ---- from one met TIMEOUT to the next
+-- ---- From one such TIMEOUT to the next
 
--- what a met TIMEOUT ends with
+-- The result of such a TIMEOUT.
 abbrev pub met_result : ℕ → ℕ → Row → Option ℤ
 met_result total r row = given (is_met total row) (pos 0)
 

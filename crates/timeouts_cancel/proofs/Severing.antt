@@ -1,4 +1,4 @@
--- What severs rows in a fall is what the step itself ended.
+-- In a cascade, only direct completions sever chains.
 use Rattle.std.proofs.Common.{◌≡◌, ℕ, ℤ, pos, Bool, true, false, refl, ◌∙◌, ap, List, ◌<◌, arith}
 use Rattle.std.specs.Prelude.{Option, Some, None, slice_get, ◌==◌, ◌&&◌, nat_lt}
 use Rattle.std.proofs.lemmas.Bool.{eqb-true, eq-eqb}
@@ -15,7 +15,7 @@ pub both : (a b : Bool) → (a && b) ≡ true → (a ≡ true) × (b ≡ true)
 both true b h = (refl, h)
 both false b h = absurd cc
 
--- ---- what never ends badly
+-- ---- What is never a failure
 
 pub guard_not_bad : (row : Row) (res : ℤ) → is_guard row ≡ true → is_bad row res ≡ false
 guard_not_bad row res h =
@@ -49,10 +49,10 @@ severs_so rows r row e s =
     ∙ ap (λ b. b && is_bad s.before e.1) s.soft
     ∙ s.bad
 
--- a row severed by one of a list
+-- A listed row that severs r makes r severed.
 pub severed_by : (rows : List Row) (es : List Ending) (r : ℕ) (row : Row) (i : ℕ) (e : Ending) → slice_get es i ≡ Some e → Severs rows r row e → is_severed rows es r row ≡ true
 severed_by rows es r row i e h s = any_at (λ (x : Ending). severs_by r row (slice_get rows x.0) x) es i e h (severs_so rows r row e s)
 
--- what severs a row that severs another severs the other too
+-- If e severs row q, it also severs the later rows of q's chain.
 pub severs_then : (rows : List Row) (q r : ℕ) (b row : Row) (e : Ending) → q < r → b.unit ≡ row.unit → Severs rows q b e → Severs rows r row e
 severs_then rows q r b row e l u s = record { before = s.before; there = s.there; less = let k = s.less in omega (arith, k, l); unit = s.unit ∙ u; soft = s.soft; bad = s.bad }

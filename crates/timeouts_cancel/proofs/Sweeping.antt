@@ -1,4 +1,4 @@
--- Walking over the rest of a unit that a row severs.
+-- Adding the rest of a chain that was severed.
 use Rattle.std.proofs.Common.{◌≡◌, ℕ, zero, suc, true, cond, refl, sym, ◌∙◌, ap, List, [], ◌∷◌, ◌++◌, length, ◌+◌, ◌<◌, ◌≤◌, ◌⊎◌, inl, inr, arith}
 use Rattle.std.specs.Prelude.{Option, Some, None, slice_get}
 use Rattle.std.proofs.lemmas.List.{take_all}
@@ -41,7 +41,7 @@ sweep_start rows direct k i es e row d w h t s b = record {
   clear = λ r x j p l g q a z. w.clear r x j p (let low = w.above i e h (omega arith) in omega (arith, low, l)) g q a z;
 }
 
--- one more row of the unit
+-- One more row of the chain.
 run_more : (rows : List Row) (from k unit : ℕ) (row : Row) → slice_get rows k ≡ Some row → row.unit ≡ unit → ((q : ℕ) (y : Row) → from ≤ q → q < k → slice_get rows q ≡ Some y → y.unit ≡ unit) → (q : ℕ) (y : Row) → from ≤ q → q < k + 1 → slice_get rows q ≡ Some y → y.unit ≡ unit
 run_more rows from k unit row h u run q y l m g = by (split q k)
   where
@@ -75,7 +75,7 @@ sweep_direct rows direct k i es unit e row d w h m t u =
     below j p q l (inl a) = let x = w.below j p q a in omega (arith, x)
     below j p q l (inr a) = let n : j ≡ i = omega (arith, a, l) in let x = ap (λ (z : Ending). z.0) (same_ending p e (sym q ∙ ap (slice_get direct) n ∙ h)) in omega (arith, x, m)
 
--- a row of the unit that is no direct one
+-- A row of the chain that is no direct completion.
 above_other : (direct : List Ending) (k i : ℕ) → ((j : ℕ) (e : Ending) → slice_get direct j ≡ Some e → i ≤ j → k ≤ e.0) → ((j : ℕ) (e : Ending) → slice_get direct j ≡ Some e → i ≤ j → e.0 ≡ k → ⊥) → (j : ℕ) (e : Ending) → slice_get direct j ≡ Some e → i ≤ j → k + 1 ≤ e.0
 above_other direct k i above other j e h l = let a = above j e h l in by (split k e.0) a
   where
@@ -114,7 +114,7 @@ sweep_other rows direct k i es fs unit row d w other t u f =
       clear = w.clear;
     }
 
--- where the next direct pair isn't of a row, no later one is
+-- If the next direct completion isn't for row k, no later one is.
 pub others_later : (rows : List Row) (direct : List Ending) (k i : ℕ) → Direct rows direct → ((j : ℕ) (e : Ending) → slice_get direct j ≡ Some e → i ≤ j → k ≤ e.0) → ((e : Ending) → slice_get direct i ≡ Some e → e.0 ≡ k → ⊥) → (j : ℕ) (e : Ending) → slice_get direct j ≡ Some e → i ≤ j → e.0 ≡ k → ⊥
 others_later rows direct k i d above none j e h l m = by (slice_get direct i) refl (split i j)
   where
@@ -123,7 +123,7 @@ others_later rows direct k i d above none j e h l m = by (slice_get direct i) re
     by None q (inl a) = let b = slice_get_within direct j e h in none_within direct i q (omega (arith, a, b))
     by (Some p) q (inl a) = let x = d.rising i j p e q h a in let y = above i p q (omega arith) in omega (arith, x, y, m)
 
--- where another unit begins, or the rows end, nothing more is severed
+-- At the end of the chain, or of the table, nothing more is severed.
 pub sweep_end : (rows : List Row) (direct : List Ending) (k i : ℕ) (es : List Ending) (unit : ℕ) → Chained rows → Direct rows direct → Sweeping rows direct k i es unit → ((row : Row) → slice_get rows k ≡ Some row → row.unit ≡ unit → ⊥) → Walked rows direct k i es
 sweep_end rows direct k i es unit c d w stop = record {
   listed = w.listed;
@@ -132,7 +132,7 @@ sweep_end rows direct k i es unit c d w stop = record {
   clear = λ r x j p l g q a s. by r x j p l g q a s (split j w.at);
 }
   where
-    -- the row at k is of the unit of a later one that a row before k severs
+    -- The row at k belongs to the same chain as a later row that is severed by a row before k.
     here : (r : ℕ) (x : Row) (p : Ending) → k ≤ r → slice_get rows r ≡ Some x → p.0 < k → Severs rows r x p → (o : Option Row) → slice_get rows k ≡ o → (y : Row) × (slice_get rows k ≡ Some y) × (y.unit ≡ x.unit)
     here r x p l g a s None e = absurd (let b = slice_get_within rows r x g in none_within rows k e (omega (arith, l, b)))
     here r x p l g a s (Some y) e =
@@ -152,7 +152,7 @@ sweep_end rows direct k i es unit c d w stop = record {
         high j p q b (inl a) = let z = d.rising w.at j w.cause p w.there q a in omega (arith, z)
         high j p q b (inr a) = let n : j ≡ w.at = omega (arith, a, b) in let z = ap (λ (e : Ending). e.0) (same_ending p w.cause (sym q ∙ ap (slice_get direct) n ∙ w.there)) in omega (arith, z)
 
--- ---- the end of the walk
+-- ---- The end of the pass
 
 pub walked_all : (rows : List Row) (direct : List Ending) (k i : ℕ) (es : List Ending) → Walked rows direct k i es → length direct ≤ i → es ≡ severed_endings rows direct
 walked_all rows direct k i es w l =

@@ -1,4 +1,4 @@
--- How many listed rows count.
+-- How many listed completions count for TIMEOUTs.
 use Rattle.std.proofs.Common.{◌≡◌, ℕ, ℤ, zero, suc, Bool, true, false, cond, refl, sym, ◌∙◌, ap, subst, List, [], ◌∷◌, length, ◌+◌, ◌≤◌, arith}
 use Rattle.std.specs.Prelude.{Option, Some, None, slice_get, is_some, ◌==◌, ◌&&◌, nat_lt, nat_le}
 use Rattle.std.specs.Option.{option_map_or}
@@ -13,7 +13,7 @@ use Rattle.links_drains.proofs.Listing.{endings_step, result_of}
 use Rattle.timeouts_cancel.proofs.Again.{listed_row}
 use Rattle.timeouts_cancel.proofs.Severing.{both}
 
--- how many rows, numbered from a first one, count and are given a result
+-- How many rows, numbered from n, count and have a result.
 abbrev pub tally : (ℕ → Row → Option ℤ) → ℕ → List Row → ℕ
 tally f n [] = 0
 tally f n (row ∷ rows) = cond (counts row && is_some (result_of f n row)) 1 0 + tally f (n + 1) rows
@@ -50,7 +50,7 @@ tally_alike f g n (row ∷ rows) h =
     by true e k more = ap (λ c. cond c 1 0 + tally f (n + 1) rows) (k e) ∙ ap (λ t. cond (is_some (result_of g n row)) 1 0 + t) more
     by false e k more = ap (λ t. 0 + t) more
 
--- tests that give a result to the same rows that count list as many that count
+-- Two functions that have results for the same counted rows have the same count.
 pub counted_alike : (f g : ℕ → Row → Option ℤ) (rows : List Row) → ((r : ℕ) (row : Row) → slice_get rows r ≡ Some row → is_unfinished row.phase ≡ true → counts row ≡ true → is_some (f r row) ≡ is_some (g r row))
     → counted_in rows (endings f rows) ≡ counted_in rows (endings g rows)
 counted_alike f g rows h = tallied look f 0 rows at ∙ tally_alike f g 0 rows both_ways ∙ sym (tallied look g 0 rows at)
@@ -76,7 +76,7 @@ few_counted rows (e ∷ es) = let l = few_counted rows es in by (option_map_or c
     by true xs l = omega (arith, l)
     by false xs l = omega (arith, l)
 
--- ---- what doesn't count
+-- ---- What doesn't count
 
 timer_counts : (row : Row) (n : ℕ) → row.entry.opcode ≡ n → (n ≡ 11) → counts row ≡ false
 timer_counts row n e k = rw (e ∙ k) refl
@@ -91,7 +91,7 @@ met_counts total row h =
     let b = both (row.entry.opcode == 11) (nat_lt 0 row.entry.off) a.1 in
     timer_counts row 11 (eqb-true row.entry.opcode 11 b.0) refl
 
--- a test that gives a result to no row that counts doesn't change whether one is listed
+-- A result for a row that doesn't count doesn't change whether a counted row is listed.
 same_listed : (o : Option ℤ) (b : Bool) (res : ℤ) → b ≡ false → is_some (or_else o (given b res)) ≡ is_some o
 same_listed None false res h = refl
 same_listed None true res h = absurd cc
@@ -101,7 +101,7 @@ not_both : (a b : Bool) → (a ≡ true → b ≡ false) → b ≡ true → a �
 not_both true b h k = absurd (let e = h refl in cc)
 not_both false b h k = refl
 
--- the TIMEOUTs and guards that a filter adds don't count
+-- The TIMEOUTs and linked timeouts that a rule adds don't count.
 pub joined_counts : (rows : List Row) (g : ℕ → Row → Option ℤ) (test : ℕ → Row → Bool) (res : ℤ) → ((r : ℕ) (row : Row) → test r row ≡ true → counts row ≡ false)
     → counted_in rows (endings (λ r row. or_else (result_in (endings g rows) r) (given (test r row) res)) rows) ≡ counted_in rows (endings g rows)
 joined_counts rows g test res h = counted_alike (λ r row. or_else (result_in (endings g rows) r) (given (test r row) res)) g rows (λ r row e u c.

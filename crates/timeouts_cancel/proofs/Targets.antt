@@ -1,4 +1,4 @@
--- The guards of listed rows, one after the other.
+-- Finding the linked timeouts of listed requests, one by one.
 use Rattle.std.proofs.Common.{◌≡◌, ℕ, ℤ, Bool, true, false, cond, refl, sym, ◌∙◌, ap, List, ◌++◌, length, ◌+◌, ◌-◌, ◌<◌, ◌≤◌, ◌⊎◌, inl, inr, arith}
 use Rattle.std.specs.Prelude.{Option, Some, None, slice_get, ◌==◌, ◌&&◌}
 use Rattle.std.specs.Option.{option_map_or}
@@ -18,13 +18,13 @@ use Rattle.timeouts_cancel.proofs.Listed.{upto_all}
 use Rattle.timeouts_cancel.proofs.Sweeping.{same_ending}
 use Rattle.timeouts_cancel.proofs.Walking.{of_one, split, take_behind, upto_more, upto_gap}
 
--- what a guard ends with
+-- The result of a linked timeout.
 abbrev pub guard_result : List Ending → ℕ → Row → Option ℤ
 guard_result listed r row = given (guards_listed listed row) ecanceled
 
--- ---- rows that guard none that is listed
+-- ---- Rows that are no linked timeout of a listed request
 
--- what a row that guards a listed one guards
+-- The listed request that is the target of a linked timeout.
 pub record GuardsListed (rows : List Row) (listed : List Ending) (row : Row) : Type 0 where
   pub index : ℕ
   pub ending : Ending
@@ -42,7 +42,7 @@ guards_so rows listed row h = by (is_guard row) (row.target) refl refl h
         let f = any_found (λ (e : Ending). e.0 == x) listed k in
         record { index = f.0; ending = f.1; there = f.2; guards = g; target = t ∙ ap Some (sym (eqb-true f.1.0 x f.3)) }
 
--- a row that isn't behind a listed one guards none
+-- A row that doesn't come directly after a listed one is no linked timeout of one.
 no_guard : (rows : List Row) (listed : List Ending) (r : ℕ) (row : Row) → GuardsStand rows → slice_get rows r ≡ Some row → ((j : ℕ) (e : Ending) → slice_get listed j ≡ Some e → e.0 + 1 ≡ r → ⊥) → result_of (guard_result listed) r row ≡ None
 no_guard rows listed r row stand h none = by (is_unfinished row.phase) (guards_listed listed row) refl refl
   where
@@ -51,7 +51,7 @@ no_guard rows listed r row stand h none = by (is_unfinished row.phase) (guards_l
     by true false u g = refl
     by true true u g = absurd (let w = guards_so rows listed row g in none w.index w.ending w.there (stand r w.ending.0 row h w.guards u w.target))
 
--- ---- the row behind a listed one
+-- ---- The row after a listed one
 
 its_guard : (rows : List Row) (listed : List Ending) (i : ℕ) (e : Ending) (row : Row) → GuardsStand rows → slice_get listed i ≡ Some e → slice_get rows (e.0 + 1) ≡ Some row → result_of (guard_result listed) (e.0 + 1) row ≡ cond (guards_row e.0 row) (Some ecanceled) None
 its_guard rows listed i e row stand h t = by (is_unfinished row.phase) (is_guard row) row.target refl refl refl

@@ -1,4 +1,4 @@
--- Walking over the rows that a step ends, and over those that they sever.
+-- Processing the direct completions, and the requests that they sever, in one pass.
 use Rattle.std.proofs.Common.{◌≡◌, ℕ, ℤ, zero, suc, Bool, true, false, cond, refl, sym, ◌∙◌, ap, subst, List, [], ◌∷◌, ◌++◌, take, ◌+◌, ◌-◌, ◌<◌, ◌≤◌, ◌⊎◌, inl, inr, arith}
 use Rattle.std.specs.Prelude.{Option, Some, None, slice_get, ◌==◌, ◌&&◌, nat_lt}
 use Rattle.std.specs.List.{cons_option}
@@ -16,9 +16,9 @@ use Rattle.timeouts_cancel.proofs.Again.{any_found, result_there, listed_row}
 use Rattle.timeouts_cancel.specs.Walks.{Severs, Walked, own_endings, result_by, upto}
 use Rattle.timeouts_cancel.proofs.Severing.{severs_is, severed_by}
 
--- ---- the endings of the first rows
+-- ---- The completions among the first rows
 
--- a list of what there is
+-- A list of zero or one completions.
 abbrev pub of_one : Option Ending → List Ending
 of_one o = cons_option o []
 
@@ -59,7 +59,7 @@ take_behind [] (suc k) h = let m : suc k + 1 ≡ suc (k + 1) = omega arith in le
 take_behind (x ∷ rows) zero h = absurd cc
 take_behind (x ∷ rows) (suc k) h = let m : suc k + 1 ≡ suc (k + 1) = omega arith in ap (λ n. take n (x ∷ rows)) m ∙ ap (λ zs. x ∷ zs) (take_behind rows k h)
 
--- rows that a test gives nothing add none
+-- Rows without a result add nothing.
 pub upto_gap : (f : ℕ → Row → Option ℤ) (rows : List Row) (k d : ℕ) → ((r : ℕ) (row : Row) → k ≤ r → r < k + d → slice_get rows r ≡ Some row → result_of f r row ≡ None) → upto f rows (k + d) ≡ upto f rows k
 upto_gap f rows k zero h = let m : k + zero ≡ k = omega arith in ap (upto f rows) m
 upto_gap f rows k (suc d) h =
@@ -73,7 +73,7 @@ upto_gap f rows k (suc d) h =
         ∙ ap (λ o. upto f rows (k + d) ++ of_one (paired (k + d) o)) (h (k + d) row (omega arith) (omega arith) e)
         ∙ append-nil (upto f rows (k + d))
 
--- ---- what the second filter gives a row
+-- ---- The result of a row after the second rule
 
 pub result_at : (es : List Ending) (i : ℕ) (e : Ending) → ((i j : ℕ) (p q : Ending) → slice_get es i ≡ Some p → slice_get es j ≡ Some q → i < j → p.0 < q.0) → slice_get es i ≡ Some e → result_in es e.0 ≡ Some e.1
 result_at [] i e h k = absurd cc
@@ -86,7 +86,7 @@ result_at (x ∷ es) (suc i) e h k = by (x.0 == e.0) refl (result_at es i e (λ 
     by true g m = absurd (let l = h 0 (suc i) x e refl k (omega arith) in let a = eqb-true x.0 e.0 g in omega (arith, l, a))
     by false g m = m
 
--- what a direct pair gives
+-- The result of a direct completion.
 pub test_direct : (rows : List Row) (direct : List Ending) (i : ℕ) (e : Ending) (row : Row) → Direct rows direct → slice_get direct i ≡ Some e → slice_get rows e.0 ≡ Some row → result_of (result_by rows direct) e.0 row ≡ Some e.1
 test_direct rows direct i e row d h t =
     let w = d.each i e h in
@@ -98,7 +98,7 @@ test_direct rows direct i e row d h t =
     some_same : (a b : Row) → Some a ≡ Some b → a ≡ b
     some_same a b k = cc
 
--- a row is none of the direct ones
+-- The row is no direct completion.
 abbrev pub NotDirect : List Ending → ℕ → Type 0
 NotDirect direct r = (j : ℕ) (e : Ending) → slice_get direct j ≡ Some e → e.0 ≡ r → ⊥
 
@@ -109,7 +109,7 @@ undirected direct r n = by (result_in direct r) refl
     by None e = refl
     by (Some res) e = absurd (let t = result_there direct r res e in n t.0 (r, res) t.1 refl)
 
--- what severs a row is a direct pair
+-- Only a direct completion severs a row.
 pub severed_so : (rows : List Row) (direct : List Ending) (r : ℕ) (row : Row) → is_severed rows (own_endings rows direct) r row ≡ true → (i : ℕ) × (e : Ending) × (slice_get direct i ≡ Some e) × Severs rows r row e
 severed_so rows direct r row h =
     let f = any_found (λ (x : Ending). severs_by r row (slice_get rows x.0) x) (own_endings rows direct) h in
@@ -125,7 +125,7 @@ severed_if rows direct r row i e d h s =
     let t = result_there (own_endings rows direct) e.0 e.1 l in
     severed_by rows (own_endings rows direct) r row t.0 (e.0, e.1) t.1 (record { before = s.before; there = s.there; less = s.less; unit = s.unit; soft = s.soft; bad = s.bad })
 
--- what the second filter gives a row that is no direct one
+-- The result of a row that is no direct completion.
 pub test_other : (rows : List Row) (direct : List Ending) (r : ℕ) (row : Row) → slice_get rows r ≡ Some row → NotDirect direct r → result_of (result_by rows direct) r row ≡ (cond (is_unfinished row.phase) (given (is_severed rows (own_endings rows direct) r row) ecanceled) None)
 test_other rows direct r row h n = by (is_unfinished row.phase) refl
   where
@@ -133,7 +133,7 @@ test_other rows direct r row h n = by (is_unfinished row.phase) refl
     by false u = refl
     by true u = ap (λ o. or_else o (given (is_severed rows (own_endings rows direct) r row) ecanceled)) (listed_row (λ r row. result_in direct r) rows r row h u ∙ undirected direct r n)
 
--- ---- the walk
+-- ---- The pass
 
 pub split : (j i : ℕ) → (j < i) ⊎ (i ≤ j)
 split j i = by (nat_lt j i) refl
@@ -142,7 +142,7 @@ split j i = by (nat_lt j i) refl
     by true e = inl (grind (arith, nat_tests))
     by false e = inr (grind (arith, nat_tests))
 
--- between the walked rows and the next direct one none is listed
+-- No row between those processed and the next direct completion is listed.
 pub between : (rows : List Row) (direct : List Ending) (k i : ℕ) (es : List Ending) (r : ℕ) (row : Row) → Walked rows direct k i es → k ≤ r → ((j : ℕ) (e : Ending) → slice_get direct j ≡ Some e → i ≤ j → r < e.0) → slice_get rows r ≡ Some row
     → result_of (result_by rows direct) r row ≡ None
 between rows direct k i es r row w l next h =
@@ -161,7 +161,7 @@ between rows direct k i es r row w l next h =
         sever j e g s (inl a) = w.clear r row j e l h g a s
         sever j e g s (inr a) = let b = next j e g a in let c = s.less in absurd (omega (arith, b, c))
 
--- the rows up to a direct one, and that one
+-- The rows up to and including a direct completion.
 pub listed_direct : (rows : List Row) (direct : List Ending) (k i : ℕ) (es : List Ending) (e : Ending) (row : Row) → Direct rows direct → Walked rows direct k i es → slice_get direct i ≡ Some e → slice_get rows e.0 ≡ Some row
     → es ++ e ∷ [] ≡ upto (result_by rows direct) rows (e.0 + 1)
 listed_direct rows direct k i es e row d w h t =
@@ -195,7 +195,7 @@ below_next rows direct k i es e d w h j p g l = by (split j i)
 pub above_next : (rows : List Row) (direct : List Ending) (i : ℕ) (e : Ending) → Direct rows direct → slice_get direct i ≡ Some e → (j : ℕ) (p : Ending) → slice_get direct j ≡ Some p → i + 1 ≤ j → e.0 + 1 ≤ p.0
 above_next rows direct i e d h j p g l = let x = d.rising i j e p h g (omega (arith, l)) in omega (arith, x)
 
--- a direct row that severs none
+-- A direct completion that severs nothing.
 pub walked_direct : (rows : List Row) (direct : List Ending) (k i : ℕ) (es : List Ending) (e : Ending) (row : Row) → Direct rows direct → Walked rows direct k i es → slice_get direct i ≡ Some e → slice_get rows e.0 ≡ Some row
     → (is_soft_linked row && is_bad row e.1) ≡ false → Walked rows direct (e.0 + 1) (i + 1) (es ++ e ∷ [])
 walked_direct rows direct k i es e row d w h t n = record {

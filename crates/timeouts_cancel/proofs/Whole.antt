@@ -1,4 +1,4 @@
--- A fall is whole: running its filters again adds nothing.
+-- The cascade is complete: applying its rules again adds nothing.
 use Rattle.std.proofs.Common.{◌≡◌, ℕ, ℤ, pos, Bool, true, false, refl, sym, ◌∙◌, ap, subst, List, [], ◌∷◌, ◌+◌, ◌<◌}
 use Rattle.std.specs.Prelude.{Option, Some, None, slice_get, ◌==◌, ◌&&◌, ◌||◌, nat_le, if◌then◌else◌}
 use Rattle.std.specs.Option.{option_map_or}
@@ -14,12 +14,12 @@ use Rattle.timeouts_cancel.proofs.Again.{any_at, any_found, result_there, listed
 use Rattle.timeouts_cancel.proofs.Tallying.{joined_counts, guard_counts, met_counts}
 use Rattle.timeouts_cancel.proofs.Severing.{both, guard_not_bad, timeout_not_bad, severs_is, severed_by, severs_then}
 
--- ---- the lists, one filter after another
+-- ---- The lists, one rule after the other
 
 abbrev pub ms : List Row → ℕ → List Ending → List Ending
 ms rows c direct = with_met rows c (severed_endings rows direct)
 
--- what they have for an unfinished row
+-- The results that they have for an unfinished row.
 in_ds : (rows : List Row) (direct : List Ending) (r : ℕ) (row : Row) → slice_get rows r ≡ Some row → is_unfinished row.phase ≡ true → result_in (own_endings rows direct) r ≡ result_in direct r
 in_ds rows direct r row h u = listed_row (λ r row. result_in direct r) rows r row h u
 
@@ -35,7 +35,7 @@ in_fall : (rows : List Row) (c : ℕ) (direct : List Ending) (r : ℕ) (row : Ro
     → result_in (fall_of rows c direct) r ≡ or_else (result_in (ms rows c direct) r) (given (guards_listed (ms rows c direct) row) ecanceled)
 in_fall rows c direct r row h u = listed_row (λ r row. or_else (result_in (ms rows c direct) r) (given (guards_listed (ms rows c direct) row) ecanceled)) rows r row h u
 
--- a row that the fall doesn't list: no filter gives it a result
+-- No rule of the cascade has a result for the row.
 pub record Unlisted (rows : List Row) (c : ℕ) (direct : List Ending) (r : ℕ) (row : Row) : Type 0 where
   pub undirected : result_in direct r ≡ None
   pub severed : is_severed rows (own_endings rows direct) r row ≡ false
@@ -54,7 +54,7 @@ unlisted rows c direct r row h u n =
       guards = given_none _ ecanceled a.1;
     }
 
--- ---- targets
+-- ---- Targets
 
 unlisted_none : (es : List Ending) (r : ℕ) → is_listed es r ≡ false → result_in es r ≡ None
 unlisted_none [] r h = refl
@@ -65,7 +65,7 @@ unlisted_none (e ∷ es) r h = by (e.0 == r) (is_listed es r) refl h (unlisted_n
     by false true k g more = absurd cc
     by false false k g more = more k
 
--- where a guard doesn't fall, its target doesn't
+-- If a linked timeout doesn't complete in the cascade, neither does its target.
 pub target_stays : (rows : List Row) (c : ℕ) (direct : List Ending) (r t : ℕ) (row target : Row) → slice_get rows r ≡ Some row → is_unfinished row.phase ≡ true → is_guard row ≡ true → row.target ≡ Some t
     → slice_get rows t ≡ Some target → is_unfinished target.phase ≡ true → is_guard target ≡ false → result_in (fall_of rows c direct) r ≡ None → result_in (fall_of rows c direct) t ≡ None
 target_stays rows c direct r t row target h u g k there v other n =
@@ -80,12 +80,12 @@ target_stays rows c direct r t row target h u g k there v other n =
     none : result_in (ms rows c direct) t ≡ None
     none = unlisted_none (ms rows c direct) t out
 
--- ---- what severs is direct
+-- ---- What severs is a direct completion
 
 true_false : (b : Bool) → b ≡ true → b ≡ false → ⊥
 true_false b h k = cc
 
--- a row that ends badly in the fall is a direct one, or is severed by one
+-- A row that fails in the cascade is a direct completion, or is severed by one.
 from_direct : (rows : List Row) (c : ℕ) (direct : List Ending) (r : ℕ) (row : Row) (e : Ending) (i : ℕ) → slice_get (fall_of rows c direct) i ≡ Some e → Severs rows r row e → is_severed rows (own_endings rows direct) r row ≡ true
 from_direct rows c direct r row e i h s =
     let w = ends_at (λ r row. or_else (result_in (ms rows c direct) r) (given (guards_listed (ms rows c direct) row) ecanceled)) rows i e h in
@@ -143,9 +143,9 @@ direct_again rows c direct =
     joined_nothing (λ r row. result_in direct r) (λ r row. or_else (result_in (ms rows c direct) r) (given (guards_listed (ms rows c direct) row) ecanceled)) rows
     (λ r row h u n. (unlisted rows c direct r row h u (in_fall rows c direct r row h u ∙ n)).undirected)
 
--- ---- what is counted
+-- ---- What is counted
 
--- the TIMEOUTs and guards that fall don't count
+-- The TIMEOUTs and linked timeouts that complete in the cascade don't count.
 pub counted_fall : (rows : List Row) (c : ℕ) (direct : List Ending) → counted_in rows (fall_of rows c direct) ≡ counted_in rows (severed_endings rows direct)
 counted_fall rows c direct =
     joined_counts rows (λ r row. or_else (result_in (severed_endings rows direct) r) (given (is_met (c + counted_in rows (severed_endings rows direct)) row) (pos 0))) (λ r row. guards_listed (ms rows c direct) row) ecanceled
@@ -158,9 +158,9 @@ met_again rows c direct =
     joined_nothing (λ r row. given (is_met (c + counted_in rows (fall_of rows c direct)) row) (pos 0)) (λ r row. or_else (result_in (ms rows c direct) r) (given (guards_listed (ms rows c direct) row) ecanceled)) rows
     (λ r row h u n. ap (λ k. given (is_met (c + k) row) (pos 0)) (counted_fall rows c direct) ∙ ap (λ b. given b (pos 0)) (unlisted rows c direct r row h u (in_fall rows c direct r row h u ∙ n)).met)
 
--- ---- guards
+-- ---- Linked timeouts
 
--- a listed row that is no guard was listed before the guards were
+-- A listed row that is no linked timeout was listed before the fourth rule.
 listed_before : (rows : List Row) (c : ℕ) (direct : List Ending) (t : ℕ) → ((target : Row) → slice_get rows t ≡ Some target → is_guard target ≡ false) → is_listed (fall_of rows c direct) t ≡ true → is_listed (ms rows c direct) t ≡ true
 listed_before rows c direct t g h =
     let f = any_found (λ (e : Ending). e.0 == t) (fall_of rows c direct) h in
@@ -200,7 +200,7 @@ guards_again rows c direct formed =
 pub whole : (rows : List Row) (c : ℕ) (direct : List Ending) → GuardsFormed rows → IsWhole rows c direct (fall_of rows c direct)
 whole rows c direct formed = record { listed = direct_again rows c direct; severed = severed_again rows c direct; met = met_again rows c direct; guards = guards_again rows c direct formed }
 
--- ---- the rows that fall
+-- ---- The rows that complete
 
 abbrev pub last_test : List Row → ℕ → List Ending → ℕ → Row → Option ℤ
 last_test rows c direct r row = or_else (result_in (ms rows c direct) r) (given (guards_listed (ms rows c direct) row) ecanceled)

@@ -1,4 +1,5 @@
-//! Rows end with those that a step ends of itself (io_uring_enter(2)).
+//! The cascade of a step: the requests that complete as a consequence of others
+//! (io_uring_enter(2)).
 ghost use Rattle.std.specs.Prelude.{◌≡◌, ◌≢◌, ◌&&◌, ◌+◌, ◌^◌, ◌<◌, ◌≤◌, ℕ, IfOk, IfSome, None, Some, length, slice_get};
 ghost use Rattle.links_drains.specs.Links.{is_soft_linked as has_soft_link};
 ghost use Rattle.links_drains.specs.Endings.{Ending, Direct};
@@ -8,14 +9,15 @@ ghost use Rattle.timeouts_cancel.specs.Walks.{Walked, Sweeping};
 use crate::guards::guards;
 use crate::merging::add;
 use crate::timers::{count, met};
-use entries::Row;
+use entries::{ECANCELED, Row};
 use links_drains::{Table, is_soft_linked, is_unfinished};
-use opcodes::{ECANCELED, Op};
+use opcodes::Op;
 use std::alloc::AllocError;
 
-/// The rows that end, with their results, in the order of their numbers: those that a step ends of
-/// itself, the later ones of each unit that they sever, the TIMEOUTs whose count of completions
-/// they meet, and the guards of all these.
+/// Returns all requests that complete in a step, with their results, by ascending number. These are
+/// the requests in `direct`, which the step itself completes, and its cascade. The cascade is the
+/// rest of each chain that a failure severs, the TIMEOUTs whose count is then reached, and the
+/// linked timeouts of all these. `counted` is the number of completions counted before the step.
 pub fn fall(
     table: &Table,
     counted: u32,
@@ -35,8 +37,7 @@ pub fn fall(
     add(table, ended, &guards)
 }
 
-// The rows that a step ends of itself, and the later ones of each unit that they sever. It looks at
-// no other row.
+// The direct completions, and the rest of each chain that they sever. No other request is examined.
 fn with_severed(table: &Table, direct: &[(u32, i32)]) -> Result<Vec<(u32, i32)>, AllocError>
     requires direct { Direct table.now direct.now }
     requires few { length table.now ≤ 65536 }
@@ -51,8 +52,8 @@ fn with_severed(table: &Table, direct: &[(u32, i32)]) -> Result<Vec<(u32, i32)>,
     Ok(endings)
 }
 
-// A row that a step ends of itself, and those that it severs. Says which of the direct ones is
-// next.
+// Adds one direct completion and the requests that it severs. Returns the index of the next direct
+// completion.
 fn end_one(
     table: &Table,
     direct: &[(u32, i32)],
@@ -76,7 +77,8 @@ fn end_one(
     Ok(at + 1)
 }
 
-// The rest of a unit, from a row on. Says which of the direct ones is next.
+// Adds the rest of a chain, from request `from` on. Returns the index of the next direct
+// completion.
 fn sever(
     table: &Table,
     direct: &[(u32, i32)],
@@ -108,7 +110,7 @@ fn sever(
     Ok(next)
 }
 
-// The result of a row, if the direct pair of an index is of it.
+// The result of the direct completion at index `at`, if it belongs to the request.
 fn result_at(direct: &[(u32, i32)], at: usize, row: u32) -> Option<i32>
     ensures some { IfSome result (λ res. slice_get direct.now at ≡ Some (row, res)) }
     ensures on { IfSome result (λ res. at + 1 < 2 ^ 64) }
@@ -121,14 +123,14 @@ fn result_at(direct: &[(u32, i32)], at: usize, row: u32) -> Option<i32>
     if r == row { Some(res) } else { None }
 }
 
-// Whether a row severs the rest of its unit as it ends with a result.
+// Whether the request severs the rest of its chain if it completes with this result.
 fn severs(row: &Row, res: i32) -> bool
     ensures { result ≡ (has_soft_link row.now && is_bad row.now res) }
 {
     is_soft_linked(row) && is_bad(row, res)
 }
 
-// Whether a row ends badly with a result.
+// Whether the result is a failure, for the purpose of links.
 fn is_bad(row: &Row, res: i32) -> bool
     ensures { result ≡ is_bad row.now res }
 {

@@ -1,17 +1,16 @@
-//! The LINK_TIMEOUTs that end as their targets do (io_uring_enter(2)).
+//! Linked timeouts, which complete with their targets (io_uring_enter(2), IORING_OP_LINK_TIMEOUT).
 ghost use Rattle.std.specs.Prelude.{◌≡◌, ◌<◌, ◌≤◌, ◌+◌, IfOk, false, length, slice_get};
 ghost use Rattle.std.specs.Option.{option_map_or};
 ghost use Rattle.links_drains.specs.Endings.{Direct};
 ghost use Rattle.timeouts_cancel.specs.Falls.{GuardsStand};
 ghost use Rattle.timeouts_cancel.specs.Guarding.{guarding, guards_row};
 
-use entries::Row;
+use entries::{ECANCELED, Row};
 use links_drains::{Table, is_guard, is_unfinished};
-use opcodes::ECANCELED;
 use std::alloc::AllocError;
 
-/// The guards of rows that end, with the results that they end with. It looks at the row behind
-/// each.
+/// Returns the unfinished linked timeouts of the listed requests, each with -ECANCELED. Only the
+/// request after each listed one is examined.
 pub(crate) fn guards(table: &Table, listed: &[(u32, i32)]) -> Result<Vec<(u32, i32)>, AllocError>
     requires listed { Direct table.now listed.now }
     requires guards { GuardsStand table.now }
@@ -28,7 +27,7 @@ pub(crate) fn guards(table: &Table, listed: &[(u32, i32)]) -> Result<Vec<(u32, i
     Ok(guards)
 }
 
-// Whether the row behind a row guards it.
+// Whether the request after r is its unfinished linked timeout.
 fn is_guarded(table: &Table, r: u32) -> bool
     requires { r < 65536 }
     ensures { result ≡ option_map_or (guards_row r) (slice_get table.now (r + 1)) false }
@@ -39,7 +38,7 @@ fn is_guarded(table: &Table, r: u32) -> bool
     }
 }
 
-// Whether an unfinished row guards another.
+// Whether the request is an unfinished linked timeout of `target`.
 fn guards_row(row: &Row, target: u32) -> bool
     ensures { result ≡ guards_row target row.now }
 {

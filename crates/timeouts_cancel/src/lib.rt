@@ -1,4 +1,5 @@
-//! Which rows end with those that a step ends, which are due, and which a cancel finds.
+//! Which requests complete as a consequence of others, which timers have expired, and which
+//! requests a cancellation matches.
 #![tactic(auto)]
 
 mod falling;

@@ -1,5 +1,5 @@
-//! What a cancel or a removal finds (io_uring_enter(2)). Each issued row is looked at no more than
-//! once, and no other.
+//! The requests that ASYNC_CANCEL, POLL_REMOVE and TIMEOUT_REMOVE match (io_uring_enter(2)). Each
+//! function examines an issued request at most once, and no other requests.
 ghost use Rattle.std.specs.Prelude.{◌≡◌, ◌<◌, Some, IfOk, IfSome, IfNone, length};
 ghost use Rattle.timeouts_cancel.specs.Matches.{holds_number, fits_key, is_match, matches_of, found_by, found_first, waiting_by, IsNextMatch, NoMatchFrom};
 ghost use Rattle.timeouts_cancel.specs.declared.matching.Key.TheVariants.{User};
@@ -10,40 +10,40 @@ use model_files::World;
 use opcodes::{Op, is_running};
 use std::alloc::AllocError;
 
-/// What rows are looked for by.
+/// The criterion by which requests are searched.
 #[derive(Clone, Copy)]
 pub enum Key {
-    /// Any by its user_data.
+    /// Any request with this user_data.
     User(u64),
-    /// Those that hold the descriptor of a number, open or closed.
+    /// Requests that hold this descriptor, open or closed (IORING_ASYNC_CANCEL_FD).
     Fd(i32),
-    /// A POLL_ADD by its user_data.
+    /// A POLL_ADD with this user_data.
     Poll(u64),
-    /// A TIMEOUT by its user_data.
+    /// A TIMEOUT with this user_data.
     Timeout(u64),
 }
 
-/// The match of the least number.
+/// The first match: the one with the smallest number.
 #[derive(Clone, Copy)]
 pub enum Found {
-    /// There is none.
+    /// Nothing matches.
     Absent,
-    /// It is running, and can't be ended.
+    /// The match is running and cannot be canceled.
     Running(u32),
-    /// It waits.
+    /// The match waits and can be canceled.
     Waiting(u32),
 }
 
-/// The least issued row that has a user_data, other than a LINK_TIMEOUT and the row that asks. It
-/// takes no memory.
+/// Returns the first issued request with this user_data, except LINK_TIMEOUTs and the request `me`
+/// that searches. Doesn't allocate.
 pub fn find(table: &Table, world: &World, addr: u64, me: u32) -> Found
     ensures { result ≡ found_by table.now world.now (User addr) me }
 {
     find_by(table, world, Key::User(addr), me)
 }
 
-/// The least issued row that fits a key, other than a LINK_TIMEOUT and the row that asks. It takes
-/// no memory.
+/// Returns the first issued request that matches, except LINK_TIMEOUTs and the request `me` that
+/// searches. Doesn't allocate.
 pub fn find_by(table: &Table, world: &World, key: Key, me: u32) -> Found
     ensures { result ≡ found_by table.now world.now key me }
 {
@@ -53,8 +53,8 @@ pub fn find_by(table: &Table, world: &World, key: Key, me: u32) -> Found
     }
 }
 
-/// All issued rows that fit a key and wait, other than LINK_TIMEOUTs and the row that asks, in the
-/// order of their numbers.
+/// Returns all issued requests that match and are waiting, by ascending number, except
+/// LINK_TIMEOUTs and the request `me` that searches.
 pub fn all_by(table: &Table, world: &World, key: Key, me: u32) -> Result<Vec<u32>, AllocError>
     ensures { IfOk result (λ all. all.items ≡ waiting_by table.now world.now key me) }
 {
@@ -69,8 +69,8 @@ pub fn all_by(table: &Table, world: &World, key: Key, me: u32) -> Result<Vec<u32
     Ok(all)
 }
 
-/// How many issued rows fit a key, other than LINK_TIMEOUTs and the row that asks. It takes no
-/// memory.
+/// Returns how many issued requests match, except LINK_TIMEOUTs and the request `me` that searches.
+/// Doesn't allocate.
 pub fn count_by(table: &Table, key: Key, me: u32) -> u32
     ensures { result ≡ length (matches_of table.now key me) }
 {
@@ -83,7 +83,7 @@ pub fn count_by(table: &Table, key: Key, me: u32) -> u32
     count
 }
 
-// A match, with how far it is.
+// A match, as running or waiting.
 fn told(world: &World, r: u32, row: &Row) -> Found
     ensures { result ≡ found_first world.now (Some (r, row.now)) }
 {
@@ -94,7 +94,7 @@ fn told(world: &World, r: u32, row: &Row) -> Found
     }
 }
 
-// The least match from a number on.
+// The first match from a number on.
 fn next_match(table: &Table, key: Key, me: u32, from: u32) -> Option<(u32, Row)>
     ensures some { IfSome result (λ p. IsNextMatch table.now key me from p.0 p.1) }
     ensures none { IfNone result (NoMatchFrom table.now key me from) }

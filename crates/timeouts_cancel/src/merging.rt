@@ -1,4 +1,4 @@
-//! Lists of rows that end are put together.
+//! Merges sorted lists of completions.
 ghost use Rattle.std.specs.Prelude.{◌≡◌, ◌+◌, ◌≤◌, ℕ, ℤ, Option, IfOk, IfSome, IfNone, length};
 ghost use Rattle.entries.specs.declared.row.Row.{Row};
 ghost use Rattle.links_drains.specs.Endings.{Direct, endings, result_in};
@@ -8,8 +8,8 @@ ghost use Rattle.timeouts_cancel.specs.Merges.{IsLeast, Rises, Splits};
 use links_drains::Table;
 use std::alloc::AllocError;
 
-/// A list of rows that end, and others that end too, in the order of their numbers: a row of both
-/// keeps the result that the first has. Where there are no others it takes no memory.
+/// Merges two lists of completions, sorted by request number. For a request in both, the result in
+/// `first` counts. Doesn't allocate if `others` is empty.
 pub(crate) fn add(
     table: &Table,
     first: Vec<(u32, i32)>,
@@ -26,7 +26,7 @@ pub(crate) fn add(
     merge(table, &first, others)
 }
 
-// Two lists of rows that end as one.
+// Merges two sorted lists.
 fn merge(
     table: &Table,
     first: &[(u32, i32)],
@@ -48,7 +48,8 @@ fn merge(
     Ok(all)
 }
 
-// The next of two lists, from an index of each on; of two for one row the first list's.
+// The next completion of two lists, from index i of the first and j of the second. If both are for
+// the same request, the first list's.
 fn least(first: &[(u32, i32)], second: &[(u32, i32)], i: usize, j: usize) -> Option<(u32, i32)>
     ensures some { IfSome result (λ e. IsLeast first.now second.now i j e) }
     ensures none { IfNone result ((length first.now ≤ i) × (length second.now ≤ j)) }
@@ -62,7 +63,7 @@ fn least(first: &[(u32, i32)], second: &[(u32, i32)], i: usize, j: usize) -> Opt
     Some(first[i])
 }
 
-// The index behind a row, where that is the next of a list.
+// The index after `at`, if the completion there is for request r; else `at`.
 fn past(list: &[(u32, i32)], at: usize, r: u32) -> usize
     requires rises { Rises list.now }
     requires splits { Splits list.now r at }

@@ -1,4 +1,5 @@
-//! Timers: deadlines, and the TIMEOUTs that a count of completions ends (io_uring_enter(2)).
+//! Deadlines of timers, and TIMEOUTs that complete after a number of completions
+//! (io_uring_enter(2)).
 ghost use Rattle.std.specs.Prelude.{◌≡◌, ◌-◌, ◌<◌, ◌^◌, IfOk, false, length, slice_get};
 ghost use Rattle.std.specs.Option.{option_map_or};
 ghost use Rattle.links_drains.specs.Phases.{counts};
@@ -10,7 +11,7 @@ use links_drains::Table;
 use opcodes::is_timer;
 use std::alloc::AllocError;
 
-/// Whether the clock has come to a row's deadline. It takes no memory.
+/// Returns whether the request has a deadline that has passed at time `now`, in nanoseconds.
 pub fn due(row: &Row, now: u64) -> bool
     ensures { result ≡ is_due now row.now }
 {
@@ -20,7 +21,7 @@ pub fn due(row: &Row, now: u64) -> bool
     }
 }
 
-/// How many of the rows that end count among the completions that a TIMEOUT waits for.
+/// Returns how many of the completions count for TIMEOUTs.
 pub(crate) fn count(table: &Table, endings: &[(u32, i32)]) -> u32
     requires few { length endings.now < 2 ^ 32 }
     ensures { result ≡ counted_in table.now endings.now }
@@ -34,8 +35,8 @@ pub(crate) fn count(table: &Table, endings: &[(u32, i32)]) -> u32
     count
 }
 
-/// The TIMEOUTs whose count of completions is met, with the results that they end with. It looks at
-/// no other row.
+/// Returns the TIMEOUTs whose count `total` has reached, each with result 0. No other request is
+/// examined.
 pub(crate) fn met(table: &Table, total: u32) -> Result<Vec<(u32, i32)>, AllocError>
     requires { total < 2 ^ 32 - 1 }
     ensures { IfOk result (λ met. met.items ≡ met_rows table.now total) }
@@ -49,7 +50,7 @@ pub(crate) fn met(table: &Table, total: u32) -> Result<Vec<(u32, i32)>, AllocErr
     Ok(met)
 }
 
-// Whether the end of a row counts; there may be no such row.
+// Whether the completion of request r counts; false if there is no such request.
 fn counts(table: &Table, r: u32) -> bool
     ensures { result ≡ option_map_or counts (slice_get table.now r) false }
 {

@@ -1,4 +1,4 @@
--- Bytes that are no trace have one first fault.
+-- Bytes that aren't a trace have one first fault.
 use Rattle.std.proofs.Common.{◌≡◌, ℕ, ◌*◌, ◌<◌, ◌≤◌, List, length, drop, Some, Result, Ok, Err, refl, sym, ap, subst, ◌∙◌, inl, inr, ◌⊎◌, arith}
 use Rattle.std.proofs.lemmas.Bool.{cases_lt}
 use Rattle.byteorder.specs.Endian.{little_number}
@@ -12,11 +12,11 @@ use Rattle.traces.specs.Faults.{event_fault, AreClean, IsEventsFault, HasCount, 
 use Rattle.traces.specs.Reading.{setup_at, behind_magic, IsBodyFault, IsFault2}
 use Rattle.traces.proofs.Traces.{no_trace_fault}
 
--- the first event that has a fault
+-- The first event with a fault.
 abbrev pub FirstEvent : ℕ → List ℕ → TraceFault → Type 0
 FirstEvent count bytes f = (k : ℕ) × (k < count) × AreClean k bytes × (event_fault (drop (16 * k) bytes) ≡ Some f)
 
--- the same of each fault at once
+-- The fault of a list of events, for any kind of fault.
 abbrev pub OfEvents : ℕ → List ℕ → TraceFault → Type 0
 OfEvents count bytes f = ((f ≡ Trailing) × AreClean count bytes) ⊎ FirstEvent count bytes f
 
@@ -72,7 +72,7 @@ one_of_counted bytes f g (inr (inr a)) (inl b) = absurd (let x = b.1 in let y = 
 one_of_counted bytes f g (inr (inr a)) (inr (inl b)) = absurd (let x = b.2 in let y = a.0.1 in omega arith)
 one_of_counted bytes f g (inr (inr a)) (inr (inr b)) = one_of_events (little_number 4 bytes) (drop 4 bytes) f g a.1 b.1
 
--- the first fault of a count and its events
+-- The first fault of a count and its events is unique.
 pub counted_alike : (bytes : List ℕ) (f g : TraceFault) → IsCountedFault bytes f → IsCountedFault bytes g → f ≡ g
 counted_alike bytes f g a b = one_of_counted bytes f g (of_counted bytes f a) (of_counted bytes g b)
 
@@ -89,7 +89,7 @@ of_trace bytes Trailing h = inr h
 of_trace bytes Memory h = inr h
 of_trace bytes (SetupFault offset) h = inr h
 
--- of a trace of the first form
+-- The same for a trace of the first form.
 pub faults_alike : (bytes : List ℕ) (f g : TraceFault) → IsFault bytes f → IsFault bytes g → f ≡ g
 faults_alike bytes f g a b = by (of_trace bytes f a) (of_trace bytes g b)
   where
@@ -103,13 +103,13 @@ body_alike : (r : Result (Setup × Cursor) TraceFault) (f g : TraceFault) → Is
 body_alike (Ok found) f g a b = counted_alike found.1.rest f g a b
 body_alike (Err first) f g a b = a ∙ sym b
 
--- of a trace of the second form
+-- The same for a trace of the second form.
 pub faults2_alike : (bytes : List ℕ) (f g : TraceFault) → IsFault2 bytes f → IsFault2 bytes g → f ≡ g
 faults2_alike bytes f g (inl x) (inl y) = x.1 ∙ sym y.1
 faults2_alike bytes f g (inl x) (inr y) = absurd (x.0 y.0)
 faults2_alike bytes f g (inr x) (inl y) = absurd (y.0 x.0)
 faults2_alike bytes f g (inr x) (inr y) = body_alike (setup_at (behind_magic bytes)) f g x.1 y.1
 
--- what is spelled has none
+-- A trace of a list of events has no fault.
 pub no_fault : (events : List Event) (bytes : List ℕ) (fault : TraceFault) → IsTrace events bytes → IsFault bytes fault → ⊥
 no_fault events bytes fault h g = no_trace_fault events fault h.0 (subst (λ (xs : List ℕ). IsFault xs fault) h.1 g)

@@ -37,7 +37,7 @@ wide_fits (Finish row choice) h = choice_fits choice h.1
 wide_fits (Expire row) h = omega arith
 wide_fits (Tick d) h = omega arith
 
--- the choice of a number, and the event of its kind and numbers
+-- The choice with a number, and the event with a kind and numbers.
 abbrev choice_of : ℕ → Choice
 choice_of n = if n == 0 then Full else if n == 2 ^ 32 then Eio else Short n
 
@@ -71,7 +71,7 @@ event_again (Tick d) h = refl
 event_of-same : (a b p q x y : ℕ) → a ≡ b → p ≡ q → x ≡ y → event_of a p x ≡ event_of b q y
 event_of-same a b p q x y e f g = ap (λ (k : ℕ). event_of k p x) e ∙ ap (λ (w : ℕ). event_of b w x) f ∙ ap (λ (v : ℕ). event_of b q v) g
 
--- two events of the same bytes are one
+-- Events with equal bytes are equal.
 pub same_event : (d e : Event) → Fits d → Fits e → event_bytes d ≡ event_bytes e → d ≡ e
 same_event d e f g h =
     let kind : kind_of d ≡ kind_of e = ap (λ (bytes : List ℕ). get_or bytes 0 0) h in
@@ -102,7 +102,7 @@ numbers_are (Finish row choice) h = choice_small choice h.1
 numbers_are (Expire row) h = refl
 numbers_are (Tick d) h = refl
 
--- what stands in the test of an event
+-- The checks of an event, by their results.
 abbrev fault_by : Bool → Bool → Bool → Option TraceFault
 fault_by short kind padded = if short then Some Truncated else if kind then (if padded then None else Some Padding) else Some Kind
 
@@ -112,7 +112,7 @@ fault_by-none short kind padded e f g = rw (e, f, g) refl
 has_numbers-same : (k p q x y : ℕ) → p ≡ q → x ≡ y → has_numbers k q y ≡ true → has_numbers k p x ≡ true
 has_numbers-same k p q x y e f h = ap (λ (w : ℕ). has_numbers k w x) e ∙ ap (λ (v : ℕ). has_numbers k q v) f ∙ h
 
--- an event that is spelled has no fault, whatever follows it
+-- An encoded event has no fault, whatever follows it.
 pub event_clean : (e : Event) (rest : List ℕ) → Fits e → event_fault (event_bytes e ++ rest) ≡ None
 event_clean e rest h =
     let long : 16 ≤ length (event_bytes e ++ rest) = omega (arith, length-append (event_bytes e) rest) in

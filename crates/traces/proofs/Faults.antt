@@ -1,4 +1,4 @@
--- A fault that is found first stays the first one with what stands before it.
+-- The first fault of a suffix is also the first fault of the whole, if the prefix has none.
 use Rattle.std.proofs.Common.{◌≡◌, ℕ, ◌*◌, ◌<◌, length, length-drop, arith, sym, ap, ◌∙◌, Bool, true, false, cond, List, drop, Some, None, Result, Ok, Err, inl, inr, ◌⊎◌}
 use Rattle.std.specs.Prelude.{IfErr, nat_lt, slice_index}
 use Rattle.std.specs.Global.{Vec}
@@ -9,7 +9,7 @@ use Rattle.traces.specs.declared.fault.TraceFault.TheVariants.{Magic, Truncated,
 use Rattle.traces.specs.Spelling.{magic}
 use Rattle.traces.specs.Faults.{is_kind, is_padded, event_fault, AreClean, IsEventsFault, HasCount, IsCountedFault, BeginsAs, IsFault}
 
--- what a test of an event never answers
+-- The check of an event never results in Count.
 never_count : (a b c : Bool) → cond a (Some Truncated) (cond b (cond c None (Some Padding)) (Some Kind)) ≡ Some Count → ⊥
 never_count true b c e = cc
 never_count false true true e = cc
@@ -37,7 +37,7 @@ no_magic bytes e = never_magic (nat_lt (length bytes) 16) (is_kind (slice_index 
 no_trailing : (bytes : List ℕ) → event_fault bytes ≡ Some Trailing → ⊥
 no_trailing bytes e = never_trailing (nat_lt (length bytes) 16) (is_kind (slice_index bytes 0)) (is_padded bytes) e
 
--- the first event with a fault, at the end of those without one
+-- The first event with a fault, after those without one.
 pub of_event : (count i : ℕ) (bytes rest : List ℕ) (fault : TraceFault) → i < count → AreClean i bytes → rest ≡ drop (16 * i) bytes
     → event_fault rest ≡ Some fault → IsEventsFault count bytes fault
 of_event count i bytes rest Trailing lt clean place e = absurd (no_trailing rest e)
@@ -49,7 +49,7 @@ of_event count i bytes rest Padding lt clean place e = (i, lt, clean, ap event_f
 of_event count i bytes rest Memory lt clean place e = (i, lt, clean, ap event_fault (sym place) ∙ e)
 of_event count i bytes rest (Setup offset) lt clean place e = (i, lt, clean, ap event_fault (sym place) ∙ e)
 
--- what stands behind a place is longer
+-- If bytes remain after n bytes, there are more than n.
 pub place_below : (n : ℕ) (bytes rest : List ℕ) → rest ≡ drop n bytes → 0 < length rest → n < length bytes
 place_below n bytes rest place some = omega (arith, length-drop n bytes, ap length place)
 

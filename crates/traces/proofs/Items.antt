@@ -1,4 +1,4 @@
--- Lists of items, read one by one.
+-- Lists that are read item by item.
 use Rattle.std.proofs.Common.{◌≡◌, ℕ, suc, ◌+◌, ◌-◌, ◌<◌, ◌≤◌, List, [], ◌∷◌, ◌++◌, Result, Ok, Err, refl, sym, ◌∙◌, arith}
 use Rattle.traces.specs.declared.fault.TraceFault.{TraceFault}
 use Rattle.traces.specs.declared.fault.TraceFault.TheVariants.{Magic, Truncated, Count, Kind, Padding, Trailing, Memory, Setup}

@@ -15,3 +15,4 @@ pub mod Trimming
 pub mod Written
 pub mod SecondForm
 pub mod Alike
+pub mod Kept

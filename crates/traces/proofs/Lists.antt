@@ -1,4 +1,4 @@
--- A list of items that is read is the list that was written.
+-- Reading a list returns the items that were written.
 use Rattle.std.proofs.Common.{◌≡◌, ℕ, zero, suc, ◌^◌, ◌<◌, ◌≤◌, Bool, true, List, [], ◌∷◌, ◌++◌, length, Result, Ok, refl, sym, ap, subst, ◌∙◌, append_assoc, arith}
 use Rattle.std.specs.Prelude.{nat_le}
 use Rattle.std.specs.List.{flat_map, list_all, AllByRecursion}
@@ -13,7 +13,7 @@ use Rattle.traces.specs.Setups.{list_bytes}
 use Rattle.traces.specs.Reading.{count_at, items_at, list_at}
 use Rattle.traces.proofs.Taking.{IsBytes, bind_ok, ok_is, cursor_at, Takes, Takes-then, Again, width4, number_in_takes, number_in_again}
 
--- What is read is spelled so, and what is spelled so is read, for an item behind those before it.
+-- Reading and writing an item are inverse. An item may depend on the earlier ones.
 pub record Reads (A : Type 0) (item : List A → Cursor → Result (A × Cursor) TraceFault) (bytes : A → List ℕ) (Fits : List A → A → Type 0) : Type 0 where
   pub takes : (before : List A) (s : Cursor) (x : A) (t : Cursor) → IsBytes s.rest → item before s ≡ Ok (x, t) → Takes s (bytes x) t × Fits before x
   pub again : (before : List A) (offset : ℕ) (x : A) (rest : List ℕ) → Fits before x → Again (item before) offset (bytes x ++ rest) x rest
@@ -22,7 +22,7 @@ abbrev pub FitBehind : {A : Type 0} → (List A → A → Type 0) → List A →
 FitBehind Fits before [] = Unit {0}
 FitBehind Fits before (x ∷ xs) = Fits before x × FitBehind Fits (before ++ x ∷ []) xs
 
--- the items that were read behind those before them
+-- The items that were read, after the earlier ones.
 pub record Took (A : Type 0) (bytes : A → List ℕ) (Fits : List A → A → Type 0) (n : ℕ) (before : List A) (s : Cursor) (all : List A) (t : Cursor) : Type 0 where
   pub xs : List A
   pub all-is : all ≡ before ++ xs
@@ -87,7 +87,7 @@ list_again A item bytes Fits r most offset xs rest small le fit =
     let regrouped : list_bytes bytes xs ++ rest ≡ little_bytes 4 (length xs) ++ (flat_map bytes xs ++ rest) = append_assoc (little_bytes 4 (length xs)) (flat_map bytes xs) rest in
     (b.0, ap (λ (input : List ℕ). list_at most item (cursor_at offset input)) regrouped ∙ rw (a.1, b.1) refl)
 
--- a test of each item behind those before it
+-- A test of each item that may depend on the earlier ones.
 pub behind_fit : {A : Type 0} (keeps : List A → A → Bool) (before xs : List A) → all_behind keeps before xs ≡ true → FitBehind (λ b x. keeps b x ≡ true) before xs
 behind_fit keeps before [] h = tt
 behind_fit keeps before (x ∷ xs) h =
@@ -98,7 +98,7 @@ pub fit_behind : {A : Type 0} (keeps : List A → A → Bool) (before xs : List 
 fit_behind keeps before [] h = refl
 fit_behind keeps before (x ∷ xs) h = and_from _ _ h.0 (fit_behind keeps (before ++ x ∷ []) xs h.1)
 
--- a test of each item, and a fact of it
+-- A test of each item, together with a property of each item.
 pub all_fit : {A : Type 0} (keeps : A → Bool) (Wide : A → Type 0) (before xs : List A) → list_all keeps xs ≡ true → AllByRecursion Wide xs
     → FitBehind (λ b x. (keeps x ≡ true) × Wide x) before xs
 all_fit keeps Wide before [] h w = tt

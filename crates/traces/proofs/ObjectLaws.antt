@@ -1,4 +1,4 @@
--- Objects and descriptors that are read are those that were written.
+-- Reading objects and descriptors returns those that were written.
 use Rattle.std.proofs.Common.{◌≡◌, ℕ, zero, suc, ◌-◌, ◌^◌, ◌<◌, ◌≤◌, true, List, ◌++◌, length, get_or, Option, Some, None, Ok, refl, sym, ap, subst, ◌∙◌, append_assoc, arith, inl, inr}
 use Rattle.std.specs.Prelude.{nat_le, nat_lt, ◌==◌, ◌&&◌, slice_get}
 use Rattle.std.proofs.lemmas.Bool.{and_parts, and_from, leb-true, ltb-true, eqb-true}
@@ -205,7 +205,7 @@ end_again o offset e rest h =
     let a = number_in_again 1 (is_end o) offset (end_number e) rest (end_small e) h in
     (a.0, rw (a.1, end_again_of e) refl)
 
--- the number of an object that there is
+-- A descriptor with a valid end refers to an object of the list.
 pub end_there : (objects : List Object) (i n : ℕ) → is_end (slice_get objects i) n ≡ true → i < length objects
 end_there objects i n h =
     elim (slice_get_cases objects i).1 [
@@ -240,7 +240,7 @@ pub descriptor_reads : (objects : List Object) → length objects ≤ 32
     → Reads Descriptor (λ before. descriptor_at objects) descriptor_bytes (λ before d. (keeps_descriptor objects d ≡ true) × Unit {0})
 descriptor_reads objects few = record { takes = descriptor_takes objects; again = descriptor_again objects few }
 
--- an object that there is, and one of its ends
+-- A descriptor is read if its object is in the list and has its end.
 pub descriptor_is : (objects : List Object) (s : Cursor) (i : ℕ) (behind : Cursor) (o : Object) (e : End) (t : Cursor) → i < length objects
     → number_in 1 (λ n. nat_lt n (length objects)) s ≡ Ok (i, behind) → o ≡ get_or objects i o → end_at (Some o) behind ≡ Ok (e, t)
     → descriptor_at objects s ≡ Ok (record { object = i; end = e }, t)

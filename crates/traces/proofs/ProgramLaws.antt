@@ -1,4 +1,4 @@
--- Programs that are read are those that were written.
+-- Reading programs returns those that were written.
 use Rattle.std.proofs.Common.{◌≡◌, ℕ, zero, suc, ◌+◌, ◌^◌, ◌<◌, ◌≤◌, true, List, [], ◌++◌, length, take, Ok, refl, sym, ap, subst, ◌∙◌, append_assoc, arith, Fits, FitsSigned}
 use Rattle.std.specs.Prelude.{nat_le, nat_lt}
 use Rattle.std.specs.List.{list_all, AllByRecursion}
@@ -48,11 +48,11 @@ instruction_split (Close fd) = refl
 abbrev Kept : ℕ → Instruction → Type 0
 Kept slots i = (keeps_instruction slots i ≡ true) × HasWidths i
 
--- what reading the tail of an instruction of a kind gives
+-- The result of reading an instruction after its kind.
 abbrev TailTakes : ℕ → ℕ → Cursor → Instruction → Cursor → Type 0
 TailTakes slots k s i t = Takes s (tail_of i) t × (kind_of i ≡ k) × Kept slots i
 
--- bytes that were taken are bytes
+-- What was read from bytes consists of bytes.
 bytes_fit : (s : Cursor) (x : List ℕ) (t : Cursor) → IsBytes s.rest → Takes s x t → IsBytes x
 bytes_fit s x t fits taken =
     let front : take (length x) s.rest ≡ x = ap (λ (r : List ℕ). take (length x) r) taken.parts ∙ take_at x t.rest (length x) refl in
@@ -155,7 +155,7 @@ instruction_takes slots before s i t fits e =
     let whole : little_bytes 1 a.0.0 ++ tail_of i ≡ instruction_bytes i = ap (λ (k : ℕ). little_bytes 1 k ++ tail_of i) (sym tail.1) ∙ sym (instruction_split i) in
     (subst (λ (text : List ℕ). Takes s text t) whole both, tail.2)
 
--- ---- and again
+-- ---- reading what was written
 
 small_signed : (x : _) → FitsSigned w32 x → cast_unsigned w32 x < 256 ^ 4
 small_signed x f = omega (arith, ints)

@@ -1,4 +1,4 @@
--- Traces of the second form: what is read is spelled so, what is spelled so is read, and the first fault.
+-- Traces of the second form: reading and writing are inverse, and the first fault is unique.
 use Rattle.std.proofs.Common.{◌≡◌, ℕ, ◌<◌, ◌≤◌, true, min, List, [], ◌∷◌, ◌++◌, length, take, drop, get_or, None, Result, Ok, Err, refl, sym, ap, subst, ◌∙◌, inl, inr, ◌⊎◌, arith}
 use Rattle.std.proofs.lemmas.List.{take-append-drop, drop_all, append_assoc, length-append, take_at, take_all}
 use Rattle.std.specs.Prelude.{IfOk, IfErr, MatchResult}
@@ -25,7 +25,7 @@ use Rattle.traces.proofs.SetupLaws.{Spelled, setup_takes, setup_again}
 use Rattle.traces.proofs.Startable.{startable, starting}
 use Rattle.traces.proofs.Trimming.{canonical_spelled}
 
--- the fault of the events behind a setup
+-- A fault of the events after a setup is a fault of the whole.
 pub body_fault : (r : Result (Setup × Cursor) TraceFault) (setup : Setup) (s : Cursor) (rest : List ℕ) (fault : TraceFault) → r ≡ Ok (setup, s) → rest ≡ s.rest
     → (fault ≡ Memory) ⊎ IsCountedFault rest fault → (fault ≡ Memory) ⊎ IsBodyFault r fault
 body_fault r setup s rest fault e f h =
@@ -38,14 +38,14 @@ nothing_read : setup_at (cursor_at 8 []) ≡ Err Truncated
 unfolding setup_at number_in
 nothing_read = refl
 
--- bytes that end with the first eight, or before
+-- Bytes that end before the setup.
 pub short_fault : (bytes : List ℕ) → length bytes < 8 → IsBodyFault (setup_at (behind_magic bytes)) Truncated
 short_fault bytes lt =
     let none : drop 8 bytes ≡ [] = drop_all 8 bytes (omega arith) in
     let e : setup_at (behind_magic bytes) ≡ Err Truncated = ap (λ (xs : List ℕ). setup_at (cursor_at 8 xs)) none ∙ nothing_read in
     subst (λ (x : Result (Setup × Cursor) TraceFault). IsBodyFault x Truncated) (sym e) refl
 
--- the bytes behind the first eight
+-- The bytes after the magic.
 begun : (bytes : List ℕ) → 8 ≤ length bytes → BeginsAs magic2 bytes → bytes ≡ magic2 ++ drop 8 bytes
 begun bytes le h =
     let whole : min 8 (length bytes) ≡ 8 = omega arith in
@@ -55,7 +55,7 @@ begun bytes le h =
 abbrev pub Body : List ℕ → Setup → List Event → Type 0
 Body bytes setup events = (s : Cursor) × (setup_at (behind_magic bytes) ≡ Ok (setup, s)) × (s.rest ≡ counted_bytes events) × AreEvents events
 
--- what is read is spelled so
+-- The setup and events that were read have this trace.
 body_spelled : (bytes : List ℕ) (setup : Setup) (events : List Event) → IsBytes bytes → 8 ≤ length bytes → BeginsAs magic2 bytes → Body bytes setup events → IsTrace2 setup events bytes
 body_spelled bytes setup events fits le h body =
     let t = setup_takes (behind_magic bytes) setup body.0 (IsBytes-drop 8 bytes fits) body.1 in
@@ -77,7 +77,7 @@ pub is_fault : (bytes : List ℕ) (r : Result (Setup × Vec Event) TraceFault) �
 is_fault bytes (Ok v) h f = tt
 is_fault bytes (Err fault) h f = elim f [ inl e ↦ inl e | inr g ↦ inr (inr (h, g)) ]
 
--- what is spelled so is read
+-- The trace of a setup and events is read.
 again2 : (setup : Setup) (events : List Event) (bytes : List ℕ) → IsTrace2 setup events bytes → (o : ℕ) × (setup_at (behind_magic bytes) ≡ Ok (setup, cursor_at o (counted_bytes events)))
 again2 setup events bytes h =
     let spelled : Spelled setup = record { canonical = h.canonical; ranges = startable setup h.starts; widths = h.widths } in
@@ -87,7 +87,7 @@ again2 setup events bytes h =
 same_events : (d e : List Event) → AreEvents d → AreEvents e → counted_bytes d ≡ counted_bytes e → d ≡ e
 same_events d e f g h = same_trace d e (trace_bytes d) (f, refl) (g, ap (λ (xs : List ℕ). magic ++ xs) h)
 
--- bytes are the trace of one setup and one list of events
+-- A trace determines its setup and its events.
 pub same_trace2 : (a b : Setup) (d e : List Event) (bytes : List ℕ) → IsTrace2 a d bytes → IsTrace2 b e bytes → (a ≡ b) × (d ≡ e)
 same_trace2 a b d e bytes f g =
     let p = again2 a d bytes f in
@@ -117,7 +117,7 @@ only_answer2 bytes (Err f) found fault setup events h =
       | inr g ↦ absurd (no_fault2 setup events bytes f h g)
     ]
 
--- what is written
+-- The written bytes are a trace.
 pub is_written : (setup : Setup) (events : List Event) (out : List ℕ) → setup_refusal setup ≡ None → Widths setup → AreEvents events
     → out ≡ trace2_bytes (canonical setup) events → IsTrace2 (canonical setup) events out
 is_written setup events out starts widths are spelled =
@@ -138,7 +138,7 @@ has_transfer_of (Finish row Eio) h = refl
 has_transfer_of (Expire row) h = refl
 has_transfer_of (Tick d) h = refl
 
--- events that fit have no transfer of no bytes
+-- Events that fit have no short transfer of 0 bytes.
 pub transfers : (es : List Event) → AllByRecursion Fits es → list_all has_transfer es ≡ true
 transfers [] h = refl
 transfers (e ∷ es) h = and_from _ _ (has_transfer_of e h.0) (transfers es h.1)
@@ -156,11 +156,11 @@ starts text other rest n h =
     let same : take 8 (other ++ rest) ≡ take 8 other = take_at other rest 8 n ∙ sym (take_all 8 other (omega arith)) in
     subst (λ (k : ℕ). take k other ≡ take k text) (sym alone) (sym same ∙ front)
 
--- A trace of the second form doesn't begin as one of the first.
+-- A trace of the second form doesn't begin like one of the first form.
 pub not_first : (setup : Setup) (events : List Event) (bytes : List ℕ) → IsTrace2 setup events bytes → BeginsAs magic bytes → ⊥
 not_first setup events bytes h b = other_magic (starts magic magic2 (setup_bytes setup ++ counted_bytes events) refl (subst (BeginsAs magic) h.spelled b))
 
--- what the reader of the first form says of a trace of the second
+-- Reading a trace of the second form as one of the first results in Magic.
 pub first_of_second : (setup : Setup) (events : List Event) (bytes : List ℕ) (fault : TraceFault) → IsTrace2 setup events bytes → IsFault bytes fault → fault ≡ Magic
 first_of_second setup events bytes Magic h f = refl
 first_of_second setup events bytes Truncated h f = absurd (not_first setup events bytes h f.0)
@@ -177,7 +177,7 @@ second_magic h = let e : 49 ≡ 50 = ap (λ (xs : List ℕ). get_or xs 7 0) h in
 not_second : (events : List Event) (bytes : List ℕ) → IsTrace events bytes → BeginsAs magic2 bytes → ⊥
 not_second events bytes h b = second_magic (starts magic2 magic (counted_bytes events) refl (subst (BeginsAs magic2) h.1 b))
 
--- and the other way round
+-- The same with the forms exchanged.
 pub second_of_first : (events : List Event) (bytes : List ℕ) (fault : TraceFault) → IsTrace events bytes → IsFault2 bytes fault → fault ≡ Magic
 second_of_first events bytes fault h f =
     elim f [
@@ -188,7 +188,7 @@ second_of_first events bytes fault h f =
 pub second_faults : (events : List Event) (bytes : List ℕ) → IsTrace events bytes → IsFault2 bytes Magic
 second_faults events bytes h = inl (not_second events bytes h, refl)
 
--- what is written is read again
+-- Reading a written trace returns its setup and its events.
 pub again_setup : (r : Result (Setup × Vec Event) TraceFault) (setup : Setup) (events : List Event)
     → MatchResult r (λ found. (found.0 ≡ setup) × (found.1.items ≡ events)) (λ fault. fault ≡ Memory) → IfOk r (λ found. found.0 ≡ setup)
 again_setup (Ok v) setup events h = h.0

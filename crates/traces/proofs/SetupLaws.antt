@@ -1,4 +1,4 @@
--- A setup that is read is the one that was written.
+-- Reading a setup returns the one that was written.
 use Rattle.std.proofs.Common.{◌≡◌, ℕ, zero, suc, ◌^◌, ◌<◌, ◌≤◌, Bool, true, false, List, [], ◌++◌, length, Option, Some, Result, Ok, refl, sym, ap, subst, ◌∙◌, append_assoc, arith}
 use Rattle.std.specs.Prelude.{nat_le, nat_lt, ◌==◌, ◌&&◌, ◌||◌}
 use Rattle.std.specs.List.{list_all, AllByRecursion}
@@ -105,7 +105,7 @@ bytes_of entries completions options base memory objects fds threads =
     ++ (little_bytes 4 base ++ (long_bytes memory ++ (list_bytes object_bytes objects
     ++ (list_bytes descriptor_bytes fds ++ list_bytes program_bytes threads))))))
 
--- the tests that the parts of a setup with rounded sizes pass
+-- The checks that the parts of a setup with rounded sizes pass.
 pub record Parts (entries completions options base : ℕ) (memory : List ℕ) (objects : List Object) (fds : List Descriptor) (threads : List (List Instruction)) : Type 0 where
   pub entries_ok : is_size 4096 entries ≡ true
   pub completions_ok : is_completion_size entries completions ≡ true
@@ -121,7 +121,7 @@ pub record Parts (entries completions options base : ℕ) (memory : List ℕ) (o
   pub threads_ok : list_all (keeps_program entries) threads ≡ true
   pub widths : AllByRecursion (AllByRecursion HasWidths) threads
 
--- what reading a setup took
+-- What reading a setup consumes.
 pub record SetupTakes (s : Cursor) (x : Setup) (t : Cursor) : Type 0 where
   pub entries : ℕ
   pub completions : ℕ
@@ -135,7 +135,7 @@ pub record SetupTakes (s : Cursor) (x : Setup) (t : Cursor) : Type 0 where
   pub parts : Parts entries completions options base memory objects fds threads
   pub taken : Takes s (bytes_of entries completions options base memory objects fds threads) t
 
--- what reading the parts behind the rings took
+-- What reading the parts after the rings consumes.
 record Things (entries completions options base : ℕ) (s : Cursor) (x : Setup) (t : Cursor) : Type 0 where
   memory : List ℕ
   objects : List Object
@@ -305,7 +305,7 @@ parts_again offset entries completions options base memory objects fds threads r
     let regrouped = regroup (little_bytes 2 entries) (little_bytes 2 completions) (little_bytes 1 options) (little_bytes 4 base) (long_bytes memory) (list_bytes object_bytes objects) (list_bytes descriptor_bytes fds) (list_bytes program_bytes threads) rest in
     (i.0, ap (λ (input : List ℕ). setup_at (cursor_at offset input)) regrouped ∙ rw (a.1, b.1, c.1, d.1, f.1, g.1, h.1, i.1) refl)
 
--- ---- what the parts say of the setup
+-- ---- from the parts to the setup
 
 pub record Spelled (x : Setup) : Type 0 where
   pub canonical : IsCanonical x

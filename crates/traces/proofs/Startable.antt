@@ -1,4 +1,4 @@
--- A setup that a run can start from keeps the ranges that its trace asks for, and the other way round.
+-- A run can start from a setup if and only if its values are in the ranges that a trace requires.
 use Rattle.std.proofs.Common.{◌≡◌, ℕ, Bool, true, false, not, cond, refl, sym, ◌∙◌, ap, List, [], ◌∷◌, ◌++◌, length, ◌-◌, ◌^◌, arith}
 use Rattle.std.specs.Prelude.{Option, Some, None, slice_get, ◌==◌, ◌&&◌, ◌||◌, nat_le}
 use Rattle.std.specs.Option.{option_map_or}
@@ -21,7 +21,7 @@ use Rattle.scenario.specs.declared.setup.SetupRefusal.TheVariants.{RingSize, Lim
 use Rattle.scenario.specs.Setups.{is_completion_size, has_ring_sizes, is_instruction, is_program, has_programs, has_memory, is_name, is_contents, is_object, is_named, names_once, has_objects, is_end, is_descriptor, has_descriptors, keeps_limits, setup_refusal}
 use Rattle.traces.specs.Limits.{is_within, is_name_byte, is_new_name, is_same, has_name, keeps_objects, keeps_threads, keeps_contents, keeps_object, all_behind, end_number, is_end_of, is_end as is_end_number, keeps_descriptor, keeps_instruction, keeps_program, keeps_completions, keeps_rings, keeps_ranges}
 
--- ---- each of a list
+-- ---- the items of a list
 
 each : {A : Type 0} (p q : A → Bool) (xs : List A) → ((x : A) → p x ≡ true → q x ≡ true) → list_all p xs ≡ true → list_all q xs ≡ true
 each p q [] h t = refl
@@ -101,7 +101,7 @@ instruction_kept slots (Close fd) h = refl
 program_kept : (slots : ℕ) (xs : List Instruction) → is_program slots xs ≡ true → keeps_program slots xs ≡ true
 program_kept slots xs h = let b = and_parts _ _ h in and_from _ _ b.0 (each (is_instruction slots) (keeps_instruction slots) xs (instruction_kept slots) b.1)
 
--- ---- the whole
+-- ---- the whole setup
 
 completions_kept : (entries : ℕ) (cq : Option ℕ) → is_completion_size entries cq ≡ true → keeps_completions entries cq ≡ true
 completions_kept entries None h = refl
@@ -132,13 +132,13 @@ startable s h = by (has_ring_sizes s) (keeps_limits s) refl refl h
     by true false e f k = absurd cc
     by true true e f k = parts_kept s e f
 
--- ---- and the other way round: a setup that keeps its ranges starts
+-- ---- the converse: a run can start from a setup whose values are in range
 
 yes_no : (a : Bool) → a ≡ false → not a ≡ true
 yes_no false h = refl
 yes_no true h = absurd cc
 
--- a name that none has behind others is once there
+-- A name that no earlier object has is unique.
 once_more : (before : List Object) (o : Object) → names_once before ≡ true → has_name before o.name ≡ false → names_once (before ++ o ∷ []) ≡ true
 once_more [] o once fresh = refl
 once_more (p ∷ ps) o once fresh =

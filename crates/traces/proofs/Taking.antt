@@ -1,4 +1,4 @@
--- A field that is read is the field that was written, and what was written is read again.
+-- Reading and writing a field are inverse.
 use Rattle.std.proofs.Common.{◌≡◌, ℕ, ◌+◌, ◌^◌, ◌<◌, ◌≤◌, Bool, true, false, cond, ltb, List, [], ◌∷◌, ◌++◌, length, get_or, take, drop, Result, Ok, Err, refl, sym, ap, subst, ◌∙◌, append_assoc, arith, inl, inr}
 use Rattle.std.specs.Prelude.{nat_le}
 use Rattle.std.proofs.lemmas.Bool.{cases_lt, ltb-false, le-ltb, leb-true}
@@ -25,12 +25,12 @@ IsBytes-take n bytes h i =
       | inr le ↦ rw (get_or_past (take n bytes) i 0 (omega (arith, length-take n bytes))) (omega arith)
     ]
 
--- the value of a step that did not fail
+-- The value of a step that didn't fail.
 pub bind_ok : {A B : Type 0} (r : Result A TraceFault) (f : A → Result B TraceFault) (y : B) → (r >>= f) ≡ Ok y → (x : A) × (r ≡ Ok x) × (f x ≡ Ok y)
 bind_ok (Ok x) f y e = (x, refl, e)
 bind_ok (Err d) f y e = absurd cc
 
--- a test that did not fail
+-- A test that didn't fail.
 guard_ok : {A : Type 0} (b : Bool) (d : TraceFault) (x y : A) → cond b (Err d) (Ok x) ≡ Ok y → (b ≡ false) × (x ≡ y)
 guard_ok true d x y e = absurd cc
 guard_ok false d x y e = (refl, cc)
@@ -48,7 +48,7 @@ ok_is x y e = cc
 abbrev pub cursor_at : ℕ → List ℕ → Cursor
 cursor_at offset rest = record { offset = offset; rest = rest }
 
--- what a field took from the front
+-- The text that a field consumed from the front.
 pub record Takes (s : Cursor) (text : List ℕ) (t : Cursor) : Type 0 where
   pub parts : s.rest ≡ text ++ t.rest
   pub fits : IsBytes t.rest
@@ -56,7 +56,7 @@ pub record Takes (s : Cursor) (text : List ℕ) (t : Cursor) : Type 0 where
 pub Takes-then : (a : Cursor) (x : List ℕ) (b : Cursor) (y : List ℕ) (c : Cursor) → Takes a x b → Takes b y c → Takes a (x ++ y) c
 Takes-then a x b y c p q = record { parts = p.parts ∙ ap (λ (t : List ℕ). x ++ t) q.parts ∙ sym (append_assoc x y c.rest); fits = q.fits }
 
--- Reading what stands there gives the value, and what stands behind it.
+-- Reading the text returns the value, and leaves the rest.
 abbrev pub Again : {A : Type 0} → (Cursor → Result (A × Cursor) TraceFault) → ℕ → List ℕ → A → List ℕ → Type 0
 Again at offset input x rest = (o : ℕ) × (at (cursor_at offset input) ≡ Ok (x, cursor_at o rest))
 

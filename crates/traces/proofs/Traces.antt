@@ -1,4 +1,4 @@
--- A trace and its events are one to one, and what is spelled has no fault.
+-- A trace determines its events, and has no fault.
 use Rattle.std.proofs.Common.{◌≡◌, ℕ, zero, suc, ◌+◌, ◌*◌, ◌<◌, min, List, [], ◌∷◌, ◌++◌, length, take, drop, get_or, true, Some, Result, Ok, Err, refl, sym, ap, subst, ◌∙◌, inl, inr, ◌⊎◌, arith, length-append}
 use Rattle.std.proofs.lemmas.List.{append_assoc, take-append-drop, drop-drop, flat_map_more, take_at, take_all, take_more, get_or_default}
 use Rattle.std.proofs.lemmas.List.Recursion.{and_at}
@@ -15,12 +15,12 @@ use Rattle.traces.specs.Spelling.{event_bytes, counted_bytes, trace_bytes, magic
 use Rattle.traces.specs.Faults.{event_fault, AreClean, IsEventsFault, IsCountedFault, BeginsAs, IsFault}
 use Rattle.traces.proofs.Events.{same_event, event_clean}
 
--- one more event that fits
+-- One more event that fits.
 pub fits_push : (es : List Event) (e : Event) → AllByRecursion Fits es → Fits e → AllByRecursion Fits (es ++ e ∷ [])
 fits_push [] e h f = (f, tt)
 fits_push (x ∷ es) e h f = (h.0, fits_push es e h.1 f)
 
--- one more event that is spelled
+-- One more event that was read.
 pub read_more : (bytes rest : List ℕ) (es : List Event) (e : Event) → bytes ≡ flat_map event_bytes es ++ rest
     → take 16 rest ≡ event_bytes e → bytes ≡ flat_map event_bytes (es ++ e ∷ []) ++ drop 16 rest
 read_more bytes rest es e h s =
@@ -30,11 +30,11 @@ read_more bytes rest es e h s =
     ∙ sym (append_assoc (flat_map event_bytes es) (event_bytes e) (drop 16 rest))
     ∙ ap (λ (xs : List ℕ). xs ++ drop 16 rest) more
 
--- an event that stands in a list, whatever would stand past its end
+-- An event at a valid index doesn't depend on the default.
 pub read_there : (es : List Event) (i : ℕ) (d : Event) → i < length es → get_or es i d ≡ get_or es i Sleep
 read_there es i d lt = get_or_default es i d Sleep lt
 
--- one more event that is written
+-- One more event that was written.
 pub written_more : (es : List Event) (i : ℕ) (front count out bytes : List ℕ) → i < length es
     → out ≡ front ++ (count ++ flat_map event_bytes (take i es)) → bytes ≡ event_bytes (get_or es i Sleep)
     → out ++ bytes ≡ front ++ (count ++ flat_map event_bytes (take (i + 1) es))
@@ -46,7 +46,7 @@ written_more es i front count out bytes lt e b =
     ∙ ap (λ (xs : List ℕ). front ++ (count ++ (flat_map event_bytes (take i es) ++ xs))) b
     ∙ ap (λ (xs : List ℕ). front ++ (count ++ xs)) more
 
--- and it fits
+-- One more event that was written and fits.
 pub fits_more : (es : List Event) (i : ℕ) → i < length es → list_all has_transfer es ≡ true → AllByRecursion Fits (take i es)
     → (has_transfer (get_or es i Sleep) ≡ true → Fits (get_or es i Sleep)) → AllByRecursion Fits (take (i + 1) es)
 fits_more es i lt all before fits =
@@ -61,11 +61,11 @@ same_events (d ∷ ds) (e ∷ es) f g h =
     let others : ds ≡ es = same_events ds es f.1 g.1 (ap (λ (bytes : List ℕ). drop 16 bytes) h) in
     rw (first, others) refl
 
--- two lists of events with the same trace are one
+-- Lists of events with the same trace are equal.
 pub same_trace : (ds es : List Event) (bytes : List ℕ) → IsTrace ds bytes → IsTrace es bytes → ds ≡ es
 same_trace ds es bytes f g = same_events ds es f.0.1 g.0.1 (ap (λ (xs : List ℕ). drop 12 xs) (sym f.1 ∙ g.1))
 
--- 16 bytes for each event
+-- Each event has 16 bytes.
 pub length_events : (es : List Event) → length (flat_map event_bytes es) ≡ 16 * length es
 length_events [] = refl
 length_events (e ∷ es) = omega (arith, length-append (event_bytes e) (flat_map event_bytes es), length_events es)
@@ -92,7 +92,7 @@ no_events_fault es Padding h g = no_later_fault es _ g.0 h g.1 g.3
 no_events_fault es Memory h g = no_later_fault es _ g.0 h g.1 g.3
 no_events_fault es (Setup offset) h g = no_later_fault es _ g.0 h g.1 g.3
 
--- the count of what is spelled
+-- The count before the encoded events.
 count_is : (es : List Event) → AreEvents es → little_number 4 (counted_bytes es) ≡ length es
 count_is es h = little_number-reads_back 4 (length es) (flat_map event_bytes es) (omega (arith, h.0))
 
@@ -100,7 +100,7 @@ no_fault_behind : (es : List Event) (fault : TraceFault) → AreEvents es → Is
 no_fault_behind es fault h g =
     no_events_fault es fault h.1 (subst (λ (n : ℕ). IsEventsFault n (flat_map event_bytes es) fault) (count_is es h) g)
 
--- what is spelled with its count has no fault
+-- Encoded events with their count have no fault.
 pub no_counted_fault : (es : List Event) (fault : TraceFault) → AreEvents es → IsCountedFault (counted_bytes es) fault → ⊥
 no_counted_fault es Truncated h g =
     elim g [
@@ -130,7 +130,7 @@ no_trace_fault es Trailing h g = no_counted_fault es Trailing h g.1
 no_trace_fault es Memory h g = no_counted_fault es Memory h g.1
 no_trace_fault es (Setup offset) h g = no_counted_fault es (Setup offset) h g.1
 
--- what is spelled is read, unless memory runs out
+-- A trace is read, unless an allocation fails.
 pub only_answer : (bytes : List ℕ) (r : Result (Vec Event) TraceFault) → IfOk r (λ found. IsTrace found.items bytes)
     → IfErr r (λ fault. (fault ≡ Memory) ⊎ IsFault bytes fault)
     → (es : List Event) → IsTrace es bytes → MatchResult r (λ found. found.items ≡ es) (λ fault. fault ≡ Memory)

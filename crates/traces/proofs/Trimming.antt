@@ -2,13 +2,14 @@
 use Rattle.std.proofs.Common.{◌≡◌, ℕ, zero, suc, ◌+◌, ◌-◌, ◌*◌, ◌<◌, ◌≤◌, Bool, true, false, cond, eqb, ltb, List, [], ◌∷◌, ◌++◌, length, take, get_or, Option, Some, None, refl, sym, ap, subst, ◌∙◌, arith}
 use Rattle.std.specs.Prelude.{nat_le, ◌==◌, ◌&&◌, ◌||◌, not, slice_index}
 use Rattle.std.specs.List.{list_all}
-use Rattle.std.proofs.lemmas.Bool.{and_parts, and_from, leb-true, le-leb, le-ltb}
+use Rattle.std.proofs.lemmas.Bool.{and_parts, and_from, eqb-true, leb-true, le-leb, le-ltb}
 use Rattle.std.proofs.lemmas.Bool.Decides.{nat_tests}
+use Rattle.std.proofs.Math.ListN.{replicate}
 use Rattle.std.proofs.lemmas.List.{append_assoc, take_more}
 use Rattle.ring_words.specs.Rings.{rounded, first_not_below}
 use Rattle.scenario.specs.declared.setup.Setup.{Setup}
 use Rattle.traces.specs.Limits.{is_within, is_size, all_behind, keeps_object, keeps_descriptor, keeps_program, keeps_completions, keeps_rings, keeps_objects, keeps_threads, keeps_ranges, Widths}
-use Rattle.traces.specs.Setups.{cut_behind, trimmed, is_trimmed, completion_size, canonical}
+use Rattle.traces.specs.Setups.{cut_behind, trimmed, is_trimmed, completion_size, canonical, IsCanonical}
 use Rattle.traces.proofs.ObjectLaws.{within_most}
 use Rattle.traces.proofs.SetupLaws.{size_rounded, size_most, size_within, Spelled}
 
@@ -94,6 +95,24 @@ pub trimmed_is : (xs : List ℕ) → is_trimmed (trimmed xs) ≡ true
 trimmed_is [] = refl
 trimmed_is (x ∷ xs) = cut_trimmed x (trimmed xs) (trimmed_is xs)
 
+-- Bytes are others, with zeros after them.
+pub record ZerosAfter (bytes front : List ℕ) : Type 0 where
+  pub count : ℕ
+  pub are : bytes ≡ front ++ replicate count 0
+
+-- all that is cut off is zeros
+pub only_zeros : (bytes : List ℕ) → ZerosAfter bytes (trimmed bytes)
+only_zeros [] = record { count = 0; are = refl }
+only_zeros (b ∷ bs) = by (trimmed bs) (only_zeros bs)
+  where
+    one : (z : Bool) → eqb b 0 ≡ z → (k : ℕ) → bs ≡ replicate k 0 → ZerosAfter (b ∷ bs) (cond z [] (b ∷ []))
+    one true e k h = let zero_byte : b ≡ 0 = eqb-true b 0 e in record { count = suc k; are = ap (λ (x : ℕ). x ∷ bs) zero_byte ∙ ap (λ (xs : List ℕ). 0 ∷ xs) h }
+    one false e k h = record { count = k; are = ap (λ (xs : List ℕ). b ∷ xs) h }
+
+    by : (t : List ℕ) → ZerosAfter bs t → ZerosAfter (b ∷ bs) (cut_behind b t)
+    by [] z = one (eqb b 0) refl z.count z.are
+    by (c ∷ cs) z = record { count = z.count; are = ap (λ (xs : List ℕ). b ∷ xs) z.are }
+
 -- ---- sizes
 
 last_of : ℕ → List ℕ → ℕ
@@ -149,6 +168,13 @@ completion_is : (entries : ℕ) (cq : Option ℕ) → is_within 1 4096 entries �
 completion_is entries None e h = (and_parts (is_size 4096 (rounded entries)) (is_size 8192 (2 * rounded entries)) (entries_rounded entries (within_most 1 4096 entries e))).1
 completion_is entries (Some cq) e h = size_rounded_up cq (within_most 1 8192 cq (and_parts (is_within 1 8192 cq) (nat_le (rounded entries) (rounded cq)) h).0)
 
+-- a size that is rounded stays as it is
+pub entries_again : (n : ℕ) → is_within 1 4096 n ≡ true → rounded (rounded n) ≡ rounded n
+entries_again n h = size_rounded 4096 (rounded n) (and_parts (is_size 4096 (rounded n)) (is_size 8192 (2 * rounded n)) (entries_rounded n (within_most 1 4096 n h))).0
+
+pub completion_again : (n : ℕ) → n ≤ 8192 → rounded (rounded n) ≡ rounded n
+completion_again n le = size_rounded 8192 (rounded n) (size_rounded_up n le)
+
 -- what a size takes of its width
 pub entries_most : (n : ℕ) → is_within 1 4096 n ≡ true → rounded n ≤ 4096
 entries_most n h = size_most 4096 (rounded n) (and_parts (is_size 4096 (rounded n)) (is_size 8192 (2 * rounded n)) (entries_rounded n (within_most 1 4096 n h))).0
@@ -165,9 +191,10 @@ completion_above entries (Some cq) h = leb-true _ _ (and_parts (is_within 1 8192
 
 -- ---- setups
 
-pub canonical_spelled : (s : Setup) → keeps_ranges s ≡ true → Widths s → Spelled (canonical s)
+-- a setup with rounded sizes and trimmed memory keeps its ranges
+pub canonical_kept : (s : Setup) → keeps_ranges s ≡ true → IsCanonical (canonical s) × (keeps_ranges (canonical s) ≡ true)
 unfolding keeps_ranges
-canonical_spelled s ranges widths =
+canonical_kept s ranges =
     let q = and_parts (keeps_rings s && keeps_objects s) (keeps_threads s) ranges in
     let r = and_parts (keeps_rings s) (keeps_objects s) q.0 in
     let rings = and_parts (is_within 1 4096 s.entries) (keeps_completions s.entries s.cq) r.0 in
@@ -191,11 +218,12 @@ canonical_spelled s ranges widths =
     let things = and_from _ _ (and_from _ _ (and_from _ _ (and_from _ _ memory o2.1) o3.1) o4.1) o5.1 in
     let th = and_parts (nat_le (length s.threads) 16) (list_all (keeps_program (rounded s.entries)) s.threads) q.1 in
     let programs : list_all (keeps_program (rounded entries)) s.threads ≡ true = subst (λ (n : ℕ). list_all (keeps_program n) s.threads ≡ true) (sym same) th.1 in
-    record {
-      canonical = record { entries = size; completions = (completions, refl, other); memory = trimmed_is s.memory };
-      ranges = and_from _ _ (and_from _ _ new_rings things) (and_from _ _ th.0 programs);
-      widths = record { base = widths.base; threads = widths.threads };
-    }
+    (record { entries = size; completions = (completions, refl, other); memory = trimmed_is s.memory }, and_from _ _ (and_from _ _ new_rings things) (and_from _ _ th.0 programs))
+
+pub canonical_spelled : (s : Setup) → keeps_ranges s ≡ true → Widths s → Spelled (canonical s)
+canonical_spelled s ranges widths =
+    let k = canonical_kept s ranges in
+    record { canonical = k.0; ranges = k.1; widths = record { base = widths.base; threads = widths.threads } }
 
 -- what is asked of each part of a setup
 pub record Asked (s : Setup) : Type 0 where

@@ -18,14 +18,14 @@ pushed : {A : Type 0} (W : A → Type 0) (xs : List A) (x : A) → AllByRecursio
 pushed W [] x h w = (w, tt)
 pushed W (y ∷ ys) x h w = (h.0, pushed W ys x h.1 w)
 
--- the same behind the items before it
+-- Each item passes the test after the items before it.
 pub behind_kept : (keeps : List Object → Object → Bool) (xs before : List Object) (i : ℕ) (x : Object) → i < length xs → x ≡ get_or xs i x → all_behind keeps before xs ≡ true
     → (front : List Object) × (keeps front x ≡ true)
 behind_kept keeps [] before i x lt there all = absurd (omega arith)
 behind_kept keeps (y ∷ ys) before zero x lt there all = (before, subst (λ (z : Object). keeps before z ≡ true) (sym there) (and_parts _ _ all).0)
 behind_kept keeps (y ∷ ys) before (suc i) x lt there all = behind_kept keeps ys (before ++ y ∷ []) i x (omega arith) there (and_parts _ _ all).1
 
--- numbers of objects that there are
+-- Object numbers of valid descriptors are small.
 pub numbers_small : (objects : List Object) (ds : List Descriptor) → length objects ≤ 32 → list_all (keeps_descriptor objects) ds ≡ true → list_all (λ d. nat_lt d.object 256) ds ≡ true
 numbers_small objects [] few all = refl
 numbers_small objects (d ∷ ds) few all =
@@ -37,14 +37,14 @@ numbers_small objects (d ∷ ds) few all =
 three : (a b c d : List ℕ) → ((a ++ b) ++ c) ++ d ≡ a ++ (b ++ (c ++ d))
 three a b c d = simp append_assoc
 
--- an entry behind its slot
+-- A Put: its kind, its slot and its entry.
 pub put_written : (slot : ℕ) (entry : Sqe) (old one two bytes new : List ℕ) → bytes ≡ entry_bytes entry
     → one ≡ old ++ little_bytes 1 1 → two ≡ one ++ little_bytes 4 slot → new ≡ two ++ bytes → new ≡ old ++ instruction_bytes (Put slot entry)
 put_written slot entry old one two bytes new e f g h =
     h ∙ ap (λ (t : List ℕ). two ++ t) e ∙ ap (λ (t : List ℕ). t ++ entry_bytes entry) (g ∙ ap (λ (t : List ℕ). t ++ little_bytes 4 slot) f)
     ∙ three old (little_bytes 1 1) (little_bytes 4 slot) (entry_bytes entry)
 
--- what an object that keeps its ranges has
+-- The limits of a valid object.
 pub object_kept : (before : List Object) (o : Object) → keeps_object before o ≡ true → (length o.name < 256) × (keeps_contents o.contents ≡ true)
 object_kept before o h =
     let p = and_parts (is_within 1 16 (length o.name) && is_new_name before o.name) (keeps_contents o.contents) h in

@@ -1,4 +1,4 @@
-//! Fields read from left to right.
+//! Reads fields from left to right.
 ghost use Rattle.std.specs.Prelude.{◌≡◌, ◌<◌, ◌≤◌, nat_lt, length, drop, IfOk};
 ghost use Rattle.traces.specs.Reading.{Gives, number_at, number_in, bytes_at, count_at};
 ghost use Rattle.traces.specs.Limits.{is_within};
@@ -7,7 +7,7 @@ use crate::fault::TraceFault;
 use byteorder::{ByteOrder, LittleEndian};
 use std::marker::Model;
 
-/// A place in bytes that are read from left to right.
+/// A position in bytes that are read from left to right.
 #[derive(Drop)]
 pub(crate) struct Cursor<'a> {
     bytes: &'a [u8],
@@ -26,7 +26,7 @@ impl<'a> Model for Cursor<'a> {
 }
 
 impl<'a> Cursor<'a> {
-    /// The place behind so many bytes.
+    /// Creates a cursor at an offset of the bytes.
     pub(crate) fn new(bytes: &'a [u8], offset: usize) -> Cursor<'a>
         requires { offset ≤ length bytes.now }
         ensures { result ≡ record { offset = offset; rest = drop offset bytes.now } }
@@ -34,14 +34,14 @@ impl<'a> Cursor<'a> {
         Cursor { bytes, offset }
     }
 
-    /// How many bytes stand before it.
+    /// Returns the number of bytes before the position.
     pub(crate) fn offset(&self) -> usize
         ensures { result ≡ self.now.offset }
     {
         self.offset
     }
 
-    /// The bytes from there on.
+    /// Returns the bytes from the position on.
     pub(crate) fn rest(&self) -> &'a [u8]
         ensures { result.now ≡ self.now.rest }
     {
@@ -49,7 +49,7 @@ impl<'a> Cursor<'a> {
     }
 }
 
-/// So many bytes, and the place behind them.
+/// Reads `count` bytes.
 pub(crate) fn bytes_at(cursor: Cursor<'_>, count: usize) -> Result<(&[u8], Cursor<'_>), TraceFault>
     ensures read { Gives (λ x. (x.0.now, x.1)) result (bytes_at count cursor.entry) }
     ensures size { IfOk result (λ x. length x.0.now ≡ count) }
@@ -94,7 +94,7 @@ pub(crate) fn u64_at(cursor: Cursor<'_>) -> Result<(u64, Cursor<'_>), TraceFault
     Ok((LittleEndian::read_u64(bytes), after))
 }
 
-/// A number from `least` to `most`.
+/// Reads a number within least..=most.
 #[tactic(auto, unfolding(crate::specs::Reading::number_in))]
 pub(crate) fn u8_within(
     cursor: Cursor<'_>,
@@ -111,7 +111,7 @@ pub(crate) fn u8_within(
     Ok((number, after))
 }
 
-/// A number below a limit.
+/// Reads a number below a limit.
 #[tactic(auto, unfolding(crate::specs::Reading::number_in))]
 pub(crate) fn u8_below(cursor: Cursor<'_>, limit: usize) -> Result<(u8, Cursor<'_>), TraceFault>
     ensures read { Gives (λ x. (x.0, x.1)) result (number_in 1 (λ n. nat_lt n limit) cursor.entry) }
@@ -125,7 +125,7 @@ pub(crate) fn u8_below(cursor: Cursor<'_>, limit: usize) -> Result<(u8, Cursor<'
     Ok((number, after))
 }
 
-/// A number from `least` to `most`.
+/// Reads a number within least..=most.
 #[tactic(auto, unfolding(crate::specs::Reading::number_in))]
 pub(crate) fn u32_within(
     cursor: Cursor<'_>,
@@ -142,7 +142,7 @@ pub(crate) fn u32_within(
     Ok((number, after))
 }
 
-/// A number below a limit.
+/// Reads a number below a limit.
 #[tactic(auto, unfolding(crate::specs::Reading::number_in))]
 pub(crate) fn u32_below(cursor: Cursor<'_>, limit: u32) -> Result<(u32, Cursor<'_>), TraceFault>
     ensures { Gives (λ x. (x.0, x.1)) result (number_in 4 (λ n. nat_lt n limit) cursor.entry) }
@@ -155,7 +155,7 @@ pub(crate) fn u32_below(cursor: Cursor<'_>, limit: u32) -> Result<(u32, Cursor<'
     Ok((number, after))
 }
 
-/// A length of 32 bits, at most `most`.
+/// Reads a length of 32 bits, at most `most`.
 #[tactic(auto, unfolding(crate::specs::Reading::number_in))]
 pub(crate) fn count_at(cursor: Cursor<'_>, most: u32) -> Result<(u32, Cursor<'_>), TraceFault>
     ensures { Gives (λ x. (x.0, x.1)) result (count_at most cursor.entry) }

@@ -8,7 +8,7 @@ use crate::fields::{put_u32, put_u64, u32_at, u64_at};
 use entries::Choice;
 use scenario::Event;
 
-// The number of a choice that the device makes.
+// The number of `Choice::Eio`, which no short transfer can have.
 const EIO: u64 = 4_294_967_296;
 
 fn choice_number(choice: Choice) -> u64
@@ -58,7 +58,7 @@ fn wide_of(event: Event) -> u64
     }
 }
 
-/// The bytes of an event.
+/// Returns the 16 bytes of an event.
 pub(crate) fn event_bytes(event: Event) -> [u8; 16]
     ensures spelled { result ≡ event_bytes event }
     ensures fits { IsTrue (has_transfer event) → Fits event }
@@ -112,7 +112,7 @@ fn event_of(kind: u8, word: u32, wide: u64) -> Event
     }
 }
 
-/// The event that the bytes begin with, and the bytes behind it.
+/// Reads the first event of the bytes, and returns it with the rest.
 pub(crate) fn first_event(bytes: &[u8]) -> Result<(Event, &[u8]), TraceFault>
     ensures fits { IfOk result (λ first. Fits first.0) }
     ensures spelled { IfOk result (λ first. take 16 bytes.now ≡ event_bytes first.0) }

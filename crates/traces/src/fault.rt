@@ -1,34 +1,34 @@
-//! Why bytes are no trace.
+//! Why bytes aren't a trace.
 ghost use Rattle.std.specs.Prelude.{◌≡◌};
 ghost use Rattle.traces.specs.declared.fault.TraceFault.TheVariants.{Memory};
 
 use std::alloc::{AllocError, AllocFailed};
 
-/// What is wrong with the bytes of a trace: the first fault from the left.
+/// The first fault of a trace, from the left.
 #[derive(Clone, Copy, Debug)]
 pub enum TraceFault {
-    /// It doesn't begin as a trace of its form does.
+    /// The bytes don't begin with the magic of the form.
     Magic,
-    /// A field isn't there whole.
+    /// The bytes end within a field.
     Truncated,
     /// There are more than 1,048,576 events.
     Count,
-    /// An event is of no kind that there is.
+    /// An event's kind isn't 1 to 7.
     Kind,
-    /// What must be 0 isn't, or a number is none that the event can have.
+    /// A byte that must be 0 isn't, or a number isn't valid for the event's kind.
     Padding,
-    /// Bytes stand behind the last event.
+    /// Bytes follow the last event.
     Trailing,
-    /// Memory was refused.
+    /// An allocation failed.
     Memory,
-    /// The field of the setup that begins at this offset has a value that it can't have.
+    /// The field of the setup at this offset has an invalid value.
     Setup(usize),
 }
 
 impl TraceFault {
     ghost use Rattle.traces.specs.Faults.{fault_number};
 
-    /// Its number, 1 to 8.
+    /// Returns the fault's number, 1 to 8.
     pub fn number(&self) -> u32
         ensures { result ≡ fault_number self.now }
     {

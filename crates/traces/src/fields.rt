@@ -1,4 +1,4 @@
-//! Numbers in bytes, the lowest byte first.
+//! Little-endian numbers at offsets.
 ghost use Rattle.std.specs.Prelude.{◌≡◌, ◌+◌, ◌≤◌, length, drop};
 ghost use Rattle.byteorder.specs.Endian.{little_bytes, little_number};
 ghost use Rattle.entries.specs.Layout.{NumberAt, put_at};

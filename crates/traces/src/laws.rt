@@ -1,5 +1,6 @@
 //! Laws of traces.
-ghost use Rattle.std.specs.Prelude.{◌≡◌, ◌≤◌, ℕ, List, None, length, IsTrue, IfOk, IfErr};
+ghost use Rattle.std.specs.Prelude.{◌≡◌, ◌≤◌, ◌++◌, ℕ, List, None, length, IsTrue, IfOk, IfErr};
+ghost use Rattle.std.proofs.Math.ListN.{replicate};
 ghost use Rattle.std.specs.List.{list_all};
 ghost use Rattle.scenario.specs.declared.event.Event.{Event};
 ghost use Rattle.scenario.specs.declared.setup.Setup.{Setup};
@@ -59,6 +60,14 @@ pub fn second_form_is_not_first()
         → IsTrace2 setup events bytes → IsFault bytes TraceFault.Magic }
     ensures only { (setup : Setup) (events : List Event) (bytes : List ℕ) (fault : TraceFault)
         → IsTrace2 setup events bytes → IsFault bytes fault → fault ≡ TraceFault.Magic }
+{}
+
+/// A run can start from the setup that a trace of the second form has, and that setup's memory
+/// lacks only zeros at its end.
+pub fn spelled_setups_start()
+    ensures starts { (s : Setup) → setup_refusal s ≡ None → setup_refusal (canonical s) ≡ None }
+    ensures memory { (s : Setup) → (count : ℕ)
+        × (s.memory ≡ (canonical s).memory ++ replicate count 0) }
 {}
 
 /// Events that are written are read again, unless memory runs out.

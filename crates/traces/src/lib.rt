@@ -1,7 +1,7 @@
-//! Traces: the events of a run in bytes, alone or behind the setup that the run started from.
+//! Traces: a binary format for the events of a run, alone or after the setup that the run starts
+//! from.
 //!
-//! Numbers stand with their lowest byte first, and each list of items has its length (u32) before
-//! it.
+//! Numbers are little-endian, and each list of items is preceded by its length (u32).
 //!
 //! A trace of the first form begins with the eight bytes `URTRACE1`, and the list of events
 //! follows. An event has 16 bytes: its kind (u8), three zeros, a u32 and a u64.
@@ -17,20 +17,25 @@
 //! | 7 | `Tick` | 0 | nanoseconds |
 //!
 //! A trace of the second form begins with `URTRACE2`. A setup follows, and then the list of events
-//! as in the first form. The setup is: submission entries (u16) and completion entries (u16), both
-//! rounded up; options (u8: 1 a poller, 2 submission past a failing entry); where the ring words
-//! start (u32); the bytes of memory up to the last that isn't 0; and three lists, with a list of
-//! instructions in each thread.
+//! as in the first form. The fields of the setup are, in this order:
 //!
-//! | List | Item |
+//! | Field | Type |
 //! |---|---|
-//! | objects | length of the name (u8), name, kind (u8): 1 a file (list of bytes), 2 a pipe
-//! (capacity, u32), 3 an eventfd (counter, u64) |
-//! | descriptors | number of the object (u8), end (u8): 0 all of it, 1 the read end, 2 the write
-//! end |
-//! | threads | list of instructions |
-//! | instructions | kind (u8): 1 `Put` (slot u32, 64 bytes), 2 `Push` (u32), 3 `Store` (address
-//! u32, list of bytes), 4 `Enter` (three u32), 5 `Reap`, 6 `Close` (i32) |
+//! | submission entries, rounded up to a power of two | u16 |
+//! | completion entries, rounded up | u16 |
+//! | options: bit 0 IORING_SETUP_SQPOLL, bit 1 IORING_SETUP_SUBMIT_ALL | u8 |
+//! | the initial value of the heads and tails of both rings | u32 |
+//! | memory from address 0 on, without zeros at the end | list of bytes |
+//! | objects: length of the name (u8), name, contents | list |
+//! | descriptors: number of the object (u8), end (u8) | list |
+//! | threads | list of lists of instructions |
+//!
+//! Contents begin with a kind (u8): 1 is a file (list of bytes), 2 a pipe (capacity, u32), and 3 an
+//! eventfd (counter, u64). An end is 0 for the whole object, 1 for the read end, and 2 for the
+//! write end.
+//!
+//! An instruction begins with a kind (u8): 1 `Put` (slot u32, 64 bytes), 2 `Push` (u32), 3 `Store`
+//! (address u32, list of bytes), 4 `Enter` (three u32), 5 `Reap`, 6 `Close` (i32).
 #![tactic(auto)]
 
 mod cursor;

@@ -1,4 +1,4 @@
-//! The objects and descriptors of a setup, read.
+//! Reads the objects and descriptors of a setup.
 ghost use Rattle.std.specs.Prelude.{◌≡◌, ◌-◌, ◌^◌, nat_lt, [], Some};
 ghost use Rattle.std.specs.List.{list_all};
 ghost use Rattle.places.specs.declared.object.Object.{Object};
@@ -10,7 +10,7 @@ use crate::fault::TraceFault;
 use places::{Contents, Descriptor, End, Items, Object};
 use std::alloc::Global;
 
-/// A length of at most `most`, and so many bytes.
+/// Reads a length of at most `most`, and that many bytes.
 #[tactic(auto, unfolding(crate::specs::Reading::long_at))]
 pub(crate) fn read_long(
     alloc: Global,
@@ -150,7 +150,7 @@ fn read_objects_counted(
     Ok((objects, rest))
 }
 
-/// The objects, each of another name than those before it.
+/// Reads the objects, whose names are unique.
 #[tactic(auto, unfolding(crate::specs::Reading::list_at))]
 pub(crate) fn read_objects(
     alloc: Global,
@@ -226,7 +226,7 @@ fn read_descriptors_counted<'a>(
     Ok((descriptors, rest))
 }
 
-/// The descriptors of these objects.
+/// Reads the descriptors, which refer to these objects.
 #[tactic(auto, unfolding(crate::specs::Reading::list_at))]
 pub(crate) fn read_descriptors<'a>(
     alloc: Global,

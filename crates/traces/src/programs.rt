@@ -1,4 +1,4 @@
-//! The programs of a setup's threads, read.
+//! Reads the programs of a setup's threads.
 ghost use Rattle.std.specs.Prelude.{◌≡◌, ◌+◌, length, []};
 ghost use Rattle.entries.specs.Layout.{entry_of_bytes};
 ghost use Rattle.scenario.specs.declared.setup.Instruction.{Instruction};
@@ -157,7 +157,7 @@ fn read_programs(
     Ok((programs, rest))
 }
 
-/// The threads' programs, beside a submission ring of so many slots.
+/// Reads the threads' programs. The submission ring has `slots` slots.
 #[tactic(auto, unfolding(crate::specs::Reading::list_at))]
 pub(crate) fn read_threads(
     alloc: Global,

@@ -1,4 +1,4 @@
-//! Traces read as events.
+//! Reads the events of a trace.
 ghost use Rattle.std.specs.Prelude.{◌≡◌, ◌<◌, ◌⊎◌, List, length, min, IfOk, IfErr, MatchResult};
 ghost use Rattle.std.specs.List.{flat_map, AllByRecursion};
 ghost use Rattle.scenario.specs.declared.event.Event.{Event};
@@ -14,7 +14,7 @@ use std::alloc::Global;
 
 const MOST_EVENTS: u32 = 1_048_576;
 
-// The events that the bytes are, so many of them.
+// Reads `count` events, which have to be all of the bytes.
 fn read_events(alloc: Global, count: u32, bytes: &[u8]) -> Result<Vec<Event>, TraceFault>
     ensures spelled { IfOk result (λ events. bytes.now ≡ flat_map event_bytes events.items) }
     ensures count { IfOk result (λ events. length events.items ≡ count) }
@@ -37,7 +37,7 @@ fn read_events(alloc: Global, count: u32, bytes: &[u8]) -> Result<Vec<Event>, Tr
     }
 }
 
-// The events that the bytes are, with their count before them.
+// Reads the number of events, and the events.
 pub(crate) fn read_counted(alloc: Global, bytes: &[u8]) -> Result<Vec<Event>, TraceFault>
     ensures events { IfOk result (λ events. AreEvents events.items) }
     ensures spelled { IfOk result (λ events. bytes.now ≡ counted_bytes events.items) }
@@ -56,7 +56,7 @@ pub(crate) fn read_counted(alloc: Global, bytes: &[u8]) -> Result<Vec<Event>, Tr
     read_events(alloc, count, &bytes[4..])
 }
 
-// The events that the bytes are, with the first form's beginning before them.
+// Reads a trace of the first form.
 fn read_first(alloc: Global, bytes: &[u8]) -> Result<Vec<Event>, TraceFault>
     ensures found { IfOk result (λ events. IsTrace events.items bytes.now) }
     ensures fault { IfErr result (λ fault. (fault ≡ TraceFault.Memory) ⊎ IsFault bytes.now fault) }
@@ -72,20 +72,20 @@ fn read_first(alloc: Global, bytes: &[u8]) -> Result<Vec<Event>, TraceFault>
     read_counted(alloc, &bytes[there..])
 }
 
-/// The events of a trace.
+/// Reads the events of a trace of the first form.
 pub fn read_trace(alloc: Global, bytes: &[u8]) -> Result<Vec<Event>, TraceFault>
-    // What is read is spelled so.
+    // The bytes are the trace of these events.
     ensures found { IfOk result (λ events. IsTrace events.items bytes.now) }
 
-    // What is spelled so is read, unless memory runs out.
+    // Each trace is read, unless an allocation fails.
     ensures only { (events : List Event) → IsTrace events bytes.now →
         MatchResult result (λ found. found.items ≡ events) (λ fault. fault ≡ TraceFault.Memory) }
 
-    // Which fault it is.
+    // The first fault is returned.
     ensures fault { IfErr result (λ fault. (fault ≡ TraceFault.Memory) ⊎ IsFault bytes.now fault) }
 
-    // Bytes that begin otherwise, that end before the count, or that count too many are refused
-    // without memory.
+    // Wrong magic, bytes that end before the count, and a count that is too large are refused
+    // without an allocation.
     ensures other { (BeginsAs magic bytes.now → ⊥) → result ≡ Err TraceFault.Magic }
     ensures cut { BeginsAs magic bytes.now → length bytes.now < 12
         → result ≡ Err TraceFault.Truncated }

@@ -1,4 +1,4 @@
-//! Traces of the second form: a setup and its events.
+//! Reads and writes traces of the second form: a setup and its events.
 ghost use Rattle.std.specs.Prelude.{◌≡◌, ◌≤◌, ◌<◌, ◌⊎◌, None, List, Ok, length, min, IsTrue, IfOk, IfErr, MatchResult};
 ghost use Rattle.std.specs.List.{list_all};
 ghost use Rattle.scenario.specs.declared.event.Event.{Event};
@@ -19,10 +19,10 @@ use crate::writing::put_counted;
 use scenario::{Event, Setup};
 use std::alloc::{AllocError, Global};
 
-// The eight bytes that a trace of the second form begins with.
+// The first eight bytes of the second form.
 const MAGIC: [u8; 8] = *b"URTRACE2";
 
-// The setup that stands at the place, and the events behind it.
+// Reads a setup, and the events after it.
 fn read_body(alloc: Global, cursor: Cursor<'_>) -> Result<(Setup, Vec<Event>), TraceFault>
     ensures found { IfOk result (λ found. (s : Cursor) × (setup_at cursor.entry ≡ Ok (found.0, s))
         × (s.rest ≡ counted_bytes found.1.items) × AreEvents found.1.items) }
@@ -34,7 +34,7 @@ fn read_body(alloc: Global, cursor: Cursor<'_>) -> Result<(Setup, Vec<Event>), T
     Ok((setup, events))
 }
 
-// The setup and the events that the bytes are, with the second form's beginning before them.
+// Reads a trace of the second form.
 fn read_second(alloc: Global, bytes: &[u8]) -> Result<(Setup, Vec<Event>), TraceFault>
     ensures found { IfOk result (λ found. IsTrace2 found.0 found.1.items bytes.now) }
     ensures fault { IfErr result (λ fault. (fault ≡ TraceFault.Memory) ⊎ IsFault2 bytes.now fault) }
@@ -52,20 +52,20 @@ fn read_second(alloc: Global, bytes: &[u8]) -> Result<(Setup, Vec<Event>), Trace
     read_body(alloc, Cursor::new(bytes, 8))
 }
 
-/// The setup and the events of a trace of the second form.
+/// Reads the setup and the events of a trace of the second form.
 pub fn read_trace2(alloc: Global, bytes: &[u8]) -> Result<(Setup, Vec<Event>), TraceFault>
-    // What is read is spelled so.
+    // The bytes are the trace of this setup and these events.
     ensures found { IfOk result (λ found. IsTrace2 found.0 found.1.items bytes.now) }
 
-    // What is spelled so is read, unless memory runs out.
+    // Each trace is read, unless an allocation fails.
     ensures only { (setup : Setup) (events : List Event) → IsTrace2 setup events bytes.now →
         MatchResult result (λ found. (found.0 ≡ setup) × (found.1.items ≡ events))
         (λ fault. fault ≡ TraceFault.Memory) }
 
-    // Which fault it is.
+    // The first fault is returned.
     ensures fault { IfErr result (λ fault. (fault ≡ TraceFault.Memory) ⊎ IsFault2 bytes.now fault) }
 
-    // Bytes that begin otherwise, or that end before the setup, are refused without memory.
+    // Wrong magic, and bytes that end before the setup, are refused without an allocation.
     ensures other { (BeginsAs magic2 bytes.now → ⊥) → result ≡ Err TraceFault.Magic }
     ensures cut { BeginsAs magic2 bytes.now → length bytes.now < 8
         → result ≡ Err TraceFault.Truncated }
@@ -73,9 +73,8 @@ pub fn read_trace2(alloc: Global, bytes: &[u8]) -> Result<(Setup, Vec<Event>), T
     read_second(alloc, bytes)
 }
 
-/// The one trace of the second form of a setup that a run can start from, with rounded sizes and
-/// its memory up to the last byte that isn't 0, and of at most 1,048,576 events, none a transfer of
-/// no bytes.
+/// Returns the trace of the second form. It stores the setup with rounded sizes, and memory without
+/// zeros at the end. There are at most 1,048,576 events, none a short transfer of 0 bytes.
 pub fn write_trace2(alloc: Global, setup: &Setup, events: &[Event]) -> Result<Vec<u8>, AllocError>
     requires starts { setup_refusal setup.now ≡ None }
     requires few { length events.now ≤ most_events }
@@ -89,23 +88,23 @@ pub fn write_trace2(alloc: Global, setup: &Setup, events: &[Event]) -> Result<Ve
     Ok(out)
 }
 
-/// The trace of the second form of a setup and the events of a trace of the first form.
+/// Returns the trace of the second form of a setup and the events of a trace of the first form.
 pub fn migrate(alloc: Global, setup: &Setup, bytes: &[u8]) -> Result<Vec<u8>, TraceFault>
     requires { setup_refusal setup.now ≡ None }
-    // What is migrated has the setup and just those events.
+    // The result has the setup and exactly those events.
     ensures migrated { IfOk result (λ made. (events : List Event) × IsTrace events bytes.now
         × IsTrace2 (canonical setup.now) events made.items) }
 
-    // A trace of the first form is migrated, unless memory runs out.
+    // Each trace of the first form is migrated, unless an allocation fails.
     ensures only { (events : List Event) → IsTrace events bytes.now →
         MatchResult result (λ made. IsTrace2 (canonical setup.now) events made.items)
         (λ fault. fault ≡ TraceFault.Memory) }
 
-    // Which fault it is.
+    // The first fault is returned.
     ensures fault { IfErr result (λ fault. (fault ≡ TraceFault.Memory) ⊎ IsFault bytes.now fault) }
 
-    // Bytes that begin otherwise, that end before the count, or that count too many are refused
-    // without memory.
+    // Wrong magic, bytes that end before the count, and a count that is too large are refused
+    // without an allocation.
     ensures other { (BeginsAs magic bytes.now → ⊥) → result ≡ Err TraceFault.Magic }
     ensures cut { BeginsAs magic bytes.now → length bytes.now < 12
         → result ≡ Err TraceFault.Truncated }

@@ -1,4 +1,4 @@
-//! Setups, written.
+//! Writes setups.
 ghost use Rattle.std.specs.Prelude.{◌≡◌, ◌+◌, ◌*◌, ◌<◌, ◌≤◌, ◌^◌, ◌++◌, nat_lt, [], length, take, OnOk, IsTrue};
 ghost use Rattle.std.specs.List.{list_all, AllByRecursion};
 ghost use Rattle.std.specs.Int.{cast_unsigned};
@@ -48,7 +48,7 @@ fn push_u64(out: &mut Vec<u8>, number: u64) -> Result<(), AllocError>
     out.extend_from_slice(&bytes)
 }
 
-// How many bytes there are, and the bytes.
+// Writes the number of bytes, and the bytes.
 fn push_long(out: &mut Vec<u8>, bytes: &[u8]) -> Result<(), AllocError>
     requires { length bytes.now < 2 ^ 32 }
     ensures { OnOk result (out.new.items ≡ out.old.items ++ long_bytes bytes.now) }
@@ -242,7 +242,7 @@ fn push_threads(
     Ok(())
 }
 
-// How many bytes there are up to the last that isn't 0.
+// Returns the number of bytes without the zeros at the end.
 fn trimmed_len(bytes: &[u8]) -> usize
     ensures within { result ≤ length bytes.now }
     ensures trimmed { take result bytes.now ≡ trimmed bytes.now }
@@ -290,7 +290,7 @@ fn push_memory(out: &mut Vec<u8>, memory: &[u8]) -> Result<(), AllocError>
     push_long(out, &memory[..trimmed_len(memory)])
 }
 
-/// The setup with rounded sizes, and its memory up to the last byte that isn't 0.
+/// Writes a setup with rounded sizes, and memory without zeros at the end.
 pub(crate) fn push_setup(out: &mut Vec<u8>, setup: &Setup) -> Result<(), AllocError>
     requires { IsTrue (keeps_ranges setup.now) }
     ensures spelled { OnOk result (out.new.items ≡ out.old.items

@@ -1,4 +1,4 @@
-//! Setups, read.
+//! Reads setups.
 ghost use Rattle.std.specs.Prelude.{◌≡◌, ◌-◌, ◌==◌, ◌||◌};
 ghost use Rattle.traces.specs.Limits.{is_size, is_completion_size};
 ghost use Rattle.traces.specs.Setups.{is_trimmed};
@@ -69,14 +69,14 @@ fn has_poller(options: u8) -> bool
     options == 1 || options == 3
 }
 
-// A submission goes on behind an entry that fails.
+// Whether IORING_SETUP_SUBMIT_ALL is set.
 fn goes_on(options: u8) -> bool
     ensures { result ≡ ((options == 2) || (options == 3)) }
 {
     options == 2 || options == 3
 }
 
-/// The setup that stands at the place.
+/// Reads a setup.
 #[tactic(auto, unfolding(crate::specs::Reading::setup_at))]
 pub(crate) fn read_setup(
     alloc: Global,

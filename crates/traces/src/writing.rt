@@ -1,4 +1,4 @@
-//! Events written as a trace.
+//! Writes events as a trace.
 ghost use Rattle.std.specs.Prelude.{◌≡◌, ◌≤◌, ◌++◌, length, IsTrue, IfOk, OnOk};
 ghost use Rattle.std.specs.List.{list_all, AllByRecursion};
 ghost use Rattle.byteorder.specs.Endian.{little_bytes};
@@ -9,7 +9,7 @@ use crate::fields::put_u32;
 use scenario::Event;
 use std::alloc::{AllocError, Global};
 
-/// The eight bytes that a trace of the first form begins with.
+/// The first eight bytes of the first form.
 pub(crate) const MAGIC: [u8; 8] = *b"URTRACE1";
 
 fn count_bytes(count: u32) -> [u8; 4]
@@ -20,7 +20,7 @@ fn count_bytes(count: u32) -> [u8; 4]
     bytes
 }
 
-// Writes how many events there are, and the events in a row.
+// Writes the number of events, and the events.
 pub(crate) fn put_counted(out: &mut Vec<u8>, events: &[Event]) -> Result<(), AllocError>
     requires few { length events.now ≤ most_events }
     requires transfers { IsTrue (list_all has_transfer events.now) }
@@ -34,7 +34,7 @@ pub(crate) fn put_counted(out: &mut Vec<u8>, events: &[Event]) -> Result<(), All
     Ok(())
 }
 
-/// The one trace of the events: at most 1,048,576 of them, none a transfer of no bytes.
+/// Returns the trace of the events: at most 1,048,576, none a short transfer of 0 bytes.
 pub fn write_trace(alloc: Global, events: &[Event]) -> Result<Vec<u8>, AllocError>
     requires few { length events.now ≤ most_events }
     requires transfers { IsTrue (list_all has_transfer events.now) }

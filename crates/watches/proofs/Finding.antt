@@ -1,4 +1,4 @@
--- The moment that is told is the one that is found among all moments.
+-- The stop that the code finds is the first one in the search order of the definitions.
 use Rattle.std.proofs.Common.{◌≡◌, ℕ, zero, suc, ◌+◌, ◌-◌, ◌<◌, ◌≤◌, inl, inr, List, [], ◌∷◌, length, not, ◌&&◌, ◌||◌, Bool, true, false, refl, sym, ap, ◌∙◌, subst, arith}
 use Rattle.std.specs.Prelude.{Option, Some, None, unwrap_or}
 use Rattle.std.specs.List.{range_with_len}
@@ -14,7 +14,7 @@ use Rattle.watches.specs.Stops.{seen, changes, meets, stop_before, stop_behind, 
 use Rattle.places.specs.Sameness.{is_same}
 use Rattle.places.proofs.SameValue.{same_decides}
 
--- ---- tests of two views
+-- ---- Comparing two views
 
 something_of : (b : Bool) → (b ≡ false → ⊥) → b ≡ true
 something_of true h = refl
@@ -33,7 +33,7 @@ meets_none : (a b c : Bool) → (a ≡ true → b ≡ true) → c ≡ false → 
 meets_none true b c f h = rw (f refl) h
 meets_none false b c f h = h
 
--- none of the places differs
+-- If every place stays the same, `changes` is false.
 pub unchanged : (old new : View) (ps : List Place) → Stays old new ps → changes old new ps ≡ false
 unchanged old new [] h = refl
 unchanged old new (p ∷ ps) h = rw ((same_decides (old p) (new p)).1 h.0) (unchanged old new ps h.1)
@@ -44,11 +44,11 @@ stays old new (p ∷ ps) h =
     let parts = differs_first (is_same (old p) (new p)) (changes old new ps) h in
     ((same_decides (old p) (new p)).0 parts.0, stays old new ps parts.1)
 
--- one of them does
+-- If not every place stays the same, `changes` is true.
 pub changed : (old new : View) (ps : List Place) → (Stays old new ps → ⊥) → changes old new ps ≡ true
 changed old new ps h = something_of (changes old new ps) (λ e. h (stays old new ps e))
 
--- no break is met
+-- If no break is met, `meets` is false.
 pub unmet : (old new : View) (bs : List Break) → NoneMet old new bs → meets old new bs ≡ false
 unmet old new [] h = refl
 unmet old new (b ∷ bs) h =
@@ -62,11 +62,11 @@ none_met old new (b ∷ bs) h =
     let parts = meets_first (is_same (new b.place) (Some b.value)) (is_same (old b.place) (Some b.value)) (meets old new bs) h in
     ((λ e. (same_decides (old b.place) (Some b.value)).0 (parts.0 ((same_decides (new b.place) (Some b.value)).1 e))), none_met old new bs parts.1)
 
--- one break is
+-- If some break is met, `meets` is true.
 pub met : (old new : View) (bs : List Break) → (NoneMet old new bs → ⊥) → meets old new bs ≡ true
 met old new bs h = something_of (meets old new bs) (λ e. h (none_met old new bs e))
 
--- ---- the first of some moments
+-- ---- The first stop in a list of moments
 
 taken : (f : ℕ → Option Stop) (otherwise s : Stop) (m : ℕ) (ms : List ℕ) → f m ≡ Some s → first_stop f otherwise (m ∷ ms) ≡ s
 taken f otherwise s m ms h = ap (λ o. unwrap_or o (first_stop f otherwise ms)) h
@@ -74,7 +74,7 @@ taken f otherwise s m ms h = ap (λ o. unwrap_or o (first_stop f otherwise ms)) 
 passed : (f : ℕ → Option Stop) (otherwise : Stop) (m : ℕ) (ms : List ℕ) → f m ≡ None → first_stop f otherwise (m ∷ ms) ≡ first_stop f otherwise ms
 passed f otherwise m ms h = ap (λ o. unwrap_or o (first_stop f otherwise ms)) h
 
--- the latest before n
+-- Searching the moments before n downwards finds the latest one that stops.
 latest : (f : ℕ → Option Stop) (otherwise s : Stop) (n m : ℕ) → m < n → f m ≡ Some s → ((k : ℕ) → m < k → k < n → f k ≡ None) → first_stop f otherwise (moments_before n) ≡ s
 latest f otherwise s zero m b h q = absurd (omega arith)
 latest f otherwise s (suc n) m b h q = elim (cases_lt m n) as (λ _. first_stop f otherwise (moments_before (suc n)) ≡ s) [
@@ -86,7 +86,7 @@ none_before : (f : ℕ → Option Stop) (otherwise : Stop) (n : ℕ) → ((k : �
 none_before f otherwise zero q = refl
 none_before f otherwise (suc n) q = passed f otherwise n (moments_before n) (q n (omega arith)) ∙ none_before f otherwise n (λ k x. q k (omega arith))
 
--- the first of n moments from a on
+-- Searching n moments from a upwards finds the earliest one that stops.
 soonest : (f : ℕ → Option Stop) (otherwise s : Stop) (a n m : ℕ) → a ≤ m → m < a + n → f m ≡ Some s → ((k : ℕ) → a ≤ k → k < m → f k ≡ None) → first_stop f otherwise (range_with_len a n) ≡ s
 soonest f otherwise s a zero m b c h q = absurd (omega arith)
 soonest f otherwise s a (suc n) m b c h q = elim (cases_lt a m) as (λ _. first_stop f otherwise (range_with_len a (suc n)) ≡ s) [
@@ -98,7 +98,7 @@ none_among : (f : ℕ → Option Stop) (otherwise : Stop) (a n : ℕ) → ((k : 
 none_among f otherwise a zero q = refl
 none_among f otherwise a (suc n) q = passed f otherwise a (range_with_len (a + 1) n) (q a (omega arith) (omega arith)) ∙ none_among f otherwise (a + 1) n (λ k x y. q k (omega arith) (omega arith))
 
--- ---- back
+-- ---- Backwards
 
 goes_past : (w : Walk) (ps : List Place) (k : ℕ) → Unchanged w ps k → stop_before w ps k ≡ None
 goes_past w ps k h = rw (unchanged (seen w k) (seen w (k + 1)) ps h) refl
@@ -106,7 +106,7 @@ goes_past w ps k h = rw (unchanged (seen w k) (seen w (k + 1)) ps h) refl
 stops_before : (w : Walk) (ps : List Place) (m : ℕ) → (Unchanged w ps m → ⊥) → stop_before w ps m ≡ Some (Change m)
 stops_before w ps m h = rw (changed (seen w m) (seen w (m + 1)) ps h) refl
 
--- there is one earlier stop
+-- A stop that satisfies `IsEarlier` is `reverse_stop`.
 pub the_earlier : (w : Walk) (ps : List Place) (s : Stop) → IsEarlier w ps s → s ≡ reverse_stop w ps
 unfolding reverse_stop
 the_earlier w ps (Change m) h = sym (latest (stop_before w ps) Start (Change m) w.at m h.0 (stops_before w ps m h.1) (λ k x y. goes_past w ps k (h.2 k x y)))
@@ -114,7 +114,7 @@ the_earlier w ps Start h = sym (none_before (stop_before w ps) Start w.at (λ k 
 the_earlier w ps (Met m) h = absurd h
 the_earlier w ps End h = absurd h
 
--- ---- on
+-- ---- Forwards
 
 goes_on : (w : Walk) (v : Stops) (from to k : ℕ) → Quiet w v from to → from < k → k ≤ to → stop_behind w v k ≡ None
 goes_on w v from to k q a b =
@@ -137,7 +137,7 @@ meets_behind w v m some s h =
     let there : meets (seen w (m - 1)) (seen w m) v.breakpoints ≡ true = met (seen w (m - 1)) (seen w m) v.breakpoints (λ n. h (subst (λ (i : ℕ). NoneMet (seen w (m - 1)) (seen w i) v.breakpoints) (sym e) n)) in
     rw (still, there) refl
 
--- there is one later stop
+-- A stop that satisfies `IsLater` is `forward_stop`.
 pub the_later : (w : Walk) (v : Stops) (s : Stop) → IsLater w v s → s ≡ forward_stop w v
 unfolding forward_stop
 the_later w v (Change m) h = sym (soonest (stop_behind w v) End (Change m) (w.at + 1) (length w.events - w.at) m (omega arith) (omega (arith, h.0, h.1)) (changes_behind w v m (omega (arith, h.0)) h.2) (λ k x y. goes_on w v w.at (m - 1) k h.3 (omega arith) (omega arith)))

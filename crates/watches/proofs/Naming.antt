@@ -1,4 +1,4 @@
--- What the names in an exact record say of two views.
+-- What the places named in an exact record say about the states before and after its event.
 use Rattle.std.proofs.Common.{◌≡◌, ◌≢◌, inl, inr, ℕ, zero, suc, ◌+◌, ◌<◌, Bool, true, false, List, [], ◌∷◌, ◌++◌, length, take, get_or, refl, sym, ap, subst, arith, add-one}
 use Rattle.std.specs.Prelude.{Option, Some, None, is_some, ◌||◌, ◌⊎◌}
 use Rattle.std.specs.List.{list_any}
@@ -16,7 +16,7 @@ use Rattle.inverse_log.specs.Tracks.{Recorded}
 use Rattle.watches.specs.declared.watched.Break.{Break}
 use Rattle.watches.specs.Stops.{names, Stays, NoneMet}
 
--- ---- records of a run
+-- ---- Records of a run
 
 length_recorded : (s : Machine) (es : List Event) (rs : List (List Change)) → Recorded s es rs → length rs ≡ length es
 length_recorded s [] [] h = refl
@@ -24,7 +24,7 @@ length_recorded s [] (r ∷ rs) h = absurd h
 length_recorded s (e ∷ es) [] h = absurd h
 length_recorded s (e ∷ es) (r ∷ rs) h = ap suc (length_recorded (after s e) es rs h.1)
 
--- there is a record for each event
+-- Each event has a record.
 pub record_there : (s : Machine) (es : List Event) (rs : List (List Change)) (i : ℕ) → Recorded s es rs → i < length es → i < length rs
 record_there s es rs i h b = let e = length_recorded s es rs h in omega arith
 
@@ -34,11 +34,11 @@ exact_at s (e ∷ es) [] i r l h g = absurd l
 exact_at s (e ∷ es) (x ∷ rs) zero r l h g = subst (Exact (view s) (view (after s e))) (sym g) l.0
 exact_at s (e ∷ es) (x ∷ rs) (suc i) r l h g = exact_at (after s e) es rs i r l.1 (omega arith) g
 
--- the record of an event names just the places that it changes
+-- The record of event i is exact for the states before and after it.
 pub exact_record : (s : Machine) (es : List Event) (rs : List (List Change)) (i : ℕ) (r : List Change) → Recorded s es rs → i < length es → r ≡ get_or rs i r → Exact (view (run s (take i es))) (view (run s (take (i + 1) es))) r
 exact_record s es rs i r l h g = rw add-one (exact_at s es rs i r l h g)
 
--- ---- watches
+-- ---- Watches
 
 neither : (a b : Bool) → (a || b) ≡ false → (a ≡ false) × (b ≡ false)
 neither true b h = cc
@@ -52,14 +52,14 @@ unnamed : (o : Option (Option Value)) → is_some o ≡ false → o ≡ None
 unnamed None h = refl
 unnamed (Some x) h = cc
 
--- none of the places is named, so none differs
+-- If the record names none of the places, all stay the same.
 pub none_named : (old new : View) (cs : List Change) (ps : List Place) → Exact old new cs → list_any (names cs) ps ≡ false → Stays old new ps
 none_named old new cs [] x h = tt
 none_named old new cs (p ∷ ps) x h =
     let parts = neither (names cs p) (list_any (names cs) ps) h in
     (x.same p (unnamed (named cs p) parts.0), none_named old new cs ps x parts.1)
 
--- a place that is named differs
+-- A place that the record names changes.
 pub differs_named : (old new : View) (cs : List Change) (p : Place) → Exact old new cs → names cs p ≡ true → old p ≢ new p
 differs_named old new cs p x h = by (named cs p) refl h
   where
@@ -67,7 +67,7 @@ differs_named old new cs p x h = by (named cs p) refl h
     by None e k = absurd (let f : names cs p ≡ false = ap is_some e in cc)
     by (Some y) e k = (x.differs p y e).1
 
--- one of the places is named, so one differs
+-- If the record names one of the places, not all stay the same.
 pub any_named : (old new : View) (cs : List Change) (ps : List Place) → Exact old new cs → list_any (names cs) ps ≡ true → Stays old new ps → ⊥
 any_named old new cs [] x h s = cc
 any_named old new cs (p ∷ ps) x h s =
@@ -76,23 +76,23 @@ any_named old new cs (p ∷ ps) x h s =
       | inr e ↦ any_named old new cs ps x e s.1
     ]
 
--- ---- breaks
+-- ---- Breaks
 
 none_met_push : (old new : View) (bs : List Break) (b : Break) → NoneMet old new bs → (new b.place ≡ Some b.value → old b.place ≡ Some b.value) → NoneMet old new (bs ++ b ∷ [])
 none_met_push old new [] b h f = (f, tt)
 none_met_push old new (a ∷ bs) b h f = (h.0, none_met_push old new bs b h.1 f)
 
--- one break more
+-- If neither the first i breaks nor break i are met, none of the first i + 1 is.
 pub none_met_more : (old new : View) (bs : List Break) (i : ℕ) (d : Break) → i < length bs → NoneMet old new (take i bs) → (new (get_or bs i d).place ≡ Some (get_or bs i d).value → old (get_or bs i d).place ≡ Some (get_or bs i d).value) → NoneMet old new (take (i + 1) bs)
 none_met_more old new bs i d h n f = subst (NoneMet old new) (sym (take_more bs i d h)) (none_met_push old new (take i bs) (get_or bs i d) n f)
 
--- one break of a list that has met none
+-- If no break of the list is met, break i is not.
 pub none_met_at : (old new : View) (bs : List Break) (i : ℕ) (d : Break) → i < length bs → NoneMet old new bs → new (get_or bs i d).place ≡ Some (get_or bs i d).value → old (get_or bs i d).place ≡ Some (get_or bs i d).value
 none_met_at old new [] i d h n = absurd (omega arith)
 none_met_at old new (b ∷ bs) zero d h n = n.0
 none_met_at old new (b ∷ bs) (suc i) d h n = none_met_at old new bs i d (omega arith) n.1
 
--- all breaks
+-- If none of the first i breaks is met, and there are i, none is.
 pub none_met_whole : (old new : View) (bs : List Break) (i : ℕ) → i ≡ length bs → NoneMet old new (take i bs) → NoneMet old new bs
 none_met_whole old new [] zero h n = tt
 none_met_whole old new [] (suc i) h n = tt

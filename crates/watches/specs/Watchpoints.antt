@@ -1,4 +1,4 @@
--- What stops a run: watchpoints, which are places, and breakpoints, which are values of places.
+-- What stops a run: watchpoints, which are places, and breakpoints, which are places with a value.
 use Rattle.std.specs.Prelude.{◌≤◌, List, [], ◌∷◌, ◌++◌, length, Bool, if◌then◌else◌}
 use Rattle.std.specs.List.{list_any}
 use Rattle.places.specs.declared.place.Place.{Place}
@@ -13,25 +13,25 @@ pub record Stops : Type 0 where
 abbrev pub nothing : Stops
 nothing = record { watchpoints = []; breakpoints = [] }
 
--- whether a place is among some
+-- Whether a place is in the list.
 abbrev pub is_watched : List Place → Place → Bool
 is_watched ps p = list_any (λ q. same_place q p) ps
 
--- a place more, unless it is there
+-- With one more watched place, unless it is watched already.
 abbrev pub watched : Stops → Place → Stops
 watched w p = record {
   watchpoints = (if is_watched w.watchpoints p then w.watchpoints else w.watchpoints ++ p ∷ []);
   breakpoints = w.breakpoints;
 }
 
--- a break more
+-- With one more break.
 abbrev pub broken : Stops → Place → Value → Stops
 broken w p x = record {
   watchpoints = w.watchpoints;
   breakpoints = w.breakpoints ++ (record { place = p; value = x }) ∷ [];
 }
 
--- What holds of each: there are no more than can be.
+-- The invariant: at most 64 watches and at most 64 breaks.
 pub record Few (ps : List Place) (bs : List Break) : Type 0 where
   pub places : length ps ≤ 64
   pub breaks : length bs ≤ 64

@@ -1,4 +1,5 @@
-//! Watched places and breaks, and walks to where one of them stops.
+//! Watchpoints and breakpoints of a session. `rcont` and `cont` move a walker to an event that
+//! changes a watched place, or to a moment at which a place takes a given value.
 #![tactic(auto)]
 
 pub mod stopping;

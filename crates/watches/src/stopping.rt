@@ -1,4 +1,4 @@
-//! Walks to where a watch or a break stops.
+//! Moves a walker to where a watch or a break stops it.
 ghost use Rattle.std.specs.Prelude.{◌≡◌, ◌+◌, ◌-◌, ◌<◌, ◌≤◌, ◌↔◌, true, false, Some, None, length, IsTrue, IsOk, IfOk, OnErr};
 ghost use Rattle.std.specs.List.{list_any};
 ghost use Rattle.places.specs.View.{View, Exact};
@@ -12,19 +12,23 @@ use machine::State;
 use places::{Place, Record};
 use std::alloc::AllocError;
 
-/// Where a walk stops.
+/// Why and at which moment a walk stops.
 #[derive(Clone, Copy, PartialEq, Eq)]
 pub enum Stop {
-    /// A watched place changes at this moment.
+    /// An event changes a watched place. A walk back stops at the moment before that event, a walk
+    /// forward at the moment after it.
     Change(usize),
-    /// A break's value is met at this moment.
+    /// A place takes the value of a break: it has the value at this moment, and did not
+    /// have it one event earlier.
     Met(usize),
+    /// The start of the run.
     Start,
+    /// The end of the run.
     End,
 }
 
-/// The latest earlier moment whose event changes a watched place, or the start. It is found in the
-/// records, without moving.
+/// Returns the latest moment before the position whose next event changes a watched place, or the
+/// start. Reads the undo records and does not move.
 pub fn earlier(walker: &Walker, watches: &Watches) -> Stop
     ensures stop { result ≡ reverse_stop walker.now watches.now.watchpoints }
     ensures meaning { IsEarlier walker.now watches.now.watchpoints result }
@@ -32,8 +36,8 @@ pub fn earlier(walker: &Walker, watches: &Watches) -> Stop
     earlier_among(walker, watches.places())
 }
 
-/// Goes back to the latest earlier moment whose event changes a watched place, or to the start. It
-/// is found in the records, without moving, and reached by a jump.
+/// Goes back to the stop that `earlier` returns, by one jump. Breaks do not stop a walk back. If an
+/// allocation fails, the position is unchanged.
 pub fn rcont(walker: &mut Walker, watches: &Watches) -> Result<Stop, AllocError>
     ensures stop { IfOk result (λ stop. stop ≡ reverse_stop walker.old watches.now.watchpoints) }
     ensures meaning { IfOk result (IsEarlier walker.old watches.now.watchpoints) }
@@ -55,9 +59,8 @@ pub fn rcont(walker: &mut Walker, watches: &Watches) -> Result<Stop, AllocError>
     }
 }
 
-/// Goes on to the first later moment at which a watched place has changed, or else a break's value
-/// is met that was not a moment before, or to the end. Where memory is refused it goes back to
-/// where it was.
+/// Goes forward to the first later moment at which a watched place has changed, or else a break is
+/// met, or to the end. If an allocation fails, it returns to the position that it started from.
 pub fn cont(walker: &mut Walker, watches: &Watches) -> Result<Stop, AllocError>
     ensures stop { IfOk result (λ stop. stop ≡ forward_stop walker.old watches.now) }
     ensures meaning { IfOk result (IsLater walker.old watches.now) }
@@ -79,7 +82,7 @@ pub fn cont(walker: &mut Walker, watches: &Watches) -> Result<Stop, AllocError>
     Ok(Stop::End)
 }
 
-// The latest earlier moment whose event changes one of the places.
+// Returns the latest moment before the position whose next event changes one of the places.
 fn earlier_among(walker: &Walker, places: &[Place]) -> Stop
     ensures { IsEarlier walker.now places.now result }
 {
@@ -93,17 +96,17 @@ fn earlier_among(walker: &Walker, places: &[Place]) -> Stop
     Stop::Start
 }
 
-// The record of the event after a moment.
+// Returns the undo record of the event after a moment.
 fn record_of(walker: &Walker, moment: usize) -> &Record
     requires { moment < length walker.now.events }
     ensures { Exact (seen walker.now moment) (seen walker.now (moment + 1)) result.now }
 {
-    // A trace has so few events that the index fits.
+    // Brings the limit on the length of a trace into the proof: the index fits.
     let _len = walker.len();
     &walker.records()[moment]
 }
 
-// Whether the walker stops where it has come to by one event.
+// Returns the stop at the position, if the event before it stops a walk forward.
 fn stop_here(walker: &Walker, watches: &Watches) -> Option<Stop>
     requires { 0 < walker.now.at }
     ensures { IsStop walker.now watches.now result }
@@ -119,7 +122,8 @@ fn stop_here(walker: &Walker, watches: &Watches) -> Option<Stop>
     None
 }
 
-/// Back to an earlier moment by single steps that aren't counted. It takes no memory.
+/// Goes back to an earlier moment by single steps, which `walked` does not
+/// count. Allocates nothing.
 pub fn back_to(walker: &mut Walker, moment: usize)
     requires { moment ≤ walker.old.at }
     ensures { walker.new ≡ moved walker.old moment }
@@ -129,21 +133,20 @@ pub fn back_to(walker: &mut Walker, moment: usize)
     }
 }
 
-// Whether a record names one of the places.
 fn names_any(past: &Record, places: &[Place]) -> bool
     ensures { result ≡ list_any (names past.now) places.now }
 {
     places.iter().any(|place| names_place(past, *place))
 }
 
-// Whether a record names a place.
 fn names_place(past: &Record, place: Place) -> bool
     ensures { result ≡ names past.now place }
 {
     past.names(place)
 }
 
-// Whether the event of a record brought a place to the value of one of the breaks.
+// Returns whether the event of a record brought a place to the value of one of the breaks. `state`
+// is the state after that event.
 fn meets_any(state: &State, past: &Record, breaks: &[Break]) -> bool
     ensures no { result ≡ false → (old : View) → Exact old (view state.now) past.now
         → NoneMet old (view state.now) breaks.now }
@@ -158,7 +161,7 @@ fn meets_any(state: &State, past: &Record, breaks: &[Break]) -> bool
     false
 }
 
-// Whether the event of a record brought a place to the value of a break.
+// The same for one break.
 fn meets(state: &State, past: &Record, stop: &Break) -> bool
     ensures no { result ≡ false → (old : View) → Exact old (view state.now) past.now
         → view state.now stop.now.place ≡ Some stop.now.value
@@ -173,7 +176,7 @@ fn meets(state: &State, past: &Record, stop: &Break) -> bool
     has_value(state, stop)
 }
 
-// Whether the value of a break stands in its place.
+// Returns whether the place of a break has the break's value.
 fn has_value(state: &State, stop: &Break) -> bool
     ensures { IsTrue result ↔ (view state.now stop.now.place ≡ Some stop.now.value) }
 {

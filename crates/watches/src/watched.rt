@@ -1,4 +1,4 @@
-//! Watched places, and values to stop at.
+//! The list of a session's watches and breaks.
 ghost use Rattle.std.specs.Prelude.{◌≡◌, ◌+◌, ◌<◌, ◌≤◌, true, length, IsOk, IfOk, OnOk, OnErr};
 ghost use Rattle.watches.specs.Watchpoints.{nothing, watched, broken, is_watched};
 
@@ -6,17 +6,17 @@ use places::{Place, Value};
 use std::alloc::{AllocError, Global};
 use std::marker::Model;
 
-/// The most watches that there are, and the most breaks.
+/// The greatest number of watches, and of breaks.
 pub const LIMIT: usize = 64;
 
-/// A place, and the value to stop at.
+/// A breakpoint: a place, and the value at which to stop.
 #[derive(Clone, Copy)]
 pub struct Break {
     pub place: Place,
     pub value: Value,
 }
 
-/// What a run is stopped by: watched places, and breaks.
+/// The watches and breaks of a session.
 #[derive(Drop)]
 pub struct Watches {
     places: Vec<Place>,
@@ -34,7 +34,7 @@ impl Model for Watches {
 }
 
 impl Watches {
-    /// Neither watches nor breaks.
+    /// Returns an empty list. Allocates nothing.
     pub fn new(alloc: Global) -> Watches
         ensures { result ≡ nothing }
     {
@@ -44,7 +44,7 @@ impl Watches {
         }
     }
 
-    /// The watched places, each once.
+    /// Returns the watched places, each once.
     pub fn places(&self) -> &[Place]
         ensures value { result.now ≡ self.now.watchpoints }
         ensures few { length self.now.watchpoints ≤ 64 }
@@ -52,7 +52,7 @@ impl Watches {
         self.places.as_slice()
     }
 
-    /// The breaks, in the order in which they were made.
+    /// Returns the breaks in the order in which they were added.
     pub fn breaks(&self) -> &[Break]
         ensures value { result.now ≡ self.now.breakpoints }
         ensures few { length self.now.breakpoints ≤ 64 }
@@ -60,7 +60,8 @@ impl Watches {
         self.breaks.as_slice()
     }
 
-    /// How many watches there are once a place is watched.
+    /// Returns how many watches there would be with this place watched. The caller builds its reply
+    /// from it before it adds the watch.
     pub fn count_with(&self, place: Place) -> usize
         ensures value { result ≡ length (watched self.now place).watchpoints }
         ensures few { result ≤ 65 }
@@ -73,8 +74,8 @@ impl Watches {
         }
     }
 
-    /// Watches a place, and tells how many watches there are now. A watch that is there isn't added
-    /// twice.
+    /// Watches a place and returns the number of watches. A place that is watched
+    /// already is not added again.
     pub fn watch(&mut self, place: Place) -> Result<u32, AllocError>
         requires { length self.old.watchpoints < 64 }
         ensures ok { OnOk result (self.new ≡ watched self.old place) }
@@ -88,7 +89,7 @@ impl Watches {
         Ok(self.places.len() as u32)
     }
 
-    /// Stops at a value of a place from now on, and tells how many breaks there are now.
+    /// Adds a break and returns the number of breaks.
     pub fn break_at(&mut self, place: Place, value: Value) -> Result<u32, AllocError>
         requires { length self.old.breakpoints < 64 }
         ensures ok { OnOk result (self.new ≡ broken self.old place value) }
@@ -99,7 +100,7 @@ impl Watches {
         Ok(self.breaks.len() as u32)
     }
 
-    /// Takes all watches and breaks away.
+    /// Removes all watches and breaks.
     pub fn clear(&mut self)
         ensures { self.new ≡ nothing }
     {
@@ -108,7 +109,6 @@ impl Watches {
     }
 }
 
-// Whether a place is among some.
 fn has_place(places: &[Place], place: Place) -> bool
     ensures { result ≡ is_watched places.now place }
 {

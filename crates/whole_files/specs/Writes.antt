@@ -1,8 +1,8 @@
--- What is written of a text.
+-- A text that is partly written.
 use Rattle.std.specs.Prelude.{◌≡◌, ℕ, List, ◌++◌, Option}
 use Rattle.std.specs.Io.KnownBytes.{Appends}
 
--- A beginning of the text was written.
+-- A prefix of the text was written.
 pub record WritesFront (held held' : Option (List ℕ)) (text : List ℕ) : Type 0 where
   pub front : List ℕ
   pub rest : List ℕ

@@ -9,13 +9,13 @@ use std::io::ErrorKind;
 /// Why a file couldn't be read or written.
 #[derive(Clone, Copy)]
 pub enum FileFault {
-    /// Memory was refused.
+    /// An allocation failed.
     Memory,
-    /// Any other error of a file.
+    /// Any other I/O error.
     File,
 }
 
-/// What an error is told as.
+/// Returns the fault that an I/O error is reported as.
 pub fn fault_of(error: &io::Error) -> FileFault
     ensures { result ≡ told_as (error_kind error.now) }
 {

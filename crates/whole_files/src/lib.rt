@@ -1,4 +1,4 @@
-//! Files that are read and written whole, and writers that take all of some bytes.
+//! Reads and writes whole files, and writes all of some bytes to a writer.
 #![tactic(auto)]
 
 mod fault;
@@ -14,10 +14,10 @@ use std::rt::Files;
 use std::{fs, io};
 pub use writing::{NotWritten, write_out};
 
-/// How many names beside a file are tried.
+/// The number of temporary names that are tried for a new file.
 const NAMES: u32 = 100;
 
-// Where a path leads to, through links; nothing where that can't be told, or nothing stands there.
+// Resolves a path and its symbolic links. Returns `None` if that fails for any reason but memory.
 fn real_path(
     rt: &(impl Files + AllocGlobal),
     path: &str,
@@ -29,8 +29,8 @@ fn real_path(
     }
 }
 
-/// Whether two paths lead to one file that is there, by links among them (realpath(3)). A second
-/// name of a file, a hard link, is another file here: what takes its place leaves the first one.
+/// Whether two paths resolve to the same path of a file that exists (realpath(3)). Two hard links
+/// to one file don't: replacing one leaves the other.
 pub fn lead_to_one_file(
     rt: &(impl Files + AllocGlobal),
     one: &str,
@@ -51,7 +51,7 @@ fn read_up_to(rt: &(impl Files + AllocGlobal), path: &str, most: u64) -> io::Res
     Ok(bytes)
 }
 
-/// The bytes of a file, up to a number of them: what lies behind is not read.
+/// Reads at most `most` bytes of a file. The rest isn't read.
 pub fn read_file(
     rt: &(impl Files + AllocGlobal),
     path: &str,
@@ -63,13 +63,13 @@ pub fn read_file(
     }
 }
 
-// Writes a file to its end, and to the device.
+// Writes bytes to a file, and syncs it (fsync(2)).
 fn fill(file: &mut (impl Write + OpenFile), bytes: &[u8]) -> io::Result<()> {
     file.write_all(bytes)?;
     file.sync_all()
 }
 
-// Makes a new file of these bytes, and says whether the name was free.
+// Creates a file with these bytes. Returns false if the name is in use.
 fn create_free(rt: &(impl Files + AllocGlobal), path: &str, bytes: &[u8]) -> io::Result<bool> {
     let mut file = match File::create_new(rt, path) {
         Ok(file) => file,
@@ -85,7 +85,7 @@ fn create_free(rt: &(impl Files + AllocGlobal), path: &str, bytes: &[u8]) -> io:
     }
 }
 
-// Gives a file that was made beside another that one's name.
+// Renames a new file to the path (rename(2)). If that fails, the new file is removed.
 fn take_place(rt: &(impl Files + AllocGlobal), made: &str, path: &str) -> io::Result<()> {
     match fs::rename(rt, made, path) {
         Ok(()) => Ok(()),
@@ -96,8 +96,8 @@ fn take_place(rt: &(impl Files + AllocGlobal), made: &str, path: &str) -> io::Re
     }
 }
 
-// Whether something else than a file stands where a path leads to, by links among them: a folder, a
-// device, a pipe.
+// Whether a path, after its symbolic links, leads to something other than a regular file, such as a
+// directory, a device or a pipe.
 fn is_other(rt: &(impl Files + AllocGlobal), path: &str) -> io::Result<bool> {
     match fs::metadata(rt, path) {
         Ok(found) => Ok(!found.is_file()),
@@ -119,9 +119,10 @@ fn replace(rt: &(impl Files + AllocGlobal), path: &str, bytes: &[u8]) -> io::Res
     Err(io::Error::from(ErrorKind::AlreadyExists))
 }
 
-/// Writes a file whole: it is made beside its place, and renamed. At a fault the old one stands,
-/// and nothing else is left. A device, a pipe or a folder that stands there is a fault, and so is a
-/// link to one; a link to a file, or to nothing, is replaced.
+/// Replaces a file atomically: writes and syncs a temporary file in the same directory, and renames
+/// it. After an error, the old file is unchanged, and the temporary file is removed if that is
+/// possible. A directory, a device or a pipe is refused, also through a symbolic link. A link to a
+/// file, or a dangling link, is replaced. The directory is not fsynced.
 pub fn write_file(
     rt: &(impl Files + AllocGlobal),
     path: &str,

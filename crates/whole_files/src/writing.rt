@@ -1,15 +1,15 @@
-//! Bytes that go to a writer whole.
+//! Writes all of some bytes to a writer.
 ghost use Rattle.std.specs.Prelude.{OnErr, OnOk};
 ghost use Rattle.std.specs.Io.KnownBytes.{Appends};
 ghost use Rattle.whole_files.specs.Writes.{WritesFront};
 
 use std::io::Write;
 
-/// Bytes were not written, or only a beginning of them.
+/// The bytes were not written, or only a prefix of them.
 #[derive(Clone, Copy)]
 pub struct NotWritten;
 
-// Writes all of the bytes. An `Err` may leave a beginning of them.
+// Writes all bytes. After an error, a prefix may have been written.
 fn write_bytes<W: Write>(writer: &mut W, bytes: &[u8]) -> Result<(), NotWritten>
     ensures ok { OnOk result (Appends (W.contents writer.old) (W.contents writer.new) bytes.now) }
     ensures err { OnErr result
@@ -26,7 +26,7 @@ fn write_bytes<W: Write>(writer: &mut W, bytes: &[u8]) -> Result<(), NotWritten>
     Ok(())
 }
 
-/// Writes all of the bytes, and flushes them. A writer that takes none of them is at its end.
+/// Writes all bytes and flushes them. A write that accepts no bytes is an error.
 pub fn write_out<W: Write>(writer: &mut W, bytes: &[u8]) -> Result<(), NotWritten>
     ensures ok { OnOk result (Appends (W.contents writer.old) (W.contents writer.new) bytes.now) }
     ensures err { OnErr result

@@ -1,11 +1,11 @@
-//! The queued rows, by the sets of the unfinished rows and the issued ones.
+//! Finds queued requests: those that are unfinished and not issued.
 ghost use Rattle.std.specs.Prelude.{IfSome, IfNone};
 ghost use Rattle.number_sets.specs.Beside.{IsNextBeside, NoneBeside};
 
 use super::Index;
 
 impl Index {
-    /// The least row from a number on that is neither issued nor ended.
+    /// Returns the first queued request from a number on.
     pub(crate) fn next_queued(&self, from: usize) -> Option<usize>
         ensures some { IfSome result
             (λ r. IsNextBeside self.now.unfinished self.now.issued from r) }

@@ -1,11 +1,12 @@
-//! The queued rows.
+//! Finds queued requests.
 ghost use Rattle.std.specs.Prelude.{◌≡◌, ◌<◌, IfSome, IfNone};
 ghost use Rattle.links_drains.specs.Queued.{next_queued, IsNextQueued, NoneQueuedFrom};
 
 use super::Table;
 
 impl Table {
-    /// The least queued row from a number on. It takes no memory, and looks at no row that ended.
+    /// Returns the first queued request from a number on, without an allocation or a look at
+    /// completed requests.
     pub fn next_queued(&self, from: u32) -> Option<u32>
         ensures value { result ≡ next_queued self.now from }
         ensures some { IfSome result (λ r. IsNextQueued self.now from r) }

@@ -1,4 +1,4 @@
-//! What a state tells of its rows.
+//! Queries about the requests of a state.
 ghost use Rattle.std.specs.Prelude.{◌≡◌, ◌<◌, IfSome, IfNone, length, slice_get};
 ghost use Rattle.links_drains.specs.Numbered.{IsNextWhere, NoneWhere};
 ghost use Rattle.links_drains.specs.Queued.{next_queued, IsNextQueued, NoneQueuedFrom};
@@ -15,7 +15,7 @@ use links_drains::is_issued;
 use timeouts_cancel::count_by;
 
 impl State {
-    /// The row of a number, if there is one. It takes no memory.
+    /// Returns a request by its number. Doesn't allocate.
     pub fn row(&self, number: u32) -> Option<Row>
         ensures row { result ≡ slice_get self.now.table number }
         ensures formed { WellFormed self.now }
@@ -23,7 +23,8 @@ impl State {
         self.machine.table.get(number)
     }
 
-    /// The least queued row from a number on. It takes no memory, and looks at no row that ended.
+    /// Returns the first queued request from a number on. Doesn't allocate, and examines no
+    /// completed request.
     pub fn next_queued(&self, from: u32) -> Option<u32>
         ensures value { result ≡ next_queued self.now.table from }
         ensures some { IfSome result (λ r. IsNextQueued self.now.table from r) }
@@ -33,7 +34,7 @@ impl State {
         self.machine.table.next_queued(from)
     }
 
-    /// The least issued row from a number on. It takes no memory, and constant time.
+    /// Returns the first issued request from a number on, in constant time. Doesn't allocate.
     pub fn next_issued(&self, from: u32) -> Option<u32>
         ensures value { result ≡ next_issued self.now.table from }
         ensures some { IfSome result (λ r. IsNextIssued self.now.table from r) }
@@ -43,7 +44,7 @@ impl State {
         self.machine.table.next_issued(from)
     }
 
-    /// The least row from a number on that hasn't ended. It takes no memory, and constant time.
+    /// Returns the first unfinished request from a number on, in constant time. Doesn't allocate.
     pub fn next_unfinished(&self, from: u32) -> Option<u32>
         ensures some { IfSome result (λ r. IsNextWhere is_open self.now.table from r) }
         ensures none { IfNone result (NoneWhere is_open self.now.table from) }
@@ -52,16 +53,15 @@ impl State {
         self.machine.table.next_unfinished(from)
     }
 
-    /// How many issued rows the entry of a cancel or a removal matches, as the row of a number. It
-    /// takes no memory, and looks at each issued row.
+    /// Returns how many issued requests a cancellation or a removal matches, if it is request `me`.
+    /// Doesn't allocate, and examines each issued request.
     pub fn match_count(&self, entry: &Sqe, me: u32) -> u32
         ensures { result ≡ length (matches_of self.now.table (key_of entry.now) me) }
     {
         count_by(&self.machine.table, key_of(entry), me)
     }
 
-    /// When an issued row is due, in nanoseconds of the clock, if it has a deadline. It takes no
-    /// memory.
+    /// Returns the deadline of an issued timer, in nanoseconds of the clock. Doesn't allocate.
     pub fn deadline(&self, r: u32) -> Option<u128>
         ensures { result ≡ deadline_at self.now.table r }
     {

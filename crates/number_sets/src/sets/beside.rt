@@ -1,4 +1,4 @@
-//! The numbers that one set has and another doesn't.
+//! Searches for numbers in one set and not in another.
 ghost use Rattle.std.specs.Prelude.{◌≡◌, ◌<◌, ◌≤◌, ◌^◌, IfSome, IfNone, length, slice_index, bit_and};
 ghost use Rattle.std.specs.Int.{w64, bit_not};
 ghost use Rattle.number_sets.specs.Beside.{IsNextBeside, NoneBeside};
@@ -6,8 +6,8 @@ ghost use Rattle.number_sets.specs.Beside.{IsNextBeside, NoneBeside};
 use super::{NumberSet, next_bit};
 
 impl NumberSet {
-    /// The least number of the set from one on that another set doesn't have. Of all words it looks
-    /// only at those that have a number of the set.
+    /// Returns the least number at or above `from` that is in `self` and not in `other`. It skips
+    /// the words in which `self` has no number.
     pub fn next_beside(&self, other: &NumberSet, from: usize) -> Option<usize>
         ensures some { IfSome result (λ k. IsNextBeside self.now other.now from k) }
         ensures none { IfNone result (NoneBeside self.now other.now from) }
@@ -23,7 +23,7 @@ impl NumberSet {
         None
     }
 
-    // The word of a place, without what another set has there.
+    // Returns word `at` with the bits of the other set's word cleared.
     fn word_beside(&self, other: &NumberSet, at: usize) -> u64
         ensures value { result ≡ bit_and (slice_index self.now at)
             (bit_not w64 (slice_index other.now at)) }
@@ -33,7 +33,7 @@ impl NumberSet {
         self.word(at) & !other.word(at)
     }
 
-    // The word of a place; 0 where there is none.
+    // Returns word `at`, or 0 past the end.
     fn word(&self, at: usize) -> u64
         ensures value { result ≡ slice_index self.now at }
         ensures few { length self.now ≤ 1024 }

@@ -1,4 +1,7 @@
-//! What stays of old bytes when notes are closed.
+//! Drops recorded old bytes that equal the current ones, when a recorder is closed.
+//!
+//! A run's bytes stay where they are; a bit per byte in `gone` says that the byte is dropped.
+//! `mark` is the number of the bit of a slice's first byte.
 ghost use Rattle.std.specs.Prelude.{◌≡◌, ◌≢◌, ◌+◌, ◌-◌, ◌*◌, ◌<◌, ◌≤◌, ◌^◌, ℕ, false, length, Some, slice_get, MatchBool};
 ghost use Rattle.places.specs.declared.value.Value.{Value};
 ghost use Rattle.places.specs.declared.value.Value.TheVariants.{Byte};
@@ -11,10 +14,10 @@ use crate::notes::runs::{Region, Run};
 use crate::part::At;
 use crate::value::Value;
 
-/// How many bytes are compared at once.
+/// How many bytes are compared before any is looked at singly.
 const AT_ONCE: usize = 64;
 
-/// Whether a byte stands somewhere.
+/// Returns whether a value is the given byte.
 fn is_byte(now: Option<Value>, byte: u8) -> bool
     ensures { MatchBool result (now ≡ Some (Byte byte)) (now ≢ Some (Byte byte)) }
 {
@@ -24,8 +27,8 @@ fn is_byte(now: Option<Value>, byte: u8) -> bool
     }
 }
 
-/// Takes the marks, which begin at one, from the bytes of a slice that stand in another from an
-/// index on.
+/// Drops each of `olds` that equals the byte of `now` at its index plus `start`. Bytes
+/// past the end of `now` stay.
 fn clear_alike(olds: &[u8], gone: &mut [u64], mark: usize, start: usize, now: &[u8])
     requires room { mark + length olds.now ≤ 64 * length gone.old }
     requires few { mark + length olds.now < 2 ^ 64 }
@@ -46,7 +49,7 @@ fn clear_alike(olds: &[u8], gone: &mut [u64], mark: usize, start: usize, now: &[
     }
 }
 
-/// Takes the marks, which begin at one, from the bytes of some indexes that stand there.
+/// Drops each of `olds` from index `at` to `end` that equals the byte of `there` at the same index.
 fn clear_between(olds: &[u8], there: &[u8], gone: &mut [u64], mark: usize, at: usize, end: usize)
     requires order { at ≤ end }
     requires olds { end ≤ length olds.now }
@@ -69,8 +72,8 @@ fn clear_between(olds: &[u8], there: &[u8], gone: &mut [u64], mark: usize, at: u
     }
 }
 
-/// Whether two slices have the same byte somewhere between two indexes. It looks at each, so that
-/// many are compared at once.
+/// Returns whether two slices have an equal byte at the same index between `at` and `end`. It does
+/// not stop at the first, so that the compiler can vectorize the loop.
 fn is_any_alike(olds: &[u8], there: &[u8], at: usize, end: usize) -> bool
     requires olds { end ≤ length olds.now }
     requires there { end ≤ length there.now }
@@ -84,7 +87,8 @@ fn is_any_alike(olds: &[u8], there: &[u8], at: usize, end: usize) -> bool
     found
 }
 
-/// The same, where the bytes that stand there are asked for one by one.
+/// The same as `clear_alike` for a state that cannot lend its bytes as a
+/// slice: reads them one by one.
 fn clear_each<A: At>(
     olds: &[u8],
     gone: &mut [u64],
@@ -109,7 +113,7 @@ fn clear_each<A: At>(
     }
 }
 
-/// Takes the marks from the old bytes of a run that stand there now.
+/// Drops the old bytes of one run that equal the current ones.
 fn clear_run<A: At>(
     olds: &[u8],
     gone: &mut [u64],
@@ -133,7 +137,8 @@ fn clear_run<A: At>(
     }
 }
 
-/// Takes the marks, which begin at one, from the old bytes of runs that stand there now.
+/// Drops the old bytes of several runs that equal the current ones. `olds` has the
+/// bytes of all runs in order.
 pub fn clear_runs<A: At>(runs: &[Run], olds: &[u8], gone: &mut [u64], mark: usize, whole: &A)
     requires room { mark + length olds.now ≤ 64 * length gone.old }
     requires few { mark + length olds.now < 2 ^ 64 }

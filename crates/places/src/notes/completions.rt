@@ -1,4 +1,4 @@
-//! Notes of completions in the ring.
+//! Notes of slots of the completion ring.
 
 use crate::notes::slots::{Slotted, differs};
 use crate::packing::changes::{COMPLETION, put_place};
@@ -9,7 +9,7 @@ use crate::value::{Change, Value};
 use entries::Cqe;
 use std::alloc::AllocError;
 
-/// A slot of the completion ring, and what stood there.
+/// A slot of the completion ring with its old completion.
 #[derive(Clone, Copy)]
 pub struct CompletionNote {
     pub slot: u32,

@@ -1,4 +1,4 @@
-//! What stays of notes that few steps make, once they are closed.
+//! The rarer kinds of notes, runs of bytes and single places, after a recorder is closed.
 ghost use Rattle.std.specs.Prelude.{◌≡◌, [], is_some};
 ghost use Rattle.places.specs.View.{named};
 ghost use Rattle.places.specs.Runs.{run_changes};
@@ -11,7 +11,7 @@ use crate::place::Place;
 use crate::value::Change;
 use std::marker::Model;
 
-/// Notes of bytes, and of places one at a time.
+/// Notes of bytes in runs, and notes of single places.
 #[derive(Drop)]
 pub struct Inner {
     pub(crate) bytes: ByteNotes,
@@ -19,7 +19,7 @@ pub struct Inner {
 }
 
 impl Inner {
-    /// What the notes keep in memory, in bytes.
+    /// Returns how many bytes of memory the notes take, this struct included.
     pub fn kept_bytes(&self) -> usize {
         size_of::<Inner>()
             .saturating_add(self.bytes.kept_bytes())
@@ -27,7 +27,7 @@ impl Inner {
     }
 }
 
-/// What stays of them, which takes a word where that is nothing.
+/// These notes after closing. If there are none, it is one word in size.
 #[derive(Drop)]
 pub struct Kept {
     pub(crate) inner: Option<Box<Inner>>,
@@ -44,7 +44,7 @@ impl Model for Kept {
 }
 
 impl Kept {
-    /// Nothing. It takes no memory.
+    /// Returns no notes. Allocates nothing.
     pub fn new() -> Kept
         ensures runs { result.runs ≡ [] }
         ensures olds { result.olds ≡ [] }
@@ -53,7 +53,7 @@ impl Kept {
         Kept { inner: None }
     }
 
-    /// Notes that were closed. The memory that they don't take goes.
+    /// Wraps closed notes, and frees the memory that they do not use.
     pub fn of(mut inner: Option<Box<Inner>>) -> Kept
         ensures runs { result.runs ≡ (rest_of inner).runs }
         ensures olds { result.olds ≡ (rest_of inner).olds }
@@ -66,7 +66,7 @@ impl Kept {
         Kept { inner }
     }
 
-    /// The old bytes, one after the other.
+    /// Returns an iterator over the old bytes.
     pub fn bytes(&self) -> ByteChanges<'_>
         ensures { result.left ≡ run_changes self.now.runs self.now.olds }
     {
@@ -76,7 +76,7 @@ impl Kept {
         }
     }
 
-    /// The runs, one after the other.
+    /// Returns an iterator over the runs.
     pub fn stretches(&self) -> Stretches<'_>
         ensures { result.left ≡ run_changes self.now.runs self.now.olds }
     {
@@ -86,7 +86,7 @@ impl Kept {
         }
     }
 
-    /// The notes that were pushed.
+    /// Returns the notes of single places.
     pub fn odd(&self) -> &[Change]
         ensures { result.now ≡ self.now.odd }
     {
@@ -96,7 +96,7 @@ impl Kept {
         }
     }
 
-    /// Whether one of these is of a place.
+    /// Returns whether one of the notes of single places has this place.
     pub fn names(&self, place: Place) -> bool
         ensures { result ≡ is_some (named self.now.odd place) }
     {
@@ -106,7 +106,7 @@ impl Kept {
         }
     }
 
-    /// What the notes keep in memory besides themselves, in bytes.
+    /// Returns how many bytes of memory the notes take, besides this struct.
     pub fn kept_bytes(&self) -> usize {
         match &self.inner {
             None => 0,

@@ -1,4 +1,4 @@
-//! Which changes take elements of a list back.
+//! Undoing an addition to a list: how many elements remain.
 ghost use Rattle.std.specs.Prelude.{◌≡◌, None};
 ghost use Rattle.places.specs.declared.listed.Listed.TheVariants.{Requests, Overflowed};
 ghost use Rattle.places.specs.Notes.{after_change, number_in};
@@ -7,7 +7,8 @@ use crate::listed::Listed;
 use crate::place::Place;
 use crate::value::Change;
 
-/// How many of so many elements of a list stay once a change takes one back, with all behind it.
+/// Returns how many of `left` elements remain after undoing one change. An element that was absent
+/// is removed with all after it.
 pub fn left_after(list: Listed, change: Change, left: usize) -> usize
     ensures { result ≡ after_change list change.place change.old left }
 {
@@ -17,7 +18,7 @@ pub fn left_after(list: Listed, change: Change, left: usize) -> usize
     }
 }
 
-/// How many of so many elements of a list stay once the one in a place goes, with all behind it.
+/// Returns how many of `left` elements remain without the element in a place and all after it.
 pub fn left_without(list: Listed, place: Place, left: usize) -> usize
     ensures { result ≡ after_change list place None left }
 {

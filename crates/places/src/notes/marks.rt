@@ -1,15 +1,15 @@
-//! Marks of old bytes that are kept: a bit for each that isn't, so that bytes which are all kept
-//! take none.
+//! A bit set of dropped bytes: bit i of `gone` is set if old byte i is dropped. Words past its end
+//! count as zeros, so notes without dropped bytes need none.
 ghost use Rattle.std.specs.Prelude.{◌≡◌, ℕ, ◌-◌, ◌*◌, ◌<◌, ◌≤◌, ◌==◌, ◌++◌, false, not, length, replicate, OnOk, OnErr, if◌then◌else◌};
 ghost use Rattle.std.specs.List.{list_any};
 ghost use Rattle.places.specs.Masked.{is_kept, marks_from};
 
 use std::alloc::AllocError;
 
-/// How many marks a word has.
+/// Bits per word.
 const BITS: usize = 64;
 
-/// Whether the byte of an index is kept.
+/// Returns whether byte i is still recorded.
 pub fn is_kept(gone: &[u64], i: usize) -> bool
     ensures { result ≡ is_kept gone.now i }
 {
@@ -19,7 +19,7 @@ pub fn is_kept(gone: &[u64], i: usize) -> bool
     }
 }
 
-/// Whether one of so many bytes is kept.
+/// Returns whether any of the first `len` bytes is still recorded.
 pub fn is_any_kept(gone: &[u64], len: usize) -> bool
     ensures { result ≡ list_any (λ k. k) (marks_from gone.now 0 len) }
 {
@@ -31,7 +31,7 @@ pub fn is_any_kept(gone: &[u64], len: usize) -> bool
     false
 }
 
-/// Takes the mark from the byte of an index.
+/// Drops byte i, for which there must be a word.
 pub fn let_go(gone: &mut [u64], i: usize)
     requires { i < 64 * length gone.old }
     ensures len { length gone.new ≡ length gone.old }
@@ -41,7 +41,7 @@ pub fn let_go(gone: &mut [u64], i: usize)
     gone[i / BITS] = word;
 }
 
-/// Makes room for the marks of so many bytes. Those that come are kept.
+/// Allocates the words for `len` bytes, which are not dropped. If it fails, the set is unchanged.
 pub fn make_room(gone: &mut Vec<u64>, len: usize) -> Result<(), AllocError>
     ensures kept { (q : ℕ) → is_kept gone.new.items q ≡ is_kept gone.old.items q }
     ensures longer { length gone.old.items ≤ length gone.new.items }
@@ -55,7 +55,7 @@ pub fn make_room(gone: &mut Vec<u64>, len: usize) -> Result<(), AllocError>
     Ok(())
 }
 
-/// Adds words without a bit, up to so many.
+/// Appends zero words up to a length.
 fn lengthen(words: &mut Vec<u64>, len: usize) -> Result<(), AllocError>
     requires { length words.old.items ≤ len }
     ensures ok { OnOk result (words.new.items
@@ -65,7 +65,7 @@ fn lengthen(words: &mut Vec<u64>, len: usize) -> Result<(), AllocError>
     words.resize(len, 0)
 }
 
-/// Lets the words go where no byte has gone.
+/// Frees the words if no byte is dropped.
 pub fn trim(gone: &mut Vec<u64>)
     ensures { (q : ℕ) → is_kept gone.new.items q ≡ is_kept gone.old.items q }
 {

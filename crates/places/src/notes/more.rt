@@ -1,4 +1,4 @@
-//! What a record keeps besides what is packed.
+//! The part of a record that is not packed.
 ghost use Rattle.std.specs.Prelude.{◌≡◌, is_some};
 ghost use Rattle.places.specs.View.{named};
 ghost use Rattle.places.specs.Runs.{run_changes};
@@ -13,7 +13,8 @@ use crate::place::Place;
 use crate::value::Change;
 use std::marker::Model;
 
-/// Nothing, notes that few steps make, or notes of each kind with these.
+/// Which notes a record has besides its packed ones: none; only the rarer kinds; or all
+/// kinds, if packing failed.
 #[derive(Drop)]
 pub enum Held {
     Nothing,
@@ -21,7 +22,7 @@ pub enum Held {
     Each(Box<Kinds>),
 }
 
-/// Notes as they were made, in one box at most.
+/// Unpacked notes of a record, in at most one box.
 #[derive(Drop)]
 pub struct More {
     held: Held,
@@ -38,7 +39,8 @@ impl Model for More {
 }
 
 impl More {
-    /// Notes of each kind, and those that few steps make. It takes no memory.
+    /// Joins unpacked notes of numbers, completions and rows with those of the rarer
+    /// kinds. Allocates nothing.
     pub fn of(wide: Wide, rest: Kept) -> More
         ensures wide { result.wide ≡ wide }
         ensures rest { result.rest ≡ rest }
@@ -88,7 +90,7 @@ impl More {
         }
     }
 
-    /// The old bytes, one after the other.
+    /// Returns an iterator over the old bytes.
     pub fn bytes(&self) -> ByteChanges<'_>
         ensures { result.left ≡ run_changes self.now.rest.runs self.now.rest.olds }
     {
@@ -99,7 +101,7 @@ impl More {
         }
     }
 
-    /// The runs, one after the other.
+    /// Returns an iterator over the runs of bytes.
     pub fn stretches(&self) -> Stretches<'_>
         ensures { result.left ≡ run_changes self.now.rest.runs self.now.rest.olds }
     {
@@ -110,7 +112,7 @@ impl More {
         }
     }
 
-    /// The notes of other places.
+    /// Returns the notes of single places.
     pub fn odd(&self) -> &[Change]
         ensures { result.now ≡ self.now.rest.odd }
     {
@@ -121,7 +123,7 @@ impl More {
         }
     }
 
-    /// Whether one of these is of a place.
+    /// Returns whether one of the notes of single places has this place.
     pub fn names(&self, place: Place) -> bool
         ensures { result ≡ is_some (named self.now.rest.odd place) }
     {
@@ -132,7 +134,7 @@ impl More {
         }
     }
 
-    /// Whether a byte that is kept is of a place.
+    /// Returns whether a byte that is still recorded has this place.
     pub fn names_byte(&self, place: Place) -> bool
         ensures { result
             ≡ is_some (named (run_changes self.now.rest.runs self.now.rest.olds) place) }
@@ -141,7 +143,7 @@ impl More {
         stretches.names(place)
     }
 
-    /// What the notes keep in memory besides themselves, in bytes.
+    /// Returns how many bytes of memory the notes take, besides this struct.
     pub fn kept_bytes(&self) -> usize {
         match &self.held {
             Held::Nothing => 0,

@@ -1,4 +1,4 @@
-//! Notes of numbers.
+//! Notes of places that hold an unsigned number.
 ghost use Rattle.std.specs.Prelude.{◌≡◌, Some, true};
 ghost use Rattle.places.specs.declared.value.Value.TheVariants.{Number};
 ghost use Rattle.places.specs.Places.{is_number};
@@ -11,7 +11,7 @@ use crate::place::Place;
 use crate::value::{Change, Value};
 use std::alloc::AllocError;
 
-/// The place of a number by its kind and its index, and what stood there.
+/// A place of a number, as its kind and index, with the old number.
 #[derive(Clone, Copy)]
 pub struct NumberNote {
     pub kind: u8,
@@ -20,7 +20,7 @@ pub struct NumberNote {
 }
 
 impl NumberNote {
-    /// The note of a number's place.
+    /// Builds the note of a place.
     pub fn of(place: Place, old: u64) -> NumberNote
         requires { is_number place ≡ true }
         ensures { number_change result ≡ record { place = place; old = Some (Number old) } }
@@ -33,7 +33,7 @@ impl NumberNote {
     }
 }
 
-/// The place of a number by its kind and its index.
+/// Returns the place with this kind and index.
 #[tactic(auto, unfolding(crate::specs::Slots::number_place))]
 fn place_of_number(kind: u8, index: u32) -> Place
     ensures { result ≡ number_place kind index }
@@ -60,7 +60,8 @@ fn place_of_number(kind: u8, index: u32) -> Place
     }
 }
 
-/// The slot of a number's place.
+/// Returns the slot of a place: odd slots for the words of the submission
+/// array, even ones for others.
 #[tactic(auto, unfolding(crate::specs::Slots::number_slot))]
 fn slot_of(place: Place) -> usize
     ensures { result ≡ number_slot place }

@@ -1,4 +1,4 @@
-//! Notes of places one at a time, which are searched one by one.
+//! Notes of single places without a slot. A search looks at each of them.
 ghost use Rattle.std.specs.Prelude.{◌≡◌, ◌≢◌, ◌+◌, ◌<◌, ◌≤◌, ◌∷◌, ◌++◌, [], None, OnOk, IsOk, is_some, MatchBool};
 ghost use Rattle.std.specs.List.{list_any};
 ghost use Rattle.places.specs.Places.{same_place};
@@ -12,7 +12,7 @@ use crate::value::{Change, Value};
 use std::alloc::{AllocError, Global};
 use std::marker::Model;
 
-/// Notes of any places, each noted once.
+/// Notes of any places, at most one for each place.
 #[derive(Drop)]
 pub struct Odd {
     notes: Vec<Change>,
@@ -32,7 +32,7 @@ impl Model for Odd {
 }
 
 impl Odd {
-    /// No notes. It takes no memory.
+    /// Returns no notes. Allocates nothing.
     pub fn new(alloc: Global) -> Odd
         ensures { result.notes ≡ [] }
     {
@@ -41,7 +41,7 @@ impl Odd {
         }
     }
 
-    /// The next n notes take no memory.
+    /// Reserves memory for the next n notes.
     pub fn room(&mut self, n: usize) -> Result<(), AllocError>
         ensures notes { self.new.notes ≡ self.old.notes }
         ensures room { OnOk result (n ≤ self.new.spare) }
@@ -51,7 +51,7 @@ impl Odd {
         self.notes.reserve_exact(n)
     }
 
-    /// Notes what stands in a place that is not noted here, where there is room.
+    /// Adds a note of a place that has none here. Its memory must be reserved.
     pub fn push(&mut self, place: Place, old: Option<Value>)
         requires room { 0 < self.old.spare }
         requires fresh { named self.old.notes place ≡ None }
@@ -62,14 +62,14 @@ impl Odd {
         self.notes.push_reserved(Change { place, old });
     }
 
-    /// Whether a place is noted.
+    /// Returns whether a place has a note.
     pub fn names(&self, place: Place) -> bool
         ensures { result ≡ is_some (named self.now.notes place) }
     {
         is_named(&self.notes, place)
     }
 
-    /// Drops the notes whose place has its old value.
+    /// Drops the notes whose place has its old value in `whole`.
     pub fn close<A: At>(&mut self, whole: &A)
         ensures kept { KeptOf (A.seen whole.now) self.old.notes self.new.notes }
         ensures once { NamesOnce self.old.notes }
@@ -77,28 +77,28 @@ impl Odd {
         drop_same(&mut self.notes, whole);
     }
 
-    /// Lets the memory go that no note takes.
+    /// Frees the memory that no note uses.
     pub fn shrink(&mut self)
         ensures { self.new.notes ≡ self.old.notes }
     {
         self.notes.shrink_to_fit();
     }
 
-    /// Whether there are none.
+    /// Returns whether there are no notes.
     pub fn is_empty(&self) -> bool
         ensures { MatchBool result (self.now.notes ≡ []) (self.now.notes ≢ []) }
     {
         self.notes.is_empty()
     }
 
-    /// The notes.
+    /// Returns the notes.
     pub fn as_slice(&self) -> &[Change]
         ensures { result.now ≡ self.now.notes }
     {
         &self.notes
     }
 
-    /// What the notes keep in memory besides themselves, in bytes.
+    /// Returns how many bytes of memory the notes take, besides this struct.
     pub fn kept_bytes(&self) -> usize {
         size_of::<Change>().saturating_mul(self.notes.capacity())
     }

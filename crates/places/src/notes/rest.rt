@@ -1,4 +1,4 @@
-//! Notes that few steps make: of bytes, and of the other places.
+//! The rarer kinds of notes, runs of bytes and single places, while a recorder is open.
 ghost use Rattle.std.specs.Prelude.{◌≡◌, ◌+◌, ◌<◌, ◌≤◌, ◌^◌, ◌∷◌, ◌++◌, [], ℕ, length, None, OnOk, OnErr, IsOk, is_some};
 ghost use Rattle.places.specs.View.{named, NamesOnce};
 ghost use Rattle.places.specs.Closed.{KeptOf};
@@ -14,7 +14,7 @@ use std::alloc::{AllocError, Global};
 use std::marker::Model;
 use std::mem;
 
-/// The notes of bytes and of the other places, which take a word while there are none.
+/// Notes of bytes and of single places. If there are none, it is one word in size.
 #[derive(Drop)]
 pub struct Rest {
     pub(crate) inner: Option<Box<Inner>>,
@@ -33,7 +33,7 @@ impl Model for Rest {
 }
 
 impl Rest {
-    /// No notes. It takes no memory.
+    /// Returns no notes. Allocates nothing.
     pub fn new() -> Rest
         ensures runs { result.runs ≡ [] }
         ensures olds { result.olds ≡ [] }
@@ -42,7 +42,7 @@ impl Rest {
         Rest { inner: None }
     }
 
-    /// The next n notes that are pushed take no memory.
+    /// Reserves memory for the next n notes of single places.
     pub fn room(&mut self, alloc: Global, n: usize) -> Result<(), AllocError>
         ensures runs { self.new.runs ≡ self.old.runs }
         ensures olds { self.new.olds ≡ self.old.olds }
@@ -65,7 +65,7 @@ impl Rest {
         }
     }
 
-    /// Notes what stands in a place that is not noted here, where there is room.
+    /// Adds a note of a single place that has none here. Its memory must be reserved.
     pub fn push(&mut self, place: Place, old: Option<Value>)
         requires room { 0 < self.old.spare }
         requires fresh { named self.old.odd place ≡ None }
@@ -79,7 +79,8 @@ impl Rest {
         }
     }
 
-    /// Notes the old bytes from an index on, none of which is noted.
+    /// Records a run of old bytes, none of which is recorded. If an allocation
+    /// fails, nothing is recorded.
     pub fn note_bytes(
         &mut self,
         alloc: Global,
@@ -111,7 +112,7 @@ impl Rest {
         }
     }
 
-    /// Whether a place was pushed.
+    /// Returns whether a place has a note of its own.
     pub fn names(&self, place: Place) -> bool
         ensures { result ≡ is_some (named self.now.odd place) }
     {
@@ -121,7 +122,7 @@ impl Rest {
         }
     }
 
-    /// Whether a byte is noted in a run.
+    /// Returns whether a place is a byte in a run.
     pub fn covers(&self, place: Place) -> bool
         ensures { AllKept self.now.olds
             → result ≡ is_some (named (run_changes self.now.runs self.now.olds) place) }
@@ -132,8 +133,8 @@ impl Rest {
         }
     }
 
-    /// Takes out the notes whose place has another value now. None stay here, but their memory does
-    /// where none was taken.
+    /// Removes and returns the notes whose place has another value in `whole`. If none has, the
+    /// memory stays here for later notes.
     pub fn close<A: At>(&mut self, whole: &A) -> Kept
         ensures bytes { KeptOf (A.seen whole.now) (run_changes self.old.runs self.old.olds)
             (run_changes result.runs result.olds) }

@@ -1,12 +1,11 @@
-//! The notes that a recorder has promised memory for.
+//! How many more notes a recorder has reserved memory for.
 ghost use Rattle.std.specs.Prelude.{◌≡◌, ◌+◌, ◌-◌, ◌<◌, ◌≤◌, if◌then◌else◌};
 ghost use Rattle.places.specs.Places.{is_number, is_completion};
 ghost use Rattle.places.specs.Notes.{one_if, neither};
 
 use crate::place::Place;
 
-/// For how many notes of numbers, of completions and of other places there is memory, and for how
-/// many in all.
+/// How many notes of each kind may still be added without allocation. `held` is their sum.
 #[derive(Clone, Copy)]
 pub struct Room {
     pub numbers: usize,
@@ -15,7 +14,7 @@ pub struct Room {
     pub held: usize,
 }
 
-/// Takes one from a count and from the whole, if it is not nothing.
+/// Subtracts 1 from a count and from the sum, unless the count is 0.
 fn take_one(count: &mut usize, held: &mut usize)
     requires { count.old ≤ held.old }
     ensures count { count.new ≡ count.old - 1 }
@@ -28,7 +27,7 @@ fn take_one(count: &mut usize, held: &mut usize)
 }
 
 impl Room {
-    /// None.
+    /// Returns room for no notes.
     pub fn new() -> Room
         ensures { result ≡ record { numbers = 0; completions = 0; others = 0; held = 0 } }
     {
@@ -40,7 +39,7 @@ impl Room {
         }
     }
 
-    /// One note of a number is made.
+    /// Accounts for one note of a number.
     pub fn spend_number(&mut self)
         requires { self.old.held ≡ self.old.numbers + (self.old.completions + self.old.others) }
         ensures numbers { self.new.numbers ≡ self.old.numbers - 1 }
@@ -51,7 +50,7 @@ impl Room {
         take_one(&mut self.numbers, &mut self.held);
     }
 
-    /// One note of a completion is made.
+    /// Accounts for one note of a completion.
     pub fn spend_completion(&mut self)
         requires { self.old.held ≡ self.old.numbers + (self.old.completions + self.old.others) }
         ensures numbers { self.new.numbers ≡ self.old.numbers }
@@ -62,7 +61,7 @@ impl Room {
         take_one(&mut self.completions, &mut self.held);
     }
 
-    /// One note of another place is made.
+    /// Accounts for one note of another place.
     pub fn spend_other(&mut self)
         requires { self.old.held ≡ self.old.numbers + (self.old.completions + self.old.others) }
         ensures numbers { self.new.numbers ≡ self.old.numbers }
@@ -73,7 +72,7 @@ impl Room {
         take_one(&mut self.others, &mut self.held);
     }
 
-    /// One note of a place is made.
+    /// Accounts for one note of a place, by its kind.
     pub fn spend(&mut self, place: Place)
         requires { self.old.held ≡ self.old.numbers + (self.old.completions + self.old.others) }
         ensures numbers { self.old.numbers ≤ self.new.numbers + one_if (is_number place) }

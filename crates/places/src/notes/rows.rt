@@ -1,4 +1,5 @@
-//! Notes of rows, and of the places that are neither numbers, bytes nor completions of the ring.
+//! Notes of requests, and of the places that hold neither a number, a byte nor
+//! a completion of the ring.
 ghost use Rattle.std.specs.Prelude.{◌≡◌, ◌==◌, ◌∷◌, [], Some, option_map, true, MatchOption, OnOk};
 ghost use Rattle.std.specs.Int.{w64, cast_unsigned};
 ghost use Rattle.entries.specs.declared.row.Row.{Row};
@@ -24,7 +25,7 @@ use entries::{Cqe, Row, Sqe};
 use numerals::put_numbers;
 use std::alloc::AllocError;
 
-/// A value that is no row.
+/// Any value other than a row.
 #[derive(Clone, Copy)]
 pub enum Small {
     Amount(u64),
@@ -37,8 +38,8 @@ pub enum Small {
     Up(bool),
 }
 
-/// A row by its number, and what stood there, if anything did; or another place, by its kind and
-/// its index.
+/// A request that was absent, a request with its old row, or another place, as its kind and index,
+/// with its old value if it had one.
 #[derive(Clone, Copy)]
 pub enum RowNote {
     Absent(u32),
@@ -47,7 +48,7 @@ pub enum RowNote {
 }
 
 impl Small {
-    /// The value, if it is no row.
+    /// Converts a value; returns `None` for a row.
     pub fn of(value: Value) -> Option<Small>
         ensures { MatchOption result ((row : Row)
             × (value ≡ Requested row)) (λ s. value_of s ≡ value) }
@@ -82,7 +83,7 @@ impl Small {
 }
 
 impl RowNote {
-    /// The note of a row.
+    /// Builds the note of a request.
     pub fn of(row: u32, old: Option<Row>) -> RowNote
         ensures { row_change result
             ≡ record { place = Request row; old = option_map Requested old } }
@@ -93,7 +94,7 @@ impl RowNote {
         }
     }
 
-    /// The note of another place.
+    /// Builds the note of another place.
     pub fn of_other(place: Place, old: Option<Small>) -> RowNote
         requires { is_other place ≡ true }
         ensures { row_change result ≡ record { place = place; old = option_map value_of old } }
@@ -101,8 +102,8 @@ impl RowNote {
         RowNote::Other(place.kind(), place.index(), old)
     }
 
-    /// How many of so many elements of a list stay once what was absent is taken back, with all
-    /// behind it.
+    /// Returns how many of `left` elements of a list remain after undoing this note. An element
+    /// that was absent is removed with all after it.
     #[tactic(auto, unfolding(crate::specs::Slots::other_place))]
     pub fn left_after(&self, list: Listed, left: usize) -> usize
         ensures { result ≡ after_change list (row_change self.now).place
@@ -130,7 +131,8 @@ fn place_of_other(kind: u8, index: u32) -> Place
     }
 }
 
-/// The slot of a place: rows, backlog, entries and the rest in turn.
+/// Returns the slot of a place. The slots modulo 4 are: requests 0, overflowed completions 1,
+/// entry slots 2, all others 3.
 #[tactic(auto, unfolding(crate::specs::Slots::slot_at))]
 fn slot_of(place: Place) -> usize
     ensures { result ≡ slot_at place }
@@ -166,7 +168,8 @@ fn awake_number(awake: bool) -> u64
     if awake { 1 } else { 0 }
 }
 
-/// Puts the change of a place behind bytes, by what stood there. A byte has no shape.
+/// Appends a place and its old value to packed bytes. A byte has no packed form: it is refused as
+/// if an allocation failed, and the record then stays unpacked.
 fn put_small(out: &mut Vec<u8>, place: Place, index: u32, old: &Small) -> Result<(), AllocError>
     requires { place_of (kind_of place) index 0 ≡ place }
     ensures { OnOk result (Puts change_of after_packed out.old.items
@@ -208,7 +211,7 @@ fn put_small(out: &mut Vec<u8>, place: Place, index: u32, old: &Small) -> Result
     }
 }
 
-/// Puts the change of a place behind bytes, by what stood there, if anything did.
+/// Appends a place and its old value, or that it had none, to packed bytes.
 fn put_other(
     out: &mut Vec<u8>,
     place: Place,

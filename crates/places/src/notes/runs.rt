@@ -1,4 +1,4 @@
-//! Notes of bytes, a slice at a time.
+//! Notes of bytes, one slice at a time.
 ghost use Rattle.std.specs.Prelude.{◌≡◌, ◌≢◌, ◌+◌, ◌*◌, ◌<◌, ◌≤◌, ◌^◌, ◌++◌, [], ℕ, length, Some, None, OnOk, OnErr, MatchBool, is_some, true};
 ghost use Rattle.std.specs.List.{list_any};
 ghost use Rattle.places.specs.View.{named, NamesOnce};
@@ -14,18 +14,18 @@ use crate::place::Place;
 use std::alloc::{AllocError, Global};
 use std::marker::Model;
 
-/// Where bytes stand: in memory, or in an object by its number.
+/// A sequence of byte places: the memory, or the bytes of an object by its number.
 #[derive(Clone, Copy)]
 pub enum Region {
     Memory,
     File(u32),
-    /// The bytes of a file that are on the device.
+    /// The durable contents of a file.
     Durable(u32),
     Pipe(u32),
 }
 
 impl Region {
-    /// The place of a byte by its index.
+    /// Returns the place of byte `index`.
     pub fn place(&self, index: u32) -> Place
         ensures { result ≡ place_in self.now index }
     {
@@ -37,6 +37,7 @@ impl Region {
         }
     }
 
+    // Returns whether a place is a byte of the region.
     pub(crate) fn has(&self, place: Place) -> bool
         ensures { result ≡ is_in self.now place }
     {
@@ -50,6 +51,7 @@ impl Region {
         }
     }
 
+    // Returns the index of a byte of the region.
     pub(crate) fn offset(&self, place: Place) -> u32
         ensures { result ≡ offset_in self.now place }
     {
@@ -60,7 +62,7 @@ impl Region {
     }
 }
 
-/// Bytes of a region, one behind the other.
+/// Consecutive bytes of a region.
 #[derive(Clone, Copy)]
 pub struct Run {
     pub region: Region,
@@ -68,8 +70,8 @@ pub struct Run {
     pub len: usize,
 }
 
-/// Runs, their old bytes in a row, and a bit for each that isn't kept. A byte that has its old
-/// value again as the notes are closed is let go.
+/// Runs, their old bytes in one list, and a bit for each byte that was dropped. Closing drops each
+/// byte that has its old value again.
 #[derive(Drop)]
 pub struct ByteNotes {
     runs: Vec<Run>,
@@ -94,7 +96,7 @@ impl Model for ByteNotes {
 }
 
 impl ByteNotes {
-    /// No notes. It takes no memory.
+    /// Returns no notes. Allocates nothing.
     pub fn new(alloc: Global) -> ByteNotes
         ensures runs { result.runs ≡ [] }
         ensures olds { result.olds ≡ [] }
@@ -107,7 +109,8 @@ impl ByteNotes {
         }
     }
 
-    /// Notes the old bytes from an index on, none of which is noted.
+    /// Records a run of old bytes, none of which is recorded. If an allocation
+    /// fails, nothing is recorded.
     pub fn note(&mut self, region: Region, start: u32, old: &[u8]) -> Result<(), AllocError>
         requires fresh { (i : ℕ) → i < length old.now
             → named (run_changes self.old.runs self.old.olds) (place_in region (start + i)) ≡ None }
@@ -126,7 +129,7 @@ impl ByteNotes {
         Ok(())
     }
 
-    /// Whether a byte is noted.
+    /// Returns whether a place is a byte in a run.
     pub fn covers(&self, place: Place) -> bool
         ensures { AllKept self.now.olds
             → result ≡ is_some (named (run_changes self.now.runs self.now.olds) place) }
@@ -134,7 +137,7 @@ impl ByteNotes {
         is_covered(&self.runs, place)
     }
 
-    /// Lets the old bytes go that stand there now.
+    /// Drops the old bytes that equal those in `whole`, and the runs if no byte remains.
     pub fn close<A: At>(&mut self, whole: &A)
         requires { self.old.is_open ≡ true }
         ensures open { self.new.is_open ≡ true }
@@ -145,7 +148,7 @@ impl ByteNotes {
         close_runs(&mut self.runs, &mut self.olds, &mut self.gone, whole);
     }
 
-    /// Lets the memory go that no note takes. No byte can go from then on.
+    /// Frees the memory that no note uses. After this no byte can be dropped.
     pub fn shrink(&mut self)
         ensures runs { self.new.runs ≡ self.old.runs }
         ensures olds { self.new.olds ≡ self.old.olds }
@@ -155,7 +158,7 @@ impl ByteNotes {
         trim(&mut self.gone);
     }
 
-    /// Lets all notes go. Their memory stays.
+    /// Removes all notes, and keeps the memory for later ones.
     pub fn clear(&mut self)
         ensures runs { self.new.runs ≡ [] }
         ensures olds { self.new.olds ≡ [] }
@@ -166,14 +169,14 @@ impl ByteNotes {
         self.gone.clear();
     }
 
-    /// Whether there is no run.
+    /// Returns whether there are no runs.
     pub fn is_empty(&self) -> bool
         ensures { MatchBool result (self.now.runs ≡ []) (self.now.runs ≢ []) }
     {
         self.runs.is_empty()
     }
 
-    /// The old bytes, one after the other.
+    /// Returns an iterator over the old bytes.
     pub fn changes(&self) -> ByteChanges<'_>
         ensures value { result.left ≡ run_changes self.now.runs self.now.olds }
         ensures once { NamesOnce (run_changes self.now.runs self.now.olds) }
@@ -181,14 +184,14 @@ impl ByteNotes {
         ByteChanges::of(&self.runs, &self.olds, &self.gone)
     }
 
-    /// The runs, one after the other.
+    /// Returns an iterator over the runs.
     pub fn stretches(&self) -> Stretches<'_>
         ensures { result.left ≡ run_changes self.now.runs self.now.olds }
     {
         Stretches::of(&self.runs, &self.olds, &self.gone)
     }
 
-    /// What the notes keep in memory besides themselves, in bytes.
+    /// Returns how many bytes of memory the notes take, besides this struct.
     pub fn kept_bytes(&self) -> usize {
         size_of::<Run>()
             .saturating_mul(self.runs.capacity())
@@ -197,7 +200,7 @@ impl ByteNotes {
     }
 }
 
-/// Lets the old bytes of runs go that stand there now, and the runs once no old byte is left.
+/// Drops the old bytes that equal the current ones, and all runs if no byte remains.
 fn close_runs<A: At>(runs: &mut Vec<Run>, olds: &mut Vec<u8>, gone: &mut Vec<u64>, whole: &A)
     requires once { MaskedOnce runs.old.items olds.old.items gone.old.items }
     requires room { length olds.old.items ≤ 64 * length gone.old.items }
@@ -218,7 +221,7 @@ fn close_runs<A: At>(runs: &mut Vec<Run>, olds: &mut Vec<u8>, gone: &mut Vec<u64
     gone.clear();
 }
 
-/// Takes the marks from the old bytes that stand there now.
+/// Drops the old bytes that equal the current ones.
 fn clear_marks<A: At>(runs: &[Run], olds: &[u8], gone: &mut Vec<u64>, whole: &A)
     requires room { length olds.now ≤ 64 * length gone.old.items }
     requires fits { run_total runs.now ≡ length olds.now }
@@ -247,7 +250,7 @@ fn covers_place(run: Run, place: Place) -> bool
     run.region.has(place) && (start <= offset && offset - start < run.len)
 }
 
-/// Appends bytes, with room for their marks.
+/// Appends old bytes, and reserves their bits. If an allocation fails, both lists are unchanged.
 fn append(olds: &mut Vec<u8>, gone: &mut Vec<u64>, bytes: &[u8]) -> Result<(), AllocError>
     ensures olds { OnOk result (olds.new.items ≡ olds.old.items ++ bytes.now) }
     ensures room { OnOk result (length olds.new.items ≤ 64 * length gone.new.items) }

@@ -1,4 +1,5 @@
-//! Notes of places that have slots, each place once, in constant time.
+//! Notes of places that have a slot number. Adding a note, at most one for each
+//! place, takes constant time.
 ghost use Rattle.std.specs.Prelude.{◌≡◌, ◌≢◌, ◌+◌, ◌-◌, ◌<◌, ◌≤◌, ◌∷◌, [], ℕ, length, map, slice_get, IsOk, OnOk, OnErr, MatchBool, is_some, ◌||◌, vec_len, vec_capacity};
 ghost use Rattle.places.specs.declared.value.Change.{Change};
 ghost use Rattle.std.specs.List.{list_any};
@@ -16,18 +17,18 @@ use std::alloc::{AllocError, Global};
 use std::marker::Model;
 use std::mem;
 
-/// For how many notes there is room once there is one.
+/// The number of notes that the first allocation has room for.
 const FIRST_NOTES: usize = 4;
 
-/// Of how many notes at most the memory stays for later ones.
+/// After a step with more notes than this, their memory is freed and not reused.
 const FEW_NOTES: usize = 64;
 
-/// A note of a place that has a slot: a number that no other place has.
+/// A note of a place that has a slot: a number that is unique among places of this kind of note.
 pub trait Slotted {
-    /// The slot of its place.
+    /// The slot of the place.
     ghost slot: { Self → ℕ };
 
-    /// Its place, and what stood there.
+    /// The place and its old value.
     ghost change: { Self → Change };
 
     fn slot(&self) -> usize
@@ -39,26 +40,27 @@ pub trait Slotted {
     fn change(&self) -> Change
         ensures { result ≡ change self.now };
 
-    /// Puts its change behind bytes, unless it takes more than it may.
+    /// Appends the note to packed bytes. Fails if an allocation fails, or if the old
+    /// value has no packed form.
     fn put(&self, out: &mut Vec<u8>) -> Result<(), AllocError>
         ensures { OnOk result
             (Puts change_of after_change out.old.items (change self.now ∷ []) out.new.items) };
 
-    /// Whether another value stands in its place now.
+    /// Returns whether the place has another value in `whole`.
     fn differs<A: At>(&self, whole: &A) -> bool
         ensures { MatchBool result ((change self.now).old
             ≢ A.seen whole.now (change self.now).place) ((change self.now).old
             ≡ A.seen whole.now (change self.now).place) };
 
-    /// A slot is of one place.
+    /// Notes with one slot have one place.
     ghost one_place: { (x y : Self) → slot x ≡ slot y → (change x).place ≡ (change y).place };
 
-    /// A place has one slot.
+    /// Notes of one place have one slot.
     ghost one_slot: { (x y : Self) → (change x).place ≡ (change y).place → slot x ≡ slot y };
 }
 
-/// Notes, and for each slot where its note stands, if it has one. A mark is right only where it
-/// leads to a note of its slot, so marks of earlier notes may stay, and so may the memory of these.
+/// Notes, and for each slot a mark: the index of its note. A mark counts only if the note at its
+/// index has that slot, so marks of earlier notes need no clearing.
 #[derive(Drop)]
 pub struct Slots<N: Slotted> {
     notes: Vec<N>,
@@ -82,7 +84,7 @@ impl<N: Slotted> Model for Slots<N> {
 }
 
 impl<N: Slotted + Copy> Slots<N> {
-    /// No notes. It takes no memory.
+    /// Returns no notes. Allocates nothing.
     pub fn new(alloc: Global) -> Slots<N>
         ensures { result.notes ≡ [] }
     {
@@ -92,7 +94,8 @@ impl<N: Slotted + Copy> Slots<N> {
         }
     }
 
-    /// Adds a note, unless its place has one. It takes no memory where there is room and a mark.
+    /// Adds a note, unless its place has one. Allocates nothing if there is reserved memory
+    /// and a mark for its slot.
     pub fn note(&mut self, note: N) -> Result<(), AllocError>
         ensures ok { OnOk result
             (Noted (map N.change self.old.notes) (map N.change self.new.notes) (N.change note).place
@@ -115,7 +118,7 @@ impl<N: Slotted + Copy> Slots<N> {
         Ok(())
     }
 
-    /// The next n notes of slots below a limit take no memory.
+    /// Reserves memory for the next n notes with slots below `limit`.
     pub fn room(&mut self, n: usize, limit: usize) -> Result<(), AllocError>
         ensures notes { self.new.notes ≡ self.old.notes }
         ensures room { OnOk result (n ≤ self.new.spare) }
@@ -133,14 +136,15 @@ impl<N: Slotted + Copy> Slots<N> {
 }
 
 impl<N: Slotted + Copy> Slots<N> {
-    /// Whether a place is noted.
+    /// Returns whether a place has a note.
     pub fn names(&self, place: Place) -> bool
         ensures { result ≡ is_some (named (map N.change self.now.notes) place) }
     {
         has_note(&self.notes, place)
     }
 
-    /// Takes out the notes whose place has another value now, with their memory.
+    /// Removes and returns the notes whose place has another value in `whole`, and drops the
+    /// others. The memory goes with those returned.
     pub fn close<A: At>(&mut self, whole: &A) -> Vec<N>
         ensures kept { KeptOf (A.seen whole.now) (map N.change self.old.notes)
             (map N.change result.items) }
@@ -151,7 +155,7 @@ impl<N: Slotted + Copy> Slots<N> {
         take_notes(&mut self.notes)
     }
 
-    /// Makes the next notes in the memory of others, which go. Of many it is let go too.
+    /// Takes over the memory of returned notes for later ones, unless it is large.
     pub fn reuse(&mut self, notes: Vec<N>)
         ensures { self.new.notes ≡ [] }
     {
@@ -165,21 +169,21 @@ fn has_note<N: Slotted>(notes: &[N], place: Place) -> bool
     notes.iter().any(|n| is_same_place(n.place(), place))
 }
 
-/// Whether one of the notes names a place.
+/// Returns whether one of the notes has this place.
 pub fn names_place<N: Slotted>(notes: &[N], place: Place) -> bool
     ensures { result ≡ is_some (named (map N.change notes.now) place) }
 {
     has_note(notes, place)
 }
 
-/// Whether one of two tests holds.
+/// Returns `a || b`.
 pub fn either(a: bool, b: bool) -> bool
     ensures { result ≡ (a || b) }
 {
     a || b
 }
 
-/// Whether two places are one and the same.
+/// Returns whether two places are equal.
 pub fn is_same_place(a: Place, b: Place) -> bool
     ensures { result ≡ same_place a b }
 {
@@ -199,7 +203,7 @@ fn drop_same_notes<N: Slotted + Copy, A: At>(notes: &mut Vec<N>, whole: &A)
     );
 }
 
-/// Takes the notes out, with their memory.
+/// Takes the notes and their memory out of the list.
 fn take_notes<N: Slotted + Copy>(notes: &mut Vec<N>) -> Vec<N>
     ensures taken { result.items ≡ notes.old.items }
     ensures none { notes.new.items ≡ [] }
@@ -208,7 +212,7 @@ fn take_notes<N: Slotted + Copy>(notes: &mut Vec<N>) -> Vec<N>
     mem::replace(notes, none)
 }
 
-/// No notes, in the memory of a few.
+/// Returns an empty list, in the memory of the given notes if they are few.
 fn emptied<N: Slotted + Copy>(notes: Vec<N>) -> Vec<N>
     ensures { result.items ≡ [] }
 {
@@ -220,7 +224,7 @@ fn emptied<N: Slotted + Copy>(notes: Vec<N>) -> Vec<N>
     notes
 }
 
-/// Drops the notes whose place has its old value.
+/// Drops the changes whose place has its old value in `whole`.
 pub fn drop_same<A: At>(notes: &mut Vec<Change>, whole: &A)
     ensures kept { KeptOf (A.seen whole.now) notes.old.items notes.new.items }
     ensures once { NamesOnce notes.old.items → NamesOnce notes.new.items }
@@ -233,7 +237,7 @@ pub fn drop_same<A: At>(notes: &mut Vec<Change>, whole: &A)
     );
 }
 
-/// Whether what a change says stood in its place isn't there now.
+/// Returns whether the place of a change has another value in `whole` than the old one.
 pub fn differs<A: At>(change: Change, whole: &A) -> bool
     ensures { MatchBool result (change.old ≢ A.seen whole.now change.place) (change.old
         ≡ A.seen whole.now change.place) }
@@ -241,7 +245,7 @@ pub fn differs<A: At>(change: Change, whole: &A) -> bool
     !is_same(change.old, whole.at(change.place))
 }
 
-/// Makes room for one more, and for as many more as there are once it is full, a few at least.
+/// Makes room for one more note. A full list doubles, from `FIRST_NOTES` on.
 fn grow<N>(notes: &mut Vec<N>) -> Result<(), AllocError>
     ensures items { notes.new.items ≡ notes.old.items }
     ensures len { vec_len notes.new ≡ vec_len notes.old }
@@ -255,7 +259,7 @@ fn grow<N>(notes: &mut Vec<N>) -> Result<(), AllocError>
     Ok(())
 }
 
-/// Makes the marks reach a slot.
+/// Extends the marks to include a slot.
 fn reach(marks: &mut Vec<usize>, slot: usize) -> Result<(), AllocError>
     ensures reached { OnOk result (slot < length marks.new.items) }
     ensures there { slot < length marks.old.items → IsOk result }
@@ -269,7 +273,7 @@ fn reach(marks: &mut Vec<usize>, slot: usize) -> Result<(), AllocError>
     Ok(())
 }
 
-/// Whether a slot has a note.
+/// Returns whether a slot has a note.
 fn is_marked<N: Slotted>(notes: &[N], marks: &[usize], slot: usize) -> bool
     ensures { MatchBool result (IsMarked N.slot notes.now marks.now slot)
         (¬ (IsMarked N.slot notes.now marks.now slot)) }

@@ -1,4 +1,4 @@
-//! The old bytes of runs, told one after the other.
+//! Iterators over recorded bytes, one byte or one run at a time.
 ghost use Rattle.std.specs.Prelude.{◌≡◌, ◌+◌, ◌<◌, ◌^◌, ◌∷◌, ◌++◌, ◌⊎◌, [], Some, None, is_some, false, ◌&&◌, unwrap_or, length, slice_get, MatchOption, IfSome};
 ghost use Rattle.places.specs.Runs.{is_in, offset_in, old_bytes, run_changes, run_total, RunsFit};
 ghost use Rattle.places.specs.Masked.{marks_from, masked, mark_at};
@@ -12,18 +12,18 @@ use crate::place::Place;
 use crate::value::{Change, Value};
 use std::marker::Model;
 
-/// The old bytes that are left to tell.
+/// An iterator over the old bytes that are still recorded.
 #[derive(Drop)]
 pub struct ByteChanges<'a> {
     region: Region,
-    /// The index of the next byte of the run that is being told.
+    /// The index of the next byte within its region.
     from: usize,
-    /// How many bytes of that run are left.
+    /// How many bytes of the current run remain.
     left: usize,
     runs: &'a [Run],
     olds: &'a [u8],
     gone: &'a [u64],
-    /// The number of the next byte's bit.
+    /// The number of the next byte's bit in `gone`.
     mark: usize,
 }
 
@@ -50,19 +50,20 @@ impl<'a> Model for ByteChanges<'a> {
         × (a.mark + length a.olds.now < 2 ^ 64) };
 }
 
-/// Old bytes of a region from an index on, and a bit for each of them that isn't kept.
+/// One run of old bytes: `olds` from index `start` of the region on. Bit `mark` + i of `gone` is
+/// set if byte i was dropped.
 #[derive(Clone, Copy)]
 pub struct Stretch<'a> {
     pub region: Region,
     pub start: u32,
     pub olds: &'a [u8],
     pub gone: &'a [u64],
-    /// The number of the first byte's bit.
+    /// The number of the first byte's bit in `gone`.
     pub mark: usize,
 }
 
 impl<'a> Stretch<'a> {
-    /// The old byte of an index, if it is kept.
+    /// Returns old byte i, or `None` if it was dropped.
     pub fn kept(&self, i: usize) -> Option<u8>
         requires within { i < length self.now.olds.now }
         requires count { CanCount self.now }
@@ -75,7 +76,7 @@ impl<'a> Stretch<'a> {
         }
     }
 
-    /// Whether a place is of a byte that is kept.
+    /// Returns whether a place is a byte of the run that is still recorded.
     pub fn names(&self, place: Place) -> bool
         requires { CanCount self.now }
         ensures { result ≡ is_some
@@ -112,13 +113,13 @@ impl<'a> Stretch<'a> {
     }
 }
 
-/// Runs that are left to tell, each at once.
+/// An iterator over runs.
 #[derive(Drop)]
 pub struct Stretches<'a> {
     runs: &'a [Run],
     olds: &'a [u8],
     gone: &'a [u64],
-    /// The number of the next byte's bit.
+    /// The number of the next byte's bit in `gone`.
     mark: usize,
 }
 
@@ -140,7 +141,7 @@ impl<'a> Model for Stretches<'a> {
 }
 
 impl<'a> Stretches<'a> {
-    /// All runs.
+    /// Returns an iterator over all runs. `olds` has their bytes in order.
     pub fn of(runs: &'a [Run], olds: &'a [u8], gone: &'a [u64]) -> Stretches<'a>
         requires fits { run_total runs.now ≡ length olds.now }
         requires within { RunsFit runs.now }
@@ -155,14 +156,14 @@ impl<'a> Stretches<'a> {
         }
     }
 
-    /// No runs.
+    /// Returns an iterator over no runs.
     pub fn none() -> Stretches<'a>
         ensures { result.left ≡ [] }
     {
         Stretches::of(&[], &[], &[])
     }
 
-    /// The next run, if one is left.
+    /// Returns the next run.
     pub fn next(&mut self) -> Option<Stretch<'a>>
         ensures told { MatchOption result (self.old.left ≡ []) (λ s. self.old.left
             ≡ old_bytes s.region s.start (kept_of s) ++ self.new.left) }
@@ -186,7 +187,8 @@ impl<'a> Stretches<'a> {
         })
     }
 
-    /// Whether one of the runs that are left names a place.
+    /// Returns whether one of the remaining runs has this place. It consumes
+    /// the runs that it looks at.
     pub fn names(&mut self, place: Place) -> bool
         ensures { result ≡ is_some (named self.old.left place) }
     {
@@ -199,16 +201,16 @@ impl<'a> Stretches<'a> {
     }
 }
 
-/// What a turn found.
+/// The result of one step of the iterator over bytes.
 pub enum Turn {
     End,
-    /// A byte that is not kept, or the start of a run.
+    /// No byte yet: the step began a run, or passed a dropped byte.
     Nothing,
     Found(Change),
 }
 
 impl<'a> ByteChanges<'a> {
-    /// All old bytes of runs.
+    /// Returns an iterator over all old bytes of some runs. `olds` has their bytes in order.
     pub fn of(runs: &'a [Run], olds: &'a [u8], gone: &'a [u64]) -> ByteChanges<'a>
         requires fits { run_total runs.now ≡ length olds.now }
         requires within { RunsFit runs.now }
@@ -226,14 +228,14 @@ impl<'a> ByteChanges<'a> {
         }
     }
 
-    /// No old bytes.
+    /// Returns an iterator over no bytes.
     pub fn none() -> ByteChanges<'a>
         ensures { result.left ≡ [] }
     {
         ByteChanges::of(&[], &[], &[])
     }
 
-    /// The next old byte, if one is left.
+    /// Returns the next old byte as a change.
     pub fn next(&mut self) -> Option<Change>
         ensures { MatchOption result ((self.old.left ≡ [])
             × (self.new.left ≡ [])) (λ c. self.old.left ≡ c ∷ self.new.left) }
@@ -247,6 +249,7 @@ impl<'a> ByteChanges<'a> {
         }
     }
 
+    // Does one step: begins the next run, or passes one byte.
     fn turn(&mut self) -> Turn
         ensures found { MatchTurn result self.old.left self.new.left }
         ensures less { (result ≡ Turn.End) ⊎ (self.new.work < self.old.work) }

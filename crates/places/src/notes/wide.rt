@@ -1,5 +1,4 @@
-//! Notes of numbers, completions and rows with the memory that they were made in, where there is
-//! none for a smaller form.
+//! Unpacked notes of numbers, completions and rows, as a record holds them if packing them failed.
 ghost use Rattle.std.specs.Prelude.{◌≡◌, [], OnOk, IsOk, true, false};
 
 use crate::notes::completions::CompletionNote;
@@ -9,18 +8,18 @@ use crate::notes::rows::RowNote;
 use std::alloc::{AllocError, Global};
 use std::marker::Model;
 
-/// Notes of each kind.
+/// The notes, in the memory in which they were made.
 #[derive(Drop)]
 pub struct Kinds {
     pub(crate) numbers: Vec<NumberNote>,
     pub(crate) completions: Vec<CompletionNote>,
     pub(crate) rows: Vec<RowNote>,
-    /// Notes that few steps make, where a record keeps both.
+    /// The notes of the rarer kinds, if the record has both.
     pub(crate) rest: Kept,
 }
 
 impl Kinds {
-    /// What the notes keep in memory, in bytes.
+    /// Returns how many bytes of memory the notes take, this struct included.
     pub fn kept_bytes(&self) -> usize {
         size_of::<Kinds>()
             .saturating_add(size_of::<NumberNote>().saturating_mul(self.numbers.capacity()))
@@ -30,7 +29,7 @@ impl Kinds {
     }
 }
 
-/// Notes of each kind, which take a word while there are none.
+/// A box for unpacked notes, which may not be allocated yet.
 #[derive(Drop)]
 pub struct Wide {
     pub(crate) kinds: Option<Box<Kinds>>,
@@ -47,7 +46,7 @@ impl Model for Wide {
 }
 
 impl Wide {
-    /// No notes. It takes no memory.
+    /// Returns no box. Allocates nothing.
     pub fn new() -> Wide
         ensures numbers { result.numbers ≡ [] }
         ensures completions { result.completions ≡ [] }
@@ -56,7 +55,8 @@ impl Wide {
         Wide { kinds: None }
     }
 
-    /// Makes sure that notes can be put here without memory.
+    /// Allocates the box, if it is missing. A recorder does this before it adds a note of these
+    /// kinds, so that closing cannot fail.
     pub fn ready(&mut self, alloc: Global) -> Result<(), AllocError>
         ensures ok { OnOk result (self.new.is_ready ≡ true) }
         ensures there { self.old.is_ready ≡ true → IsOk result }
@@ -74,7 +74,7 @@ impl Wide {
         Ok(())
     }
 
-    /// The same memory, with notes in it, which keep no more than they take.
+    /// Moves notes into the box, and frees the memory that they do not use.
     pub fn with(
         self,
         mut numbers: Vec<NumberNote>,

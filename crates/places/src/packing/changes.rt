@@ -1,4 +1,5 @@
-//! Changes in bytes.
+//! Packed changes. A change is a head, an index and the numbers of its old value. The head is the
+//! kind of the place plus 30 times the shape of the value.
 ghost use Rattle.std.specs.Prelude.{◌≡◌, ◌+◌, ◌*◌, ◌^◌, ◌<◌, ◌≤◌, ◌∷◌, [], None, Some, OnOk, MatchOption, is_some};
 ghost use Rattle.places.specs.declared.listed.Listed.TheVariants.{Requests, Overflowed};
 ghost use Rattle.places.specs.declared.value.Value.TheVariants.{Number};
@@ -21,10 +22,10 @@ use numerals::{Numerals, put_numbers};
 use std::alloc::AllocError;
 use std::marker::Model;
 
-/// How many kinds of place there are.
+/// The number of kinds of places.
 const KINDS: u64 = 30;
 
-/// The shapes of what stood in a place: nothing, a number, and so on.
+/// The shapes of old values. `NOTHING` means that the place was absent.
 pub const NOTHING: u64 = 0;
 
 pub const NUMBER: u64 = 1;
@@ -50,7 +51,7 @@ fn head_of(place: Place, shape: u64) -> u64
     place.kind() as u64 + KINDS * shape
 }
 
-/// Puts the kind of a place behind bytes, with the shape of what stood there, and an index.
+/// Appends a head and an index.
 pub fn put_place(out: &mut Vec<u8>, place: Place, index: u32, shape: u64) -> Result<(), AllocError>
     requires { shape ≤ 8 }
     ensures put { OnOk result (Puts number_of after out.old.items
@@ -61,7 +62,7 @@ pub fn put_place(out: &mut Vec<u8>, place: Place, index: u32, shape: u64) -> Res
     Ok(())
 }
 
-/// Puts the change of a place where a number stood behind bytes.
+/// Appends the change of a place that held a number.
 pub fn put_number_change(
     out: &mut Vec<u8>,
     place: Place,
@@ -76,7 +77,7 @@ pub fn put_number_change(
     Ok(())
 }
 
-/// What stood in a place, by its shape and the numbers that stand first.
+/// Reads an old value by its shape.
 #[tactic(auto, unfolding(crate::specs::Packed::value_of_shape))]
 fn read_value(bytes: &mut Numerals<'_>, shape: u64) -> Option<Value>
     ensures value { result ≡ value_of_shape shape bytes.old }
@@ -95,7 +96,7 @@ fn read_value(bytes: &mut Numerals<'_>, shape: u64) -> Option<Value>
     }
 }
 
-/// The place of a kind and an index.
+/// Returns the place with this kind and index. A packed place has no second index.
 #[tactic(auto, unfolding(crate::specs::PlaceNumbers::place_of))]
 fn place_of(kind: u8, index: u32) -> Place
     ensures { result ≡ place_of kind index 0 }
@@ -134,7 +135,7 @@ fn place_of(kind: u8, index: u32) -> Place
     }
 }
 
-/// The change that stands first.
+/// Reads a change.
 #[tactic(auto, unfolding(crate::specs::Packed::change_of, crate::specs::Packed::after_change))]
 fn read_change(bytes: &mut Numerals<'_>) -> Change
     ensures value { result ≡ change_of bytes.old }
@@ -149,7 +150,7 @@ fn read_change(bytes: &mut Numerals<'_>) -> Change
     }
 }
 
-/// What a change begins with: its place's kind and index, and whether anything stood there.
+/// The place of a packed change, as its kind and index, and whether it had an old value.
 #[derive(Clone, Copy)]
 pub struct Head {
     kind: u8,
@@ -157,7 +158,7 @@ pub struct Head {
     stood: bool,
 }
 
-/// How many numbers stand behind a shape.
+/// Returns how many numbers encode an old value of this shape.
 fn size_of_shape(shape: u64) -> u64
     ensures { result ≡ size_of_shape shape }
 {
@@ -173,7 +174,7 @@ fn size_of_shape(shape: u64) -> u64
     }
 }
 
-/// The head of the change that stands first. The numbers of what stood there are not read.
+/// Reads the head and index of a change, and skips the numbers of its old value.
 #[tactic(auto, unfolding(crate::specs::Packed::change_of, crate::specs::Packed::after_change))]
 fn read_head(bytes: &mut Numerals<'_>) -> Head
     ensures value { IsHead result (change_of bytes.old) }
@@ -190,8 +191,7 @@ fn read_head(bytes: &mut Numerals<'_>) -> Head
     }
 }
 
-/// The place and the number of the change that stands first, where a number stood there. Where
-/// another change stands first, nothing is read.
+/// Reads a change if its old value is a number. Otherwise it reads nothing.
 fn read_number(bytes: &mut Numerals<'_>) -> Option<(Place, u64)>
     ensures { MatchOption result (bytes.new ≡ bytes.old)
         (λ n. (change_of bytes.old ≡ number_was n.0 n.1) × (after_change bytes.old ≡ bytes.new)) }
@@ -206,7 +206,7 @@ fn read_number(bytes: &mut Numerals<'_>) -> Option<(Place, u64)>
     Some((place_of((head % KINDS) as u8, index), number))
 }
 
-/// Whether a change with this head is of a place.
+/// Returns whether a head has this place.
 fn is_of(head: Head, place: Place) -> bool
     requires { head.kind < 30 }
     ensures { result ≡ same_place (place_of head.kind head.index 0) place }
@@ -214,7 +214,7 @@ fn is_of(head: Head, place: Place) -> bool
     head.kind == place.kind() && is_same_place(place_of(head.kind, head.index), place)
 }
 
-/// Packed changes that are left to read.
+/// An iterator over packed changes.
 #[derive(Drop)]
 pub struct PackedChanges<'a> {
     left: u64,
@@ -233,7 +233,7 @@ impl<'a> Model for PackedChanges<'a> {
 }
 
 impl<'a> PackedChanges<'a> {
-    /// The changes in bytes that begin with their count.
+    /// Returns an iterator over bytes that begin with the number of changes.
     pub fn of(bytes: &'a [u8]) -> PackedChanges<'a>
         ensures { result ≡ packed bytes.now }
     {
@@ -245,7 +245,7 @@ impl<'a> PackedChanges<'a> {
         }
     }
 
-    /// None.
+    /// Returns an iterator over no changes.
     #[tactic(auto, unfolding(numerals::specs::Numerals::number_of))]
     pub fn none() -> PackedChanges<'a>
         ensures { result ≡ [] }
@@ -256,7 +256,7 @@ impl<'a> PackedChanges<'a> {
         }
     }
 
-    /// The next change, if one is left.
+    /// Returns the next change.
     pub fn next(&mut self) -> Option<Change>
         ensures told { MatchOption result (self.old ≡ []) (λ c. self.old ≡ c ∷ self.new) }
         ensures none { result ≡ None → self.new ≡ [] }
@@ -268,8 +268,8 @@ impl<'a> PackedChanges<'a> {
         Some(read_change(&mut self.bytes))
     }
 
-    /// The place and the number of the next change, if one is left and a number stood there. Any
-    /// other change stays the next.
+    /// Returns the place and old number of the next change, if its old value is a number.
+    /// Otherwise it consumes nothing.
     pub fn next_number(&mut self) -> Option<(Place, u64)>
         ensures { MatchOption result (self.new ≡ self.old)
             (λ n. self.old ≡ number_was n.0 n.1 ∷ self.new) }
@@ -280,7 +280,7 @@ impl<'a> PackedChanges<'a> {
         Some((place, number))
     }
 
-    /// The head of the next change, if one is left.
+    /// Returns the head of the next change.
     fn next_head(&mut self) -> Option<Head>
         ensures { MatchOption result (self.old ≡ []) (λ h. IsFirst h self.old self.new) }
     {
@@ -288,7 +288,8 @@ impl<'a> PackedChanges<'a> {
         Some(read_head(&mut self.bytes))
     }
 
-    /// Whether one of the changes that are left names a place.
+    /// Returns whether one of the remaining changes has this place. It
+    /// consumes those that it looks at.
     pub fn names(&mut self, place: Place) -> bool
         ensures { result ≡ is_some (named self.old place) }
     {
@@ -300,8 +301,8 @@ impl<'a> PackedChanges<'a> {
         false
     }
 
-    /// How many of so many rows, and of so many completions that did not fit into the ring, stay
-    /// once those go that are named as absent, with all behind them.
+    /// Returns how many of `rows` requests and of `backlog` overflowed completions remain after
+    /// undoing the remaining changes. An element that was absent is removed with all after it.
     pub fn lengths_left(&mut self, rows: usize, backlog: usize) -> (usize, usize)
         ensures rows { result.0 ≡ left Requests self.old rows }
         ensures backlog { result.1 ≡ left Overflowed self.old backlog }

@@ -1,4 +1,4 @@
-//! Notes packed in bytes.
+//! Packs notes into one string of bytes.
 ghost use Rattle.std.specs.Prelude.{◌≡◌, ◌+◌, ◌++◌, [], map, OnOk, IfOk, IfSome};
 ghost use Rattle.places.specs.Slots.{number_change, completion_change, row_change};
 ghost use Rattle.numerals.specs.Reading.{Puts};
@@ -13,7 +13,7 @@ use numerals::put_number;
 use std::alloc::{AllocError, Global};
 use std::marker::Model;
 
-/// Changes in bytes, behind their count.
+/// Packed changes: their number, and then each change.
 #[derive(Drop)]
 pub struct Packed {
     bytes: Vec<u8>,
@@ -30,7 +30,7 @@ impl Model for Packed {
 }
 
 impl Packed {
-    /// No changes. It takes no memory.
+    /// Returns no changes. Allocates nothing.
     #[tactic(auto, unfolding(numerals::specs::Numerals::number_of))]
     pub fn new(alloc: Global) -> Packed
         ensures { result ≡ [] }
@@ -40,7 +40,8 @@ impl Packed {
         }
     }
 
-    /// The changes of notes. They are put together in memory of another, which stays.
+    /// Packs notes. It builds the bytes in `scratch`, whose memory is reused, and copies them to
+    /// their exact size. Fails if an allocation fails, or if an old value has no packed form.
     pub fn of(
         numbers: &[NumberNote],
         completions: &[CompletionNote],
@@ -65,14 +66,14 @@ impl Packed {
         Ok(Packed { bytes })
     }
 
-    /// The changes, one after the other.
+    /// Returns an iterator over the changes.
     pub fn changes(&self) -> PackedChanges<'_>
         ensures { result ≡ self.now }
     {
         PackedChanges::of(&self.bytes)
     }
 
-    /// What the changes keep in memory, in bytes.
+    /// Returns how many bytes of memory the changes take.
     pub fn kept_bytes(&self) -> usize {
         self.bytes.capacity()
     }

@@ -1,4 +1,5 @@
-//! Values as numbers, and back.
+//! Values as lists of numbers, and back. An optional number is encoded as 0 if it is absent,
+//! and as n + 1 if it is n.
 ghost use Rattle.std.specs.Prelude.{◌≡◌, ◌<◌, ◌%◌, ◌∷◌, ◌++◌, [], ℕ, length, drop, slice_index, IfSome, OnOk};
 ghost use Rattle.byteorder.specs.Endian.{little_bytes, little_number};
 ghost use Rattle.entries.specs.Layout.{EntryFits, CompletionFits};
@@ -12,6 +13,7 @@ use entries::{Cqe, Phase, Row, Sqe};
 use numerals::{Numerals, put_numbers};
 use std::alloc::AllocError;
 
+// Encodes a time in nanoseconds; returns `None` if it is 2^64 - 1 or more.
 fn time_number(time: Option<u128>) -> Option<u64>
     ensures { IfSome result (λ n. n ≡ option_number time) }
 {
@@ -79,7 +81,7 @@ fn completion_numbers(completion: Cqe) -> [u64; 3]
     ]
 }
 
-/// The numbers that two halves of bytes are.
+/// Splits 16 bytes into two little-endian numbers.
 fn halves_of(rest: &[u8]) -> (u64, u64)
     requires { length rest.now ≡ 16 }
     ensures first { result.0 ≡ little_number 8 rest.now }
@@ -117,7 +119,7 @@ fn entry_numbers(entry: Sqe) -> [u64; 14]
     ]
 }
 
-/// The numbers of a row besides its entry, unless a time takes more than one number.
+/// Encodes a row without its entry; returns `None` if a time is 2^64 - 1 nanoseconds or more.
 fn row_numbers(row: Row) -> Option<[u64; 7]>
     ensures numbers { IfSome result (λ ns. ns ≡ row_list row) }
     ensures again { RowAgain row }
@@ -138,7 +140,7 @@ fn row_numbers(row: Row) -> Option<[u64; 7]>
     ])
 }
 
-/// Puts a completion behind bytes.
+/// Appends a completion.
 pub fn put_completion(out: &mut Vec<u8>, completion: &Cqe) -> Result<(), AllocError>
     ensures { OnOk result
         (Puts completion_of (behind 3) out.old.items (completion.now ∷ []) out.new.items) }
@@ -147,7 +149,7 @@ pub fn put_completion(out: &mut Vec<u8>, completion: &Cqe) -> Result<(), AllocEr
     Ok(())
 }
 
-/// Puts an entry behind bytes.
+/// Appends an entry.
 pub fn put_entry(out: &mut Vec<u8>, entry: &Sqe) -> Result<(), AllocError>
     ensures { OnOk result
         (Puts entry_of (behind 14) out.old.items (entry.now ∷ []) out.new.items) }
@@ -156,7 +158,7 @@ pub fn put_entry(out: &mut Vec<u8>, entry: &Sqe) -> Result<(), AllocError>
     Ok(())
 }
 
-/// Puts a row behind bytes, unless one of its times takes more than one number.
+/// Appends a row. A time of 2^64 - 1 nanoseconds or more is refused as if an allocation failed.
 pub fn put_row(out: &mut Vec<u8>, row: &Row) -> Result<(), AllocError>
     ensures { OnOk result (Puts row_of (behind 21) out.old.items (row.now ∷ []) out.new.items) }
 {
@@ -178,7 +180,7 @@ fn stage_numbers(stage: Stage) -> [u64; 2]
     }
 }
 
-/// Puts a stage behind bytes.
+/// Appends a stage.
 pub fn put_stage(out: &mut Vec<u8>, stage: &Stage) -> Result<(), AllocError>
     ensures { OnOk result
         (Puts stage_of (behind 2) out.old.items (stage.now ∷ []) out.new.items) }
@@ -187,7 +189,7 @@ pub fn put_stage(out: &mut Vec<u8>, stage: &Stage) -> Result<(), AllocError>
     Ok(())
 }
 
-/// Puts what was reaped behind bytes.
+/// Appends the last reaped completion, if any.
 pub fn put_reaped(out: &mut Vec<u8>, reaped: &Option<Cqe>) -> Result<(), AllocError>
     ensures { OnOk result
         (Puts reaped_of (behind 4) out.old.items (reaped.now ∷ []) out.new.items) }
@@ -205,7 +207,7 @@ pub fn put_reaped(out: &mut Vec<u8>, reaped: &Option<Cqe>) -> Result<(), AllocEr
     }
 }
 
-/// The completion whose numbers stand first.
+/// Reads a completion.
 pub fn read_completion(bytes: &mut Numerals<'_>) -> Cqe
     ensures value { result ≡ completion_of bytes.old }
     ensures left { bytes.new ≡ behind 3 bytes.old }
@@ -217,7 +219,7 @@ pub fn read_completion(bytes: &mut Numerals<'_>) -> Cqe
     }
 }
 
-/// The entry whose numbers stand first.
+/// Reads an entry.
 #[tactic(auto, unfolding(crate::specs::Packed::entry_of))]
 pub fn read_entry(bytes: &mut Numerals<'_>) -> Sqe
     ensures value { result ≡ entry_of bytes.old }
@@ -253,7 +255,7 @@ fn read_rest(bytes: &mut Numerals<'_>) -> [u8; 16]
     rest
 }
 
-/// The row whose numbers stand first.
+/// Reads a row.
 #[tactic(auto, unfolding(crate::specs::Packed::row_of))]
 pub fn read_row(bytes: &mut Numerals<'_>) -> Row
     ensures value { result ≡ row_of bytes.old }
@@ -271,7 +273,7 @@ pub fn read_row(bytes: &mut Numerals<'_>) -> Row
     }
 }
 
-/// The stage whose numbers stand first.
+/// Reads a stage.
 pub fn read_stage(bytes: &mut Numerals<'_>) -> Stage
     ensures value { result ≡ stage_of bytes.old }
     ensures left { bytes.new ≡ behind 2 bytes.old }
@@ -284,7 +286,7 @@ pub fn read_stage(bytes: &mut Numerals<'_>) -> Stage
     }
 }
 
-/// What was reaped, by the numbers that stand first.
+/// Reads the last reaped completion, if any.
 pub fn read_reaped(bytes: &mut Numerals<'_>) -> Option<Cqe>
     ensures value { result ≡ reaped_of bytes.old }
     ensures left { bytes.new ≡ behind 4 bytes.old }

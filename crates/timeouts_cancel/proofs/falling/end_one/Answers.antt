@@ -11,7 +11,7 @@ use Rattle.timeouts_cancel.proofs.Walking.{walked_direct}
 use Rattle.timeouts_cancel.proofs.Sweeping.{sweep_start}
 use Rattle.timeouts_cancel.proofs.falling.end_one.Goals as goal
 
--- the direct pair
+-- The direct completion at index `at`.
 abbrev pair_of : List Ending → ℕ → Ending
 pair_of direct at = slice_index_or direct at (0, pos 0)
 

@@ -10,7 +10,7 @@ use Rattle.timeouts_cancel.proofs.Sweeping.{same_row, sweep_direct, sweep_other,
 use Rattle.timeouts_cancel.proofs.falling.sever.Goals as goal
 use Rattle.timeouts_cancel.proofs.falling.sever.Goals.{in-Some+in_ok-push, in_default+then-is_unfinished+in_ok-push-2, in_default+else-is_unfinished}
 
--- the walk by other names of its parts
+-- The invariant, restated for equal lists and indexes.
 sweeps_on : (rows : List Row) (direct : List Ending) (k i j : ℕ) (es fs : List Ending) (unit at : ℕ) → fs ≡ es → j ≡ i → at ≤ i → Sweeping rows direct k i es unit → SweepsOn rows direct k j fs unit at
 sweeps_on rows direct k i j es fs unit at e n l s =
     let P : List Ending → Type 0 = λ xs. SweepsOn rows direct k j xs unit at in

@@ -21,7 +21,7 @@ use Rattle.machine.proofs.whole.Machine.finish.Goals as goal
 pub cancel-requires-clause-there : goal.cancel-requires-clause-there
 cancel-requires-clause-there c = finished_row c.args.self.now c.args.r c.args.choice c.requires.accepted
 
--- the machine after a cancel
+-- The machine after a cancellation.
 pub returns-then-is_cancel-clause-ok : goal.returns-then-is_cancel-clause-ok
 returns-then-is_cancel-clause-ok c =
     let m : Machine = c.args.self.now in
@@ -50,7 +50,7 @@ fall-requires-clause-mostly c =
     subst (λ (w : WorldState). Mostly (record c.args.self.now { world = w })) (sym after)
     (mostly_world c.args.self.now (world_after c.row-row.result c.in-Res.res c.args.self.now.world) (mostly c.args.self.now c.requires.formed) s.formed)
 
--- the machine after it, as the fall leaves it
+-- The machine after the cascade.
 pub returns-clause-ok : goal.returns-clause-ok
 returns-clause-ok c =
     let m : Machine = c.args.self.now in

@@ -28,7 +28,7 @@ start-requires-clause-time c =
     let same = same_row x.row c.row-row.result (sym x.there ∙ c.row-row.ensures) in
     (c.requires.formed.rows c.args.r c.row-row.result c.row-row.ensures).time (ap (λ (y : Row). is_unfinished y.phase) (sym same) ∙ ap is_unfinished x.queued)
 
--- what stands behind the row is as it was
+-- The next request doesn't change.
 behind : (m n : Machine) (r : ℕ) → n ≡ record m { table = updated (started m.clock m.counted) m.table r } → slice_get n.table (r + 1) ≡ slice_get m.table (r + 1)
 behind m n r h = ap (λ (x : Machine). slice_get x.table (r + 1)) h ∙ apart (started m.clock m.counted) m.table r (r + 1) (λ o. absurd (omega (arith, o)))
 

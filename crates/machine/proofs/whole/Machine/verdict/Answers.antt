@@ -5,7 +5,7 @@ use Rattle.machine.specs.Cancels.{Verdict, key_of, takes_all, on_found, on_all}
 use Rattle.machine.proofs.CancelLemmas.{few_waiting}
 use Rattle.machine.proofs.whole.Machine.verdict.Goals as goal
 
--- how many rows the list has
+-- The length of the list.
 counted : (c : goal.After-len) → c.len.result ≡ length c.in_ok-rows.rows.items
 counted c = c.len.ensures ∙ c.in_ok-rows.rows.ok.0
 

@@ -7,7 +7,7 @@ use Rattle.ring_words.proofs.Seen.{com_seen_tail, com_seen_slot}
 use Rattle.ring_words.specs.Rings.{com_list}
 use Rattle.ring_words.proofs.com_ring.ComRing.post.Goals as goal
 
--- the slot was noted and then written, and after it the tail
+-- The slot is recorded and written, then the tail.
 pub returns-clause-keeps : goal.returns-clause-keeps
 returns-clause-keeps c =
     let same : c.len.result ≡ length c.self.inside.slots.items = c.len.ensures ∙ c.self.inside.slots.ok.0 in

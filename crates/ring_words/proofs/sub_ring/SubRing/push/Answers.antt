@@ -7,7 +7,7 @@ use Rattle.ring_words.proofs.Seen.{sub_seen_tail, sub_seen_word}
 use Rattle.ring_words.specs.Rings.{sub_list}
 use Rattle.ring_words.proofs.sub_ring.SubRing.push.Goals as goal
 
--- the word was noted and then written, and after it the tail
+-- The word is recorded and written, then the tail.
 pub returns-clause-keeps : goal.returns-clause-keeps
 returns-clause-keeps c =
     let same : c.len.result ≡ length c.self.inside.array.items = c.len.ensures ∙ c.self.inside.array.ok.0 in

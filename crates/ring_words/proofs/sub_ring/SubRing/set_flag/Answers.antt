@@ -11,7 +11,7 @@ returns-then-on-clause-keeps c = rw (← c.self.view_is) (keeps_noted _ _ _ _ _ 
 pub returns-else-on-clause-keeps : goal.returns-else-on-clause-keeps
 returns-else-on-clause-keeps c = rw (← c.self.view_is) (keeps_noted _ _ _ _ _ _ _ refl c.note_word.ensures.noted (sub_seen_flags _ _))
 
--- the flag stands so already
+-- The flag already has this value.
 pub returns-then-has_flag-on-clause-next : goal.returns-then-has_flag-on-clause-next
 returns-then-has_flag-on-clause-next c =
     let formed : SubFormed c.args.self.now = search rules in

@@ -1,6 +1,6 @@
-//! Error numbers, as errno(3) lists them. A completion has them negated.
+//! Error numbers (errno(3)). Results of completions are negated error numbers.
 
-/// There is no such entry.
+/// No such entry.
 pub const ENOENT: i32 = 2;
 
 /// Input/output error.
@@ -12,7 +12,7 @@ pub const EBADF: i32 = 9;
 /// Bad address.
 pub const EFAULT: i32 = 14;
 
-/// The device or resource is busy.
+/// Device or resource busy.
 pub const EBUSY: i32 = 16;
 
 /// Invalid argument.
@@ -24,11 +24,11 @@ pub const EFBIG: i32 = 27;
 /// Broken pipe.
 pub const EPIPE: i32 = 32;
 
-/// The timer expired.
+/// Timer expired.
 pub const ETIME: i32 = 62;
 
-/// The operation is already in progress.
+/// Operation already in progress.
 pub const EALREADY: i32 = 114;
 
-/// The operation was canceled.
+/// Operation canceled.
 pub const ECANCELED: i32 = 125;
