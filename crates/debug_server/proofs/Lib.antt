@@ -14,3 +14,5 @@ pub mod Moving
 pub mod Faulting
 pub mod Stepping
 pub mod Walks
+pub mod Again
+pub mod SessionsAgain

@@ -2,13 +2,18 @@
 ghost use Rattle.std.specs.Prelude.{◌≡◌, ◌+◌, ℕ, ◌++◌, List, true, Ok, Some, None, length, take};
 ghost use Rattle.scenario.specs.declared.event.Event.{Event};
 ghost use Rattle.machine.specs.declared.whole.Machine.{Machine};
-ghost use Rattle.machine.specs.Runs.{Accepts};
+ghost use Rattle.machine.specs.Runs.{start, Accepts, IsRefused};
+ghost use Rattle.scenario.specs.Setups.{setup_refusal};
+ghost use Rattle.scenario.specs.declared.event.Refusal.{Refusal};
 ghost use Rattle.scenario.specs.declared.setup.Setup.{Setup};
+ghost use Rattle.traces.specs.Setups.{canonical};
 ghost use Rattle.commands.specs.declared.command.Command.TheVariants.{Sync};
 ghost use Rattle.commands.specs.Commands.{command_of};
 ghost use Rattle.debug_server.specs.Lines.{lines_of, ended_lines};
 ghost use Rattle.debug_server.specs.Syncs.{torn_from, refused_from, IsTorn, IsFirstRefused};
-ghost use Rattle.debug_server.specs.Transcripts.{asks};
+ghost use Rattle.debug_server.specs.Transcripts.{asks, Streams};
+ghost use Rattle.debug_server.specs.Walked.{Walked, BrokenOff};
+ghost use Rattle.debug_server.specs.declared.faults.ServeFault.{ServeFault};
 
 /// What is told of a trace and another is its first event that doesn't stand there; nothing is told
 /// only where the other begins with it.
@@ -38,4 +43,23 @@ pub fn sync_alone_asks()
 pub fn ended_lines_stay()
     ensures { (bytes more : List ℕ) → (ls : List (List ℕ))
         × (lines_of (bytes ++ more) ≡ ended_lines bytes ++ ls) }
+{}
+
+/// The setup that a trace of the second form has starts as the setup that the trace was written of
+/// does: neither the rounded sizes nor the zeros that its memory lacks change the machine.
+pub fn traces_keep_the_start()
+    ensures { (s : Setup) → setup_refusal s ≡ None → start (canonical s) ≡ start s }
+{}
+
+/// What is run from the setup of a trace is what is run from the setup that the trace was written
+/// of: the same events run and are refused, and a session replies the same to the same lines.
+pub fn replays_are_the_run()
+    ensures walked { (s : Setup) (events : List Event) (before after : Streams)
+        → setup_refusal s ≡ None → Walked (canonical s) events before after
+        → Walked s events before after }
+    ensures refused { (s : Setup) (events : List Event) (i : ℕ) (n : Refusal)
+        → setup_refusal s ≡ None → IsRefused (canonical s) events i n → IsRefused s events i n }
+    ensures broken { (s : Setup) (events : List Event) (before after : Streams) (f : ServeFault)
+        → setup_refusal s ≡ None → BrokenOff (canonical s) events before after f
+        → BrokenOff s events before after f }
 {}
