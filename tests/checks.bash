@@ -25,14 +25,19 @@ run() {
   status=$?
 }
 
+# Whether a file is one line that has a text.
+is_one_line() {
+  [ "$(wc -l <"$1")" -eq 1 ] && grep -qF -- "$2" "$1"
+}
+
 # Whether the last run ended with a status, nothing on standard output, and one line on standard error that has a text.
 refused() {
-  [ "$status" -eq "$1" ] && [ ! -s "$scratch/out" ] && [ "$(wc -l <"$scratch/err")" -eq 1 ] && grep -qF -- "$2" "$scratch/err"
+  [ "$status" -eq "$1" ] && [ ! -s "$scratch/out" ] && is_one_line "$scratch/err" "$2"
 }
 
 # Whether the last run ended with status 0, and one line on standard output that has a text.
 done_with() {
-  [ "$status" -eq 0 ] && [ ! -s "$scratch/err" ] && [ "$(wc -l <"$scratch/out")" -eq 1 ] && grep -qF -- "$1" "$scratch/out"
+  [ "$status" -eq 0 ] && [ ! -s "$scratch/err" ] && is_one_line "$scratch/out" "$1"
 }
 
 # Prints all that is in a folder: each name with its kind and mode, and the bytes of each file as a sum.
@@ -50,8 +55,9 @@ absent() {
 
 # Copies what the scripts use of the repository, without what was built.
 copy_sources() {
-  mkdir -p "$1" && (cd "$top" && tar -c --exclude=out --exclude=must-fail crates crates.txt docs examples install README.md test uringwalk) |
-    tar -x -C "$1"
+  mkdir -p "$1" &&
+    tar -C "$top" -c --exclude=out --exclude=must-fail crates crates.txt docs examples install test uringwalk |
+    tar -C "$1" -x
 }
 
 finish() {
