@@ -3,6 +3,7 @@
 
 mod table;
 mod task;
+mod version;
 mod words;
 
 pub use task::{Form, Job};

@@ -4,6 +4,7 @@ ghost use Rattle.jobs.specs.Jobs.{LosesScript, IsInRange, AreInRange, AreClients
 
 use crate::table::{FORMS, KINDS, Operand, Shape, Verb, WORDS, Word};
 use crate::task::{Form, Job};
+use crate::version::VERSION;
 use clap::error::ErrorKind;
 use clap::{Arg, ArgAction, ArgMatches, Command, Error, value_parser};
 use std::alloc::{AllocError, Global};
@@ -225,12 +226,24 @@ fn with<'a>(
     command.subcommand(word?)
 }
 
+// The option that prints the version. The help of the program doesn't list it.
+fn version_option<'a>(alloc: Global) -> Arg<'a> {
+    Arg::new(alloc, "version")
+        .short('V')
+        .long("version")
+        .action(ArgAction::Version)
+        .hide(true)
+}
+
 // The program, with all its words.
 fn program<'a>(alloc: Global) -> Result<Command<'a>, AllocError> {
     let mut command = Command::new(alloc, "uringwalk")
+        .version(VERSION)
+        .disable_version_flag(true)
         .about("A reversible debugger for io_uring programs")
         .after_help(EXAMPLE)
-        .subcommand_required(true);
+        .subcommand_required(true)
+        .arg(version_option(alloc))?;
     for word in WORDS {
         command = with(command, command_of(alloc, word))?;
     }
@@ -269,8 +282,8 @@ fn accepted<'a>(command: &mut Command<'a>, words: &'a [&'a str]) -> Result<Job<'
     }
 }
 
-/// Reads the words of the program. Words that can't be read, help, a trace onto its script, and a
-/// number out of its range are errors with their text.
+/// Reads the words of the program. Words that can't be read, help, the version, a trace onto its
+/// script, and a number out of its range are errors with their text.
 pub fn job<'a>(alloc: Global, words: &'a [&'a str]) -> Result<Job<'a>, Error>
     ensures keeps_script { IfOk result (λ j. LosesScript j → ⊥) }
     ensures in_range { IfOk result IsInRange }

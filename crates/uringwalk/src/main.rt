@@ -198,6 +198,14 @@ fn fail_for_memory(rt: &impl Eprint) -> ExitCode {
     fail(rt, 1, &Fault::Run(RunFault::Memory))
 }
 
+// Prints the version on standard output.
+fn print_version(rt: &(impl Print + Eprint), version: &clap::Error) -> ExitCode {
+    match rt.print(version) {
+        Ok(()) => ExitCode::SUCCESS,
+        Err(_) => fail(rt, 1, &Fault::Run(RunFault::Serve(ServeFault::Write))),
+    }
+}
+
 // Does what the words ask for, unless it would lose a script.
 fn carry_out<
     R: Files
@@ -239,6 +247,7 @@ fn read_words<
     match job(rt.alloc(), words) {
         Ok(job) => carry_out(rt, job),
         Err(error) if error.kind() == ErrorKind::OutOfMemory => fail_for_memory(rt),
+        Err(error) if error.kind() == ErrorKind::DisplayVersion => print_version(rt, &error),
         Err(error) => fail(rt, 2, &error),
     }
 }

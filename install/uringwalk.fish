@@ -1,0 +1,48 @@
+# fish completion for uringwalk
+
+function __uringwalk_has_no_word
+    test (count (commandline -opc)) -eq 1
+end
+
+# Whether the word of the program is one of these.
+function __uringwalk_word_is
+    set -l typed (commandline -opc)
+    set -q typed[2]; and contains -- $typed[2] $argv
+end
+
+# The options of the program, and its words.
+complete -c uringwalk -f
+complete -c uringwalk -s h -l help -d 'Print the usage'
+complete -c uringwalk -n __uringwalk_has_no_word -s V -l version -d 'Print the version'
+complete -c uringwalk -n __uringwalk_has_no_word -a walk -d 'Run a script\'s schedule, and answer commands'
+complete -c uringwalk -n __uringwalk_has_no_word -a check -d 'Print what is wrong with a script'
+complete -c uringwalk -n __uringwalk_has_no_word -a trace -d 'Run a script\'s schedule, and write its trace'
+complete -c uringwalk -n __uringwalk_has_no_word -a migrate -d 'Put a script\'s setup before a trace of form 1'
+complete -c uringwalk -n __uringwalk_has_no_word -a replay -d 'Run a trace of form 2, and answer commands'
+complete -c uringwalk -n __uringwalk_has_no_word -a log -d 'Print each event, and what it changed'
+complete -c uringwalk -n __uringwalk_has_no_word -a explain -d 'Print what went wrong, and when'
+complete -c uringwalk -n __uringwalk_has_no_word -a timeline -d 'Draw a run, moment by moment'
+complete -c uringwalk -n __uringwalk_has_no_word -a live -d 'Run a script\'s threads side by side'
+complete -c uringwalk -n __uringwalk_has_no_word -a serve -d 'Run a script\'s threads for clients'
+complete -c uringwalk -n __uringwalk_has_no_word -a help -d 'Print the usage of the program or of a word'
+complete -c uringwalk -n '__uringwalk_word_is help' -a 'walk check trace migrate replay log explain timeline live serve'
+
+# The files. Where a script is expected, names that end in .json come first.
+complete -c uringwalk -n '__uringwalk_word_is walk check trace migrate live serve' -k -a '(__fish_complete_suffix .json)'
+complete -c uringwalk -n '__uringwalk_word_is replay log explain timeline' -F
+
+# The options of each word.
+complete -c uringwalk -n '__uringwalk_word_is trace' -l form -x -a '1 2' -d 'The form of the trace'
+complete -c uringwalk -n '__uringwalk_word_is log timeline' -l from -x -d 'The first event'
+complete -c uringwalk -n '__uringwalk_word_is log timeline' -l to -x -d 'The event after the last'
+complete -c uringwalk -n '__uringwalk_word_is explain' -l json -d 'Print JSON'
+complete -c uringwalk -n '__uringwalk_word_is explain' -l kind -x -d 'Findings of this kind alone' -a '
+    failed short severed canceled timed-out expired not-found too-late overflow busy waits lost-wake-up
+    not-taken not-reaped unfinished buffer-in-use unordered shared-position fsync-early taken-short
+    no-such-slot cut-off went-on no-effect slot-in-use closed-early closed-while-held several
+    left-running same-user-data not-durable refused-flags'
+complete -c uringwalk -n '__uringwalk_word_is live serve' -l turns -x -d 'How many turns each thread has'
+complete -c uringwalk -n '__uringwalk_word_is live serve' -l kernel -x -d 'How many kernel workers there are'
+complete -c uringwalk -n '__uringwalk_word_is live' -l trace -r -F -d 'The trace to write'
+complete -c uringwalk -n '__uringwalk_word_is serve' -l port -x -d 'The port to listen on'
+complete -c uringwalk -n '__uringwalk_word_is serve' -l clients -x -d 'How many sessions to end after'
