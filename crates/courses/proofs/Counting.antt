@@ -1,5 +1,5 @@
 -- How many rows there are, and items of the backlog.
-use Rattle.std.proofs.Common.{◌≡◌, ℕ, ◌+◌, ◌∙◌, sym, ◌<◌, ◌≤◌, zero, suc, true, false, ap, List, [], ◌∷◌, ◌++◌, length, take, get_or, arith}
+use Rattle.std.proofs.Common.{◌≡◌, ℕ, ◌+◌, ◌∙◌, sym, ◌<◌, ◌≤◌, zero, suc, true, false, ap, List, [], ◌∷◌, ◌++◌, length, map, take, get_or, refl, arith}
 use Rattle.std.specs.Prelude.{Option, Some, None, is_some, option_map, slice_get}
 use Rattle.std.proofs.lemmas.List.{take_more}
 use Rattle.std.proofs.lemmas.Option.{slice_get_within, slice_get-get_or}
@@ -45,3 +45,16 @@ take_next xs i x h =
     let l = slice_get_within xs i x h in
     let e : get_or xs i x ≡ x = some_is _ _ (sym (slice_get-get_or xs i x l) ∙ h) in
     take_more xs i x l ∙ ap (λ y. take i xs ++ y ∷ []) e
+
+-- the images of the elements up to an index: one more where an element is there
+pub map_next : {X Y : Type 0} (f : X → Y) (xs : List X) (i : ℕ) (y : Y) → option_map f (slice_get xs i) ≡ Some y → take (suc i) (map f xs) ≡ take i (map f xs) ++ y ∷ []
+map_next f [] i y e = absurd cc
+map_next f (x ∷ xs) zero y e = let k : f x ≡ y = cc in ap (λ z. z ∷ []) k
+map_next f (x ∷ xs) (suc i) y e = ap (λ ys. f x ∷ ys) (map_next f xs i y e)
+
+-- and no more where none is
+pub map_ended : {X Y : Type 0} (f : X → Y) (xs : List X) (i : ℕ) → option_map f (slice_get xs i) ≡ None → take (suc i) (map f xs) ≡ take i (map f xs)
+map_ended f [] zero e = refl
+map_ended f [] (suc i) e = refl
+map_ended f (x ∷ xs) zero e = absurd cc
+map_ended f (x ∷ xs) (suc i) e = ap (λ ys. f x ∷ ys) (map_ended f xs i e)

@@ -1,11 +1,13 @@
 -- What a run comes to, by its moments.
-use Rattle.std.specs.Prelude.{◌≡◌, ◌≢◌, ℕ, ◌+◌, ◌<◌, ◌≤◌, List, length, slice_get, take, Bool, true, false, Option, Some, None}
+use Rattle.std.specs.Prelude.{◌≡◌, ℕ, ◌+◌, ◌<◌, ◌≤◌, min, List, length, slice_get, take, map, Bool, true, false, Option, Some, None, option_map}
 use Rattle.std.specs.Option.{option_map_or}
 use Rattle.entries.specs.declared.row.Phase.{Phase}
 use Rattle.links_drains.specs.Phases.{is_issued, is_ended}
 use Rattle.scenario.specs.declared.event.Event.{Event}
-use Rattle.scenario.specs.declared.event.Refusal.TheVariants.{Memory}
+use Rattle.scenario.specs.declared.event.Refusal.{Refusal}
+use Rattle.scenario.specs.declared.event.Refusal.TheVariants as out
 use Rattle.scenario.specs.declared.setup.Setup.{Setup}
+use Rattle.sqpoll.specs.Pollers.{is_awake}
 use Rattle.machine.specs.declared.whole.Machine.{Machine}
 use Rattle.machine.specs.Steps.{refusal}
 use Rattle.machine.specs.Runs.{start, moment, Accepts, IsRefused}
@@ -13,7 +15,9 @@ use Rattle.courses.specs.declared.course.Course.{Course}
 use Rattle.courses.specs.declared.filling.Filling.{Filling}
 use Rattle.courses.specs.declared.following.Followed.{Followed}
 use Rattle.courses.specs.declared.following.Stop.{Stop}
+use Rattle.courses.specs.declared.following.Stop.TheVariants.{Refused, Memory}
 use Rattle.courses.specs.declared.stamps.Stamps.{Stamps}
+use Rattle.courses.specs.declared.standing.Standing.{Standing}
 use Rattle.courses.specs.Fillings.{filling_of}
 
 -- ---- rows
@@ -55,17 +59,42 @@ pub record IsCourse (s : Setup) (es : List Event) (n : ℕ) (c : Course) : Type 
   pub runs : Accepts (start s) (take n es)
   pub fillings : AreFilled s es n c.fillings.items
   pub stamps : AreStamped s es n c.stamps.items
+  pub overflowed : c.overflowed ≡ length (moment s es n).backlog.items
 
--- What a whole run comes to, and its rows at the end.
-pub record IsFollowed (s : Setup) (es : List Event) (f : Followed) : Type 0 where
+-- The first n events were followed: the machine that they lead to, and what they come to. No moment
+-- before has more rows, and the threads are no more than a setup can have.
+pub record Follows (s : Setup) (es : List Event) (n : ℕ) (m : Machine) (c : Course) : Type 0 where
+  pub here : m ≡ moment s es n
+  pub course : IsCourse s es n c
+  pub growing : (i : ℕ) → i ≤ n
+      → length (moment s es i).table ≤ length (moment s es n).table
+  pub threads : length m.threads ≤ 16
+
+-- What the threads of a machine do next, and whether its poller is awake, if it has one.
+pub record IsStanding (m : Machine) (x : Standing) : Type 0 where
+  pub stages : x.stages.items ≡ map (λ t. t.stage) m.threads
+  pub awake : x.awake ≡ option_map is_awake m.poller
+
+-- What a whole run comes to, its rows at the end, and what its threads and its poller do next at a
+-- moment, or at the end where that comes first.
+pub record IsFollowed (s : Setup) (es : List Event) (at : ℕ) (f : Followed) : Type 0 where
   pub course : IsCourse s es (length es) f.course
   pub rows : f.rows.items ≡ (moment s es (length es)).table
+  pub standing : IsStanding (moment s es (min at (length es))) f.standing
 
--- Why an event isn't followed by another: it is refused, or memory is.
-pub record Halts (i : ℕ) (m : Machine) (e : Event) (x : Stop) : Type 0 where
-  pub at : x.refusal ≢ Memory → x.index ≡ i
-  pub refused : x.refusal ≢ Memory → refusal m e ≡ Some x.refusal
+-- ---- runs that stop
 
--- Why a run isn't followed to its end: the first event that is refused, or memory.
+-- why a run stops at the event of an index
+abbrev pub stop_at : ℕ → Refusal → Stop
+stop_at i out.Memory = Memory
+stop_at i n = Refused i n
+
+-- Why an event isn't followed by another: it is refused, or an allocation fails.
+abbrev pub Halts : ℕ → Machine → Event → Stop → Type 0
+Halts i m e (Refused k n) = (k ≡ i) × (refusal m e ≡ Some n)
+Halts i m e Memory = Unit {0}
+
+-- Why a run isn't followed to its end: the first event that is refused, or an allocation fails.
 abbrev pub Stops : Setup → List Event → Stop → Type 0
-Stops s es x = x.refusal ≢ Memory → IsRefused s es x.index x.refusal
+Stops s es (Refused i n) = IsRefused s es i n
+Stops s es Memory = Unit {0}

@@ -16,13 +16,13 @@ pub struct Course {
     pub fillings: Vec<Filling>,
     /// When each row was queued, issued and ended.
     pub stamps: Vec<Stamps>,
-    /// How many completions went into the backlog.
-    pub overflowed: u32,
+    // How many completions have gone into the backlog so far.
+    overflowed: u32,
 }
 
 impl Course {
     /// At the start of a run.
-    pub fn new(alloc: Global, state: &State) -> Result<Course, AllocError>
+    pub(crate) fn new(alloc: Global, state: &State) -> Result<Course, AllocError>
         requires none_kept { state.now.backlog.items ≡ [] }
         ensures fillings { IfOk result (λ c. c.fillings.items ≡ filling_at state.now ∷ []) }
         ensures stamps { IfOk result (λ c. c.stamps.items ≡ []) }
@@ -38,7 +38,12 @@ impl Course {
     }
 
     /// Notes the moment behind a step, by the step's record.
-    pub fn note(&mut self, past: &Record, state: &State, moment: u32) -> Result<(), AllocError>
+    pub(crate) fn note(
+        &mut self,
+        past: &Record,
+        state: &State,
+        moment: u32,
+    ) -> Result<(), AllocError>
         requires rows { length self.old.stamps.items ≤ length state.now.table }
         requires kept { self.old.overflowed ≤ length state.now.backlog.items }
         ensures fillings { OnOk result (self.new.fillings.items ≡ self.old.fillings.items

@@ -3,10 +3,9 @@ ghost use Rattle.std.specs.Prelude.{◌≡◌, ◌≤◌, ◌<◌, ◌^◌, ◌-
 ghost use Rattle.places.specs.View.{Exact};
 ghost use Rattle.places.specs.declared.value.Change.{Change};
 ghost use Rattle.scenario.specs.Setups.{setup_refusal};
-ghost use Rattle.machine.specs.Whole.{view, WellFormed};
+ghost use Rattle.machine.specs.Whole.{view, WellFormed, Grows};
 ghost use Rattle.machine.specs.Steps.{Next};
-ghost use Rattle.machine.specs.Runs.{start, moment};
-ghost use Rattle.courses.specs.Courses.{IsCourse, IsFollowed, Halts, Stops};
+ghost use Rattle.courses.specs.Courses.{Follows, IsFollowed, IsStanding, Halts, Stops, stop_at};
 ghost use Rattle.courses.specs.Fillings.{filling_of};
 ghost use Rattle.courses.specs.Stamping.{stamps_behind};
 
@@ -21,45 +20,45 @@ use std::alloc::{AllocError, Global};
 #[derive(Drop)]
 pub struct Followed {
     pub course: Course,
-    /// Its rows, as they stand at its end.
+    /// Its rows, as they are at its end.
     pub rows: Vec<Row>,
-    /// What the threads and the poller did at a moment that was asked for, or at its end.
+    /// What the threads and the poller do next at the requested moment, or at the end where the
+    /// run is shorter.
     pub standing: Standing,
 }
 
-/// Why a run isn't followed to its end: the event at this index is refused, and why; want of memory
-/// among the reasons.
+/// Why a run isn't followed to its end.
 #[derive(Clone, Copy)]
-pub struct Stop {
-    pub index: u32,
-    pub refusal: Refusal,
+pub enum Stop {
+    /// The event at this index is refused, and why.
+    Refused(u32, Refusal),
+    /// An allocation failed.
+    Memory,
 }
 
-// That memory is refused at an event.
-fn out_of_memory(index: u32) -> Stop
-    ensures { result.refusal ≡ Refusal.Memory }
+// Why a run stops at the event of an index, which a state didn't take.
+fn stop_at(index: u32, refusal: Refusal) -> Stop
+    ensures { result ≡ stop_at index refusal }
 {
-    Stop {
-        index,
-        refusal: Refusal::Memory,
+    match refusal {
+        Refusal::Memory => Stop::Memory,
+        refusal => Stop::Refused(index, refusal),
     }
 }
 
-// Does an event, and notes what it comes to, and before it what the threads do, if that is asked
-// for.
+// Runs an event, and adds what the run amounts to after it.
+#[tactic(auto, using(crate::proofs::GoingOn::halts))]
 fn follow_event(
     state: &mut State,
     index: usize,
     event: Event,
-    at: u32,
     course: &mut Course,
-    standing: &mut Standing,
 ) -> Result<(), Stop>
     requires index { index < 2 ^ 32 - 1 }
     requires rows { length course.old.stamps.items ≡ length state.old.table }
     requires kept { course.old.overflowed ≡ length state.old.backlog.items }
     ensures next { OnOk result (Next state.old event state.new) }
-    ensures grows { OnOk result (length state.old.table ≤ length state.new.table) }
+    ensures grows { OnOk result (Grows state.old state.new) }
     ensures fillings { OnOk result (course.new.fillings.items ≡ course.old.fillings.items
         ++ filling_of state.new ∷ []) }
     ensures stamps { OnOk result ((past : List Change)
@@ -69,44 +68,34 @@ fn follow_event(
     ensures overflowed { OnOk result (course.new.overflowed ≡ length state.new.backlog.items) }
     ensures err { IfErr result (Halts index state.old event) }
 {
-    if index == at as usize && standing.note(state).is_err() {
-        return Err(out_of_memory(index as u32));
-    }
     let past = match state.step(event) {
         Ok(past) => past,
-        Err(refusal) => {
-            return Err(Stop {
-                index: index as u32,
-                refusal,
-            });
-        }
+        Err(refusal) => return Err(stop_at(index as u32, refusal)),
     };
     match course.note(&past, state, index as u32 + 1) {
         Ok(()) => Ok(()),
-        Err(_) => Err(out_of_memory(index as u32)),
+        Err(_) => Err(Stop::Memory),
     }
 }
 
-// Does some events from the start, and notes what they come to.
-fn follow_all(
+// Runs the events from one index up to another, of a run that was followed up to the first.
+fn follow_on(
     state: &mut State,
     setup: &Setup,
     events: &[Event],
-    at: u32,
+    from: usize,
+    to: usize,
     course: &mut Course,
-    standing: &mut Standing,
 ) -> Result<(), Stop>
-    requires starts { state.old ≡ start setup.now }
-    requires fillings { course.old.fillings.items ≡ filling_of state.old ∷ [] }
-    requires stamps { course.old.stamps.items ≡ [] }
-    requires overflowed { course.old.overflowed ≡ 0 }
+    requires range { from ≤ to }
+    requires within { to ≤ length events.now }
     requires most { length events.now ≤ 1048576 }
-    ensures here { OnOk result (state.new ≡ moment setup.now events.now (length events.now)) }
-    ensures ok { OnOk result (IsCourse setup.now events.now (length events.now) course.new) }
+    requires before { Follows setup.now events.now from state.old course.old }
+    ensures ok { OnOk result (Follows setup.now events.now to state.new course.new) }
     ensures err { IfErr result (Stops setup.now events.now) }
 {
-    for i in 0..events.len() {
-        follow_event(state, i, events[i], at, course, standing)?;
+    for i in from..to {
+        follow_event(state, i, events[i], course)?;
     }
     Ok(())
 }
@@ -137,44 +126,59 @@ fn rows_of(alloc: Global, state: &State) -> Result<Vec<Row>, AllocError>
     Ok(rows)
 }
 
-// What was noted by the end of a run, and its rows there.
-fn finish(
-    alloc: Global,
-    state: &State,
-    course: Course,
-    mut standing: Standing,
-) -> Result<Followed, AllocError>
-    ensures course { IfOk result (λ f. f.course ≡ course) }
-    ensures rows { IfOk result (λ f. f.rows.items ≡ state.now.table) }
+// What the threads and the poller of a state do next.
+fn standing_of(alloc: Global, state: &State) -> Result<Standing, Stop>
+    requires few { length state.now.threads ≤ 16 }
+    ensures ok { IfOk result (IsStanding state.now) }
+    ensures err { IfErr result (λ stop. stop ≡ Stop.Memory) }
 {
-    if !standing.is_noted() {
-        standing.note(state)?;
+    match Standing::new(alloc, state) {
+        Ok(standing) => Ok(standing),
+        Err(_) => Err(Stop::Memory),
     }
-    let rows = rows_of(alloc, state)?;
-    Ok(Followed {
-        course,
-        rows,
-        standing,
-    })
 }
 
-/// Runs some events from a setup, and notes what they come to, and what the threads do at a moment.
+// Follows a run from its start, at which nothing of it has been followed.
+fn follow_from(
+    alloc: Global,
+    state: &mut State,
+    setup: &Setup,
+    events: &[Event],
+    at: u32,
+    mut course: Course,
+) -> Result<Followed, Stop>
+    requires most { length events.now ≤ 1048576 }
+    requires before { Follows setup.now events.now 0 state.old course }
+    ensures ok { IfOk result (IsFollowed setup.now events.now at) }
+    ensures err { IfErr result (Stops setup.now events.now) }
+{
+    let middle = (at as usize).min(events.len());
+    follow_on(state, setup, events, 0, middle, &mut course)?;
+    let standing = standing_of(alloc, state)?;
+    follow_on(state, setup, events, middle, events.len(), &mut course)?;
+    match rows_of(alloc, state) {
+        Ok(rows) => Ok(Followed {
+            course,
+            rows,
+            standing,
+        }),
+        Err(_) => Err(Stop::Memory),
+    }
+}
+
+/// Runs some events from a setup, and returns what the run amounts to, and what the threads and the
+/// poller do next at a moment.
 pub fn follow(alloc: Global, setup: &Setup, events: &[Event], at: u32) -> Result<Followed, Stop>
     requires starts { setup_refusal setup.now ≡ None }
     requires most { length events.now ≤ 1048576 }
-    ensures ok { IfOk result (IsFollowed setup.now events.now) }
+    ensures ok { IfOk result (IsFollowed setup.now events.now at) }
     ensures err { IfErr result (Stops setup.now events.now) }
 {
     let Ok(mut state) = State::new(alloc, setup) else {
-        return Err(out_of_memory(0));
+        return Err(Stop::Memory);
     };
-    let Ok(mut course) = Course::new(alloc, &state) else {
-        return Err(out_of_memory(0));
+    let Ok(course) = Course::new(alloc, &state) else {
+        return Err(Stop::Memory);
     };
-    let mut standing = Standing::new(alloc);
-    follow_all(&mut state, setup, events, at, &mut course, &mut standing)?;
-    match finish(alloc, &state, course, standing) {
-        Ok(followed) => Ok(followed),
-        Err(_) => Err(out_of_memory(0)),
-    }
+    follow_from(alloc, &mut state, setup, events, at, course)
 }

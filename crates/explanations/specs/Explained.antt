@@ -3,7 +3,7 @@ use Rattle.std.specs.Prelude.{◌≡◌, ◌==◌, Bool, true, false, ◌&&◌, 
 use Rattle.std.specs.List.{list_any}
 use Rattle.scenario.specs.declared.event.Event.{Event}
 use Rattle.scenario.specs.declared.setup.Setup.{Setup}
-use Rattle.machine.specs.Runs.{IsRefused}
+use Rattle.machine.specs.Runs.{start, Accepts, IsRefused}
 use Rattle.script.specs.Scripts.{Reads}
 use Rattle.traces.specs.Reading.{IsFault2}
 use Rattle.traces.specs.Setups.{IsTrace2}
@@ -23,8 +23,10 @@ is_asked (Some only) kind = number_of only == number_of kind
 abbrev pub counts : Option Kind → Finding → Bool
 counts asked f = is_asked asked f.kind && is_fault f.kind
 
--- Whether some finding of a run is a fault of a kind that is asked for.
+-- What is answered of a run: none of its events is refused, and the answer says whether some finding
+-- of it is a fault of a requested kind.
 pub record Explains (s : Setup) (es : List Event) (asked : Option Kind) (some : Bool) : Type 0 where
+  pub runs : Accepts (start s) es
   pub found : List Finding
   pub told : IsToldOf s es found
   pub faults : some ≡ list_any (counts asked) found
@@ -34,7 +36,7 @@ abbrev pub Holds : Bool → List ℕ → Setup → List Event → Type 0
 Holds true bytes s es = IsTrace2 s es bytes
 Holds false bytes s es = Reads bytes (Ok (record { setup = s; schedule = es }))
 
--- whether some finding of the run that bytes hold is a fault of a kind that is asked for
+-- the same of the run that bytes hold
 abbrev pub ExplainsRun : Bool → List ℕ → Option Kind → Bool → Type 0
 ExplainsRun trace bytes asked some = (s : Setup) × (es : List Event) × Holds trace bytes s es × Explains s es asked some
 

@@ -1,6 +1,7 @@
 //! What a run shows, each finding with its sentence, for those who show it elsewhere.
 ghost use Rattle.std.specs.Prelude.{◌≡◌, ◌≤◌, ◌∷◌, ◌++◌, [], None, IfOk, IfErr, OnOk, length};
 ghost use Rattle.scenario.specs.Setups.{setup_refusal};
+ghost use Rattle.machine.specs.Runs.{start, Accepts};
 ghost use Rattle.findings.specs.Findings.{IsToldOf};
 ghost use Rattle.findings.specs.Records.{Halted};
 ghost use Rattle.explanations.specs.Tellings.{findings_in};
@@ -49,6 +50,7 @@ fn all_told(alloc: Global, run: &Run<'_>, found: &[Finding]) -> Result<Vec<Told>
 pub fn told_of(alloc: Global, setup: &Setup, events: &[Event]) -> Result<Vec<Told>, LogFault>
     requires starts { setup_refusal setup.now ≡ None }
     requires most { length events.now ≤ 1048576 }
+    ensures runs { OnOk result (Accepts (start setup.now) events.now) }
     ensures ok { IfOk result (λ told. IsToldOf setup.now events.now (findings_in told.items)) }
     ensures err { IfErr result (Halted setup.now events.now) }
 {

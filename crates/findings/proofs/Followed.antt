@@ -1,6 +1,7 @@
 -- Searches that go on by an event, or end at one.
 use Rattle.std.proofs.Common.{◌≡◌, inl, inr, ℕ, zero, suc, ◌+◌, ◌<◌, List, [], ◌++◌, length, take, map, get_or, slice_get, Bool, true, false, Option, Some, None, sym, ap, ◌∙◌, subst, arith}
 use Rattle.std.proofs.lemmas.Bool.{cases_lt, cases_order, or_cases}
+use Rattle.std.proofs.lemmas.List.{take_all}
 use Rattle.std.proofs.lemmas.List.Elements.{All-nil, All-append, All-weaker, All-contains, Contains-append_left, Contains-append_right, Contains-get_or}
 use Rattle.std.proofs.lemmas.Option.{slice_get-get_or, slice_get_past}
 use Rattle.std.specs.Prelude.{Result, Ok, Err, IfOk}
@@ -198,6 +199,9 @@ all_found s es fs ls us gs h lasting left e = subst (IsAll s es) (sym e) (record
 })
 
 -- at the end
+pub finds_run : (s : Setup) (es : List Event) (i : ℕ) (m : Machine) (fs : List Finding) (numbers : List ℕ) (ws : List Watch) → i ≡ length es → Finds s es i m fs numbers ws → Accepts (start s) es
+finds_run s es i m fs numbers ws e h = subst (Accepts (start s)) (take_all i es (omega arith)) h.runs
+
 pub finds_lasting : (s : Setup) (es : List Event) (i : ℕ) (m : Machine) (fs : List Finding) (numbers : List ℕ) (ws : List Watch) → i ≡ length es → Finds s es i m fs numbers ws → IsLasting s es (flat_map of_lasting ws)
 finds_lasting s es i m fs numbers ws e h = lasting_told s es ws (h.watching ∙ ap (λ (n : ℕ). map (watch_at s es n) (watched s)) e)
 

@@ -3,7 +3,7 @@ ghost use Rattle.std.specs.Prelude.{◌≡◌, ◌≤◌, ◌++◌, [], Err, len
 ghost use Rattle.std.specs.List.{flat_map};
 ghost use Rattle.places.specs.View.{NamesOnce};
 ghost use Rattle.machine.specs.Steps.{Next};
-ghost use Rattle.machine.specs.Runs.{start};
+ghost use Rattle.machine.specs.Runs.{start, Accepts};
 ghost use Rattle.machine.specs.Whole.{view};
 ghost use Rattle.findings.specs.Findings.{IsToldOf, Rises};
 ghost use Rattle.findings.specs.Conditions.{overflows};
@@ -143,6 +143,7 @@ fn find_all(
     requires most { length events.now ≤ 1048576 }
     requires none { gathered.old.found.items ≡ [] }
     requires watched { watches.old ≡ map (advanced setup.now state.old 0) (watched setup.now) }
+    ensures runs { OnOk result (Accepts (start setup.now) events.now) }
     ensures found { OnOk result
         (FoundBefore setup.now events.now (length events.now) gathered.new.found.items) }
     ensures lasting { OnOk result
@@ -202,6 +203,7 @@ fn find(
     requires starts { state.old ≡ start setup.now }
     requires most { length events.now ≤ 1048576 }
     requires watched { watches.old ≡ watched setup.now }
+    ensures runs { OnOk result (Accepts (start setup.now) events.now) }
     ensures ok { IfOk result (λ list. IsAll setup.now events.now list.items) }
     ensures err { IfErr result (Halted setup.now events.now) }
 {
@@ -228,6 +230,7 @@ pub fn search(
 ) -> Result<Vec<Finding>, LogFault>
     requires starts { state.old ≡ start setup.now }
     requires most { length events.now ≤ 1048576 }
+    ensures runs { OnOk result (Accepts (start setup.now) events.now) }
     ensures ok { IfOk result (λ list. IsToldOf setup.now events.now list.items) }
     ensures err { IfErr result (Halted setup.now events.now) }
 {

@@ -1,6 +1,6 @@
 -- What is told of a schedule is told of its script.
-use Rattle.std.proofs.Common.{ℕ, List, Ok}
-use Rattle.script.specs.Scripts.{Scenario, Reads}
+use Rattle.std.proofs.Common.{ℕ, ◌≤◌, List, length, Ok}
+use Rattle.script.specs.Scripts.{Scenario, Reads, limit}
 use Rattle.script.specs.declared.log_fault.LogFault.{LogFault}
 use Rattle.script.specs.declared.log_fault.LogFault.TheVariants as log
 use Rattle.script_check.specs.declared.verdict.Verdict.{Verdict}
@@ -12,9 +12,9 @@ told_of_plan text p Fine r e = (p, r, e)
 told_of_plan text p (Refused i n) r e = (p, r, e)
 told_of_plan text p (Faulty f) r e = absurd e
 
-pub untold : (text : List ℕ) (f : LogFault) → IsOfOutput f → IsUntold text f
-untold text (log.Script f) h = absurd h
-untold text (log.Trace f) h = h
-untold text (log.Schedule i n) h = h
-untold text log.Write h = h
-untold text log.Memory h = h
+pub untold : (text : List ℕ) (f : LogFault) → length text ≤ limit → IsOfOutput f → IsUntold text f
+untold text (log.Script f) l h = absurd h
+untold text (log.Trace f) l h = absurd h
+untold text (log.Schedule i n) l h = absurd h
+untold text log.Write l h = (l, h)
+untold text log.Memory l h = (l, h)

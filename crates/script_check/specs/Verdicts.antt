@@ -1,11 +1,14 @@
 -- What is told of a script.
-use Rattle.std.specs.Prelude.{◌≢◌, ℕ, List, Ok, Err}
+use Rattle.std.specs.Prelude.{◌≡◌, ◌≢◌, ◌<◌, ◌≤◌, ℕ, List, length, Ok, Err}
 use Rattle.scenario.specs.declared.event.Event.{Event}
 use Rattle.scenario.specs.declared.event.Refusal.{Refusal}
 use Rattle.scenario.specs.declared.event.Refusal.TheVariants as refused
 use Rattle.scenario.specs.declared.setup.Setup.{Setup}
 use Rattle.machine.specs.Runs.{start, Accepts, IsRefused}
-use Rattle.script.specs.Scripts.{Scenario, Reads}
+use Rattle.script.specs.Faults.{at_key}
+use Rattle.script.specs.Scripts.{Scenario, Reads, limit}
+use Rattle.script.specs.declared.fault.Key.TheVariants.{Document}
+use Rattle.script.specs.declared.fault.ScriptFault.TheVariants.{Limit}
 use Rattle.script.specs.declared.log_fault.LogFault.{LogFault}
 use Rattle.script.specs.declared.log_fault.LogFault.TheVariants.{Script, Write, Memory}
 use Rattle.script_check.specs.declared.verdict.Verdict.{Verdict}
@@ -21,20 +24,22 @@ Ends s es Fine = Accepts (start s) es
 Ends s es (Refused i n) = IsRefused s es i n
 Ends s es (Faulty f) = ⊥
 
--- what is told of a text: its first fault, or what its schedule comes to
+-- What is answered of a text: its first fault, of one that isn't longer than a script may be, or
+-- what its schedule comes to.
 abbrev pub IsVerdict : List ℕ → Verdict → Type 0
-IsVerdict text (Faulty f) = Reads text (Err f)
+IsVerdict text (Faulty f) = (length text ≤ limit) × Reads text (Err f)
 IsVerdict text Fine = (p : Scenario) × Reads text (Ok p) × Ends p.setup p.schedule Fine
 IsVerdict text (Refused i n) =
     (p : Scenario) × Reads text (Ok p) × Ends p.setup p.schedule (Refused i n)
 
--- a fault of writing, or want of memory
+-- a write or an allocation fails
 abbrev pub IsOfOutput : LogFault → Type 0
 IsOfOutput Write = Unit {0}
 IsOfOutput Memory = Unit {0}
 IsOfOutput f = ⊥
 
--- why nothing is told, or a beginning: a fault of the script is its first
+-- Why there is no verdict: a fault of the script is answered where the text is longer than a script
+-- may be, and nowhere else; a fault of the output is answered of a text that isn't.
 abbrev pub IsUntold : List ℕ → LogFault → Type 0
-IsUntold text (Script f) = Reads text (Err f)
-IsUntold text f = IsOfOutput f
+IsUntold text (Script f) = (limit < length text) × (f ≡ Limit (at_key Document))
+IsUntold text f = (length text ≤ limit) × IsOfOutput f

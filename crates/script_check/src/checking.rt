@@ -8,10 +8,14 @@ use crate::report::{Source, event_text, faults_text};
 use crate::running::{Stop, run_all};
 use crate::verdict::Verdict;
 use machine::{Event, Refusal, Setup, State};
+use script::items::key_path;
 use script::{Key, LogFault, Script, ScriptFault, read_script};
 use std::alloc::{AllocError, Global};
 use std::io::Write;
 use whole_files::write_out;
+
+/// The most bytes that a script may have.
+const MOST_BYTES: usize = 8388608;
 
 // Writes what is told.
 fn tell<W: Write>(told: Result<String, AllocError>, writer: &mut W) -> Result<(), LogFault>
@@ -89,17 +93,10 @@ fn check_plan<W: Write>(
     check_events(alloc, source, script.setup(), script.schedule(), writer)
 }
 
-// Whether a text has more bytes than a script may have. Nothing of such a one is read.
-fn is_too_long(fault: ScriptFault) -> bool {
-    match fault {
-        ScriptFault::Limit(path) => path.key == Key::Document,
-        _ => false,
-    }
-}
-
-/// Tells what is wrong with a script, in a line each: the first fault of the text and some more
-/// behind it, or of one that is read the first event of its schedule that is refused; or `ok`. The
-/// lines begin with the name.
+/// Reports what is wrong with a script, in a line each: the first fault of the text and some more
+/// after it, or of one that is read the first event of its schedule that is refused; or `ok`. The
+/// lines begin with the name. A text that is longer than a script may be gets no verdict: nothing
+/// of it is read, and nothing is written.
 #[tactic(auto, using(crate::proofs::Telling::told_of_plan, crate::proofs::Telling::untold))]
 pub fn check_script<W: Write>(
     alloc: Global,
@@ -110,17 +107,14 @@ pub fn check_script<W: Write>(
     ensures ok { IfOk result (IsVerdict text.now) }
     ensures err { IfErr result (IsUntold text.now) }
 {
+    if text.len() > MOST_BYTES {
+        return Err(LogFault::Script(ScriptFault::Limit(key_path(Key::Document))));
+    }
     let source = Source { name, text };
     match read_script(alloc, text) {
-        Ok(script) => {
-            let verdict = check_plan(alloc, source, &script, writer)?;
-            Ok(verdict)
-        }
+        Ok(script) => check_plan(alloc, source, &script, writer),
         Err(ScriptFault::Memory) => Err(LogFault::Memory),
         Err(fault) => {
-            if is_too_long(fault) {
-                return Err(LogFault::Script(fault));
-            }
             tell(faults_text(alloc, source, fault), writer)?;
             Ok(Verdict::Faulty(fault))
         }

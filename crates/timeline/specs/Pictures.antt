@@ -2,10 +2,10 @@
 use Rattle.std.specs.Prelude.{◌≡◌, ℕ, ◌&&◌, ◌||◌, nat_lt, nat_eq, not, is_some, List, codes, length, Bool, true, false, if◌then◌else◌, Option, Some, None, Ok, Err}
 use Rattle.std.specs.List.{ends_with}
 use Rattle.scenario.specs.declared.event.Event.{Event}
-use Rattle.scenario.specs.declared.event.Refusal.{Refusal}
-use Rattle.scenario.specs.declared.event.Refusal.TheVariants as refused
 use Rattle.scenario.specs.declared.setup.Setup.{Setup}
 use Rattle.machine.specs.Runs.{start, Accepts, IsRefused}
+use Rattle.courses.specs.declared.following.Stop.{Stop}
+use Rattle.courses.specs.declared.following.Stop.TheVariants.{Refused, Memory as OutOfMemory}
 use Rattle.script.specs.Scripts.{Scenario, Reads}
 use Rattle.traces.specs.Reading.{IsFault2}
 use Rattle.traces.specs.Setups.{IsTrace2}
@@ -26,9 +26,9 @@ abbrev pub is_long : ℕ → Window → Bool
 is_long count w = nat_lt 5000 count && (not (is_some w.from) || not (is_some w.to))
 
 -- what a run that stops at an event ends a picture by
-abbrev pub fault_by : ℕ → Refusal → TimelineFault
-fault_by i refused.Memory = Memory
-fault_by i n = Schedule i n
+abbrev pub fault_by : Stop → TimelineFault
+fault_by (Refused i n) = Schedule i n
+fault_by OutOfMemory = Memory
 
 -- Events are drawn if they are few enough, and all of them run.
 abbrev pub Draws : Setup → List Event → Window → Type 0

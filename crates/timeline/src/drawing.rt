@@ -10,7 +10,7 @@ use crate::fault::TimelineFault;
 use crate::writing::{page_bytes, trace_bytes};
 use courses::{Stop, follow};
 use explanations::{Told, told_of};
-use machine::{Event, Refusal, Setup};
+use machine::{Event, Setup};
 use run_log::{EventRange, log_events};
 use script::{Script, ScriptFault, read_script};
 use std::alloc::Global;
@@ -76,11 +76,11 @@ fn range_of(count: u32, window: Window) -> EventRange {
 
 // What a run that stops ends a picture by.
 fn fault_by(stop: Stop) -> TimelineFault
-    ensures { result ≡ fault_by stop.index stop.refusal }
+    ensures { result ≡ fault_by stop }
 {
-    match stop.refusal {
-        Refusal::Memory => TimelineFault::Memory,
-        refusal => TimelineFault::Schedule(stop.index, refusal),
+    match stop {
+        Stop::Refused(index, refusal) => TimelineFault::Schedule(index, refusal),
+        Stop::Memory => TimelineFault::Memory,
     }
 }
 
