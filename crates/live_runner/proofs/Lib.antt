@@ -1,6 +1,7 @@
 pub mod Going
 pub mod Telling
 pub mod Numbering
+pub mod Working
 pub mod Leasts
 pub mod Rows
 pub mod Rising

@@ -1,5 +1,5 @@
 -- What lies under the lock, what a seat holds, and what a run comes to.
-use Rattle.std.specs.Prelude.{◌≡◌, ℕ, ◌+◌, ◌≤◌, ◌<◌, List, [], ◌∷◌, ◌++◌, length, All, true, slice_index_or, map, Bool, sum_by, None}
+use Rattle.std.specs.Prelude.{◌≡◌, ℕ, ◌+◌, ◌≤◌, ◌<◌, List, [], ◌∷◌, ◌++◌, length, All, true, false, slice_index_or, map, Bool, sum_by, None}
 use Rattle.places.specs.declared.value.Change.{Change}
 use Rattle.places.specs.Lists.{updated}
 use Rattle.scenario.specs.declared.setup.Setup.{Setup}
@@ -87,23 +87,28 @@ altered s i e = record {
 }
 
 -- a worker, as contracts see it
-pub record Labour : Type 0 where
+pub record Labour (G : Type 0) : Type 0 where
   pub seat : Held
+  pub gate : G
   pub turns : ℕ
   pub is_stuck : Bool
 
+-- one of a seat that has made no turn
+abbrev pub fresh : {G : Type 0} → G → Held → Labour G
+fresh gate seat = record { seat = seat; gate = gate; turns = 0; is_stuck = false }
+
 -- what the workers were told, in their order
-abbrev pub told_to : List Labour → List (List Receipt)
-told_to workers = map (λ (w : Labour). w.seat.receipts) workers
+abbrev pub told_to : {G : Type 0} → List (Labour G) → List (List Receipt)
+told_to {G} workers = map (λ (w : Labour G). w.seat.receipts) workers
 
 -- how many receipts they have together
-abbrev pub receipt_count : List Labour → ℕ
-receipt_count workers = sum_by (λ (w : Labour). length w.seat.receipts) workers
+abbrev pub receipt_count : {G : Type 0} → List (Labour G) → ℕ
+receipt_count {G} workers = sum_by (λ (w : Labour G). length w.seat.receipts) workers
 
 -- a worker for each actor, in order
-abbrev pub WorkInOrder : List Labour → Type 0
-WorkInOrder workers =
-    (i : ℕ) (d : Labour) → i < length workers → (slice_index_or workers i d).seat.actor ≡ i
+abbrev pub WorkInOrder : {G : Type 0} → List (Labour G) → Type 0
+WorkInOrder {G} workers =
+    (i : ℕ) (d : Labour G) → i < length workers → (slice_index_or workers i d).seat.actor ≡ i
 
 -- a closed run, as contracts see it
 pub record Past : Type 0 where

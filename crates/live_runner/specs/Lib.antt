@@ -6,5 +6,6 @@ pub mod Told
 pub mod History
 pub mod Attempts
 pub mod Turns
+pub mod Numbers
 pub mod Running
 pub mod Receipts

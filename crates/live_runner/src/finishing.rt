@@ -21,7 +21,6 @@ pub fn finish<'g, L: Ledger, G: Gate>(
     live: Live<L>,
     workers: Vec<Worker<'g, L, G>>,
 ) -> Result<Closed, Torn>
-    requires all { length workers.items ≡ L.parts }
     requires actors { length workers.items ≡ live.actors }
     requires order { WorkInOrder workers.items }
     ensures count { receipt_count workers.entry.items ≡ length live.events }
@@ -39,8 +38,7 @@ pub fn finish<'g, L: Ledger, G: Gate>(
 
 // Ends a run whose actors have ended: all shares come back, with what each worker was told.
 fn end<'g, L: Ledger, G: Gate>(live: Live<L>, workers: Vec<Worker<'g, L, G>>) -> Ended
-    requires all { length workers.items ≡ L.parts }
-    requires actors { length workers.items ≡ live.actors }
+    requires { length workers.items ≡ live.actors }
     ensures count { receipt_count workers.entry.items ≡ length live.events }
     ensures value { result ≡ closed_of live (told_to workers.entry.items) }
     ensures few { length (told_to workers.entry.items) < 2 ^ 32 }

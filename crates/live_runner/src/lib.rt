@@ -19,4 +19,4 @@ pub use lives::{Live, LiveRefusal};
 pub use receipt::Receipt;
 pub use running::{ForActor, LiveFault, Running, close, join_all, run_live, start_all};
 pub use seat::Seat;
-pub use worker::{AlwaysOpen, Gate, Turn, Worker, workers_of};
+pub use worker::{AlwaysOpen, Gate, Rested, Turn, Worker, workers_of};

@@ -73,7 +73,8 @@ impl<L: Ledger> Model for Live<L> {
           total = l.book.total;
         }) l.records.items
         × (l.rest.parts ≡ 0) × (l.rest.amount ≡ 0) × (vec_len l.room ≡ 0)
-        × (l.actors ≤ vec_capacity l.room) × EndedBelow l.state.table l.first };
+        × (l.actors ≤ vec_capacity l.room) × (l.actors ≡ L.parts)
+        × EndedBelow l.state.table l.first };
 }
 
 /// Why an actor's event was not done.
@@ -84,6 +85,21 @@ pub enum LiveRefusal {
     /// The trace has as many events as it can have.
     TraceFull,
     Step(Refusal),
+}
+
+impl LiveRefusal {
+    ghost use Rattle.live_runner.specs.Numbers.{refusal_number};
+
+    /// Its number, 1 to 3.
+    pub fn number(&self) -> u32
+        ensures { result ≡ refusal_number self.now }
+    {
+        match self {
+            LiveRefusal::NotYours => 1,
+            LiveRefusal::TraceFull => 2,
+            LiveRefusal::Step(_) => 3,
+        }
+    }
 }
 
 impl<L: Ledger> Live<L> {
@@ -117,7 +133,8 @@ impl<L: Ledger> Live<L> {
 
     /// What the run started from.
     pub fn setup(&self) -> &Setup
-        ensures { result.now ≡ self.now.setup }
+        ensures value { result.now ≡ self.now.setup }
+        ensures starts { setup_refusal self.now.setup ≡ None }
     {
         &self.setup
     }
@@ -160,6 +177,7 @@ impl<L: Ledger> Live<L> {
     /// The trace's events so far.
     pub fn events(&self) -> Result<Vec<Event>, AllocError>
         ensures events { IfOk result (λ es. es.items ≡ self.now.events) }
+        ensures most { length self.now.events ≤ 1048576 }
         ensures runs { IfOk result (λ es. Accepts (start self.now.setup) es.items) }
     {
         let events = Vec::from_slice(self.alloc, &self.events)?;

@@ -1,18 +1,20 @@
 //! Runs in threads.
-ghost use Rattle.std.specs.Prelude.{◌≡◌, ◌≢◌, ◌≤◌, ℕ, Some, None, length, IfOk, IfSome, vec_len, vec_capacity};
+ghost use Rattle.std.specs.Prelude.{◌≡◌, ◌≢◌, ◌≤◌, ℕ, false, Some, None, length, All, IfOk, IfSome, vec_len, vec_capacity};
 ghost use Rattle.scenario.specs.Setups.{setup_refusal};
 ghost use Rattle.scenario.specs.declared.setup.Setup.{Setup};
 ghost use Rattle.scenario.specs.declared.setup.SetupRefusal.{SetupRefusal};
 ghost use Rattle.live_runner.specs.Actors.{actors};
-ghost use Rattle.live_runner.specs.History.{InOrder, WorkInOrder, Whole};
-ghost use Rattle.live_runner.specs.Running.{HandlesInOrder};
+ghost use Rattle.live_runner.specs.History.{InOrder, WorkInOrder, Whole, closed_of, told_to};
+ghost use Rattle.live_runner.specs.Told.{LeastTorn};
+ghost use Rattle.live_runner.specs.Turns.{HasWorked};
+ghost use Rattle.live_runner.specs.Running.{HandlesInOrder, AllOfTurns};
 
 use crate::closed::Closed;
 use crate::finishing::finish;
 use crate::kinds::actors;
 use crate::lives::Live;
 use crate::seat::Seat;
-use crate::worker::{Gate, Worker};
+use crate::worker::{Gate, Rested, Worker};
 use scenario::{Setup, SetupRefusal};
 use std::alloc::Global;
 use std::marker::Brand;
@@ -31,6 +33,21 @@ pub enum LiveFault {
     Torn(u32),
     /// The lock gave back the run of another setup, or of so many actors.
     Strange(Setup, u32),
+}
+
+impl LiveFault {
+    ghost use Rattle.live_runner.specs.Numbers.{fault_number};
+
+    /// Its number, 1 to 3.
+    pub fn number(&self) -> u32
+        ensures { result ≡ fault_number self.now }
+    {
+        match self {
+            LiveFault::Setup(_) => 1,
+            LiveFault::Torn(_) => 2,
+            LiveFault::Strange(_, _) => 3,
+        }
+    }
 }
 
 /// A run in a thread for each actor, each of which makes so many turns.
@@ -97,14 +114,17 @@ pub fn close<'g, L: Ledger, G: Gate>(
     count: u32,
     workers: Vec<Worker<'g, L, G>>,
 ) -> Result<Closed, LiveFault>
-    requires all { length workers.items ≡ L.parts }
     requires actors { length workers.items ≡ count }
     requires order { WorkInOrder workers.items }
+    ensures closed { IfOk result (λ c. c ≡ closed_of live (told_to workers.entry.items)) }
     ensures whole { IfOk result Whole }
     ensures same { IfOk result (λ c. (c.setup ≡ setup.now) × (c.actors ≡ count)) }
     ensures started { (n : SetupRefusal) → result ≢ Err (LiveFault.Setup n) }
-    ensures strange { (s : Setup) (k : ℕ) → result ≡ Err (LiveFault.Strange s k) → s ≡ setup.now
-        → k ≢ count }
+    ensures torn { (a : ℕ) → result ≡ Err (LiveFault.Torn a)
+        → (live.setup ≡ setup.now) × (live.actors ≡ count)
+        × LeastTorn live.owners live.events (told_to workers.entry.items) a }
+    ensures strange { (s : Setup) (k : ℕ) → result ≡ Err (LiveFault.Strange s k)
+        → (s ≡ live.setup) × (k ≡ live.actors) × (s ≡ setup.now → k ≢ count) }
 {
     if !live.setup().is(setup) || live.actors() != count {
         let (setup, count) = live.into_setup();
@@ -116,16 +136,19 @@ pub fn close<'g, L: Ledger, G: Gate>(
     }
 }
 
-/// Whose seat a thread gives back.
+/// Whose worker a thread gives back, and how many turns it was to make.
 #[derive(Drop)]
-pub struct ForActor(u32);
-
-impl<L: Ledger> Promise<Seat<L>> for ForActor {
-    ghost kept_by = { λ p s. s.actor ≡ p.0 };
+pub struct ForActor {
+    actor: u32,
+    turns: u32,
 }
 
-/// A thread that gives its seat back.
-pub type Running<L> = PromisedHandle<Seat<L>, ForActor>;
+impl<L: Ledger> Promise<Rested<L>> for ForActor {
+    ghost kept_by = { λ p w. (w.seat.actor ≡ p.actor) × (w.is_stuck ≡ false → w.turns ≡ p.turns) };
+}
+
+/// A thread that gives its worker back.
+pub type Running<L> = PromisedHandle<Rested<L>, ForActor>;
 
 // Turns of a worker, each with its own hold of the lock.
 fn work<L: Ledger, G: Gate, R: Wait + Clock>(
@@ -134,14 +157,15 @@ fn work<L: Ledger, G: Gate, R: Wait + Clock>(
     seat: Seat<L>,
     turns: u32,
     gate: &G,
-) -> Seat<L>
-    ensures { result.actor ≡ seat.actor }
+) -> Rested<L>
+    ensures actor { result.seat.actor ≡ seat.actor }
+    ensures turns { result.is_stuck ≡ false → result.turns ≡ turns }
 {
     let mut worker = Worker::new(seat, gate);
     for _turn in 0..turns {
         worker.turn(rt, lock);
     }
-    worker.into_seat()
+    worker.leave()
 }
 
 /// Starts a thread for each seat, which makes so many turns, up to one that can't be started.
@@ -157,10 +181,14 @@ pub fn start_all<'s, E, L: Ledger + Send + Sync + 's, G: Gate + 's, R: Wait + Cl
     requires order { InOrder seats.items }
     requires none { vec_len handles ≡ 0 }
     requires room { vec_len seats ≤ vec_capacity handles }
-    ensures { HandlesInOrder result.items }
+    ensures order { HandlesInOrder result.items }
+    ensures turns { AllOfTurns turns result.items }
 {
     for seat in seats {
-        let promise = ForActor(seat.actor());
+        let promise = ForActor {
+            actor: seat.actor(),
+            turns,
+        };
         match scope.spawn_with(promise, move || work(rt, lock, seat, turns, gate)) {
             Ok(handle) => handles.push_reserved(handle),
             Err(_) => break,
@@ -169,7 +197,7 @@ pub fn start_all<'s, E, L: Ledger + Send + Sync + 's, G: Gate + 's, R: Wait + Cl
     handles
 }
 
-/// Joins threads, in order, and makes a worker of each one's seat, in room that there is for so
+/// Joins threads, in order, and puts the worker of each one at a gate, in room that there is for so
 /// many. None where there are fewer.
 pub fn join_all<'g, L: Ledger, G: Gate, R: Threads>(
     rt: &R,
@@ -182,9 +210,11 @@ pub fn join_all<'g, L: Ledger, G: Gate, R: Threads>(
     requires none { vec_len workers ≡ 0 }
     ensures count { IfSome result (λ workers. length workers.items ≡ count) }
     ensures order { IfSome result (λ workers. WorkInOrder workers.items) }
+    ensures worked { (n : ℕ) → AllOfTurns n handles.items
+        → IfSome result (λ workers. All (HasWorked gate.now n) workers.items) }
 {
     for handle in handles {
-        let Ok(()) = workers.push(Worker::new(handle.join(rt), gate)) else {
+        let Ok(()) = workers.push(handle.join(rt).back(gate)) else {
             return None;
         };
     }
@@ -208,6 +238,7 @@ fn take_turns<'g, L: Ledger + Send + Sync, G: Gate, R: Threads + Wait + Clock + 
     requires { InOrder seats.items }
     ensures count { IfSome result (λ workers. length workers.items ≡ length seats.items) }
     ensures order { IfSome result (λ workers. WorkInOrder workers.items) }
+    ensures worked { IfSome result (λ workers. All (HasWorked gate.now turns) workers.items) }
 {
     let count = seats.len();
     let workers = Vec::with_capacity(alloc, count).ok()?;
@@ -218,7 +249,7 @@ fn take_turns<'g, L: Ledger + Send + Sync, G: Gate, R: Threads + Wait + Clock + 
         |scope| -> Vec<Running<L>>
             requires { InOrder seats.items × (vec_len handles ≡ 0)
                 × (vec_len seats ≤ vec_capacity handles) }
-            ensures { HandlesInOrder result.items }
+            ensures { HandlesInOrder result.items × AllOfTurns turns result.items }
         { start_all(scope, rt, lock, seats, turns, gate, handles) },
     );
     join_all(rt, handles, gate, workers, count)

@@ -1,6 +1,6 @@
 //! Workers, which take turns at the lock.
-ghost use Rattle.std.specs.Prelude.{◌≡◌, ◌≢◌, ◌↔◌, ◌≤◌, true, false, length, vec_len, vec_capacity};
-ghost use Rattle.live_runner.specs.History.{InOrder, WorkInOrder};
+ghost use Rattle.std.specs.Prelude.{◌≡◌, ◌≢◌, ◌↔◌, ◌≤◌, ◌+◌, ℕ, true, false, length, map, vec_len, vec_capacity};
+ghost use Rattle.live_runner.specs.History.{InOrder, WorkInOrder, fresh};
 ghost use Rattle.live_runner.specs.Turns.{seat_after};
 
 use crate::lives::{Live, LiveRefusal};
@@ -13,8 +13,16 @@ use std::time::Clock;
 
 /// Where a worker arrives before each turn.
 pub trait Gate: Sync {
+    /// What is known of an actor's turn for which it opens.
+    ghost opens: { Self → ℕ → ℕ → Type 0 };
+
+    /// What is known of an actor's turn for which it stays shut.
+    ghost shuts: { Self → ℕ → ℕ → Type 0 };
+
     /// Whether the worker goes on. Turns are numbered from 1.
-    fn arrive<R: Wait + Clock>(&self, rt: &R, actor: u32, turn: u32) -> bool;
+    fn arrive<R: Wait + Clock>(&self, rt: &R, actor: u32, turn: u32) -> bool
+        ensures opens { result ≡ true → opens self.now actor turn }
+        ensures shuts { result ≡ false → shuts self.now actor turn };
 }
 
 /// A gate at which nobody waits.
@@ -22,6 +30,10 @@ pub trait Gate: Sync {
 pub struct AlwaysOpen;
 
 impl Gate for AlwaysOpen {
+    ghost opens = { λ _ _ _. Unit {0} };
+
+    ghost shuts = { λ _ _ _. ⊥ };
+
     fn arrive<R: Wait + Clock>(&self, _rt: &R, _actor: u32, _turn: u32) -> bool {
         true
     }
@@ -50,15 +62,21 @@ pub struct Worker<'g, L: Ledger, G: Gate> {
 impl<'g, L: Ledger, G: Gate> Model for Worker<'g, L, G> {
     ghost use Rattle.live_runner.specs.History.{Labour};
 
-    ghost Value = { Labour };
+    ghost Value = { Labour G };
 
-    ghost view = { λ w. record { seat = w.seat; turns = w.turns; is_stuck = w.is_stuck } };
+    ghost view = { λ w. record {
+      seat = w.seat;
+      gate = w.gate.now;
+      turns = w.turns;
+      is_stuck =
+          w.is_stuck;
+    } };
 }
 
 impl<'g, L: Ledger, G: Gate> Worker<'g, L, G> {
     /// A worker that has made no turn. It takes no memory.
     pub fn new(seat: Seat<L>, gate: &'g G) -> Worker<'g, L, G>
-        ensures { result ≡ record { seat = seat; turns = 0; is_stuck = false } }
+        ensures { result ≡ fresh gate.now seat }
     {
         Worker {
             seat,
@@ -68,12 +86,21 @@ impl<'g, L: Ledger, G: Gate> Worker<'g, L, G> {
         }
     }
 
-    /// The gate, and then one hold of the lock.
+    /// The gate, and then one hold of the lock. A worker that is stuck asks its gate no more.
     pub fn turn<R: Wait + Clock>(&mut self, rt: &R, live: &Mutex<Live<L>>) -> Turn
         ensures seat { self.new.seat ≡ seat_after self.old.seat result }
+        ensures gate { self.new.gate ≡ self.old.gate }
         ensures stuck { (result ≡ Turn.Stuck) ↔ (self.new.is_stuck ≡ true) }
+        ensures opens { result ≢ Turn.Stuck
+            → G.opens self.old.gate self.old.seat.actor self.new.turns
+            × (self.new.turns ≡ self.old.turns + 1) }
+        ensures shuts { result ≡ Turn.Stuck → self.old.is_stuck ≡ false
+            → self.old.turns ≢ 4294967295
+            → G.shuts self.old.gate self.old.seat.actor self.new.turns
+            × (self.new.turns ≡ self.old.turns + 1) }
         ensures stays { self.old.is_stuck ≡ true → self.new ≡ self.old }
-        ensures last { self.old.turns ≡ 4294967295 → result ≡ Turn.Stuck }
+        ensures last { self.old.turns ≡ 4294967295
+            → (result ≡ Turn.Stuck) × (self.new.turns ≡ self.old.turns) }
     {
         if self.is_stuck || self.turns == u32::MAX {
             self.is_stuck = true;
@@ -99,6 +126,55 @@ impl<'g, L: Ledger, G: Gate> Worker<'g, L, G> {
         } = self;
         seat
     }
+
+    // The worker without its gate.
+    pub(crate) fn leave(self) -> Rested<L>
+        ensures seat { result.seat ≡ self.entry.seat }
+        ensures turns { result.turns ≡ self.entry.turns }
+        ensures stuck { result.is_stuck ≡ self.entry.is_stuck }
+    {
+        let Worker {
+            seat,
+            gate: _,
+            turns,
+            is_stuck,
+        } = self;
+        Rested {
+            seat,
+            turns,
+            is_stuck,
+        }
+    }
+}
+
+/// A worker without its gate.
+#[derive(Drop)]
+pub struct Rested<L: Ledger> {
+    seat: Seat<L>,
+    turns: u32,
+    is_stuck: bool,
+}
+
+impl<L: Ledger> Rested<L> {
+    // The worker at a gate.
+    pub(crate) fn back<'g, G: Gate>(self, gate: &'g G) -> Worker<'g, L, G>
+        ensures seat { result.seat ≡ self.seat }
+        ensures gate { result.gate ≡ gate.now }
+        ensures turns { result.turns ≡ self.turns }
+        ensures stuck { result.is_stuck ≡ self.is_stuck }
+    {
+        let Rested {
+            seat,
+            turns,
+            is_stuck,
+        } = self;
+        Worker {
+            seat,
+            gate,
+            turns,
+            is_stuck,
+        }
+    }
 }
 
 /// A worker for each seat, in room that there is for so many. It takes no memory.
@@ -110,6 +186,7 @@ pub fn workers_of<'g, L: Ledger, G: Gate>(
     requires order { InOrder seats.items }
     requires none { vec_len workers ≡ 0 }
     requires room { vec_len seats ≤ vec_capacity workers }
+    ensures fresh { result.items ≡ map (fresh gate.now) seats.items }
     ensures count { length result.items ≡ length seats.items }
     ensures order { WorkInOrder result.items }
 {

@@ -1,10 +1,14 @@
 use Rattle.std.proofs.Common.{◌≡◌, ℕ, ◌+◌, ◌<◌, length, slice_index_or, vec_len}
+use Rattle.std.specs.Prelude.{All}
 use Rattle.std.specs.Vec.Iter.{into_iter_items}
 use Rattle.live_runner.specs.History.{WorkInOrder}
+use Rattle.live_runner.specs.Running.{AllOfTurns}
+use Rattle.live_runner.specs.Turns.{HasWorked}
 use Rattle.live_runner.proofs.running.join_all.Given as goal
 
 abbrev pub invariant-loop-handle : goal.invariant-loop-handle
 invariant-loop-handle g l =
     let rest = into_iter_items l.handle-iterator in
-    ((k : ℕ) (d : _) → k < length rest → (slice_index_or rest k d).promise.0 ≡ vec_len l.workers + k)
+    ((k : ℕ) (d : _) → k < length rest → (slice_index_or rest k d).promise.actor ≡ vec_len l.workers + k)
     × WorkInOrder l.workers.items
+    × ((n : ℕ) → AllOfTurns n l.fn.handles.items → AllOfTurns n rest × All (HasWorked l.gate n) l.workers.items)

@@ -6,4 +6,4 @@ returns-in-Some-clause-same g c =
     subst (λ (n : ℕ). IfOk c.close.result (λ r. (r.setup ≡ c.args.setup.now) × (r.actors ≡ n))) c.actors.ensures.value c.close.ensures.same
 
 pub returns-in-Some-clause-strange : goal.returns-in-Some-clause-strange
-returns-in-Some-clause-strange g c = λ s k strange same count. c.close.ensures.strange s k strange same (count ∙ sym c.actors.ensures.value)
+returns-in-Some-clause-strange g c = λ s k strange same count. (c.close.ensures.strange s k strange).2 same (count ∙ sym c.actors.ensures.value)

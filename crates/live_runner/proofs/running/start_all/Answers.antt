@@ -1,4 +1,5 @@
 use Rattle.std.proofs.Common.{rules, ◌≡◌, ◌+◌, length, vec_len}
+use Rattle.std.proofs.lemmas.List.Elements.{All-push}
 use Rattle.live_runner.proofs.Numbering.{numbered_push}
 use Rattle.live_runner.proofs.running.start_all.Goals as goal
 
@@ -6,8 +7,10 @@ pub loop-seat-preserved : goal.loop-seat-preserved
 loop-seat-preserved g c =
     let was = c.loop-seat.invariant in
     let actor : c.in-Some.seat.actor ≡ vec_len c.loop-seat.handles = let h = was.0 0 c.in-Some.seat in grind rules in
-    let promise : c.in-Ok.handle.promise.0 ≡ length c.loop-seat.handles.items = search rules in (
+    let promise : c.in-Ok.handle.promise.actor ≡ length c.loop-seat.handles.items = search rules in
+    let turns : c.in-Ok.handle.promise.turns ≡ c.args.turns = search rules in (
       (λ k d h. let t = was.0 (k + 1) d in grind rules),
-      numbered_push (λ x. x.promise.0) c.loop-seat.handles.items c.push_reserved.new.self.items c.in-Ok.handle c.push_reserved.ensures.items was.1 promise,
+      numbered_push (λ x. x.promise.actor) c.loop-seat.handles.items c.push_reserved.new.self.items c.in-Ok.handle c.push_reserved.ensures.items was.1 promise,
+      rw c.push_reserved.ensures.items (All-push (λ x. x.promise.turns ≡ c.args.turns) c.loop-seat.handles.items c.in-Ok.handle was.2 turns),
       search rules,
     )

@@ -1,7 +1,7 @@
 use Rattle.std.proofs.Common.{◌≡◌, ℕ, ◌+◌, ◌<◌, ◌≤◌, length, slice_index_or, vec_len, vec_capacity}
 use Rattle.std.specs.Vec.Iter.{into_iter_items}
 use Rattle.live_runner.specs.History.{Held}
-use Rattle.live_runner.specs.Running.{HandlesInOrder}
+use Rattle.live_runner.specs.Running.{HandlesInOrder, AllOfTurns}
 use Rattle.live_runner.proofs.running.start_all.Given as goal
 
 abbrev pub invariant-loop-seat : goal.invariant-loop-seat
@@ -9,4 +9,5 @@ invariant-loop-seat g l =
     let rest = into_iter_items l.seat-iterator in
     ((k : ℕ) (d : Held) → k < length rest → (slice_index_or rest k d).actor ≡ vec_len l.handles + k)
     × HandlesInOrder l.handles.items
+    × AllOfTurns l.turns l.handles.items
     × (vec_len l.handles + length rest ≤ vec_capacity l.handles)

@@ -43,11 +43,12 @@ invariant_of-self-2 g c =
       c.self.invariant.2,
       c.self.invariant.3,
       c.self.invariant.4,
+      c.self.invariant.5,
       c.first_open-self-inside.ensures,
     )
 
 pub first_open-self-inside-requires : goal.first_open-self-inside-requires
-first_open-self-inside-requires g c = below_after c.self.inside.state c.step.new.self c.args.event c.self.inside.first c.in_ok-past.ensures.next.accepted c.in_ok-past.ensures.next.changed c.self.invariant.5
+first_open-self-inside-requires g c = below_after c.self.inside.state c.step.new.self c.args.event c.self.inside.first c.in_ok-past.ensures.next.accepted c.in_ok-past.ensures.next.changed c.self.invariant.6
 
 pub invariant_of-seat-2 : goal.invariant_of-seat-2
 invariant_of-seat-2 g c =
