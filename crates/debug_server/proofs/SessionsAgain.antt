@@ -174,6 +174,12 @@ walked_again s es before after h w =
       };
     }
 
+-- what is replayed of a trace, once it is known which setup and events the trace was written of
+pub replayed_again : (s found : Setup) (es read ran : List Event) (before after : Streams) → setup_refusal s ≡ None → found ≡ canonical s → read ≡ es → ran ≡ read
+    → Walked found ran before after → Walked s es before after
+replayed_again s found es read ran before after h same all whole w =
+    walked_again s es before after h (subst (λ (x : Setup). Walked x es before after) same (subst (λ (xs : List Event). Walked found xs before after) (whole ∙ all) w))
+
 pub broken_again : (s : Setup) (es : List Event) (before after : Streams) (f : ServeFault) → setup_refusal s ≡ None → BrokenOff (canonical s) es before after f → BrokenOff s es before after f
 broken_again s es before after f h w =
     let b = w.broke in

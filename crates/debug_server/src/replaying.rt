@@ -1,12 +1,13 @@
 //! Walking a trace of the second form.
-ghost use Rattle.std.specs.Prelude.{◌≡◌, ◌≢◌, ℕ, false, List, Err, OnOk, IfErr, ◌∷◌, []};
+ghost use Rattle.std.specs.Prelude.{◌≡◌, ◌≢◌, ℕ, false, List, None, Err, OnOk, IfErr, ◌∷◌, []};
 ghost use Rattle.std.specs.Io.KnownBytes.{Keeps};
 ghost use Rattle.machine.specs.Runs.{IsRefused};
 ghost use Rattle.scenario.specs.declared.event.Event.{Event};
 ghost use Rattle.scenario.specs.declared.event.Refusal.{Refusal};
+ghost use Rattle.scenario.specs.Setups.{setup_refusal};
 ghost use Rattle.scenario.specs.declared.setup.Setup.{Setup};
 ghost use Rattle.traces.specs.Reading.{IsFault2};
-ghost use Rattle.traces.specs.Setups.{IsTrace2};
+ghost use Rattle.traces.specs.Setups.{canonical, IsTrace2};
 ghost use Rattle.traces.specs.declared.fault.TraceFault.{TraceFault};
 ghost use Rattle.debug_server.specs.Kinds.{IsOf, is_kind, OfSchedule, OfServing, OfMemory, OfTrace};
 ghost use Rattle.debug_server.specs.declared.faults.ServeFault.{ServeFault};
@@ -32,6 +33,11 @@ pub fn replay<R: Read, W: Write>(
     // events, without a source.
     ensures ok { OnOk result ((setup : Setup) × (events : List Event)
         × IsTrace2 setup events trace.now × Walked setup events
+        (streams (R.remaining reader.old) (W.contents writer.old))
+        (streams (R.remaining reader.new) (W.contents writer.new))) }
+    // Where the trace was written of a setup and events, it is the session of these.
+    ensures again { (setup : Setup) → (events : List Event) → setup_refusal setup ≡ None
+        → IsTrace2 (canonical setup) events trace.now → OnOk result (Walked setup events
         (streams (R.remaining reader.old) (W.contents writer.old))
         (streams (R.remaining reader.new) (W.contents writer.new))) }
     // A fault of the trace is its first one, a fault of its events the first refused one. Nothing

@@ -4,6 +4,7 @@ ghost use Rattle.std.proofs.Math.ListN.{replicate};
 ghost use Rattle.std.specs.List.{list_all};
 ghost use Rattle.scenario.specs.declared.event.Event.{Event};
 ghost use Rattle.scenario.specs.declared.setup.Setup.{Setup};
+ghost use Rattle.scenario.specs.Names.{submission_size, completion_size};
 ghost use Rattle.scenario.specs.Setups.{setup_refusal};
 ghost use Rattle.traces.specs.declared.fault.TraceFault.{TraceFault};
 ghost use Rattle.traces.specs.Faults.{IsFault};
@@ -62,10 +63,13 @@ pub fn second_form_is_not_first()
         → IsTrace2 setup events bytes → IsFault bytes fault → fault ≡ TraceFault.Magic }
 {}
 
-/// A run can start from the setup that a trace of the second form has, and that setup's memory
-/// lacks only zeros at its end.
+/// A run can start from the setup that a trace of the second form has. Its rings have the same
+/// sizes, and its memory lacks only zeros at its end.
 pub fn spelled_setups_start()
     ensures starts { (s : Setup) → setup_refusal s ≡ None → setup_refusal (canonical s) ≡ None }
+    ensures sizes { (s : Setup) → setup_refusal s ≡ None
+        → (submission_size (canonical s) ≡ submission_size s)
+        × (completion_size (canonical s) ≡ completion_size s) }
     ensures memory { (s : Setup) → (count : ℕ)
         × (s.memory ≡ (canonical s).memory ++ replicate count 0) }
 {}
