@@ -1,4 +1,4 @@
--- Rows that have ended stay so.
+-- Completed requests stay completed.
 use Rattle.std.proofs.Common.{◌≡◌, ℕ, zero, suc, ℤ, pos, negsuc, ◌<◌, ◌≤◌, ◌⊎◌, inl, inr, Bool, true, false, refl, sym, ap, ◌∙◌, List, [], ◌∷◌, ◌++◌, length, arith, if◌then◌else◌, ◌==◌}
 use Rattle.std.specs.Prelude.{Option, Some, None, min, slice_get, nat_lt, option_map, ◌&&◌, ◌||◌}
 use Rattle.std.specs.Option.{option_map_or}
@@ -48,12 +48,12 @@ use Rattle.live_runner.specs.Passing.{EndedBelow}
 use Rattle.live_runner.proofs.Leasts.{least_none, least_value_same}
 use Rattle.live_runner.proofs.Rows.{unissued, not_finished, not_expired, no_deadline}
 
--- ---- changes of the rows
+-- ---- Changes of the request table
 
 abbrev EndedStay : List Row → List Row → Type 0
 EndedStay rows next = (r : ℕ) (x : Row) → slice_get rows r ≡ Some x → is_ended x.phase ≡ true → (y : Row) × (slice_get next r ≡ Some y) × (is_ended y.phase ≡ true)
 
--- the rows of one machine, and of a later one
+-- Requests that are completed in one state are completed in a later one.
 abbrev Stays : Machine → Machine → Type 0
 Stays m n = EndedStay m.table n.table
 
@@ -74,7 +74,7 @@ appended rows more r x e h = (x, before rows more r x e, h)
 mapped : (f : ℕ → Row → Row) (rows : List Row) → ((r : ℕ) (x : Row) → slice_get rows r ≡ Some x → is_ended x.phase ≡ true → is_ended (f r x).phase ≡ true) → EndedStay rows (map_numbered f rows)
 mapped f rows same r x e h = (f r x, mapped_at f rows r ∙ ap (option_map (λ row. f r row)) e, same r x e h)
 
--- ---- rows that end
+-- ---- Completing requests
 
 ended_again : (x : Row) (o : Option ℤ) → is_ended x.phase ≡ true → is_ended (option_map_or (λ res. record x { phase = Ended res }) o x).phase ≡ true
 ended_again x None h = h
@@ -89,7 +89,7 @@ stays_submitted m k =
     both m.table (taken m k).table (submitted m k).table (appended m.table (rows_of m.world (length m.table) (entries_for m k)))
     (stays_fallen (taken m k) (direct_of m.world (length m.table) (entries_for m k)))
 
--- ---- threads
+-- ---- Threads
 
 stays_awaited : (m n : Machine) (t k to_submit min_complete flags : ℕ) → Stays m n → Stays m (awaited n t k to_submit min_complete flags)
 stays_awaited m n t k to_submit min_complete flags h = by (gets_events flags && ((k == to_submit) && nat_lt (ready_count n) (wanted n min_complete)))
@@ -163,15 +163,15 @@ stays_stepped : (m : Machine) (t : ℕ) (o : Option ThreadState) → Stays m (st
 stays_stepped m t None = self m.table
 stays_stepped m t (Some x) = stays_resumed m t x.stage (slice_get x.program x.counter)
 
--- ---- requests
+-- ---- Requests
 
--- a row that may be issued hasn't ended
+-- A request that may be issued has not completed.
 not_ended : (rows : List Row) (r : ℕ) (x : Row) (p : Phase) → x.phase ≡ p → issue_refusal rows r (Some x) ≡ None → is_ended p ≡ false
 not_ended rows r x Queued g h = refl
 not_ended rows r x Issued g h = refl
 not_ended rows r x (Ended res) g h = absurd (let k : issue_refusal rows r (Some x) ≡ Some WrongPhase = rw g refl in cc)
 
--- nor has one whose guard is issued
+-- Nor does a completed request guard another as a linked timeout.
 not_guarding : (r : ℕ) (x : Row) (p : Phase) (b : Bool) → x.phase ≡ p → is_guard x ≡ b → is_ended p ≡ true → is_guard_of r x ≡ false
 not_guarding r x Queued b g i h = absurd (cc)
 not_guarding r x Issued b g i h = absurd (cc)
@@ -219,7 +219,7 @@ stays_after m (Finish r c) h = stays_finished m r c (slice_get m.table r)
 stays_after m (Expire r) h = stays_expired m r (slice_get m.table r)
 stays_after m (Tick d) h = self m.table
 
--- ---- all rows before one
+-- ---- All requests below an index
 
 pub below_after : (m n : Machine) (e : Event) (first : ℕ) → refusal m e ≡ None → n ≡ after m e → EndedBelow m.table first → EndedBelow n.table first
 below_after m n e first accepted next b = record {
@@ -231,7 +231,7 @@ neither Queued q i = absurd (cc)
 neither Issued q i = absurd (cc)
 neither (Ended res) q i = refl
 
--- up to a row before which none is queued or issued
+-- The bound may rise to `up` if no request from `first` up to it is queued or issued.
 pub below_more : (rows : List Row) (first up : ℕ) → EndedBelow rows first → up ≤ length rows
     → ((r : ℕ) (x : Row) → first ≤ r → r < up → slice_get rows r ≡ Some x → is_queued x.phase ≡ false)
     → ((r : ℕ) (x : Row) → first ≤ r → r < up → slice_get rows r ≡ Some x → is_issued x.phase ≡ false)
@@ -246,7 +246,7 @@ below_more rows first up b within queued issued = record { each = λ r l. by r l
     by r l (inl earlier) = b.each r earlier
     by r l (inr later) = found r (slice_get rows r) refl l later
 
--- up to the next queued or issued one
+-- The bound may rise to the next queued or issued request.
 pub below_both : (rows : List Row) (first q i up : ℕ) → EndedBelow rows first → up ≡ min q i → IsNextQueued rows first q → IsNextIssued rows first i → EndedBelow rows up
 below_both rows first q i up b e nq ni =
     let within = slice_get_within rows q nq.row nq.there in
@@ -266,7 +266,7 @@ pub below_within : (rows : List Row) (first : ℕ) → EndedBelow rows first →
 below_within rows zero b = omega arith
 below_within rows (suc n) b = let x = b.each n (omega arith) in let l = slice_get_within rows n x.0 x.1 in omega (arith, l)
 
--- ---- nothing is to be done to them
+-- ---- No action applies to completed requests
 
 ended_at : (rows : List Row) (first : ℕ) → EndedBelow rows first → (k : ℕ) → k < first → (row : Row) → slice_get rows k ≡ Some row → is_ended row.phase ≡ true
 ended_at rows first b k l row e =

@@ -1,4 +1,4 @@
--- What a kernel worker does of itself to the issued rows.
+-- What a kernel worker does to issued requests.
 use Rattle.std.proofs.Common.{◌≡◌, ℕ, Bool, true, false, refl, sym, ap, ◌∙◌, if◌then◌else◌}
 use Rattle.std.specs.Prelude.{◌&&◌, Option, Some, None, is_none, is_some, slice_get}
 use Rattle.std.specs.Option.{option_map_or}
@@ -20,11 +20,11 @@ use Rattle.live_runner.specs.Offers.{may_do, event_on, on_row, least_row, least_
 use Rattle.live_runner.specs.Passing.{has_come}
 use Rattle.live_runner.proofs.OfferLemmas.{expired_due}
 
--- an issued row has a deadline just if it is a timer
+-- An issued request has a deadline exactly if it is a TIMEOUT or a LINK_TIMEOUT.
 timer_due : (m : Machine) (r : ℕ) (row : Row) → WellFormed m → slice_get m.table r ≡ Some row → is_issued row.phase ≡ true → is_some row.deadline ≡ is_timer row.entry.opcode
 timer_due m r row f e i = let x = f.rows r row e in x.due i ∙ x.timed (unfinished_issued row.phase i)
 
--- ---- a row that has a deadline doesn't end in full
+-- ---- A request with a deadline may not finish
 
 timer_by : (t i : Bool) (o : Option ℕ) (d : ℕ) → (i ≡ true → is_some o ≡ t) → (if i then o else None) ≡ Some d → t ≡ true
 timer_by t true (Some x) d h e = sym (h refl)
@@ -41,7 +41,7 @@ waits_there m r d (Some row) f g e = waits (is_held_by m.table) m.world row (tim
 pub timer_unfinished : (m : Machine) (r d : ℕ) → WellFormed m → deadline_at m.table r ≡ Some d → may_do m Finishing r ≡ false
 timer_unfinished m r d f e = waits_there m r d (slice_get m.table r) f refl e
 
--- ---- it expires just if the clock has come to it
+-- ---- It may expire exactly if the clock has reached the deadline
 
 due_by : (clock : ℕ) (t i : Bool) (o : Option ℕ) → (i ≡ true → is_some o ≡ t) → (t && (i && has_come clock o)) ≡ has_come clock (if i then o else None)
 due_by clock true true (Some d) h = refl
@@ -59,7 +59,7 @@ due_there m r (Some row) f g = due_by m.clock (is_timer row.entry.opcode) (is_is
 pub expires_come : (m : Machine) (r : ℕ) → WellFormed m → may_do m Expiring r ≡ has_come m.clock (deadline_at m.table r)
 expires_come m r f = expired_due m r ∙ due_there m r (slice_get m.table r) f refl
 
--- ---- what is found
+-- ---- The result of the search
 
 pub finish_ends : (m : Machine) (r : ℕ) → least_row m Finishing ≡ Some r → Some (event_on Finishing r) ≡ ends m
 finish_ends m r e = sym (ap (λ (o : Option ℕ). or_else (on_row Finishing o) (or_else (on_row Expiring (least_row m Expiring)) (ticks m))) e)

@@ -1,4 +1,4 @@
--- A run that goes on by one event, and one that is closed.
+-- A run extended by one event, and a run that is closed.
 use Rattle.std.proofs.Common.{◌≡◌, ℕ, suc, ◌+◌, ◌<◌, List, [], ◌∷◌, ◌++◌, length, true, refl, sym, ap, ◌∙◌, subst, arith, length-append}
 use Rattle.std.proofs.lemmas.List.Elements.{All-push}
 use Rattle.places.specs.declared.value.Change.{Change}
@@ -38,11 +38,11 @@ goes_on setup actors es es' os os' m m' n n' records records' actor e past was l
     let Q : List (List Change) → Type 0 = λ l. Replays (history setup actors es' os' m' n') l in
     subst Q (sym recorded) (subst O (sym owners) (subst P (sym events) more))
 
--- its events run from the start
+-- The events are accepted from the start.
 pub runs_on : (h : History) (records : List (List Change)) (es : List Event) → Replays h records → es ≡ h.events → Accepts (start h.setup) es
 runs_on h records es was e = subst (λ (l : List Event). Accepts (start h.setup) l) (sym e) (linked_accepts (start h.setup) h.state h.events records was.linked)
 
--- ---- a seat that is told one receipt more
+-- ---- A seat that receives one more receipt
 
 pub counted_more : (actor : ℕ) (rs rs' : List Receipt) (parts parts' amount amount' : ℕ) (r : Receipt) → Counted (record { actor = actor; receipts = rs; parts = parts; amount = amount })
     → r.actor ≡ actor → rs' ≡ rs ++ r ∷ [] → parts' ≡ parts → amount' ≡ amount + 1 → Counted (record { actor = actor; receipts = rs'; parts = parts'; amount = amount' })
@@ -54,7 +54,7 @@ counted_more actor rs rs' parts parts' amount amount' r was own e same more =
       told = omega (arith, was.told, more, length-append rs (r ∷ []));
     })
 
--- ---- a run that is closed
+-- ---- A run that is closed
 
 pub own_pairs : (setup : Setup) (n : ℕ) (os : List ℕ) (es : List Event) → AllOwn setup n os es → length os ≡ length es
 own_pairs setup n [] [] own = refl
@@ -62,7 +62,7 @@ own_pairs setup n [] (e ∷ es) own = absurd own
 own_pairs setup n (o ∷ os) [] own = absurd own
 own_pairs setup n (o ∷ os) (e ∷ es) own = ap suc (own_pairs setup n os es own.1)
 
--- a run whose actors were told just their events is whole
+-- A run whose actors received exactly their events is whole.
 pub wholes : (h : History) (records : List (List Change)) (lists : List (List Receipt)) → Replays h records → length lists ≡ h.actors → AllTold h.owners h.events lists → Whole (closed_of h lists)
 wholes h records lists r each told = record {
   starts = r.starts;

@@ -1,4 +1,4 @@
--- What actors are offered.
+-- Proofs of the laws of offers.
 use Rattle.std.proofs.Common.{◌≡◌, ℕ, zero, suc, ◌+◌, ◌-◌, ◌^◌, ◌<◌, ◌≤◌, ◌⊎◌, Bool, true, false, not, refl, sym, ap, ◌∙◌, inl, inr, arith, if◌then◌else◌, length, List, ◌==◌}
 use Rattle.std.specs.Prelude.{◌&&◌, Option, Some, None, is_none, slice_get, min, nat_lt, nat_le}
 use Rattle.std.specs.Option.{option_map_or}
@@ -32,7 +32,7 @@ use Rattle.live_runner.specs.Offers.{least_row, least_deadline, may_do, event_on
 use Rattle.live_runner.specs.Passing.{IsLeastDeadline}
 use Rattle.live_runner.proofs.Rows.{unfinished}
 
--- ---- the least
+-- ---- The first request
 
 none_by : (f : ℕ → Bool) (n : ℕ) (o : Option ℕ) (b : Bool) → f n ≡ b → or_else o (if b then Some n else None) ≡ None → (o ≡ None → (k : ℕ) → k < n → f k ≡ false) → (k : ℕ) → k < suc n → f k ≡ false
 none_by f n (Some x) b g h rest k l = absurd (cc)
@@ -59,7 +59,7 @@ least_found f (suc n) r h = found_by f n r (least f n) (f n) refl h (least_found
 pub least_offered : (m : Machine) (deed : Deed) (r : ℕ) → least_row m deed ≡ Some r → (may_do m deed r ≡ true) × ((k : ℕ) → k < r → may_do m deed k ≡ false)
 least_offered m deed r h = least_found (may_do m deed) (length m.table) r h
 
--- ---- which rows
+-- ---- Which requests each action applies to
 
 told_none : (b : Bool) (n : Refusal) → is_none (if b then None else Some n) ≡ b
 told_none true n = refl
@@ -103,9 +103,9 @@ expires_there now (Some row) = expires now row (is_timer row.entry.opcode) refl 
 pub expired_due : (m : Machine) (r : ℕ) → may_do m Expiring r ≡ option_map_or (λ (row : Row). is_timer row.entry.opcode && (is_issued row.phase && is_due m.clock row)) (slice_get m.table r) false
 expired_due m r = expires_there m.clock (slice_get m.table r)
 
--- ---- the least deadline
+-- ---- The least deadline
 
--- a function has a value somewhere, and no lesser one below n
+-- The function has the value d somewhere, and no smaller value below n.
 record HasLeast (f : ℕ → Option ℕ) (n d : ℕ) : Type 0 where
   pub at : ℕ
   pub is : f at ≡ Some d
@@ -124,7 +124,7 @@ nothing_below : (f : ℕ → Option ℕ) (n : ℕ) → least_value f n ≡ None 
 nothing_below f zero h k l = absurd (omega arith)
 nothing_below f (suc n) h k l = nothing_by f n (least_value f n) (f n) refl h (nothing_below f n) k l
 
--- what holds below n, and at n
+-- A lower bound of the values below n and at n is one of the values below n + 1.
 at_each : (f : ℕ → Option ℕ) (n d : ℕ) → ((k e : ℕ) → k < n → f k ≡ Some e → d ≤ e) → ((e : ℕ) → f n ≡ Some e → d ≤ e) → (k e : ℕ) → k < suc n → f k ≡ Some e → d ≤ e
 at_each f n d below here k e l h = elim (cases_lt k n) [
   | inl less ↦ below k e less h
@@ -166,7 +166,7 @@ deadline_least m d h =
     let found = value_least (deadline_at m.table) (length m.table) d h in
     record { row = found.at; due = found.is; least = λ k e i. found.least k e (there m.table k e (slice_get m.table k) refl i) i }
 
--- ---- what is offered is accepted
+-- ---- An offered event is accepted
 
 is_none_true : (o : Option Refusal) → is_none o ≡ true → o ≡ None
 is_none_true None h = refl
@@ -207,7 +207,7 @@ works_accepted m e c h = elim (one_of (on_row Issuing (least_row m Issuing)) (or
   ]
 ]
 
--- ---- whose it is
+-- ---- An offered event is one that the actor may make
 
 submits_is : (t : ℕ) (e : Event) (b : Bool) → (if b then None else Some (Step t)) ≡ Some e → e ≡ Step t
 submits_is t e true h = absurd (cc)
@@ -216,7 +216,7 @@ submits_is t e false h = cc
 not_of_submitter : (m : Machine) (t : ℕ) (e : Event) → submits m t ≡ Some e → is_of_worker e ≡ false
 not_of_submitter m t e h = ap (λ (x : Event). is_of_worker x) (submits_is t e (is_over (refusal m (Step t))) h)
 
--- what holds of what the poller may do holds of what it is offered
+-- What holds of both events of the poller holds of the event that it is offered.
 polls_own : (f : Event → Bool) (b : Bool) (o : Option Refusal) (e : Event) → f Sleep ≡ b → f (Take 1) ≡ b → polls_by o ≡ Some e → f e ≡ b
 polls_own f b None e s t h = let same : Sleep ≡ e = cc in ap f (sym same) ∙ s
 polls_own f b (Some NotIdle) e s t h = let same : Take 1 ≡ e = cc in ap f (sym same) ∙ t
@@ -232,7 +232,7 @@ accepted_by m actor e true false false clock w h = works_accepted m e clock h
 pub offer_accepted : (setup : Setup) (count : ℕ) (m : Machine) (actor : ℕ) (e : Event) → WellFormed m → offer setup count m actor ≡ Some e → is_of_worker e ≡ true → refusal m e ≡ None
 offer_accepted setup count m actor e formed h w = accepted_by m actor e (nat_lt actor count) (is_submitter setup actor) (is_poller setup actor) formed.mostly.clock w h
 
--- an actor behind the submitters and the poller is a kernel worker
+-- An actor whose number is after those of the submitters and the poller is a kernel worker.
 behind : (n actor : ℕ) (b : Bool) → nat_lt actor n ≡ false → (b && (actor == n)) ≡ false → nat_le (n + (if b then 1 else 0)) actor ≡ true
 behind n actor true h k = grind (arith, nat_tests)
 behind n actor false h k = grind (arith, nat_tests)

@@ -1,4 +1,4 @@
--- Moments of receipts.
+-- The order of the moments of receipts.
 use Rattle.std.proofs.Common.{◌≡◌, ℕ, zero, suc, ◌+◌, ◌<◌, ◌≤◌, ◌==◌, Bool, true, false, List, [], ◌∷◌, length, get_or, sym, ap, ◌∙◌, subst, arith, add-one, Some, slice_get, Contains}
 use Rattle.std.specs.Prelude.{map}
 use Rattle.std.specs.List.Sorted.{IsStrictlyIncreasing}
@@ -13,7 +13,7 @@ use Rattle.live_runner.proofs.Telling.{told_by, told_is_of, told_owner}
 abbrev pub moments : List Receipt → List ℕ
 moments receipts = map (λ (r : Receipt). r.moment) receipts
 
--- ---- the moments that a trace tells
+-- ---- The moments of an actor's events in a trace
 
 later_by : (a m : ℕ) (os : List ℕ) (e : Event) (es : List Event) → ((k : ℕ) → k < length (moments (told_from a (m + 1) os es)) → m + 1 ≤ get_or (moments (told_from a (m + 1) os es)) k 0)
     → (k : ℕ) (b : Bool) → k < length (moments (told_by b a m os e es)) → m ≤ get_or (moments (told_by b a m os e es)) k 0
@@ -41,9 +41,9 @@ rise a m (o ∷ os) (e ∷ es) k h = rise_by a m os e es (later a (m + 1) os es)
 told_rises : (a : ℕ) (os : List ℕ) (es : List Event) → IsStrictlyIncreasing (moments (told a os es))
 told_rises a os es = λ k h. rw add-one (rise a 0 os es k (omega arith))
 
--- ---- of a closed run
+-- ---- The moments in a closed run
 
--- what an actor was told is what the trace has of it
+-- An actor's receipts are its events in the trace.
 is_told : (c : Past) (a : ℕ) (receipts : List Receipt) → Whole c → slice_get c.receipts a ≡ Some receipts → receipts ≡ told a c.owners c.events
 is_told c a receipts w e = let t = w.told a (slice_get_within c.receipts a receipts e) in cc
 

@@ -1,4 +1,4 @@
--- To which rows a kernel worker may do what.
+-- Which actions a kernel worker may apply to which requests.
 use Rattle.std.proofs.Common.{◌≡◌, ℕ, Bool, true, false, refl, ◌<◌, ◌≤◌, if◌then◌else◌}
 use Rattle.std.specs.Prelude.{Option, Some, None, is_none, slice_get, List, length}
 use Rattle.std.specs.Option.{option_map_or}
@@ -23,14 +23,14 @@ use Rattle.live_runner.specs.declared.offering.Deed.TheVariants.{Issuing, Finish
 use Rattle.live_runner.specs.Offers.{may_do}
 use Rattle.live_runner.specs.Passing.{IsNextRow}
 
--- ---- what keeps a row from it
+-- ---- What prevents an action
 
 unissued_phase : (rows : List Row) (r : ℕ) (row : Row) (p : Phase) → row.phase ≡ p → is_queued p ≡ false → is_none (issue_refusal rows r (Some row)) ≡ false
 unissued_phase rows r row Queued e h = absurd (cc)
 unissued_phase rows r row Issued e h = rw e refl
 unissued_phase rows r row (Ended res) e h = rw e refl
 
--- a row that isn't queued isn't issued
+-- A request that isn't queued may not be issued.
 pub unissued : (rows : List Row) (r : ℕ) (o : Option Row) → ((row : Row) → o ≡ Some row → is_queued row.phase ≡ false) → is_none (issue_refusal rows r o) ≡ false
 unissued rows r None h = refl
 unissued rows r (Some row) h = unissued_phase rows r row row.phase refl (h row refl)
@@ -44,7 +44,7 @@ pub unfinished : (held : ℕ → Bool) (w : WorldState) (row : Row) (b : Bool) �
 unfinished held w row true e h = rw e refl
 unfinished held w row false e h = rw e (by_phase row.phase (choice_refusal held w row Full) h)
 
--- one that isn't issued doesn't end
+-- One that isn't issued may not finish.
 pub not_finished : (held : ℕ → Bool) (w : WorldState) (o : Option Row) → ((row : Row) → o ≡ Some row → is_issued row.phase ≡ false) → is_none (finish_refusal held w o Full) ≡ false
 not_finished held w None h = refl
 not_finished held w (Some row) h = unfinished held w row (is_timer row.entry.opcode) refl (h row refl)
@@ -57,7 +57,7 @@ pub not_expired : (now : ℕ) (o : Option Row) → ((row : Row) → o ≡ Some r
 not_expired now None h = refl
 not_expired now (Some row) h = unexpired now row (is_timer row.entry.opcode) refl (h row refl)
 
--- ---- the next row
+-- ---- The next request
 
 pub none_to_issue : (m : Machine) (from : ℕ) → NoneQueuedFrom m.table from → (k : ℕ) → from ≤ k → may_do m Issuing k ≡ false
 none_to_issue m from none k low = unissued m.table k (slice_get m.table k) (λ row e. none k row low e)
@@ -89,13 +89,13 @@ next_to_expire m from r next = record {
   least = λ k low high. not_expired m.clock (slice_get m.table k) (λ row e. next.least k row low high e);
 }
 
--- ---- deadlines
+-- ---- Deadlines
 
 pub no_deadline : (o : Option Row) → ((row : Row) → o ≡ Some row → is_issued row.phase ≡ false) → option_map_or issued_deadline o None ≡ None
 no_deadline None h = refl
 no_deadline (Some row) h = rw (h row refl) refl
 
--- a row that isn't issued has none
+-- A request that isn't issued has no deadline.
 pub none_due : (rows : List Row) (from : ℕ) → NoneIssuedFrom rows from → (k : ℕ) → from ≤ k → deadline_at rows k ≡ None
 none_due rows from none k low = no_deadline (slice_get rows k) (λ row e. none k row low e)
 

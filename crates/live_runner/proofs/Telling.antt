@@ -1,4 +1,4 @@
--- Receipts of a trace.
+-- Receipts that follow from a trace.
 use Rattle.std.proofs.Common.{◌≡◌, ℕ, zero, suc, ◌+◌, ◌≤◌, ◌<◌, ◌==◌, Bool, true, false, cond, List, [], ◌∷◌, ◌++◌, length, get_or, take, drop, refl, sym, ap, ◌∙◌, arith, Some, slice_get, Contains, length-append}
 use Rattle.std.specs.Prelude.{option_map}
 use Rattle.std.proofs.lemmas.Option.{slice_get-get_or, slice_get_within, get_or_from_slice_get}
@@ -9,7 +9,7 @@ use Rattle.scenario.specs.declared.event.Event.{Event}
 use Rattle.live_runner.specs.declared.receipt.Receipt.{Receipt}
 use Rattle.live_runner.specs.Told.{receipt, told, told_from, IsOf}
 
--- where a trace that goes on at a moment has the event of a receipt
+-- The index at which a list of events, the first at moment m, has the event of a receipt.
 record Found (a m : ℕ) (os : List ℕ) (es : List Event) (r : Receipt) : Type 0 where
   pub at : ℕ
   pub moment : r.moment ≡ m + at
@@ -20,7 +20,7 @@ record Found (a m : ℕ) (os : List ℕ) (es : List Event) (r : Receipt) : Type 
 later : (a m o : ℕ) (os : List ℕ) (e : Event) (es : List Event) (r : Receipt) → Found a (m + 1) os es r → Found a m (o ∷ os) (e ∷ es) r
 later a m o os e es r f = record { at = suc f.at; moment = omega (arith, f.moment); actor = f.actor; owner = f.owner; event = f.event }
 
--- what is told of a first event, by whether it is the actor's
+-- The receipts, given whether the first event is the actor's.
 abbrev pub told_by : Bool → ℕ → ℕ → List ℕ → Event → List Event → List Receipt
 told_by b a m os e es = cond b (receipt a m e ∷ told_from a (m + 1) os es) (told_from a (m + 1) os es)
 
@@ -47,7 +47,7 @@ told_is_of a os es r h =
 pub told_owner : (a : ℕ) (os : List ℕ) (es : List Event) (r : Receipt) → Contains (told a os es) r → r.actor ≡ a
 told_owner a os es r h = (found a 0 os es r h.0 h.1 h.2).actor
 
--- one event on
+-- The receipts after one event, if it is the actor's and if it isn't.
 told_yes : (a m o : ℕ) (os : List ℕ) (e : Event) (es : List Event) (b : Bool) → (o == a) ≡ b → b ≡ true → told_by b a m os e es ≡ receipt a m e ∷ told_from a (m + 1) os es
 told_yes a m o os e es true is h = refl
 told_yes a m o os e es false is h = absurd (cc)
@@ -60,8 +60,8 @@ told_drop : (a i : ℕ) (os : List ℕ) (es : List Event) (o : ℕ) (e : Event) 
     → told_from a i (drop i os) (drop i es) ≡ told_from a i (get_or os i o ∷ drop (i + 1) os) (get_or es i e ∷ drop (i + 1) es)
 told_drop a i os es o e h k = ap (λ l. told_from a i l (drop i es)) (drop_more os i o h) ∙ ap (λ l. told_from a i (get_or os i o ∷ drop (i + 1) os) l) (drop_more es i e k)
 
--- how far a look through the trace has come: the first receipts are right, and the rest of the
--- trace tells the others
+-- Progress of the check: the first `next` receipts are right, and the trace from event i on
+-- determines the others.
 pub record Agrees (a : ℕ) (os : List ℕ) (es : List Event) (rs : List Receipt) (next i : ℕ) : Type 0 where
   pub within : next ≤ length rs
   pub so_far : told a os es ≡ take next rs ++ told_from a i (drop i os) (drop i es)
@@ -77,11 +77,11 @@ pub agrees_own : (a : ℕ) (os : List ℕ) (es : List Event) (rs : List Receipt)
     → (get_or os i o == a) ≡ true → told a os es ≡ take next rs ++ receipt a i (get_or es i e) ∷ told_from a (i + 1) (drop (i + 1) os) (drop (i + 1) es)
 agrees_own a os es rs next i o e was h k same = was.so_far ∙ ap (λ l. take next rs ++ l) (told_drop a i os es o e h k ∙ told_yes a i (get_or os i o) (drop (i + 1) os) (get_or es i e) (drop (i + 1) es) (get_or os i o == a) refl same)
 
--- what stands where the receipt of an event is looked for
+-- The receipt at the index where that of event i is expected.
 stands_at : (a i next : ℕ) (es : List Event) (rs : List Receipt) (e : Event) → i < length es → slice_get rs next ≡ option_map (receipt a i) (slice_get es i) → slice_get rs next ≡ Some (receipt a i (get_or es i e))
 stands_at a i next es rs e k h = h ∙ ap (λ o. option_map (receipt a i) o) (slice_get-get_or es i e k)
 
--- the trace tells one receipt more
+-- The trace has one more of the actor's events.
 pub agrees_more : (a : ℕ) (os : List ℕ) (es : List Event) (rs : List Receipt) (next i o : ℕ) (e : Event) → Agrees a os es rs next i → i < length os → i < length es
     → (get_or os i o == a) ≡ true → slice_get rs next ≡ option_map (receipt a i) (slice_get es i) → Agrees a os es rs (next + 1) (i + 1)
 agrees_more a os es rs next i o e was h k same right =
@@ -96,7 +96,7 @@ agrees_more a os es rs next i o e was h k same right =
           agrees_own a os es rs next i o e was h k same ∙ sym (append_assoc (take next rs) (x ∷ []) rest) ∙ ap (λ l. l ++ rest) (sym more);
     }
 
--- receipts that are just those that are told have the one that comes next
+-- If the receipts are right, the next one is that of the actor's next event.
 pub told_next : (a : ℕ) (os : List ℕ) (es : List Event) (rs : List Receipt) (next i o : ℕ) (e : Event) → Agrees a os es rs next i → i < length os → i < length es
     → (get_or os i o == a) ≡ true → rs ≡ told a os es → slice_get rs next ≡ option_map (receipt a i) (slice_get es i)
 told_next a os es rs next i o e was h k same all =

@@ -1,4 +1,4 @@
--- Workers that are made of seats, and those that come back.
+-- Workers created from seats, and workers returned by threads.
 use Rattle.std.proofs.Common.{◌≡◌, ℕ, List, [], ◌∷◌, ◌++◌, map, sym, ap, ◌∙◌, append_assoc}
 use Rattle.std.specs.Prelude.{All}
 use Rattle.std.specs.declared.thread.PromisedHandle.{PromisedHandle}
@@ -9,13 +9,13 @@ use Rattle.live_runner.specs.Running.{AllOfTurns}
 use Rattle.live_runner.specs.Turns.{HasWorked}
 
 module _ {G : Type 0} (g : G) where
-  -- those that are made, and those of the seats that are left, before and after the next one
+  -- The workers created so far, and those of the remaining seats, before and after the next one.
   pub made_next : (ws ws' all : List (Labour G)) (w : Labour G) (s : Held) (rest rest' : List Held) → ws ++ map (fresh g) rest ≡ all → rest ≡ s ∷ rest' → w ≡ fresh g s → ws' ≡ ws ++ w ∷ [] → ws' ++ map (fresh g) rest' ≡ all
   made_next ws ws' all w s rest rest' was next made pushed =
       ap (λ l. l ++ map (fresh g) rest') pushed ∙ append_assoc ws (w ∷ []) (map (fresh g) rest') ∙ ap (λ x. ws ++ x ∷ map (fresh g) rest') made
       ∙ ap (λ l. ws ++ map (fresh g) l) (sym next) ∙ was
 
-  -- the handles that are left, and the workers that have come back, after the next one
+  -- The remaining handles, and the workers returned so far, after the next one.
   pub worked_next : {T : Type 0} (n : ℕ) (ws ws' : List (Labour G)) (w : Labour G) (h : PromisedHandle T ForActor) (rest rest' : List (PromisedHandle T ForActor)) → AllOfTurns n rest × All (HasWorked g n) ws → rest ≡ h ∷ rest' → (h.promise.turns ≡ n → HasWorked g n w) → ws' ≡ ws ++ w ∷ [] → AllOfTurns n rest' × All (HasWorked g n) ws'
   worked_next {T} n ws ws' w h rest rest' was next has pushed =
       let P : PromisedHandle T ForActor → Type 0 = λ x. x.promise.turns ≡ n in

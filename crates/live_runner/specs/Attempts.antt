@@ -1,4 +1,4 @@
--- What an attempt answers, and what it leaves.
+-- What an attempt to make an event returns and changes.
 use Rattle.std.specs.Prelude.{◌≡◌, ◌≢◌, ◌↔◌, ◌⊎◌, length, true, false, None, Some, Result, Err, IfOk, OnOk, OnErr}
 use Rattle.scenario.specs.declared.event.Event.{Event}
 use Rattle.scenario.specs.declared.event.Refusal.{Refusal}
@@ -11,9 +11,9 @@ use Rattle.live_runner.specs.Actors.{is_own}
 use Rattle.live_runner.specs.Told.{receipt}
 use Rattle.live_runner.specs.History.{History, Held, gone_on, seat_with}
 
--- An accepted event is done at the end of the run, and told to its actor. What isn't the actor's is
--- refused first, then a full trace, then what the rules refuse; else memory alone is refused. A
--- refusal changes nothing.
+-- An accepted event is appended to the run, and its actor receives a receipt. The checks come in
+-- order: an event that the actor may not make, a full trace, an event that the rules refuse. Any
+-- other refusal is an allocation failure. A refusal changes nothing.
 pub record Attempted (old : History) (seat : Held) (e : Event) (answer : Result Receipt LiveRefusal) (new : History) (after : Held) : Type 0 where
   pub accepted : OnOk answer (refusal old.state e ≡ None)
   pub run : OnOk answer (new ≡ gone_on old seat.actor e)

@@ -1,4 +1,4 @@
--- What lies under the lock, what a seat holds, and what a run comes to.
+-- Models of a live run, a seat, a worker and a closed run.
 use Rattle.std.specs.Prelude.{◌≡◌, ℕ, ◌+◌, ◌≤◌, ◌<◌, List, [], ◌∷◌, ◌++◌, length, All, true, false, slice_index_or, map, Bool, sum_by, None}
 use Rattle.places.specs.declared.value.Change.{Change}
 use Rattle.places.specs.Lists.{updated}
@@ -12,7 +12,8 @@ use Rattle.live_runner.specs.declared.receipt.Receipt.{Receipt}
 use Rattle.live_runner.specs.Actors.{is_own}
 use Rattle.live_runner.specs.Told.{AllTold}
 
--- a live run, as contracts see it: its start is that of its setup, and total is what its book says
+-- A live run. `owners` are the actors that made the events, and `total` is the total of the
+-- ledger's book.
 pub record History : Type 0 where
   pub setup : Setup
   pub actors : ℕ
@@ -21,15 +22,15 @@ pub record History : Type 0 where
   pub state : Machine
   pub total : ℕ
 
--- each event is one of its actor's
+-- Each event is one that its actor may make.
 abbrev pub AllOwn : Setup → ℕ → List ℕ → List Event → Type 0
 AllOwn setup n [] [] = Unit {0}
 AllOwn setup n [] (e ∷ es) = ⊥
 AllOwn setup n (o ∷ os) [] = ⊥
 AllOwn setup n (o ∷ os) (e ∷ es) = (is_own setup n o e ≡ true) × AllOwn setup n os es
 
--- the setup has a start, the events lead from there to the state, their records lead back, each
--- event is its actor's, and they are as many as the book says
+-- The setup is valid, the events lead from its start to the state, and the undo records lead back.
+-- Each event is one that its actor may make, and the book's total is the number of events.
 pub record Replays (h : History) (records : List (List Change)) : Type 0 where
   pub starts : setup_refusal h.setup ≡ None
   pub linked : Linked (start h.setup) h.events records h.state
@@ -37,30 +38,31 @@ pub record Replays (h : History) (records : List (List Change)) : Type 0 where
   pub counted : h.total ≡ length h.events
   pub most : length h.events ≤ 1048576
 
--- a seat, as contracts see it: its actor, what it was told, and its share
+-- A seat: its actor, the receipts that the actor received, and its share of the ledger.
 pub record Held : Type 0 where
   pub actor : ℕ
   pub receipts : List Receipt
   pub parts : ℕ
   pub amount : ℕ
 
--- its receipts name its actor, and its share is one part, whose amount is their number
+-- Each receipt names the seat's actor. The share has one part, whose amount is the number of
+-- receipts.
 pub record Counted (s : Held) : Type 0 where
   pub own : All (λ (r : Receipt). r.actor ≡ s.actor) s.receipts
   pub one : s.parts ≡ 1
   pub told : s.amount ≡ length s.receipts
 
--- a seat for each number, in order
+-- Seat i belongs to actor i.
 abbrev pub InOrder : List Held → Type 0
 InOrder seats = (i : ℕ) (d : Held) → i < length seats → (slice_index_or seats i d).actor ≡ i
 
--- a run without events
+-- A run without events.
 abbrev pub opened : Setup → ℕ → History
 opened setup count =
     record
     { setup = setup; actors = count; events = []; owners = []; state = start setup; total = 0 }
 
--- the run with one event more, of an actor
+-- The run after one more event, made by `actor`.
 abbrev pub gone_on : History → ℕ → Event → History
 gone_on h actor event = record {
   setup = h.setup;
@@ -71,13 +73,13 @@ gone_on h actor event = record {
   total = h.total + 1;
 }
 
--- the seat with one receipt more
+-- The seat with one more receipt.
 abbrev pub seat_with : Held → Receipt → Held
 seat_with s r =
     record
     { actor = s.actor; receipts = s.receipts ++ r ∷ []; parts = s.parts; amount = s.amount + 1 }
 
--- the seat whose actor says another event of a receipt
+-- The seat after the event of receipt i was replaced.
 abbrev pub altered : Held → ℕ → Event → Held
 altered s i e = record {
   actor = s.actor;
@@ -86,31 +88,31 @@ altered s i e = record {
   amount = s.amount;
 }
 
--- a worker, as contracts see it
+-- A worker. `turns` is the number of turns that it has taken.
 pub record Labour (G : Type 0) : Type 0 where
   pub seat : Held
   pub gate : G
   pub turns : ℕ
   pub is_stuck : Bool
 
--- one of a seat that has made no turn
+-- A worker that has taken no turn.
 abbrev pub fresh : {G : Type 0} → G → Held → Labour G
 fresh gate seat = record { seat = seat; gate = gate; turns = 0; is_stuck = false }
 
--- what the workers were told, in their order
+-- The workers' receipts, in the workers' order.
 abbrev pub told_to : {G : Type 0} → List (Labour G) → List (List Receipt)
 told_to {G} workers = map (λ (w : Labour G). w.seat.receipts) workers
 
--- how many receipts they have together
+-- The total number of the workers' receipts.
 abbrev pub receipt_count : {G : Type 0} → List (Labour G) → ℕ
 receipt_count {G} workers = sum_by (λ (w : Labour G). length w.seat.receipts) workers
 
--- a worker for each actor, in order
+-- Worker i belongs to actor i.
 abbrev pub WorkInOrder : {G : Type 0} → List (Labour G) → Type 0
 WorkInOrder {G} workers =
     (i : ℕ) (d : Labour G) → i < length workers → (slice_index_or workers i d).seat.actor ≡ i
 
--- a closed run, as contracts see it
+-- A closed run.
 pub record Past : Type 0 where
   pub setup : Setup
   pub actors : ℕ
@@ -119,8 +121,9 @@ pub record Past : Type 0 where
   pub state : Machine
   pub receipts : List (List Receipt)
 
--- the setup has a start, the events run from there to the state, each is its actor's, and each
--- actor's receipts are just its events with their moments, in order
+-- The setup is valid, the events are accepted from its start and lead to the state, and each is one
+-- that its actor may make. Each actor's receipts are exactly its events with their moments, in
+-- order.
 pub record Whole (c : Past) : Type 0 where
   pub starts : setup_refusal c.setup ≡ None
   pub most : length c.events ≤ 1048576
@@ -130,6 +133,6 @@ pub record Whole (c : Past) : Type 0 where
   pub each : length c.receipts ≡ c.actors
   pub told : AllTold c.owners c.events c.receipts
 
--- what is closed of a run whose actors were told this
+-- The closed run of a live run whose actors have these receipts.
 abbrev pub closed_of : History → List (List Receipt) → Past
 closed_of h lists = record { setup = h.setup; actors = h.actors; events = h.events; owners = h.owners; state = h.state; receipts = lists }

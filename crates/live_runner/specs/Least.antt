@@ -1,11 +1,11 @@
--- The least number that passes a test, and the least value of a function.
+-- The first number that passes a test, and the minimum of a partial function.
 use Rattle.std.specs.Prelude.{ℕ, zero, suc, Bool, Option, Some, None, if◌then◌else◌, min}
 
 abbrev pub or_else : {T : Type 0} → Option T → Option T → Option T
 or_else (Some x) o = Some x
 or_else None o = o
 
--- the least number below n that passes
+-- The first number below n that passes.
 abbrev pub least : (ℕ → Bool) → ℕ → Option ℕ
 least f zero = None
 least f (suc n) = or_else (least f n) (if f n then Some n else None)
@@ -15,7 +15,7 @@ lesser None o = o
 lesser (Some a) None = Some a
 lesser (Some a) (Some b) = Some (min a b)
 
--- the least value that a function has below n
+-- The minimum of the values that a function has below n.
 abbrev pub least_value : (ℕ → Option ℕ) → ℕ → Option ℕ
 least_value f zero = None
 least_value f (suc n) = lesser (least_value f n) (f n)

@@ -1,4 +1,4 @@
--- The numbers of what a live run refuses, and of what it can fail by.
+-- The numbers of refusals and of faults.
 use Rattle.std.specs.Prelude.{ℕ}
 use Rattle.live_runner.specs.declared.lives.LiveRefusal.{LiveRefusal}
 use Rattle.live_runner.specs.declared.lives.LiveRefusal.TheVariants as refusal

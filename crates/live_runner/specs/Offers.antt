@@ -1,4 +1,4 @@
--- What an actor does next.
+-- The next event that each actor makes.
 use Rattle.std.specs.Prelude.{ℕ, ◌-◌, ◌^◌, Bool, true, false, nat_lt, if◌then◌else◌, Option, Some, None, is_none, length}
 use Rattle.entries.specs.declared.choice.Choice.TheVariants.{Full}
 use Rattle.scenario.specs.declared.setup.Setup.{Setup}
@@ -14,21 +14,21 @@ use Rattle.live_runner.specs.Least.{or_else, least, least_value}
 use Rattle.live_runner.specs.declared.offering.Deed.{Deed}
 use Rattle.live_runner.specs.declared.offering.Deed.TheVariants.{Issuing, Finishing, Expiring}
 
--- ---- a submitter
+-- ---- Submitters
 
--- whether a thread has nothing left to do
+-- Whether a thread has no more steps to make.
 abbrev pub is_over : Option Refusal → Bool
 is_over (Some NoSuchThread) = true
 is_over (Some ThreadDone) = true
 is_over _ = false
 
--- the next step of its thread, until the program is done
+-- The next step of the thread, until its program is done.
 abbrev pub submits : Machine → ℕ → Option Event
 submits m t = if is_over (refusal m (Step t)) then None else Some (Step t)
 
--- ---- the poller
+-- ---- The poller
 
--- It sleeps where it may, and takes one entry where entries keep it from that.
+-- The poller sleeps if it may. If pending entries prevent that, it takes one entry.
 abbrev pub polls_by : Option Refusal → Option Event
 polls_by None = Some Sleep
 polls_by (Some NotIdle) = Some (Take 1)
@@ -37,9 +37,9 @@ polls_by (Some n) = None
 abbrev pub polls : Machine → Option Event
 polls m = polls_by (refusal m Sleep)
 
--- ---- a kernel worker
+-- ---- Kernel workers
 
--- what it does to a row
+-- The event that does `deed` to request r.
 abbrev pub event_on : Deed → ℕ → Event
 event_on Issuing r = Issue r
 event_on Finishing r = Finish r Full
@@ -48,7 +48,7 @@ event_on Expiring r = Expire r
 abbrev pub may_do : Machine → Deed → ℕ → Bool
 may_do m deed r = is_none (refusal m (event_on deed r))
 
--- the least row to which it may be done
+-- The first request to which the action may be applied.
 abbrev pub least_row : Machine → Deed → Option ℕ
 least_row m deed = least (may_do m deed) (length m.table)
 
@@ -56,11 +56,11 @@ abbrev pub on_row : Deed → Option ℕ → Option Event
 on_row deed None = None
 on_row deed (Some r) = Some (event_on deed r)
 
--- the least deadline of an issued row
+-- The least deadline of an issued request.
 abbrev pub least_deadline : Machine → Option ℕ
 least_deadline m = least_value (deadline_at m.table) (length m.table)
 
--- the clock goes on to a deadline that it can reach
+-- The tick that advances the clock to a deadline, if the deadline fits in 64 bits.
 abbrev pub ticks_to : ℕ → Option ℕ → Option Event
 ticks_to clock None = None
 ticks_to clock (Some d) = if nat_lt d (2 ^ 64) then Some (Tick (d - clock)) else None
@@ -68,29 +68,30 @@ ticks_to clock (Some d) = if nat_lt d (2 ^ 64) then Some (Tick (d - clock)) else
 abbrev pub ticks : Machine → Option Event
 ticks m = ticks_to m.clock (least_deadline m)
 
--- what it does of itself to the issued rows: it ends in full the least that it can end, expires the
--- least that is due, or lets the clock go on to the least deadline
+-- What a kernel worker does to issued requests: it finishes the first that may finish, or else
+-- expires the first that is due, or else advances the clock to the least deadline.
 abbrev pub ends : Machine → Option Event
 ends m =
     or_else (on_row Finishing (least_row m Finishing))
     (or_else (on_row Expiring (least_row m Expiring)) (ticks m))
 
--- the first that there is: it issues the least row that may be issued, or does that
+-- A kernel worker's next event: it issues the first request that may be issued, or else does what
+-- `ends` says.
 abbrev pub works : Machine → Option Event
 works m = or_else (on_row Issuing (least_row m Issuing)) (ends m)
 
--- ---- each of so many actors
+-- ---- All actors
 
 abbrev pub offer_of : Setup → Machine → ℕ → Option Event
 offer_of setup m actor =
     if is_submitter setup actor then submits m actor else if is_poller setup actor then polls m
     else works m
 
--- what an actor does next, if anything
+-- The next event of an actor, if it has one, out of `count` actors.
 abbrev pub offer : Setup → ℕ → Machine → ℕ → Option Event
 offer setup count m actor = if nat_lt actor count then offer_of setup m actor else None
 
--- whether an event is one of a kernel worker's
+-- Whether an event is one that kernel workers make.
 abbrev pub is_of_worker : Event → Bool
 is_of_worker (Issue r) = true
 is_of_worker (Finish r c) = true

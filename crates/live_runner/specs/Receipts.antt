@@ -1,9 +1,9 @@
--- What the actors of a closed run were told.
+-- The receipts of a closed run.
 use Rattle.std.specs.Prelude.{◌≡◌, ℕ, List, Some, Contains, slice_get}
 use Rattle.live_runner.specs.declared.receipt.Receipt.{Receipt}
 use Rattle.live_runner.specs.History.{Past}
 
--- It is one of an actor's receipts.
+-- r is one of actor a's receipts.
 pub record IsReceiptOf (c : Past) (a : ℕ) (r : Receipt) : Type 0 where
   pub receipts : List Receipt
   pub there : slice_get c.receipts a ≡ Some receipts

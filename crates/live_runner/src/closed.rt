@@ -1,4 +1,4 @@
-//! Runs that have ended.
+//! Closed runs: the trace, the final state, and the receipts of each actor.
 ghost use Rattle.std.specs.Prelude.{◌≡◌, ◌↔◌, ◌<◌, ◌≢◌, ℕ, Some, None, true, Contains, slice_get};
 ghost use Rattle.live_runner.specs.Told.{IsOf, told};
 
@@ -8,7 +8,7 @@ use places::Items;
 use scenario::{Event, Setup};
 use std::marker::Model;
 
-/// A run whose actors have ended, with what each says that it was told.
+/// A run whose actors have stopped, with the receipts that each of them presents.
 pub(crate) struct Ended {
     pub(crate) setup: Setup,
     pub(crate) actors: u32,
@@ -18,7 +18,7 @@ pub(crate) struct Ended {
     pub(crate) lists: Vec<Items<Receipt>>,
 }
 
-// By hand, so that letting a run go is one step of a proof.
+// Written by hand, so that dropping a run is one step in a proof.
 impl Drop for Ended {
     fn drop(self) {
         let Ended {
@@ -47,12 +47,12 @@ impl Model for Ended {
     } };
 }
 
-/// A run that has ended, with what each actor was told.
+/// A closed run: each actor's receipts were checked against the trace.
 pub struct Closed {
     pub(crate) ended: Ended,
 }
 
-// By hand, as that of what it holds.
+// Written by hand, like that of `Ended`.
 impl Drop for Closed {
     fn drop(self) {
         let Closed { ended: _ } = self;
@@ -72,21 +72,21 @@ impl Model for Closed {
 impl Closed {
     ghost use Rattle.live_runner.specs.History.{Whole};
 
-    /// What the run started from.
+    /// Returns the setup from which the run started.
     pub fn setup(&self) -> &Setup
         ensures { result.now ≡ self.now.setup }
     {
         &self.ended.setup
     }
 
-    /// How many actors there were.
+    /// Returns the number of actors.
     pub fn actors(&self) -> u32
         ensures { result ≡ self.now.actors }
     {
         self.ended.actors
     }
 
-    /// The events, in order.
+    /// Returns the events of the trace, in order.
     pub fn events(&self) -> &[Event]
         ensures events { result.now ≡ self.now.events }
         ensures whole { Whole self.now }
@@ -94,14 +94,14 @@ impl Closed {
         &self.ended.events
     }
 
-    /// The state at the end.
+    /// Returns the state after the last event.
     pub fn state(&self) -> &State
         ensures { result.now ≡ self.now.state }
     {
         &self.ended.state
     }
 
-    /// What an actor was told: its events, with their moments.
+    /// Returns an actor's receipts: one for each of its events, in order.
     pub fn receipts(&self, actor: u32) -> &[Receipt]
         requires { actor < self.now.actors }
         ensures list { slice_get self.now.receipts actor ≡ Some result.now }
@@ -110,7 +110,8 @@ impl Closed {
         self.ended.lists[actor as usize].as_slice()
     }
 
-    /// The event of a receipt, if the run has that event at its moment, and it is its actor's.
+    /// Returns the event of a receipt, if the trace has that event at the receipt's moment, made by
+    /// the receipt's actor.
     #[tactic(auto, using(crate::proofs::Telling::told_is_of))]
     pub fn redeem(&self, receipt: &Receipt) -> Option<Event>
         ensures some { (result ≡ Some receipt.now.event)
@@ -126,7 +127,7 @@ impl Closed {
         }
     }
 
-    // Whether the run has a receipt's event at its moment, and it is the receipt's actor's.
+    // Returns whether the trace has the receipt's event at its moment, made by its actor.
     fn has(&self, receipt: &Receipt) -> bool
         ensures { (result ≡ true) ↔ IsOf self.now.owners self.now.events receipt.now }
     {

@@ -1,4 +1,4 @@
-//! How a run is closed.
+//! Closing a run: merges the actors' shares and checks their receipts against the trace.
 ghost use Rattle.std.specs.Prelude.{◌≡◌, ◌↔◌, ◌+◌, ◌++◌, ◌∷◌, ◌^◌, ◌<◌, ◌≤◌, [], length, true, IfOk, IfErr, IfSome, IfNone, OnOk, vec_len, vec_capacity, slice_get, Some, option_map};
 ghost use Rattle.live_runner.specs.Told.{receipt, told, AllTold, LeastTorn};
 ghost use Rattle.live_runner.specs.History.{told_to, WorkInOrder, Whole, closed_of, receipt_count};
@@ -12,11 +12,11 @@ use places::Items;
 use scenario::Event;
 use std::sync::ledger::{Ledger, Share};
 
-/// The least actor whose receipts are not just its events, with their moments, in order.
+/// The lowest-numbered actor whose receipts differ from its events in the trace.
 #[derive(Clone, Copy)]
 pub struct Torn(pub u32);
 
-/// Closes a run whose actors have all ended. It takes no memory.
+/// Closes a run after all its actors have stopped. Allocates no memory.
 pub fn finish<'g, L: Ledger, G: Gate>(
     live: Live<L>,
     workers: Vec<Worker<'g, L, G>>,
@@ -36,7 +36,7 @@ pub fn finish<'g, L: Ledger, G: Gate>(
     }
 }
 
-// Ends a run whose actors have ended: all shares come back, with what each worker was told.
+// Takes the run apart after its actors have stopped, and collects all shares and receipts.
 fn end<'g, L: Ledger, G: Gate>(live: Live<L>, workers: Vec<Worker<'g, L, G>>) -> Ended
     requires { length workers.items ≡ live.actors }
     ensures count { receipt_count workers.entry.items ≡ length live.events }
@@ -72,7 +72,7 @@ fn end<'g, L: Ledger, G: Gate>(live: Live<L>, workers: Vec<Worker<'g, L, G>>) ->
     }
 }
 
-// Takes all shares, and what each worker was told, in their order.
+// Collects the shares and receipts of all workers, in the workers' order.
 fn give_all_back<'g, L: Ledger, G: Gate>(
     workers: Vec<Worker<'g, L, G>>,
     share: &mut Share<L>,
@@ -89,7 +89,7 @@ fn give_all_back<'g, L: Ledger, G: Gate>(
     }
 }
 
-// Takes a worker's share, and what it was told.
+// Merges a worker's share, and appends its receipts to the lists.
 fn give_back<'g, L: Ledger, G: Gate>(
     worker: Worker<'g, L, G>,
     share: &mut Share<L>,
@@ -110,7 +110,7 @@ fn give_back<'g, L: Ledger, G: Gate>(
     lists.push_reserved(Items::of(receipts));
 }
 
-// The least actor whose receipts are not just its events.
+// Returns the lowest-numbered actor whose receipts differ from its events.
 fn first_torn(owners: &[u32], events: &[Event], lists: &[Items<Receipt>]) -> Option<u32>
     requires few { length lists.now < 2 ^ 32 }
     requires pairs { length owners.now ≡ length events.now }
@@ -126,7 +126,7 @@ fn first_torn(owners: &[u32], events: &[Event], lists: &[Items<Receipt>]) -> Opt
     None
 }
 
-// Whether receipts are just an actor's events, with their moments, in order.
+// Returns whether the receipts are exactly an actor's events with their moments, in order.
 fn is_told(actor: u32, owners: &[u32], events: &[Event], receipts: &[Receipt]) -> bool
     requires pairs { length owners.now ≡ length events.now }
     requires most { length events.now ≤ 1048576 }
@@ -144,7 +144,7 @@ fn is_told(actor: u32, owners: &[u32], events: &[Event], receipts: &[Receipt]) -
     next == receipts.len()
 }
 
-// Whether the receipt of an event of a trace stands at a place.
+// Returns whether the receipt at an index is that of the event at a moment.
 fn is_told_at(
     receipts: &[Receipt],
     place: usize,
@@ -166,7 +166,7 @@ fn is_told_at(
     is_at(receipts, place, wanted)
 }
 
-// Whether a receipt stands at a place.
+// Returns whether a receipt is at an index.
 fn is_at(receipts: &[Receipt], place: usize, wanted: Receipt) -> bool
     ensures { (result ≡ true) ↔ (slice_get receipts.now place ≡ Some wanted) }
 {

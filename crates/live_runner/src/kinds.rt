@@ -1,11 +1,11 @@
-//! Actors, and which events are whose.
+//! The kinds of actors, and which events each kind may make.
 ghost use Rattle.std.specs.Prelude.{◌≡◌, ◌≤◌};
 ghost use Rattle.live_runner.specs.Actors.{actors, pollers, is_own, is_submitter, is_poller, is_worker};
 
 use scenario::{Event, Setup};
 
-/// How many actors there are: a submitter for each thread, then the poller, and then the kernel
-/// workers.
+/// Returns the number of actors: one submitter per thread, the poller if there is one, and `kernel`
+/// kernel workers. They are numbered in this order.
 pub fn actors(setup: &Setup, kernel: u32) -> u32
     requires { kernel ≤ 8 }
     ensures value { result ≡ actors setup.now kernel }
@@ -21,7 +21,7 @@ fn pollers(setup: &Setup) -> u32
     if setup.sqpoll { 1 } else { 0 }
 }
 
-/// Whether an event is one of an actor's, of so many actors.
+/// Returns whether an actor may make an event, out of `count` actors.
 pub(crate) fn is_own(setup: &Setup, count: u32, actor: u32, event: Event) -> bool
     ensures { result ≡ is_own setup.now count actor event }
 {
@@ -34,21 +34,21 @@ pub(crate) fn is_own(setup: &Setup, count: u32, actor: u32, event: Event) -> boo
     }
 }
 
-/// Whether an actor is the submitter of a thread.
+/// Returns whether an actor is the submitter of a thread.
 pub(crate) fn is_submitter(setup: &Setup, actor: u32) -> bool
     ensures { result ≡ is_submitter setup.now actor }
 {
     (actor as usize) < setup.threads.len()
 }
 
-/// Whether an actor is the poller.
+/// Returns whether an actor is the submission queue poller (IORING_SETUP_SQPOLL).
 pub(crate) fn is_poller(setup: &Setup, actor: u32) -> bool
     ensures { result ≡ is_poller setup.now actor }
 {
     setup.sqpoll && actor as usize == setup.threads.len()
 }
 
-// Whether an actor comes behind the submitters and the poller.
+// Returns whether an actor's number is after those of the submitters and the poller.
 fn is_worker(setup: &Setup, actor: u32) -> bool
     ensures { result ≡ is_worker setup.now actor }
 {

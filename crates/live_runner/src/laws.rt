@@ -1,4 +1,4 @@
-//! Laws of the definitions.
+//! Proved facts about receipts and offers.
 ghost use Rattle.std.specs.Prelude.{◌≡◌, ◌<◌, ℕ, true, false, not, ◌&&◌, Some, None, List, map, slice_get};
 ghost use Rattle.std.specs.List.Sorted.{IsStrictlyIncreasing};
 ghost use Rattle.std.specs.Option.{option_map_or};
@@ -22,44 +22,44 @@ ghost use Rattle.live_runner.specs.declared.offering.Deed.{Deed};
 ghost use Rattle.live_runner.specs.declared.offering.Deed.TheVariants.{Issuing, Finishing, Expiring};
 ghost use Rattle.live_runner.specs.declared.receipt.Receipt.{Receipt};
 
-/// In a closed run the moments of an actor's receipts rise.
+/// In a closed run, the moments of an actor's receipts increase strictly.
 pub fn moments_rise()
     ensures { (c : Past) (a : ℕ) (receipts : List Receipt) → Whole c
         → slice_get c.receipts a ≡ Some receipts
         → IsStrictlyIncreasing (map (λ (r : Receipt). r.moment) receipts) }
 {}
 
-/// No two receipts of a closed run share a moment, whoever was told them.
+/// In a closed run, no two receipts have the same moment, even if different actors hold them.
 pub fn moments_differ()
     ensures { (c : Past) (a b : ℕ) (r s : Receipt) → Whole c → IsReceiptOf c a r → IsReceiptOf c b s
         → r.moment ≡ s.moment → (a ≡ b) × (r ≡ s) }
 {}
 
-/// Each receipt of a closed run is of its own event.
+/// In a closed run, each receipt names an event of the trace, its moment and its actor.
 pub fn receipts_redeem()
     ensures { (c : Past) (a : ℕ) (r : Receipt) → Whole c → IsReceiptOf c a r
         → IsOf c.owners c.events r }
 {}
 
-/// A row is offered to which it may be done, and to none before it.
+/// The offered request is the first to which the action may be applied.
 pub fn least_rows_offered()
     ensures { (m : Machine) (deed : Deed) (r : ℕ) → least_row m deed ≡ Some r
         → (may_do m deed r ≡ true) × ((k : ℕ) → k < r → may_do m deed k ≡ false) }
 {}
 
-/// Those that may be issued are the eligible ones.
+/// The requests that may be issued are the eligible ones.
 pub fn eligible_rows_issued()
     ensures { (m : Machine) (r : ℕ) → may_do m Issuing r ≡ is_eligible m.table r }
 {}
 
-/// Those that are finished are issued, and neither a TIMEOUT nor a LINK_TIMEOUT.
+/// A request that may be finished is issued, and is neither a TIMEOUT nor a LINK_TIMEOUT.
 pub fn issued_rows_finished()
     ensures { (m : Machine) (r : ℕ) → may_do m Finishing r ≡ true
         → option_map_or (λ (row : Row). is_issued row.phase && not (is_timer row.entry.opcode))
         (slice_get m.table r) false ≡ true }
 {}
 
-/// Those that expire are the issued TIMEOUTs and LINK_TIMEOUTs that are due.
+/// The requests that may expire are the issued TIMEOUTs and LINK_TIMEOUTs that are due.
 pub fn due_rows_expired()
     ensures { (m : Machine) (r : ℕ)
         → may_do m Expiring r
@@ -68,18 +68,19 @@ pub fn due_rows_expired()
         (slice_get m.table r) false }
 {}
 
-/// The clock goes on to the least deadline of all.
+/// The least deadline is that of a request, and no request has an earlier one.
 pub fn least_deadline_told()
     ensures { (m : Machine) (d : ℕ) → least_deadline m ≡ Some d → IsLeastDeadline m.table d }
 {}
 
-/// What a kernel worker is offered is refused for want of memory alone.
+/// The rules accept every event that a kernel worker is offered, so only an allocation failure
+/// refuses it.
 pub fn offers_accepted()
     ensures { (setup : Setup) (count : ℕ) (m : Machine) (actor : ℕ) (e : Event) → WellFormed m
         → offer setup count m actor ≡ Some e → is_of_worker e ≡ true → refusal m e ≡ None }
 {}
 
-/// An actor is offered its own events alone.
+/// An actor is offered only events that it may make.
 pub fn offers_own()
     ensures { (setup : Setup) (count : ℕ) (m : Machine) (actor : ℕ) (e : Event)
         → offer setup count m actor ≡ Some e → is_own setup count actor e ≡ true }

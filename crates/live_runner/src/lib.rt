@@ -1,4 +1,4 @@
-//! A run that threads make together, each event of it under one lock.
+//! Live runs: several threads execute one program together, and a lock protects each event.
 #![tactic(auto)]
 
 mod closed;

@@ -1,4 +1,4 @@
-//! The value of the lock.
+//! A live run, as the lock protects it.
 ghost use Rattle.std.specs.Prelude.{◌≡◌, ◌↔◌, [], ◌⊎◌, length, true, Some, None, IfOk, IfErr, OnOk, OnErr, ◌<◌, ◌≤◌, vec_len, vec_capacity, All};
 ghost use Rattle.scenario.specs.Setups.{setup_refusal};
 ghost use Rattle.scenario.specs.declared.event.Event.{Event};
@@ -23,26 +23,26 @@ use std::alloc::{AllocError, Global};
 use std::marker::Model;
 use std::sync::ledger::{Blank, Book, Ledger, Share};
 
-/// The greatest number of events that a trace has.
+/// The maximum number of events in a trace.
 pub const TRACE_LIMIT: usize = 1048576;
 
-/// A run from its start that actors make together, and the book of its ledger.
+/// A run that several actors make together from its start, with the book of its ledger.
 #[derive(Drop)]
 pub struct Live<L: Ledger> {
     pub(crate) alloc: Global,
     pub(crate) setup: Setup,
     pub(crate) actors: u32,
     pub(crate) events: Vec<Event>,
-    /// Whose the events are.
+    /// The actor that made each event.
     pub(crate) owners: Vec<u32>,
     pub(crate) records: Vec<Record>,
     pub(crate) state: State,
-    /// Each row before this one has ended.
+    /// Every request before this index has completed.
     pub(crate) first: u32,
     pub(crate) book: Book<L>,
-    /// No part of the ledger. The shares come together in it.
+    /// A share without parts, into which the actors' shares are merged at the end.
     pub(crate) rest: Share<L>,
-    /// Room for what each actor was told.
+    /// Preallocated room for one list of receipts per actor, so that closing needs no memory.
     pub(crate) room: Vec<Items<Receipt>>,
 }
 
@@ -77,12 +77,12 @@ impl<L: Ledger> Model for Live<L> {
         × EndedBelow l.state.table l.first };
 }
 
-/// Why an actor's event was not done.
+/// Why an actor's event was refused.
 #[derive(Clone, Copy)]
 pub enum LiveRefusal {
-    /// The event is not one of the actor's.
+    /// The event is not one that the actor may make.
     NotYours,
-    /// The trace has as many events as it can have.
+    /// The trace has `TRACE_LIMIT` events.
     TraceFull,
     Step(Refusal),
 }
@@ -90,7 +90,7 @@ pub enum LiveRefusal {
 impl LiveRefusal {
     ghost use Rattle.live_runner.specs.Numbers.{refusal_number};
 
-    /// Its number, 1 to 3.
+    /// Returns the refusal's number, from 1 to 3.
     pub fn number(&self) -> u32
         ensures { result ≡ refusal_number self.now }
     {
@@ -103,7 +103,8 @@ impl LiveRefusal {
 }
 
 impl<L: Ledger> Live<L> {
-    /// A run without events, and a seat for each actor, in order. A refusal gives up the blank.
+    /// Opens a run without events, and returns it with one seat per actor, in order. If it fails,
+    /// the blank is dropped.
     pub fn open(
         alloc: Global,
         blank: Blank,
@@ -131,7 +132,7 @@ impl<L: Ledger> Live<L> {
         }
     }
 
-    /// What the run started from.
+    /// Returns the setup from which the run started.
     pub fn setup(&self) -> &Setup
         ensures value { result.now ≡ self.now.setup }
         ensures starts { setup_refusal self.now.setup ≡ None }
@@ -139,14 +140,14 @@ impl<L: Ledger> Live<L> {
         &self.setup
     }
 
-    /// How many actors there are.
+    /// Returns the number of actors.
     pub fn actors(&self) -> u32
         ensures { result ≡ self.now.actors }
     {
         self.actors
     }
 
-    /// What the run started from, and how many actors it has. The rest of it is dropped.
+    /// Returns the setup and the number of actors, and drops the rest.
     pub(crate) fn into_setup(self) -> (Setup, u32)
         ensures setup { result.0 ≡ self.setup }
         ensures actors { result.1 ≡ self.actors }
@@ -167,14 +168,14 @@ impl<L: Ledger> Live<L> {
         (setup, actors)
     }
 
-    /// The state that the events led to.
+    /// Returns the state after the last event.
     pub fn state(&self) -> &State
         ensures { result.now ≡ self.now.state }
     {
         &self.state
     }
 
-    /// The trace's events so far.
+    /// Returns a copy of the events so far.
     pub fn events(&self) -> Result<Vec<Event>, AllocError>
         ensures events { IfOk result (λ es. es.items ≡ self.now.events) }
         ensures most { length self.now.events ≤ 1048576 }
@@ -184,7 +185,8 @@ impl<L: Ledger> Live<L> {
         Ok(events)
     }
 
-    /// One event of a seat's actor at the end of the run.
+    /// Makes one event of the seat's actor at the end of the run, and adds its receipt to the seat.
+    /// A refusal changes nothing.
     pub fn attempt(&mut self, seat: &mut Seat<L>, event: Event) -> Result<Receipt, LiveRefusal>
         ensures attempted { Attempted self.old seat.old event result self.new seat.new }
         ensures kept { (self.new.setup ≡ self.old.setup) × (self.new.actors ≡ self.old.actors)
@@ -203,7 +205,7 @@ impl<L: Ledger> Live<L> {
         }
     }
 
-    // Does an event of a seat's actor at the end of the run.
+    // Makes an event that the seat's actor may make, once the trace is known to have room.
     fn go_on(&mut self, seat: &mut Seat<L>, event: Event, moment: u32) -> Result<Receipt, Refusal>
         requires own { is_own self.old.setup self.old.actors seat.old.actor event ≡ true }
         requires moment { moment ≡ length self.old.events }
@@ -243,8 +245,8 @@ impl<L: Ledger> Live<L> {
         Ok(receipt)
     }
 
-    /// What an actor does next, if anything. It takes no memory. It looks at each queued and each
-    /// issued row once at most, and at none that ended; those that ended before all others cost it
+    /// Returns the actor's next event, if it has one. Allocates no memory. Examines each queued and
+    /// each issued request at most once; completed requests before the first unfinished one cost
     /// nothing.
     pub fn offer(&self, actor: u32) -> Option<Event>
         ensures { result ≡ offer self.now.setup self.now.actors self.now.state actor }
@@ -252,7 +254,7 @@ impl<L: Ledger> Live<L> {
         offer(&self.setup, self.actors, &self.state, self.first, actor)
     }
 
-    /// Attempts what the seat's actor does next, if anything.
+    /// Attempts the next event of the seat's actor, if it has one.
     pub fn take_offer(&mut self, seat: &mut Seat<L>) -> Option<Result<Receipt, LiveRefusal>>
         ensures none { (result ≡ None)
             ↔ (offer self.old.setup self.old.actors self.old.state seat.old.actor ≡ None) }
@@ -272,7 +274,7 @@ impl<L: Ledger> Live<L> {
     }
 }
 
-// Makes room for one event more.
+// Reserves room for one more event.
 fn make_room(
     events: &mut Vec<Event>,
     owners: &mut Vec<u32>,
@@ -294,7 +296,7 @@ fn make_room(
     receipts.reserve(1)
 }
 
-// A run without events, and its seats.
+// Opens a run without events, for a setup that is known to be valid.
 fn open_for<L: Ledger>(
     alloc: Global,
     blank: Blank,
@@ -333,7 +335,7 @@ fn open_for<L: Ledger>(
     Ok((live, seats))
 }
 
-// A seat for each part.
+// Creates a seat for each actor, each with one part of the ledger.
 fn seats_of<L: Ledger>(
     alloc: Global,
     rest: &mut Share<L>,
@@ -354,7 +356,7 @@ fn seats_of<L: Ledger>(
     Ok(seats)
 }
 
-// A seat that was told nothing.
+// Creates a seat without receipts.
 fn seat_of<L: Ledger>(alloc: Global, actor: u32, share: Share<L>) -> Seat<L>
     requires parts { share.parts ≡ 1 }
     requires amount { share.amount ≡ 0 }

@@ -1,4 +1,4 @@
-//! What actors do next.
+//! The next event that each actor makes.
 ghost use Rattle.std.specs.Prelude.{◌≡◌, Some, None, if◌then◌else◌};
 ghost use Rattle.machine.specs.Deadlines.{deadline_at};
 ghost use Rattle.machine.specs.Whole.{WellFormed};
@@ -12,7 +12,7 @@ use machine::State;
 use opcodes::Choice;
 use scenario::{Event, Refusal, Setup};
 
-/// What a kernel worker does to a row.
+/// What a kernel worker does to a request.
 #[derive(Clone, Copy)]
 pub enum Deed {
     Issuing,
@@ -20,8 +20,8 @@ pub enum Deed {
     Expiring,
 }
 
-/// What an actor of so many does next, if anything, where each row before the first has ended. It
-/// takes no memory.
+/// Returns an actor's next event, if it has one, out of `count` actors. Every request before
+/// `first` must have completed. Allocates no memory.
 pub(crate) fn offer(
     setup: &Setup,
     count: u32,
@@ -44,7 +44,7 @@ pub(crate) fn offer(
     }
 }
 
-/// The least row from one on that hasn't ended, where all before have; where all have, that one.
+/// Returns the first request from `from` on that is queued or issued, or `from` if there is none.
 pub(crate) fn first_open(state: &State, from: u32) -> u32
     requires { EndedBelow state.now.table from }
     ensures { EndedBelow state.now.table result }
@@ -96,7 +96,7 @@ fn event_on(deed: Deed, r: u32) -> Event
     }
 }
 
-// The least row that may be issued.
+// Returns the first request that may be issued.
 fn least_to_issue(state: &State, first: u32) -> Option<u32>
     requires ended { EndedBelow state.now.table first }
     ensures { result ≡ least_row state.now Issuing }
@@ -117,7 +117,7 @@ fn may_do(state: &State, deed: Deed, r: u32) -> bool
     state.refuses(event_on(deed, r)).is_none()
 }
 
-// What there is to do where no row may be issued. It looks at each issued row once.
+// Returns the event to make when no request may be issued. Examines each issued request once.
 fn ends(state: &State, first: u32) -> Option<Event>
     requires ended { EndedBelow state.now.table first }
     ensures { result ≡ ends state.now }
@@ -138,8 +138,8 @@ fn ends(state: &State, first: u32) -> Option<Event>
     expires_or_ticks(clock, due, least)
 }
 
-// Whether a row may end in full. One that has a deadline is a TIMEOUT or a LINK_TIMEOUT, which may
-// not.
+// Returns whether a request may finish with `Choice::Full`. One that has a deadline is a TIMEOUT or
+// a LINK_TIMEOUT, which may not.
 fn may_finish(state: &State, r: u32, deadline: Option<u128>) -> bool
     requires formed { WellFormed state.now }
     requires deadline { deadline ≡ deadline_at state.now.table r }
@@ -151,7 +151,7 @@ fn may_finish(state: &State, r: u32, deadline: Option<u128>) -> bool
     }
 }
 
-// The row that is due so far, or the next one if it is.
+// Returns the due request found so far, or else `r` if its deadline has passed.
 fn first_due(clock: u64, due: Option<u32>, r: u32, deadline: Option<u128>) -> Option<u32>
     ensures { result ≡ or_else due (if has_come clock deadline then Some r else None) }
 {
@@ -179,7 +179,7 @@ fn expires_or_ticks(clock: u64, due: Option<u32>, least: Option<u128>) -> Option
     }
 }
 
-// The clock goes on to the least deadline.
+// Advances the clock to the least deadline, if that is at most 2^64 - 1.
 fn ticks_to(clock: u64, least: Option<u128>) -> Option<Event>
     ensures { result ≡ ticks_to clock least }
 {

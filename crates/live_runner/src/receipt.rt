@@ -1,8 +1,8 @@
-//! What a run tells of its events.
+//! Receipts, which actors receive for their events.
 
 use scenario::Event;
 
-/// What an actor is told of an event of its own: its moment is how many events lie before it.
+/// The receipt of an event: who made it, and its moment, the number of events before it.
 #[derive(Clone, Copy, PartialEq, Eq)]
 pub struct Receipt {
     pub actor: u32,

@@ -1,4 +1,4 @@
-//! Runs in threads.
+//! Live runs with one thread per actor.
 ghost use Rattle.std.specs.Prelude.{◌≡◌, ◌≢◌, ◌≤◌, ℕ, false, Some, None, length, All, IfOk, IfSome, vec_len, vec_capacity};
 ghost use Rattle.scenario.specs.Setups.{setup_refusal};
 ghost use Rattle.scenario.specs.declared.setup.Setup.{Setup};
@@ -27,18 +27,19 @@ use std::time::Clock;
 /// Why a live run was not closed.
 #[derive(Drop)]
 pub enum LiveFault {
-    /// There is no start, or no memory, or no thread.
+    /// The setup is refused. An allocation failure, or a thread that can't be started, is reported
+    /// as `SetupRefusal::Memory`.
     Setup(SetupRefusal),
-    /// What an actor was told isn't what the trace has of it.
+    /// This actor's receipts differ from its events in the trace.
     Torn(u32),
-    /// The lock gave back the run of another setup, or of so many actors.
+    /// The lock returned a run of another setup or number of actors: this one.
     Strange(Setup, u32),
 }
 
 impl LiveFault {
     ghost use Rattle.live_runner.specs.Numbers.{fault_number};
 
-    /// Its number, 1 to 3.
+    /// Returns the fault's number, from 1 to 3.
     pub fn number(&self) -> u32
         ensures { result ≡ fault_number self.now }
     {
@@ -50,7 +51,8 @@ impl LiveFault {
     }
 }
 
-/// A run in a thread for each actor, each of which makes so many turns.
+/// Runs a program with one thread per actor, each of which takes `turns` turns, and closes the run.
+/// `kernel` is the number of kernel workers.
 pub fn run_live<G: Gate, R: Threads + Wait + Clock + Sync>(
     rt: &R,
     alloc: Global,
@@ -73,7 +75,7 @@ pub fn run_live<G: Gate, R: Threads + Wait + Clock + Sync>(
     run_over::<Brand, G, R>(rt, alloc, blank, setup, kernel, turns, gate)
 }
 
-// The same, over the blank of a ledger.
+// Does the work of `run_live` with the blank of a ledger.
 fn run_over<L: Ledger + Send + Sync, G: Gate, R: Threads + Wait + Clock + Sync>(
     rt: &R,
     alloc: Global,
@@ -107,7 +109,7 @@ fn run_over<L: Ledger + Send + Sync, G: Gate, R: Threads + Wait + Clock + Sync>(
     }
 }
 
-/// Closes what the lock gave back, if it is the run of this setup and so many actors.
+/// Closes the run that the lock returned, if it has this setup and this number of actors.
 pub fn close<'g, L: Ledger, G: Gate>(
     live: Live<L>,
     setup: &Setup,
@@ -136,7 +138,7 @@ pub fn close<'g, L: Ledger, G: Gate>(
     }
 }
 
-/// Whose worker a thread gives back, and how many turns it was to make.
+/// The promise of a thread: the actor whose worker it returns, and the number of turns.
 #[derive(Drop)]
 pub struct ForActor {
     actor: u32,
@@ -147,10 +149,10 @@ impl<L: Ledger> Promise<Rested<L>> for ForActor {
     ghost kept_by = { λ p w. (w.seat.actor ≡ p.actor) × (w.is_stuck ≡ false → w.turns ≡ p.turns) };
 }
 
-/// A thread that gives its worker back.
+/// A running thread, which returns its worker when it is joined.
 pub type Running<L> = PromisedHandle<Rested<L>, ForActor>;
 
-// Turns of a worker, each with its own hold of the lock.
+// Takes the turns of a worker, each with its own hold of the lock.
 fn work<L: Ledger, G: Gate, R: Wait + Clock>(
     rt: &R,
     lock: &Mutex<Live<L>>,
@@ -168,7 +170,8 @@ fn work<L: Ledger, G: Gate, R: Wait + Clock>(
     worker.leave()
 }
 
-/// Starts a thread for each seat, which makes so many turns, up to one that can't be started.
+/// Starts one thread per seat, in order, each of which takes `turns` turns. Stops at the first
+/// thread that can't be started.
 pub fn start_all<'s, E, L: Ledger + Send + Sync + 's, G: Gate + 's, R: Wait + Clock + Sync + 's>(
     scope: &Scope<'s, E>,
     rt: &'s R,
@@ -197,8 +200,8 @@ pub fn start_all<'s, E, L: Ledger + Send + Sync + 's, G: Gate + 's, R: Wait + Cl
     handles
 }
 
-/// Joins threads, in order, and puts the worker of each one at a gate, in room that there is for so
-/// many. None where there are fewer.
+/// Joins the threads in order, and gives each returned worker a gate. Uses the capacity of
+/// `workers`. Returns `None` if there are fewer than `count` threads.
 pub fn join_all<'g, L: Ledger, G: Gate, R: Threads>(
     rt: &R,
     handles: Vec<Running<L>>,
@@ -225,8 +228,8 @@ pub fn join_all<'g, L: Ledger, G: Gate, R: Threads>(
     }
 }
 
-// Runs a thread for each seat, and joins them all. None where one couldn't be started, or there is
-// no memory.
+// Runs one thread per seat, and joins them all. Returns `None` if an allocation fails or a thread
+// can't be started.
 fn take_turns<'g, L: Ledger + Send + Sync, G: Gate, R: Threads + Wait + Clock + Sync>(
     rt: &R,
     alloc: Global,

@@ -1,4 +1,4 @@
-//! Places at the lock.
+//! Seats, with which actors make events under the lock.
 ghost use Rattle.std.specs.Prelude.{◌≡◌, ◌<◌, length};
 ghost use Rattle.live_runner.specs.History.{altered};
 
@@ -7,7 +7,7 @@ use scenario::Event;
 use std::marker::Model;
 use std::sync::ledger::{Ledger, Share};
 
-/// A place at the lock: whose it is, what it was told, and its share of the ledger.
+/// An actor's access to the run: its number, its receipts, and its share of the ledger.
 #[derive(Drop)]
 pub struct Seat<L: Ledger> {
     pub(crate) actor: u32,
@@ -39,21 +39,21 @@ impl<L: Ledger> Model for Seat<L> {
 }
 
 impl<L: Ledger> Seat<L> {
-    /// Whose it is.
+    /// Returns the actor's number.
     pub fn actor(&self) -> u32
         ensures { result ≡ self.now.actor }
     {
         self.actor
     }
 
-    /// What it was told, in order.
+    /// Returns the receipts that the actor received, in order.
     pub fn receipts(&self) -> &[Receipt]
         ensures { result.now ≡ self.now.receipts }
     {
         &self.receipts
     }
 
-    /// Has its actor say another event of a receipt: `finish` finds it out.
+    /// Replaces the event of a receipt. For tests: `finish` then reports the actor as torn.
     pub fn alter(&mut self, place: usize, event: Event)
         requires { place < length self.old.receipts }
         ensures { self.new ≡ altered self.old place event }

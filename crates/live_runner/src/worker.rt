@@ -11,21 +11,21 @@ use std::sync::ledger::Ledger;
 use std::sync::{Mutex, Wait};
 use std::time::Clock;
 
-/// Where a worker arrives before each turn.
+/// A gate, at which a worker arrives before each turn. It can delay the turn or stop the worker.
 pub trait Gate: Sync {
-    /// What is known of an actor's turn for which it opens.
+    /// What holds of a turn of an actor for which the gate opens.
     ghost opens: { Self → ℕ → ℕ → Type 0 };
 
-    /// What is known of an actor's turn for which it stays shut.
+    /// What holds of a turn of an actor for which the gate stays shut.
     ghost shuts: { Self → ℕ → ℕ → Type 0 };
 
-    /// Whether the worker goes on. Turns are numbered from 1.
+    /// Returns whether the worker continues. Turns are numbered from 1.
     fn arrive<R: Wait + Clock>(&self, rt: &R, actor: u32, turn: u32) -> bool
         ensures opens { result ≡ true → opens self.now actor turn }
         ensures shuts { result ≡ false → shuts self.now actor turn };
 }
 
-/// A gate at which nobody waits.
+/// A gate that lets every worker continue at once.
 #[derive(Clone, Copy)]
 pub struct AlwaysOpen;
 
@@ -39,18 +39,18 @@ impl Gate for AlwaysOpen {
     }
 }
 
-/// What a turn came to.
+/// The outcome of a turn.
 #[derive(Clone, Copy)]
 pub enum Turn {
     Did(Receipt),
     /// The actor had nothing to do.
     Idle,
     Refused(LiveRefusal),
-    /// The gate told it not to go on, or there are no more turns.
+    /// The gate stopped the worker, or it has taken 2^32 - 1 turns.
     Stuck,
 }
 
-/// An actor at its gate.
+/// An actor's seat, and the gate at which it arrives before each turn.
 #[derive(Drop)]
 pub struct Worker<'g, L: Ledger, G: Gate> {
     pub(crate) seat: Seat<L>,
@@ -74,7 +74,7 @@ impl<'g, L: Ledger, G: Gate> Model for Worker<'g, L, G> {
 }
 
 impl<'g, L: Ledger, G: Gate> Worker<'g, L, G> {
-    /// A worker that has made no turn. It takes no memory.
+    /// Creates a worker that has taken no turn. Allocates no memory.
     pub fn new(seat: Seat<L>, gate: &'g G) -> Worker<'g, L, G>
         ensures { result ≡ fresh gate.now seat }
     {
@@ -86,7 +86,8 @@ impl<'g, L: Ledger, G: Gate> Worker<'g, L, G> {
         }
     }
 
-    /// The gate, and then one hold of the lock. A worker that is stuck asks its gate no more.
+    /// Arrives at the gate, and then makes at most one event under the lock. A stuck worker no
+    /// longer arrives at its gate.
     pub fn turn<R: Wait + Clock>(&mut self, rt: &R, live: &Mutex<Live<L>>) -> Turn
         ensures seat { self.new.seat ≡ seat_after self.old.seat result }
         ensures gate { self.new.gate ≡ self.old.gate }
@@ -114,7 +115,7 @@ impl<'g, L: Ledger, G: Gate> Worker<'g, L, G> {
         hold(rt, live, &mut self.seat)
     }
 
-    /// The worker's seat.
+    /// Returns the worker's seat.
     pub fn into_seat(self) -> Seat<L>
         ensures { result ≡ self.entry.seat }
     {
@@ -127,7 +128,7 @@ impl<'g, L: Ledger, G: Gate> Worker<'g, L, G> {
         seat
     }
 
-    // The worker without its gate.
+    // Detaches the worker from its gate.
     pub(crate) fn leave(self) -> Rested<L>
         ensures seat { result.seat ≡ self.entry.seat }
         ensures turns { result.turns ≡ self.entry.turns }
@@ -147,7 +148,7 @@ impl<'g, L: Ledger, G: Gate> Worker<'g, L, G> {
     }
 }
 
-/// A worker without its gate.
+/// A worker without a gate, as its thread returns it.
 #[derive(Drop)]
 pub struct Rested<L: Ledger> {
     seat: Seat<L>,
@@ -156,7 +157,7 @@ pub struct Rested<L: Ledger> {
 }
 
 impl<L: Ledger> Rested<L> {
-    // The worker at a gate.
+    // Gives the worker a gate.
     pub(crate) fn back<'g, G: Gate>(self, gate: &'g G) -> Worker<'g, L, G>
         ensures seat { result.seat ≡ self.seat }
         ensures gate { result.gate ≡ gate.now }
@@ -177,7 +178,7 @@ impl<L: Ledger> Rested<L> {
     }
 }
 
-/// A worker for each seat, in room that there is for so many. It takes no memory.
+/// Creates one worker per seat. Uses the capacity of `workers`, and allocates no memory.
 pub fn workers_of<'g, L: Ledger, G: Gate>(
     seats: Vec<Seat<L>>,
     gate: &'g G,
@@ -196,7 +197,7 @@ pub fn workers_of<'g, L: Ledger, G: Gate>(
     workers
 }
 
-// One hold of the lock.
+// Makes at most one event, under one hold of the lock.
 fn hold<L: Ledger, R: Wait>(rt: &R, live: &Mutex<Live<L>>, seat: &mut Seat<L>) -> Turn
     ensures seat { seat.new ≡ seat_after seat.old result }
     ensures moves { result ≢ Turn.Stuck }
