@@ -3,6 +3,7 @@
 mod by_hand;
 mod devices;
 mod failures;
+mod gates;
 mod jumps;
 mod keeping;
 mod loopback;

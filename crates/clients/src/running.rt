@@ -1,8 +1,9 @@
 //! A run that threads make, and clients who look at it meanwhile.
-ghost use Rattle.std.specs.Prelude.{◌≡◌, ◌≤◌, ◌∷◌, [], length, IfOk, IfErr, vec_len, vec_capacity};
+ghost use Rattle.std.specs.Prelude.{◌≡◌, ◌≤◌, ◌∷◌, [], length, All, IfOk, IfErr, vec_len, vec_capacity};
 ghost use Rattle.live_runner.specs.Actors.{actors};
 ghost use Rattle.live_runner.specs.History.{InOrder, WorkInOrder, Whole};
-ghost use Rattle.live_runner.specs.Running.{HandlesInOrder};
+ghost use Rattle.live_runner.specs.Running.{HandlesInOrder, AllOfTurns};
+ghost use Rattle.live_runner.specs.Turns.{HasWorked};
 ghost use Rattle.debug_server.specs.Kinds.{IsOf, OfMemory, OfListening};
 ghost use Rattle.clients.specs.Serving.{IsOfServing};
 
@@ -39,7 +40,8 @@ pub fn serve_live<R: Threads + Wait + Clock + Sync>(
     ensures whole { IfOk result Whole }
     ensures same { IfOk result (λ c. (c.setup ≡ script.now.setup)
         × (c.actors ≡ actors script.now.setup kernel)) }
-    ensures other { IfErr result IsOfServing }
+    ensures other { IfErr result
+        (IsOfServing script.now.setup (actors script.now.setup kernel)) }
 {
     let setup = script.setup();
     let blank = Blank::new(actors(setup, kernel) as u64);
@@ -66,7 +68,7 @@ fn serve_over<L: Ledger + Send + Sync, R: Threads + Wait + Clock + Sync>(
     requires all { blank.parts ≡ actors setup.now kernel }
     ensures whole { IfOk result Whole }
     ensures same { IfOk result (λ c. (c.setup ≡ setup.now) × (c.actors ≡ actors setup.now kernel)) }
-    ensures other { IfErr result IsOfServing }
+    ensures other { IfErr result (IsOfServing setup.now (actors setup.now kernel)) }
 {
     let Ok((live, seats)) = Live::<L>::open(alloc, blank, setup, kernel) else {
         return Err(Fault::Run(RunFault::Memory));
@@ -85,12 +87,11 @@ fn close_run<'g, L: Ledger>(
     count: u32,
     workers: Vec<Worker<'g, L, AlwaysOpen>>,
 ) -> Result<Closed, Fault>
-    requires all { length workers.items ≡ L.parts }
     requires actors { length workers.items ≡ count }
     requires order { WorkInOrder workers.items }
     ensures whole { IfOk result Whole }
     ensures same { IfOk result (λ c. (c.setup ≡ setup.now) × (c.actors ≡ count)) }
-    ensures other { IfErr result IsOfServing }
+    ensures other { IfErr result (IsOfServing setup.now count) }
 {
     match close(live, setup, count, workers) {
         Ok(closed) => Ok(closed),
@@ -112,6 +113,7 @@ fn run_beside<L: Ledger + Send + Sync, R: Threads + Wait + Clock + Sync>(
     requires { InOrder seats.items }
     ensures count { IfOk result (λ workers. length workers.items ≡ length seats.items) }
     ensures order { IfOk result (λ workers. WorkInOrder workers.items) }
+    ensures worked { IfOk result (λ workers. All (HasWorked (record {}) turns) workers.items) }
     ensures other { IfErr result (IsOf (OfMemory ∷ OfListening ∷ [])) }
 {
     let count = seats.len();
@@ -127,7 +129,7 @@ fn run_beside<L: Ledger + Send + Sync, R: Threads + Wait + Clock + Sync>(
         |scope| -> (Vec<Running<L>>, Result<u32, RunFault>)
             requires { InOrder seats.items × (vec_len handles ≡ 0)
                 × (vec_len seats ≤ vec_capacity handles) }
-            ensures { HandlesInOrder result.0.items
+            ensures { HandlesInOrder result.0.items × AllOfTurns turns result.0.items
                 × IfErr result.1 (IsOf (OfMemory ∷ OfListening ∷ [])) }
         {
             start_beside(
@@ -162,6 +164,7 @@ fn start_beside<'s, E, L: Ledger + Send + Sync + 's, R: Threads + Wait + Clock +
     requires none { vec_len handles ≡ 0 }
     requires room { vec_len seats ≤ vec_capacity handles }
     ensures order { HandlesInOrder result.0.items }
+    ensures turns { AllOfTurns turns result.0.items }
     ensures other { IfErr result.1 (IsOf (OfMemory ∷ OfListening ∷ [])) }
 {
     let count = seats.len();

@@ -167,11 +167,11 @@ answering K s es (Err e) a f h = answers s es e a f h
 
 -- ---- runs that weren't closed
 
-no_start : (e : LiveFault) → ((n : SetupRefusal) → e ≡ live.Setup n → n ≡ WantOfMemory) → IsOfRunning e
-no_start (live.Setup n) f = f n refl
-no_start (live.Torn actor) f = tt
-no_start (live.Strange setup actors) f = tt
+no_start : (setup : Setup) (count : ℕ) (e : LiveFault) → ((n : SetupRefusal) → e ≡ live.Setup n → n ≡ WantOfMemory) → ((s : Setup) (k : ℕ) → e ≡ live.Strange s k → s ≡ setup → k ≢ count) → IsOfRunning setup count e
+no_start setup count (live.Setup n) f g = f n refl
+no_start setup count (live.Torn actor) f g = tt
+no_start setup count (live.Strange s k) f g = g s k refl
 
-pub running : {A : Type 0} (r : Result A LiveFault) → ((n : SetupRefusal) → r ≡ Err (live.Setup n) → n ≡ WantOfMemory) → IfErr r IsOfRunning
-running (Ok x) f = tt
-running (Err e) f = no_start e (λ n h. f n (ap (λ x. Err x) h))
+pub running : {A : Type 0} (setup : Setup) (count : ℕ) (r : Result A LiveFault) → ((n : SetupRefusal) → r ≡ Err (live.Setup n) → n ≡ WantOfMemory) → ((s : Setup) (k : ℕ) → r ≡ Err (live.Strange s k) → s ≡ setup → k ≢ count) → IfErr r (IsOfRunning setup count)
+running setup count (Ok x) f g = tt
+running setup count (Err e) f g = no_start setup count e (λ n h. f n (ap (λ x. Err x) h)) (λ s k h. g s k (ap (λ x. Err x) h))

@@ -1,20 +1,25 @@
 -- What live runs can fail by.
-use Rattle.std.specs.Prelude.{◌≡◌, [], ◌∷◌}
+use Rattle.std.specs.Prelude.{◌≡◌, ◌≢◌, ℕ, List, [], ◌∷◌, Ok}
+use Rattle.scenario.specs.declared.setup.Setup.{Setup}
 use Rattle.scenario.specs.declared.setup.SetupRefusal.TheVariants.{Memory as WantOfMemory}
+use Rattle.live_runner.specs.Actors.{actors}
 use Rattle.live_runner.specs.declared.running.LiveFault.{LiveFault}
 use Rattle.live_runner.specs.declared.running.LiveFault.TheVariants as live
+use Rattle.script.specs.Scripts.{Scenario, Reads}
 use Rattle.debug_server.specs.declared.faults.Fault.{Fault as Failure}
 use Rattle.debug_server.specs.declared.faults.Fault.TheVariants.{File, Run, Live}
 use Rattle.debug_server.specs.Kinds.{IsOf, OfScript, OfMemory}
 
--- a run that wasn't closed: a setup that has a start wants memory alone
-abbrev pub IsOfRunning : LiveFault → Type 0
-IsOfRunning (live.Setup n) = n ≡ WantOfMemory
-IsOfRunning (live.Torn actor) = Unit {0}
-IsOfRunning (live.Strange setup actors) = Unit {0}
+-- A run of so many actors over a setup wasn't closed. A setup that has a start wants memory alone,
+-- and a strange run is of another setup, or of another number of actors.
+abbrev pub IsOfRunning : Setup → ℕ → LiveFault → Type 0
+IsOfRunning setup count (live.Setup n) = n ≡ WantOfMemory
+IsOfRunning setup count (live.Torn actor) = Unit {0}
+IsOfRunning setup count (live.Strange s k) = s ≡ setup → k ≢ count
 
--- a fault of a script, or of the run over its setup
-abbrev pub IsOfLive : Failure → Type 0
-IsOfLive File = ⊥
-IsOfLive (Run fault) = IsOf (OfScript ∷ OfMemory ∷ []) fault
-IsOfLive (Live fault) = IsOfRunning fault
+-- a fault of a script, or of the run over its setup, with so many kernel workers
+abbrev pub IsOfLive : List ℕ → ℕ → Failure → Type 0
+IsOfLive text kernel File = ⊥
+IsOfLive text kernel (Run fault) = IsOf (OfScript ∷ OfMemory ∷ []) fault
+IsOfLive text kernel (Live fault) =
+    (p : Scenario) × Reads text (Ok p) × IsOfRunning p.setup (actors p.setup kernel) fault

@@ -43,7 +43,7 @@ pub fn live_script<R: Threads + Wait + Clock + Sync>(
         × (c.actors ≡ actors p.setup kernel))) }
     ensures script { IfErr result (λ e. (f : ScriptFault) → e ≡ Fault.Run (RunFault.Script f)
         → Reads text.now (Err f)) }
-    ensures other { IfErr result IsOfLive }
+    ensures other { IfErr result (IsOfLive text.now kernel) }
 {
     let script = match script_of(alloc, text) {
         Ok(script) => script,
@@ -67,7 +67,8 @@ fn run_setup<R: Threads + Wait + Clock + Sync>(
     ensures whole { IfOk result Whole }
     ensures same { IfOk result (λ c. (c.setup ≡ script.now.setup)
         × (c.actors ≡ actors script.now.setup kernel)) }
-    ensures other { IfErr result IsOfRunning }
+    ensures other { IfErr result
+        (IsOfRunning script.now.setup (actors script.now.setup kernel)) }
 {
     run_live(rt, alloc, script.setup(), kernel, turns, &AlwaysOpen)
 }

@@ -122,10 +122,16 @@ impl<L: Ledger> Situation for Living<'_, L> {
 fn answer_of(attempted: Option<Result<Receipt, LiveRefusal>>) -> Answer {
     match attempted {
         Some(Ok(receipt)) => Ok(u64::from(receipt.moment)),
-        Some(Err(LiveRefusal::NotYours)) => Err((1, 0)),
-        Some(Err(LiveRefusal::TraceFull)) => Err((2, 0)),
-        Some(Err(LiveRefusal::Step(refusal))) => Err((3, refusal as u64)),
+        Some(Err(refusal)) => Err((u64::from(refusal.number()), cause_of(refusal))),
         None => Err((100, 0)),
+    }
+}
+
+// Returns the number of the refusal of a step, and 0 for another refusal.
+fn cause_of(refusal: LiveRefusal) -> u64 {
+    match refusal {
+        LiveRefusal::Step(cause) => cause as u64,
+        _ => 0,
     }
 }
 
@@ -137,7 +143,6 @@ fn try_finish<L: Ledger>(
     live: Live<L>,
     seats: Vec<Seat<L>>,
 ) -> io::Result<()>
-    requires all { length seats.items ≡ L.parts }
     requires actors { length seats.items ≡ live.actors }
     requires order { InOrder seats.items }
 {

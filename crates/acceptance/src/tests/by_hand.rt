@@ -1,9 +1,13 @@
 //! A live run that is driven by hand.
-ghost use Rattle.std.specs.Prelude.{◌≡◌, ◌<◌, length};
+ghost use Rattle.std.specs.Prelude.{◌≡◌, ◌<◌, ◌≤◌, None, length};
+ghost use Rattle.scenario.specs.Setups.{setup_refusal};
 ghost use Rattle.live_runner.specs.Actors.{actors};
 ghost use Rattle.live_runner.specs.History.{InOrder};
 
+use crate::tests::sessions::is_told;
+use crate::tests::starting::REQUEST_AND_STEP;
 use crate::tests::{ONE_NOP, check};
+use debug_server::Session;
 use entries::Choice;
 use live_runner::{
     AlwaysOpen, Closed, Live, LiveRefusal, Receipt, Seat, Torn, actors, finish, workers_of,
@@ -109,12 +113,32 @@ fn closed_of<L: Ledger>(
     live: Live<L>,
     seats: Vec<Seat<L>>,
 ) -> Option<Result<Closed, Torn>>
-    requires all { length seats.items ≡ L.parts }
     requires actors { length seats.items ≡ live.actors }
     requires order { InOrder seats.items }
 {
     let room = Vec::with_capacity(alloc, seats.len()).ok()?;
     Some(finish(live, workers_of(seats, &AlwaysOpen, room)))
+}
+
+// Whether a session over events stands at the end of six.
+fn ends_at_six(alloc: Global, setup: &Setup, events: &[Event]) -> bool
+    requires starts { setup_refusal setup.now ≡ None }
+    requires most { length events.now ≤ 1048576 }
+{
+    match Session::of(alloc, setup, events) {
+        Ok(mut session) => is_told(&mut session, "where", "at 6 of 6\n"),
+        Err(_) => false,
+    }
+}
+
+// Whether a run has just the events of the example, and a session over them stands at their end.
+fn has_events<L: Ledger>(alloc: Global, live: &Live<L>) -> bool {
+    match live.events() {
+        Ok(events) => {
+            events.as_slice() == REQUEST_AND_STEP.as_slice() && ends_at_six(alloc, live.setup(), &events)
+        }
+        Err(_) => false,
+    }
 }
 
 // A run by hand, over whatever ledger. None where an event isn't as it should be.
@@ -128,8 +152,9 @@ fn by_hand<L: Ledger>(alloc: Global, blank: Blank, setup: &Setup) -> Option<Clos
         return None;
     };
     let acted = acts(&mut live, &mut seats);
+    let is_right = acted && has_events(alloc, &live);
     match closed_of(alloc, live, seats) {
-        Some(Ok(closed)) if acted => Some(closed),
+        Some(Ok(closed)) if is_right => Some(closed),
         _ => None,
     }
 }

@@ -1,8 +1,10 @@
 //! Sessions over readers and writers of one byte a call.
+ghost use Rattle.std.specs.Prelude.{◌≡◌, length};
 
 use crate::tests::devices::{Plan, SOUND, SlowReader, SlowWriter};
 use crate::tests::{INPUT, ONE_NOP, OUTPUT, check};
 use debug_server::{NoSource, RunFault, ServeFault, Session, Source, replies, serve, walk};
+use machine::Event;
 use script::read_script;
 use std::alloc::Global;
 use std::test::Fail;
@@ -96,9 +98,17 @@ pub fn session_of(alloc: Global, text: &str) -> Result<Session, RunFault> {
     }
 }
 
-// Whether a session replies to a line.
-fn is_told(session: &mut Session, line: &str, text: &str) -> bool {
+/// Whether a session replies to a line.
+pub fn is_told(session: &mut Session, line: &str, text: &str) -> bool {
     match session.line(line.as_bytes(), None) {
+        Ok(reply) => reply.as_slice() == text.as_bytes(),
+        Err(_) => false,
+    }
+}
+
+// Whether a session replies to the line that asks a source, which answers these events.
+fn is_synced(session: &mut Session, events: &[Event], text: &str) -> bool {
+    match session.line(b"sync", Some(events)) {
         Ok(reply) => reply.as_slice() == text.as_bytes(),
         Err(_) => false,
     }
@@ -108,10 +118,21 @@ fn is_told_twice(session: &mut Session) -> bool {
     is_told(session, "back 2", "at 4 of 6\n") && is_told(session, "where", "at 4 of 6\n")
 }
 
+// A source of ticks has more events than a trace can have, or just as many: then its first differs.
+fn is_told_full(session: &mut Session, ticks: &[Event]) -> bool
+    requires { length ticks.now ≡ 1048577 }
+{
+    is_synced(session, ticks, "refused 5 full\n")
+        && is_synced(session, &ticks[1..], "refused 3 torn 0\n")
+        && is_told(session, "where", "at 4 of 6\n")
+}
+
 #[test]
 fn lines_one_by_one(rt: HostRuntime) -> Result<(), Fail> {
     let mut session = session_of(rt.alloc(), ONE_NOP)?;
     check(&rt, is_told_twice(&mut session));
+    let ticks = vec![in rt.alloc(); Event::Tick(1); 1048577]?;
+    check(&rt, is_told_full(&mut session, &ticks));
     Ok(())
 }
 

@@ -24,6 +24,10 @@ struct Together {
 }
 
 impl Gate for Together {
+    ghost opens = { λ _ _ _. Unit {0} };
+
+    ghost shuts = { λ _ actor _. actor < 2 };
+
     fn arrive<R: Wait + Clock>(&self, rt: &R, actor: u32, turn: u32) -> bool {
         let (mine, theirs) = match actor {
             0 => (&self.first, &self.second),

@@ -1,3 +1,4 @@
+use Rattle.live_runner.specs.Actors.{actors}
 use Rattle.debug_server.proofs.Accepted.{running}
 use Rattle.debug_server.proofs.living.run_setup.Goals as goal
 
@@ -5,4 +6,5 @@ pub returns-clause-same : goal.returns-clause-same
 returns-clause-same g c = rw (← c.setup.ensures.value) c.run_live.ensures.same
 
 pub returns-clause-other : goal.returns-clause-other
-returns-clause-other g c = running c.run_live.result (λ n h. c.run_live.ensures.only_memory n h (rw c.setup.ensures.value c.setup.ensures.kept.setup))
+returns-clause-other g c =
+    rw (← c.setup.ensures.value) (running c.setup.result.now (actors c.setup.result.now c.args.kernel) c.run_live.result (λ n h. c.run_live.ensures.only_memory n h (rw c.setup.ensures.value c.setup.ensures.kept.setup)) c.run_live.ensures.strange)
