@@ -1,4 +1,5 @@
--- Events that run: none of them is a transfer of no bytes, and none is refused. What a live run can fail by.
+-- Properties of accepted events: no transfer moves zero bytes, and none is refused. Also the faults
+-- of live runs.
 use Rattle.std.proofs.Common.{◌≡◌, ◌≢◌, ℕ, ℤ, zero, suc, ◌+◌, Bool, true, false, cond, Option, Result, Ok, Err, List, [], ◌∷◌, take, refl, sym, ap, ◌∙◌, arith}
 use Rattle.std.specs.Prelude.{◌-◌, ◌^◌, ◌==◌, nat_lt, nat_le, not, Some, None, IfErr, slice_get}
 use Rattle.std.specs.List.{list_all}
@@ -38,9 +39,9 @@ use Rattle.debug_server.specs.Living.{IsOfRunning}
 use Rattle.live_runner.specs.declared.running.LiveFault.{LiveFault}
 use Rattle.live_runner.specs.declared.running.LiveFault.TheVariants as live
 
--- ---- a transfer of no bytes
+-- ---- Transfers of zero bytes
 
--- what is no result
+-- An outcome without a result.
 record NoResult (o : Outcome) : Type 0 where
   pub none : (res : ℤ) → o ≢ Res res
 
@@ -106,7 +107,7 @@ ends held w e (Some LinkTimeout) d = bad
 ends held w e (Some Read) d = neither (passes_memory e) _ _ bad (reads e (position_of d) (writer_behind held w d) (stock_behind w d))
 ends held w e (Some Write) d = neither (passes_memory e) _ _ bad (writes e (position_of d) (reader_behind held w d) (number_at w e.addr) (stock_behind w d))
 
--- ---- events that are accepted
+-- ---- Accepted events
 
 no_choice : (b : Bool) (o : Outcome) (r : Refusal) → NoResult o → cond b (Some r) (outcome_refusal o) ≢ None
 no_choice true o r f = λ h. absurd cc
@@ -143,7 +144,7 @@ pub all_accepted : (m : Machine) (es : List Event) → Accepts m es → list_all
 all_accepted m [] h = refl
 all_accepted m (e ∷ es) h = and_from _ _ (moves m e h.0) (all_accepted (after m e) es h.1)
 
--- ---- events that are not refused
+-- ---- Accepted events are not refused
 
 accepted_at : (m : Machine) (es : List Event) (i : ℕ) (e : Event) → Accepts m es → slice_get es i ≡ Some e → refusal (run m (take i es)) e ≡ None
 accepted_at m [] i e a g = absurd cc
@@ -165,7 +166,7 @@ pub answering : {A : Type 0} (K : Type 0) (s : Setup) (es : List Event) (r : Res
 answering K s es (Ok x) a f h = h
 answering K s es (Err e) a f h = answers s es e a f h
 
--- ---- runs that weren't closed
+-- ---- Runs that weren't closed
 
 no_start : (setup : Setup) (count : ℕ) (e : LiveFault) → ((n : SetupRefusal) → e ≡ live.Setup n → n ≡ WantOfMemory) → ((s : Setup) (k : ℕ) → e ≡ live.Strange s k → s ≡ setup → k ≢ count) → IsOfRunning setup count e
 no_start setup count (live.Setup n) f g = f n refl

@@ -1,4 +1,4 @@
--- A transcript without a source: each answer is none, however many there are.
+-- Transcripts without a source: every answer is `None`, and their number doesn't matter.
 use Rattle.std.proofs.Common.{◌≡◌, ◌⊎◌, inl, inr, ℕ, suc, ◌≤◌, List, [], ◌∷◌, ◌++◌, length, Bool, true, false, cond, Some, None, refl, sym, ap, ◌∙◌, subst, arith, append-nil}
 use Rattle.std.specs.Io.KnownBytes.{IsAtEnd}
 use Rattle.debug_server.specs.SessionStates.{SessionState}
@@ -11,7 +11,7 @@ use Rattle.debug_server.specs.declared.faults.RunFault.TheVariants.{Serve}
 use Rattle.debug_server.proofs.Bytes.{ended_stay}
 use Rattle.debug_server.proofs.Turns.{transcript_quit}
 
--- a source that is none answers so each time
+-- Without a source, every query gets `None`.
 pub none_asked : {S : Type 0} (a c : S) (ts : List Answer) → Asked (λ _ answer _. answer ≡ None) a ts c → Unanswered ts
 none_asked a c [] h = tt
 none_asked a c (t ∷ ts) h = (h.1, none_asked h.0 c ts h.2)
@@ -24,20 +24,20 @@ length_unanswered : (ls : List (List ℕ)) → length (unanswered ls) ≡ length
 length_unanswered [] = refl
 length_unanswered (l ∷ ls) = ap suc (length_unanswered ls)
 
--- two talks say the same, and quit alike
+-- Two transcripts have the same text, and both or neither end the session.
 pub record Alike (t u : Transcript) : Type 0 where
   pub text : t.text ≡ u.text
   pub quits : t.quits ≡ u.quits
 
--- the transcript over a line and those behind it, where the source is asked for it or not
+-- The transcript from one line on, given whether the line queries the source.
 abbrev first : Bool → SessionState → List ℕ → List (List ℕ) → List Answer → Transcript
 first q v l ls ts = line_on v l (given_to q ts) (λ w us. transcript w ls us)
 
--- where all of the first answers are used up
+-- The claim for these lines, if the first list of answers is used up.
 abbrev Same : List (List ℕ) → Type 0
 Same ls = (v : SessionState) (ts us : List Answer) → Unanswered ts → Unanswered us → length ls ≤ length us → (transcript v ls ts).left ≡ Some [] → Alike (transcript v ls us) (transcript v ls ts)
 
--- behind a reply
+-- The step after a reply.
 behind : (r : Reply) (ls : List (List ℕ)) (ts us : List Answer) → Same ls → Unanswered ts → Unanswered us → length ls ≤ length us → (q : Bool) → (cond q (ended r.next true (Some ts)) (transcript r.next ls ts)).left ≡ Some [] → Alike (prepended r.text (cond q (ended r.next true (Some us)) (transcript r.next ls us))) (prepended r.text (cond q (ended r.next true (Some ts)) (transcript r.next ls ts)))
 behind r ls ts us f a b n true h = record { text = refl; quits = refl }
 behind r ls ts us f a b n false h = let k = f r.next ts us a b n h in record { text = ap (λ x. r.text ++ x) k.text; quits = k.quits }
@@ -56,7 +56,7 @@ alike : (ls : List (List ℕ)) → Same ls
 alike [] v ts us a b n h = record { text = refl; quits = refl }
 alike (l ∷ ls) v ts us a b n h = first_alike (asks l) v l ls ts us (λ w xs ys c d m k. alike ls w xs ys c d m k) a b n h
 
--- over lists, the replies to the whole of the input were written
+-- If input and output are in memory, the replies to the whole input were written.
 served_input : (v v' : SessionState) (input rest before out : List ℕ) (ts : List Answer) (q : Bool) (s : Served v (streams (Some input) (Some before)) (streams (Some rest) (Some out)) ts v' q) → transcript v (lines_of input) ts ≡ transcript v s.lines ts
 served_input v v' input rest before out ts q s = ap (λ l. transcript v (lines_of l) ts) s.read ∙ by s.cut
   where
@@ -74,7 +74,7 @@ replied v v' input rest before out ts q e a s =
     let k : Alike (transcript v ls (unanswered ls)) (transcript v ls ts) = alike ls v ts (unanswered ls) a (unanswered_all ls) (let n = length_unanswered ls in omega (arith, n)) (ap (λ (x : Transcript). x.left) whole ∙ s.asked) in
     s.written ∙ ap (λ l. l ++ output v s.lines ts) e ∙ ap (λ (x : Transcript). x.text) (sym whole) ∙ sym k.text
 
--- of a session that is known
+-- The same for a session whose value is known.
 pub served_at : (t : SessionValue) (v v' : SessionState) (before after : Streams) (ts : List Answer) (q : Bool) → t ≡ record { state = v; is_closed = false } → Served t.state before after ts v' q → Served v before after ts v' q
 served_at t v v' before after ts q e s = let P : SessionValue → Type 0 = λ x. Served x.state before after ts v' q in subst P e s
 

@@ -1,4 +1,4 @@
--- What is fed, with what the source was asked by then.
+-- The effect of input bytes, with the answers that the source has given so far.
 use Rattle.std.specs.Prelude.{◌≢◌, IfErr}
 use Rattle.std.proofs.Common.{◌≡◌, inl, inr, ℕ, ◌+◌, ◌==◌, ◌<◌, List, [], ◌∷◌, ◌++◌, length, take, get_or, not, codes, Bool, true, false, Option, None, Result, Ok, Err, refl, sym, ap, ◌∙◌, subst, append_assoc}
 use Rattle.std.proofs.KnownBytes.{Appends-nil}
@@ -17,7 +17,7 @@ use Rattle.debug_server.proofs.Turns.{alone_asked, lacking}
 use Rattle.debug_server.proofs.Feeding.{byte_at, ended_at, cut_at, fed_on, fed_quit, cut_on, lacks_on, fills_start}
 use Rattle.debug_server.proofs.Reading.{reads_start, reads_on, served_quit, served_end, broke_read, broke_end, broke_feed, ended_later, fed_later, last_lacking, last_used, ends_empty, ends_line, front_line, ends_at}
 
--- a line that the code tells from the one that asks
+-- A line that differs from `sync` doesn't query the source.
 pub silent_line : (line text : List ℕ) (r : Bool) → r ≡ not (bytes_eq line text) → text ≡ codes "sync" → r ≡ true → asks line ≡ false
 unfolding asks
 silent_line line text r e t h = ap (bytes_eq line) (sym t) ∙ no (bytes_eq line text) (sym e ∙ h)
@@ -34,7 +34,7 @@ asking_line line text r e t h = ap (bytes_eq line) (sym t) ∙ yes (bytes_eq lin
     yes true k = refl
     yes false k = absurd (cc)
 
--- a line that asks and gets no answer, and more behind it
+-- A line that queries the source and gets no answer, with more bytes after it.
 line_lacks : (v : SessionState) (line text : List ℕ) (b : ℕ) → IsPending line → b ≡ 10 → text ≡ line → asks text ≡ true → (more : List ℕ) → (transcript v (ended_lines ((line ++ b ∷ []) ++ more)) []).left ≡ None
 line_lacks v line text b p e t h more =
     ap (λ x. (transcript v (ended_lines ((line ++ x ∷ []) ++ more)) []).left) e
@@ -43,12 +43,12 @@ line_lacks v line text b p e t h more =
     ∙ lacking v line (ended_lines more) (ap asks (sym t) ∙ h)
 
 module _ {S : Type 0} (gives : S → Answer → S → Type 0) where
-  -- one list of answers after another
+  -- Two sequences of answers, one after the other.
   pub asked_trans : (a b c : S) (ts us : List Answer) → Asked gives a ts b → Asked gives b us c → Asked gives a (ts ++ us) c
   asked_trans a b c [] us h k = subst (λ (x : S). Asked gives x us c) h k
   asked_trans a b c (t ∷ ts) us h k = (h.0, h.1, asked_trans h.0 b c ts us h.2 k)
 
-  -- ---- one line
+  -- ---- One line
 
   pub asked_none : (line : List ℕ) (s : S) → asks line ≡ false → Gave gives line s None s
   asked_none line s h = record {
@@ -64,7 +64,7 @@ module _ {S : Type 0} (gives : S → Answer → S → Type 0) where
     given = ap (λ q. given_to q (answer ∷ [])) h;
   }
 
-  -- the same answer, lent
+  -- The same answer, borrowed.
   pub lent_gave : (line : List ℕ) (s s' : S) (t answer : Answer) → t ≡ answer → Gave gives line s answer s' → Gave gives line s t s'
   lent_gave line s s' t answer e g = let P : Answer → Type 0 = λ x. Gave gives line s x s' in subst P (sym e) g
 
@@ -87,7 +87,7 @@ module _ {S : Type 0} (gives : S → Answer → S → Type 0) where
     breaks = cut_at v line text g.answers answer b h h' p g.given e t f;
   }
 
-  -- the source gave nothing, so nothing was written
+  -- The source gave no answer, so nothing was written.
   pub unasked_by : (fails : S → S → Type 0) (s s' : S) (fault : ServeFault) (v : SessionState) (line text : List ℕ) (b : ℕ) (h : Option (List ℕ)) → IsPending line → b ≡ 10 → text ≡ line → fault ≡ Memory → asks text ≡ true → fails s s' → BreaksBy gives fails s s' fault v (line ++ b ∷ []) h h
   unasked_by fails s s' fault v line text b h p e t m a k = record {
     answers = [];
@@ -102,7 +102,7 @@ module _ {S : Type 0} (gives : S → Answer → S → Type 0) where
     };
   }
 
-  -- ---- some bytes
+  -- ---- Several bytes
 
   pub fed_none : (s : S) (v : SessionState) (line : List ℕ) (h : Option (List ℕ)) → FillsBy gives s s v line h h false v line
   fed_none s v line h = record { answers = []; asked = refl; fills = fills_start v line h }
@@ -130,7 +130,7 @@ module _ {S : Type 0} (gives : S → Answer → S → Type 0) where
     breaks = cut_on w v line bytes now f.answers b.answers i h h' h'' lt f.fills b.breaks;
   }
 
-  -- ---- the last line
+  -- ---- The last line
 
   pub ends_none : (s : S) (v : SessionState) (line : List ℕ) (h : Option (List ℕ)) → line ≡ [] → EndsBy gives s s v line h h false v
   ends_none s v line h e = record { answers = []; asked = refl; ends = ends_empty v line h e }
@@ -161,7 +161,7 @@ module _ {S : Type 0} (gives : S → Answer → S → Type 0) where
   pub front_at : (fails : S → S → Type 0) (s s' : S) (fault : ServeFault) (v : SessionState) (line text : List ℕ) (h h' : Option (List ℕ)) → text ≡ line → FrontBy gives fails s s' fault v text h h' → FrontBy gives fails s s' fault v line h h'
   front_at fails s s' fault v line text h h' e f = let P : List ℕ → Type 0 = λ l. FrontBy gives fails s s' fault v l h h' in subst P e f
 
-  -- ---- reads
+  -- ---- Reads
 
   pub read_none : (s : S) (v : SessionState) (r h : Option (List ℕ)) → ReadsBy gives s s v r r h h v []
   read_none s v r h = record { answers = []; asked = refl; reads = reads_start v r h }
@@ -173,7 +173,7 @@ module _ {S : Type 0} (gives : S → Answer → S → Type 0) where
     reads = reads_on w v u r r' r'' h h' h'' f.answers g.answers line bytes line' f.reads c g.fills;
   }
 
-  -- what a conversation ensures at Ok
+  -- What `converse` ensures if it succeeds.
   abbrev pub Ok_by : S → S → SessionState → Option (List ℕ) → Option (List ℕ) → Option (List ℕ) → Option (List ℕ) → SessionState → Bool → Type 0
   Ok_by s s' w r r' h h' u q = (answers : List Answer) × Asked gives s answers s' × Served w (streams r h) (streams r' h') answers u q
 
@@ -191,7 +191,7 @@ module _ {S : Type 0} (gives : S → Answer → S → Type 0) where
     served_end w v u r r' r'' h h' h'' f.answers g.answers line q f.reads c e (ends_at v u line text g.answers h' h'' q t g.ends),
   )
 
-  -- ---- at a fault
+  -- ---- Faults
 
   pub broke_by : (fails : S → S → Type 0) (s m : S) (fault : ServeFault) (w v : SessionState) (r r' r'' h h' : Option (List ℕ)) (line : List ℕ) → ReadsBy gives s m w r r' h h' v line → Keeps r' r'' → IsPending line → BrokeBy gives fails s m fault w (streams r h) (streams r'' h')
   broke_by fails s m fault w v r r' r'' h h' line f k p = record {
@@ -228,7 +228,7 @@ pub with_replying : {X : Type 0} (P : ServeFault → Type 0) (r : Result X Serve
 with_replying P (Ok x) h k = tt
 with_replying P (Err e) h k = (h, k)
 
--- what fails so was not closed
+-- A fault of replying is not `Closed`.
 pub not_closed : {X : Type 0} → (r : Result X ServeFault) → IfErr r IsOfReplying → r ≢ Err Closed
 not_closed (Ok x) h = λ e. cc
 not_closed (Err f) h = λ e. let same : f ≡ Closed = cc in absurd (let P : ServeFault → Type 0 = λ x. IsOfReplying x in subst P same h)

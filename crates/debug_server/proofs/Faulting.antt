@@ -1,4 +1,4 @@
--- Which faults a walk over events or a script can have.
+-- The possible faults of a session over events or over a script.
 use Rattle.std.proofs.Common.{◌≢◌, refl, List, ◌∷◌, [], Result, Ok, Err}
 use Rattle.std.specs.Prelude.{IfErr}
 use Rattle.script.specs.declared.fault.ScriptFault.{ScriptFault}

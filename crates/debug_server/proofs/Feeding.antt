@@ -1,4 +1,4 @@
--- How what was written and what is left to say move on with each byte.
+-- How each byte changes what was written and what is still to be written.
 use Rattle.std.proofs.lemmas.List.{take_more}
 use Rattle.std.proofs.Common.{◌≡◌, ℕ, ◌+◌, take, drop, get_or, take-append-drop, ◌==◌, ◌<◌, List, [], ◌∷◌, ◌++◌, length, Bool, true, false, Option, None, refl, sym, ap, ◌∙◌, subst, append_assoc, append-nil}
 use Rattle.std.proofs.KnownBytes.{Appends-nil, Appends-trans}
@@ -15,13 +15,13 @@ use Rattle.debug_server.proofs.Turns.{Takes, NoneOver, transcript_line, prepende
 pub fed_start : (w : SessionState) (line : List ℕ) → Fed w line [] [] false w line
 fed_start w line = record { law = λ last more others. refl }
 
--- a byte that ends no line
+-- A byte that isn't a newline.
 pub fed_byte : (w w' : SessionState) (bytes : List ℕ) (ts : List Answer) (written line : List ℕ) (b : ℕ) → Fed w bytes ts written false w' line → IsPending line → (b == 10) ≡ false → Fed w (bytes ++ b ∷ []) ts written false w' (grown line b)
 fed_byte w w' bytes ts written line b f p e = record {
   law = λ last more others. ap (λ l. transcript w (lines_by last l) (ts ++ others)) (append_assoc bytes (b ∷ []) more) ∙ f.law last (b ∷ more) others ∙ ap (prepended written) (grown_alike last w' line b more others p e);
 }
 
--- a newline
+-- A newline.
 pub fed_ended : (w w' : SessionState) (bytes : List ℕ) (ts given : List Answer) (answer : Answer) (written line : List ℕ) → Fed w bytes ts written false w' line → IsPending line → Takes (asks line) given answer → Fed w (bytes ++ 10 ∷ []) (ts ++ given) (written ++ (reply w' line answer).text) (reply w' line answer).quits (reply w' line answer).next []
 fed_ended w w' bytes ts given answer written line f p fits = record {
   law = λ last more others.
@@ -33,13 +33,13 @@ fed_ended w w' bytes ts given answer written line f p fits = record {
       ∙ prepended_prepended written (reply w' line answer).text (rest_of last (reply w' line answer).quits (reply w' line answer).next more others);
 }
 
--- bytes behind a line that quits
+-- Bytes after a line that ended the session.
 pub fed_past : (w w' : SessionState) (bytes rest : List ℕ) (ts : List Answer) (written line line' : List ℕ) → Fed w bytes ts written true w' line → Fed w (bytes ++ rest) ts written true w' line'
 fed_past w w' bytes rest ts written line line' f = record {
   law = λ last more others. ap (λ l. transcript w (lines_by last l) (ts ++ others)) (append_assoc bytes rest more) ∙ f.law last (rest ++ more) others;
 }
 
--- one run after another
+-- Two sequences of bytes, one after the other.
 pub fed_trans : (w v u : SessionState) (bytes line bytes' line' : List ℕ) (ts ts' : List Answer) (written written' : List ℕ) (q : Bool) → Fed w bytes ts written false v line → Fed v (line ++ bytes') ts' written' q u line' → Fed w (bytes ++ bytes') (ts ++ ts') (written ++ written') q u line'
 fed_trans w v u bytes line bytes' line' ts ts' written written' q f g = record {
   law = λ last more others.
@@ -51,7 +51,7 @@ fed_trans w v u bytes line bytes' line' ts ts' written written' q f g = record {
       ∙ prepended_prepended written written' (rest_of last q u (line' ++ more) others);
 }
 
--- the bytes alone, with nothing behind them
+-- The bytes alone, with nothing after them.
 pub fed_whole : (last : Bool) (w w' : SessionState) (bytes : List ℕ) (ts : List Answer) (written : List ℕ) (q : Bool) (line : List ℕ) → Fed w bytes ts written q w' line → transcript w (lines_by last bytes) ts ≡ prepended written (rest_of last q w' line [])
 fed_whole last w w' bytes ts written q line f =
     ap (λ l. transcript w (lines_by last l) ts) (sym (append-nil bytes))
@@ -59,7 +59,7 @@ fed_whole last w w' bytes ts written q line f =
     ∙ f.law last [] []
     ∙ ap (λ l. prepended written (rest_of last q w' l [])) (append-nil line)
 
--- ---- the same, with what the writer holds
+-- ---- The same with the writer's contents
 
 pub fills_start : (w : SessionState) (line : List ℕ) (h : Option (List ℕ)) → Fills w line [] h h false w line
 fills_start w line h = record { written = []; appended = Appends-nil h; fed = fed_start w line }
@@ -80,7 +80,7 @@ fills_trans w v u bytes line bytes' line' ts ts' h h' h'' q f g = record {
 pub fills_past : (w w' : SessionState) (bytes rest : List ℕ) (ts : List Answer) (line line' : List ℕ) (h h' : Option (List ℕ)) → Fills w bytes ts h h' true w' line → Fills w (bytes ++ rest) ts h h' true w' line'
 fills_past w w' bytes rest ts line line' h h' f = record { written = f.written; appended = f.appended; fed = fed_past w w' bytes rest ts f.written line line' f.fed }
 
--- the reply to the line was cut short
+-- The reply to the line was truncated.
 pub breaks_ended : (w : SessionState) (line : List ℕ) (given : List Answer) (answer : Answer) (h h' : Option (List ℕ)) → IsPending line → Takes (asks line) given answer → WritesFront h h' (reply w line answer).text → Breaks w (line ++ 10 ∷ []) given h h'
 breaks_ended w line given answer h h' p fits f = record {
   front = f.front;
@@ -103,7 +103,7 @@ breaks_more w bytes rest ts h h' b = record {
   asked = λ more. let P : List ℕ → Type 0 = λ l. NoneOver (transcript w (ended_lines l) ts).left in subst P (sym (append_assoc bytes rest more)) (b.asked (rest ++ more));
 }
 
--- the transcript goes on from where what was fed led
+-- The transcript continues from the state after the processed bytes.
 pub transcript_later : (w v : SessionState) (bytes line bytes' : List ℕ) (ts ts' : List Answer) (h h' : Option (List ℕ)) (f : Fills w bytes ts h h' false v line) (more : List ℕ) → transcript w (ended_lines ((bytes ++ bytes') ++ more)) (ts ++ ts') ≡ prepended f.written (transcript v (ended_lines ((line ++ bytes') ++ more)) ts')
 transcript_later w v bytes line bytes' ts ts' h h' f more =
     ap (λ l. transcript w (ended_lines l) (ts ++ ts')) (append_assoc bytes bytes' more)
@@ -126,7 +126,7 @@ breaks_later w v bytes line bytes' ts ts' h h' h'' f b = record {
   asked = λ more. let P : Transcript → Type 0 = λ x. NoneOver x.left in subst P (sym (transcript_later w v bytes line bytes' ts ts' h h' f more)) (b.asked more);
 }
 
--- ---- as the code has them
+-- ---- In the form that the code needs
 
 pub byte_at : (w : SessionState) (line line' : List ℕ) (b : ℕ) (h : Option (List ℕ)) → IsPending line → (b == 10) ≡ false → line' ≡ grown line b → Fills w (line ++ b ∷ []) [] h h false w line'
 byte_at w line line' b h p e g = let P : List ℕ → Type 0 = λ l. Fills w (line ++ b ∷ []) [] h h false w l in subst P (sym g) (fills_byte w line b h p e)
@@ -149,7 +149,7 @@ cut_at w line text given answer b h h' p fits e t f =
     let F : List ℕ → Type 0 = λ x. Takes (asks x) given answer in
     subst P (sym e) (breaks_ended w line given answer h h' p (subst F t fits) (subst Q t f))
 
--- one more byte of a slice, and the bytes behind it
+-- One more byte of a slice, and the bytes after it.
 seam : (line bytes : List ℕ) (i : ℕ) → i < length bytes → (line ++ take i bytes) ++ get_or bytes i 0 ∷ [] ≡ line ++ take (i + 1) bytes
 seam line bytes i h = append_assoc line (take i bytes) (get_or bytes i 0 ∷ []) ∙ ap (λ l. line ++ l) (sym (take_more bytes i 0 h))
 
@@ -172,7 +172,7 @@ cut_on w v line bytes now ts ts' i h h' h'' lt f b =
     subst P (behind line bytes i) (breaks_more w (line ++ take (i + 1) bytes) (drop (i + 1) bytes) (ts ++ ts') h h''
     (subst P (seam line bytes i lt) (breaks_later w v (line ++ take i bytes) now (get_or bytes i 0 ∷ []) ts ts' h h' h'' f b)))
 
--- where the rest lacks an answer
+-- The remaining bytes need an answer that isn't there.
 pub lacks_on : (w v : SessionState) (line bytes now : List ℕ) (ts ts' : List Answer) (i : ℕ) (h h' : Option (List ℕ)) → i < length bytes → Fills w (line ++ take i bytes) ts h h' false v now → ((more : List ℕ) → (transcript v (ended_lines ((now ++ get_or bytes i 0 ∷ []) ++ more)) ts').left ≡ None) → (more : List ℕ) → (transcript w (ended_lines ((line ++ bytes) ++ more)) (ts ++ ts')).left ≡ None
 lacks_on w v line bytes now ts ts' i h h' lt f k more =
     let all : line ++ bytes ≡ ((line ++ take i bytes) ++ get_or bytes i 0 ∷ []) ++ drop (i + 1) bytes = sym (ap (λ l. l ++ drop (i + 1) bytes) (seam line bytes i lt) ∙ behind line bytes i) in

@@ -1,4 +1,4 @@
--- A schedule without a transfer of no bytes has only transfers of some.
+-- In a schedule without zero-byte transfers, each transfer moves at least one byte.
 use Rattle.std.proofs.Common.{◌≡◌, zero, suc, true, false, refl, List, [], ◌∷◌, arith}
 use Rattle.std.specs.List.{list_all, list_any}
 use Rattle.std.proofs.lemmas.Bool.{and_from, or_parts, lt-ltb}

@@ -1,4 +1,4 @@
--- The end of the input, and reads.
+-- Reads, and the end of the input.
 use Rattle.std.proofs.Common.{◌≡◌, ◌⊎◌, inl, inr, ℕ, take, ◌<◌, List, [], ◌∷◌, ◌++◌, length, Bool, true, false, cond, Option, Some, None, refl, sym, ap, ◌∙◌, subst, append_assoc, append-nil}
 use Rattle.std.proofs.KnownBytes.{Appends-nil, Appends-trans, Consumes-nil, Consumes-trans, Consumes-kept}
 use Rattle.std.specs.Io.KnownBytes.{Appends, Consumes, Keeps, IsAtEnd}
@@ -18,7 +18,7 @@ after_quit : (q : Bool) (r : Reply) → prepended r.text (cond q (ended r.next t
 after_quit true r = ap (λ (x : List ℕ). let u : Transcript = record { text = x; next = r.next; quits = true; left = Some [] } in u) (append-nil r.text)
 after_quit false r = ap (λ (x : List ℕ). let u : Transcript = record { text = x; next = r.next; quits = false; left = Some [] } in u) (append-nil r.text)
 
--- a last line alone
+-- The transcript of a last line alone.
 pub last_line : (w : SessionState) (line : List ℕ) (given : List Answer) (answer : Answer) → IsPending line → 0 < length line → Takes (asks line) given answer → transcript w (lines_of line) given ≡ record { text = (reply w line answer).text; next = (reply w line answer).next; quits = (reply w line answer).quits; left = Some [] }
 last_line w line given answer p some fits =
     ap (λ ls. transcript w ls given) (lines_of-last line p.plain some)
@@ -35,7 +35,7 @@ ends_line w w' line given answer h h' q p some fits a n s = record {
       ∙ ap (λ (z : Bool). let u : Transcript = record { text = (reply w line answer).text; next = w'; quits = z; left = Some [] } in u) (sym s);
 }
 
--- an empty line
+-- An empty last line has no reply.
 pub ends_empty : (w : SessionState) (line : List ℕ) (h : Option (List ℕ)) → line ≡ [] → Ends w line [] h h false w
 ends_empty w line h e = record { text = []; written = Appends-nil h; whole = ap (λ l. transcript w (lines_of l) []) e }
 
@@ -44,7 +44,7 @@ front_line w line given answer h h' p some fits f =
     let P : List ℕ → Type 0 = λ t. WritesFront h h' t in
     subst P (sym (ap (λ (x : Transcript). x.text) (last_line w line given answer p some fits))) f
 
--- ---- reads
+-- ---- Reads
 
 pub reads_start : (w : SessionState) (r h : Option (List ℕ)) → Reads w r r h h [] w []
 reads_start w r h = record { taken = []; read = Consumes-nil r; fills = fills_start w [] h }
@@ -56,7 +56,7 @@ reads_on w v u r r' r'' h h' h'' ts ts' line bytes line' f c g = record {
   fills = fills_trans w v u f.taken line bytes line' ts ts' h h' h'' false f.fills g;
 }
 
--- what was read comes to a transcript that is known
+-- The bytes read have a known transcript.
 served_by : (w u : SessionState) (r r' h h' : Option (List ℕ)) (ts : List Answer) (taken text : List ℕ) (lines : List (List ℕ)) (q : Bool) → Consumes r r' taken → Appends h h' text → transcript w lines ts ≡ record { text = text; next = u; quits = q; left = Some [] } → ((lines ≡ ended_lines taken) × (q ≡ true)) ⊎ ((lines ≡ lines_of taken) × IsAtEnd r') → Served w (streams r h) (streams r' h') ts u q
 served_by w u r r' h h' ts taken text lines q c a e cut = record {
   taken = taken;
@@ -69,7 +69,7 @@ served_by w u r r' h h' ts taken text lines q c a e cut = record {
   asked = ap (λ (x : Transcript). x.left) e;
 }
 
--- a line quit
+-- A line ended the session.
 pub served_quit : (w v u : SessionState) (r r' r'' h h' h'' : Option (List ℕ)) (ts ts' : List Answer) (line bytes line' : List ℕ) → Reads w r r' h h' ts v line → Consumes r' r'' bytes → Fills v (line ++ bytes) ts' h' h'' true u line' → Served w (streams r h) (streams r'' h'') (ts ++ ts') u true
 served_quit w v u r r' r'' h h' h'' ts ts' line bytes line' f c g =
     let all = fills_trans w v u f.taken line bytes line' ts ts' h h' h'' true f.fills g in
@@ -78,7 +78,7 @@ served_quit w v u r r' r'' h h' h'' ts ts' line bytes line' f c g =
     (fed_whole false w u (f.taken ++ bytes) (ts ++ ts') all.written true line' all.fed ∙ ap (λ (x : List ℕ). let t : Transcript = record { text = x; next = u; quits = true; left = Some [] } in t) (append-nil all.written))
     (inl (refl, refl))
 
--- the input ended
+-- The input ended.
 pub served_end : (w v u : SessionState) (r r' r'' h h' h'' : Option (List ℕ)) (ts ts' : List Answer) (line : List ℕ) (q : Bool) → Reads w r r' h h' ts v line → Consumes r' r'' [] → IsAtEnd r'' → Ends v line ts' h' h'' q u → Served w (streams r h) (streams r'' h'') (ts ++ ts') u q
 served_end w v u r r' r'' h h' h'' ts ts' line q f c e g =
     served_by w u r r'' h h'' (ts ++ ts') (f.taken ++ []) (f.fills.written ++ g.text) (lines_of (f.taken ++ [])) q
@@ -87,14 +87,14 @@ served_end w v u r r' r'' h h' h'' ts ts' line q f c e g =
     (f.fills.fed.law true [] ts' ∙ ap (λ l. prepended f.fills.written (transcript v (lines_of l) ts')) (append-nil line) ∙ ap (prepended f.fills.written) g.whole)
     (inr (refl, e))
 
--- each line that has ended was answered
+-- Every complete line was answered.
 reads_whole : (w v : SessionState) (r r' h h' : Option (List ℕ)) (ts : List Answer) (line : List ℕ) (f : Reads w r r' h h' ts v line) → IsPending line → transcript w (ended_lines f.taken) ts ≡ record { text = f.fills.written; next = v; quits = false; left = Some [] }
 reads_whole w v r r' h h' ts line f p =
     fed_whole false w v f.taken ts f.fills.written false line f.fills.fed
     ∙ ap (λ ls. prepended f.fills.written (transcript v ls [])) (ended_lines-plain line p.plain)
     ∙ ap (λ (x : List ℕ). let t : Transcript = record { text = x; next = v; quits = false; left = Some [] } in t) (append-nil f.fills.written)
 
--- no more could be read
+-- A read failed.
 pub broke_read : (w v : SessionState) (r r' r'' h h' : Option (List ℕ)) (ts : List Answer) (line : List ℕ) (fault : ServeFault) → Reads w r r' h h' ts v line → Keeps r' r'' → IsPending line → Broke w (streams r h) (streams r'' h') ts fault
 broke_read w v r r' r'' h h' ts line fault f k p =
     let all = reads_whole w v r r' h h' ts line f p in
@@ -112,26 +112,26 @@ broke_read w v r r' r'' h h' ts line fault f k p =
       whole = λ _. record { text = sym text; open_yet = ap (λ (x : Transcript). x.quits) all; asked = ap (λ (x : Transcript). x.left) all };
     }
 
--- what is left of the transcript over all that was read
+-- The rest of the transcript of everything that was read.
 pub ended_later : (w v : SessionState) (r r' h h' : Option (List ℕ)) (ts ts' : List Answer) (line : List ℕ) (f : Reads w r r' h h' ts v line) → transcript w (lines_of (f.taken ++ [])) (ts ++ ts') ≡ prepended f.fills.written (transcript v (lines_of line) ts')
 ended_later w v r r' h h' ts ts' line f = f.fills.fed.law true [] ts' ∙ ap (λ l. prepended f.fills.written (transcript v (lines_of l) ts')) (append-nil line)
 
 pub fed_later : (w v : SessionState) (r r' h h' : Option (List ℕ)) (ts ts' : List Answer) (line bytes : List ℕ) (f : Reads w r r' h h' ts v line) → transcript w (ended_lines (f.taken ++ bytes)) (ts ++ ts') ≡ prepended f.fills.written (transcript v (ended_lines ((line ++ bytes) ++ [])) ts')
 fed_later w v r r' h h' ts ts' line bytes f = ap (λ l. transcript w (ended_lines l) (ts ++ ts')) (sym (append-nil (f.taken ++ bytes))) ∙ transcript_later w v f.taken line bytes ts ts' h h' f.fills []
 
--- the last line asks, and gets no answer
+-- The last line queries the source, and gets no answer.
 pub last_lacking : (v : SessionState) (line : List ℕ) → IsPending line → 0 < length line → asks line ≡ true → (transcript v (lines_of line) []).left ≡ None
 last_lacking v line p some h = ap (λ ls. (transcript v ls []).left) (lines_of-last line p.plain some) ∙ lacking v line [] h
 
--- no answer is left over behind the last line
+-- No answer is left over after the last line.
 pub last_used : (v : SessionState) (line : List ℕ) (given : List Answer) (answer : Answer) → IsPending line → 0 < length line → Takes (asks line) given answer → NoneOver (transcript v (lines_of line) given).left
 last_used v line given answer p some fits = let P : Transcript → Type 0 = λ x. NoneOver x.left in subst P (sym (last_line v line given answer p some fits)) over_nil
 
--- a fault of replying is none of reading
+-- A fault of replying isn't a fault of reading.
 pub not_reading : {X : Type 0} → (fault : ServeFault) → IsOfReplying fault → fault ≡ Read → X
 not_reading fault h e = absurd (let P : ServeFault → Type 0 = λ x. IsOfReplying x in subst P e h)
 
--- the last line was answered in part
+-- The reply to the last line was truncated.
 abbrev pub broke_end : (w v : SessionState) (r r' r'' h h' h'' : Option (List ℕ)) (ts ts' : List Answer) (line : List ℕ) (fault : ServeFault) (f : Reads w r r' h h' ts v line) → Consumes r' r'' [] → IsAtEnd r'' → IsOfReplying fault → WritesFront h' h'' (output v (lines_of line) ts') → NoneOver (transcript v (lines_of line) ts').left → Broke w (streams r h) (streams r'' h'') (ts ++ ts') fault
 broke_end w v r r' r'' h h' h'' ts ts' line fault f c e k g u = record {
   taken = f.taken ++ [];
@@ -146,7 +146,7 @@ broke_end w v r r' r'' h h' h'' ts ts' line fault f c e k g u = record {
   whole = not_reading fault k;
 }
 
--- some line was answered in part
+-- The reply to some line was truncated.
 abbrev pub broke_feed : (w v : SessionState) (r r' r'' h h' h'' : Option (List ℕ)) (ts ts' : List Answer) (line bytes : List ℕ) (fault : ServeFault) → Reads w r r' h h' ts v line → Consumes r' r'' bytes → IsOfReplying fault → Breaks v (line ++ bytes) ts' h' h'' → Broke w (streams r h) (streams r'' h'') (ts ++ ts') fault
 broke_feed w v r r' r'' h h' h'' ts ts' line bytes fault f c k g =
     let all = breaks_later w v f.taken line bytes ts ts' h h' h'' f.fills g in
@@ -163,7 +163,7 @@ broke_feed w v r r' r'' h h' h'' ts ts' line bytes fault f c k g =
       whole = not_reading fault k;
     }
 
--- a read of no bytes into a buffer with room
+-- A read of no bytes into a buffer that has room.
 pub record AtEnd (r r' : Option (List ℕ)) : Type 0 where
   pub none : Consumes r r' []
   pub over : IsAtEnd r'

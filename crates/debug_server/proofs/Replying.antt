@@ -1,4 +1,4 @@
--- The reply to a line, by its command.
+-- The reply to each command.
 use Rattle.std.proofs.Common.{◌≡◌, ℕ, List, length, nat_le, nat_lt, Bool, true, false, cond, Option, Some, None, Result, Ok, Err, refl, ap, ◌∙◌}
 use Rattle.scenario.specs.declared.setup.Setup.{Setup}
 use Rattle.scenario.specs.declared.event.Event.{Event}
@@ -18,7 +18,7 @@ replied_to v w setup line command t here from is =
     let same : setup ≡ v.walk.setup = from ∙ ap (λ (x : Walk). x.setup) here in
     ap (λ c. reply_to v c t) (is ∙ ap (λ s. command_of s line) same)
 
--- ---- which replies quit
+-- ---- Which replies end the session
 
 either : (b : Bool) (r s : Reply) → r.quits ≡ false → s.quits ≡ false → (cond b r s).quits ≡ false
 either true r s h k = h

@@ -1,4 +1,5 @@
--- Sessions over two setups whose runs start alike, and by which lines are the same commands.
+-- Sessions over two setups whose runs have the same start and which parse lines as the same
+-- commands.
 use Rattle.std.proofs.Common.{◌≡◌, ℕ, Bool, true, false, List, [], ◌∷◌, length, take, drop, Option, Some, None, Result, Ok, Err, refl, sym, ap, subst, ◌∙◌, ◌+◌, ◌-◌}
 use Rattle.std.specs.Prelude.{nat_lt, nat_le, if◌then◌else◌}
 use Rattle.std.specs.List.{range_with_len}
@@ -31,18 +32,18 @@ use Rattle.debug_server.specs.Walked.{BrokenOff, Walked}
 use Rattle.debug_server.specs.declared.faults.ServeFault.{ServeFault}
 use Rattle.debug_server.proofs.Again.{accepts_again, command_again, start_again}
 
--- Runs from two setups start alike, and lines are the same commands by both.
+-- Two setups have the same start and parse each line as the same command.
 record Alike (s t : Setup) : Type 0 where
   starts : start t ≡ start s
   commands : (line : List ℕ) → command_of t line ≡ command_of s line
 
--- a session at the same place of its run, over another setup
+-- A session at the same position, over another setup.
 abbrev over : Setup → SessionState → SessionState
 over t v = record v { walk = record v.walk { setup = t } }
 
--- ---- where walks stop
+-- ---- Where walks stop
 
--- what stands in each place once so many events have run
+-- The values of all places after the first m events.
 abbrev seen_from : Machine → List Event → ℕ → View
 seen_from start es m = view (run start (take m es))
 
@@ -71,7 +72,7 @@ on_from s t a v = ap from a.starts
     from : Machine → Stop
     from start = first_stop (behind start) End (range_with_len (v.walk.at + 1) (length v.walk.events - v.walk.at))
 
--- ---- replies
+-- ---- Replies
 
 abbrev replied_over : Setup → Reply → Reply
 replied_over t r = record r { next = over t r.next }
@@ -113,7 +114,7 @@ replies_again : (s t : Setup) → Alike s t → (v : SessionState) (line : List 
 unfolding reply
 replies_again s t a v line answer = ap (λ (c : Result Command CommandFault). reply_to (over t v) c answer) (a.commands line) ∙ told s t a v (command_of s line) answer
 
--- ---- transcripts
+-- ---- Transcripts
 
 abbrev transcript_over : Setup → Transcript → Transcript
 transcript_over t x = record x { next = over t x.next }
@@ -143,12 +144,12 @@ transcript_again s t a v (line ∷ lines) answers = by (given_to (asks line) ans
                 ap (λ (x : Transcript). prepended r.text x) (more r.next given.left)
                 ∙ ap (λ (w : SessionState). transcript_over t (prepended r.text (transcript w lines given.left))) (sym same)
 
--- ---- what is written
+-- ---- What is written
 
 alike : (s : Setup) → setup_refusal s ≡ None → Alike s (canonical s)
 alike s h = record { starts = start_again s h; commands = command_again s h }
 
--- the transcript of a session of the setup that a trace has
+-- The transcript of a session over the setup stored in a trace.
 said : (s : Setup) → setup_refusal s ≡ None → (es : List Event) (lines : List (List ℕ)) (answers : List Answer)
     → transcript (state_over (canonical s) es) lines answers ≡ transcript_over (canonical s) (transcript (state_over s es) lines answers)
 said s h es lines answers = transcript_again s (canonical s) (alike s h) (state_over s es) lines answers

@@ -1,4 +1,4 @@
--- Events that run one after the other from a machine.
+-- Running events one after another.
 use Rattle.std.proofs.Common.{◌≡◌, ℕ, ◌+◌, ◌<◌, List, [], ◌∷◌, ◌++◌, inl, length, take, get_or, Result, Ok, Err, refl, sym, ap, ◌∙◌, subst}
 use Rattle.std.specs.Prelude.{Option, Some, None, IfErr}
 use Rattle.std.proofs.lemmas.List.{take_more}
@@ -17,7 +17,7 @@ use Rattle.debug_server.specs.declared.faults.RunFault.TheVariants.{Schedule}
 use Rattle.debug_server.specs.Schedules.{StopsBy, fault_by}
 use Rattle.debug_server.proofs.Stopping.{stops_by_number, refused_at, of_schedule}
 
--- the first i events were run
+-- The first i events were run.
 pub record Ran (s : Machine) (es : List Event) (i : ℕ) (m : Machine) : Type 0 where
   pub here : m ≡ run s (take i es)
   pub accepts : Accepts s (take i es)
@@ -30,7 +30,7 @@ ran_more s m n es i e d h r next g =
       accepts = subst (Accepts s) (sym one) (accepts-push s (take i es) e r.accepts (ap (λ x. refusal x e) (sym r.here) ∙ next.accepted));
     }
 
--- where the next one is refused
+-- The next event is refused.
 pub ran_stops : (s m : Machine) (es : List Event) (i : ℕ) (e d : Event) (n : Refusal) → i < length es → Ran s es i m → e ≡ get_or es i d
     → ((k : Refusal) → refusal m e ≡ Some k → n ≡ k) → (refusal m e ≡ None → n ≡ Memory) → (setup : Setup) → s ≡ start setup → StopsBy setup es (fault_by i n)
 ran_stops s m es i e d n h ran g refused memory setup from = by (refusal m e) refl
@@ -46,7 +46,7 @@ ran_stops s m es i e d n h ran g refused memory setup from = by (refusal m e) re
           refused = inl (ap (λ x. refusal x e) (sym here) ∙ p ∙ ap Some (sym (refused k p)));
         })
 
--- a call that stops by a fault
+-- A call that stops with a fault.
 pub stops_at : {A : Type 0} (setup : Setup) (es : List Event) (r : Result A RunFault) → IfErr r (λ e. StopsBy setup es e) → IfErr r (λ e. (i : ℕ) → (n : Refusal) → e ≡ Schedule i n → IsRefused setup es i n)
 stops_at setup es (Ok x) h = tt
 stops_at setup es (Err e) h = refused_at setup es e h

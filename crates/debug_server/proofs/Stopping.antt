@@ -1,4 +1,4 @@
--- What a schedule that stops says.
+-- The fault of a schedule that stops.
 use Rattle.std.proofs.Common.{◌≡◌, inl, inr, ℕ, List, ◌∷◌, [], refl, sym, subst}
 use Rattle.scenario.specs.declared.setup.Setup.{Setup}
 use Rattle.scenario.specs.declared.event.Event.{Event}
@@ -32,6 +32,6 @@ of_schedule setup es OutOfMemory s = refl
 of_schedule setup es Net s = absurd s
 of_schedule setup es (Trace f) s = absurd s
 
--- what refuses a trace's events stops the schedule
+-- If a walk refuses the events, the schedule stops with the corresponding fault.
 pub stops_for : (setup : Setup) (es : List Event) (e : ExtendRefusal) (f : RunFault) → f ≡ fault_of e → ((i : ℕ) (n : Refusal) → e ≡ Refused i n → RefusedAt (start setup) es i n) → StopsBy setup es f
 stops_for setup es e f q h = let P : RunFault → Type 0 = λ x. StopsBy setup es x in subst P (sym q) (stops_by setup es e h)

@@ -1,4 +1,4 @@
--- Which event a trace parts at, and which is refused first.
+-- Proofs of the laws of `torn_from` and `refused_from`.
 use Rattle.std.proofs.Common.{◌≡◌, ◌≢◌, ℕ, zero, suc, ◌+◌, ◌<◌, List, [], ◌∷◌, length, take, Bool, true, false, Option, Some, None, refl, ap, arith}
 use Rattle.std.specs.Prelude.{slice_get}
 use Rattle.scenario.specs.declared.event.Event.{Event}
@@ -9,9 +9,9 @@ use Rattle.machine.specs.Runs.{Accepts}
 use Rattle.debug_server.specs.Syncs.{same_event, torn_from, refused_from, IsTorn, IsFirstRefused}
 use Rattle.debug_server.proofs.Torn.{event_decides}
 
--- ---- where a trace is torn
+-- ---- The first difference
 
--- behind an event that is the same
+-- After an equal event.
 torn_later : (e f : Event) (es fs : List Event) (k : ℕ) → e ≡ f → IsTorn es fs k → IsTorn (e ∷ es) (f ∷ fs) (suc k)
 torn_later e f es fs k s t = record { event = t.event; there = t.there; same = same; differs = t.differs }
   where
@@ -19,7 +19,7 @@ torn_later e f es fs k s t = record { event = t.event; there = t.there; same = s
     same zero h = ap Some s
     same (suc i) h = t.same i (omega arith)
 
--- an event that stands in no place of the other trace
+-- The other list doesn't have this event at its index.
 torn_now : (e : Event) (es fs : List Event) → slice_get fs zero ≢ Some e → IsTorn (e ∷ es) fs zero
 torn_now e es fs h = record { event = e; there = refl; same = λ i b. absurd (omega arith); differs = h }
 
@@ -45,7 +45,7 @@ torn_whole i (e ∷ es) (f ∷ fs) h = by (same_event e f) refl (torn_whole (i +
     by true s g = let same = (event_decides e f).0 s in let rest = g (rw s at h) in cc
     by false s g = absurd (let x = rw s at h in cc)
 
--- ---- events that are refused
+-- ---- Refused events
 
 pub refused_is : (i : ℕ) (m : Machine) (es : List Event) (j : ℕ) → refused_from i m es ≡ Some j → (k : ℕ) × (j ≡ i + k) × IsFirstRefused m es k
 unfolding refused_from

@@ -1,4 +1,4 @@
--- A line asks the source exactly where it is the command sync.
+-- A line queries the source exactly if it is the command `sync`.
 use Rattle.std.proofs.Common.{◌≡◌, ℕ, ◌+◌, List, [], ◌∷◌, length, take, drop, codes, nat_lt, Bool, true, false, cond, Option, Some, None, Result, Ok, Err, refl, sym, ap, ◌∙◌}
 use Rattle.std.specs.List.{join_with_byte}
 use Rattle.std.specs.Str.{bytes_eq}
@@ -18,7 +18,7 @@ use Rattle.commands.specs.declared.verb.Verb.TheVariants as verb
 use Rattle.commands.specs.Commands.{words_of, verb_of, numbered, placed, mark_of, value_in, stopping_at, breaking_by, command_by, command_of_words, command_of}
 use Rattle.debug_server.specs.Transcripts.{asks}
 
--- ---- a line that asks
+-- ---- Lines that query the source
 
 is_sync : (setup : Setup) → command_of setup (codes "sync") ≡ Ok Sync
 unfolding command_of
@@ -28,9 +28,9 @@ pub asked_is_sync : (setup : Setup) (line : List ℕ) → asks line ≡ true →
 unfolding asks
 asked_is_sync setup line h = ap (command_of setup) ((bytes_decides line (codes "sync")).0 h) ∙ is_sync setup
 
--- ---- the command sync
+-- ---- The command `sync`
 
--- none of the other commands is it
+-- No other command is `sync`.
 placed_not : (r : Result Place PlaceFault) (f : Place → Result Command CommandFault) → ((p : Place) → f p ≡ Ok Sync → ⊥) → placed r f ≡ Ok Sync → ⊥
 placed_not (Ok p) f n h = n p h
 placed_not (Err e) f n h = cc

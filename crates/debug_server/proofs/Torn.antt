@@ -1,4 +1,4 @@
--- What a run and the trace of a source have in common.
+-- The first difference between a run and a source's trace.
 use Rattle.std.proofs.Common.{◌≡◌, ◌≢◌, inl, inr, ℕ, zero, suc, ◌+◌, ◌<◌, ◌≤◌, List, [], ◌∷◌, length, take, drop, get_or, Bool, true, false, cond, Option, Some, None, refl, sym, ap, ◌∙◌, subst, arith, add-one, drop-cons}
 use Rattle.std.specs.Prelude.{is_some, slice_get}
 use Rattle.std.specs.Bool.{Decides}
@@ -22,7 +22,7 @@ use Rattle.debug_server.specs.SessionStates.{SessionState, walked_to}
 use Rattle.debug_server.specs.Replies.{event_text, takes_over}
 use Rattle.debug_server.specs.Refusing.{Tells}
 
--- ---- events
+-- ---- Events
 
 differing : {P : Type 0} → (P → ⊥) → Decides false P
 differing f = (λ e. cc, λ p. absurd (f p))
@@ -47,7 +47,7 @@ nothing_of : (b : Bool) → (b ≡ true → ⊥) → b ≡ false
 nothing_of true h = absurd (h refl)
 nothing_of false h = refl
 
--- ---- where a trace is torn
+-- ---- The first difference
 
 drop_at : (es : List Event) (i : ℕ) (d : Event) → i < length es → drop i es ≡ get_or es i d ∷ drop (i + 1) es
 drop_at es i d h = drop-cons es i d h ∙ ap (λ n. get_or es i d ∷ drop n es) (sym (add-one i))
@@ -58,7 +58,7 @@ drop_none [] (suc i) h = refl
 drop_none (e ∷ es) zero h = absurd (omega arith)
 drop_none (e ∷ es) (suc i) h = drop_none es i (omega arith)
 
--- one event that is the same
+-- The events at this index are equal.
 pub torn_on : (es fs : List Event) (i : ℕ) (d : Event) → i < length es → i < length fs → get_or es i d ≡ get_or fs i d → torn_from 0 es fs ≡ torn_from i (drop i es) (drop i fs) → torn_from 0 es fs ≡ torn_from (i + 1) (drop (i + 1) es) (drop (i + 1) fs)
 unfolding torn_from
 torn_on es fs i d h k s t =
@@ -66,7 +66,7 @@ torn_on es fs i d h k s t =
     ∙ ap (torn_from i (get_or es i d ∷ drop (i + 1) es)) (drop_at fs i d k)
     ∙ ap (λ q. cond q (torn_from (i + 1) (drop (i + 1) es) (drop (i + 1) fs)) (Some i)) ((event_decides (get_or es i d) (get_or fs i d)).1 s)
 
--- one that differs
+-- The events at this index differ.
 pub torn_here : (es fs : List Event) (i : ℕ) (d : Event) → i < length es → i < length fs → (get_or es i d ≡ get_or fs i d → ⊥) → torn_from 0 es fs ≡ torn_from i (drop i es) (drop i fs) → torn_from 0 es fs ≡ Some i
 unfolding torn_from
 torn_here es fs i d h k s t =
@@ -84,16 +84,16 @@ unfolding torn_from
 torn_some i [] b = absurd (omega arith)
 torn_some i (x ∷ xs) b = refl
 
--- the other trace ends
+-- The other list ends at this index.
 pub torn_end : (es fs : List Event) (i : ℕ) → i < length es → length fs ≤ i → torn_from 0 es fs ≡ torn_from i (drop i es) (drop i fs) → torn_from 0 es fs ≡ Some i
 torn_end es fs i h k t = t ∙ ap (torn_from i (drop i es)) (drop_none fs i k) ∙ torn_some i (drop i es) (length_rest es i h)
 
--- no event is left
+-- No event is left.
 pub torn_none : (es fs : List Event) (i : ℕ) → length es ≤ i → torn_from 0 es fs ≡ torn_from i (drop i es) (drop i fs) → torn_from 0 es fs ≡ None
 unfolding torn_from
 torn_none es fs i h t = t ∙ ap (λ l. torn_from i l (drop i fs)) (drop_none es i h)
 
--- a trace that isn't torn is no longer than the other
+-- A list without a difference is no longer than the other.
 pub torn_length : (i : ℕ) (es fs : List Event) → torn_from i es fs ≡ None → length es ≤ length fs
 unfolding torn_from
 torn_length i [] fs h = omega arith
@@ -104,9 +104,9 @@ torn_length i (e ∷ es) (f ∷ fs) h = by (same_event e f) refl (torn_length (i
     by true k g = let n = g (rw k at h) in omega arith
     by false k g = absurd (let x = rw k at h in cc)
 
--- ---- events that are refused
+-- ---- Refused events
 
--- none is
+-- No event is refused.
 pub refused_none : (i : ℕ) (m : Machine) (es : List Event) → Accepts m es → refused_from i m es ≡ None
 unfolding refused_from
 refused_none i m [] h = refl
@@ -123,19 +123,19 @@ refused_first i (suc k) m (x ∷ es) e n a g r =
     ∙ refused_first (i + 1) k (after m x) es e n a.1 g r
     ∙ ap (λ j. Some j) (let z : i + 1 + k ≡ i + suc k = omega arith in z)
 
--- the one that a rule refuses
+-- The event that a rule refuses.
 pub refused_one : (i k : ℕ) (m : Machine) (es : List Event) (n : Refusal) → n ≢ Memory → RefusedAt m es k n → refused_from i m es ≡ Some (i + k)
 refused_one i k m es n d s = refused_first i k m es s.event n s.runs s.there (elim s.refused [ inl e ↦ e | inr e ↦ absurd (d e.0) ])
 
--- what is told of it
+-- The reply that names it.
 pub refused_told : (known : ℕ) (m : Machine) (es : List Event) (e : ExtendRefusal) (text : List ℕ) → ((i : ℕ) (n : Refusal) → e ≡ Refused i n → RefusedAt m es i n) → Tells known e text → (k : ℕ) × (refused_from known m es ≡ Some (known + k)) × (text ≡ event_text (known + k))
 refused_told known m es TraceFull text s t = absurd t
 refused_told known m es (Refused i Memory) text s t = absurd t
 refused_told known m es (Refused i n) text s t = (i, refused_one known i m es n (λ e. cc) (s i n refl), t)
 
--- ---- as the code has them
+-- ---- In the form that the code needs
 
--- the first of the source's events that the run lacks and that is refused
+-- The index of the first of the source's new events that is refused.
 abbrev pub fate : SessionState → List Event → Option ℕ
 fate v es = refused_from (length v.walk.events) (ending v.walk) (drop (length v.walk.events) es)
 
@@ -145,14 +145,14 @@ taken v w known es rest a b c h =
     let P : Walk → Type 0 = λ x. Accepts (ending x) rest in
     refused_none (length v.walk.events) (ending v.walk) (drop (length v.walk.events) es) (subst (Accepts (ending v.walk)) r (subst P a h))
 
--- the run with the events that it lacked
+-- The run with the new events.
 pub taken_next : (v : SessionState) (w u : Walk) (m : Stops) (known : ℕ) (es rest : List Event) → w ≡ v.walk → known ≡ length w.events → rest ≡ drop known es → u ≡ extended w rest → m ≡ v.stops → (let x : SessionState = record { walk = u; stops = m } in x) ≡ walked_to v (extended v.walk (drop (length v.walk.events) es))
 taken_next v w u m known es rest a b c d e =
     let r : rest ≡ drop (length v.walk.events) es = c ∙ ap (λ n. drop n es) (b ∙ ap (λ (x : Walk). length x.events) a) in
     let f : u ≡ extended v.walk (drop (length v.walk.events) es) = d ∙ ap (λ x. extended x rest) a ∙ ap (extended v.walk) r in
     λ i. record { walk = f i; stops = e i }
 
--- an event was refused, and that is told
+-- An event was refused, and the reply names it.
 pub left : (v : SessionState) (w : Walk) (known : ℕ) (es rest : List Event) (e : ExtendRefusal) (text : List ℕ) → w ≡ v.walk → known ≡ length w.events → rest ≡ drop known es → ((i : ℕ) (n : Refusal) → e ≡ Refused i n → RefusedAt (ending w) rest i n) → Tells known e text → (i : ℕ) × (fate v es ≡ Some i) × (text ≡ event_text i)
 left v w known es rest e text a b c h t =
     let k : known ≡ length v.walk.events = b ∙ ap (λ (x : Walk). length x.events) a in

@@ -11,7 +11,7 @@ use Rattle.debug_server.specs.Transcripts.{asks, Given, given_to, line_on, Trans
 use Rattle.debug_server.specs.Pending.{IsPending, grown, rest_of}
 use Rattle.debug_server.proofs.Bytes.{onto_lines, onto_lines-cons, onto_lines-nil, lines_by-plain, grown_room, grown_full}
 
--- only a short line asks
+-- Only a short line queries the source.
 pub asks_short : (line : List ℕ) → 256 < length line → asks line ≡ false
 unfolding asks
 asks_short line h = by (bytes_eq line (codes "sync")) refl
@@ -20,11 +20,11 @@ asks_short line h = by (bytes_eq line (codes "sync")) refl
     by true e = absurd (let n : length line ≡ 4 = ap length ((bytes_decides line (codes "sync")).0 e) in omega arith)
     by false e = e
 
--- a line takes just these answers, and gets this one
+-- A line takes exactly these answers, and gets this one.
 abbrev pub Takes : Bool → List Answer → Answer → Type 0
 Takes q ts answer = given_to q ts ≡ Some (record { answer = answer; left = [] })
 
--- the answers behind those that it takes are left
+-- Any further answers are left.
 given_behind : (q : Bool) (ts others : List Answer) (g : Given) → given_to q ts ≡ Some g → given_to q (ts ++ others) ≡ Some (record { answer = g.answer; left = g.left ++ others })
 given_behind false ts others g h =
     let was : Given = record { answer = None; left = ts } in
@@ -36,7 +36,7 @@ given_behind true (a ∷ ts) others g h =
     let same : was ≡ g = cc in
     ap (λ (x : Given). let y : Given = record { answer = x.answer; left = x.left ++ others } in Some y) same
 
--- what is said after a reply
+-- The transcript from a reply on.
 abbrev pub then_prepended : Reply → List (List ℕ) → List Answer → Transcript
 then_prepended r ls ts = prepended r.text (cond r.quits (ended r.next true (Some ts)) (transcript r.next ls ts))
 
@@ -44,7 +44,7 @@ pub transcript_line : (w : SessionState) (l : List ℕ) (ls : List (List ℕ)) (
 transcript_line w l ls given others answer h =
     ap (λ (o : Option Given). line_on w l o (λ v us. transcript v ls us)) (given_behind (asks l) given others (record { answer = answer; left = [] }) h)
 
--- no answer is left over
+-- No answer is left over.
 abbrev pub NoneOver : Option (List Answer) → Type 0
 NoneOver left = (ts : List Answer) → left ≡ Some ts → ts ≡ []
 
@@ -54,7 +54,8 @@ over_none ts e = absurd (cc)
 pub over_nil : NoneOver (Some [])
 over_nil ts e = cc
 
--- where the transcript over later lines leaves no answer, so does a reply before it
+-- If the transcript of the later lines leaves no answer, neither does the one with a reply before
+-- it.
 abbrev AskedLater : List (List ℕ) → Type 0
 AskedLater ls = (v : SessionState) → NoneOver (transcript v ls []).left
 
@@ -66,24 +67,24 @@ asked_line : (q : Bool) (v : SessionState) (l : List ℕ) (ls : List (List ℕ))
 asked_line true v l ls f = over_none
 asked_line false v l ls f = asked_behind ls (reply v l None) (reply v l None).quits f
 
--- without an answer a transcript goes up to the first line that asks
+-- Without answers, a transcript stops at the first line that queries the source.
 pub alone_asked : (ls : List (List ℕ)) (v : SessionState) → NoneOver (transcript v ls []).left
 alone_asked [] v = over_nil
 alone_asked (l ∷ ls) v = asked_line (asks l) v l ls (λ w. alone_asked ls w)
 
--- what is left to say without an answer
+-- The rest of a transcript without answers leaves none.
 pub rest_asked : (last q : Bool) (v : SessionState) (line : List ℕ) → NoneOver (rest_of last q v line []).left
 rest_asked last true v line = over_nil
 rest_asked last false v line = alone_asked (lines_by last line) v
 
--- a line that asks, and no answer
+-- A line that queries the source when there is no answer.
 pub lacking : (v : SessionState) (l : List ℕ) (ls : List (List ℕ)) → asks l ≡ true → (transcript v (l ∷ ls) []).left ≡ None
 lacking v l ls h = rw h refl
 
 pub prepended_prepended : (a b : List ℕ) (t : Transcript) → prepended a (prepended b t) ≡ prepended (a ++ b) t
 prepended_prepended a b t = ap (λ (x : List ℕ). let u : Transcript = record { text = x; next = t.next; quits = t.quits; left = t.left } in u) (sym (append_assoc a b t.text))
 
--- lines past the limit have one reply
+-- All lines past the limit have the same reply.
 reply_long : (w : SessionState) (a b : List ℕ) (t : Answer) → 256 < length a → 256 < length b → reply w a t ≡ reply w b t
 unfolding reply command_of
 reply_long w a b t p q =
@@ -94,14 +95,14 @@ reply_long w a b t p q =
 takes_short : (line : List ℕ) → 256 < length line → Takes (asks line) [] None
 takes_short line h = ap (λ q. given_to q []) (asks_short line h)
 
--- a transcript goes by the first line's reply
+-- So the transcripts from such lines on are equal.
 transcript_first : (w : SessionState) (a b : List ℕ) (ls : List (List ℕ)) (ts : List Answer) → 256 < length a → 256 < length b → transcript w (a ∷ ls) ts ≡ transcript w (b ∷ ls) ts
 transcript_first w a b ls ts p q =
     transcript_line w a ls [] ts None (takes_short a p)
     ∙ ap (λ r. then_prepended r ls ts) (reply_long w a b None p q)
     ∙ sym (transcript_line w b ls [] ts None (takes_short b q))
 
--- one byte more or less of a line past the limit
+-- One more byte in a line past the limit changes nothing.
 long_byte : (last : Bool) (w : SessionState) (line : List ℕ) (b : ℕ) (ls : List (List ℕ)) (ts : List Answer) → length line ≡ 257 → transcript w (onto_lines last line (onto_line last b ls)) ts ≡ transcript w (onto_lines last line ls) ts
 long_byte true w line b [] ts h =
     ap (λ x. transcript w x ts) (onto_lines-cons true line (b ∷ []) [])
@@ -116,7 +117,7 @@ long_byte last w line b (l ∷ ls) ts h =
 cases_room : (n : ℕ) → n ≤ 257 → (n ≤ 256) ⊎ (n ≡ 257)
 cases_room n h = grind arith
 
--- a byte goes onto a line, kept or not
+-- A byte appended to a line, whether it is stored or not.
 pub grown_alike : (last : Bool) (w : SessionState) (line : List ℕ) (b : ℕ) (more : List ℕ) (ts : List Answer) → IsPending line → (b == 10) ≡ false → transcript w (lines_by last (line ++ b ∷ more)) ts ≡ transcript w (lines_by last (grown line b ++ more)) ts
 grown_alike last w line b more ts p e =
     elim (cases_room (length line) p.short) as (λ _. transcript w (lines_by last (line ++ b ∷ more)) ts ≡ transcript w (lines_by last (grown line b ++ more)) ts) [
@@ -127,9 +128,9 @@ grown_alike last w line b more ts p e =
           ap (λ x. transcript w x ts) there ∙ long_byte last w line b (lines_by last more) ts full ∙ ap (λ x. transcript w x ts) (sym here)
     ]
 
--- ---- lines behind one that quits
+-- ---- Lines after one that ends the session
 
--- lines behind these change nothing where one of these quits
+-- If one of these lines ends the session, the lines after them change nothing.
 abbrev QuitLater : List (List ℕ) → List (List ℕ) → Type 0
 QuitLater ls more = (w : SessionState) (us : List Answer) → (transcript w ls us).quits ≡ true → transcript w (ls ++ more) us ≡ transcript w ls us
 

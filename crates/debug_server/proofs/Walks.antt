@@ -1,4 +1,4 @@
--- What a walk over events comes to, by how its session replied.
+-- The outcome of a session over events, given the outcome of its replies.
 use Rattle.std.proofs.Common.{◌≡◌, ℕ, true, false, List, [], ◌∷◌, Result, Ok, Err, refl, sym, ◌∙◌}
 use Rattle.std.specs.Prelude.{OnOk, IfErr}
 use Rattle.scenario.specs.declared.event.Event.{Event}

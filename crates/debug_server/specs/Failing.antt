@@ -1,4 +1,4 @@
--- What is printed of a run that fails: one line, of words and numbers.
+-- The line that the program prints when it fails: words and numbers.
 use Rattle.std.specs.Prelude.{ℕ, List, [], ◌++◌, codes, decimal, Option, Some, None}
 use Rattle.script.specs.declared.fault.Key.{Key}
 use Rattle.script.specs.declared.fault.Key.TheVariants as key
@@ -31,12 +31,12 @@ key_text key.Fds = codes "fds"
 key_text key.Threads = codes "threads"
 key_text key.Schedule = codes "schedule"
 
--- an index behind a space, or nothing
+-- A space and an index, or nothing.
 abbrev pub index_text : Option ℕ → List ℕ
 index_text None = []
 index_text (Some i) = codes " " ++ decimal i
 
--- a key, and its indexes
+-- A key and its indexes.
 abbrev pub path_text : Path → List ℕ
 path_text p = key_text p.key ++ (index_text p.item ++ index_text p.inner)
 
@@ -66,7 +66,8 @@ run_fault_text run.Memory = codes "fault memory"
 run_fault_text run.Net = codes "fault net"
 run_fault_text (run.Trace fault) = trace_fault_text fault
 
--- a setup whose run has no start wants memory alone: a script's setup has a start
+-- A live run whose setup is refused can only have run out of memory, since a script's setup is
+-- valid.
 abbrev pub live_fault_text : LiveFault → List ℕ
 live_fault_text (live.Setup refusal) = codes "fault memory"
 live_fault_text (live.Torn actor) = codes "fault torn"

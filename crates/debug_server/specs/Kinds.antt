@@ -1,10 +1,11 @@
--- What a fault of a run is of.
+-- The kinds of run faults.
 use Rattle.std.specs.Prelude.{Bool, true, false, List, IsTrue}
 use Rattle.std.specs.List.{list_any}
 use Rattle.debug_server.specs.declared.faults.RunFault.{RunFault}
 use Rattle.debug_server.specs.declared.faults.RunFault.TheVariants.{Script, Schedule, Serve, Memory, Net, Trace}
 
--- of a script, of its schedule, of serving lines, of memory, of listening, of a trace
+-- A fault of a script, of its schedule, of serving lines, of allocation, of the network, or of a
+-- trace.
 pub data Kind : Type 0 where
   OfScript : Kind
   OfSchedule : Kind
@@ -22,6 +23,6 @@ is_kind Net OfListening = true
 is_kind (Trace f) OfTrace = true
 is_kind f k = false
 
--- a fault of one of these kinds
+-- The fault has one of these kinds.
 abbrev pub IsOf : List Kind → RunFault → Type 0
 IsOf kinds f = IsTrue (list_any (is_kind f) kinds)

@@ -1,4 +1,4 @@
--- What live runs can fail by.
+-- The faults of live runs.
 use Rattle.std.specs.Prelude.{◌≡◌, ◌≢◌, ℕ, List, [], ◌∷◌, Ok}
 use Rattle.scenario.specs.declared.setup.Setup.{Setup}
 use Rattle.scenario.specs.declared.setup.SetupRefusal.TheVariants.{Memory as WantOfMemory}
@@ -10,14 +10,14 @@ use Rattle.debug_server.specs.declared.faults.Fault.{Fault as Failure}
 use Rattle.debug_server.specs.declared.faults.Fault.TheVariants.{File, Run, Live}
 use Rattle.debug_server.specs.Kinds.{IsOf, OfScript, OfMemory}
 
--- A run of so many actors over a setup wasn't closed. A setup that has a start wants memory alone,
--- and a strange run is of another setup, or of another number of actors.
+-- A fault of running a valid setup with `count` actors. Such a setup is refused only if an
+-- allocation fails. A strange run has another setup or another number of actors.
 abbrev pub IsOfRunning : Setup → ℕ → LiveFault → Type 0
 IsOfRunning setup count (live.Setup n) = n ≡ WantOfMemory
 IsOfRunning setup count (live.Torn actor) = Unit {0}
 IsOfRunning setup count (live.Strange s k) = s ≡ setup → k ≢ count
 
--- a fault of a script, or of the run over its setup, with so many kernel workers
+-- A fault of a script, or of a run over its setup with `kernel` kernel workers.
 abbrev pub IsOfLive : List ℕ → ℕ → Failure → Type 0
 IsOfLive text kernel File = ⊥
 IsOfLive text kernel (Run fault) = IsOf (OfScript ∷ OfMemory ∷ []) fault

@@ -1,4 +1,5 @@
--- A line that has not ended yet. Past its limit no byte of it matters, so the first 257 stand for all.
+-- An incomplete line. Bytes past the limit of a command don't matter, so the first 257 represent
+-- all.
 use Rattle.std.specs.Prelude.{◌≡◌, ◌⊎◌, ◌≤◌, ℕ, ◌==◌, not, List, [], ◌∷◌, ◌++◌, length, take, Bool, true, false, if◌then◌else◌, Option, Some, None}
 use Rattle.std.specs.List.{list_all}
 use Rattle.std.specs.Io.KnownBytes.{Appends, Consumes}
@@ -10,58 +11,59 @@ use Rattle.debug_server.specs.Transcripts.{asks, given_to, Transcript, transcrip
 use Rattle.debug_server.specs.declared.faults.ServeFault.{ServeFault}
 use Rattle.debug_server.specs.declared.faults.ServeFault.TheVariants.{Read, Write, Memory, Closed}
 
--- no newline, and no byte past the limit
+-- The line has no newline, and no byte past index 256.
 pub record IsPending (line : List ℕ) : Type 0 where
   pub plain : list_all (λ b. not (b == 10)) line ≡ true
   pub short : length line ≤ 257
 
--- the line with one more byte
+-- The line after one more byte.
 abbrev pub grown : List ℕ → ℕ → List ℕ
 grown line b = take 257 (line ++ b ∷ [])
 
--- what is still to be said, unless a line has quit; the last line counts or doesn't
+-- The transcript that is still to be written, which is empty after `quit`. `last` says whether an
+-- incomplete last line counts.
 abbrev pub rest_of : Bool → Bool → SessionState → List ℕ → List Answer → Transcript
 rest_of last q v bytes answers = if q then ended v true (Some answers) else transcript v (lines_by last bytes) answers
 
--- Whatever follows them, the bytes were answered by what was written and by what is left to say.
+-- Whatever follows, the transcript is what was written and then the rest from state v' on.
 pub record Fed (v : SessionState) (bytes : List ℕ) (answers : List Answer) (written : List ℕ) (q : Bool) (v' : SessionState) (line : List ℕ) : Type 0 where
   pub law : (last : Bool) (more : List ℕ) (others : List Answer) → transcript v (lines_by last (bytes ++ more)) (answers ++ others) ≡ prepended written (rest_of last q v' (line ++ more) others)
 
--- Some bytes were fed, and the replies stand in the writer.
+-- Bytes were processed, and their replies were written.
 pub record Fills (v : SessionState) (bytes : List ℕ) (answers : List Answer) (held held' : Option (List ℕ)) (q : Bool) (v' : SessionState) (line : List ℕ) : Type 0 where
   pub written : List ℕ
   pub appended : Appends held held' written
   pub fed : Fed v bytes answers written q v' line
 
--- A beginning of the replies stands in the writer, whatever follows the bytes.
+-- A prefix of the replies was written, whatever bytes follow.
 pub record Breaks (v : SessionState) (bytes : List ℕ) (answers : List Answer) (held held' : Option (List ℕ)) : Type 0 where
   pub front : List ℕ
   pub appended : Appends held held' front
   pub begins : (more : List ℕ) (others : List Answer) → (rest : List ℕ) × (output v (ended_lines (bytes ++ more)) (answers ++ others) ≡ front ++ rest)
   pub asked : (more : List ℕ) (ts : List Answer) → (transcript v (ended_lines (bytes ++ more)) answers).left ≡ Some ts → ts ≡ []
 
--- a fault of replying: of writing, or of memory
+-- A fault of writing or of allocation.
 abbrev pub IsOfReplying : ServeFault → Type 0
 IsOfReplying Write = Unit {0}
 IsOfReplying Memory = Unit {0}
 IsOfReplying Read = ⊥
 IsOfReplying Closed = ⊥
 
--- The input ends in this line, which was answered unless it is empty.
+-- The input ends with this line, which was answered unless it is empty.
 pub record Ends (v : SessionState) (line : List ℕ) (answers : List Answer) (held held' : Option (List ℕ)) (q : Bool) (v' : SessionState) : Type 0 where
   pub text : List ℕ
   pub written : Appends held held' text
   pub whole : transcript v (lines_of line) answers ≡ record { text = text; next = v'; quits = q; left = Some [] }
 
--- Some bytes were read, and answered by what was written and what is left to say.
+-- Bytes were read, and the complete lines among them were answered.
 pub record Reads (v : SessionState) (unread unread' held held' : Option (List ℕ)) (answers : List Answer) (v' : SessionState) (line : List ℕ) : Type 0 where
   pub taken : List ℕ
   pub read : Consumes unread unread' taken
   pub fills : Fills v taken answers held held' false v' line
 
--- ---- the same with a source, and what it answered
+-- ---- The same with a source and its answers
 
--- The source was asked just what a line asks, and gave this answer.
+-- The source was queried exactly if the line is `sync`, and gave this answer.
 pub record Gave {S : Type 0} (gives : S → Answer → S → Type 0) (line : List ℕ) (before : S) (answer : Answer) (after : S) : Type 0 where
   pub answers : List Answer
   pub asked : Asked gives before answers after
@@ -84,7 +86,7 @@ pub record EndsBy {S : Type 0} (gives : S → Answer → S → Type 0) (before a
   pub asked : Asked gives before answers after
   pub ends : Ends v line answers held held' q v'
 
--- A beginning of the replies to the line that the input ends in was written.
+-- A prefix of the reply to the input's last line was written.
 pub record FrontBy {S : Type 0} (gives : S → Answer → S → Type 0) (fails : S → S → Type 0) (before after : S) (fault : ServeFault) (v : SessionState) (line : List ℕ) (held held' : Option (List ℕ)) : Type 0 where
   pub answers : List Answer
   pub gave : SourceGave gives fails before after answers (transcript v (lines_of line) answers).left fault

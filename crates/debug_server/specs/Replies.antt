@@ -1,4 +1,4 @@
--- What is replied to a line, and where the session stands after it.
+-- The reply to a line, and the session's state after it.
 use Rattle.std.specs.Prelude.{ℕ, ◌+◌, ◌-◌, min, List, ◌++◌, length, codes, decimal, drop, nat_lt, nat_le, Bool, true, false, if◌then◌else◌, Option, Some, None, Result, Ok, Err}
 use Rattle.places.specs.declared.place.Place.{Place}
 use Rattle.places.specs.declared.value.Value.{Value}
@@ -18,17 +18,17 @@ use Rattle.commands.specs.Commands.{command_of}
 use Rattle.debug_server.specs.Syncs.{torn_from, refused_from}
 use Rattle.debug_server.specs.SessionStates.{SessionState, walked_to, with_stops}
 
--- what a source can answer: a trace, or none
+-- A source's answer: a trace, or none.
 abbrev pub Answer : Type 0
 Answer = Option (List Event)
 
--- a reply, where the session stands after it, and whether no later line is answered
+-- A reply, the session's state after it, and whether it ends the session.
 pub record Reply : Type 0 where
   pub text : List ℕ
   pub next : SessionState
   pub quits : Bool
 
--- ---- texts
+-- ---- Texts
 
 abbrev pub fault_text : CommandFault → List ℕ
 fault_text fault.Command = codes "fault 1 command\n"
@@ -42,38 +42,38 @@ abbrev pub shown_text : Option Value → List ℕ
 shown_text None = codes "absent\n"
 shown_text (Some v) = value_text v ++ codes "\n"
 
--- a position of a run of so many events
+-- A position, and the number of events.
 abbrev pub at_text : ℕ → ℕ → List ℕ
 at_text at len = codes "at " ++ (decimal at ++ (codes " of " ++ (decimal len ++ codes "\n")))
 
--- how many watches there are
+-- The number of watches.
 abbrev pub watching_text : ℕ → List ℕ
 watching_text n = codes "watching " ++ (decimal n ++ codes "\n")
 
--- how many breaks there are
+-- The number of breaks.
 abbrev pub breaks_text : ℕ → List ℕ
 breaks_text n = codes "breaks " ++ (decimal n ++ codes "\n")
 
--- where a walk through a run of so many events stopped
+-- Where a walk over `len` events stopped.
 abbrev pub stop_text : ℕ → Stop → List ℕ
 stop_text len (stop.Change m) = codes "change at " ++ (decimal m ++ codes "\n")
 stop_text len (stop.Met m) = codes "met at " ++ (decimal m ++ codes "\n")
 stop_text len stop.Start = codes "start at 0\n"
 stop_text len stop.End = codes "end at " ++ (decimal len ++ codes "\n")
 
--- how many events there are now
+-- The number of events after `sync`.
 abbrev pub synced_text : ℕ → List ℕ
 synced_text n = codes "synced " ++ (decimal n ++ codes "\n")
 
--- where the run and the source's trace part
+-- The first index at which the run and the source's trace differ.
 abbrev pub torn_text : ℕ → List ℕ
 torn_text i = codes "refused 3 torn " ++ (decimal i ++ codes "\n")
 
--- which of the source's events is refused
+-- The index of the source's event that is refused.
 abbrev pub event_text : ℕ → List ℕ
 event_text i = codes "refused 4 event " ++ (decimal i ++ codes "\n")
 
--- ---- replies
+-- ---- Replies
 
 abbrev pub stays : SessionState → List ℕ → Reply
 stays v text = record { text = text; next = v; quits = false }
@@ -81,11 +81,11 @@ stays v text = record { text = text; next = v; quits = false }
 abbrev pub goes : SessionState → ℕ → Reply
 goes v m = record { text = at_text m (length v.walk.events); next = walked_to v (jumped v.walk m); quits = false }
 
--- the same, unless the run has no such moment
+-- The same, or a refusal if the run has no such moment.
 abbrev pub goes_to : SessionState → ℕ → Reply
 goes_to v m = if nat_le m (length v.walk.events) then goes v m else stays v (codes "refused 1 moment\n")
 
--- as many as there can be
+-- The list has the maximum number of watches or breaks.
 abbrev pub is_full : {X : Type 0} → List X → Bool
 is_full xs = nat_le 64 (length xs)
 
@@ -99,25 +99,25 @@ breaks v p x =
     if is_full v.stops.breakpoints then stays v (fault_text fault.Many)
     else record { text = breaks_text (length v.stops.breakpoints + 1); next = with_stops v (broken v.stops p x); quits = false }
 
--- by single steps, which aren't counted
+-- Moves by single steps, which the step counter doesn't count.
 abbrev pub stops_on : SessionState → Stop → Reply
 stops_on v s = record { text = stop_text (length v.walk.events) s; next = walked_to v (moved v.walk (position_of v.walk s)); quits = false }
 
--- by a jump
+-- Moves by a jump.
 abbrev pub stops_back : SessionState → Stop → Reply
 stops_back v s = record { text = stop_text (length v.walk.events) s; next = walked_to v (jumped v.walk (position_of v.walk s)); quits = false }
 
--- the events that the source has more, unless one is refused
+-- Appends the source's new events, unless one of them is refused.
 abbrev pub takes_over : SessionState → List Event → Option ℕ → Reply
 takes_over v es (Some i) = stays v (event_text i)
 takes_over v es None = record { text = synced_text (length es); next = walked_to v (extended v.walk (drop (length v.walk.events) es)); quits = false }
 
--- the same, unless the run is no beginning of the source's trace
+-- The same, or a refusal if the source's trace doesn't begin with the run.
 abbrev pub agrees : SessionState → List Event → Option ℕ → Reply
 agrees v es (Some i) = stays v (torn_text i)
 agrees v es None = takes_over v es (refused_from (length v.walk.events) (ending v.walk) (drop (length v.walk.events) es))
 
--- the source's events are taken over, unless it has none, or more than a trace may have
+-- Syncs with the source, unless there is none or it has more events than a trace may have.
 abbrev pub syncs : SessionState → Answer → Reply
 syncs v None = stays v (codes "refused 2 source\n")
 syncs v (Some es) = if nat_lt 1048576 (length es) then stays v (codes "refused 5 full\n") else agrees v es (torn_from 0 v.walk.events es)
@@ -137,6 +137,6 @@ reply_to v (Ok Rcont) answer = stops_back v (reverse_stop v.walk v.stops.watchpo
 reply_to v (Ok Sync) answer = syncs v answer
 reply_to v (Ok Quit) answer = record { text = codes "bye\n"; next = v; quits = true }
 
--- the reply to a line, with what the source answered
+-- The reply to a line, given the source's answer.
 unfoldable pub reply : SessionState → List ℕ → Answer → Reply
 reply v line answer = reply_to v (command_of v.walk.setup line) answer

@@ -1,4 +1,4 @@
--- A schedule that runs from the start, where it stops, and what a walk can fail by.
+-- A session at the end of a schedule, and the faults of running one.
 use Rattle.std.specs.Prelude.{ℕ, List, length}
 use Rattle.scenario.specs.declared.setup.Setup.{Setup}
 use Rattle.scenario.specs.declared.event.Event.{Event}
@@ -12,15 +12,15 @@ use Rattle.debug_server.specs.SessionStates.{SessionState, without_stops}
 use Rattle.debug_server.specs.declared.faults.RunFault.{RunFault}
 use Rattle.debug_server.specs.declared.faults.RunFault.TheVariants.{Script, Schedule, Serve, Memory, Net, Trace}
 
--- the walk over some events, at their end
+-- The walk over some events, at their end.
 abbrev pub walk_over : Setup → List Event → Walk
 walk_over setup es = moved (extended (fresh setup) es) (length es)
 
--- the session's state there, without watches and breaks
+-- The session's state there, without watches and breaks.
 abbrev pub state_over : Setup → List Event → SessionState
 state_over setup es = without_stops (walk_over setup es)
 
--- What a fault says of a schedule: the first event that was refused, or want of memory.
+-- The fault of a schedule: the first event that was refused, or an allocation failure.
 abbrev pub StopsBy : Setup → List Event → RunFault → Type 0
 StopsBy setup es (Schedule i n) = IsRefused setup es i n
 StopsBy setup es Memory = Unit {0}
@@ -33,7 +33,7 @@ abbrev pub fault_by : ℕ → Refusal → RunFault
 fault_by i refusal.Memory = Memory
 fault_by i n = Schedule i n
 
--- what a schedule that can't be added to a trace fails by
+-- The fault of a schedule that can't be appended to a walk.
 abbrev pub fault_of : ExtendRefusal → RunFault
 fault_of TraceFull = Memory
 fault_of (Refused i n) = fault_by i n

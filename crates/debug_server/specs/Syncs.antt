@@ -1,4 +1,4 @@
--- What a run and the trace of a source have in common, and what is refused of the rest.
+-- The first difference between a run and a source's trace, and the first refused event.
 use Rattle.std.specs.Prelude.{◌≡◌, ◌≢◌, ℕ, ◌+◌, ◌<◌, ◌==◌, ◌&&◌, List, [], ◌∷◌, take, slice_get, Bool, true, false, if◌then◌else◌, Option, Some, None, is_some}
 use Rattle.entries.specs.declared.choice.Choice.{Choice}
 use Rattle.entries.specs.declared.choice.Choice.TheVariants.{Full, Short, Eio}
@@ -25,28 +25,29 @@ same_event (Expire a) (Expire b) = a == b
 same_event (Tick a) (Tick b) = a == b
 same_event _ _ = false
 
--- The least index, of those from i on, at which a trace differs from another or at which that one ends.
+-- The first index at which the events differ from the others, or at which the others end. Indexes
+-- are counted from i.
 unfoldable pub torn_from : ℕ → List Event → List Event → Option ℕ
 torn_from i [] fs = None
 torn_from i (e ∷ es) [] = Some i
 torn_from i (e ∷ es) (f ∷ fs) = if same_event e f then torn_from (i + 1) es fs else Some i
 
--- The least index, of those from i on, of an event that is refused in its turn.
+-- The index of the first event that is refused, counted from i.
 unfoldable pub refused_from : ℕ → Machine → List Event → Option ℕ
 refused_from i m [] = None
 refused_from i m (e ∷ es) = if is_some (refusal m e) then Some i else refused_from (i + 1) (after m e) es
 
--- ---- what is said by it
+-- ---- The same as propositions
 
--- The event at an index is the first that doesn't stand in the other trace at its place: those before it do, and there
--- stands another, or none.
+-- The event at this index is the first that the other list doesn't have at the same index: it has
+-- another event there, or none.
 pub record IsTorn (events others : List Event) (index : ℕ) : Type 0 where
   pub event : Event
   pub there : slice_get events index ≡ Some event
   pub same : (i : ℕ) → i < index → slice_get events i ≡ slice_get others i
   pub differs : slice_get others index ≢ Some event
 
--- The event at an index is the first that is refused in its turn: those before it run.
+-- The event at this index is the first that is refused; those before it are accepted.
 pub record IsFirstRefused (start : Machine) (events : List Event) (index : ℕ) : Type 0 where
   pub event : Event
   pub there : slice_get events index ≡ Some event

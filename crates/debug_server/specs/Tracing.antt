@@ -1,4 +1,4 @@
--- Traces of scripts, and what making one can fail by.
+-- Traces of scripts.
 use Rattle.std.specs.Prelude.{◌≡◌, ℕ, List, length}
 use Rattle.script.specs.Scripts.{Scenario}
 use Rattle.traces.specs.Setups.{canonical, IsTrace2}
@@ -7,7 +7,7 @@ use Rattle.jobs.specs.declared.task.Form.{Form}
 use Rattle.jobs.specs.declared.task.Form.TheVariants.{Events, Whole}
 use Rattle.debug_server.specs.declared.tracing.Traced.{Traced}
 
--- bytes are the trace of a scenario in a form
+-- The bytes are the trace of a scenario in a form.
 abbrev pub IsSpelling : Form → Scenario → List ℕ → Type 0
 IsSpelling Events p bytes = IsTrace p.schedule bytes
 IsSpelling Whole p bytes = IsTrace2 (canonical p.setup) p.schedule bytes

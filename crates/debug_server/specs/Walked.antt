@@ -1,4 +1,4 @@
--- What walking some events comes to, without a source.
+-- The outcome of a session over some events, without a source.
 use Rattle.std.specs.Prelude.{◌≡◌, List, Bool}
 use Rattle.scenario.specs.declared.setup.Setup.{Setup}
 use Rattle.scenario.specs.declared.event.Event.{Event}
@@ -19,7 +19,7 @@ pub record Replied (start : SessionState) (before after : Streams) : Type 0 wher
   pub quits : Bool
   pub served : Served start before after answers next quits
 
--- A fault of serving broke its replies off, and is told as a run's.
+-- A serving fault interrupted the replies, and is reported as a run fault.
 pub record BrokenBy (start : SessionState) (before after : Streams) (run_fault : RunFault) : Type 0 where
   pub fault : ServeFault
   pub told : run_fault ≡ Serve fault
@@ -27,7 +27,8 @@ pub record BrokenBy (start : SessionState) (before after : Streams) (run_fault :
   pub unanswered : Unanswered answers
   pub broke : Broke start before after answers fault
 
--- The events run from the setup, and the session that stands at their end replied to what was read.
+-- The events are accepted from the setup's start, and a session at their end replied to what was
+-- read.
 pub record Walked (setup : Setup) (events : List Event) (before after : Streams) : Type 0 where
   pub runs : Accepts (start setup) events
   pub answers : List Answer
@@ -36,7 +37,7 @@ pub record Walked (setup : Setup) (events : List Event) (before after : Streams)
   pub quits : Bool
   pub served : Served (state_over setup events) before after answers next quits
 
--- The events run, and that session's replies were broken off.
+-- The events are accepted, and the replies of that session were interrupted.
 pub record BrokenOff (setup : Setup) (events : List Event) (before after : Streams) (fault : ServeFault) : Type 0 where
   pub runs : Accepts (start setup) events
   pub answers : List Answer

@@ -1,4 +1,4 @@
-//! Replies to lines.
+//! Replies to single lines.
 ghost use Rattle.std.specs.Prelude.{◌≡◌, ◌≤◌, length, option_map, IfOk, OnOk, OnErr};
 ghost use Rattle.inverse_log.specs.Walks.{jumped};
 ghost use Rattle.debug_server.specs.Replies.{at_text, goes_to, reply_to, reply};
@@ -14,7 +14,7 @@ use inverse_log::Walker;
 use machine::Event;
 use std::alloc::{AllocError, Global};
 
-// Goes to a moment, and says so. An `Err` changes nothing: the text is made first.
+// Moves to a moment and reports it. The text is built first, so that an `Err` changes nothing.
 fn jump(alloc: Global, walker: &mut Walker, moment: usize) -> Result<Vec<u8>, AllocError>
     requires { moment ≤ length walker.old.events }
     ensures text { IfOk result (λ text. text.items ≡ at_text moment (length walker.old.events)) }
@@ -26,7 +26,7 @@ fn jump(alloc: Global, walker: &mut Walker, moment: usize) -> Result<Vec<u8>, Al
     Ok(text)
 }
 
-// The same, unless the run has no such moment.
+// Does the same, or refuses if the run has no such moment.
 fn go_to(alloc: Global, visitor: &mut Visitor, moment: usize) -> Result<Vec<u8>, AllocError>
     ensures text { IfOk result (λ text. text.items ≡ (goes_to visitor.old moment).text) }
     ensures next { OnOk result (visitor.new ≡ (goes_to visitor.old moment).next) }
@@ -39,7 +39,7 @@ fn go_to(alloc: Global, visitor: &mut Visitor, moment: usize) -> Result<Vec<u8>,
     }
 }
 
-// Does what a command says, and answers the reply.
+// Executes a command and returns its reply.
 fn text_of(
     alloc: Global,
     visitor: &mut Visitor,
@@ -70,14 +70,15 @@ fn text_of(
     }
 }
 
-// Whether no later line is answered.
+// Returns whether the command ends the session.
 fn is_quit(command: Result<Command, CommandFault>) -> bool
     ensures { result ≡ is_quit command }
 {
     matches!(command, Ok(Command::Quit))
 }
 
-// Replies to one line, with what the source answered, and says whether no later line is answered.
+// Replies to one line, given the source's answer. Returns the text, and whether the line ends the
+// session.
 pub(crate) fn reply_to_line(
     alloc: Global,
     visitor: &mut Visitor,
@@ -93,7 +94,7 @@ pub(crate) fn reply_to_line(
     ensures err { OnErr result (visitor.new ≡ visitor.old) }
     ensures runs { Runs visitor.old.walk }
 {
-    // What is replied is of a run.
+    // For the proof: the walk's events run from the setup's start.
     let _position = visitor.position();
     let command = parse_line(alloc, visitor.walker.setup(), line)?;
     let text = text_of(alloc, visitor, command, answer)?;

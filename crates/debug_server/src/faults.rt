@@ -1,4 +1,4 @@
-//! What ends a run or a session early.
+//! Faults that end a run or a session early, and their texts.
 
 use live_runner::LiveFault;
 use machine::Refusal;
@@ -8,16 +8,16 @@ use std::fmt;
 use thiserror::Error;
 use traces::TraceFault;
 
-/// Why serving lines ended early.
+/// Why serving a session ended early.
 #[derive(Clone, Copy, Debug, PartialEq, Eq)]
 pub enum ServeFault {
     /// A read failed.
     Read = 1,
-    /// A write or a flush failed, or a write took nothing.
+    /// A write or a flush failed, or a write accepted no bytes.
     Write = 2,
-    /// Memory was refused.
+    /// An allocation failed.
     Memory = 3,
-    /// The session was closed: by a fault, or by a line that quit.
+    /// The session was already closed, by a fault or by `quit`.
     Closed = 4,
 }
 
@@ -26,17 +26,17 @@ pub enum ServeFault {
 pub enum RunFault {
     /// The first fault of the script.
     Script(ScriptFault),
-    /// The event at this index of the schedule was refused, and why.
+    /// The rules refused the event at this index of the schedule, for this reason.
     Schedule(u32, Refusal),
     Serve(ServeFault),
     Memory,
-    /// Listening or accepting failed.
+    /// Listening on the socket or accepting a client failed.
     Net,
     /// The first fault of the trace.
     Trace(TraceFault),
 }
 
-/// A path as it is printed: its key, and its indexes, each after a space.
+/// Prints a path: its key, and then its indexes, each after a space.
 #[derive(Clone, Copy)]
 pub struct PathText(pub Path);
 
@@ -58,7 +58,7 @@ impl fmt::Display for PathText {
     }
 }
 
-// A key's word.
+// Prints the name of a key.
 #[derive(Clone, Copy)]
 struct KeyText(Key);
 
@@ -86,7 +86,7 @@ impl fmt::Display for KeyText {
     }
 }
 
-// An index behind a space, or nothing.
+// Prints a space and an index, or nothing.
 #[derive(Clone, Copy)]
 struct IndexText(Option<u32>);
 
@@ -104,7 +104,7 @@ impl fmt::Display for IndexText {
     }
 }
 
-/// What the program prints as it fails.
+/// Why the program failed. It prints this as one line.
 #[derive(Drop, Error)]
 pub enum Fault {
     /// A file couldn't be read or written.

@@ -1,4 +1,4 @@
-//! Laws of the definitions.
+//! Proved facts about sessions, lines and traces.
 ghost use Rattle.std.specs.Prelude.{◌≡◌, ◌+◌, ℕ, ◌++◌, List, true, Ok, Some, None, length, take};
 ghost use Rattle.scenario.specs.declared.event.Event.{Event};
 ghost use Rattle.machine.specs.declared.whole.Machine.{Machine};
@@ -15,15 +15,15 @@ ghost use Rattle.debug_server.specs.Transcripts.{asks, Streams};
 ghost use Rattle.debug_server.specs.Walked.{Walked, BrokenOff};
 ghost use Rattle.debug_server.specs.declared.faults.ServeFault.{ServeFault};
 
-/// What is told of a trace and another is its first event that doesn't stand there; nothing is told
-/// only where the other begins with it.
+/// `torn_from` returns the index of the first event that the other trace doesn't have at that
+/// index. It returns `None` only if the other trace begins with all the events.
 pub fn torn_tells()
     ensures first { (es fs : List Event) (k : ℕ) → torn_from 0 es fs ≡ Some k → IsTorn es fs k }
     ensures whole { (es fs : List Event) → torn_from 0 es fs ≡ None → take (length es) fs ≡ es }
 {}
 
-/// What is told of events, counted from a number on, is the first that is refused in its turn;
-/// nothing is told only where none is.
+/// `refused_from` returns the index of the first refused event, counted from `from`. It returns
+/// `None` only if every event is accepted.
 pub fn refused_tells()
     ensures first { (from j : ℕ) (m : Machine) (es : List Event) → refused_from from m es ≡ Some j
         → (k : ℕ) × (j ≡ from + k) × IsFirstRefused m es k }
@@ -31,7 +31,7 @@ pub fn refused_tells()
         → Accepts m es }
 {}
 
-/// The source is asked for a line exactly where the line is the command sync.
+/// A line queries the source exactly if it is the command `sync`.
 pub fn sync_alone_asks()
     ensures asked { (setup : Setup) (line : List ℕ) → asks line ≡ true
         → command_of setup line ≡ Ok Sync }
@@ -39,20 +39,20 @@ pub fn sync_alone_asks()
         → asks line ≡ true }
 {}
 
-/// Lines that have ended stay the first ones, whatever follows.
+/// The complete lines of some bytes stay the first lines, whatever bytes follow.
 pub fn ended_lines_stay()
     ensures { (bytes more : List ℕ) → (ls : List (List ℕ))
         × (lines_of (bytes ++ more) ≡ ended_lines bytes ++ ls) }
 {}
 
-/// The setup that a trace of the second form has starts as the setup that the trace was written of
-/// does: neither the rounded sizes nor the zeros that its memory lacks change the machine.
+/// The setup stored in a trace of the second form has the same start as the original. Rounded ring
+/// sizes and omitted zeros of the memory don't change the state.
 pub fn traces_keep_the_start()
     ensures { (s : Setup) → setup_refusal s ≡ None → start (canonical s) ≡ start s }
 {}
 
-/// What is run from the setup of a trace is what is run from the setup that the trace was written
-/// of: the same events run and are refused, and a session replies the same to the same lines.
+/// A trace's setup and the original setup give the same runs. The same events are accepted and
+/// refused, and a session gives the same replies to the same lines.
 pub fn replays_are_the_run()
     ensures walked { (s : Setup) (events : List Event) (before after : Streams)
         → setup_refusal s ≡ None → Walked (canonical s) events before after

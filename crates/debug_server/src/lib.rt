@@ -1,4 +1,4 @@
-//! The debugger's sessions: lines of commands in, replies out.
+//! Debugger sessions: they read lines of commands and write a reply to each.
 #![tactic(auto)]
 
 mod answering;

@@ -1,10 +1,10 @@
-//! The line that is being read.
+//! A buffer for the line that is being read.
 ghost use Rattle.std.specs.Prelude.{◌≡◌, ◌==◌, [], false};
 
 use commands::LIMIT;
 use std::marker::Model;
 
-// The line that has not ended yet: of a longer one, the first bytes past the limit.
+// An incomplete line. It stores at most 257 bytes, one more than the limit of a command.
 #[derive(Drop)]
 pub(crate) struct Line {
     bytes: [u8; 257],
@@ -47,7 +47,7 @@ impl Line {
         self.len = 0;
     }
 
-    // Adds a byte, while there is room.
+    // Appends a byte, unless the buffer is full.
     pub(crate) fn push(&mut self, byte: u8)
         requires { (byte == 10) ≡ false }
         ensures grown { self.new ≡ grown self.old byte }

@@ -1,4 +1,4 @@
-//! Runs that threads make together from a script's setup.
+//! Live runs of a script's setup: the runs, sessions over them, and their traces.
 ghost use Rattle.std.specs.Prelude.{◌≡◌, ◌≢◌, ◌≤◌, ◌∷◌, [], false, Ok, Err, IfOk, IfErr, OnOk, length};
 ghost use Rattle.std.specs.Io.KnownBytes.{Keeps};
 ghost use Rattle.live_runner.specs.Actors.{actors};
@@ -26,8 +26,8 @@ use std::thread::Threads;
 use std::time::Clock;
 use traces::write_trace2;
 
-/// Reads a script, and runs a thread for each actor of its setup, each of which makes so many
-/// turns. The schedule isn't run.
+/// Reads a script and runs its setup with one thread per actor, each of which takes `turns` turns.
+/// The script's schedule isn't used. `kernel` is the number of kernel workers.
 pub fn live_script<R: Threads + Wait + Clock + Sync>(
     rt: &R,
     alloc: Global,
@@ -36,8 +36,7 @@ pub fn live_script<R: Threads + Wait + Clock + Sync>(
     kernel: u32,
 ) -> Result<Closed, Fault>
     requires { kernel ≤ 8 }
-    // The run is whole: its events run from the setup of the script to its state, and it is that
-    // setup's.
+    // The run is whole: its events are accepted and lead to its state. Its setup is the script's.
     ensures ok { IfOk result (λ c. Whole c
         × ((p : Scenario) × Reads text.now (Ok p) × (c.setup ≡ p.setup)
         × (c.actors ≡ actors p.setup kernel))) }
@@ -55,7 +54,7 @@ pub fn live_script<R: Threads + Wait + Clock + Sync>(
     }
 }
 
-// Runs a thread for each actor of a script's setup.
+// Runs a script's setup with one thread per actor.
 fn run_setup<R: Threads + Wait + Clock + Sync>(
     rt: &R,
     alloc: Global,
@@ -73,23 +72,24 @@ fn run_setup<R: Threads + Wait + Clock + Sync>(
     run_live(rt, alloc, script.setup(), kernel, turns, &AlwaysOpen)
 }
 
-/// Replies to the lines that the reader gives, over a run that was closed.
+/// Replies to the reader's lines in a session over a closed run.
 pub fn answer_closed<R: Read, W: Write>(
     alloc: Global,
     closed: &Closed,
     reader: &mut R,
     writer: &mut W,
 ) -> Result<(), RunFault>
-    // What is written is the output of the session of the run's setup and events, without a source.
+    // The bytes written are the output of a session over the run's setup and events, without a
+    // source.
     ensures ok { OnOk result (Walked closed.now.setup closed.now.events
         (streams (R.remaining reader.old) (W.contents writer.old))
         (streams (R.remaining reader.new) (W.contents writer.new))) }
     ensures memory { IfErr result (λ e. e ≡ RunFault.Memory
         → Keeps (W.contents writer.old) (W.contents writer.new)) }
-    // At any other fault than one of serving nothing was read.
+    // Unless serving failed, nothing was read.
     ensures unread { IfErr result (λ e. is_kind e OfServing ≡ false
         → Keeps (R.remaining reader.old) (R.remaining reader.new)) }
-    // At a fault of serving a beginning of that output was written.
+    // If serving failed, a prefix of that output was written.
     ensures begins { IfErr result (λ e. (f : ServeFault) → e ≡ RunFault.Serve f
         → BrokenOff closed.now.setup closed.now.events
         (streams (R.remaining reader.old) (W.contents writer.old))
@@ -101,7 +101,7 @@ pub fn answer_closed<R: Read, W: Write>(
     walk_events(alloc, closed.setup(), closed.events(), reader, writer)
 }
 
-/// The trace of a run that was closed, in the second form.
+/// Writes the trace of a closed run, in the second form.
 pub fn trace_closed(alloc: Global, closed: &Closed) -> Result<Traced, AllocError>
     ensures { IfOk result
         (λ t. IsTrace2 (canonical closed.now.setup) closed.now.events t.bytes.items

@@ -1,4 +1,4 @@
-//! A walk over memory.
+//! Sessions whose input and output are in memory.
 ghost use Rattle.std.specs.Prelude.{◌≡◌, ◌≢◌, ℕ, Ok, Err, IfOk, IfErr, ◌∷◌, []};
 ghost use Rattle.machine.specs.Runs.{start, Accepts, IsRefused};
 ghost use Rattle.scenario.specs.declared.event.Refusal.{Refusal};
@@ -15,21 +15,21 @@ use crate::faults::RunFault;
 use crate::walking::walk;
 use std::alloc::Global;
 
-/// What the session of a script replies to its input.
+/// Returns the replies of a script's session to the input.
 pub fn replies(alloc: Global, script: &[u8], input: &[u8]) -> Result<Vec<u8>, RunFault>
-    // The schedule runs, and these are just the replies to the input's lines, up to one that quits,
-    // without a source.
+    // The schedule was accepted, and the result is exactly the replies to the input's lines, up to
+    // `quit`, without a source.
     ensures ok { IfOk result (λ out. (p : Scenario) × Reads script.now (Ok p)
         × Accepts (start p.setup) p.schedule
         × (out.items
         ≡ output (state_over p.setup p.schedule) (lines_of input.now)
         (unanswered (lines_of input.now)))) }
-    // A fault of the script is its first one, a fault of the schedule its first refused event.
+    // A script fault is the script's first one, and a schedule fault names the first refused event.
     ensures script { IfErr result (λ e. (f : ScriptFault) → e ≡ RunFault.Script f
         → Reads script.now (Err f)) }
     ensures schedule { IfErr result (λ e. (i : ℕ) → (n : Refusal) → e ≡ RunFault.Schedule i n
         → (p : Scenario) × Reads script.now (Ok p) × IsRefused p.setup p.schedule i n) }
-    // A fault of serving is met only once the whole schedule has run.
+    // Serving fails only after the whole schedule has run.
     ensures begins { IfErr result (λ e. (f : ServeFault) → e ≡ RunFault.Serve f
         → (p : Scenario) × Reads script.now (Ok p) × Accepts (start p.setup) p.schedule) }
     ensures other { IfErr result (IsOf (OfScript ∷ OfSchedule ∷ OfServing ∷ OfMemory ∷ [])) }

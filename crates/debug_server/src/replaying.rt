@@ -1,4 +1,4 @@
-//! Walking a trace of the second form.
+//! Sessions over a trace of the second form, which contains its setup.
 ghost use Rattle.std.specs.Prelude.{◌≡◌, ◌≢◌, ℕ, false, List, None, Err, OnOk, IfErr, ◌∷◌, []};
 ghost use Rattle.std.specs.Io.KnownBytes.{Keeps};
 ghost use Rattle.machine.specs.Runs.{IsRefused};
@@ -21,27 +21,27 @@ use std::alloc::Global;
 use std::io::{Read, Write};
 use traces::{TraceFault, read_trace2};
 
-/// Reads a trace of the second form, runs its events from its setup, and replies to the lines that
-/// the reader gives.
+/// Reads a trace of the second form, runs its events from its setup, and replies to the reader's
+/// lines.
 pub fn replay<R: Read, W: Write>(
     alloc: Global,
     trace: &[u8],
     reader: &mut R,
     writer: &mut W,
 ) -> Result<(), RunFault>
-    // The events run, and what is written is the output of the session of the trace's setup and
-    // events, without a source.
+    // The events are accepted, and the bytes written are the output of a session over the trace's
+    // setup and events, without a source.
     ensures ok { OnOk result ((setup : Setup) × (events : List Event)
         × IsTrace2 setup events trace.now × Walked setup events
         (streams (R.remaining reader.old) (W.contents writer.old))
         (streams (R.remaining reader.new) (W.contents writer.new))) }
-    // Where the trace was written of a setup and events, it is the session of these.
+    // If the trace was written of a setup and events, this is the session over them.
     ensures again { (setup : Setup) → (events : List Event) → setup_refusal setup ≡ None
         → IsTrace2 (canonical setup) events trace.now → OnOk result (Walked setup events
         (streams (R.remaining reader.old) (W.contents writer.old))
         (streams (R.remaining reader.new) (W.contents writer.new))) }
-    // A fault of the trace is its first one, a fault of its events the first refused one. Nothing
-    // was written then.
+    // A trace fault is the trace's first one, and a schedule fault names the first refused event.
+    // In both cases nothing was written.
     ensures trace { IfErr result (λ e. (f : TraceFault) → e ≡ RunFault.Trace f
         → IsFault2 trace.now f × Keeps (W.contents writer.old) (W.contents writer.new)) }
     ensures schedule { IfErr result (λ e. (i : ℕ) → (n : Refusal) → e ≡ RunFault.Schedule i n
@@ -49,10 +49,10 @@ pub fn replay<R: Read, W: Write>(
         × IsRefused setup events i n × Keeps (W.contents writer.old) (W.contents writer.new)) }
     ensures memory { IfErr result (λ e. e ≡ RunFault.Memory
         → Keeps (W.contents writer.old) (W.contents writer.new)) }
-    // At any other fault than one of serving nothing was read.
+    // Unless serving failed, nothing was read.
     ensures unread { IfErr result (λ e. is_kind e OfServing ≡ false
         → Keeps (R.remaining reader.old) (R.remaining reader.new)) }
-    // At a fault of serving a beginning of that output was written.
+    // If serving failed, a prefix of that output was written.
     ensures begins { IfErr result (λ e. (f : ServeFault) → e ≡ RunFault.Serve f → (setup : Setup)
         × (events : List Event) × IsTrace2 setup events trace.now × BrokenOff setup events
         (streams (R.remaining reader.old) (W.contents writer.old))

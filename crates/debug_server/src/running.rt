@@ -1,4 +1,4 @@
-//! Events that are run, and of which nothing is kept.
+//! Runs events to check that they are accepted, without storing undo records.
 ghost use Rattle.std.specs.Prelude.{◌≡◌, ◌≤◌, ℕ, [], None, length, IsOk, OnOk, IfErr, ◌∷◌};
 ghost use Rattle.machine.specs.Runs.{start, Accepts, IsRefused};
 ghost use Rattle.scenario.specs.declared.event.Refusal.{Refusal};
@@ -12,7 +12,7 @@ use machine::{Event, Refusal, Setup, State};
 use script::Script;
 use std::alloc::Global;
 
-/// What an event that is refused stops a schedule by.
+/// Returns the fault of a schedule whose event at an index is refused.
 pub(crate) fn fault_by(index: u32, refusal: Refusal) -> RunFault
     ensures { result ≡ fault_by index refusal }
 {
@@ -32,7 +32,7 @@ pub(crate) fn run_schedule(alloc: Global, script: &Script) -> Result<(), RunFaul
     run_from(alloc, script.setup(), script.schedule())
 }
 
-// Runs some events from a setup.
+// Runs events from the start of a setup.
 fn run_from(alloc: Global, setup: &Setup, events: &[Event]) -> Result<(), RunFault>
     requires starts { setup_refusal setup.now ≡ None }
     requires most { length events.now ≤ 1048576 }
@@ -45,7 +45,7 @@ fn run_from(alloc: Global, setup: &Setup, events: &[Event]) -> Result<(), RunFau
     step_all(&mut state, events)
 }
 
-// Runs some events, each of whose records is dropped.
+// Runs events, and drops each undo record.
 fn step_all(state: &mut State, events: &[Event]) -> Result<(), RunFault>
     requires most { length events.now ≤ 1048576 }
     ensures accepts { OnOk result (Accepts state.old events.now) }

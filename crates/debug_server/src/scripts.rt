@@ -1,4 +1,4 @@
-//! Scripts, as runs take them.
+//! Reading the script of a run.
 ghost use Rattle.std.specs.Prelude.{◌≡◌, ◌∷◌, [], Ok, Err, IfOk, IfErr};
 ghost use Rattle.script.specs.Scripts.{Reads};
 ghost use Rattle.script.specs.declared.fault.ScriptFault.{ScriptFault};
@@ -8,7 +8,7 @@ use crate::faults::RunFault;
 use script::{Script, ScriptFault, read_script};
 use std::alloc::Global;
 
-/// Reads a script. Want of memory is told as a run's.
+/// Reads a script. An allocation failure is reported as `RunFault::Memory`.
 pub fn script_of(alloc: Global, text: &[u8]) -> Result<Script, RunFault>
     ensures ok { IfOk result (λ s. Reads text.now (Ok s)) }
     ensures script { IfErr result (λ e. (f : ScriptFault) → e ≡ RunFault.Script f

@@ -1,4 +1,4 @@
-//! Serving lines from a reader to a writer.
+//! The loop that reads lines, replies to them, and writes the replies.
 ghost use Rattle.std.specs.Prelude.{◌≡◌, ◌≢◌, ◌↔◌, ◌++◌, ◌∷◌, [], List, true, false, option_map, IsTrue, IfOk, IfErr, OnOk, OnErr, IsErrOf};
 ghost use Rattle.std.specs.Io.KnownBytes.{Appends, Keeps};
 ghost use Rattle.whole_files.specs.Writes.{WritesFront};
@@ -30,7 +30,7 @@ fn write_out<W: Write>(writer: &mut W, bytes: &[u8]) -> Result<(), ServeFault>
     }
 }
 
-// What the source has, for a line that asks it.
+// Queries the source if the line is `sync`. Returns `None` for any other line.
 fn ask<S: Source>(source: &mut S, line: &[u8]) -> Result<Option<Vec<Event>>, ServeFault>
     ensures ok { IfOk result
         (λ answer. Gave S.gives line.now source.old (option_map (λ v. v.items) answer) source.new) }
@@ -56,7 +56,8 @@ fn lent(answer: &Option<Vec<Event>>) -> Option<&[Event]>
     }
 }
 
-// Replies to one line, with what the source answered, and says whether it quits.
+// Writes the reply to one line, given the source's answer. Returns whether the line ends the
+// session.
 fn answer_line<W: Write>(
     alloc: Global,
     visitor: &mut Visitor,
@@ -83,7 +84,8 @@ fn answer_line<W: Write>(
     Ok(quits)
 }
 
-// Takes a byte, and replies to the line that ends with it, if one does. Says whether it quits.
+// Appends a byte to the line or, if it is a newline, replies to the line. Returns whether that
+// ended the session.
 fn take_byte<W: Write, S: Source>(
     alloc: Global,
     visitor: &mut Visitor,
@@ -111,7 +113,7 @@ fn take_byte<W: Write, S: Source>(
     Ok(quits)
 }
 
-// Takes some bytes, up to a line that quits: the bytes behind it are passed over.
+// Processes bytes up to a line that ends the session. The bytes after that line are ignored.
 fn feed<W: Write, S: Source>(
     alloc: Global,
     visitor: &mut Visitor,
@@ -136,7 +138,8 @@ fn feed<W: Write, S: Source>(
     Ok(false)
 }
 
-// Replies to the line that the input ends in, unless it is empty. Says whether it quits.
+// Replies to the last line if the input ends without a newline. Returns whether it ended the
+// session.
 fn finish<W: Write, S: Source>(
     alloc: Global,
     visitor: &mut Visitor,
@@ -161,7 +164,7 @@ fn finish<W: Write, S: Source>(
     Ok(quits)
 }
 
-// Replies to lines to the end of the input or to one that quits, and says whether one did.
+// Replies to lines up to the end of the input or `quit`. Returns whether a line ended the session.
 fn converse<R: Read, W: Write, S: Source>(
     alloc: Global,
     visitor: &mut Visitor,
@@ -182,7 +185,7 @@ fn converse<R: Read, W: Write, S: Source>(
     let mut line = Line::new();
     let mut buffer = [0u8; 512];
     'reads: for _ in 0..u64::MAX {
-        // No newline stands in it: each line that ended was answered.
+        // For the proof: the buffer has no newline, since every complete line was answered.
         let _unended = line.as_slice();
         let Ok(count) = reader.read(&mut buffer) else {
             return Err(ServeFault::Read);
@@ -198,31 +201,32 @@ fn converse<R: Read, W: Write, S: Source>(
     Err(ServeFault::Read)
 }
 
-/// Replies to lines to the end of the input or to one that quits. Each reply is written and flushed
-/// before the next read. After an `Err` and after a line that quits the session is closed, and from
-/// then on it is refused as closed. The source is asked by the commands that say so.
+/// Replies to lines up to the end of the input or `quit`. Writes and flushes each reply before the
+/// next read, and queries the source for each `sync`. A fault or `quit` closes the session; later
+/// calls return `ServeFault::Closed`.
 pub fn serve<R: Read, W: Write, S: Source>(
     session: &mut Session,
     reader: &mut R,
     writer: &mut W,
     source: &mut S,
 ) -> Result<(), ServeFault>
-    // It is refused as closed exactly where it was closed, and then nothing is read, written or
-    // asked.
+    // Fails with `Closed` exactly if the session was closed. Then nothing is read or written, and
+    // the source isn't queried.
     ensures closed { IsErrOf result ServeFault.Closed ↔ IsTrue session.old.is_closed }
     ensures untouched { session.old.is_closed ≡ true → (session.new ≡ session.old)
         × Keeps (R.remaining reader.old) (R.remaining reader.new)
         × Keeps (W.contents writer.old) (W.contents writer.new) }
     ensures unasked { session.old.is_closed ≡ true → source.new ≡ source.old }
 
-    // What is written is the output of what was read, to the end or past a line that quits.
+    // The bytes written are the output for what was read, up to the end or past `quit`.
     ensures ok { OnOk result ((answers : List Answer) × Asked S.gives source.old answers source.new
         × Served session.old.state (streams (R.remaining reader.old) (W.contents writer.old))
         (streams (R.remaining reader.new)
         (W.contents writer.new)) answers session.new.state session.new.is_closed) }
 
-    // At an error it is a beginning of that, and the source was asked for just what was answered,
-    // and once more for a line that got no answer for want of memory.
+    // After an error they are a prefix of that output. The source was queried once for each `sync`
+    // that was answered. If an allocation failed, it may have been queried once more, for a line
+    // without a reply.
     ensures err { OnErr result (session.new.is_closed ≡ true) }
     ensures begins { session.old.is_closed ≡ false
         → IfErr result
@@ -230,7 +234,7 @@ pub fn serve<R: Read, W: Write, S: Source>(
         (streams (R.remaining reader.old) (W.contents writer.old))
         (streams (R.remaining reader.new) (W.contents writer.new))) }
 
-    // The session's events run from the setup's start, and the position is one of theirs.
+    // The session's events run from the setup's start, and its position is within them.
     ensures ran { Runs session.old.state.walk }
     ensures runs { Runs session.new.state.walk }
 {

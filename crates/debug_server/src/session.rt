@@ -1,4 +1,4 @@
-//! Sessions.
+//! Sessions: a position in a run, and the commands that move it.
 ghost use Rattle.std.specs.Prelude.{◌≡◌, ◌+◌, ◌≤◌, ℕ, length, false, option_map, IfOk, IfErr, OnOk, OnErr, ◌∷◌, []};
 ghost use Rattle.machine.specs.Runs.{start, Accepts, IsRefused};
 ghost use Rattle.scenario.specs.declared.event.Refusal.{Refusal};
@@ -21,15 +21,15 @@ use std::alloc::{AllocError, Global};
 use std::marker::Model;
 use watches::Watches;
 
-/// A run that lines of commands walk through.
+/// A debugger session over a run.
 pub struct Session {
     pub(crate) alloc: Global,
     pub(crate) visitor: Visitor,
     pub(crate) is_closed: bool,
 }
 
-// By hand, so that letting a session go is one step of a proof: a derived drop is a step for each
-// of its parts.
+// Written by hand, so that dropping a session is one step in a proof. A derived drop has one step
+// per field.
 impl Drop for Session {
     fn drop(self) {
         let Session {
@@ -49,7 +49,7 @@ impl Model for Session {
 }
 
 impl Session {
-    /// Runs the schedule of a script, and stands at its end. A new session is open.
+    /// Runs the schedule of a script, and opens a session at its end.
     pub fn new(alloc: Global, script: &Script) -> Result<Session, RunFault>
         ensures ok { IfOk result (λ s. s
             ≡ record {
@@ -64,7 +64,7 @@ impl Session {
         session_of(alloc, script.setup(), script.schedule())
     }
 
-    /// Runs some events from a setup, and stands at their end.
+    /// Runs events from the start of a setup, and opens a session at their end.
     pub fn of(alloc: Global, setup: &Setup, events: &[Event]) -> Result<Session, RunFault>
         requires starts { setup_refusal setup.now ≡ None }
         requires most { length events.now ≤ 1048576 }
@@ -78,8 +78,7 @@ impl Session {
         session_of(alloc, setup, events)
     }
 
-    /// A session over a script's setup that has no events and runs none: a source may give it some.
-    /// A new session is open.
+    /// Opens a session over a script's setup, without events. A source can supply events later.
     pub fn live(alloc: Global, script: &Script) -> Result<Session, RunFault>
         ensures ok { IfOk result (λ s. s
             ≡ record { state = without_stops (fresh script.now.setup); is_closed = false }) }
@@ -91,8 +90,8 @@ impl Session {
         }
     }
 
-    /// Replies to one line. An `Err` changes nothing. The answer, what a source gave, counts for
-    /// the commands that ask it. Whether the session is closed is neither asked nor changed.
+    /// Replies to one line. An `Err` changes nothing. Only `sync` uses `answer`, the source's
+    /// trace. Neither checks nor changes whether the session is closed.
     pub fn line(&mut self, line: &[u8], answer: Option<&[Event]>) -> Result<Vec<u8>, AllocError>
         ensures text { IfOk result (λ text. text.items
             ≡ (reply self.old.state line.now (option_map (λ es. es.now) answer.entry)).text) }
@@ -104,7 +103,7 @@ impl Session {
               is_closed = self.old.is_closed;
             }) }
         ensures err { OnErr result (self.new ≡ self.old) }
-        // The events run from the setup's start, and the position is one of theirs.
+        // The events run from the setup's start, and the position is within them.
         ensures ran { Runs self.old.state.walk }
         ensures runs { Runs self.new.state.walk }
     {
@@ -114,7 +113,7 @@ impl Session {
     }
 }
 
-// What a schedule that can't be added to a trace fails by.
+// Converts the refusal to add a schedule to a trace into a fault.
 fn fault_of(refusal: ExtendRefusal) -> RunFault
     ensures { result ≡ fault_of refusal }
 {
@@ -124,7 +123,7 @@ fn fault_of(refusal: ExtendRefusal) -> RunFault
     }
 }
 
-// Runs some events from the start, and stands at their end.
+// Runs events from the start, and opens a session at their end.
 fn session_of(alloc: Global, setup: &Setup, events: &[Event]) -> Result<Session, RunFault>
     requires starts { setup_refusal setup.now ≡ None }
     requires most { length events.now ≤ 1048576 }
@@ -144,7 +143,7 @@ fn session_of(alloc: Global, setup: &Setup, events: &[Event]) -> Result<Session,
     }
 }
 
-// A session over a walk, which is open, and without watches and breaks.
+// Opens a session over a walk, without watches and breaks.
 fn over_walk(alloc: Global, walker: Walker) -> Session
     ensures { result ≡ record { state = without_stops walker; is_closed = false } }
 {
@@ -158,7 +157,7 @@ fn over_walk(alloc: Global, walker: Walker) -> Session
     }
 }
 
-// Adds some events at the end of a walk, and stays there.
+// Appends events to a walk that is at its end, and moves to the new end.
 fn run_through(walker: &mut Walker, events: &[Event]) -> Result<(), RunFault>
     requires { walker.old.at ≡ length walker.old.events }
     ensures ok { OnOk result (walker.new

@@ -1,4 +1,4 @@
-//! Replies to the commands that set stops and walk to them.
+//! Replies to the commands that set watches and breaks, and that run to them.
 ghost use Rattle.std.specs.Prelude.{◌≡◌, ◌≤◌, length, IfOk, OnOk, OnErr};
 ghost use Rattle.inverse_log.specs.Walks.{jumped};
 ghost use Rattle.watches.specs.Stops.{reverse_stop, forward_stop};
@@ -14,7 +14,7 @@ use places::{Place, Value};
 use std::alloc::{AllocError, Global};
 use watches::{LIMIT, Stop, back_to, cont, earlier};
 
-// Watches a place. An `Err` changes nothing: the text is made first.
+// Watches a place. The text is built first, so that an `Err` changes nothing.
 pub(crate) fn watch(
     alloc: Global,
     visitor: &mut Visitor,
@@ -32,7 +32,7 @@ pub(crate) fn watch(
     Ok(text)
 }
 
-// Stops at a value of a place from now on. An `Err` changes nothing: the text is made first.
+// Sets a break at a value of a place. The text is built first, so that an `Err` changes nothing.
 pub(crate) fn break_at(
     alloc: Global,
     visitor: &mut Visitor,
@@ -52,7 +52,7 @@ pub(crate) fn break_at(
     Ok(text)
 }
 
-// Takes all watches and breaks away.
+// Removes all watches and breaks.
 pub(crate) fn unwatch(alloc: Global, visitor: &mut Visitor) -> Result<Vec<u8>, AllocError>
     ensures text { IfOk result (λ text. text.items ≡ watching_text 0) }
     ensures next { OnOk result (visitor.new ≡ with_stops visitor.old nothing) }
@@ -63,7 +63,7 @@ pub(crate) fn unwatch(alloc: Global, visitor: &mut Visitor) -> Result<Vec<u8>, A
     Ok(text)
 }
 
-// Goes to a moment by a jump.
+// Jumps to a moment.
 pub(crate) fn jump_to(walker: &mut Walker, moment: usize) -> Result<(), AllocError>
     requires { moment ≤ length walker.old.events }
     ensures moved { OnOk result (walker.new ≡ jumped walker.old moment) }
@@ -75,7 +75,7 @@ pub(crate) fn jump_to(walker: &mut Walker, moment: usize) -> Result<(), AllocErr
     }
 }
 
-// Walks back to where a watch stops it. An `Err` changes nothing: the text is made first.
+// Moves back to where a watch stops. The text is built first, so that an `Err` changes nothing.
 pub(crate) fn stop_back(alloc: Global, visitor: &mut Visitor) -> Result<Vec<u8>, AllocError>
     ensures text { IfOk result (λ text. text.items
         ≡ (stops_back visitor.old
@@ -95,8 +95,8 @@ pub(crate) fn stop_back(alloc: Global, visitor: &mut Visitor) -> Result<Vec<u8>,
     Ok(text)
 }
 
-// Walks on to where a watch or a break stops it. Where memory for the text is refused it goes back
-// to where it was, which takes none.
+// Moves forward to where a watch or a break stops. If the text can't be allocated, returns to the
+// former position, which allocates nothing.
 pub(crate) fn stop_on(alloc: Global, visitor: &mut Visitor) -> Result<Vec<u8>, AllocError>
     ensures text { IfOk result (λ text. text.items
         ≡ (stops_on visitor.old (forward_stop visitor.old.walk visitor.old.stops)).text) }

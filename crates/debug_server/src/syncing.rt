@@ -1,4 +1,4 @@
-//! Replies to the command that takes over more events from a source.
+//! The reply to `sync`, which appends a source's new events to the run.
 ghost use Rattle.std.specs.Prelude.{◌≡◌, ◌≤◌, ◌↔◌, None, drop, length, option_map, IsTrue, IfOk, OnOk, OnErr};
 ghost use Rattle.inverse_log.specs.Walks.{ending};
 ghost use Rattle.debug_server.specs.Syncs.{torn_from, refused_from};
@@ -12,8 +12,8 @@ use inverse_log::walker::TRACE_LIMIT;
 use machine::{Event, Refusal};
 use std::alloc::{AllocError, Global};
 
-// Takes over the events that a source has more than the run. The position stays, and an `Err`
-// changes nothing.
+// Appends the events that the source has in addition to the run's. The position stays the same, and
+// an `Err` changes nothing.
 pub(crate) fn sync(
     alloc: Global,
     visitor: &mut Visitor,
@@ -37,7 +37,8 @@ pub(crate) fn sync(
     }
 }
 
-// Adds the events of a source that begins with the run's. The text for the Ok is made first.
+// Appends the new events of a source that begins with the run's. The text of success is built
+// first.
 fn take_over(alloc: Global, visitor: &mut Visitor, source: &[Event]) -> Result<Vec<u8>, AllocError>
     requires begins { torn_from 0 visitor.old.walk.events source.now ≡ None }
     requires most { length source.now ≤ 1048576 }
@@ -57,7 +58,7 @@ fn take_over(alloc: Global, visitor: &mut Visitor, source: &[Event]) -> Result<V
     Ok(text)
 }
 
-// The events behind so many.
+// Returns the events from index `known` on.
 fn rest_of(events: &[Event], known: usize) -> &[Event]
     requires { known ≤ length events.now }
     ensures { result.now ≡ drop known events.now }
@@ -65,7 +66,8 @@ fn rest_of(events: &[Event], known: usize) -> &[Event]
     &events[known..]
 }
 
-// What is told of events that can't be added behind so many.
+// Returns the reply if the events after the first `known` can't be appended. An allocation failure
+// has no reply.
 fn refused_line(alloc: Global, known: usize, refusal: ExtendRefusal) -> Result<Vec<u8>, AllocError>
     requires { known ≤ 1048576 }
     ensures { IfOk result (λ text. Tells known refusal text.items) }
@@ -77,7 +79,8 @@ fn refused_line(alloc: Global, known: usize, refusal: ExtendRefusal) -> Result<V
     }
 }
 
-// The least index at which a trace differs from another, or at which that one ends.
+// Returns the first index at which the events differ from the source's, or at which the source's
+// end.
 fn torn_at(events: &[Event], source: &[Event]) -> Option<usize>
     ensures { result ≡ torn_from 0 events.now source.now }
 {

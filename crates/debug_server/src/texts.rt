@@ -7,7 +7,7 @@ use places::Value;
 use std::alloc::{AllocError, Global};
 use watches::Stop;
 
-// A position of a run of so many events.
+// Prints the position and the number of events.
 pub(crate) fn at_line(alloc: Global, at: usize, len: usize) -> Result<Vec<u8>, AllocError>
     ensures { IfOk result (λ v. v.items ≡ at_text at len) }
 {
@@ -42,7 +42,7 @@ pub(crate) fn value_line(alloc: Global, value: Option<Value>) -> Result<Vec<u8>,
     }
 }
 
-// How many watches there are.
+// Prints the number of watches.
 pub(crate) fn watching_line(alloc: Global, count: usize) -> Result<Vec<u8>, AllocError>
     ensures { IfOk result (λ v. v.items ≡ watching_text count) }
 {
@@ -50,7 +50,7 @@ pub(crate) fn watching_line(alloc: Global, count: usize) -> Result<Vec<u8>, Allo
     Ok(text.into_bytes())
 }
 
-// How many breaks there are.
+// Prints the number of breaks.
 pub(crate) fn breaks_line(alloc: Global, count: usize) -> Result<Vec<u8>, AllocError>
     ensures { IfOk result (λ v. v.items ≡ breaks_text count) }
 {
@@ -58,7 +58,7 @@ pub(crate) fn breaks_line(alloc: Global, count: usize) -> Result<Vec<u8>, AllocE
     Ok(text.into_bytes())
 }
 
-// Where a walk through a run of so many events stopped.
+// Prints where a walk over `len` events stopped.
 pub(crate) fn stop_line(alloc: Global, stop: Stop, len: usize) -> Result<Vec<u8>, AllocError>
     ensures { IfOk result (λ v. v.items ≡ stop_text len stop) }
 {
@@ -71,7 +71,7 @@ pub(crate) fn stop_line(alloc: Global, stop: Stop, len: usize) -> Result<Vec<u8>
     Ok(text.into_bytes())
 }
 
-// How many events there are now.
+// Prints the number of events after `sync`.
 pub(crate) fn synced_line(alloc: Global, count: usize) -> Result<Vec<u8>, AllocError>
     ensures { IfOk result (λ v. v.items ≡ synced_text count) }
 {
@@ -79,7 +79,7 @@ pub(crate) fn synced_line(alloc: Global, count: usize) -> Result<Vec<u8>, AllocE
     Ok(text.into_bytes())
 }
 
-// Where the run and the trace of a source part.
+// Prints the first index at which the run and the source differ.
 pub(crate) fn torn_line(alloc: Global, index: usize) -> Result<Vec<u8>, AllocError>
     ensures { IfOk result (λ v. v.items ≡ torn_text index) }
 {
@@ -87,7 +87,7 @@ pub(crate) fn torn_line(alloc: Global, index: usize) -> Result<Vec<u8>, AllocErr
     Ok(text.into_bytes())
 }
 
-// Which event of a source is refused.
+// Prints the index of the source's event that is refused.
 pub(crate) fn event_line(alloc: Global, index: usize) -> Result<Vec<u8>, AllocError>
     ensures { IfOk result (λ v. v.items ≡ event_text index) }
 {

@@ -1,4 +1,4 @@
-//! Traces of scripts.
+//! Writing traces of scripts, and migrating traces to the second form.
 ghost use Rattle.std.specs.Prelude.{◌≡◌, ◌≤◌, ℕ, List, Ok, Err, length, IfOk, IfErr, IsTrue, ◌∷◌, []};
 ghost use Rattle.std.specs.List.{list_all};
 ghost use Rattle.machine.specs.Runs.{start, Accepts, IsRefused};
@@ -22,15 +22,15 @@ use script::Script;
 use std::alloc::{AllocError, Global};
 use traces::{TraceFault, read_trace, write_trace, write_trace2};
 
-/// A trace that was made.
+/// A trace that was written.
 #[derive(Drop)]
 pub struct Traced {
-    /// How many events it has.
+    /// The number of its events.
     pub events: u32,
     pub bytes: Vec<u8>,
 }
 
-/// Reads a script, runs its schedule, and writes the trace of it in a form.
+/// Reads a script, runs its schedule, and writes the trace in the given form.
 pub fn trace_script(alloc: Global, text: &[u8], form: Form) -> Result<Traced, RunFault>
     ensures ok { IfOk result (λ t. (p : Scenario) × Reads text.now (Ok p)
         × Accepts (start p.setup) p.schedule × IsTraceOf form p t) }
@@ -44,7 +44,7 @@ pub fn trace_script(alloc: Global, text: &[u8], form: Form) -> Result<Traced, Ru
     Ok(trace_of(alloc, &script, form)?)
 }
 
-// Runs a script's schedule, and writes the trace of it in a form.
+// Runs a script's schedule, and writes its trace in the given form.
 fn trace_of(alloc: Global, script: &Script, form: Form) -> Result<Traced, RunFault>
     ensures ok { IfOk result (λ t. Accepts (start script.now.setup) script.now.schedule
         × IsTraceOf form script.now t) }
@@ -62,8 +62,8 @@ fn trace_of(alloc: Global, script: &Script, form: Form) -> Result<Traced, RunFau
     }
 }
 
-/// Reads a script and a trace of the first form, and writes the trace of the second form of the
-/// script's setup and the trace's events. It runs none of them.
+/// Reads a script and a trace of the first form, and writes both as a trace of the second form. The
+/// new trace has the script's setup and the old trace's events, and none of them is run.
 pub fn migrate_trace(alloc: Global, text: &[u8], trace: &[u8]) -> Result<Traced, RunFault>
     ensures ok { IfOk result (λ t. (p : Scenario) × Reads text.now (Ok p) × (events : List Event)
         × IsTrace events trace.now
@@ -78,7 +78,7 @@ pub fn migrate_trace(alloc: Global, text: &[u8], trace: &[u8]) -> Result<Traced,
     Ok(migrate_with(alloc, &script, trace)?)
 }
 
-// The trace of the second form of a script's setup and the events of a trace of the first form.
+// Converts a trace of the first form to the second form, with the setup of a script.
 fn migrate_with(alloc: Global, script: &Script, trace: &[u8]) -> Result<Traced, RunFault>
     ensures ok { IfOk result (λ t. (events : List Event) × IsTrace events trace.now
         × IsTrace2 (canonical script.now.setup) events t.bytes.items × (t.events ≡ length events)) }
@@ -100,7 +100,7 @@ fn migrate_with(alloc: Global, script: &Script, trace: &[u8]) -> Result<Traced, 
     }
 }
 
-// The trace of a script's schedule, in a form.
+// Writes the trace of a script's schedule in the given form.
 fn spelled(alloc: Global, script: &Script, form: Form) -> Result<Vec<u8>, AllocError>
     ensures { IfOk result (λ bytes. IsSpelling form script.now bytes.items) }
 {
@@ -110,7 +110,7 @@ fn spelled(alloc: Global, script: &Script, form: Form) -> Result<Vec<u8>, AllocE
     }
 }
 
-// The trace of a script's setup and of some events.
+// Writes a trace of the second form, from a script's setup and events.
 fn whole_of(alloc: Global, script: &Script, events: &[Event]) -> Result<Vec<u8>, AllocError>
     requires few { length events.now ≤ most_events }
     requires transfers { IsTrue (list_all has_transfer events.now) }

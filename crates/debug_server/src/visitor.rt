@@ -1,4 +1,4 @@
-//! What a session walks with.
+//! The state of a session: its walk and its stops.
 
 ghost use Rattle.std.specs.Prelude.{◌≡◌, length};
 
@@ -6,7 +6,7 @@ use inverse_log::Walker;
 use std::marker::Model;
 use watches::Watches;
 
-// A walk through a run, and what it is stopped by.
+// A walk through a run, with watches and breaks.
 #[derive(Drop)]
 pub(crate) struct Visitor {
     pub(crate) walker: Walker,
@@ -24,7 +24,7 @@ impl Model for Visitor {
 impl Visitor {
     ghost use Rattle.debug_server.specs.SessionStates.{Runs};
 
-    // The position, and how many events there are.
+    // Returns the position and the number of events.
     pub(crate) fn position(&self) -> (usize, usize)
         ensures at { result.0 ≡ self.now.walk.at }
         ensures len { result.1 ≡ length self.now.walk.events }

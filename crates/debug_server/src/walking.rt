@@ -1,4 +1,4 @@
-//! Walking a script, or some events.
+//! Sessions over a script or over a list of events.
 ghost use Rattle.std.specs.Prelude.{◌≡◌, ◌≢◌, ◌≤◌, ℕ, false, Ok, Err, None, OnOk, IfErr, length, ◌∷◌, []};
 ghost use Rattle.std.specs.Io.KnownBytes.{Keeps};
 ghost use Rattle.machine.specs.Runs.{IsRefused};
@@ -21,20 +21,20 @@ use script::{Script, ScriptFault, read_script};
 use std::alloc::Global;
 use std::io::{Read, Write};
 
-/// Reads a script, runs its schedule, and replies to the lines that the reader gives.
+/// Reads a script, runs its schedule, and replies to the reader's lines.
 pub fn walk<R: Read, W: Write>(
     alloc: Global,
     text: &[u8],
     reader: &mut R,
     writer: &mut W,
 ) -> Result<(), RunFault>
-    // The schedule runs, and what is written is the output of the session of the script, without a
-    // source.
+    // The schedule is accepted, and the bytes written are the output of the script's session,
+    // without a source.
     ensures ok { OnOk result ((p : Scenario) × Reads text.now (Ok p) × Walked p.setup p.schedule
         (streams (R.remaining reader.old) (W.contents writer.old))
         (streams (R.remaining reader.new) (W.contents writer.new))) }
-    // A fault of the script is its first one, a fault of the schedule its first refused event.
-    // Nothing was written then.
+    // A script fault is the script's first one, and a schedule fault names the first refused event.
+    // In both cases nothing was written.
     ensures script { IfErr result (λ e. (f : ScriptFault) → e ≡ RunFault.Script f
         → Reads text.now (Err f) × Keeps (W.contents writer.old) (W.contents writer.new)) }
     ensures schedule { IfErr result (λ e. (i : ℕ) → (n : Refusal) → e ≡ RunFault.Schedule i n
@@ -42,10 +42,10 @@ pub fn walk<R: Read, W: Write>(
         × Keeps (W.contents writer.old) (W.contents writer.new)) }
     ensures memory { IfErr result (λ e. e ≡ RunFault.Memory
         → Keeps (W.contents writer.old) (W.contents writer.new)) }
-    // At any other fault than one of serving nothing was read.
+    // Unless serving failed, nothing was read.
     ensures unread { IfErr result (λ e. is_kind e OfServing ≡ false
         → Keeps (R.remaining reader.old) (R.remaining reader.new)) }
-    // At a fault of serving a beginning of that output was written.
+    // If serving failed, a prefix of that output was written.
     ensures begins { IfErr result (λ e. (f : ServeFault) → e ≡ RunFault.Serve f → (p : Scenario)
         × Reads text.now (Ok p) × BrokenOff p.setup p.schedule
         (streams (R.remaining reader.old) (W.contents writer.old))
@@ -62,7 +62,7 @@ pub fn walk<R: Read, W: Write>(
     Ok(())
 }
 
-// Runs a script's schedule, and replies to the lines that the reader gives.
+// Runs a script's schedule, and replies to the reader's lines.
 fn walk_script<R: Read, W: Write>(
     alloc: Global,
     script: &Script,
@@ -90,7 +90,7 @@ fn walk_script<R: Read, W: Write>(
     walk_events(alloc, script.setup(), script.schedule(), reader, writer)
 }
 
-/// Runs some events from a setup, and replies to the lines that the reader gives.
+/// Runs events from the start of a setup, and replies to the reader's lines.
 pub(crate) fn walk_events<R: Read, W: Write>(
     alloc: Global,
     setup: &Setup,
@@ -121,7 +121,7 @@ pub(crate) fn walk_events<R: Read, W: Write>(
     reply_to_all(&mut session, reader, writer)
 }
 
-// Replies to the lines that the reader gives, without a source.
+// Replies to the reader's lines, without a source.
 fn reply_to_all<R: Read, W: Write>(
     session: &mut Session,
     reader: &mut R,
