@@ -1,4 +1,4 @@
-//! Many clients of one live run, each at a position of its own.
+//! Serves debugger clients of one live run; each client has its own session and position.
 #![tactic(auto)]
 
 mod permits;

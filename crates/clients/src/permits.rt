@@ -1,4 +1,4 @@
-//! How many clients are served at once.
+//! Permits, which limit how many clients are served at once.
 ghost use Rattle.std.specs.Prelude.{◌≡◌, ◌<◌, IfOk};
 ghost use Rattle.crossbeam_channel.specs.Claims.{IsSeatAt};
 ghost use Rattle.crossbeam_channel.specs.Ends.{sends_on, receives_on};
@@ -8,11 +8,11 @@ use crossbeam_channel::{Pass, RuledReceiver, RuledSender, bounded_with};
 use std::alloc::{AllocError, Global};
 use std::sync::Wait;
 
-/// The leave to serve one client.
+/// The permission to serve one client.
 #[derive(Clone, Copy)]
 pub struct Permit;
 
-/// Permits that lie in a queue while no client has them.
+/// The permits that no client holds, in a queue.
 #[derive(Drop)]
 pub struct Permits {
     sender: RuledSender<Permit, (), Free>,
@@ -20,7 +20,7 @@ pub struct Permits {
     ghost same: { receives_on receiver ≡ sends_on sender },
 }
 
-/// How a pass to the queue is cut: nothing is known of a permit.
+/// How a pass to the queue is split: a permit carries no facts.
 pub struct Cut;
 
 impl Split<()> for Cut {
@@ -30,7 +30,7 @@ impl Split<()> for Cut {
 }
 
 impl Permits {
-    /// A queue of so many permits, and the first pass to it.
+    /// Creates a queue of `count` permits, and the first pass to it.
     pub fn new<R: Wait>(
         rt: &R,
         alloc: Global,
@@ -46,7 +46,7 @@ impl Permits {
         Ok((Permits { sender, receiver }, pass))
     }
 
-    /// Another pass to the queue, for another thread.
+    /// Creates another pass to the queue, for another thread.
     pub fn another(&self, pass: &mut Pass<Permit, ()>) -> Pass<Permit, ()>
         requires { IsSeatAt (sends_on self.now.sender) pass.old }
         ensures old { IsSeatAt (sends_on self.now.sender) pass.new }
@@ -55,7 +55,7 @@ impl Permits {
         self.sender.another::<Cut>(pass)
     }
 
-    /// Waits for a permit, and takes it out of the queue. False where the queue is gone.
+    /// Waits for a permit and removes it from the queue. Returns false if the queue is closed.
     pub fn take<R: Wait>(&self, rt: &R, pass: &mut Pass<Permit, ()>) -> bool
         requires { IsSeatAt (sends_on self.now.sender) pass.old }
         ensures { IsSeatAt (sends_on self.now.sender) pass.new }
@@ -63,7 +63,7 @@ impl Permits {
         self.receiver.recv_as::<Free, R>(rt, pass).is_ok()
     }
 
-    /// Puts a permit back.
+    /// Puts a permit back into the queue.
     pub fn put_back<R: Wait>(&self, rt: &R, pass: &mut Pass<Permit, ()>)
         requires { IsSeatAt (sends_on self.now.sender) pass.old }
         ensures { IsSeatAt (sends_on self.now.sender) pass.new }

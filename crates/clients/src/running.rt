@@ -1,4 +1,4 @@
-//! A run that threads make, and clients who look at it meanwhile.
+//! A live run in threads, and clients that inspect it meanwhile.
 ghost use Rattle.std.specs.Prelude.{◌≡◌, ◌≤◌, ◌∷◌, [], length, All, IfOk, IfErr, vec_len, vec_capacity};
 ghost use Rattle.live_runner.specs.Actors.{actors};
 ghost use Rattle.live_runner.specs.History.{InOrder, WorkInOrder, Whole};
@@ -23,10 +23,10 @@ use std::thread;
 use std::thread::{Scope, Threads};
 use std::time::Clock;
 
-/// Runs a thread for each actor of a script's setup, each of which makes so many turns, and serves
-/// clients beside them from the start. The run is closed once so many sessions have ended; without
-/// that number it goes on. Where a thread can't be started no client is served. At a fault all
-/// threads and sessions have ended.
+/// Runs a script's setup with one thread per actor, each of which takes `turns` turns, and serves
+/// clients at the same time. After `sessions` sessions it closes the run; with `None` it serves
+/// forever. If a thread can't be started, no client is served. When it returns a fault, all threads
+/// and sessions have ended.
 pub fn serve_live<R: Threads + Wait + Clock + Sync>(
     rt: &R,
     alloc: Global,
@@ -50,7 +50,7 @@ pub fn serve_live<R: Threads + Wait + Clock + Sync>(
     )
 }
 
-// The same, over the blank of a ledger, for the script's setup.
+// Does the work of `serve_live` with the blank of a ledger.
 fn serve_over<L: Ledger + Send + Sync, R: Threads + Wait + Clock + Sync>(
     rt: &R,
     alloc: Global,
@@ -80,7 +80,7 @@ fn serve_over<L: Ledger + Send + Sync, R: Threads + Wait + Clock + Sync>(
     }
 }
 
-// Closes what the lock gave back.
+// Closes the run that the lock returned.
 fn close_run<'g, L: Ledger>(
     live: Live<L>,
     setup: &Setup,
@@ -99,7 +99,7 @@ fn close_run<'g, L: Ledger>(
     }
 }
 
-// Runs a thread for each seat, and serves clients meanwhile. All have ended then.
+// Runs one thread per seat and serves clients meanwhile. Returns when all threads have ended.
 fn run_beside<L: Ledger + Send + Sync, R: Threads + Wait + Clock + Sync>(
     rt: &R,
     alloc: Global,
@@ -147,7 +147,7 @@ fn run_beside<L: Ledger + Send + Sync, R: Threads + Wait + Clock + Sync>(
     }
 }
 
-// Starts a thread for each seat, and then serves clients, if all could be started.
+// Starts one thread per seat, and serves clients if all threads were started.
 fn start_beside<'s, E, L: Ledger + Send + Sync + 's, R: Threads + Wait + Clock + Sync + 's>(
     scope: &Scope<'s, E>,
     rt: &'s R,

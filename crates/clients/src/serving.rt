@@ -1,4 +1,4 @@
-//! Clients that are served side by side.
+//! Serving several clients at once, each in its own thread.
 ghost use Rattle.std.specs.Prelude.{◌≡◌, ◌∷◌, [], Some, IfOk, IfErr};
 ghost use Rattle.crossbeam_channel.specs.Claims.{IsSeatAt};
 ghost use Rattle.crossbeam_channel.specs.Ends.{sends_on};
@@ -17,15 +17,16 @@ use std::sync::{Mutex, Wait};
 use std::thread;
 use std::thread::{Scope, Threads};
 
-/// How many clients are served at once.
+/// The maximum number of clients that are served at once.
 const MOST_CLIENTS: usize = 16;
 
-/// Serves each client that connects in a thread of its own, over a session of its own whose source
-/// is the run under the lock, at most 16 at once; more wait until one ends. Ends after so many
-/// sessions with their number, or goes on. A session ends by its client's end of input or `quit`,
-/// by a fault of reading or writing, or by want of memory or of a thread for it: that ends no
-/// other, and counts. Where no client can be accepted, those who are served are served to their end
-/// first.
+/// Serves each client in its own thread, in a session whose source is the run under the lock. At
+/// most 16 are served at once; further clients wait. Returns `sessions` after that many sessions;
+/// with `None` it serves forever.
+///
+/// A session ends with its input, `quit`, a failed read or write, a failed allocation, or a thread
+/// that can't be started. Each counts, and none ends another. If accepting fails, the sessions that
+/// have started are served to their end first.
 pub fn serve_clients<L: Ledger + Send + Sync, R: Threads + Wait + Sync>(
     rt: &R,
     alloc: Global,
@@ -56,7 +57,7 @@ pub fn serve_clients<L: Ledger + Send + Sync, R: Threads + Wait + Sync>(
     )
 }
 
-// Accepts clients, each behind a permit, and starts a thread for each.
+// Accepts clients, each once a permit is free, and starts a thread for each.
 fn accept_all<'s, E, L: Ledger + Send + Sync + 's, R: Wait + Sync + 's>(
     scope: &Scope<'s, E>,
     rt: &'s R,
@@ -89,8 +90,7 @@ fn accept_all<'s, E, L: Ledger + Send + Sync + 's, R: Wait + Sync + 's>(
     unreachable!()
 }
 
-// Starts a client's thread. Where none can be started its session has ended, and its permit is put
-// back.
+// Starts a client's thread. If that fails, the session is over, and its permit is put back.
 fn start<'s, E, L: Ledger + Send + Sync + 's, R: Wait + Sync + 's>(
     scope: &Scope<'s, E>,
     rt: &'s R,
@@ -113,7 +113,7 @@ fn start<'s, E, L: Ledger + Send + Sync + 's, R: Wait + Sync + 's>(
     }
 }
 
-// A client's session, and then its permit is put back, whatever the session ended by.
+// Serves a client, and then puts its permit back, however the session ended.
 fn attend<L: Ledger, R: Wait>(
     rt: &R,
     alloc: Global,
@@ -130,7 +130,7 @@ fn attend<L: Ledger, R: Wait>(
     permits.put_back(rt, &mut pass);
 }
 
-// A client's session. What it ends by is its own.
+// Serves a client's session. Its faults concern only this client, and are ignored.
 fn serve_client<L: Ledger, R: Wait>(
     rt: &R,
     alloc: Global,

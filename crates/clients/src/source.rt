@@ -1,4 +1,4 @@
-//! The trace of a run that goes on.
+//! The source of a client's session: a live run that continues.
 ghost use Rattle.std.specs.Prelude.{◌≡◌};
 
 use debug_server::Source;
@@ -8,7 +8,7 @@ use std::alloc::AllocError;
 use std::sync::ledger::Ledger;
 use std::sync::{Mutex, Wait};
 
-/// A run under a lock. Each call takes the lock once.
+/// A live run behind a lock. Each call acquires the lock once.
 #[derive(Drop)]
 pub struct LiveSource<'s, L: Ledger, R: Wait> {
     pub rt: &'s R,
