@@ -1,6 +1,6 @@
-//! What no run of the program shows: what records keep, how few steps jumps and searches make, runs
-//! that are undone as a whole; devices that move one byte a call or fail, sources that answer, the
-//! texts of faults, live runs, and clients who look at one.
+//! Tests of what end-to-end cases can't observe: the size of undo records, the step counts of jumps
+//! and searches, and whole runs undone. Also devices that fail, sources, the texts of faults, live
+//! runs, and their clients.
 #![tactic(auto)]
 
 #[cfg(test)]

@@ -1,4 +1,4 @@
-//! A live run that is driven by hand.
+//! A live run, made step by step on one thread.
 ghost use Rattle.std.specs.Prelude.{◌≡◌, ◌<◌, ◌≤◌, None, length};
 ghost use Rattle.scenario.specs.Setups.{setup_refusal};
 ghost use Rattle.live_runner.specs.Actors.{actors};
@@ -18,7 +18,7 @@ use std::alloc::Global;
 use std::marker::Brand;
 use std::sync::ledger::{Blank, Ledger};
 
-// A seat's actor attempts an event.
+// Attempts an event with an actor's seat.
 fn attempt<L: Ledger>(
     live: &mut Live<L>,
     seats: &mut Vec<Seat<L>>,
@@ -34,7 +34,7 @@ fn attempt<L: Ledger>(
     live.attempt(&mut seats[actor], event)
 }
 
-// Whether an actor is offered an event, and does it.
+// Returns whether an actor is offered this event, and its attempt succeeds.
 fn does<L: Ledger>(live: &mut Live<L>, seats: &mut Vec<Seat<L>>, actor: usize, event: Event) -> bool
     requires there { actor < length seats.old.items }
     requires order { InOrder seats.old.items }
@@ -46,7 +46,7 @@ fn does<L: Ledger>(live: &mut Live<L>, seats: &mut Vec<Seat<L>>, actor: usize, e
     live.offer(actor as u32) == Some(event) && attempt(live, seats, actor, event).is_ok()
 }
 
-// The first thread does three events, and then has nothing to reap.
+// The thread makes three steps, and then has nothing to reap.
 fn submits<L: Ledger>(live: &mut Live<L>, seats: &mut Vec<Seat<L>>) -> bool
     requires there { length seats.old.items ≡ 2 }
     requires order { InOrder seats.old.items }
@@ -65,7 +65,7 @@ fn submits<L: Ledger>(live: &mut Live<L>, seats: &mut Vec<Seat<L>>) -> bool
         )
 }
 
-// What isn't an actor's is refused, and what there isn't.
+// Events that the actor may not make are refused, and so is a request that doesn't exist.
 fn refuses<L: Ledger>(live: &mut Live<L>, seats: &mut Vec<Seat<L>>) -> bool
     requires there { length seats.old.items ≡ 2 }
     requires order { InOrder seats.old.items }
@@ -81,7 +81,7 @@ fn refuses<L: Ledger>(live: &mut Live<L>, seats: &mut Vec<Seat<L>>) -> bool
         && matches!(issue, Err(LiveRefusal::Step(Refusal::NoSuchRequest)))
 }
 
-// The kernel worker issues the row and ends it, and the thread reaps.
+// The kernel worker issues and finishes the request, and the thread reaps it.
 fn ends<L: Ledger>(live: &mut Live<L>, seats: &mut Vec<Seat<L>>) -> bool
     requires there { length seats.old.items ≡ 2 }
     requires order { InOrder seats.old.items }
@@ -96,7 +96,7 @@ fn ends<L: Ledger>(live: &mut Live<L>, seats: &mut Vec<Seat<L>>) -> bool
         && live.offer(1).is_none()
 }
 
-// Both do what they are offered, and nothing else.
+// Both actors make the events that they are offered, and no others.
 fn acts<L: Ledger>(live: &mut Live<L>, seats: &mut Vec<Seat<L>>) -> bool
     requires there { length seats.old.items ≡ 2 }
     requires order { InOrder seats.old.items }
@@ -120,7 +120,7 @@ fn closed_of<L: Ledger>(
     Some(finish(live, workers_of(seats, &AlwaysOpen, room)))
 }
 
-// Whether a session over events stands at the end of six.
+// Returns whether a session over the events is at the end of six.
 fn ends_at_six(alloc: Global, setup: &Setup, events: &[Event]) -> bool
     requires starts { setup_refusal setup.now ≡ None }
     requires most { length events.now ≤ 1048576 }
@@ -131,7 +131,8 @@ fn ends_at_six(alloc: Global, setup: &Setup, events: &[Event]) -> bool
     }
 }
 
-// Whether a run has just the events of the example, and a session over them stands at their end.
+// Returns whether a run has exactly the events of the example, and a session over them starts at
+// their end.
 fn has_events<L: Ledger>(alloc: Global, live: &Live<L>) -> bool {
     match live.events() {
         Ok(events) => {
@@ -141,7 +142,7 @@ fn has_events<L: Ledger>(alloc: Global, live: &Live<L>) -> bool {
     }
 }
 
-// A run by hand, over whatever ledger. None where an event isn't as it should be.
+// Makes a run step by step, and closes it. Returns `None` if a step differs from the expected one.
 fn by_hand<L: Ledger>(alloc: Global, blank: Blank, setup: &Setup) -> Option<Closed>
     requires name { blank.name ≡ L.name }
     requires parts { blank.parts ≡ L.parts }
@@ -159,7 +160,7 @@ fn by_hand<L: Ledger>(alloc: Global, blank: Blank, setup: &Setup) -> Option<Clos
     }
 }
 
-// The same.
+// Does the same with a new ledger.
 fn run_by_hand(alloc: Global, setup: &Setup) -> Option<Closed>
     requires { actors setup.now 1 ≡ 2 }
 {
@@ -174,7 +175,7 @@ fn receipt(actor: u32, moment: u32, event: Event) -> Receipt {
     }
 }
 
-// Whether an actor was told some receipts, each of which is redeemed.
+// Returns whether an actor received exactly these receipts, and each can be redeemed.
 fn was_told(closed: &Closed, actor: u32, receipts: &[Receipt]) -> bool
     requires { actor < closed.now.actors }
 {
@@ -184,7 +185,7 @@ fn was_told(closed: &Closed, actor: u32, receipts: &[Receipt]) -> bool
             .all(|receipt| closed.redeem(receipt).is_some())
 }
 
-// What the thread and the kernel worker were told.
+// Checks the receipts of the thread and of the kernel worker.
 fn has_receipts(closed: &Closed) -> bool
     requires { closed.now.actors ≡ 2 }
 {
@@ -202,14 +203,14 @@ fn has_receipts(closed: &Closed) -> bool
     was_told(closed, 0, &submitted) && was_told(closed, 1, &ended)
 }
 
-// Receipts whose event or actor was altered.
+// Returns whether receipts with another event or another actor are refused.
 fn redeems_none(closed: &Closed) -> bool {
     let other_event = receipt(1, 3, Event::Issue(1));
     let other_actor = receipt(0, 3, Event::Issue(0));
     closed.redeem(&other_event).is_none() && closed.redeem(&other_actor).is_none()
 }
 
-// Whether both actors of a setup act as they should, and are told just that.
+// Returns whether both actors of a setup act as expected, and receive the expected receipts.
 fn is_right(alloc: Global, setup: &Setup) -> bool {
     if actors(setup, 1) != 2 {
         return false;
@@ -241,7 +242,7 @@ fn spoil<L: Ledger>(seats: &mut Vec<Seat<L>>, actor: usize)
     }
 }
 
-// The actor whose altered receipt is found as a run is closed.
+// Alters a receipt, closes the run, and returns the actor that is reported.
 fn torn<L: Ledger>(alloc: Global, blank: Blank, setup: &Setup) -> Option<u32>
     requires name { blank.name ≡ L.name }
     requires parts { blank.parts ≡ L.parts }

@@ -1,4 +1,4 @@
-//! Readers and writers of one byte a call, which can fail at a call.
+//! A reader and a writer that move one byte per call, and that can fail at a given call.
 ghost use Rattle.std.specs.Prelude.{◌≡◌, IfOk};
 
 use std::alloc::Global;
@@ -9,24 +9,24 @@ use std::io::{ErrorKind, Read, Write};
 #[derive(Clone, Copy)]
 pub enum Failure {
     Error(ErrorKind),
-    /// The call answers that it moved no byte.
+    /// The call returns that it moved no bytes.
     Nothing,
 }
 
-/// When a device fails: at the call of this number, from 1 on, or never at 0.
+/// When a device fails: at the call with this number, counted from 1, or never if it is 0.
 #[derive(Clone, Copy)]
 pub struct Plan {
     pub call: usize,
     pub failure: Failure,
 }
 
-/// A device that never fails.
+/// The plan of a device that never fails.
 pub const SOUND: Plan = Plan {
     call: 0,
     failure: Failure::Nothing,
 };
 
-/// Gives one byte a call.
+/// A reader that returns one byte per call.
 #[derive(Drop)]
 pub struct SlowReader<'a> {
     rest: &'a [u8],
@@ -34,7 +34,7 @@ pub struct SlowReader<'a> {
     plan: Plan,
 }
 
-/// Takes one byte a call.
+/// A writer that accepts one byte per call.
 #[derive(Drop)]
 pub struct SlowWriter {
     pub written: Vec<u8>,
@@ -61,7 +61,7 @@ impl SlowWriter {
         }
     }
 
-    // What the plan says of this call, if anything.
+    // Counts a call, and returns its failure if the plan has one.
     fn failure(&mut self) -> Option<Failure> {
         self.calls = self.calls.saturating_add(1);
         if self.calls == self.plan.call {

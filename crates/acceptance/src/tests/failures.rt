@@ -1,4 +1,4 @@
-//! A device that fails at one of its calls.
+//! Sessions whose reader or writer fails at one call; each call is tried.
 
 use crate::tests::devices::{Failure, Plan, SOUND};
 use crate::tests::sessions::{Served, serve_slowly, session_of, walk_slowly};
@@ -7,15 +7,16 @@ use debug_server::{NoSource, RunFault, ServeFault, Session};
 use std::alloc::Global;
 use std::io::ErrorKind;
 
-/// The input has 67 bytes, and its end is read too.
+/// The number of reads: one for each of the 67 bytes of input, and one at the end.
 const READS: usize = 68;
 
-/// The output has 93 bytes, in seven replies, each of which is flushed.
+/// The number of writes and flushes: one for each of the 93 bytes of output, and a flush after each
+/// of the seven replies.
 const WRITES: usize = 100;
 
 const INTERRUPTED: Failure = Failure::Error(ErrorKind::Interrupted);
 
-/// The eleventh call is the first flush, and the last one too is a flush: it can't take nothing.
+/// The calls 11 and 100 are flushes, which can't return that they moved no bytes.
 const WRITES_THAT_FAIL: [(usize, Failure); 10] = [
     (1, INTERRUPTED),
     (1, Failure::Nothing),
@@ -29,7 +30,7 @@ const WRITES_THAT_FAIL: [(usize, Failure); 10] = [
     (WRITES, INTERRUPTED),
 ];
 
-// The lines that some bytes end.
+// Counts the lines that end within the bytes.
 fn lines(bytes: &[u8]) -> usize {
     bytes.iter().filter(|byte| **byte == b'\n').count()
 }
@@ -38,14 +39,15 @@ fn is_beginning(bytes: &[u8]) -> bool {
     OUTPUT.as_bytes().starts_with(bytes)
 }
 
-// The lines that were read before a call.
+// Counts the lines that were read before a call.
 fn lines_before(call: usize) -> usize {
     let input = INPUT.as_bytes();
     let count = call.saturating_sub(1).min(input.len());
     lines(&input[..count])
 }
 
-// How many bytes are written before a call: a call for each byte, and one more behind each reply.
+// Returns how many bytes are written before a call: each byte takes one call, and each reply ends
+// with a flush.
 fn written_before(call: usize) -> usize {
     let mut next = 1usize;
     for (i, byte) in OUTPUT.as_bytes().iter().enumerate() {
@@ -57,8 +59,9 @@ fn written_before(call: usize) -> usize {
     OUTPUT.len()
 }
 
-// Whether a call that fails is told, and just that written which comes before it: at a read the
-// replies to the lines before it, at a write or a flush the bytes of the calls before it.
+// Returns whether the failed call is reported, and the right prefix was written. Before a failed
+// read, that is the replies to the lines read; before a failed write or flush, the bytes of the
+// earlier calls.
 fn is_told(fault: Option<ServeFault>, written: &[u8], reading: Plan, writing: Plan) -> bool {
     let cut = match fault {
         Some(ServeFault::Read) => reading.call > 0 && lines(written) == lines_before(reading.call),
@@ -70,12 +73,12 @@ fn is_told(fault: Option<ServeFault>, written: &[u8], reading: Plan, writing: Pl
     cut && is_beginning(written)
 }
 
-// Whether a session was refused as closed without a call of a device.
+// Returns whether a session was refused as closed, without any call of a device.
 fn is_refused(served: &Served) -> bool {
     served.fault == Some(ServeFault::Closed) && served.reads == 0 && served.writes == 0
 }
 
-// Whether a session that meets a call that fails tells it, and is closed then.
+// Returns whether a session reports a failed call and is closed afterwards.
 fn closes(alloc: Global, session: &mut Session, plans: (Plan, Plan)) -> bool {
     let input = INPUT.as_bytes();
     let served = serve_slowly(alloc, session, input, plans, &mut NoSource);
@@ -90,7 +93,7 @@ fn closes_anew(alloc: Global, plans: (Plan, Plan)) -> bool {
     }
 }
 
-// The same of a walk, whose fault is one of serving.
+// Checks the same for `walk`, whose fault is a serving fault.
 fn walk_tells(alloc: Global, plans: (Plan, Plan)) -> bool {
     let walked = walk_slowly(alloc, ONE_NOP, INPUT, plans);
     let fault = match walked.fault {
@@ -109,7 +112,7 @@ fn write_at(call: usize, failure: Failure) -> (Plan, Plan) {
     (SOUND, Plan { call, failure })
 }
 
-// The first call of those that fail in turn that isn't told as it should be, if any isn't.
+// Fails each read in turn, and returns the first one that isn't reported correctly.
 fn wrong_read(alloc: Global) -> Option<usize> {
     for call in 1..READS + 1 {
         if !closes_anew(alloc, read_at(call, ErrorKind::UnexpectedEof)) {
@@ -176,7 +179,8 @@ fn each_write_fails(rt: HostRuntime) {
     check_none(&rt, wrong_other_write(rt.alloc()));
 }
 
-// Whether a walk is whole where the calls behind the last ones fail: no call is left that could.
+// Returns whether `walk` succeeds if the devices would fail at the next call only. So the two
+// counts include every call.
 fn is_whole_walk(alloc: Global) -> bool {
     let reading = Plan {
         call: READS + 1,

@@ -1,4 +1,4 @@
-//! Workers at a gate that stays shut.
+//! Workers at a gate that stops them.
 ghost use Rattle.std.specs.Prelude.{◌≡◌, ◌≢◌};
 ghost use Rattle.live_runner.specs.Actors.{actors};
 
@@ -13,8 +13,8 @@ use std::sync::ledger::{Blank, Ledger};
 use std::sync::{Mutex, Wait};
 use std::time::Clock;
 
-// A gate that stays shut for each second turn. It keeps who arrived for which turn, two digits
-// each, and counts how often the lock was free then.
+// A gate that stops every worker at its second turn. It records each arrival as two digits, actor
+// and turn, and counts how often the lock was free.
 #[derive(Drop)]
 struct ShutAtTwo<'s, L: Ledger> {
     lock: &'s Mutex<Live<L>>,
@@ -39,7 +39,7 @@ impl<'s, L: Ledger + Send + Sync> Gate for ShutAtTwo<'s, L> {
     }
 }
 
-// Whether a turn did the first event of the thread.
+// Returns whether a turn made the thread's first event.
 fn is_first(turn: Turn) -> bool {
     match turn {
         Turn::Did(receipt) => {
@@ -54,8 +54,8 @@ fn is_first(turn: Turn) -> bool {
     }
 }
 
-// The thread does its first event, and is stuck from its second turn on. The kernel worker, whose
-// turns are numbered anew, has nothing to do.
+// The thread makes its first event, and is stuck from its second turn on. The kernel worker, whose
+// turns are counted separately, has nothing to do.
 fn make_turns<L: Ledger + Send + Sync, R: Wait + Clock>(
     rt: &R,
     lock: &Mutex<Live<L>>,
@@ -71,7 +71,8 @@ fn make_turns<L: Ledger + Send + Sync, R: Wait + Clock>(
         && matches!(kernel.turn(rt, lock), Turn::Idle)
 }
 
-// Each of the three turns, but none of a worker that is stuck, asked the gate, without the lock.
+// Checks that each of the three turns arrived at the gate while the lock was free. The turn of a
+// stuck worker doesn't arrive.
 fn ask_gate<L: Ledger + Send + Sync, R: Wait + Clock>(
     rt: &R,
     lock: &Mutex<Live<L>>,
@@ -91,7 +92,7 @@ fn ask_gate<L: Ledger + Send + Sync, R: Wait + Clock>(
         && gate.free.load(Ordering::SeqCst) == 3
 }
 
-// The same, over a run of a setup and whatever ledger.
+// Does the same in a new run of a setup.
 fn open_and_ask<L: Ledger + Send + Sync, R: Wait + Clock>(
     rt: &R,
     alloc: Global,
@@ -108,7 +109,7 @@ fn open_and_ask<L: Ledger + Send + Sync, R: Wait + Clock>(
     }
 }
 
-// The same, over a blank.
+// Does the same with a new ledger.
 fn asks<R: Wait + Clock>(rt: &R, alloc: Global, setup: &Setup) -> bool {
     let blank = Blank::new(actors(setup, 1) as u64);
     open_and_ask::<Brand, R>(rt, alloc, blank, setup)

@@ -8,12 +8,12 @@ use places::{Place, Value};
 use std::alloc::Global;
 use std::test::Fail;
 
-/// An event of a run, at each of which the clock goes on by one.
+/// An event that advances the clock by one.
 const TICK: Event = Event::Tick(1);
 
-/// How far jumps go back by single steps, and ticks that are added in parts; then jumps: to which
-/// moment, and how many steps all of them have made so far. A state is copied at each fourth
-/// moment.
+/// The most events that a jump undoes one by one, and the parts in which ticks are added. Then
+/// jumps: the moment, and the steps that all jumps so far have made. The walker has a checkpoint
+/// every four events.
 const RUNS: [(u32, &[&[Event]], &[(usize, u64)]); 3] = [
     (
         2,
@@ -35,13 +35,13 @@ fn clock(walker: &Walker) -> Option<u64> {
     }
 }
 
-// Whether a jump leads to its moment, and all of them have made so many steps.
+// Returns whether a jump reaches its moment, and the jumps so far have made this number of steps.
 fn is_jump(walker: &mut Walker, moment: usize, walked: u64) -> Result<bool, Fail> {
     walker.goto(moment)?;
     Ok(walker.walked() == walked && clock(walker) == Some(moment as u64))
 }
 
-// Whether single steps are not counted, nor a jump that is refused.
+// Returns whether single steps and a refused jump are not counted.
 fn is_free(walker: &mut Walker) -> Result<bool, Fail> {
     let (at, len, walked) = (walker.at(), walker.len(), walker.walked());
     let moved = walker.back() && walker.on()?;

@@ -1,4 +1,4 @@
-//! How many bytes records keep.
+//! The memory that undo records take, in bytes.
 
 use crate::tests::starting::{REQUEST_AND_STEP, TWO_REQUESTS, state_of};
 use crate::tests::{ONE_NOP, check};
@@ -6,22 +6,23 @@ use machine::{Event, State};
 use std::alloc::{AllocError, Global};
 use std::test::Fail;
 
-/// What a record keeps that names nothing.
+/// The size of a record without notes.
 const LEAST: usize = 40;
 
-/// What the record of a NOP's end keeps at most.
+/// The maximum size of the record of a NOP's completion.
 const END_OF_A_NOP: usize = 128;
 
-/// What the record of an event keeps at most beside the bytes that it names: those of a request
-/// that ends, or of a thread's step.
+/// The maximum size of the record of a completion or a thread's step, without the bytes that it
+/// names.
 const BESIDE: usize = 288;
 
-/// Of a page of zeros that is written over zeros, and read over zeros, one byte is another.
+/// A page with one nonzero byte is written over zeros, and read over zeros.
 const PAGE_WRITTEN_AND_READ: &str =
     r#"{"entries":2,"memory":[[100,"01"]],"objects":[{"name":"f","file":""}],"fds":["f"],"threads":[[["put",0,{"op":23,"fd":3,"len":4096,"ud":1}],["push",0],["put",1,{"op":22,"fd":3,"addr":8192,"len":4096,"ud":2}],["push",1],["enter",2,0,0]]],"schedule":[]}"#;
 
-/// Bytes over zeros: the digits that they begin with, those that follow so often, and how much a
-/// record keeps of them at most. Of a page one differs, each second, all, none.
+/// Bytes that are stored over zeros: the first digits, the digits that are repeated, and how often.
+/// Last, the maximum size of what the record names. One byte of the page changes, or every second,
+/// or all, or none.
 const STORED: [(&str, &str, usize, usize); 4] = [
     ("01", "00", 4095, 200),
     ("", "0001", 2048, 4850),
@@ -29,14 +30,14 @@ const STORED: [(&str, &str, usize, usize); 4] = [
     ("", "00", 4096, 0),
 ];
 
-/// The same of a whole file.
+/// The same for a whole file that is synced.
 const SYNCED: [(&str, &str, usize, usize); 3] = [
     ("01", "00", 65535, 200),
     ("", "0100", 32768, 74300),
     ("", "01", 65536, 66000),
 ];
 
-// What the record of the last of some events keeps.
+// Runs events, and returns the size of the last one's record.
 fn kept_of_last(state: &mut State, events: &[Event]) -> Result<usize, Fail> {
     let mut kept = 0;
     for event in events {
@@ -45,13 +46,13 @@ fn kept_of_last(state: &mut State, events: &[Event]) -> Result<usize, Fail> {
     Ok(kept)
 }
 
-// The same from the start of a script.
+// Does the same from the start of a script.
 fn kept(alloc: Global, text: &str, events: &[Event]) -> Result<usize, Fail> {
     let mut state = state_of(alloc, text)?;
     kept_of_last(&mut state, events)
 }
 
-// Some digits, and others behind them, so often.
+// Builds digits: a beginning, and then a repeated part.
 fn digits(alloc: Global, first: &str, next: &str, times: usize) -> Result<String, AllocError> {
     let mut digits = String::new(alloc);
     digits.push_str(first)?;
@@ -61,25 +62,25 @@ fn digits(alloc: Global, first: &str, next: &str, times: usize) -> Result<String
     Ok(digits)
 }
 
-// The script of a thread that stores some bytes.
+// Builds the script of a thread that stores bytes.
 fn storing(alloc: Global, bytes: &str) -> Result<String, AllocError> {
     format!(in alloc; r#"{{"entries":1,"threads":[[["store",0,"{bytes}"]]],"schedule":[]}}"#)
 }
 
-// The script of a file of zeros over which some bytes are written, and brought to the device.
+// Builds a script that writes bytes over a file of zeros, and fsyncs it.
 fn syncing(alloc: Global, bytes: &str) -> Result<String, AllocError> {
     format!(in alloc;
         r#"{{"entries":2,"memory":[[0,"{bytes}"]],"objects":[{{"name":"f","file":""}}],"fds":["f"],"threads":[[["put",0,{{"op":23,"fd":3,"len":65536,"ud":1}}],["push",0],["put",1,{{"op":3,"fd":3,"ud":2}}],["push",1],["enter",2,0,0]]],"schedule":[]}}"#
     )
 }
 
-// What is kept of a store of bytes over zeros.
+// Returns the size of the record of a store over zeros.
 fn kept_of_store(alloc: Global, bytes: &str) -> Result<usize, Fail> {
     let script = storing(alloc, bytes)?;
     kept(alloc, script.as_str(), &[Event::Step(0)])
 }
 
-// What is kept of bringing bytes to the device.
+// Returns the size of the record of the fsync.
 fn kept_of_sync(alloc: Global, bytes: &str) -> Result<usize, Fail> {
     let script = syncing(alloc, bytes)?;
     kept(alloc, script.as_str(), &TWO_REQUESTS)

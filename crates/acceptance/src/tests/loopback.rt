@@ -1,4 +1,4 @@
-//! Clients over loopback, both ends in one process.
+//! Clients over loopback, with both ends in one process.
 ghost use Rattle.std.specs.Prelude.{◌≡◌};
 ghost use Rattle.live_runner.specs.Actors.{actors};
 
@@ -16,14 +16,14 @@ use std::sync::{Mutex, Wait};
 use std::thread::Threads;
 use std::{io, thread};
 
-/// Two stores of a thread, and a schedule that can't run.
+/// A thread with two stores, and a schedule that would be refused.
 const TWO_STORES: &str =
     r#"{"entries":1,"threads":[[["store",0,"aa"],["store",1,"bb"]]],"schedule":[["issue",0],["step",0]]}"#;
 
-/// How many kernel workers the run has.
+/// The number of the run's kernel workers.
 const WORKERS: u32 = 1;
 
-// Whether the bytes that come next are these.
+// Returns whether the next bytes of the stream are these.
 fn is_next(mut stream: &TcpStream, wanted: &[u8]) -> bool {
     for byte in wanted {
         let mut next = [0u8];
@@ -34,12 +34,12 @@ fn is_next(mut stream: &TcpStream, wanted: &[u8]) -> bool {
     true
 }
 
-// Whether a client's lines are replied to by these.
+// Sends lines, and returns whether the replies are these.
 fn is_told(mut stream: &TcpStream, lines: &str, replies: &str) -> bool {
     stream.write_all(lines.as_bytes()).is_ok() && is_next(stream, replies.as_bytes())
 }
 
-// Whether the thread does its next step, in one hold of the lock.
+// Returns whether the thread makes its next step, under one hold of the lock.
 fn steps<L: Ledger, R: Wait>(rt: &R, lock: &Mutex<Live<L>>, seats: &mut Vec<Seat<L>>) -> bool {
     match seats.first_mut() {
         Some(seat) => lock.lock(rt).attempt(seat, Event::Step(0)).is_ok(),
@@ -47,8 +47,8 @@ fn steps<L: Ledger, R: Wait>(rt: &R, lock: &Mutex<Live<L>>, seats: &mut Vec<Seat
     }
 }
 
-// Two clients who stand in one run at once: the second sync of the first tells the event between,
-// and the second client, who doesn't ask, is told of none.
+// Two clients inspect one run at once, which makes an event meanwhile. The first client's second
+// `sync` adds it; the second client doesn't sync again, and doesn't see it.
 fn are_told<L: Ledger, R: Wait>(
     rt: &R,
     first: &TcpStream,
@@ -84,7 +84,7 @@ fn connect_two<L: Ledger, R: Net<Listener = TcpListener, Stream = TcpStream> + W
     }
 }
 
-// How many clients were served, and whether they were told what they should be.
+// Serves two clients, and returns their number and whether their replies were right.
 fn serve_two<
     L: Ledger + Send + Sync,
     R: Net<Listener = TcpListener, Stream = TcpStream> + Threads + Wait + Sync,
@@ -115,7 +115,7 @@ fn serve_two<
     }
 }
 
-// The same, over a blank.
+// Does the same with a new ledger.
 fn serve_both<R: Net<Listener = TcpListener, Stream = TcpStream> + Threads + Wait + Sync>(
     rt: &R,
     alloc: Global,

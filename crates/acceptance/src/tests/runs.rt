@@ -1,4 +1,4 @@
-//! A run whose steps are all undone.
+//! A run all of whose steps are undone at once.
 ghost use Rattle.std.specs.Prelude.{◌≡◌, length, OnOk};
 
 use crate::tests::starting::{REQUEST_AND_STEP, walker_of};
@@ -25,7 +25,7 @@ fn go_to_the_end(walker: &mut Walker) -> Result<(), Fail>
     Ok(())
 }
 
-// The state at the end of a run, all of its steps undone.
+// Returns the state after all steps of a run were undone from its end.
 fn unwound(alloc: Global, walker: &Walker) -> Result<State, Fail>
     requires { walker.now.at ≡ length walker.now.events }
 {

@@ -1,4 +1,4 @@
-//! How many steps searches back make.
+//! How many steps searches backwards make.
 
 use crate::tests::check;
 use crate::tests::starting::{TWO_REQUESTS, walker_of};
@@ -9,18 +9,18 @@ use std::alloc::{AllocError, Global};
 use std::test::Fail;
 use watches::{Stop, Watches, rcont};
 
-/// A write to an eventfd, and a read of it.
+/// A write to an eventfd, and a read from it.
 const COUNTER_ADDED_AND_READ: &str =
     r#"{"entries":8,"memory":[[0,"0500000000000000"]],"objects":[{"name":"e","eventfd":0}],"fds":["e"],"threads":[[["put",0,{"op":23,"fd":3,"addr":0,"len":8,"ud":1}],["push",0],["put",1,{"op":22,"fd":3,"addr":8,"len":8,"ud":2}],["push",1],["enter",2,0,0]]],"schedule":[]}"#;
 
-// A watch of the counter.
+// Creates a watch of the eventfd's counter.
 fn counter_watched(alloc: Global) -> Result<Watches, AllocError> {
     let mut watches = Watches::new(alloc);
     watches.watch(Place::EventCount(0))?;
     Ok(watches)
 }
 
-// Walks over the two requests and forty ticks, to the moment 49.
+// Runs the two requests and forty ticks, and moves to moment 49.
 fn walk_behind_ticks(walker: &mut Walker) -> Result<(), Fail> {
     walker.extend(&TWO_REQUESTS)?;
     walker.extend(&[Event::Tick(1); 40])?;
@@ -28,14 +28,14 @@ fn walk_behind_ticks(walker: &mut Walker) -> Result<(), Fail> {
     Ok(())
 }
 
-// Whether a search back ends at a stop, and makes so many steps.
+// Returns whether a search backwards ends at a stop, and makes this number of steps.
 fn is_found(walker: &mut Walker, watches: &Watches, stop: Stop, steps: u64) -> Result<bool, Fail> {
     let before = walker.walked();
     let found = rcont(walker, watches)?;
     Ok(found == stop && walker.walked().wrapping_sub(before) == steps)
 }
 
-// The counter changes at the moments 7 and 9. A search makes the steps of its jump alone.
+// The events 6 and 8 change the counter. A search makes only the steps of its jump.
 fn are_found(walker: &mut Walker, watches: &Watches) -> Result<bool, Fail> {
     walk_behind_ticks(walker)?;
     Ok(

@@ -1,4 +1,4 @@
-//! Sessions over readers and writers of one byte a call.
+//! Sessions over devices that move one byte per call, and replies to single lines.
 ghost use Rattle.std.specs.Prelude.{◌≡◌, length};
 
 use crate::tests::devices::{Plan, SOUND, SlowReader, SlowWriter};
@@ -11,13 +11,13 @@ use std::test::Fail;
 
 const EMPTY: &str = r#"{"entries":1,"threads":[],"schedule":[]}"#;
 
-/// Scripts, commands, and what they are replied; the last line of the second is without a newline.
+/// Scripts, commands, and the replies. The last line of the second input has no newline.
 const RUNS: [(&str, &str, &str); 2] = [
     (ONE_NOP, INPUT, OUTPUT),
     (EMPTY, "where\nshow clock\nquit", "at 0 of 0\n0\nbye\n"),
 ];
 
-/// How a loop over lines ended, what it wrote, and how many calls read and wrote.
+/// The outcome of `serve`: its fault, its output, and the numbers of calls.
 #[derive(Drop)]
 pub struct Served {
     pub fault: Option<ServeFault>,
@@ -26,14 +26,14 @@ pub struct Served {
     pub writes: usize,
 }
 
-/// How a walk ended, and what it wrote.
+/// The outcome of `walk`: its fault and its output.
 #[derive(Drop)]
 pub struct Walked {
     pub fault: Option<RunFault>,
     pub written: Vec<u8>,
 }
 
-/// Serves a session some lines, over devices that may fail.
+/// Serves lines to a session over devices that may fail.
 pub fn serve_slowly<S: Source>(
     alloc: Global,
     session: &mut Session,
@@ -52,7 +52,7 @@ pub fn serve_slowly<S: Source>(
     }
 }
 
-/// Walks a script by some lines, over devices that may fail.
+/// Runs `walk` over devices that may fail.
 pub fn walk_slowly(
     alloc: Global,
     script: &str,
@@ -68,13 +68,13 @@ pub fn walk_slowly(
     }
 }
 
-// Whether a walk writes some output, and ends well.
+// Returns whether `walk` succeeds with this output.
 fn walks(alloc: Global, script: &str, input: &str, output: &str) -> bool {
     let walked = walk_slowly(alloc, script, input, (SOUND, SOUND));
     walked.fault.is_none() & (walked.written.as_slice() == output.as_bytes())
 }
 
-// Whether it is replied the same over memory.
+// Returns whether the replies are the same with input and output in memory.
 fn is_replied(alloc: Global, script: &str, input: &str, output: &str) -> bool {
     match replies(alloc, script.as_bytes(), input.as_bytes()) {
         Ok(replied) => replied.as_slice() == output.as_bytes(),
@@ -90,7 +90,7 @@ fn one_byte_a_call(rt: HostRuntime) {
     }
 }
 
-// The session of a script, at its end.
+// Opens a session at the end of a script's schedule.
 pub fn session_of(alloc: Global, text: &str) -> Result<Session, RunFault> {
     match read_script(alloc, text.as_bytes()) {
         Ok(script) => Session::new(alloc, &script),
@@ -98,7 +98,7 @@ pub fn session_of(alloc: Global, text: &str) -> Result<Session, RunFault> {
     }
 }
 
-/// Whether a session replies to a line.
+/// Returns whether a session gives this reply to a line.
 pub fn is_told(session: &mut Session, line: &str, text: &str) -> bool {
     match session.line(line.as_bytes(), None) {
         Ok(reply) => reply.as_slice() == text.as_bytes(),
@@ -106,7 +106,7 @@ pub fn is_told(session: &mut Session, line: &str, text: &str) -> bool {
     }
 }
 
-// Whether a session replies to the line that asks a source, which answers these events.
+// Returns whether a session gives this reply to `sync` if the source has these events.
 fn is_synced(session: &mut Session, events: &[Event], text: &str) -> bool {
     match session.line(b"sync", Some(events)) {
         Ok(reply) => reply.as_slice() == text.as_bytes(),
@@ -118,7 +118,8 @@ fn is_told_twice(session: &mut Session) -> bool {
     is_told(session, "back 2", "at 4 of 6\n") && is_told(session, "where", "at 4 of 6\n")
 }
 
-// A source of ticks has more events than a trace can have, or just as many: then its first differs.
+// The source has one event more than a trace may have, or exactly the maximum. In the second case,
+// its first event differs.
 fn is_told_full(session: &mut Session, ticks: &[Event]) -> bool
     requires { length ticks.now ≡ 1048577 }
 {
@@ -136,7 +137,7 @@ fn lines_one_by_one(rt: HostRuntime) -> Result<(), Fail> {
     Ok(())
 }
 
-/// How a loop over lines ended, and how many calls read and wrote.
+/// The fault of `serve`, and the numbers of read calls and of write calls.
 type Counts = (Option<ServeFault>, usize, usize);
 
 fn counts(alloc: Global, session: &mut Session, input: &str) -> Counts {
@@ -150,7 +151,7 @@ fn counts(alloc: Global, session: &mut Session, input: &str) -> Counts {
     (served.fault, served.reads, served.writes)
 }
 
-// Serves a new session some input, and then a line.
+// Serves some input to a new session, and then one line.
 fn counts_twice(alloc: Global, input: &str) -> Result<(Counts, Counts), RunFault> {
     let mut session = session_of(alloc, ONE_NOP)?;
     let first = counts(alloc, &mut session, input);
@@ -158,8 +159,9 @@ fn counts_twice(alloc: Global, input: &str) -> Result<(Counts, Counts), RunFault
     Ok((first, second))
 }
 
-// To quit, five bytes are read; four are written, and flushed. An end of input closes nothing: a
-// line is six reads and the end a seventh, its reply ten writes and a flush.
+// `quit` takes five reads; its reply takes four writes and a flush. The end of the input doesn't
+// close a session. A line takes six reads and its end a seventh; its reply takes ten writes and a
+// flush.
 #[test]
 fn calls_of_a_session_are_counted(rt: HostRuntime) -> Result<(), Fail> {
     let closed = counts_twice(rt.alloc(), "quit\nwhere\n")?;

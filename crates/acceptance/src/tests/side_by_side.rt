@@ -1,4 +1,4 @@
-//! Threads that make a live run together.
+//! A live run whose threads take turns at the same time.
 ghost use Rattle.std.specs.Prelude.{◌<◌};
 
 use crate::tests::check;
@@ -16,7 +16,7 @@ use std::time::{Clock, Duration};
 const FOUR_STORES: &str =
     r#"{"entries":1,"threads":[[["store",0,"aa"],["store",1,"ab"]],[["store",2,"ba"],["store",3,"bb"]]],"schedule":[]}"#;
 
-// A gate at which the first two actors wait for each other's turn.
+// A gate at which the first two actors wait for each other in each turn.
 #[derive(Drop)]
 struct Together {
     first: AtomicU64,
@@ -59,7 +59,7 @@ fn has_bytes(closed: &Closed) -> bool {
         && has_byte(closed, 3, 0xbb)
 }
 
-// Whether an actor was told two events, each of which is redeemed.
+// Returns whether an actor received two receipts, and both can be redeemed.
 fn redeems_two(closed: &Closed, actor: u32) -> bool
     requires { actor < closed.now.actors }
 {
@@ -70,7 +70,7 @@ fn redeems_two(closed: &Closed, actor: u32) -> bool
             .all(|receipt| closed.redeem(receipt).is_some())
 }
 
-// Whether both threads did what they do, and the kernel worker nothing.
+// Returns whether both threads made all their stores, and there are no other events.
 fn is_right(closed: &Closed) -> bool {
     closed.actors() == 3
         && closed.events().len() == 4
@@ -79,7 +79,7 @@ fn is_right(closed: &Closed) -> bool {
         && has_bytes(closed)
 }
 
-// Whether the run of the threads of a setup is right.
+// Runs a setup in threads, and returns whether the result is right.
 fn runs<R: Threads + Wait + Clock + Sync>(rt: &R, alloc: Global, setup: &Setup) -> bool {
     let gate = Together {
         first: AtomicU64::new(0),

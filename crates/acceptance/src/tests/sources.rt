@@ -1,4 +1,4 @@
-//! Live sessions, which take over events from a source.
+//! Live sessions, which add events from a source.
 ghost use Rattle.std.specs.Prelude.{◌≡◌, None, option_map, drop, slice_get};
 
 use crate::tests::check;
@@ -10,7 +10,7 @@ use script::read_script;
 use std::alloc::{AllocError, Global};
 use std::test::Fail;
 
-/// Two stores of a thread, and a schedule that makes both.
+/// A thread with two stores, and a schedule that runs both.
 const TWO_STORES: &str =
     r#"{"entries":1,"threads":[[["store",0,"aa"],["store",1,"bb"]]],"schedule":[["step",0],["step",0]]}"#;
 
@@ -24,7 +24,7 @@ const REPLIES: &str =
 
 const STEP: Event = Event::Step(0);
 
-/// One step, two, a tick, one step, three.
+/// The source's traces: one step, two steps, a tick, one step, three steps.
 const TRACES: [&[Event]; 5] = [
     &[STEP],
     &[STEP, STEP],
@@ -33,7 +33,7 @@ const TRACES: [&[Event]; 5] = [
     &[STEP, STEP, STEP],
 ];
 
-/// A list of answers: it gives the first, and drops it, or none where no one is left.
+/// A source that returns the first of its traces and removes it, or `None` once none is left.
 #[derive(Drop)]
 struct Answers {
     traces: Vec<Vec<Event>>,
@@ -54,7 +54,7 @@ impl Source for Answers {
     }
 }
 
-/// A source for which there is no memory.
+/// A source whose allocations fail.
 #[derive(Drop)]
 struct Starved;
 
@@ -76,7 +76,7 @@ fn five_answers(alloc: Global) -> Result<Answers, AllocError> {
     Ok(Answers { traces })
 }
 
-// The live session of a script, which runs none of its schedule.
+// Opens a live session of a script, without running its schedule.
 fn live_session_of(alloc: Global, text: &str) -> Result<Session, RunFault> {
     match read_script(alloc, text.as_bytes()) {
         Ok(script) => Session::live(alloc, &script),
@@ -84,7 +84,7 @@ fn live_session_of(alloc: Global, text: &str) -> Result<Session, RunFault> {
     }
 }
 
-// Serves a new live session some lines.
+// Serves lines to a new live session.
 fn serve_anew<S: Source>(
     alloc: Global,
     script: &str,
@@ -108,7 +108,7 @@ fn syncs_with_a_list_of_answers(rt: HostRuntime) -> Result<(), Fail> {
     Ok(())
 }
 
-// What was asked for before is answered, and nothing behind it.
+// The line before `sync` is answered, and nothing after it.
 #[test]
 fn a_source_without_memory_closes_the_session(rt: HostRuntime) -> Result<(), Fail> {
     let served = serve_anew(rt.alloc(), NO_START, b"where\nsync\nwhere\n", &mut Starved)?;

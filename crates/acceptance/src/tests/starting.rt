@@ -1,4 +1,4 @@
-//! What small runs start from, and their events.
+//! Small setups, states, walkers and lists of events that the tests start from.
 
 use entries::Choice;
 use inverse_log::Walker;
@@ -8,7 +8,7 @@ use script::{Script, read_script};
 use std::alloc::Global;
 use std::test::Fail;
 
-/// The only request of a thread, from its Put to its end, and one more step of the thread.
+/// The only request of a thread, from its Put to its completion, and one more step of the thread.
 pub const REQUEST_AND_STEP: [Event; 6] = [
     Event::Step(0),
     Event::Step(0),
@@ -18,7 +18,7 @@ pub const REQUEST_AND_STEP: [Event; 6] = [
     Event::Step(0),
 ];
 
-/// Two requests of a thread, which are entered together and end one after the other.
+/// Two requests of a thread, which are submitted together and completed one after the other.
 pub const TWO_REQUESTS: [Event; 9] = [
     Event::Step(0),
     Event::Step(0),
@@ -31,7 +31,7 @@ pub const TWO_REQUESTS: [Event; 9] = [
     Event::Finish(1, Choice::Full),
 ];
 
-/// A setup without threads.
+/// Builds a setup without threads.
 pub fn quiet(alloc: Global) -> Setup {
     Setup {
         entries: 1,
@@ -50,7 +50,7 @@ fn state_over(alloc: Global, script: &Script) -> Result<State, Fail> {
     Ok(State::new(alloc, script.setup())?)
 }
 
-/// The state at the start of a script.
+/// Builds the state at the start of a script.
 pub fn state_of(alloc: Global, text: &str) -> Result<State, Fail> {
     let script = read_script(alloc, text.as_bytes())?;
     state_over(alloc, &script)
@@ -60,7 +60,7 @@ fn walker_over(alloc: Global, script: &Script) -> Result<Walker, Fail> {
     Ok(Walker::new(alloc, script.setup())?)
 }
 
-/// A walker at the start of a script.
+/// Builds a walker at the start of a script.
 pub fn walker_of(alloc: Global, text: &str) -> Result<Walker, Fail> {
     let script = read_script(alloc, text.as_bytes())?;
     walker_over(alloc, &script)

@@ -1,4 +1,4 @@
-//! Setups that a run can't start from.
+//! Setups that are refused.
 
 use crate::tests::check;
 use crate::tests::starting::quiet;
@@ -7,7 +7,7 @@ use places::Items;
 use scenario::{Instruction, SetupRefusal, setup_refusal};
 use std::alloc::{AllocError, Global};
 
-// A setup whose only thread stores two bytes from an address on.
+// Builds a setup whose only thread stores two bytes at an address.
 fn storing(alloc: Global, address: u32) -> Result<Setup, AllocError> {
     let mut bytes = Vec::new(alloc);
     bytes.extend_from_slice(&[1, 2])?;
@@ -20,7 +20,7 @@ fn storing(alloc: Global, address: u32) -> Result<Setup, AllocError> {
     Ok(setup)
 }
 
-// A store reaches to the end of memory at most. Ring sizes are told before that.
+// A store may reach the end of memory, but not go past it. Ring sizes are checked first.
 fn are_refused(alloc: Global) -> Result<bool, AllocError> {
     let last = storing(alloc, 65534)?;
     let mut past = storing(alloc, 65535)?;

@@ -1,4 +1,4 @@
-//! The lines that the program prints as it fails.
+//! The lines that the program prints when it fails.
 
 use crate::tests::{check, check_none};
 use debug_server::{Fault, RunFault, ServeFault};
@@ -7,21 +7,21 @@ use machine::{Refusal, SetupRefusal};
 use script::{Key, Path, ScriptFault, TraceFault};
 use std::alloc::Global;
 
-/// The first item of the fourth thread.
+/// The path of the first item of the fourth thread.
 const ITEM: Path = Path {
     key: Key::Threads,
     item: Some(3),
     inner: Some(0),
 };
 
-/// The schedule.
+/// The path of the schedule.
 const LIST: Path = Path {
     key: Key::Schedule,
     item: None,
     inner: None,
 };
 
-/// Faults of runs, and the line of each.
+/// Run faults, and the line that each prints.
 const LINES: [(RunFault, &str); 15] = [
     (RunFault::Script(ScriptFault::NotJson), "fault script 1"),
     (
@@ -52,7 +52,7 @@ const LINES: [(RunFault, &str); 15] = [
     (RunFault::Trace(TraceFault::Setup(8)), "fault trace 8 8"),
 ];
 
-// Whether a run that fails prints a line.
+// Returns whether a fault prints this line.
 fn is_line(alloc: Global, fault: Fault, line: &str) -> bool {
     match format!(in alloc; "{fault}") {
         Ok(text) => text.as_str() == line,
@@ -60,7 +60,7 @@ fn is_line(alloc: Global, fault: Fault, line: &str) -> bool {
     }
 }
 
-// The index of the first line that isn't the fault's, if any isn't.
+// Returns the index of the first fault that prints another line.
 fn wrong_line(alloc: Global) -> Option<usize> {
     for (i, (fault, line)) in LINES.iter().enumerate() {
         if !is_line(alloc, Fault::Run(*fault), line) {
@@ -70,7 +70,7 @@ fn wrong_line(alloc: Global) -> Option<usize> {
     None
 }
 
-// Whether a live run that isn't closed prints a line.
+// Returns whether a live run's fault prints this line.
 fn is_live_line(alloc: Global, fault: LiveFault, line: &str) -> bool {
     is_line(alloc, Fault::Live(fault), line)
 }

@@ -1,4 +1,4 @@
-//! Calls of traces that no word of the program makes.
+//! Functions of `traces` that no subcommand of the program calls.
 ghost use Rattle.std.specs.Prelude.{◌≡◌, None};
 ghost use Rattle.machine.specs.Runs.{setup_refusal};
 
@@ -10,7 +10,7 @@ use std::test::Fail;
 use traces::laws::{events_again, setup_and_events_again};
 use traces::{TraceFault, migrate, read_trace2};
 
-/// The trace of one NOP that is put, pushed, entered, issued, finished and reaped.
+/// The first-form trace of one NOP that is put, pushed, entered, issued, finished and reaped.
 const ONE_NOP: [u8; 108] = [
     0x55, 0x52, 0x54, 0x52, 0x41, 0x43, 0x45, 0x31, 6, 0, 0, 0, 1, 0, 0, 0, 0, 0, 0, 0, 0, 0, 0, 0,
     0, 0, 0, 0, 1, 0, 0, 0, 0, 0, 0, 0, 0, 0, 0, 0, 0, 0, 0, 0, 1, 0, 0, 0, 0, 0, 0, 0, 0, 0, 0, 0,
@@ -18,7 +18,7 @@ const ONE_NOP: [u8; 108] = [
     0, 0, 0, 0, 1, 0, 0, 0, 0, 0, 0, 0, 0, 0, 0, 0, 0, 0, 0, 0,
 ];
 
-/// The trace of the second form of that NOP.
+/// The second-form trace of the same run.
 const ONE_NOP_2: [u8; 225] = [
     85, 82, 84, 82, 65, 67, 69, 50, 1, 0, 2, 0, 0, 0, 0, 0, 0, 0, 0, 0, 0, 0, 0, 0, 0, 0, 0, 0, 0,
     1, 0, 0, 0, 4, 0, 0, 0, 1, 0, 0, 0, 0, 0, 0, 0, 0, 0, 0, 0, 0, 0, 0, 0, 0, 0, 0, 0, 0, 0, 0, 0,
@@ -43,7 +43,7 @@ const WHOLE: [u8; 220] = [
     0, 0,
 ];
 
-// Whether a trace of the first form is migrated behind a setup.
+// Returns whether the first-form trace is migrated with a setup.
 fn is_migrated(alloc: Global, setup: &Setup) -> Result<bool, Fail>
     requires { setup_refusal setup.now ≡ None }
 {
@@ -51,14 +51,15 @@ fn is_migrated(alloc: Global, setup: &Setup) -> Result<bool, Fail>
     Ok(migrated.as_slice() == ONE_NOP_2.as_slice())
 }
 
-// Whether one of the second form is refused.
+// Returns whether migrating a second-form trace is refused.
 fn is_refused(alloc: Global, setup: &Setup) -> bool
     requires { setup_refusal setup.now ≡ None }
 {
     matches!(migrate(alloc, setup, &ONE_NOP_2), Err(TraceFault::Magic))
 }
 
-// Whether events are written and read again, and so behind a setup.
+// Returns whether events are unchanged after they are written and read again, alone and with a
+// setup.
 fn are_read_again(alloc: Global, setup: &Setup) -> Result<bool, Fail>
     requires { setup_refusal setup.now ≡ None }
 {

@@ -1,4 +1,4 @@
-//! The rows of a unit.
+//! The requests of a chain.
 ghost use Rattle.std.specs.Prelude.{◌≡◌, [], ◌<◌, length};
 
 use crate::tests::check;
@@ -8,7 +8,7 @@ use model_files::World;
 use places::Recorder;
 use std::alloc::AllocError;
 
-// A NOP, alone or linked to what follows.
+// Builds a NOP with the given flags: 0, or 4 for IOSQE_IO_LINK.
 fn nop(flags: u8) -> Sqe {
     Sqe {
         opcode: 0,
@@ -27,7 +27,7 @@ fn nop(flags: u8) -> Sqe {
     }
 }
 
-// Three linked NOPs and one more come into a table that has no rows.
+// Adds three linked NOPs and one more to an empty table.
 fn fill(table: &mut Table, world: &World) -> Result<(), AllocError>
     requires { table.old ≡ [] }
 {
@@ -44,7 +44,7 @@ fn end(table: &mut Table, r: u32) -> Result<(), AllocError>
     table.set_phase(r, Phase::Ended(-9), &mut notes)
 }
 
-// Whether the rest of a row's unit is a list.
+// Returns whether the later uncompleted requests of r's chain are these.
 fn has_rest(table: &Table, r: u32, rest: &[u32]) -> Result<bool, AllocError> {
     Ok(table.rest_of(r)?.as_slice() == rest)
 }
