@@ -69,11 +69,13 @@ pub record Gave {S : Type 0} (gives : S → Answer → S → Type 0) (line : Lis
   pub asked : Asked gives before answers after
   pub given : given_to (asks line) answers ≡ Some (record { answer = answer; left = [] })
 
+-- `Fills`, with the answers that the source gave.
 pub record FillsBy {S : Type 0} (gives : S → Answer → S → Type 0) (before after : S) (v : SessionState) (bytes : List ℕ) (held held' : Option (List ℕ)) (q : Bool) (v' : SessionState) (line : List ℕ) : Type 0 where
   pub answers : List Answer
   pub asked : Asked gives before answers after
   pub fills : Fills v bytes answers held held' q v' line
 
+-- `Breaks`, with the answers that the source gave, and a query that may have failed.
 pub record BreaksBy {S : Type 0} (gives : S → Answer → S → Type 0) (fails : S → S → Type 0) (before after : S) (fault : ServeFault) (v : SessionState) (bytes : List ℕ) (held held' : Option (List ℕ)) : Type 0 where
   pub answers : List Answer
   pub mid : S
@@ -81,6 +83,7 @@ pub record BreaksBy {S : Type 0} (gives : S → Answer → S → Type 0) (fails 
   pub no_more : (mid ≡ after) ⊎ ((fault ≡ Memory) × ((more : List ℕ) → (transcript v (ended_lines (bytes ++ more)) answers).left ≡ None) × fails mid after)
   pub breaks : Breaks v bytes answers held held'
 
+-- `Ends`, with the answers that the source gave.
 pub record EndsBy {S : Type 0} (gives : S → Answer → S → Type 0) (before after : S) (v : SessionState) (line : List ℕ) (held held' : Option (List ℕ)) (q : Bool) (v' : SessionState) : Type 0 where
   pub answers : List Answer
   pub asked : Asked gives before answers after
@@ -93,6 +96,7 @@ pub record FrontBy {S : Type 0} (gives : S → Answer → S → Type 0) (fails :
   pub used : (ts : List Answer) → (transcript v (lines_of line) answers).left ≡ Some ts → ts ≡ []
   pub front : WritesFront held held' (output v (lines_of line) answers)
 
+-- `Reads`, with the answers that the source gave.
 pub record ReadsBy {S : Type 0} (gives : S → Answer → S → Type 0) (before after : S) (v : SessionState) (unread unread' held held' : Option (List ℕ)) (v' : SessionState) (line : List ℕ) : Type 0 where
   pub answers : List Answer
   pub asked : Asked gives before answers after

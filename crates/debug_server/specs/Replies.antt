@@ -75,9 +75,11 @@ event_text i = codes "refused 4 event " ++ (decimal i ++ codes "\n")
 
 -- ---- Replies
 
+-- A reply that leaves the state unchanged.
 abbrev pub stays : SessionState → List ℕ → Reply
 stays v text = record { text = text; next = v; quits = false }
 
+-- A jump to a moment, whose reply is the new position.
 abbrev pub goes : SessionState → ℕ → Reply
 goes v m = record { text = at_text m (length v.walk.events); next = walked_to v (jumped v.walk m); quits = false }
 

@@ -4,6 +4,7 @@ use Rattle.machine.specs.Runs.{start, Accepts}
 use Rattle.inverse_log.specs.Walks.{Walk}
 use Rattle.watches.specs.Watchpoints.{Stops, nothing}
 
+-- A walk through a run, with watches and breaks.
 pub record SessionState : Type 0 where
   pub walk : Walk
   pub stops : Stops

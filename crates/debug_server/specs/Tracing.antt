@@ -12,6 +12,7 @@ abbrev pub IsSpelling : Form → Scenario → List ℕ → Type 0
 IsSpelling Events p bytes = IsTrace p.schedule bytes
 IsSpelling Whole p bytes = IsTrace2 (canonical p.setup) p.schedule bytes
 
+-- The trace of a scenario in a form, with the number of its events.
 pub record IsTraceOf (form : Form) (p : Scenario) (t : Traced) : Type 0 where
   pub spelling : IsSpelling form p t.bytes.items
   pub events : t.events ≡ length p.schedule

@@ -28,6 +28,7 @@ pub enum RunFault {
     Script(ScriptFault),
     /// The rules refused the event at this index of the schedule, for this reason.
     Schedule(u32, Refusal),
+    /// Serving the session ended early.
     Serve(ServeFault),
     Memory,
     /// Listening on the socket or accepting a client failed.

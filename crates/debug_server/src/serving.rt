@@ -224,8 +224,8 @@ pub fn serve<R: Read, W: Write, S: Source>(
         (streams (R.remaining reader.new)
         (W.contents writer.new)) answers session.new.state session.new.is_closed) }
 
-    // After an error they are a prefix of that output. The source was queried once for each `sync`
-    // that was answered. If an allocation failed, it may have been queried once more, for a line
+    // After an error they are a prefix of that output, and each answer of the source was used by
+    // one `sync`. If an allocation failed, the source may have been queried once more, for a line
     // without a reply.
     ensures err { OnErr result (session.new.is_closed ≡ true) }
     ensures begins { session.old.is_closed ≡ false

@@ -27,6 +27,7 @@ use traces::{TraceFault, read_trace, write_trace, write_trace2};
 pub struct Traced {
     /// The number of its events.
     pub events: u32,
+    /// The contents of the trace file.
     pub bytes: Vec<u8>,
 }
 

@@ -17,9 +17,11 @@ actors setup kernel = min (length setup.threads) 16 + pollers setup + kernel
 abbrev pub is_submitter : Setup → ℕ → Bool
 is_submitter setup actor = nat_lt actor (length setup.threads)
 
+-- Whether an actor is the poller, whose number follows those of the submitters.
 abbrev pub is_poller : Setup → ℕ → Bool
 is_poller setup actor = setup.sqpoll && (actor == length setup.threads)
 
+-- Whether an actor is a kernel worker.
 abbrev pub is_worker : Setup → ℕ → Bool
 is_worker setup actor = nat_le (length setup.threads + pollers setup) actor
 

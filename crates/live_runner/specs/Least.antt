@@ -1,6 +1,7 @@
 -- The first number that passes a test, and the minimum of a partial function.
 use Rattle.std.specs.Prelude.{ℕ, zero, suc, Bool, Option, Some, None, if◌then◌else◌, min}
 
+-- The first option that has a value.
 abbrev pub or_else : {T : Type 0} → Option T → Option T → Option T
 or_else (Some x) o = Some x
 or_else None o = o
@@ -10,6 +11,7 @@ abbrev pub least : (ℕ → Bool) → ℕ → Option ℕ
 least f zero = None
 least f (suc n) = or_else (least f n) (if f n then Some n else None)
 
+-- The minimum of two optional numbers.
 abbrev pub lesser : Option ℕ → Option ℕ → Option ℕ
 lesser None o = o
 lesser (Some a) None = Some a

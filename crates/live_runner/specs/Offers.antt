@@ -45,6 +45,7 @@ event_on Issuing r = Issue r
 event_on Finishing r = Finish r Full
 event_on Expiring r = Expire r
 
+-- Whether the rules accept doing `deed` to request r.
 abbrev pub may_do : Machine → Deed → ℕ → Bool
 may_do m deed r = is_none (refusal m (event_on deed r))
 
@@ -68,7 +69,7 @@ ticks_to clock (Some d) = if nat_lt d (2 ^ 64) then Some (Tick (d - clock)) else
 abbrev pub ticks : Machine → Option Event
 ticks m = ticks_to m.clock (least_deadline m)
 
--- What a kernel worker does to issued requests: it finishes the first that may finish, or else
+-- What a kernel worker does to issued requests. It finishes the first that may finish, or else
 -- expires the first that is due, or else advances the clock to the least deadline.
 abbrev pub ends : Machine → Option Event
 ends m =
@@ -82,6 +83,7 @@ works m = or_else (on_row Issuing (least_row m Issuing)) (ends m)
 
 -- ---- All actors
 
+-- The next event of an actor, if it has one, by its kind.
 abbrev pub offer_of : Setup → Machine → ℕ → Option Event
 offer_of setup m actor =
     if is_submitter setup actor then submits m actor else if is_poller setup actor then polls m

@@ -14,6 +14,7 @@ told_from actor moment (o ∷ os) (e ∷ es) =
     if o == actor then receipt actor moment e ∷ told_from actor (moment + 1) os es
     else told_from actor (moment + 1) os es
 
+-- The receipts of an actor for a whole trace.
 abbrev pub told : ℕ → List ℕ → List Event → List Receipt
 told actor owners events = told_from actor 0 owners events
 

@@ -84,6 +84,7 @@ pub enum LiveRefusal {
     NotYours,
     /// The trace has `TRACE_LIMIT` events.
     TraceFull,
+    /// The rules refuse the event, or an allocation failed.
     Step(Refusal),
 }
 

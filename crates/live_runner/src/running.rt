@@ -200,8 +200,8 @@ pub fn start_all<'s, E, L: Ledger + Send + Sync + 's, G: Gate + 's, R: Wait + Cl
     handles
 }
 
-/// Joins the threads in order, and gives each returned worker a gate. Uses the capacity of
-/// `workers`. Returns `None` if there are fewer than `count` threads.
+/// Joins the threads in order, and gives each returned worker a gate. Returns `None` if their
+/// number isn't `count`, or if an allocation fails.
 pub fn join_all<'g, L: Ledger, G: Gate, R: Threads>(
     rt: &R,
     handles: Vec<Running<L>>,

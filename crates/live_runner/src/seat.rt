@@ -53,7 +53,7 @@ impl<L: Ledger> Seat<L> {
         &self.receipts
     }
 
-    /// Replaces the event of a receipt. For tests: `finish` then reports the actor as torn.
+    /// Replaces the event of a receipt. For tests: `finish` detects the change.
     pub fn alter(&mut self, place: usize, event: Event)
         requires { place < length self.old.receipts }
         ensures { self.new ≡ altered self.old place event }

@@ -42,9 +42,11 @@ impl Gate for AlwaysOpen {
 /// The outcome of a turn.
 #[derive(Clone, Copy)]
 pub enum Turn {
+    /// The actor made this event.
     Did(Receipt),
     /// The actor had nothing to do.
     Idle,
+    /// The offered event was refused.
     Refused(LiveRefusal),
     /// The gate stopped the worker, or it has taken 2^32 - 1 turns.
     Stuck,
