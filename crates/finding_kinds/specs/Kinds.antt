@@ -1,10 +1,10 @@
--- Kinds of findings, and their order.
+-- The kinds of findings, and the order of findings.
 use Rattle.std.specs.Prelude.{ℕ, ◌+◌, ◌*◌, ◌^◌, Bool, true, false}
 use Rattle.finding_kinds.specs.declared.finding.Finding.{Finding}
 use Rattle.finding_kinds.specs.declared.kind.Kind.{Kind}
 use Rattle.finding_kinds.specs.declared.kind.Kind.TheVariants.{Failed, Short, Severed, Canceled, TimedOut, Expired, NotFound, TooLate, Overflow, Busy, Waits, LostWakeUp, NotTaken, NotReaped, Unfinished, BufferInUse, Unordered, SharedPosition, FsyncEarly, TakenShort, NoSuchSlot, CutOff, WentOn, NoEffect, SlotInUse, ClosedEarly, ClosedWhileHeld, Several, LeftRunning, SameUserData, NotDurable, RefusedFlags}
 
--- the number of a kind, by which findings of one moment are ordered
+-- The position of a kind in the order of reports.
 abbrev pub number_of : Kind → ℕ
 number_of Failed = 0
 number_of Short = 1
@@ -39,11 +39,12 @@ number_of SameUserData = 29
 number_of NotDurable = 30
 number_of RefusedFlags = 31
 
--- where a finding stands among all: by its moment, its kind, and the number of what it is about
+-- The key by which findings are sorted: moment, then kind, then subject. Two findings with the same
+-- key are equal.
 abbrev pub rank : Finding → ℕ
 rank f = (f.moment * 32 + number_of f.kind) * 2 ^ 32 + f.subject
 
--- whether a kind is a fault, and no note
+-- Whether findings of a kind are faults (bugs or losses) rather than notes.
 abbrev pub is_fault : Kind → Bool
 is_fault Failed = true
 is_fault Short = true
@@ -78,7 +79,7 @@ is_fault SameUserData = false
 is_fault NotDurable = false
 is_fault RefusedFlags = true
 
--- whether the number of a finding of a kind is that of a thread
+-- Whether the subject of such a finding is a thread.
 abbrev pub is_of_thread : Kind → Bool
 is_of_thread Busy = true
 is_of_thread Waits = true
@@ -90,7 +91,7 @@ is_of_thread ClosedWhileHeld = true
 is_of_thread RefusedFlags = true
 is_of_thread kind = false
 
--- whether it is that of a row
+-- Whether the subject of such a finding is a request.
 abbrev pub is_of_row : Kind → Bool
 is_of_row Failed = true
 is_of_row Short = true

@@ -1,17 +1,19 @@
--- What values are.
+-- Typed values of places.
 use Rattle.std.specs.Prelude.{ℕ, ◌==◌, Bool, false, not, Option, Some, None}
 use Rattle.places.specs.declared.value.Value.{Value}
 use Rattle.places.specs.declared.value.Value.TheVariants.{Number, Byte}
 
--- the number, or the byte, that a value is, if it is one
+-- The number in an optional value.
 abbrev pub number_in : Option Value → Option ℕ
 number_in (Some (Number n)) = Some n
 number_in _ = None
 
+-- The byte in an optional value.
 abbrev pub byte_in : Option Value → Option ℕ
 byte_in (Some (Byte b)) = Some b
 byte_in _ = None
 
+-- Whether both numbers are present and differ.
 abbrev pub differ : Option ℕ → Option ℕ → Bool
 differ (Some a) (Some b) = not (a == b)
 differ _ _ = false

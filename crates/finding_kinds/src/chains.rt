@@ -1,11 +1,12 @@
-//! The rows of a chain.
+//! The next request after a given one in the submission order.
 ghost use Rattle.std.specs.Prelude.{◌≡◌};
 ghost use Rattle.finding_kinds.specs.Chains.{distance_to_next};
 
 use links_drains::is_guard;
 use machine::State;
 
-/// How far behind a row of a number the next one stands, but for the guard of that row.
+/// Returns how far the next request is after request `number`: 2 if that request's linked timeout
+/// (IORING_OP_LINK_TIMEOUT) is between them, else 1.
 pub fn distance_to_next(state: &State, number: u32) -> u32
     ensures { result ≡ distance_to_next state.now.table number }
 {

@@ -1,11 +1,11 @@
-//! The numbers of descriptors.
+//! Descriptor numbers of entries.
 ghost use Rattle.std.specs.Prelude.{◌≡◌};
 ghost use Rattle.machine.specs.Steps.{number_in};
 
-/// The number of the first descriptor.
+/// The lowest descriptor of a setup: 0 to 2 are the standard streams (stdin(3)).
 pub const FIRST_DESCRIPTOR: u32 = 3;
 
-/// The number that an entry has as its descriptor, if it is one.
+/// Returns the descriptor of an entry, or None for a negative one.
 pub fn descriptor_number(fd: i32) -> Option<u32>
     ensures { result ≡ number_in fd }
 {

@@ -1,26 +1,27 @@
-//! Findings.
+//! One finding, and the order of findings.
 ghost use Rattle.std.specs.Prelude.{◌≡◌, ◌<◌, ◌^◌};
 ghost use Rattle.finding_kinds.specs.Kinds.{rank};
 
 use crate::kind::Kind;
 
-/// Something that a run shows.
+/// A fact about a run that is worth a report: a bug, a loss, or a normal outcome worth a look.
 #[derive(Clone, Copy)]
 pub struct Finding {
-    /// The moment before the event that shows it, counted from 0.
+    /// The moment before the event in question, counted from 0.
     pub moment: u32,
     pub kind: Kind,
-    /// The number of the row, the thread or the object that it is about, or 0.
+    /// The number of the request, thread or object in question. 0 if the finding is about the
+    /// rings.
     pub subject: u32,
 }
 
-/// More than the numbers of kinds.
+/// The number of kinds.
 const KINDS: u128 = 32;
 
-/// More than the numbers of rows, threads and objects.
+/// One more than the largest subject.
 const SUBJECTS: u128 = 4294967296;
 
-/// Where a finding stands among all.
+/// Returns the key by which findings are sorted: moment, then kind, then subject.
 pub fn rank(finding: Finding) -> u128
     ensures value { result ≡ rank finding }
     ensures moment { finding.moment < 2 ^ 32 }

@@ -1,8 +1,8 @@
-//! When rows came, were issued and ended, and where threads stood.
+//! The history of a run that the sentences of its findings need.
 
 use std::alloc::Global;
 
-/// The moments before the events by which a row came, was issued and ended.
+/// The moments before the events that submitted, issued and completed a request.
 #[derive(Clone, Copy)]
 pub struct Times {
     pub came: u32,
@@ -11,7 +11,7 @@ pub struct Times {
 }
 
 impl Times {
-    /// Whether the row had been issued and hadn't ended before the event at a moment.
+    /// Returns whether the request was issued and incomplete before the event at this moment.
     pub fn is_issued_at(&self, moment: u32) -> bool {
         let started = match self.issued {
             Some(issued) => issued < moment,
@@ -20,7 +20,7 @@ impl Times {
         started && !self.has_ended_at(moment)
     }
 
-    /// Whether it had ended before that.
+    /// Returns whether the request had completed before the event at this moment.
     pub fn has_ended_at(&self, moment: u32) -> bool {
         match self.ended {
             Some(ended) => ended < moment,
@@ -28,32 +28,33 @@ impl Times {
         }
     }
 
-    /// Whether it had come, and neither been issued nor ended, before that.
+    /// Returns whether the request was submitted, but neither issued nor completed, before the
+    /// event at this moment.
     pub fn is_queued_at(&self, moment: u32) -> bool {
         self.came < moment && !self.is_issued_at(moment) && !self.has_ended_at(moment)
     }
 }
 
-/// A slot whose entry, pushed and not yet taken, names a descriptor that the event at a moment
-/// closed.
+/// A close, at this moment, of a descriptor that the entry in this slot names. The entry was pushed
+/// and not yet taken.
 #[derive(Clone, Copy)]
 pub struct Met {
     pub moment: u32,
     pub slot: u32,
 }
 
-/// What sentences look back at.
+/// When requests changed phase, and other facts that sentences refer to.
 pub struct History {
-    /// Of each row.
+    /// One element per request.
     pub rows: Vec<Times>,
-    /// Of each event the place in its program of the instruction that a thread did by it, if one
-    /// did.
+    /// One element per event: the program counter of the thread that did it, or None for an event
+    /// that is no step of a thread.
     pub counters: Vec<Option<u32>>,
-    /// In the order of their moments, at most one of each.
+    /// In the order of their moments, at most one per moment.
     pub slots: Vec<Met>,
-    /// The moments at which the backlog was empty again, in order.
+    /// The moments at which the backlog became empty, in order.
     pub emptied: Vec<u32>,
-    /// Of each event that dropped indexes its moment, in order, and sq.dropped behind it.
+    /// For each event that dropped indexes, in order: its moment, and sq.dropped after it.
     pub dropped: Vec<(u32, u32)>,
 }
 
@@ -70,7 +71,7 @@ impl Drop for History {
 }
 
 impl History {
-    /// That of no event.
+    /// Returns the history of an empty run.
     pub fn new(alloc: Global) -> History {
         History {
             rows: Vec::new(alloc),

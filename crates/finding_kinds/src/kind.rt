@@ -1,74 +1,73 @@
-//! Kinds of findings.
+//! The kinds of findings.
 ghost use Rattle.std.specs.Prelude.{◌≡◌, ◌<◌};
 ghost use Rattle.finding_kinds.specs.Kinds.{is_fault, is_of_thread, is_of_row, number_of};
 
-/// What a finding is of. Those of one moment are told in this order.
+/// The kind of a finding. Findings of one moment are reported in this order.
 #[derive(Clone, Copy)]
 pub enum Kind {
-    /// A request ended with an error that no other kind tells of.
+    /// A request completed with an error that no other kind covers.
     Failed = 0,
-    /// A READ or a WRITE ended with fewer bytes than it asked for.
+    /// A READ or WRITE moved fewer bytes than it asked for.
     Short = 1,
-    /// A bad end broke a soft link.
+    /// A failed or short soft-linked request broke its chain (IOSQE_IO_LINK).
     Severed = 2,
-    /// A request ended with ECANCELED.
+    /// A request completed with ECANCELED.
     Canceled = 3,
     /// A LINK_TIMEOUT expired.
     TimedOut = 4,
     /// A TIMEOUT expired.
     Expired = 5,
-    /// A cancel or a removal found no request; of all, too.
+    /// A cancel or removal matched nothing, whether of one request or of all.
     NotFound = 6,
-    /// A cancel or a removal found one that was running.
+    /// A cancel or removal found a running request (EALREADY).
     TooLate = 7,
-    /// Completions began to be kept in the backlog.
+    /// Completions went to the backlog, which was empty before.
     Overflow = 8,
-    /// An Enter was answered EBUSY.
+    /// An enter returned EBUSY.
     Busy = 9,
-    /// A thread waits in its Enter at the end.
+    /// A thread waits in its enter to the end.
     Waits = 10,
-    /// At the end the poller is asleep, and entries wait for it.
+    /// Entries wait to the end while the poller sleeps.
     LostWakeUp = 11,
-    /// At the end entries wait that nothing has taken.
+    /// Entries wait to the end though no poller sleeps.
     NotTaken = 12,
-    /// At the end completions wait, or are kept.
+    /// Completions remain in the ring or in the backlog to the end.
     NotReaped = 13,
-    /// A request hasn't ended at the end.
+    /// A request is incomplete at the end.
     Unfinished = 14,
-    /// Bytes were written into the buffer of a READ or a WRITE that hasn't ended.
+    /// A buffer of an incomplete READ or WRITE was overwritten.
     BufferInUse = 15,
-    /// Bytes of a file were moved that another asks for in no order with it, and one of both is a
-    /// WRITE.
+    /// Two unordered requests used the same bytes of a file, at least one of them a WRITE.
     Unordered = 16,
-    /// Bytes were moved at a position at which another begins in no order with it.
+    /// Two unordered requests used the position of one descriptor.
     SharedPosition = 17,
-    /// An FSYNC ended, and an earlier WRITE of its file hadn't.
+    /// A WRITE was incomplete when a later FSYNC of its file completed.
     FsyncEarly = 18,
-    /// An Enter took fewer entries than it was to submit.
+    /// An enter took fewer entries than it was asked to submit.
     TakenShort = 19,
-    /// A Push of an index that names no slot.
+    /// An index was pushed that names no slot.
     NoSuchSlot = 20,
-    /// A linked entry is the last of its submission.
+    /// A linked entry is the last one of its submission, so that its chain ends there.
     CutOff = 21,
-    /// A hard chain went on behind a bad end.
+    /// A hard-linked request failed or was short, and its chain continued (IOSQE_IO_HARDLINK).
     WentOn = 22,
-    /// A field of an entry has no effect.
+    /// An entry sets a field that has no effect.
     NoEffect = 23,
-    /// A Put changed an entry that was pushed and not yet taken.
+    /// A put changed a slot that was pushed and not yet taken.
     SlotInUse = 24,
-    /// A Close closed a descriptor that a request names which is still to be issued.
+    /// A descriptor was closed that a queued request or a pushed entry names.
     ClosedEarly = 25,
-    /// A Close closed a descriptor that an issued request holds.
+    /// A descriptor was closed that an issued request holds.
     ClosedWhileHeld = 26,
-    /// A cancel or a removal of one request matched more than one.
+    /// A cancel or removal of one request matched more than one.
     Several = 27,
-    /// A cancel of all left requests that were running.
+    /// A cancel of all left running requests (IORING_ASYNC_CANCEL_ALL).
     LeftRunning = 28,
-    /// A request came with the user_data of an earlier one that hadn't ended.
+    /// A request was submitted with the user_data of an earlier one that is incomplete.
     SameUserData = 29,
-    /// At the end the device hasn't a file as it is.
+    /// A file has bytes at the end that were written and are not durable.
     NotDurable = 30,
-    /// An Enter was answered EINVAL.
+    /// An enter returned EINVAL because of an unknown flag.
     RefusedFlags = 31,
 }
 
@@ -109,7 +108,7 @@ const KINDS: [Kind; 32] = [
 ];
 
 impl Kind {
-    /// The kind of a word, if there is one.
+    /// Returns the kind with this name, or None.
     pub fn of_word(word: &str) -> Option<Kind> {
         for kind in KINDS {
             if kind.word() == word {
@@ -119,7 +118,7 @@ impl Kind {
         None
     }
 
-    /// The word that names it.
+    /// Returns the name of the kind on the command line and in reports.
     pub fn word(self) -> &'static str {
         match self {
             Kind::Failed => "failed",
@@ -157,7 +156,7 @@ impl Kind {
         }
     }
 
-    /// Whether it is a fault, and no note.
+    /// Returns whether findings of this kind are faults (bugs or losses) rather than notes.
     pub fn is_fault(self) -> bool
         ensures { result ≡ is_fault self }
     {
@@ -197,7 +196,7 @@ impl Kind {
         }
     }
 
-    /// Whether it is about a thread.
+    /// Returns whether the subject of such a finding is a thread.
     pub fn is_of_thread(self) -> bool
         ensures { result ≡ is_of_thread self }
     {
@@ -214,7 +213,7 @@ impl Kind {
         )
     }
 
-    /// Whether it is about a row.
+    /// Returns whether the subject of such a finding is a request.
     pub fn is_of_row(self) -> bool
         ensures { result ≡ is_of_row self }
     {
@@ -242,7 +241,7 @@ impl Kind {
         )
     }
 
-    /// Its number, by which findings of one moment are ordered.
+    /// Returns the position of the kind in the order of reports.
     pub fn number(self) -> u32
         ensures value { result ≡ number_of self }
         ensures within { result < 32 }

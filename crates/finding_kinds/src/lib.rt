@@ -1,5 +1,5 @@
-//! What findings of a run are: their kinds and their order, and what those who look for them and
-//! those who tell them both look at.
+//! The data that the search for findings and the sentences of the report share: findings, their
+//! kinds and order, and the history of a run.
 #![tactic(auto)]
 
 mod chains;

@@ -1,8 +1,8 @@
-//! How many rows there are, and how many of them are looked at.
+//! Limits on the number of requests.
 
-/// The most rows of a run.
+/// The most requests of a run.
 pub const MOST_ROWS: u32 = 65536;
 
-/// How many rows before one are looked at for its user_data, so that each costs the same however
-/// many haven't ended.
+/// How many requests before a new one are compared with it by user_data. The limit bounds the cost
+/// of a step.
 pub const LOOKED_BACK: u32 = 32;

@@ -1,11 +1,12 @@
-//! Which instructions steps do.
+//! The instructions of the threads' programs.
 ghost use Rattle.std.specs.Prelude.{◌≡◌};
 ghost use Rattle.std.specs.Option.{option_copied};
 ghost use Rattle.finding_kinds.specs.Programs.{instruction_at};
 
 use machine::{Event, Instruction, Setup};
 
-/// The instruction of a thread whose step an event is, at a place of its program.
+/// Returns the instruction at this program counter of the thread whose step the event is, or None
+/// for any other event.
 pub fn instruction_at(setup: &Setup, event: Event, counter: Option<u64>) -> Option<&Instruction>
     ensures { option_copied result ≡ instruction_at setup.now event counter }
 {

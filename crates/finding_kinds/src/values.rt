@@ -1,4 +1,4 @@
-//! What stands in places.
+//! Typed values of places.
 ghost use Rattle.std.specs.Prelude.{◌≡◌};
 ghost use Rattle.places.specs.declared.place.Place.TheVariants.{FileByte, DurableByte};
 ghost use Rattle.machine.specs.Whole.{view, WellFormed};
@@ -7,7 +7,7 @@ ghost use Rattle.finding_kinds.specs.Values.{number_in, byte_in, differ};
 use machine::State;
 use places::{Place, Value};
 
-/// The number that stands in a place, if one does.
+/// Returns the number in a place, or None if the place holds no number.
 pub fn number_at(state: &State, place: Place) -> Option<u64>
     ensures value { result ≡ number_in (view state.now place) }
     ensures formed { WellFormed state.now }
@@ -27,7 +27,8 @@ fn byte_at(state: &State, place: Place) -> Option<u8>
     }
 }
 
-/// Whether the device hasn't a byte of a file as it is.
+/// Returns whether a byte of a file differs from its durable value (fsync(2)). False if either is
+/// absent.
 pub fn differs_at(state: &State, object: u32, at: u32) -> bool
     ensures { result ≡ differ (byte_in (view state.now (FileByte object at)))
         (byte_in (view state.now (DurableByte object at))) }
