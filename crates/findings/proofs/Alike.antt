@@ -1,4 +1,4 @@
--- Rows that have the user_data of another, among those that haven't ended.
+-- Searching the incomplete requests for one with the same user_data.
 use Rattle.std.proofs.Common.{◌≡◌, inl, inr, ℕ, ◌<◌, ◌≤◌, ◌+◌, ◌-◌, Bool, true, false, List, refl, sym, ap, ◌∙◌, arith}
 use Rattle.std.proofs.lemmas.Bool.{and_from, and_left, cases_lt, lt-ltb, ne_eqb}
 use Rattle.std.proofs.lemmas.Bool.Decides.{nat_tests}
@@ -13,21 +13,21 @@ use Rattle.links_drains.proofs.RestOfUnit.{numbered}
 use Rattle.links_drains.proofs.Units.{any_true, any_false}
 use Rattle.findings.specs.Endings.{is_twin, has_twin}
 
--- whether the row of a number has a user_data
+-- Whether request q has a given user_data.
 abbrev has_user : List Row → ℕ → ℕ → Bool
 has_user rows user q = option_map_or (λ (row : Row). row.entry.user_data == user) (slice_get rows q) false
 
 abbrev twin_test : ℕ → ℕ → ℕ × Row → Bool
 twin_test r user p = is_twin r user p.0 p.1
 
--- whether a number is one of the 32 before another
+-- Whether q is one of the 32 numbers before r.
 abbrev is_near : ℕ → ℕ → Bool
 is_near r q = nat_lt q r && nat_le r (q + 32)
 
 near : (q r : ℕ) → q < r → r ≤ q + 32 → is_near r q ≡ true
 near q r l m = and_from _ _ (lt-ltb q r l) (grind (arith, nat_tests, m))
 
--- none of the rows before a number is a twin
+-- No request before number k is a twin of request r.
 abbrev pub NoTwin : List Row → ℕ → ℕ → ℕ → Type 0
 NoTwin rows r user k = (q : ℕ) (x : Row) → q < k → slice_get rows q ≡ Some x → is_twin r user q x ≡ false
 
@@ -47,7 +47,7 @@ none_anywhere false b e = refl
 has_user_at : (rows : List Row) (user q : ℕ) (x : Row) → slice_get rows q ≡ Some x → has_user rows user q ≡ (x.entry.user_data == user)
 has_user_at rows user q x e = ap (λ (o : Option Row). option_map_or (λ (row : Row). row.entry.user_data == user) o false) e
 
--- the next row that hasn't ended isn't one
+-- If the next incomplete request has another user_data, no request up to it is a twin.
 pub twin_on : (rows : List Row) (r user from q : ℕ) → NoTwin rows r user from → IsNextWhere is_open rows from q → has_user rows user q ≡ false → NoTwin rows r user (q + 1)
 twin_on rows r user from q none next other k x l e =
     elim (cases_lt k from) [
@@ -60,7 +60,7 @@ twin_on rows r user from q none next other k x l e =
       ]
     ]
 
--- it is one
+-- An incomplete request with the same user_data, close enough before request r, is a twin.
 pub twin_found : (rows : List Row) (r from q : ℕ) (row : Row) → IsNextWhere is_open rows from q → q < r → r ≤ from + 32 → (row.entry.user_data ≡ 0 → ⊥) → has_user rows row.entry.user_data q ≡ true → has_twin rows r row ≡ true
 twin_found rows r from q row next l m user h =
     let own : (next.row.entry.user_data == row.entry.user_data) ≡ true = sym (has_user_at rows row.entry.user_data q next.row next.there) ∙ h in
@@ -77,11 +77,11 @@ not_before q r l = grind (arith, nat_tests, l)
 not_near : (q r : ℕ) → q + 32 < r → nat_le r (q + 32) ≡ false
 not_near q r l = grind (arith, nat_tests, l)
 
--- nor are those that stand further back
+-- Requests more than 32 before request r are no twins.
 pub twins_near : (rows : List Row) (r user from : ℕ) → from ≤ r - 32 → NoTwin rows r user from
 twins_near rows r user from l q x b e = and_left _ _ (none_anywhere (nat_lt q r) (nat_le r (q + 32)) (not_near q r (omega (arith, l, b))))
 
--- the rows behind are of no matter
+-- If the next incomplete request is not before request r, there is no twin.
 pub twin_past : (rows : List Row) (r from q : ℕ) (row : Row) → NoTwin rows r row.entry.user_data from → IsNextWhere is_open rows from q → r ≤ q → has_twin rows r row ≡ false
 twin_past rows r from q row none next l = none_anywhere _ _ (no_twin rows r row (λ k x e.
     elim (cases_lt k from) [
@@ -92,7 +92,7 @@ twin_past rows r from q row none next l = none_anywhere _ _ (no_twin rows r row 
       ]
     ]))
 
--- nor is there any
+-- If no request is incomplete from there on, there is no twin.
 pub twin_none : (rows : List Row) (r from : ℕ) (row : Row) → NoTwin rows r row.entry.user_data from → NoneWhere is_open rows from → has_twin rows r row ≡ false
 twin_none rows r from row none absent = none_anywhere _ _ (no_twin rows r row (λ k x e.
     elim (cases_lt k from) [

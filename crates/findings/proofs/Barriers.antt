@@ -1,4 +1,4 @@
--- Chains that drain between two rows, found row by row.
+-- Searching for a draining chain between two requests, request by request.
 use Rattle.std.proofs.Common.{◌≡◌, inl, inr, ℕ, ◌<◌, ◌≤◌, ◌+◌, true, false, List, length, sym, ap, ◌∙◌, arith}
 use Rattle.std.proofs.lemmas.Option.{same_Some}
 use Rattle.std.proofs.lemmas.Bool.{cases_lt, and_parts, ltb-true}
@@ -11,14 +11,14 @@ use Rattle.links_drains.proofs.Units.{any_true, any_false}
 use Rattle.findings.specs.Conflicts.{is_between, is_behind_barrier}
 use Rattle.findings.proofs.Draining.{by_bool, none_past}
 
--- none of the rows from the other's chain on, before a number, stands between
+-- No request from the start of the other's chain up to number k is between the two.
 abbrev pub NoneBetween : List Row → Row → Row → ℕ → Type 0
 NoneBetween rows row other k = (j : ℕ) (x : Row) → other.unit ≤ j → j < k → slice_get rows j ≡ Some x → is_between rows row other x ≡ false
 
 pub between_found : (rows : List Row) (row other x : Row) (k : ℕ) → slice_get rows k ≡ Some x → is_between rows row other x ≡ true → is_behind_barrier rows row other ≡ true
 between_found rows row other x k e h = any_true (is_between rows row other) rows k x e h
 
--- a row before the first of the other's chain is of an earlier one
+-- A request before the start of the other's chain belongs to an earlier chain.
 earlier_chain : (rows : List Row) (row other x : Row) (j : ℕ) → Chained rows → slice_get rows j ≡ Some x → j < other.unit → is_between rows row other x ≡ false
 earlier_chain rows row other x j c e l =
     by_bool (is_between rows row other x) (λ t.
@@ -27,7 +27,7 @@ earlier_chain rows row other x j c e l =
     let low : x.unit ≤ j = c.back j x e in
     absurd (omega (arith, up, low, l)))
 
--- where the table ends
+-- At the end of the table the search has found none.
 pub between_end : (rows : List Row) (row other : Row) (k : ℕ) → Chained rows → NoneBetween rows row other k → length rows ≤ k → is_behind_barrier rows row other ≡ false
 between_end rows row other k c none l = any_false (is_between rows row other) rows (λ j x e.
     elim (cases_lt j other.unit) [
@@ -38,7 +38,7 @@ between_end rows row other k c none l = any_false (is_between rows row other) ro
       ]
     ])
 
--- one row more
+-- The search continues past a request that is not between the two.
 pub between_more : (rows : List Row) (row other x : Row) (k : ℕ) → NoneBetween rows row other k → slice_get rows k ≡ Some x → is_between rows row other x ≡ false → NoneBetween rows row other (k + 1)
 between_more rows row other x k none there h = λ j y low high e.
     elim (cases_lt j k) [

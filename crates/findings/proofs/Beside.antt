@@ -1,4 +1,4 @@
--- What an event does, beside the rows of some numbers.
+-- The conflicts found for some numbers are those of the event.
 use Rattle.std.proofs.Common.{◌≡◌, inl, inr, ℕ, Bool, true, false, List, [], ◌∷◌, refl, sym, ap, ◌∙◌, subst}
 use Rattle.std.proofs.lemmas.List.Elements.{All-nil, All-cons, All-append}
 use Rattle.std.proofs.lemmas.Bool.{and_parts}
@@ -20,7 +20,7 @@ use Rattle.findings.proofs.Members.{Has, has_flat_map, contains_has}
 false_true : false ≡ true → ⊥
 false_true e = cc
 
--- whether a deed is a finding about the row of a number
+-- Whether the effect of an event is a finding about request q.
 abbrev pub is_done : Setup → Machine → Deed → Kind → ℕ → Bool
 is_done s m d kind q = option_map_or (conflicts kind s m d q) (slice_get m.table q) false
 

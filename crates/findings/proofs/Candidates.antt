@@ -1,4 +1,4 @@
--- Candidates, followed over records.
+-- The followed numbers include every incomplete READ and WRITE, record by record.
 use Rattle.std.proofs.Common.{◌≡◌, inl, inr, ℕ, Bool, true, false, cond, List, [], ◌∷◌, refl, sym, ap, ◌∙◌, subst}
 use Rattle.std.proofs.lemmas.Bool.{eqb-true}
 use Rattle.std.specs.Prelude.{Option, Some, None, slice_get, not, ◌==◌}
@@ -43,7 +43,7 @@ followed_new ns q true true w i = absurd (false_true (sym w))
 followed_new ns q true false w i = absurd (false_true i)
 followed_new ns q false false w i = absurd (false_true i)
 
--- a candidate that is followed stays so
+-- A number that is followed stays so while its request is incomplete.
 note_keeps : (v : View) (ns : List ℕ) (x : Option Value) (p : Place) (q : ℕ) → Has ns q → is_candidate_in (v (Request q)) ≡ true → Has (after_note v ns x p) q
 note_keeps v ns x (Request r) q h c = followed_keeps ns r q (is_candidate_in x) (is_candidate_in (v (Request r))) h (λ e. ap (λ (k : ℕ). is_candidate_in (v (Request k))) e ∙ c)
 note_keeps v ns x _ q h c = h
@@ -52,7 +52,7 @@ notes_keep : (v : View) (ns : List ℕ) (cs : List Change) (q : ℕ) → Has ns 
 notes_keep v ns [] q h c = h
 notes_keep v ns (n ∷ cs) q h c = notes_keep v (after_note v ns n.old n.place) cs q (note_keeps v ns n.old n.place q h c) c
 
--- and one that is new is followed
+-- A request that has become a candidate is added.
 notes_take : (v : View) (ns : List ℕ) (cs : List Change) (q : ℕ) (x : Option Value) → Has cs (record { place = Request q; old = x }) → is_candidate_in x ≡ false → is_candidate_in (v (Request q)) ≡ true → Has (after_notes v ns cs) q
 notes_take v ns [] q x h w c = absurd h
 notes_take v ns (n ∷ cs) q x (inl e) w c =
@@ -60,7 +60,7 @@ notes_take v ns (n ∷ cs) q x (inl e) w c =
     notes_keep v (after_note v ns n.old n.place) cs q (subst (λ (d : Change). Has (after_note v ns d.old d.place) q) (sym e) here) c
 notes_take v ns (n ∷ cs) q x (inr h) w c = notes_take v (after_note v ns n.old n.place) cs q x h w c
 
--- whatever is a candidate behind a record was so, or is new
+-- Each candidate after a record was one before it, or is named by it.
 covers_view : (old new : View) (cs : List Change) (ns : List ℕ) → Exact old new cs → ((q : ℕ) → is_candidate_in (old (Request q)) ≡ true → Has ns q) → (q : ℕ) → is_candidate_in (new (Request q)) ≡ true → Has (after_notes new ns cs) q
 covers_view old new cs ns x h q c = by (named cs (Request q)) refl
   where

@@ -1,4 +1,4 @@
--- One of each of findings in order.
+-- Removing duplicates from sorted findings.
 use Rattle.std.proofs.Common.{◌≡◌, inl, inr, ℕ, zero, suc, ◌+◌, ◌<◌, ◌≤◌, Bool, true, false, cond, List, [], ◌∷◌, ◌++◌, length, take, drop, get_or, refl, sym, ap, ◌∙◌, subst, arith}
 use Rattle.std.proofs.lemmas.Bool.{leb-true, leb-false, lt-leb, le-leb, cases_order}
 use Rattle.std.proofs.Math.Seq.{drop-cons}
@@ -33,7 +33,7 @@ distinct_back least (f ∷ fs) x h = by (nat_le least (rank f)) h (distinct_back
     by true (inr m) g k = inr (g m)
     by false m g k = inr (k m)
 
--- each finding has at least the rank of those before it
+-- Each finding has at least the rank of those before it.
 abbrev Climbs : List Finding → Type 0
 Climbs [] = Unit {0}
 Climbs (f ∷ fs) = ((x : Finding) → Has fs x → rank f ≤ rank x) × Climbs fs
@@ -81,9 +81,9 @@ distinct_same fs h a = record {
   back = λ f c. has_contains fs f (distinct_back zero fs f (contains_has (distinct_from zero fs) f c));
 }
 
--- ---- finding by finding
+-- ---- one finding
 
--- a finding of a lower rank is left out
+-- A finding of a lower rank is a duplicate and is dropped.
 pub skipped : (kept rest : List Finding) (least : ℕ) (f : Finding) → rank f < least → kept ++ distinct_from least rest ≡ kept ++ distinct_from least (f ∷ rest)
 skipped kept rest least f h = ap (λ (b : Bool). kept ++ cond b (f ∷ distinct_from (rank f + 1) rest) (distinct_from least rest)) (sym (lt-leb least (rank f) h))
 
@@ -91,7 +91,7 @@ append_one : (kept : List Finding) (f : Finding) (rest : List Finding) → (kept
 append_one [] f rest = refl
 append_one (g ∷ kept) f rest = ap (λ (fs : List Finding). g ∷ fs) (append_one kept f rest)
 
--- and another is kept
+-- Any other finding is appended.
 pub taken : (kept now rest : List Finding) (least next : ℕ) (f : Finding) → least ≤ rank f → next ≡ rank f + 1 → now ≡ kept ++ f ∷ [] → now ++ distinct_from next rest ≡ kept ++ distinct_from least (f ∷ rest)
 taken kept now rest least next f h n e =
     ap (λ (fs : List Finding). fs ++ distinct_from next rest) e
@@ -99,7 +99,7 @@ taken kept now rest least next f h n e =
     ∙ append_one kept f (distinct_from (rank f + 1) rest)
     ∙ ap (λ (b : Bool). kept ++ cond b (f ∷ distinct_from (rank f + 1) rest) (distinct_from least rest)) (sym (le-leb least (rank f) h))
 
--- ---- one after the other
+-- ---- one step of the loop
 
 pub kept_more : (xs kept now : List Finding) (i least next : ℕ) (d : Finding) → i < length xs → ((rest : List Finding) → now ++ distinct_from next rest ≡ kept ++ distinct_from least (get_or xs i d ∷ rest))
     → kept ++ distinct_from least (drop i xs) ≡ distinct_from zero xs → now ++ distinct_from next (drop (i + 1) xs) ≡ distinct_from zero xs
@@ -128,7 +128,7 @@ pub whole_same : (xs kept : List Finding) (i least : ℕ) → length xs ≤ i �
 whole_same xs kept i least l up small h =
     subst (SameFindings xs) (sym (kept_whole xs kept i least l h)) (distinct_same xs up (subst (All IsSmall) (take_whole xs i l) small))
 
--- ---- findings that were sorted
+-- ---- sorted findings
 
 same_then : (xs ys zs : List Finding) → IsPermutation xs ys → SameFindings ys zs → SameFindings xs zs
 same_then xs ys zs p h = record {

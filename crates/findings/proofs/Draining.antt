@@ -1,4 +1,4 @@
--- Chains that drain, found row by row.
+-- Searching a chain for a request with IOSQE_IO_DRAIN, request by request.
 use Rattle.std.proofs.Common.{◌≡◌, inl, inr, ℕ, ◌<◌, ◌≤◌, Bool, true, false, List, length, refl, sym, ◌∙◌, arith}
 use Rattle.std.proofs.lemmas.Option.{none-some, slice_get_past}
 use Rattle.std.proofs.lemmas.Bool.{cases_lt, and_parts, and_from, eqb-true, eq-eqb}
@@ -11,7 +11,7 @@ use Rattle.links_drains.proofs.Units.{any_true, any_false}
 abbrev pub is_draining : ℕ → Row → Bool
 is_draining unit row = (row.unit == unit) && asks_to_drain row
 
--- none of the rows of a chain before a number drains
+-- No request of the chain before number k drains.
 abbrev pub NoneDrains : List Row → ℕ → ℕ → Type 0
 NoneDrains rows unit k = (j : ℕ) (row : Row) → unit ≤ j → j < k → slice_get rows j ≡ Some row → is_draining unit row ≡ false
 
@@ -25,14 +25,14 @@ by_bool false h = refl
 not_draining : (unit : ℕ) (row : Row) → (row.unit ≡ unit → ⊥) → is_draining unit row ≡ false
 not_draining unit row g = by_bool (is_draining unit row) (λ t. g (eqb-true row.unit unit (and_parts (row.unit == unit) (asks_to_drain row) t).0))
 
--- a row before the first of a chain is of another
+-- A request before the start of a chain belongs to another.
 earlier : (rows : List Row) (unit j : ℕ) (row : Row) → Chained rows → slice_get rows j ≡ Some row → j < unit → is_draining unit row ≡ false
 earlier rows unit j row c e l = not_draining unit row (λ same. let low : row.unit ≤ j = c.back j row e in absurd (omega (arith, same)))
 
 pub none_past : {X : Type 0} (xs : List X) (k j : ℕ) (x : X) → length xs ≤ k → k ≤ j → slice_get xs j ≡ Some x → ⊥
 none_past xs k j x l up e = none-some x (sym (slice_get_past xs j (omega arith)) ∙ e)
 
--- where the table ends
+-- At the end of the table the search has found none.
 pub drains_end : (rows : List Row) (unit k : ℕ) → Chained rows → NoneDrains rows unit k → length rows ≤ k → drains rows unit ≡ false
 drains_end rows unit k c none l = any_false (is_draining unit) rows (λ j row e.
     elim (cases_lt j unit) [
@@ -43,7 +43,7 @@ drains_end rows unit k c none l = any_false (is_draining unit) rows (λ j row e.
       ]
     ])
 
--- where another chain begins
+-- The chain ends where another begins.
 pub drains_other : (rows : List Row) (unit k : ℕ) (y : Row) → Chained rows → NoneDrains rows unit k → unit ≤ k → slice_get rows k ≡ Some y → (y.unit ≡ unit → ⊥) → drains rows unit ≡ false
 drains_other rows unit k y c none u there other = any_false (is_draining unit) rows (λ j row e.
     elim (cases_lt j unit) [

@@ -1,4 +1,4 @@
--- Searches that go on by an event, or end at one.
+-- The invariant of the search, and what follows from it at the end or when an event fails.
 use Rattle.std.proofs.Common.{◌≡◌, inl, inr, ℕ, zero, suc, ◌+◌, ◌<◌, List, [], ◌++◌, length, take, map, get_or, slice_get, Bool, true, false, Option, Some, None, sym, ap, ◌∙◌, subst, arith}
 use Rattle.std.proofs.lemmas.Bool.{cases_lt, cases_order, or_cases}
 use Rattle.std.proofs.lemmas.List.{take_all}
@@ -31,7 +31,8 @@ use Rattle.findings.proofs.Candidates.{covers_more, covers_none}
 use Rattle.findings.proofs.Members.{Has, has_left, has_right, has_contains}
 use Rattle.findings.proofs.Shown.{IsShown, IsRung, or_first, or_second, record_shown, shown_there, event_rung, rung_there}
 
--- the findings before a moment were found, and the next event finds their machine
+-- The loop invariant: the findings before moment i, the followed numbers and the watched conditions
+-- are exact, and the machine is that of moment i.
 pub record Finds (s : Setup) (es : List Event) (i : ℕ) (m : Machine) (fs : List Finding) (numbers : List ℕ) (ws : List Watch) : Type 0 where
   pub here : m ≡ machine_at s es i
   pub runs : Accepts (start s) (take i es)
@@ -39,7 +40,7 @@ pub record Finds (s : Setup) (es : List Event) (i : ℕ) (m : Machine) (fs : Lis
   pub covered : Covers m.table numbers
   pub watching : ws ≡ map (watch_at s es i) (watched s)
 
--- what was shown before a moment
+-- A finding whose event is before moment n.
 abbrev IsEarly : Setup → List Event → ℕ → Finding → Type 0
 IsEarly s es n f = (f.moment < n) × (occurs_at s es f.moment f.kind f.subject ≡ true)
 
@@ -55,19 +56,19 @@ finds_none s es m fs numbers ws e h w = record {
   watching = w ∙ ap (λ (x : Machine). map (advanced s x zero) (watched s)) e ∙ watched_first s es;
 }
 
--- what an event shows
+-- Whether an event is a finding.
 abbrev is_shown : Setup → Machine → Event → Kind → ℕ → Bool
 is_shown s m e kind n = occurs s kind m e (after m e) n
 
--- what is shown at a moment
+-- The findings at a moment are those of its event.
 at_moment : (s : Setup) (es : List Event) (i : ℕ) (e : Event) (kind : Kind) (r : ℕ) → slice_get es i ≡ Some e → occurs_at s es i kind r ≡ is_shown s (machine_at s es i) e kind r
 at_moment s es i e kind r h = ap (λ (o : Option Event). option_map_or (λ (x : Event). is_shown s (machine_at s es i) x kind r) o false) h
 
--- a finding whose moment is one
+-- Replaces the moment of a finding by an equal one.
 moved : (s : Setup) (es : List Event) (i : ℕ) (f : Finding) → f.moment ≡ i → occurs_at s es f.moment f.kind f.subject ≡ occurs_at s es i f.kind f.subject
 moved s es i f h = ap (λ (k : ℕ). occurs_at s es k f.kind f.subject) h
 
--- what an event adds: of rows, of rings and threads, and beside requests that haven't ended
+-- The findings that an event adds: about requests, and about conflicts.
 abbrev of_rows : ℕ → Machine → List Change → List Finding
 of_rows i behind cs = flat_map (of_change i behind.table) cs
 
@@ -170,7 +171,7 @@ finds_stops s es i m e d fs numbers ws (Trace x) l h g stop = absurd stop
 false_true : false ≡ true → ⊥
 false_true e = cc
 
--- what is shown is of a moment that has an event
+-- The moment of an event's finding is below the number of events.
 within : (s : Setup) (es : List Event) (f : Finding) → occurs_at s es f.moment f.kind f.subject ≡ true → f.moment < length es
 within s es f h =
     elim (cases_lt f.moment (length es)) [
@@ -183,7 +184,7 @@ within s es f h =
           absurd (false_true (sym untold ∙ h))
     ]
 
--- what events show, the conditions that hold on, and what is found at the end
+-- The findings of events, of conditions that last, and of things left at the end are all findings.
 pub all_found : (s : Setup) (es : List Event) (fs ls us gs : List Finding) → FoundBefore s es (length es) fs → IsLasting s es ls → AreLeft s es us → gs ≡ (fs ++ ls) ++ us → IsAll s es gs
 all_found s es fs ls us gs h lasting left e = subst (IsAll s es) (sym e) (record {
   only = All-append (IsFinding s es) (fs ++ ls) us
@@ -198,7 +199,7 @@ all_found s es fs ls us gs h lasting left e = subst (IsAll s es) (sym e) (record
   ];
 })
 
--- at the end
+-- What the invariant gives at the end of the events.
 pub finds_run : (s : Setup) (es : List Event) (i : ℕ) (m : Machine) (fs : List Finding) (numbers : List ℕ) (ws : List Watch) → i ≡ length es → Finds s es i m fs numbers ws → Accepts (start s) es
 finds_run s es i m fs numbers ws e h = subst (Accepts (start s)) (take_all i es (omega arith)) h.runs
 
@@ -208,7 +209,7 @@ finds_lasting s es i m fs numbers ws e h = lasting_told s es ws (h.watching ∙ 
 pub finds_left : (s : Setup) (es : List Event) (i : ℕ) (m : Machine) (fs : List Finding) (numbers : List ℕ) (ws : List Watch) → i ≡ length es → Finds s es i m fs numbers ws → AreLeft s es (all_left (length es) m.table ++ all_unsynced s (length es) m.world)
 finds_left s es i m fs numbers ws e h = all_at_end s es m (h.here ∙ ap (machine_at s es) e)
 
--- all findings, put in order
+-- All findings, sorted, are the report.
 pub told_of : (s : Setup) (es : List Event) (fs gs : List Finding) → IsAll s es fs → SameFindings fs gs → Rises zero gs → IsToldOf s es gs
 told_of s es fs gs h same order = record {
   only = λ k d l. All-contains (IsFinding s es) fs (get_or gs k d) h.only (same.back (get_or gs k d) (Contains-get_or gs k d l));

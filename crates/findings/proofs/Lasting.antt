@@ -1,4 +1,4 @@
--- Conditions that hold on, and from when on.
+-- Conditions that last, and the moment since when each holds.
 use Rattle.std.proofs.Common.{◌≡◌, inl, inr, ℕ, zero, suc, ◌+◌, ◌-◌, ◌<◌, ◌≤◌, Bool, true, false, List, [], ◌∷◌, ◌++◌, length, take, drop, get_or, set, map, refl, sym, ap, ◌∙◌, subst, arith}
 use Rattle.std.proofs.lemmas.Bool.{cases_lt, cases_order, and_parts, ltb-true, eqb-true}
 use Rattle.std.proofs.lemmas.List.Elements.{All-nil, All-cons, All-append}
@@ -27,7 +27,7 @@ unfoldable pub since_of : (ℕ → Bool) → ℕ → Option ℕ
 since_of holds zero = continued (holds zero) None zero
 since_of holds (suc n) = continued (holds (suc n)) (since_of holds n) (suc n)
 
--- it doesn't hold at a moment, or has held from one on
+-- The condition doesn't hold at moment n, or has held since a moment.
 abbrev IsSince : (ℕ → Bool) → ℕ → Option ℕ → Type 0
 IsSince holds n None = holds n ≡ false
 IsSince holds n (Some i) = Began holds n i
@@ -71,14 +71,14 @@ unfolding since_of
 since_is holds zero = since_first holds (holds zero) refl
 since_is holds (suc n) = since_more holds n (since_of holds n) (since_is holds n) (holds (suc n)) refl
 
--- a condition began at the moment that is told
+-- A condition began at the recorded moment.
 since_begins : (holds : ℕ → Bool) (n i : ℕ) → since_of holds n ≡ Some i → Began holds n i
 since_begins holds n i e = subst (IsSince holds n) e (since_is holds n)
 
 both : (a : Bool) → a ≡ true → a ≡ false → ⊥
 both a h k = false_true (sym k ∙ h)
 
--- it began at one moment alone
+-- A condition has begun at only one moment.
 one_beginning : (holds : ℕ → Bool) (n i j : ℕ) → Began holds n i → Began holds n j → i < j → ⊥
 one_beginning holds n i j b d l =
     let up : j ≤ n = d.within in
@@ -96,9 +96,9 @@ begins_since holds n i b = by (since_of holds n) (since_is holds n)
           | inr (inr l) ↦ absurd (one_beginning holds n j i h b l)
         ]
 
--- ---- what is watched
+-- ---- watched conditions
 
--- a condition that is watched, at a moment of a run
+-- A watched condition at moment n of a run.
 abbrev pub watch_at : Setup → List Event → ℕ → Watch → Watch
 watch_at s es n w = record w { since = since_of (stands_at s es w.kind w.subject) n }
 
@@ -107,7 +107,7 @@ unfolding since_of
 threads_first s es [] = refl
 threads_first s es (n ∷ ns) = ap (λ (ws : List Watch). watch_at s es zero (fresh Waits n) ∷ ws) (threads_first s es ns)
 
--- at the start
+-- At the start.
 pub watched_first : (s : Setup) (es : List Event) → map (advanced s (start s) zero) (watched s) ≡ map (watch_at s es zero) (watched s)
 unfolding since_of
 watched_first s es =
@@ -118,21 +118,21 @@ unfolding since_of
 advanced_next s es i [] = refl
 advanced_next s es i (w ∷ ws) = ap (λ (xs : List Watch). watch_at s es (suc i) w ∷ xs) (advanced_next s es i ws)
 
--- behind one more event
+-- After one more event.
 pub advanced_more : (s : Setup) (es : List Event) (i k : ℕ) (m : Machine) (ws : List Watch) → k ≡ suc i → m ≡ machine_at s es k → map (advanced s m k) (map (watch_at s es i) ws) ≡ map (watch_at s es k) ws
 advanced_more s es i k m ws e h =
     ap (λ (x : Machine). map (advanced s x k) (map (watch_at s es i) ws)) h
     ∙ subst (λ (j : ℕ). map (advanced s (machine_at s es j) j) (map (watch_at s es i) ws) ≡ map (watch_at s es j) ws) (sym e) (advanced_next s es i ws)
 
--- ---- one after the other
+-- ---- one step of the loop
 
--- a list of which the first are mapped, with one more
+-- Mapping one more element of a list, in place.
 pub mapped_more : {X : Type 0} (f : X → X) (xs : List X) (i : ℕ) (d : X) → i < length xs → set (map f (take i xs) ++ drop i xs) i (f (get_or xs i d)) ≡ map f (take (suc i) xs) ++ drop (suc i) xs
 mapped_more f [] i d h = absurd (omega arith)
 mapped_more f (x ∷ xs) zero d h = refl
 mapped_more f (x ∷ xs) (suc i) d h = ap (λ ys. f x ∷ ys) (mapped_more f xs i d (omega arith))
 
--- the first that isn't
+-- The first element that is not mapped is unchanged.
 pub mapped_read : {X : Type 0} (f : X → X) (xs : List X) (i : ℕ) (d : X) → i < length xs → get_or (map f (take i xs) ++ drop i xs) i d ≡ get_or xs i d
 mapped_read f [] i d h = absurd (omega arith)
 mapped_read f (x ∷ xs) zero d h = refl
@@ -144,7 +144,7 @@ mapped_step f xs ys i d r l h e =
     let read : r ≡ f (get_or xs i d) = e ∙ ap (λ zs. f (get_or zs i d)) h ∙ ap f (mapped_read f xs i d l) in
     ap (λ zs. set zs i r) h ∙ ap (λ z. set (map f (take i xs) ++ drop i xs) i z) read ∙ mapped_more f xs i d l ∙ ap (λ (k : ℕ). map f (take k xs) ++ drop k xs) up
 
--- ---- what is told of them
+-- ---- their findings
 
 abbrev IsOn : Setup → List Event → ℕ → Finding → Type 0
 IsOn s es n f = Began (stands_at s es f.kind f.subject) n f.moment
@@ -174,7 +174,7 @@ below_there n (suc m) l =
       | inr up ↦ let same : m ≡ n = omega arith in has_right (numbers_below m) (m ∷ []) n (inl same)
     ]
 
--- each condition that can stand is watched
+-- Each condition that can hold is watched.
 watched_has : (s : Setup) (kind : Kind) (m : Machine) (n : ℕ) → stands s kind m n ≡ true → Has (watched s) (fresh kind n)
 watched_has s LostWakeUp m n h = let e : n ≡ zero = eqb-true n zero (and_parts _ _ h).0 in inl (ap (fresh LostWakeUp) (sym e))
 watched_has s NotTaken m n h = let e : n ≡ zero = eqb-true n zero (and_parts _ _ h).0 in inr (inl (ap (fresh NotTaken) (sym e)))
@@ -194,7 +194,7 @@ watch_told s es n f h =
     in
     has_flat_map of_lasting (map (watch_at s es n) (watched s)) (watch_at s es n (fresh f.kind f.subject)) f there told
 
--- the conditions that hold at the end
+-- The findings of the watched conditions are those that last to the end.
 pub lasting_told : (s : Setup) (es : List Event) (ws : List Watch) → ws ≡ map (watch_at s es (length es)) (watched s) → IsLasting s es (flat_map of_lasting ws)
 lasting_told s es ws e = subst (λ (xs : List Watch). IsLasting s es (flat_map of_lasting xs)) (sym e) (record {
   only = watches_on s es (length es) (watched s);

@@ -1,4 +1,4 @@
--- Rows that are unfinished at the end, and files that aren't durable.
+-- Requests that are incomplete at the end, and files that aren't durable.
 use Rattle.std.proofs.Common.{◌≡◌, ◌⊎◌, inl, inr, ℕ, zero, suc, ◌+◌, ◌<◌, ◌≤◌, Bool, true, false, List, [], ◌∷◌, ◌++◌, length, drop, refl, sym, ap, ◌∙◌, subst, arith, append_assoc, append-nil}
 use Rattle.std.proofs.lemmas.List.{drop_all}
 use Rattle.std.proofs.lemmas.List.Elements.{All-nil, All-cons, All-append}
@@ -24,14 +24,14 @@ use Rattle.findings.specs.Watched.{numbers_below}
 use Rattle.findings.proofs.Lasting.{below_there}
 use Rattle.findings.proofs.Members.{Has, has_left, has_right, has_flat_map, has_contains}
 
--- the row at the front of the rest
+-- The first of the remaining requests.
 row_first : (rows rest : List Row) (k : ℕ) (row : Row) → drop k rows ≡ row ∷ rest → (slice_get rows k ≡ Some row) × (drop (suc k) rows ≡ rest)
 row_first [] rest zero row e = cc
 row_first [] rest (suc k) row e = cc
 row_first (x ∷ rows) rest zero row e = (let h : x ≡ row = cc in ap Some h, let t : rows ≡ rest = cc in t)
 row_first (x ∷ rows) rest (suc k) row e = row_first rows rest k row e
 
--- what is unfinished in a table at a moment
+-- A finding about an incomplete request of a table at moment n.
 abbrev IsOpen : ℕ → List Row → Finding → Type 0
 IsOpen n rows f = (f.moment ≡ n) × ((f.kind ≡ Unfinished) × (option_map_or is_open (slice_get rows f.subject) false ≡ true))
 
@@ -102,12 +102,12 @@ object_there n o w h = by (has_unsynced w o) h
     by true e = inl refl
     by false e = cc
 
--- ---- all of it
+-- ---- requests and files
 
 false_true : false ≡ true → ⊥
 false_true e = cc
 
--- what is left is a row or a file
+-- Something left at the end is a request or a file.
 left_is : (s : Setup) (kind : Kind) (m : Machine) (r : ℕ) → is_left s kind m r ≡ true
     → ((Unfinished ≡ kind) × (option_map_or is_open (slice_get m.table r) false ≡ true)) ⊎ ((NotDurable ≡ kind) × (r < length s.objects) × (has_unsynced m.world r ≡ true))
 left_is s Unfinished m r h = inl (refl, h)
@@ -135,7 +135,7 @@ all_at_end s es m e = subst (λ (x : Machine). AreLeft s es (all_left (length es
   whole = λ f h. has_contains _ f (left_there s es f h);
 })
 
--- ---- row by row
+-- ---- one step of the loop
 
 cut_at : (rows : List Row) (k : ℕ) (row : Row) → slice_get rows k ≡ Some row → drop k rows ≡ row ∷ drop (suc k) rows
 cut_at [] k row e = cc

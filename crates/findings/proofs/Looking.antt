@@ -1,4 +1,4 @@
--- Looking through a list, element by element, for one that passes a test.
+-- Searching a list, element by element, for one that passes a test.
 use Rattle.std.proofs.Common.{◌≡◌, inl, inr, ℕ, ◌+◌, ◌<◌, ◌≤◌, Bool, true, false, List, length, refl, sym, ap, ◌∙◌, arith}
 use Rattle.std.proofs.lemmas.Bool.{cases_lt}
 use Rattle.std.specs.Prelude.{Option, Some, None, slice_get}
@@ -7,11 +7,11 @@ use Rattle.std.specs.List.{list_any}
 use Rattle.links_drains.proofs.Units.{any_true, any_false}
 use Rattle.findings.proofs.Draining.{none_past}
 
--- whether the element at a place passes
+-- Whether element k passes.
 abbrev pub passes : {X : Type 0} → (X → Bool) → List X → ℕ → Bool
 passes test xs k = option_map_or test (slice_get xs k) false
 
--- none before a place does
+-- No element before k passes.
 abbrev pub NonePasses : {X : Type 0} → (X → Bool) → List X → ℕ → Type 0
 NonePasses test xs k = (j : ℕ) → j < k → passes test xs j ≡ false
 

@@ -1,9 +1,9 @@
--- Members of lists, by recursion.
+-- Membership in lists, by recursion.
 use Rattle.std.proofs.Common.{◌≡◌, ◌⊎◌, inl, inr, ℕ, zero, suc, ◌<◌, ◌≤◌, List, [], ◌∷◌, ◌++◌, length, get_or, sym, subst, arith}
 use Rattle.std.specs.Prelude.{None, slice_get}
 use Rattle.std.specs.List.{Contains, flat_map}
 
--- a list has a member
+-- The list contains the element.
 abbrev pub Has : {X : Type 0} → List X → X → Type 0
 Has [] x = ⊥
 Has (y ∷ ys) x = (y ≡ x) ⊎ Has ys x
@@ -38,7 +38,7 @@ has_contains (y ∷ ys) x (inr h) =
     let l : c.0 < length ys = c.1 in
     (suc c.0, omega arith, c.2)
 
--- where a list has no element it has ended
+-- An index without an element is past the end.
 pub none_behind : {X : Type 0} (xs : List X) (k : ℕ) → slice_get xs k ≡ None → length xs ≤ k
 none_behind [] k e = omega arith
 none_behind (x ∷ xs) zero e = cc

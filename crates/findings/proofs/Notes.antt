@@ -1,4 +1,4 @@
--- What the notes of an exact record tell.
+-- The changes of an exact record.
 use Rattle.std.proofs.Common.{◌≡◌, inl, inr, Bool, true, false, cond, List, [], ◌∷◌, refl, sym, ap, ◌∙◌}
 use Rattle.std.proofs.lemmas.Option.{none-some, same_Some}
 use Rattle.std.specs.Prelude.{Option, Some, None}
@@ -10,7 +10,7 @@ use Rattle.places.specs.View.{View, Exact, NamesOnce, named}
 use Rattle.places.proofs.SamePlace.{same_place_is, same_place_self}
 use Rattle.findings.proofs.Members.{Has}
 
--- each note tells what stood in its place
+-- Each change has the old value of its place.
 abbrev pub AreTrue : View → List Change → Type 0
 AreTrue v [] = Unit {0}
 AreTrue v (c ∷ cs) = (c.old ≡ v c.place) × AreTrue v cs
@@ -30,7 +30,7 @@ true_from v (c ∷ cs) o h = (
 pub true_notes : (old new : View) (cs : List Change) → Exact old new cs → NamesOnce cs → AreTrue old cs
 true_notes old new cs x o = true_from old cs o (λ p y e. (x.differs p y e).0)
 
--- a place that differs is named
+-- A place whose value changes is named.
 pub is_named : (old new : View) (cs : List Change) (p : Place) → Exact old new cs → (old p ≡ new p → ⊥) → named cs p ≡ Some (old p)
 is_named old new cs p x d = by (named cs p) refl
   where
@@ -44,7 +44,7 @@ changed p x = record { place = p; old = x }
 same_change : (c : Change) (q : Place) (y : Option Value) → c.place ≡ q → c.old ≡ y → c ≡ changed q y
 same_change c q y e h = ap (λ (p : Place). changed p c.old) e ∙ ap (changed q) h
 
--- what is named was noted
+-- A named place has a change in the record.
 pub change_there : (cs : List Change) (p : Place) (x : Option Value) → named cs p ≡ Some x → Has cs (record { place = p; old = x })
 unfolding named
 change_there [] p x e = absurd (none-some x e)

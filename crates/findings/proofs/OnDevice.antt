@@ -1,4 +1,4 @@
--- What of files isn't on the device, by what stands in their places.
+-- Whether a file is durable, read from the values of its places.
 use Rattle.std.proofs.Common.{◌≡◌, ℕ, zero, suc, ◌<◌, ◌≤◌, Bool, true, false, List, [], ◌∷◌, length, take, refl, sym, ap, ◌∙◌, arith}
 use Rattle.std.proofs.lemmas.Bool.{eqb-true, eq-eqb}
 use Rattle.std.proofs.lemmas.List.{length-take-le}
@@ -20,7 +20,7 @@ use Rattle.machine.specs.Whole.{view, WellFormed}
 use Rattle.findings.specs.Conditions.{is_unsynced, has_unsynced}
 use Rattle.finding_kinds.specs.Values.{number_in, byte_in, differ}
 
--- an object is a file, with how many bytes the file and the device have
+-- Object o is a file with length n and durable length d.
 abbrev pub IsFile : Machine → ℕ → ℕ → ℕ → Type 0
 IsFile m o n d = (f : FileState) × (slice_get m.world.objects o ≡ Some (File f)) × (f.len ≡ n) × (f.durable_len ≡ d)
 
@@ -33,7 +33,7 @@ is_file m o n d = by (slice_get m.world.objects o) refl
     by (Some (Pipe p)) e h k = absurd cc
     by (Some (EventFd c)) e h k = absurd cc
 
--- where it has no length it is none
+-- An object without a length is no file.
 pub no_length : (m : Machine) (o : ℕ) → None ≡ number_in (view m (FileLength o)) → has_unsynced m.world o ≡ false
 no_length m o = by (slice_get m.world.objects o)
   where
@@ -88,7 +88,7 @@ same_bytes (suc n) (x ∷ xs) [] l k h = absurd (omega (arith, k))
 same_bytes (suc n) (x ∷ xs) (y ∷ ys) l k h =
     ap (λ z. z ∷ take n xs) (one_byte x y (h 0 (omega arith))) ∙ ap (λ zs. y ∷ zs) (same_bytes n xs ys (omega (arith, l)) (omega (arith, k)) (λ i b. h (suc i) (omega (arith, b))))
 
--- two lists that aren't one
+-- Unequal lists.
 other_bytes : (xs ys : List ℕ) → (xs ≡ ys → ⊥) → not (bytes_eq xs ys) ≡ true
 other_bytes xs ys no_path = by (bytes_eq xs ys) refl
   where
@@ -109,7 +109,7 @@ lengths_differ m o n d h x other =
     let durable : x.0.durable_len ≤ length x.0.durable = let a = s.durable in let b = s.durable_len in omega (arith, a, b) in
     file_unsynced m o x.0 x.1 ∙ other_bytes _ _ (λ e. other (sym x.2 ∙ sym (length-take-le x.0.len x.0.bytes bytes) ∙ ap length e ∙ length-take-le x.0.durable_len x.0.durable durable ∙ x.3))
 
--- where both have as many bytes, each byte is looked at
+-- If both lengths are equal, comparing byte by byte decides.
 pub bytes_tell : (m : Machine) (o n d : ℕ) (r : Bool) → WellFormed m → IsFile m o n d → n ≡ d
     → MatchBool r ((i : ℕ) × (i < n) × (differ (byte_in (view m (FileByte o i))) (byte_in (view m (DurableByte o i))) ≡ true)) ((i : ℕ) → i < n → differ (byte_in (view m (FileByte o i))) (byte_in (view m (DurableByte o i))) ≡ false)
     → has_unsynced m.world o ≡ r

@@ -1,4 +1,4 @@
--- Changes that are of no row, and what a record shows without them.
+-- Changes that are of no request add no findings.
 use Rattle.std.proofs.Common.{◌≡◌, ℕ, ◌+◌, true, false, List, [], ◌∷◌, ◌++◌, refl, sym, ap, ◌∙◌}
 use Rattle.std.proofs.lemmas.Grind.{flat_map-append}
 use Rattle.std.proofs.lemmas.List.{append_assoc}
@@ -16,14 +16,14 @@ use Rattle.places.specs.View.{View}
 use Rattle.finding_kinds.specs.declared.finding.Finding.{Finding}
 use Rattle.findings.specs.Records.{of_place, of_change, after_note, after_notes, is_row, OfNoRow}
 
--- a byte is no row
+-- A byte is no request.
 byte_no_row : (g : Region) (i : ℕ) → is_row (place_in g i) ≡ false
 byte_no_row Memory i = refl
 byte_no_row (File o) i = refl
 byte_no_row (Durable o) i = refl
 byte_no_row (Pipe o) i = refl
 
--- old bytes of a region are of none, nor are changes behind them
+-- Recorded bytes of a region are of no request.
 pub bytes_no_row : (g : Region) (s : ℕ) (os : List (Option ℕ)) (cs : List Change) → OfNoRow cs → OfNoRow (old_bytes g s os ++ cs)
 bytes_no_row g s [] cs h = h
 bytes_no_row g s (None ∷ os) cs h = bytes_no_row g (s + 1) os cs h
@@ -40,12 +40,12 @@ place_follows_none : (v : View) (ns : List ℕ) (x : Option Value) (p : Place) �
 place_follows_none v ns x (Request r) e = absurd (true_false e)
 place_follows_none v ns x _ e = refl
 
--- they show nothing
+-- Such changes add no findings.
 shows_none : (i : ℕ) (rows : List Row) (cs : List Change) → OfNoRow cs → flat_map (of_change i rows) cs ≡ []
 shows_none i rows [] h = refl
 shows_none i rows (c ∷ cs) h = ap (λ (fs : List Finding). fs ++ flat_map (of_change i rows) cs) (place_shows_none i rows c.old c.place h.0) ∙ shows_none i rows cs h.1
 
--- and change nothing of what is followed
+-- They don't change the followed numbers.
 follows_none : (v : View) (ns : List ℕ) (cs ds : List Change) → OfNoRow cs → after_notes v ns (cs ++ ds) ≡ after_notes v ns ds
 follows_none v ns [] ds h = refl
 follows_none v ns (c ∷ cs) ds h = ap (λ (ks : List ℕ). after_notes v ks (cs ++ ds)) (place_follows_none v ns c.old c.place h.0) ∙ follows_none v ns cs ds h.1
@@ -59,7 +59,7 @@ shown_without i rows cs bs ds h = sym (
     flat_map-append (of_change i rows) cs (bs ++ ds)
     ∙ ap (λ (fs : List Finding). flat_map (of_change i rows) cs ++ fs) (flat_map-append (of_change i rows) bs ds ∙ ap (λ (fs : List Finding). fs ++ flat_map (of_change i rows) ds) (shows_none i rows bs h)))
 
--- a record whose first and last part were looked at, and whose middle is of no row
+-- A record is covered if its first and last part are and its middle is of no request.
 pub all_shown : {V E : Type 0} (r : Result V E) (i : ℕ) (rows : List Row) (all cs bs ds : List Change) (fs gs hs : List Finding) → all ≡ cs ++ (bs ++ ds) → OfNoRow bs → gs ≡ fs ++ flat_map (of_change i rows) cs → OnOk r (hs ≡ gs ++ flat_map (of_change i rows) ds)
     → OnOk r (hs ≡ fs ++ flat_map (of_change i rows) all)
 all_shown (Ok x) i rows all cs bs ds fs gs hs e h g k =

@@ -1,4 +1,4 @@
--- A rank is that of one finding alone.
+-- Different findings have different ranks.
 use Rattle.std.proofs.Common.{◌≡◌, ℕ, ◌+◌, ◌*◌, ◌<◌, lit<, refl, sym, ap, ◌∙◌, arith}
 use Rattle.std.specs.Prelude.{◌==◌, if◌then◌else◌}
 use Rattle.finding_kinds.specs.declared.finding.Finding.{Finding}

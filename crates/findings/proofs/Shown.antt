@@ -1,4 +1,4 @@
--- What an event shows, by its record.
+-- The findings computed from the record of an event are those of the event.
 use Rattle.std.proofs.Common.{◌≡◌, inl, inr, ℕ, zero, ◌+◌, Bool, true, false, cond, List, [], ◌∷◌, ◌++◌, refl, sym, ap, ◌∙◌, subst}
 use Rattle.std.proofs.lemmas.List.Elements.{All-nil, All-cons, All-append}
 use Rattle.std.proofs.lemmas.Bool.{and_parts, and_from, or_cases, eqb-true, eq-eqb}
@@ -36,7 +36,7 @@ use Rattle.findings.specs.Records.{given, row_kinds, of_row, row_in, of_place, o
 use Rattle.findings.proofs.Members.{Has, has_left, has_right, has_flat_map}
 use Rattle.findings.proofs.Notes.{AreTrue, true_notes, is_named, change_there}
 
--- what the event of a number shows of rows, which leads from one machine to another
+-- A finding about a request, of event i, which leads from one machine to another.
 abbrev pub IsShown : ℕ → Machine → Machine → Finding → Type 0
 IsShown i before behind f = (f.moment ≡ i) × (ends f.kind before behind f.subject ≡ true)
 
@@ -81,13 +81,13 @@ changes_shown i before behind [] h = All-nil (IsShown i before behind)
 changes_shown i before behind (c ∷ cs) h =
     All-append (IsShown i before behind) (of_change i behind.table c) (flat_map (of_change i behind.table) cs) (place_shown i before behind c.old c.place h.0) (changes_shown i before behind cs h.1)
 
--- what a record shows, the event does
+-- Each finding computed from the record is one of the event.
 pub record_shown : (i : ℕ) (before behind : Machine) (cs : List Change) → Exact (view before) (view behind) cs → NamesOnce cs → All (IsShown i before behind) (flat_map (of_change i behind.table) cs)
 record_shown i before behind cs x o = changes_shown i before behind cs (true_notes (view before) (view behind) cs x o)
 
 -- ---- nothing left out
 
--- a row that stays as it is shows nothing
+-- A request that doesn't change has no finding.
 stays_untold : (kind : Kind) (rows : List Row) (r : ℕ) (row : Row) → row_test kind (Some row) rows r row ≡ false
 stays_untold kind rows r row = by row.phase (is_of kind (Some row) row (next_in rows r)) (comes_as kind rows r row)
   where
@@ -99,7 +99,7 @@ stays_untold kind rows r row = by row.phase (is_of kind (Some row) row (next_in 
 false_true : false ≡ true → ⊥
 false_true e = cc
 
--- a kind that is about no row
+-- A kind that is about no request.
 no_test : (a b : Bool) → a ≡ false → (a || (b && false)) ≡ true → ⊥
 no_test true b h e = false_true (sym h)
 no_test false true h e = false_true e
@@ -132,7 +132,7 @@ row_there : (i r : ℕ) (kind : Kind) (old : Option Row) (rows : List Row) (row 
 row_there i r kind old rows row t =
     has_flat_map (λ (k : Kind). given (row_test k old rows r row) (the_finding i k r)) row_kinds kind (the_finding i kind r) (kind_there kind old rows r row t) (given_there (row_test kind old rows r row) (the_finding i kind r) t)
 
--- what an event shows of rows, its record does
+-- Each finding of the event about a request is computed from the record.
 pub shown_there : (i : ℕ) (before behind : Machine) (cs : List Change) (kind : Kind) (r : ℕ) → Exact (view before) (view behind) cs → ends kind before behind r ≡ true
     → Has (flat_map (of_change i behind.table) cs) (the_finding i kind r)
 shown_there i before behind cs kind r x h = by (slice_get behind.table r) refl h
@@ -159,7 +159,7 @@ shown_there i before behind cs kind r x h = by (slice_get behind.table r) refl h
 
 -- ---- rings and threads
 
--- what the event of a number shows of rings and threads
+-- A finding of event i about the rings, a thread, or a cancel or removal.
 abbrev pub IsRung : Setup → ℕ → Machine → Event → Machine → Finding → Type 0
 IsRung s i before e behind f = (f.moment ≡ i) × (shows s f.kind before e behind f.subject ≡ true)
 
@@ -218,7 +218,7 @@ event_rung s i before e behind =
     (All-append (IsRung s i before e behind) (of_step i (changes_at before (done_by s before e)) (done_by s before e) e behind) (of_cancel i (cancel_before before e) behind.table)
     (step_rung s i before e behind (done_by s before e) refl) (cancel_rung s i before e behind (cancel_before before e) refl))
 
--- the kinds that are about steps
+-- The kinds that are about steps of threads.
 enter_kind : (kind : Kind) (n : ℕ) (m : Machine) (t : ℕ) → is_of_enter kind n m t ≡ true → Has step_kinds kind
 enter_kind Busy n m t h = inl refl
 enter_kind TakenShort n m t h = inr (inl refl)
@@ -279,7 +279,7 @@ cancel_there i kind (Some x) rows n h =
     subst (λ (k : ℕ). Has (of_cancel i (Some x) rows) (the_finding i kind k)) (eqb-true x.number n parts.0)
     (has_flat_map (λ (k : Kind). given (is_of_cancel k x rows) (the_finding i k x.number)) cancel_kinds kind (the_finding i kind x.number) (cancel_kind kind x rows parts.1) (given_there (is_of_cancel kind x rows) (the_finding i kind x.number) parts.1))
 
--- and all of it
+-- Each such finding of the event is computed.
 pub rung_there : (s : Setup) (i : ℕ) (before : Machine) (e : Event) (behind : Machine) (kind : Kind) (n : ℕ) → shows s kind before e behind n ≡ true → Has (of_event s i before e behind) (the_finding i kind n)
 rung_there s i before e behind kind n h =
     elim (or_cases (ring_shows kind before behind n) (step_shows s kind before e behind n || cancel_shows kind before e behind n) h) [

@@ -1,4 +1,4 @@
--- Looking at the rows that haven't ended alone, for one that passes a test which no other passes.
+-- Searching only the incomplete requests, for a test that only those can pass.
 use Rattle.std.proofs.Common.{◌≡◌, inl, inr, ℕ, ◌+◌, ◌<◌, ◌≤◌, Bool, false, List, refl, sym, ap, ◌∙◌, arith}
 use Rattle.std.proofs.lemmas.Bool.{and_left, cases_lt}
 use Rattle.std.specs.Prelude.{Option, Some, None, slice_get}
@@ -16,11 +16,11 @@ use Rattle.finding_kinds.specs.declared.kind.Kind.TheVariants.{ClosedEarly, Clos
 use Rattle.findings.specs.Uses.{is_met}
 use Rattle.findings.proofs.Looking.{passes, NonePasses}
 
--- no row that has ended passes a test
+-- No completed request passes the test.
 abbrev pub PassOpen : (Row → Bool) → Type 0
 PassOpen test = (row : Row) → is_open row ≡ false → test row ≡ false
 
--- the next row that hasn't ended doesn't
+-- If the next incomplete request fails the test, all requests up to it do.
 pub none_on : (test : Row → Bool) (rows : List Row) (from q : ℕ) → PassOpen test → NonePasses test rows from → IsNextWhere is_open rows from q → passes test rows q ≡ false → NonePasses test rows (q + 1)
 none_on test rows from q closed none next other = λ j l.
     elim (cases_lt j from) [
@@ -35,7 +35,7 @@ none_on test rows from q closed none next other = λ j l.
     by j behind less None e = ap (λ (o : Option Row). option_map_or test o false) e
     by j behind less (Some x) e = ap (λ (o : Option Row). option_map_or test o false) e ∙ closed x (next.least j x behind less e)
 
--- there is no further one
+-- If no request is incomplete from there on, none passes.
 pub none_further : (test : Row → Bool) (rows : List Row) (from : ℕ) → PassOpen test → NonePasses test rows from → NoneWhere is_open rows from → list_any test rows ≡ false
 none_further test rows from closed none absent = any_false test rows (λ j x e.
     elim (cases_lt j from) [
@@ -53,7 +53,7 @@ not_issued Queued e = refl
 not_issued Issued e = cc
 not_issued (Ended res) e = refl
 
--- a Close meets rows that haven't ended alone
+-- The tests of a close are passed only by incomplete requests.
 pub met_open : (kind : Kind) (fd : ℕ) → PassOpen (is_met kind fd)
 met_open ClosedEarly fd row e = and_left _ _ (not_queued row.phase e)
 met_open ClosedWhileHeld fd row e = and_left _ _ (not_issued row.phase e)

@@ -1,4 +1,4 @@
--- The words that wait in the submission ring, behind some that are passed over.
+-- The indexes that wait in the submission ring, after some are skipped.
 use Rattle.std.proofs.Common.{◌≡◌, ℕ, ◌+◌, Bool, false, List, drop, ap, ◌∙◌, arith}
 use Rattle.std.proofs.lemmas.Grind.{common_steps}
 use Rattle.std.proofs.lemmas.Option.{gets}
@@ -9,6 +9,6 @@ use Rattle.findings.proofs.Looking.{passes}
 behind_at : (xs : List ℕ) (n k : ℕ) → slice_get (drop n xs) k ≡ slice_get xs (n + k)
 behind_at xs n k = grind (arith, common_steps, gets)
 
--- a word that was looked at is one of them
+-- The test of an index read from the ring is that of the list's element.
 pub looked_at : (xs : List ℕ) (test : ℕ → Bool) (passed k x : ℕ) (b : Bool) → slice_get xs (passed + k) ≡ Some x → test x ≡ b → passes test (drop passed xs) k ≡ b
 looked_at xs test passed k x b there t = ap (λ o. option_map_or test o false) (behind_at xs passed k ∙ there) ∙ t

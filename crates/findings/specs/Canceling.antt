@@ -1,4 +1,5 @@
--- What the end of a cancel or a removal is a finding of, by the rows that it matches (io_uring_prep_cancel(3), io_uring_enter(2)).
+-- Findings about completed cancels and removals, by the requests that they match
+-- (io_uring_prep_cancel(3), io_uring_enter(2)).
 use Rattle.std.specs.Prelude.{ℕ, ◌==◌, Bool, false, not, ◌&&◌, nat_lt, if◌then◌else◌, Option, Some, None, slice_get, List, length}
 use Rattle.std.specs.Option.{option_map_or, option_and_then}
 use Rattle.entries.specs.declared.row.Row.{Row}
@@ -12,29 +13,30 @@ use Rattle.findings.specs.declared.canceling.Cancel.{Cancel}
 use Rattle.finding_kinds.specs.declared.kind.Kind.{Kind}
 use Rattle.finding_kinds.specs.declared.kind.Kind.TheVariants.{Several, LeftRunning, NotFound}
 
--- a row, if it is a cancel or a removal, with how many rows it matches
+-- The request with its number of matches, if it is a cancel or removal.
 abbrev pub cancel_in : List Row → ℕ → Row → Option Cancel
 cancel_in rows r row = if is_cancel row.entry.opcode then Some (record { number = r; entry = row.entry; matched = length (matches_of rows (key_of row.entry) r) }) else None
 
--- the one that an event finishes
+-- The cancel or removal that an event completes.
 abbrev pub cancel_before : Machine → Event → Option Cancel
 cancel_before m (Finish r c) = option_and_then (cancel_in m.table r) (slice_get m.table r)
 cancel_before m e = None
 
--- whether some of all rows match
+-- Whether some request still matches.
 abbrev pub matches_some : Cancel → List Row → Bool
 matches_some x rows = nat_lt 0 (length (matches_of rows (key_of x.entry) x.number))
 
--- Whether the end of a cancel or a removal is a finding about it, by all rows behind it:
---   Several: it looks at one match alone, and more than one matched: the least number decided;
---   LeftRunning: it ends all that wait (IORING_ASYNC_CANCEL_ALL), and some match still: those that run go on;
---   NotFound: it ends all that wait, and none matched.
+-- Whether a completed cancel or removal is a finding, by all requests after the event:
+--   Several: it acts on the first match only, and more than one matched: the lowest number.
+--   LeftRunning: it cancels all that wait (IORING_ASYNC_CANCEL_ALL), and some still match, since
+--     they are running.
+--   NotFound: it cancels all that wait, and none matched.
 abbrev pub is_of_cancel : Kind → Cancel → List Row → Bool
 is_of_cancel Several x rows = not (takes_all x.entry) && nat_lt 1 x.matched
 is_of_cancel LeftRunning x rows = takes_all x.entry && matches_some x rows
 is_of_cancel NotFound x rows = takes_all x.entry && (x.matched == 0)
 is_of_cancel kind x rows = false
 
--- whether an event that finishes one is a finding about its row
+-- Whether an event completes cancel or removal n, and that is a finding about it.
 abbrev pub cancel_shows : Kind → Machine → Event → Machine → ℕ → Bool
 cancel_shows kind before e behind n = option_map_or (λ (x : Cancel). (x.number == n) && is_of_cancel kind x behind.table) (cancel_before before e) false

@@ -1,4 +1,4 @@
--- What rings and threads show: by an event, and where it holds on to the end of a run.
+-- Findings about the rings and the threads: events, and conditions that last to the end of a run.
 use Rattle.std.specs.Prelude.{◌≡◌, ℕ, ℤ, pos, ◌+◌, ◌≤◌, ◌==◌, Bool, true, false, not, ◌&&◌, ◌||◌, nat_lt, if◌then◌else◌, Option, Some, None, is_none, option_map, slice_get, length}
 use Rattle.std.specs.Option.{option_map_or, option_and_then}
 use Rattle.std.specs.Ordering.{int_eq}
@@ -24,70 +24,76 @@ use Rattle.finding_kinds.specs.Programs.{instruction_at}
 
 -- ---- rings (io_uring_setup(2), io_uring(7))
 
--- NEED_WAKEUP: the poller is asleep
+-- IORING_SQ_NEED_WAKEUP: the poller is asleep.
 abbrev pub needs_wake_up : Machine → Bool
 needs_wake_up m = has_flag m.submissions.flags 1
 
--- CQ_OVERFLOW: completions are kept in the backlog
+-- IORING_SQ_CQ_OVERFLOW: the backlog holds completions.
 abbrev pub overflows : Machine → Bool
 overflows m = has_flag m.submissions.flags 2
 
--- whether entries wait in the submission ring
+-- Whether entries wait in the submission ring.
 abbrev pub has_entries : Machine → Bool
 has_entries m = not (m.submissions.head == m.submissions.tail)
 
--- whether completions wait in the completion ring
+-- Whether completions wait in the completion ring.
 abbrev pub has_completions : Machine → Bool
 has_completions m = not (m.completions.head == m.completions.tail)
 
 -- ---- threads
 
--- where a thread's program stands as an event is a step of it
+-- The program counter of the thread whose step the event is.
 abbrev pub counter_of : Machine → Event → Option ℕ
 counter_of m (Step t) = option_map (λ (x : ThreadState). x.counter) (slice_get m.threads t)
 counter_of m e = None
 
--- the instruction that a thread stands at as an event is a step of it
+-- The instruction that the event does, if it is a step of a thread.
 abbrev pub done_by : Setup → Machine → Event → Option Instruction
 done_by s m e = instruction_at s e (counter_of m e)
 
+-- Whether a thread waits in its enter.
 abbrev pub is_held_up : Stage → Bool
 is_held_up Ready = false
 is_held_up (Waiting submitted wanted) = true
 
--- what a thread's last Enter or Close answered: what one that waits in its Enter has is the answer of an earlier one
+-- The result of a thread's last enter or close. None while the thread waits in its enter, since its
+-- last result is that of an earlier call.
 abbrev pub answer_of : Machine → ℕ → Option ℤ
 answer_of m t = option_and_then (λ (x : ThreadState). if is_held_up x.stage then None else Some x.last) (slice_get m.threads t)
 
+-- Whether the event is a step of thread n.
 abbrev pub is_step_of : ℕ → Event → Bool
 is_step_of n (Step t) = t == n
 is_step_of n e = false
 
--- Whether an Enter that is to submit a number of entries, and was just answered or waits, is a finding about its thread (io_uring_enter(2)):
---   Busy: it is answered EBUSY;
---   TakenShort: it took fewer entries than it was to submit, and isn't answered with an error, which tells of itself;
---   RefusedFlags: it is answered EINVAL, since it has a flag other than IORING_ENTER_GETEVENTS and IORING_ENTER_SQ_WAKEUP.
+-- Whether an enter of to_submit entries, which has returned or waits, is a finding about its thread
+-- (io_uring_enter(2)):
+--   Busy: it returned EBUSY.
+--   TakenShort: it took fewer entries than that and returned no error.
+--   RefusedFlags: it returned EINVAL, because of a flag other than IORING_ENTER_GETEVENTS and
+--     IORING_ENTER_SQ_WAKEUP.
 abbrev pub is_of_enter : Kind → ℕ → Machine → ℕ → Bool
 is_of_enter Busy to_submit m t = option_map_or (is_error 16) (answer_of m t) false
 is_of_enter TakenShort to_submit m t = option_map_or (λ n. is_less n to_submit) (answer_of m t) false
 is_of_enter RefusedFlags to_submit m t = option_map_or (is_error 22) (answer_of m t) false
 is_of_enter kind to_submit m t = false
 
--- Whether a Push of an index is a finding (io_uring(7)):
---   NoSuchSlot: it names no slot.
+-- Whether a push of an index is a finding (io_uring(7)):
+--   NoSuchSlot: the index names no slot.
 abbrev pub is_of_push : Kind → ℕ → Machine → Bool
 is_of_push NoSuchSlot index m = is_none (slice_get m.submissions.slots index)
 is_of_push kind index m = false
 
--- whether a Close, just done, closed a descriptor (close(2))
+-- Whether the close that the thread has now done succeeded (close(2)).
 abbrev pub has_closed : Machine → ℕ → Bool
 has_closed m t = option_map_or (λ n. int_eq n (pos 0)) (answer_of m t) false
 
--- whether a Close of a descriptor is a finding: one that closed it
+-- Whether a close of a descriptor is a finding: only a successful one is.
 abbrev pub is_of_close : Kind → ℤ → Machine → ℕ → Bool
 is_of_close kind fd m t = has_closed m t && is_of_number kind m fd
 
--- whether a step of a thread is a finding about it: by the instruction that it did, whether that changed a slot, and the machine behind it
+-- Whether a step of thread t is a finding, by its instruction, whether it changed a slot, and the
+-- machine after it.
 abbrev pub is_of_step : Kind → Bool → Instruction → Machine → ℕ → Bool
 is_of_step kind changes (Enter to_submit min_complete flags) m t = is_of_enter kind to_submit m t
 is_of_step kind changes (Push index) m t = is_of_push kind index m
@@ -95,17 +101,18 @@ is_of_step kind changes (Put slot entry) m t = is_of_put kind changes slot m
 is_of_step kind changes (Close fd) m t = is_of_close kind fd m t
 is_of_step kind changes x m t = false
 
--- whether a setup's thread waits in its Enter
+-- Whether a thread of the setup waits in its enter.
 abbrev pub waits : Setup → Machine → ℕ → Bool
 waits s m t = nat_lt t (length s.threads) && option_map_or (λ (x : ThreadState). is_held_up x.stage) (slice_get m.threads t) false
 
--- ---- what holds on
+-- ---- conditions that last
 
--- Whether a condition stands that is a finding where it holds on to the end: of a thread of a number, or, with 0, of the rings:
---   LostWakeUp: the poller is asleep, and entries wait;
---   NotTaken: entries wait, and the poller, if there is one, is awake;
---   NotReaped: completions wait, or are kept;
---   Waits: the thread waits in its Enter.
+-- Whether a condition holds that is a finding if it lasts to the end. The subject is 0 for the
+-- rings, else a thread:
+--   LostWakeUp: the poller is asleep, and entries wait.
+--   NotTaken: entries wait, and no poller is asleep.
+--   NotReaped: completions wait in the ring or in the backlog.
+--   Waits: the thread waits in its enter.
 abbrev pub stands : Setup → Kind → Machine → ℕ → Bool
 stands s LostWakeUp m n = (n == 0) && (needs_wake_up m && has_entries m)
 stands s NotTaken m n = (n == 0) && (not (needs_wake_up m) && has_entries m)
@@ -115,22 +122,23 @@ stands s kind m n = false
 
 -- ---- the end
 
--- whether what a file has isn't what the device has of it (fsync(2))
+-- Whether the contents of a file differ from its durable contents (fsync(2)).
 abbrev pub is_unsynced : FileState → Bool
 is_unsynced f = not (bytes_eq (content f) (durable_content f))
 
+-- Whether an object is a file whose contents are not durable.
 abbrev pub has_unsynced : WorldState → ℕ → Bool
 has_unsynced w o = option_map_or is_unsynced (file_of w o) false
 
--- Whether a row or a setup's object of a number is a finding at the end:
---   Unfinished: the row hasn't ended;
---   NotDurable: the object is a file of which bytes were written that aren't durable.
+-- Whether a request or an object is a finding at the end:
+--   Unfinished: the request is incomplete.
+--   NotDurable: the object is a file with written bytes that are not durable.
 abbrev pub is_left : Setup → Kind → Machine → ℕ → Bool
 is_left s Unfinished m r = option_map_or is_open (slice_get m.table r) false
 is_left s NotDurable m o = nat_lt o (length s.objects) && has_unsynced m.world o
 is_left s kind m n = false
 
--- A condition has held up to a moment from another one on, and not just before that.
+-- A condition has held at each moment from `since` to `now`, and not at the moment before `since`.
 pub record Began (holds : ℕ → Bool) (now since : ℕ) : Type 0 where
   pub within : since ≤ now
   pub lasts : (k : ℕ) → since ≤ k → k ≤ now → holds k ≡ true

@@ -1,4 +1,4 @@
--- What the end of a request is a finding of.
+-- Findings about requests that an event submits or completes.
 use Rattle.std.specs.Prelude.{ℕ, ℤ, pos, negsuc, ◌+◌, ◌==◌, Bool, false, not, ◌&&◌, ◌||◌, nat_lt, nat_le, unsigned_abs, if◌then◌else◌, Option, Some, None, is_some, is_none, slice_get, List}
 use Rattle.std.specs.Option.{option_map_or}
 use Rattle.entries.specs.declared.entry.Sqe.{Sqe}
@@ -15,65 +15,70 @@ use Rattle.finding_kinds.specs.Chains.{distance_to_next}
 use Rattle.finding_kinds.specs.declared.kind.Kind.{Kind}
 use Rattle.finding_kinds.specs.declared.kind.Kind.TheVariants.{Failed, Short, Severed, Canceled, TimedOut, Expired, NotFound, TooLate, WentOn, CutOff, NoEffect, SameUserData}
 
--- ---- ends
+-- ---- completions
 
--- whether a row had ended before an event; one that the event brings hadn't
+-- Whether the request was complete before an event. A request that the event submits was not.
 abbrev pub had_ended : Option Row → Bool
 had_ended None = false
 had_ended (Some row) = is_ended row.phase
 
--- whether a row was issued before it, and hadn't ended
+-- Whether the request was issued and incomplete before the event.
 abbrev pub was_issued : Option Row → Bool
 was_issued None = false
 was_issued (Some row) = is_issued row.phase
 
+-- The result of a completed request.
 abbrev pub result_in : Phase → Option ℤ
 result_in Queued = None
 result_in Issued = None
 result_in (Ended res) = Some res
 
--- the result with which a row ends by an event, as it was before it and is behind it
+-- The result with which an event completes a request, from the request before and after it.
 abbrev pub ending_of : Option Row → Row → Option ℤ
 ending_of before row = if had_ended before then None else result_in row.phase
 
 -- ---- results
 
--- whether a result is the error of a number (errno(3))
+-- Whether a result is the negated error number (errno(3)).
 abbrev pub is_error : ℕ → ℤ → Bool
 is_error errno res = is_negative res && (unsigned_abs res == errno)
 
--- whether a result is a whole number below another
+-- Whether a result is at least 0 and below a number.
 abbrev pub is_less : ℤ → ℕ → Bool
 is_less (pos n) m = nat_lt n m
 is_less (negsuc n) m = false
 
--- whether another kind tells of an error: ECANCELED, ETIME of a timer, ENOENT and EALREADY of a cancel or a removal
+-- Whether another kind than Failed covers the error: ECANCELED, ETIME of a timer, and ENOENT and
+-- EALREADY of a cancel or removal.
 abbrev pub is_told_apart : Row → ℤ → Bool
 is_told_apart row res =
     is_error 125 res || ((is_timer row.entry.opcode && is_error 62 res) || (is_cancel row.entry.opcode && (is_error 2 res || is_error 114 res)))
 
 -- ---- kinds
 
--- the row behind that of a number, but for the guard of that one
+-- The request after request r, skipping its linked timeout.
 abbrev pub next_in : List Row → ℕ → Option Row
 next_in rows r = slice_get rows (r + distance_to_next rows r)
 
--- whether another row that is no guard is the next in its chain
+-- Whether that one is in the same chain and no linked timeout.
 abbrev pub has_next : Row → Option Row → Bool
 has_next row next = option_map_or (λ (other : Row). (other.unit == row.unit) && not (is_guard other)) next false
 
--- whether a row with a hard link ends badly, and its chain goes on: one that fails as it is submitted ends its chain, and so does one that an earlier soft link ends
+-- Whether a hard-linked request fails or is short, and its chain continues. A chain ends at a
+-- request that fails when it is submitted, or that an earlier soft link cancels.
 abbrev pub leaves_chain : Option Row → Row → ℤ → Bool
 leaves_chain before row res = has_flag row.entry.flags 8 && (is_bad row res && (was_issued before || (is_some before && not (is_error 125 res))))
 
--- Whether a row that ends with a result is a finding of a kind (io_uring_enter(2)):
---   Failed: with an error that no other kind tells of;
---   Short: a READ or a WRITE with fewer bytes than asked for;
---   Severed: a soft-linked row badly, of itself: it isn't one that ends with its chain, which is queued, and ends with ECANCELED;
---   Canceled: with ECANCELED;
---   TimedOut, Expired: a LINK_TIMEOUT, a TIMEOUT with ETIME;
---   NotFound, TooLate: a cancel or a removal with ENOENT, with EALREADY;
---   WentOn: a hard-linked row badly, and another, no guard, is the next in its chain.
+-- Whether completing with a result is a finding (io_uring_enter(2)):
+--   Failed: the result is an error that no other kind covers.
+--   Short: a READ or WRITE moved fewer bytes than it asked for.
+--   Severed: a soft-linked request failed or was short itself. Queued members that are canceled
+--     with their chain don't count.
+--   Canceled: the result is ECANCELED.
+--   TimedOut, Expired: a LINK_TIMEOUT or a TIMEOUT completed with ETIME.
+--   NotFound, TooLate: a cancel or removal completed with ENOENT or with EALREADY.
+--   WentOn: a hard-linked request failed or was short, and its chain has another member besides a
+--     linked timeout.
 abbrev pub is_of : Kind → Option Row → Row → Option Row → ℤ → Bool
 is_of Failed before row next res = is_negative res && not (is_told_apart row res)
 is_of Short before row next res = is_transfer row.entry.opcode && is_less res row.entry.len
@@ -86,30 +91,33 @@ is_of TooLate before row next res = is_cancel row.entry.opcode && is_error 114 r
 is_of WentOn before row next res = leaves_chain before row res && has_next row next
 is_of _ before row next res = false
 
--- ---- rows that come
+-- ---- submissions
 
--- whether a field of an entry that nothing looks at isn't 0
+-- Whether an entry sets a field that has no effect: ioprio, buf_index, personality or splice_fd_in.
 abbrev pub has_idle_field : Sqe → Bool
 has_idle_field entry = not (entry.ioprio == 0) || (not (entry.buf_index == 0) || (not (entry.personality == 0) || not (unsigned_abs entry.splice_fd_in == 0)))
 
--- whether a row is one of the 32 before that of a number, hasn't ended, and has a user_data
+-- Whether request q is one of the 32 before request r, is incomplete, and has a given user_data.
 abbrev pub is_twin : ℕ → ℕ → ℕ → Row → Bool
 is_twin r user q other = (nat_lt q r && nat_le r (q + 32)) && (is_open other && (other.entry.user_data == user))
 
--- whether some row has that of the row of a number; 0 is left out, which an entry has that gives none
+-- Whether some such request has the user_data of request r. 0 doesn't count, since entries that
+-- give none have it.
 abbrev pub has_twin : List Row → ℕ → Row → Bool
 has_twin rows r row = not (row.entry.user_data == 0) && any_numbered (is_twin r row.entry.user_data) rows
 
--- Whether a row that comes by an event, among all rows behind it, is a finding of a kind (io_uring_enter(2)):
---   CutOff: it is linked to an entry that didn't become a row with it;
---   NoEffect: a field of its entry has no effect;
---   SameUserData: one of the 32 rows before it hasn't ended, and has its user_data, so that their completions can't be told apart.
+-- Whether submitting request r is a finding, by all requests after the event (io_uring_enter(2)):
+--   CutOff: it is linked to a next entry that was not submitted with it.
+--   NoEffect: a field of its entry has no effect.
+--   SameUserData: one of the 32 requests before it is incomplete and has its user_data, so that
+--     their completions can't be told apart.
 abbrev pub comes_as : Kind → List Row → ℕ → Row → Bool
 comes_as CutOff rows r row = is_linked row.entry && is_none (slice_get rows (r + 1))
 comes_as NoEffect rows r row = has_idle_field row.entry
 comes_as SameUserData rows r row = has_twin rows r row
 comes_as kind rows r row = false
 
--- whether a row, as it was before an event and is among all rows behind it, ends by it, and that is a finding of a kind; or it comes by it, and that is
+-- Whether an event completes or submits request r, and that is a finding. `before` is the request
+-- before the event, and `rows` are all requests after it.
 abbrev pub row_test : Kind → Option Row → List Row → ℕ → Row → Bool
 row_test kind before rows r row = option_map_or (is_of kind before row (next_in rows r)) (ending_of before row) false || (is_none before && comes_as kind rows r row)

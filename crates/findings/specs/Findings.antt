@@ -1,4 +1,4 @@
--- Findings of runs, by the machines before and behind each event.
+-- The findings of a run, by the machines before and after each event.
 use Rattle.std.specs.Prelude.{◌≡◌, ℕ, ◌+◌, ◌≤◌, ◌==◌, Bool, true, false, not, ◌&&◌, ◌||◌, ◌⊎◌, length, List, [], ◌∷◌, slice_get}
 use Rattle.std.specs.Option.{option_map_or}
 use Rattle.std.specs.List.{All, Contains}
@@ -19,52 +19,54 @@ use Rattle.findings.specs.Uses.{changes_slot}
 
 -- ---- order
 
--- findings from a rank on, each above the one before
+-- Findings with strictly increasing ranks, the first at least `least`.
 abbrev pub Rises : ℕ → List Finding → Type 0
 Rises least [] = Unit {0}
 Rises least (f ∷ fs) = (least ≤ rank f) × Rises (rank f + 1) fs
 
--- ---- what is found
+-- ---- events
 
--- whether the row of a number ends by an event that leads from one machine to another, or comes by it, and that is a finding of a kind
+-- Whether an event completes or submits request r, and that is a finding.
 abbrev pub ends : Kind → Machine → Machine → ℕ → Bool
 ends kind before behind r = option_map_or (row_test kind (slice_get before.table r) behind.table r) (slice_get behind.table r) false
 
--- Whether an event is a finding about the rings, with 0:
---   Overflow: completions are kept, and none was before it.
+-- Whether an event is a finding about the rings, whose subject is 0:
+--   Overflow: completions went to the backlog, which was empty before.
 abbrev pub ring_shows : Kind → Machine → Machine → ℕ → Bool
 ring_shows Overflow before behind n = (n == 0) && (not (overflows before) && overflows behind)
 ring_shows kind before behind n = false
 
--- whether an event is a finding about the thread whose step it is
+-- Whether an event is a step of thread t and a finding about it.
 abbrev pub step_shows : Setup → Kind → Machine → Event → Machine → ℕ → Bool
 step_shows s kind before e behind t = is_step_of t e && option_map_or (λ x. is_of_step kind (changes_slot before x) x behind t) (done_by s before e) false
 
+-- Whether an event is a finding about the rings, a thread, or a cancel or removal.
 abbrev pub shows : Setup → Kind → Machine → Event → Machine → ℕ → Bool
 shows s kind before e behind n = ring_shows kind before behind n || (step_shows s kind before e behind n || cancel_shows kind before e behind n)
 
--- whether an event that leads from one machine to another is a finding of a kind
+-- Whether an event that leads from one machine to another is a finding about subject n.
 abbrev pub occurs : Setup → Kind → Machine → Event → Machine → ℕ → Bool
 occurs s kind before e behind n = (ends kind before behind n || shows s kind before e behind n) || clashes s kind before e behind n
 
--- whether the event at a moment of a run is a finding of a kind
+-- Whether event i of a run is a finding about subject n.
 abbrev pub occurs_at : Setup → List Event → ℕ → Kind → ℕ → Bool
 occurs_at s es i kind n =
     option_map_or (λ e. occurs s kind (machine_at s es i) e (after (machine_at s es i) e) n) (slice_get es i) false
 
--- whether a condition stands at a moment of a run
+-- Whether a condition holds at moment i of a run.
 abbrev pub stands_at : Setup → List Event → Kind → ℕ → ℕ → Bool
 stands_at s es kind n i = stands s kind (machine_at s es i) n
 
--- a row that is unfinished at the end, or a file that isn't durable
+-- A request that is incomplete at the end, or a file that isn't durable then.
 abbrev pub IsLeft : Setup → List Event → Finding → Type 0
 IsLeft s es f = (f.moment ≡ length es) × (is_left s f.kind (machine_at s es (length es)) f.subject ≡ true)
 
--- A finding: the event at its moment is one; or a condition holds from its moment on up to the end, and not before; or its moment is the end, where a row is unfinished, or a file not durable.
+-- A finding of a run is one of three: an event, at the moment before it; a condition that lasts to
+-- the end, at the moment since when it holds; or something left at the end.
 abbrev pub IsFinding : Setup → List Event → Finding → Type 0
 IsFinding s es f = (occurs_at s es f.moment f.kind f.subject ≡ true) ⊎ (Began (stands_at s es f.kind f.subject) (length es) f.moment ⊎ IsLeft s es f)
 
--- Just the findings of a run: nothing else, nothing left out, each once, in order.
+-- Exactly the findings of a run: nothing else, nothing left out, each once, in order.
 pub record IsToldOf (s : Setup) (es : List Event) (fs : List Finding) : Type 0 where
   pub only : All (IsFinding s es) fs
   pub whole : (f : Finding) → IsFinding s es f → Contains fs f

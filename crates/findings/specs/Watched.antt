@@ -1,4 +1,4 @@
--- Conditions that are watched, each with the moment from which on it holds.
+-- Conditions that are findings if they last to the end, with the moment since when each holds.
 use Rattle.std.specs.Prelude.{ℕ, zero, suc, Bool, true, false, Option, Some, None, List, [], ◌∷◌, ◌++◌, length, map}
 use Rattle.scenario.specs.declared.setup.Setup.{Setup}
 use Rattle.machine.specs.declared.whole.Machine.{Machine}
@@ -8,34 +8,38 @@ use Rattle.finding_kinds.specs.declared.kind.Kind.TheVariants.{Waits, LostWakeUp
 use Rattle.findings.specs.declared.watching.Watch.{Watch}
 use Rattle.findings.specs.Conditions.{stands}
 
--- the moment from which on a condition holds, once it does or doesn't at another
+-- Since when a condition holds, given whether it holds at the next moment.
 abbrev pub continued : Bool → Option ℕ → ℕ → Option ℕ
 continued false since moment = None
 continued true None moment = Some moment
 continued true (Some i) moment = Some i
 
+-- A condition updated for the next moment.
 abbrev pub advanced : Setup → Machine → ℕ → Watch → Watch
 advanced s m moment w = record w { since = continued (stands s w.kind m w.subject) w.since moment }
 
+-- A condition that has not held so far.
 abbrev pub fresh : Kind → ℕ → Watch
 fresh kind n = record { kind = kind; subject = n; since = None }
 
--- the numbers below one
+-- The numbers below n, ascending.
 abbrev pub numbers_below : ℕ → List ℕ
 numbers_below zero = []
 numbers_below (suc n) = numbers_below n ++ n ∷ []
 
+-- The conditions of the rings, whose subject is 0.
 abbrev pub of_rings : List Watch
 of_rings = fresh LostWakeUp 0 ∷ fresh NotTaken 0 ∷ fresh NotReaped 0 ∷ []
 
--- all conditions of a setup's rings and threads
+-- The conditions of a setup: of its rings and of each thread.
 abbrev pub watched : Setup → List Watch
 watched s = of_rings ++ map (fresh Waits) (numbers_below (length s.threads))
 
--- the finding of a condition that holds
+-- A finding if the condition holds.
 abbrev pub of_watch : Kind → ℕ → Option ℕ → List Finding
 of_watch kind n None = []
 of_watch kind n (Some i) = record { moment = i; kind = kind; subject = n } ∷ []
 
+-- The finding of a watched condition, if it holds.
 abbrev pub of_lasting : Watch → List Finding
 of_lasting w = of_watch w.kind w.subject w.since

@@ -1,4 +1,5 @@
-//! What the end of a cancel or a removal shows of the rows that it matches.
+//! Findings about completed cancels and removals, by the requests that they match
+//! (io_uring_prep_cancel(3)).
 ghost use Rattle.std.specs.Prelude.{◌≡◌};
 ghost use Rattle.findings.specs.Canceling.{cancel_in, cancel_before, matches_some, is_of_cancel};
 
@@ -8,13 +9,13 @@ use finding_kinds::Kind;
 use machine::{Event, State, takes_all};
 use opcodes::is_cancel;
 
-/// A cancel or a removal, before an event that ends it.
+/// A cancel or removal, as it is before the event that completes it.
 #[derive(Clone, Copy)]
 pub struct Cancel {
-    /// The number of its row.
+    /// Its request number.
     pub number: u32,
     pub entry: Sqe,
-    /// How many rows it matches.
+    /// How many requests it matches.
     pub matched: u32,
 }
 
@@ -31,7 +32,7 @@ fn cancel_in(state: &State, number: u32, row: &Row) -> Option<Cancel>
     })
 }
 
-/// The cancel or the removal that an event is to end, if it is to end one.
+/// Returns the cancel or removal that the event completes, if it completes one.
 pub(crate) fn cancel_before(state: &State, event: Event) -> Option<Cancel>
     ensures { result ≡ cancel_before state.now event }
 {
@@ -44,14 +45,14 @@ pub(crate) fn cancel_before(state: &State, event: Event) -> Option<Cancel>
     }
 }
 
-// Whether some row matches.
+// Returns whether some request still matches.
 fn matches_some(cancel: &Cancel, state: &State) -> bool
     ensures { result ≡ matches_some cancel.now state.now.table }
 {
     state.match_count(&cancel.entry, cancel.number) > 0
 }
 
-/// Whether the end of a cancel or a removal is a finding about it, by the state behind it.
+/// Returns whether a completed cancel or removal is a finding of this kind, by the state after it.
 pub(crate) fn is_of_cancel(kind: Kind, cancel: &Cancel, state: &State) -> bool
     ensures { result ≡ is_of_cancel kind cancel.now state.now.table }
 {

@@ -1,4 +1,5 @@
-//! One pass over what a record names.
+//! One pass over an undo record: collects the findings about requests, their history, and the set
+//! of incomplete READs and WRITEs.
 ghost use Rattle.std.specs.Prelude.{◌≡◌, ◌++◌, OnOk};
 ghost use Rattle.std.specs.List.{flat_map};
 ghost use Rattle.machine.specs.Whole.{view};
@@ -15,7 +16,8 @@ use finding_kinds::{Finding, Times};
 use places::{Change, Changes, Place, Record, Stretches, Value};
 use std::alloc::AllocError;
 
-// Adds what a row shows that a record names, notes when it came and ended, and follows it.
+// Handles one request that the record names: adds its findings, records its change of phase, and
+// updates the followed numbers.
 fn look_at_row(
     found: &mut Vec<Finding>,
     numbers: &mut Vec<u32>,
@@ -74,15 +76,15 @@ fn look_at_changes(
     Ok(())
 }
 
-// Passes over bytes, none of which is a row, a run at a time.
+// Skips the recorded bytes, none of which belongs to a request.
 fn pass_over(rest: &mut Stretches<'_>)
     ensures { OfNoRow rest.old.left }
 {
     while let Some(_run) = rest.next() {}
 }
 
-/// Adds what an event shows of rows, by its record, notes when they came and ended, and follows
-/// them.
+/// Adds the findings about the requests that the record of an event names. Also records their
+/// changes of phase and updates the numbers of incomplete READs and WRITEs.
 pub(crate) fn look_at_record(
     found: &mut Vec<Finding>,
     numbers: &mut Vec<u32>,

@@ -1,4 +1,4 @@
-//! What rings and threads show.
+//! Findings about the rings and the threads.
 ghost use Rattle.std.specs.Prelude.{◌≡◌, false};
 ghost use Rattle.std.specs.Option.{option_map_or};
 ghost use Rattle.links_drains.specs.Links.{has_flag};
@@ -14,16 +14,16 @@ use finding_kinds::{Kind, descriptor_number, instruction_at};
 use machine::{Event, Instruction, Setup, State};
 use places::{Place, Stage, Value};
 
-/// What is to be known of the rings, the threads and a cancel before an event.
+/// Facts about the state before an event, saved because the event changes them.
 #[derive(Clone, Copy)]
 pub(crate) struct Before {
-    /// Completions are kept.
+    /// The backlog holds completions (IORING_SQ_CQ_OVERFLOW).
     pub overflows: bool,
-    /// Where the thread's program stands whose step the event is.
+    /// The program counter of the thread that does the event, if a thread does it.
     pub counter: Option<u64>,
-    /// The event is a Put of other bytes than its slot has.
+    /// The event is a put of an entry that differs from the slot's entry.
     pub changes: bool,
-    /// The cancel or the removal that the event is to end.
+    /// The cancel or removal that the event completes.
     pub cancel: Option<Cancel>,
 }
 
@@ -63,7 +63,7 @@ fn needs_wake_up(state: &State) -> bool
     has_flag(flags_of(state), IORING_SQ_NEED_WAKEUP as u64)
 }
 
-/// Whether completions are kept.
+/// Returns whether the backlog holds completions.
 pub(crate) fn overflows(state: &State) -> bool
     ensures { result ≡ overflows state.now }
 {
@@ -96,8 +96,8 @@ fn counter_of(state: &State, event: Event) -> Option<u64>
     }
 }
 
-// What a thread's last Enter or Close answered. What one that waits in its Enter has is the answer
-// of an earlier one.
+// Returns the result of a thread's last enter or close. None while the thread waits in its enter,
+// since its last result is that of an earlier call.
 fn answer(state: &State, thread: u32) -> Option<i64>
     ensures { result ≡ answer_of state.now thread }
 {
@@ -110,7 +110,7 @@ fn answer(state: &State, thread: u32) -> Option<i64>
     }
 }
 
-// Whether an answer is an error.
+// Returns whether a result is this error.
 fn is_error(errno: u64, answer: i64) -> bool
     ensures { result ≡ is_error errno answer }
 {
@@ -123,7 +123,7 @@ fn is_less(answer: i64, number: u32) -> bool
     answer >= 0 && (answer as u64) < number as u64
 }
 
-// Whether a thread was answered with an error.
+// Returns whether the thread's last result is this error.
 fn is_refused(errno: u64, state: &State, thread: u32) -> bool
     ensures { result ≡ option_map_or (is_error errno) (answer_of state.now thread) false }
 {
@@ -133,7 +133,7 @@ fn is_refused(errno: u64, state: &State, thread: u32) -> bool
     }
 }
 
-// Whether it was answered with less than a number.
+// Returns whether the thread's last result is no error and below the number.
 fn is_answered_less(number: u32, state: &State, thread: u32) -> bool
     ensures { result ≡ option_map_or (λ n. is_less n number) (answer_of state.now thread) false }
 {
@@ -143,7 +143,7 @@ fn is_answered_less(number: u32, state: &State, thread: u32) -> bool
     }
 }
 
-// Whether an Enter that is to submit a number of entries is a finding about its thread.
+// Returns whether an enter of `to_submit` entries is a finding of this kind about its thread.
 fn is_of_enter(kind: Kind, to_submit: u32, state: &State, thread: u32) -> bool
     ensures { result ≡ is_of_enter kind to_submit state.now thread }
 {
@@ -164,7 +164,7 @@ fn is_of_push(kind: Kind, index: u32, state: &State) -> bool
     }
 }
 
-// Whether a Close, just done, closed a descriptor.
+// Returns whether the close that the thread has now done succeeded.
 fn has_closed(state: &State, thread: u32) -> bool
     ensures { result ≡ has_closed state.now thread }
 {
@@ -180,7 +180,8 @@ fn is_of_close(kind: Kind, fd: i32, state: &State, thread: u32) -> bool
     has_closed(state, thread) && is_of_number(kind, state, fd)
 }
 
-/// The first slot whose entry, pushed and not yet taken, names a descriptor that an event closed.
+/// Returns the first slot, pushed and not yet taken, whose entry names the descriptor that the
+/// event closed.
 pub(crate) fn slot_met(setup: &Setup, state: &State, event: Event, before: Before) -> Option<u32> {
     let Event::Step(thread) = event else {
         return None;
@@ -193,8 +194,8 @@ pub(crate) fn slot_met(setup: &Setup, state: &State, event: Event, before: Befor
     }
 }
 
-/// Whether a step of a thread is a finding about it: by the instruction that it did, whether that
-/// changed a slot, and the state behind it.
+/// Returns whether a step of a thread is a finding of this kind. `changes` says whether it changed
+/// a slot; `state` is the state after it.
 pub(crate) fn is_of_step(
     kind: Kind,
     changes: bool,
@@ -213,7 +214,7 @@ pub(crate) fn is_of_step(
     }
 }
 
-// Whether a setup's thread waits in its Enter.
+// Returns whether a thread of the setup waits in its enter.
 fn waits(setup: &Setup, state: &State, thread: u32) -> bool
     ensures { result ≡ waits setup.now state.now thread }
 {
@@ -226,7 +227,7 @@ fn waits(setup: &Setup, state: &State, thread: u32) -> bool
     }
 }
 
-/// Whether a condition stands that is a finding where it holds on to the end.
+/// Returns whether a condition holds that is a finding if it lasts to the end of the run.
 pub(crate) fn stands(setup: &Setup, kind: Kind, state: &State, subject: u32) -> bool
     ensures { result ≡ stands setup.now kind state.now subject }
 {

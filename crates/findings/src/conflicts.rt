@@ -1,4 +1,4 @@
-//! Requests that haven't ended, beside what an event does.
+//! Conflicts between an event and incomplete READs and WRITEs that are not ordered with it.
 ghost use Rattle.std.specs.Prelude.{◌≡◌, ◌==◌};
 ghost use Rattle.opcodes.specs.Outcomes.{is_at_position};
 ghost use Rattle.links_drains.specs.Links.{asks_to_drain};
@@ -16,10 +16,10 @@ use machine::{Setup, State};
 use opcodes::Op;
 use places::{Place, Value};
 
-/// The offset that stands for the position.
+/// The offset -1: the transfer uses the position of its descriptor.
 const AT_POSITION: u64 = 18446744073709551615;
 
-// Whether two ranges have a number in common, each told by its first number and how many it has.
+// Returns whether two ranges overlap, each given by its first number and its length.
 fn meet(first: u64, count: u64, other: u64, others: u64) -> bool
     ensures { result ≡ meet first count other others }
 {
@@ -28,7 +28,7 @@ fn meet(first: u64, count: u64, other: u64, others: u64) -> bool
     start < end
 }
 
-// How many bytes a request moved.
+// Returns how many bytes a request moved; 0 if it is incomplete or failed.
 fn moved(phase: Phase) -> u64
     ensures { result ≡ moved phase }
 {
@@ -65,7 +65,7 @@ fn is_at_position(entry: &Sqe) -> bool
     entry.off == AT_POSITION
 }
 
-// Whether two entries go by one position.
+// Returns whether two entries use the position of the same descriptor.
 fn is_by_position(setup: &Setup, first: &Sqe, second: &Sqe) -> bool
     ensures { result ≡ is_by_position setup.now first.now second.now }
 {
@@ -83,7 +83,7 @@ fn number_or_zero(value: Option<Value>) -> u64
     }
 }
 
-// The position of the descriptor that an entry names.
+// Returns the position of the descriptor that the entry names.
 fn position_at(state: &State, entry: &Sqe) -> u64
     ensures { result ≡ position_at state.now entry.now }
 {
@@ -93,7 +93,7 @@ fn position_at(state: &State, entry: &Sqe) -> u64
     }
 }
 
-// Where a transfer begins that has moved some bytes.
+// Returns the file offset at which a transfer of `count` bytes began, by the state after it.
 fn begins(state: &State, count: u64, entry: &Sqe) -> u64
     ensures { result ≡ begins state.now count entry.now }
 {
@@ -104,14 +104,15 @@ fn begins(state: &State, count: u64, entry: &Sqe) -> u64
     }
 }
 
-// Whether it is told where a row is to begin.
+// Returns whether the offset of a request is known: it is given, or the request is issued.
 fn is_placed(row: &Row) -> bool
     ensures { result ≡ is_placed row.now }
 {
     !is_at_position(&row.entry) || is_issued(row)
 }
 
-// Whether bytes that a request moved are among those that a row asks for.
+// Returns whether the file range that a completed request moved overlaps the range of another.
+// False if both use one position, which `SharedPosition` covers.
 fn is_over(setup: &Setup, state: &State, count: u64, done: &Sqe, row: &Row) -> bool
     ensures { result ≡ is_over setup.now state.now count done.now row.now }
 {
@@ -131,7 +132,7 @@ fn asks_to_drain(row: &Row) -> bool
     row.entry.flags & IOSQE_IO_DRAIN != 0
 }
 
-// Whether a chain drains. Its rows stand one behind the other.
+// Returns whether a chain drains. Its requests are consecutive in the table.
 fn drains(state: &State, unit: u32) -> bool
     ensures { result ≡ drains state.now.table unit }
 {
@@ -161,7 +162,8 @@ fn is_before_in_drain(state: &State, row: &Row, before: &Row) -> bool
     before.unit < row.unit && (drains(state, before.unit) || drains(state, row.unit))
 }
 
-// Whether a row that hasn't ended, of a chain that drains, stands between the chains of two others.
+// Returns whether `other` is an incomplete request of a draining chain that lies between the chains
+// of `before` and `row`.
 fn is_between(state: &State, row: &Row, before: &Row, other: &Row) -> bool
     ensures { result ≡ is_between state.now.table row.now before.now other.now }
 {
@@ -169,8 +171,8 @@ fn is_between(state: &State, row: &Row, before: &Row, other: &Row) -> bool
         && (is_unfinished(other) && drains(state, other.unit))
 }
 
-// Whether a row waits for a chain that drains, which waits for another row. Those rows stand behind
-// the first of the other's chain.
+// Returns whether a draining chain between two others orders `row` after `before`. Only requests
+// from the start of the earlier chain on can belong to it.
 fn is_behind_barrier(state: &State, row: &Row, before: &Row) -> bool
     ensures { result ≡ is_behind_barrier state.now.table row.now before.now }
 {
@@ -188,7 +190,7 @@ fn is_behind_barrier(state: &State, row: &Row, before: &Row) -> bool
     false
 }
 
-// Whether a row is ordered behind another.
+// Returns whether `row` is ordered after `before`.
 fn is_behind(state: &State, number: u32, row: &Row, other: u32, before: &Row) -> bool
     ensures { result ≡ is_behind state.now.table number row.now other before.now }
 {
@@ -198,14 +200,15 @@ fn is_behind(state: &State, number: u32, row: &Row, other: u32, before: &Row) ->
 
 // ---- kinds
 
-/// Whether a READ or a WRITE hasn't ended.
+/// Returns whether the request is an incomplete READ or WRITE.
 pub(crate) fn is_candidate(row: &Row) -> bool
     ensures { result ≡ is_candidate row.now }
 {
     is_transfer(row) && is_unfinished(row)
 }
 
-// An FSYNC that ended well, and an earlier WRITE of some bytes of its file.
+// Returns whether `done` is an FSYNC without error and `row` an earlier WRITE of at least one byte
+// to its file.
 fn is_synced_early(setup: &Setup, number: u32, done: &Row, other: u32, row: &Row) -> bool
     ensures { result ≡ is_synced_early setup.now number done.now other row.now }
 {
@@ -216,7 +219,7 @@ fn is_synced_early(setup: &Setup, number: u32, done: &Row, other: u32, row: &Row
                     && (0 < row.entry.len && is_same_file(setup, &done.entry, &row.entry)))))
 }
 
-// Whether the end of a row is a finding about another.
+// Returns whether the completion of `done` conflicts with `row`, whatever their order.
 fn is_beside(kind: Kind, at: Transition<'_>, number: u32, done: &Row, other: u32, row: &Row) -> bool
     ensures { result ≡ is_beside kind at.entry.setup.now at.entry.state.now number done.now other
         row.now }
@@ -239,7 +242,7 @@ fn is_beside(kind: Kind, at: Transition<'_>, number: u32, done: &Row, other: u32
     }
 }
 
-// Whether bytes that a Store writes are a finding about a row.
+// Returns whether a store to this memory is a finding of this kind about the request.
 fn is_stored_over(kind: Kind, address: u64, count: u64, row: &Row) -> bool
     ensures { result ≡ is_stored_over kind address count row.now }
 {
@@ -263,7 +266,7 @@ fn is_conflict(kind: Kind, at: Transition<'_>, deed: &Deed, number: u32, row: &R
     }
 }
 
-/// Whether what an event does is a finding of a kind about a READ or a WRITE that hasn't ended.
+/// Returns whether the event's deed is a finding of this kind about an incomplete READ or WRITE.
 pub(crate) fn conflicts(kind: Kind, at: Transition<'_>, deed: &Deed, number: u32, row: &Row) -> bool
     ensures { result ≡ conflicts kind at.entry.setup.now at.entry.state.now deed.now number
         row.now }

@@ -1,4 +1,4 @@
-//! What events do that may concern requests beside them.
+//! The effect of an event that can conflict with other requests.
 ghost use Rattle.std.specs.Prelude.{◌≡◌};
 ghost use Rattle.std.specs.Option.{option_copied};
 ghost use Rattle.timeouts_cancel.specs.Falls.{is_transfer};
@@ -12,13 +12,13 @@ use finding_kinds::instruction_at;
 use machine::{Event, Instruction, Setup, State};
 use opcodes::Op;
 
-/// What an event does.
+/// The effect of an event, as far as it can conflict with a READ or WRITE.
 #[derive(Clone, Copy)]
 pub enum Deed {
     Nothing,
-    /// It writes bytes of memory: the first address, and how many.
+    /// It stores bytes to memory: the first address, and how many.
     Stored(u64, u64),
-    /// It ends a READ, a WRITE or an FSYNC: its number, and the row as it is then.
+    /// It completes a READ, WRITE or FSYNC: the request's number, and its row after the event.
     Finished(u32, Row),
 }
 
@@ -33,7 +33,7 @@ fn deed_of(instruction: Option<&Instruction>) -> Deed
     }
 }
 
-/// Whether a row is a READ or a WRITE.
+/// Returns whether the request is a READ or WRITE.
 pub(crate) fn is_transfer(row: &Row) -> bool
     ensures { result ≡ is_transfer row.now.entry.opcode }
 {
@@ -59,7 +59,7 @@ fn finished_in(state: &State, number: u32) -> Deed
     }
 }
 
-/// What an event does, by the state behind it.
+/// Returns the effect of an event, by the state after it.
 pub(crate) fn done_as(setup: &Setup, before: Before, event: Event, state: &State) -> Deed
     ensures { result ≡ done_as event (instruction_at setup.now event before.counter) state.now }
 {

@@ -1,4 +1,4 @@
-//! What the end of a request is a finding of (io_uring_enter(2)).
+//! Findings about requests that an event submits or completes (io_uring_enter(2)).
 ghost use Rattle.std.specs.Prelude.{◌≡◌, ◌+◌, ◌&&◌, None, false, slice_get};
 ghost use Rattle.timeouts_cancel.specs.Falls.{is_bad, is_transfer};
 ghost use Rattle.std.specs.Option.{option_map_or};
@@ -33,7 +33,7 @@ fn was_issued(before: &Option<Row>) -> bool
     }
 }
 
-// The result with which a row ends by an event.
+// Returns the result with which the event completes the request, if it does.
 fn ending_of(before: &Option<Row>, row: &Row) -> Option<i32>
     ensures { result ≡ ending_of before.now row.now }
 {
@@ -46,7 +46,7 @@ fn ending_of(before: &Option<Row>, row: &Row) -> Option<i32>
     }
 }
 
-// Whether a result is an error.
+// Returns whether a result is this error.
 fn is_error(errno: u32, res: i32) -> bool
     ensures { result ≡ is_error errno res }
 {
@@ -98,7 +98,7 @@ fn is_bad(row: &Row, res: i32) -> bool
     !is_guard(row) && res < 0
 }
 
-// Whether another kind tells of an error.
+// Returns whether another kind than `Failed` covers the error.
 fn is_told_apart(row: &Row, res: i32) -> bool
     ensures { result ≡ is_told_apart row.now res }
 {
@@ -107,14 +107,15 @@ fn is_told_apart(row: &Row, res: i32) -> bool
             || (is_cancel(row.entry.opcode) && (is_not_there(res) || is_under_way(res))))
 }
 
-// Whether a row breaks its soft link, and isn't ended by another that does.
+// Returns whether a soft-linked request breaks its chain itself, rather than being canceled because
+// an earlier member broke it.
 fn severs(before: &Option<Row>, row: &Row, res: i32) -> bool
     ensures { result ≡ is_of Kind.Severed before.now row.now None res }
 {
     is_soft_linked(row) && (is_bad(row, res) && (was_issued(before) || !is_canceled(res)))
 }
 
-// The row that stands so many places behind one of a number.
+// Returns the request that is `count` after the given one, if there is one.
 fn row_behind(state: &State, number: u32, count: u32) -> Option<Row>
     ensures { result ≡ slice_get state.now.table (number + count) }
 {
@@ -125,14 +126,14 @@ fn row_behind(state: &State, number: u32, count: u32) -> Option<Row>
     }
 }
 
-// The row behind one of a number, but for its guard.
+// Returns the request after the given one, skipping a linked timeout.
 fn next_in(state: &State, number: u32) -> Option<Row>
     ensures { result ≡ next_in state.now.table number }
 {
     row_behind(state, number, distance_to_next(state, number))
 }
 
-// Whether another row that is no guard is the next in a row's chain.
+// Returns whether the chain of the request has another member after it, besides a linked timeout.
 fn has_next(row: &Row, state: &State, number: u32) -> bool
     ensures { result ≡ has_next row.now (next_in state.now.table number) }
 {
@@ -148,7 +149,7 @@ fn is_hard_linked(row: &Row) -> bool
     row.entry.flags & IOSQE_IO_HARDLINK != 0
 }
 
-// Whether a row with a hard link ends badly, and its chain goes on.
+// Returns whether a hard-linked request fails or is short, and its chain continues.
 fn leaves_chain(before: &Option<Row>, row: &Row, res: i32) -> bool
     ensures { result ≡ leaves_chain before.now row.now res }
 {
@@ -156,7 +157,7 @@ fn leaves_chain(before: &Option<Row>, row: &Row, res: i32) -> bool
         && (is_bad(row, res) && (was_issued(before) || (before.is_some() && !is_canceled(res))))
 }
 
-// Whether a row that ends with a result is a finding of a kind.
+// Returns whether completing with this result is a finding of this kind.
 fn is_of(kind: Kind, before: &Option<Row>, state: &State, number: u32, row: &Row, res: i32) -> bool
     ensures { result ≡ is_of kind before.now row.now (next_in state.now.table number) res }
 {
@@ -174,7 +175,7 @@ fn is_of(kind: Kind, before: &Option<Row>, state: &State, number: u32, row: &Row
     }
 }
 
-// Whether a field that nothing looks at isn't 0.
+// Returns whether a field that has no effect isn't 0.
 fn has_idle_field(entry: &Sqe) -> bool
     ensures { result ≡ has_idle_field entry.now }
 {
@@ -189,7 +190,7 @@ fn is_linked(entry: &Sqe) -> bool
     entry.flags & IOSQE_IO_LINK != 0 || entry.flags & IOSQE_IO_HARDLINK != 0
 }
 
-// Whether a row that comes, among all rows behind the event, is a finding of a kind.
+// Returns whether submitting the request is a finding of this kind, by the state after the event.
 fn comes_as(kind: Kind, state: &State, number: u32, row: &Row) -> bool
     ensures { result ≡ comes_as kind state.now.table number row.now }
 {
@@ -212,8 +213,8 @@ fn ends_as(kind: Kind, before: &Option<Row>, state: &State, number: u32, row: &R
     }
 }
 
-/// Whether a row, as it was before an event and is among all rows behind it, ends by it, and that
-/// is a finding of a kind; or it comes by it, and that is.
+/// Returns whether the event completes or submits the request, and that is a finding of this kind.
+/// `before` is the request before the event, `row` after it.
 pub(crate) fn row_test(
     kind: Kind,
     before: &Option<Row>,

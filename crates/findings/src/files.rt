@@ -1,4 +1,4 @@
-//! Which files entries name.
+//! The files that entries name by their descriptors.
 ghost use Rattle.std.specs.Prelude.{◌≡◌};
 ghost use Rattle.machine.specs.Steps.{number_in};
 ghost use Rattle.findings.specs.Conflicts.{file_number, file_behind, file_numbered, file_of, are_one, is_same_file};
@@ -17,7 +17,7 @@ fn file_number(object: u32, contents: &Contents) -> Option<u32>
     }
 }
 
-// The number of a descriptor's object, if that is a file.
+// Returns the object of the descriptor, if it is a regular file.
 fn file_behind(setup: &Setup, descriptor: Descriptor) -> Option<u32>
     ensures { result ≡ file_behind setup.now descriptor }
 {
@@ -39,7 +39,7 @@ fn file_numbered(setup: &Setup, fd: u32) -> Option<u32>
     }
 }
 
-/// The number of the file that a descriptor's number names, if it names one.
+/// Returns the object number of the regular file that a descriptor refers to, if it does.
 pub(crate) fn file_of(setup: &Setup, fd: i32) -> Option<u32>
     ensures { result ≡ file_of setup.now fd }
 {
@@ -58,14 +58,14 @@ fn are_one(first: Option<u32>, second: Option<u32>) -> bool
     }
 }
 
-/// Whether two entries name the same descriptor.
+/// Returns whether two entries name the same descriptor.
 pub(crate) fn is_same_descriptor(first: &Sqe, second: &Sqe) -> bool
     ensures { result ≡ are_one (number_in first.now.fd) (number_in second.now.fd) }
 {
     are_one(descriptor_number(first.fd), descriptor_number(second.fd))
 }
 
-/// Whether two entries name the same file, by whatever descriptors.
+/// Returns whether two entries name the same file, even by different descriptors.
 pub(crate) fn is_same_file(setup: &Setup, first: &Sqe, second: &Sqe) -> bool
     ensures { result ≡ is_same_file setup.now first.now second.now }
 {

@@ -1,4 +1,4 @@
-//! The READs and WRITEs that haven't ended, followed event by event.
+//! The set of incomplete READs and WRITEs, updated event by event.
 ghost use Rattle.std.specs.Prelude.{◌≡◌, not, ◌==◌, filter, OnOk};
 ghost use Rattle.findings.specs.Records.{is_candidate_in, followed};
 
@@ -7,7 +7,7 @@ use crate::record::row_in;
 use places::Value;
 use std::alloc::AllocError;
 
-/// Whether a value is a row that is a candidate.
+/// Returns whether the value is an incomplete READ or WRITE.
 pub(crate) fn is_candidate_in(value: Option<Value>) -> bool
     ensures { result ≡ is_candidate_in value }
 {
@@ -17,14 +17,15 @@ pub(crate) fn is_candidate_in(value: Option<Value>) -> bool
     }
 }
 
-// Takes a number away.
+// Removes a number.
 fn leave(numbers: &mut Vec<u32>, number: u32)
     ensures { numbers.new.items ≡ filter (λ k. not (k == number)) numbers.old.items }
 {
     numbers.retain(|k| *k != number);
 }
 
-/// Follows a row that is a candidate or isn't, which it was or wasn't.
+/// Updates the numbers of incomplete READs and WRITEs for one request: whether it was one before
+/// the event, and is one after it.
 pub(crate) fn follow(
     numbers: &mut Vec<u32>,
     number: u32,

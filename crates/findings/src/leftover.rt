@@ -1,4 +1,4 @@
-//! Rows that are unfinished at the end of a run.
+//! Requests that are incomplete at the end of a run.
 ghost use Rattle.std.specs.Prelude.{◌≡◌, ◌++◌, ◌<◌, ◌≤◌, OnOk, IfSome, length, slice_get};
 ghost use Rattle.machine.specs.Whole.{WellFormed};
 ghost use Rattle.findings.specs.Records.{of_left, all_left};
@@ -10,7 +10,7 @@ use links_drains::is_unfinished;
 use machine::State;
 use std::alloc::AllocError;
 
-/// A row, if it is there.
+/// Returns a request, or None past the end of the table.
 pub(crate) fn row_at(state: &State, number: u32) -> Option<Row>
     ensures row { result ≡ slice_get state.now.table number }
     ensures formed { WellFormed state.now }
@@ -20,7 +20,7 @@ pub(crate) fn row_at(state: &State, number: u32) -> Option<Row>
     state.row(number)
 }
 
-// Adds a row that hasn't ended.
+// Adds a finding if the request is incomplete.
 fn add_left(found: &mut Vec<Finding>, moment: u32, number: u32, row: &Row) -> Result<(), AllocError>
     ensures { OnOk result (found.new.items ≡ found.old.items ++ of_left moment (number, row.now)) }
 {
@@ -32,7 +32,7 @@ fn add_left(found: &mut Vec<Finding>, moment: u32, number: u32, row: &Row) -> Re
     add_if(found, is_unfinished(row), finding)
 }
 
-/// Adds all rows that haven't ended.
+/// Adds a finding for each incomplete request.
 pub(crate) fn add_all_left(
     found: &mut Vec<Finding>,
     moment: u32,

@@ -1,4 +1,5 @@
-//! What a run shows: findings, kind by kind, each proved to be just what its definition says.
+//! The search for the findings of a run: bugs, losses and notable outcomes. It is proved to report
+//! exactly what the definition of each kind says.
 #![tactic(auto)]
 
 mod canceling;

@@ -1,10 +1,10 @@
-//! Noting what sentences look back at.
+//! Recording the history that the sentences of findings need.
 
 use entries::Phase;
 use finding_kinds::{Met, Times};
 use std::alloc::AllocError;
 
-/// Notes sq.dropped behind the event at a moment, if it isn't as before.
+/// Records sq.dropped after the event at a moment, if it has changed.
 pub(crate) fn note_dropped(
     dropped: &mut Vec<(u32, u32)>,
     moment: u32,
@@ -28,7 +28,7 @@ fn note_phase(times: &mut Times, moment: u32, phase: Phase) {
     }
 }
 
-/// Notes what an event made of a row.
+/// Records the phase of a request after the event at a moment, adding the request if it is new.
 pub(crate) fn note_row(
     times: &mut Vec<Times>,
     moment: u32,
@@ -48,7 +48,7 @@ pub(crate) fn note_row(
     Ok(())
 }
 
-/// Notes where the program of the thread stood that did an event, if one did.
+/// Records the program counter of the thread that did an event, or None.
 pub(crate) fn note_counter(
     counters: &mut Vec<Option<u32>>,
     counter: Option<u64>,
@@ -61,7 +61,7 @@ pub(crate) fn note_counter(
     Ok(())
 }
 
-/// Notes a moment, if the backlog is empty again there.
+/// Records a moment if the backlog has become empty at it.
 pub(crate) fn note_emptied(
     emptied: &mut Vec<u32>,
     moment: u32,
@@ -73,7 +73,7 @@ pub(crate) fn note_emptied(
     Ok(())
 }
 
-/// Notes which slot an event met, if it did one.
+/// Records the slot whose entry names a descriptor that the event closed, if there is one.
 pub(crate) fn note_slot(
     slots: &mut Vec<Met>,
     moment: u32,

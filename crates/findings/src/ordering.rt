@@ -1,4 +1,4 @@
-//! Findings in order, one of each.
+//! Sorting findings and removing duplicates.
 ghost use Rattle.std.specs.Prelude.{◌≡◌, ◌∷◌, ◌++◌, ◌^◌, ◌≤◌, List, IfOk};
 ghost use Rattle.std.specs.List.Sorted.{IsNonDecreasingBy};
 ghost use Rattle.findings.specs.Findings.{Rises};
@@ -9,7 +9,8 @@ ghost use Rattle.finding_kinds.specs.declared.finding.Finding.{Finding};
 use finding_kinds::{Finding, rank};
 use std::alloc::{AllocError, Global};
 
-// Keeps a finding that has at least a rank, and says the least rank that the next one may have.
+// Appends a finding unless its rank is below `least`, which makes it a duplicate. Returns the
+// lowest rank that the next finding may have.
 fn keep(kept: &mut Vec<Finding>, least: u128, finding: Finding) -> Result<u128, AllocError>
     requires { least ≤ 2 ^ 80 }
     ensures kept { IfOk result (λ next. (rest : List Finding) →
@@ -26,7 +27,7 @@ fn keep(kept: &mut Vec<Finding>, least: u128, finding: Finding) -> Result<u128, 
     Ok(at + 1)
 }
 
-// Of findings in order one of each.
+// Returns sorted findings without duplicates.
 fn distinct(alloc: Global, found: &[Finding]) -> Result<Vec<Finding>, AllocError>
     requires { IsNonDecreasingBy rank found.now }
     ensures rises { IfOk result (λ list. Rises 0 list.items) }
@@ -40,7 +41,7 @@ fn distinct(alloc: Global, found: &[Finding]) -> Result<Vec<Finding>, AllocError
     Ok(kept)
 }
 
-/// Findings in order, one of each.
+/// Sorts findings by rank and removes duplicates.
 pub(crate) fn in_order(alloc: Global, found: Vec<Finding>) -> Result<Vec<Finding>, AllocError>
     ensures rises { IfOk result (λ list. Rises 0 list.items) }
     ensures same { IfOk result (λ list. SameFindings found.items list.items) }

@@ -1,4 +1,4 @@
-//! Findings by the record of an event.
+//! Collecting the findings of one event, list by list of kinds.
 ghost use Rattle.std.specs.Prelude.{◌≡◌, ◌++◌, OnOk};
 ghost use Rattle.std.specs.List.{flat_map};
 ghost use Rattle.std.specs.Option.{option_copied};
@@ -20,7 +20,7 @@ use machine::{Event, Instruction, State};
 use places::Value;
 use std::alloc::AllocError;
 
-/// The kinds that are about rows which come or end.
+/// The kinds that are about requests which an event submits or completes.
 const ROW_KINDS: [Kind; 12] = [
     Kind::Failed,
     Kind::Short,
@@ -47,10 +47,10 @@ const STEP_KINDS: [Kind; 7] = [
     Kind::RefusedFlags,
 ];
 
-/// The kinds that are about cancels and removals, by what they match.
+/// The kinds that are about the matches of a cancel or removal.
 const CANCEL_KINDS: [Kind; 3] = [Kind::Several, Kind::LeftRunning, Kind::NotFound];
 
-/// The kinds that are about a READ or a WRITE which hasn't ended, beside what an event does.
+/// The kinds that are about conflicts with an incomplete READ or WRITE.
 const CONFLICT_KINDS: [Kind; 4] = [
     Kind::BufferInUse,
     Kind::Unordered,
@@ -58,7 +58,7 @@ const CONFLICT_KINDS: [Kind; 4] = [
     Kind::FsyncEarly,
 ];
 
-// Adds a finding where a test passes.
+// Appends a finding if the test is true.
 pub(crate) fn add_if(
     found: &mut Vec<Finding>,
     test: bool,
@@ -72,7 +72,7 @@ pub(crate) fn add_if(
     Ok(())
 }
 
-// Adds what a row shows of some kinds.
+// Adds the findings of some kinds about a request.
 fn add_of_row(
     found: &mut Vec<Finding>,
     at: Transition<'_>,
@@ -96,7 +96,7 @@ fn add_of_row(
     Ok(())
 }
 
-/// Adds what a row shows.
+/// Adds the findings of all kinds about a request.
 pub(crate) fn add_of_any_kind(
     found: &mut Vec<Finding>,
     at: Transition<'_>,
@@ -110,7 +110,7 @@ pub(crate) fn add_of_any_kind(
     add_of_row(found, at, before, number, row, &ROW_KINDS)
 }
 
-/// The row that a value is, if it is one.
+/// Returns the request that a value is, if it is one.
 pub(crate) fn row_in(value: Option<Value>) -> Option<Row>
     ensures { result ≡ row_in value }
 {
@@ -120,7 +120,7 @@ pub(crate) fn row_in(value: Option<Value>) -> Option<Row>
     }
 }
 
-// Adds that completions are kept, and none was.
+// Adds a finding if the backlog was empty before the event and holds completions after it.
 fn add_overflow(
     found: &mut Vec<Finding>,
     moment: u32,
@@ -137,7 +137,7 @@ fn add_overflow(
     add_if(found, !before && behind, finding)
 }
 
-// Adds what an instruction that a thread did shows.
+// Adds the findings of some kinds about an instruction that a thread did.
 fn add_of_instruction(
     found: &mut Vec<Finding>,
     at: Transition<'_>,
@@ -160,7 +160,7 @@ fn add_of_instruction(
     Ok(())
 }
 
-// Adds what a step of a thread shows.
+// Adds the findings about a step of a thread.
 fn add_of_step(
     found: &mut Vec<Finding>,
     at: Transition<'_>,
@@ -178,7 +178,7 @@ fn add_of_step(
     }
 }
 
-// Adds what a cancel or a removal that has ended shows of some kinds.
+// Adds the findings of some kinds about a completed cancel or removal.
 fn add_of_kinds(
     found: &mut Vec<Finding>,
     moment: u32,
@@ -215,7 +215,7 @@ fn add_of_cancel(
     }
 }
 
-/// Adds what an event shows of rings and threads, and of a cancel or a removal.
+/// Adds the findings of an event about the rings, the threads, and a cancel or removal.
 pub(crate) fn add_of_event(found: &mut Vec<Finding>, at: Transition<'_>) -> Result<(), AllocError>
     ensures { OnOk result (found.new.items ≡ found.old.items ++
         (of_overflow at.entry.moment at.entry.before.overflows (overflows at.entry.state.now)
@@ -230,7 +230,7 @@ pub(crate) fn add_of_event(found: &mut Vec<Finding>, at: Transition<'_>) -> Resu
     add_of_cancel(found, at.moment, at.before.cancel, at.state)
 }
 
-// Adds what a deed shows beside a READ or a WRITE.
+// Adds the findings of some kinds about a conflict with one READ or WRITE.
 fn add_of_candidate(
     found: &mut Vec<Finding>,
     at: Transition<'_>,
@@ -285,7 +285,7 @@ fn add_of_numbers(
     Ok(())
 }
 
-/// Adds what an event does beside the READs and WRITEs that haven't ended.
+/// Adds the conflicts of an event with the incomplete READs and WRITEs of these numbers.
 pub(crate) fn add_of_deed(
     found: &mut Vec<Finding>,
     at: Transition<'_>,

@@ -1,4 +1,4 @@
-//! Looking for what a run shows, event by event.
+//! The search for findings, event by event.
 ghost use Rattle.std.specs.Prelude.{◌≡◌, ◌≤◌, ◌++◌, [], Err, length, map, IfOk, OnOk, IfErr, OnErr};
 ghost use Rattle.std.specs.List.{flat_map};
 ghost use Rattle.places.specs.View.{NamesOnce};
@@ -28,15 +28,15 @@ use places::Record;
 use script::{LogFault, fault_by};
 use std::alloc::{AllocError, Global};
 
-/// What a search has gathered so far.
+/// What the search has collected so far.
 #[derive(Drop)]
 struct Gathered {
     found: Vec<Finding>,
-    /// The numbers of the READs and WRITEs that haven't ended.
+    /// The numbers of the incomplete READs and WRITEs.
     numbers: Vec<u32>,
 }
 
-// Adds what an event shows beside the READs and WRITEs that haven't ended.
+// Adds the conflicts of an event with the incomplete READs and WRITEs.
 fn look_beside(
     at: Transition<'_>,
     found: &mut Vec<Finding>,
@@ -52,7 +52,7 @@ fn look_beside(
     add_of_deed(found, at, &deed, numbers)
 }
 
-// Notes what sentences look back at.
+// Records the history of an event that sentences need.
 fn note(at: Transition<'_>, history: &mut History) -> Result<(), AllocError> {
     note_counter(&mut history.counters, at.before.counter)?;
     let slot = slot_met(at.setup, at.state, at.event, at.before);
@@ -67,7 +67,7 @@ fn note(at: Transition<'_>, history: &mut History) -> Result<(), AllocError> {
     )
 }
 
-// Adds what an event shows, and notes when its rows came and ended.
+// Adds all findings of an event, and records its history.
 fn look(
     at: Transition<'_>,
     past: &Record,
@@ -97,7 +97,7 @@ fn look(
     look_beside(at, &mut gathered.found, &gathered.numbers)
 }
 
-// Does an event, and adds what it shows.
+// Does an event, and adds its findings.
 fn find_at(
     state: &mut State,
     setup: &Setup,
@@ -130,7 +130,8 @@ fn find_at(
     }
 }
 
-// Does some events from the start, adds what they show, and looks at the conditions behind each.
+// Does the events from the start, adds their findings, and updates the watched conditions after
+// each.
 fn find_all(
     state: &mut State,
     setup: &Setup,
@@ -160,7 +161,7 @@ fn find_all(
     Ok(())
 }
 
-// Findings in order, one of each.
+// Sorts findings and removes duplicates. Err(Memory) if an allocation fails.
 fn ordered(alloc: Global, found: Vec<Finding>) -> Result<Vec<Finding>, LogFault>
     ensures rises { IfOk result (λ list. Rises 0 list.items) }
     ensures same { IfOk result (λ list. SameFindings found.items list.items) }
@@ -172,8 +173,8 @@ fn ordered(alloc: Global, found: Vec<Finding>) -> Result<Vec<Finding>, LogFault>
     }
 }
 
-// Adds what is found at the end: the conditions that hold, the rows that are unfinished, and the
-// files that aren't durable.
+// Adds the findings at the end: conditions that still hold, incomplete requests, and files that are
+// not durable.
 fn add_end(
     found: &mut Vec<Finding>,
     watches: &[Watch],
@@ -190,8 +191,7 @@ fn add_end(
     add_all_unsynced(found, setup, moment, state)
 }
 
-// Does some events from the start, and tells what they show and what is found at their end, in
-// whatever order.
+// Does the events from the start, and returns all findings, unsorted.
 fn find(
     alloc: Global,
     state: &mut State,
@@ -220,7 +220,8 @@ fn find(
     }
 }
 
-/// Runs some events from the start, and tells what they show, and when their rows came and ended.
+/// Does the events from the start, and returns their findings in order. Fills `history` with what
+/// the sentences need. Fails if an event is refused or an allocation fails.
 pub fn search(
     alloc: Global,
     state: &mut State,

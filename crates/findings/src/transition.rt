@@ -1,4 +1,4 @@
-//! Events that were done, with what stands around them.
+//! An event that was done, with the facts before it and the state after it.
 
 use crate::conditions::Before;
 use machine::{Event, Setup, State};
@@ -10,8 +10,8 @@ pub(crate) struct Transition<'a> {
     /// The moment before it.
     pub moment: u32,
     pub event: Event,
-    /// What was known before it.
+    /// Facts about the state before it.
     pub before: Before,
-    /// The state behind it.
+    /// The state after it.
     pub state: &'a State,
 }

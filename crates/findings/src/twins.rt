@@ -1,4 +1,4 @@
-//! Rows whose completions can't be told apart.
+//! Requests with the same user_data, whose completions can't be told apart.
 ghost use Rattle.std.specs.Prelude.{◌≡◌, ◌==◌, false, slice_get};
 ghost use Rattle.std.specs.Option.{option_map_or};
 ghost use Rattle.entries.specs.declared.row.Row.{Row};
@@ -19,8 +19,8 @@ fn has_user_data(state: &State, number: u32, user_data: u64) -> bool
     }
 }
 
-/// Whether one of the 32 rows before that of a number hasn't ended, and has its user_data, which
-/// isn't 0.
+/// Returns whether one of the 32 requests before this one is incomplete and has its user_data.
+/// False if that is 0, the value of entries that give none.
 pub(crate) fn has_twin(state: &State, number: u32, row: &Row) -> bool
     ensures { result ≡ has_twin state.now.table number row.now }
 {

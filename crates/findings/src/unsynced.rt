@@ -1,4 +1,4 @@
-//! Files of which bytes were written that aren't durable at the end of a run (fsync(2)).
+//! Files with written bytes that are not durable at the end of a run (fsync(2)).
 ghost use Rattle.std.specs.Prelude.{◌≡◌, ℕ, ◌++◌, ◌<◌, ◌≤◌, true, false, OnOk, MatchBool};
 ghost use Rattle.places.specs.declared.place.Place.TheVariants.{FileByte, DurableByte};
 ghost use Rattle.machine.specs.Whole.{view};
@@ -12,7 +12,7 @@ use machine::{Setup, State};
 use places::Place;
 use std::alloc::AllocError;
 
-// Whether the device hasn't one of the first bytes of a file as it is.
+// Returns whether one of the first `len` bytes of a file isn't durable.
 fn differs_below(state: &State, object: u32, len: u64) -> bool
     requires { len ≤ 65536 }
     ensures { MatchBool result
@@ -44,7 +44,7 @@ fn has_unsynced(state: &State, object: u32) -> bool
     differs_below(state, object, len)
 }
 
-// Adds a setup's object that is a file and not durable.
+// Adds a finding if the object is a file that isn't durable.
 fn add_unsynced(
     found: &mut Vec<Finding>,
     moment: u32,
@@ -62,7 +62,7 @@ fn add_unsynced(
     add_if(found, has_unsynced(state, object), finding)
 }
 
-/// Adds all files of which bytes were written that aren't durable.
+/// Adds a finding for each file that isn't durable.
 pub(crate) fn add_all_unsynced(
     found: &mut Vec<Finding>,
     setup: &Setup,

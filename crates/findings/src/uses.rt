@@ -1,4 +1,4 @@
-//! What is still to use a slot, or a descriptor.
+//! Findings about puts and closes while an entry or request still uses the slot or descriptor.
 ghost use Rattle.std.specs.Prelude.{◌≡◌, ◌≤◌, false, is_some, slice_get, drop};
 ghost use Rattle.std.specs.Option.{option_copied, option_map_or};
 ghost use Rattle.std.specs.List.{list_any};
@@ -16,29 +16,28 @@ use places::value::is_same;
 use places::{Place, Value};
 use ring_words::SubRing;
 
-/// How many of the words that were pushed last a Put looks at, so that each costs the same in
-/// whatever ring.
+/// How many of the last pushed indexes a put is compared with. The limit bounds the cost of a step.
 const LOOKED_AT: u32 = 64;
 
-/// What is looked for among the words that wait in the submission ring.
+/// What to search for among the indexes that wait in the submission ring.
 #[derive(Clone, Copy)]
 pub enum Sought {
-    /// The word of this slot.
+    /// This slot.
     Named(u32),
-    /// The word of a slot whose entry uses this descriptor.
+    /// A slot whose entry uses this descriptor.
     Naming(u32),
 }
 
 // ---- slots
 
-// Whether a slot has another entry.
+// Returns whether the slot's entry differs from this one.
 fn differs(state: &State, slot: u32, entry: Sqe) -> bool
     ensures { result ≡ changes_slot state.now (Instruction.Put slot entry) }
 {
     !is_same(state.value(Place::Slot(slot)), Some(Value::Entry(entry)))
 }
 
-/// Whether an instruction is a Put of other bytes than its slot has.
+/// Returns whether the instruction is a put of an entry that differs from the slot's entry.
 pub(crate) fn changes_at(state: &State, instruction: Option<&Instruction>) -> bool
     ensures { result ≡ changes_at state.now (option_copied instruction.entry) }
 {
@@ -65,7 +64,7 @@ fn names_descriptor(fd: u32, entry: &Sqe) -> bool
     uses_descriptor(entry.opcode) && is_number(descriptor_number(entry.fd), fd)
 }
 
-// ---- looking for one
+// ---- searching the submission ring
 
 fn slot_names(ring: &SubRing, fd: u32, slot: u32) -> bool
     ensures { result ≡ option_map_or (names_descriptor fd) (slice_get ring.now.slots slot) false }
@@ -85,7 +84,7 @@ fn is_sought(ring: &SubRing, sought: Sought, word: u32) -> bool
     }
 }
 
-// The first of the words that wait which is sought, behind some that are passed over.
+// Returns the first waiting index that matches, after skipping some.
 fn first_behind(ring: &SubRing, sought: Sought, passed: u32) -> Option<u32>
     requires { passed ≤ waiting ring.now.head ring.now.tail }
     ensures { is_some result ≡ list_any (is_sought ring.now.slots sought)
@@ -100,14 +99,14 @@ fn first_behind(ring: &SubRing, sought: Sought, passed: u32) -> Option<u32>
     None
 }
 
-/// The first of the words that wait which is sought.
+/// Returns the first waiting index that matches.
 pub(crate) fn first_pushed(state: &State, sought: Sought) -> Option<u32>
     ensures { is_some result ≡ is_pushed state.now.submissions sought }
 {
     first_behind(state.submissions(), sought, 0)
 }
 
-// Whether one of the words that were pushed last, and wait, is a slot's.
+// Returns whether one of the last pushed indexes, still waiting, is this slot.
 fn is_pushed_last(ring: &SubRing, slot: u32) -> bool
     ensures { result ≡ list_any (is_sought ring.now.slots (Sought.Named slot))
         (pushed_last ring.now) }
@@ -116,7 +115,7 @@ fn is_pushed_last(ring: &SubRing, slot: u32) -> bool
     first_behind(ring, Sought::Named(slot), passed).is_some()
 }
 
-// Whether a row is one that a Close of a descriptor is a finding of.
+// Returns whether the request is one that a close of the descriptor is a finding about.
 fn is_met(kind: Kind, fd: u32, row: &Row) -> bool
     ensures { result ≡ is_met kind fd row.now }
 {
@@ -138,7 +137,7 @@ fn meets_at(state: &State, kind: Kind, fd: u32, number: u32) -> bool
     }
 }
 
-// Whether some row is; none that has ended is.
+// Returns whether some request is. Completed requests never are, so they are skipped.
 fn meets(state: &State, kind: Kind, fd: u32) -> bool
     ensures { result ≡ list_any (is_met kind fd) state.now.table }
 {
@@ -154,7 +153,8 @@ fn meets(state: &State, kind: Kind, fd: u32) -> bool
 
 // ---- kinds
 
-/// Whether a Put into a slot, that changes it or doesn't, is a finding.
+/// Returns whether a put into the slot is a finding of this kind. `changes` says whether it changes
+/// the entry.
 pub(crate) fn is_of_put(kind: Kind, changes: bool, slot: u32, state: &State) -> bool
     ensures { result ≡ is_of_put kind changes slot state.now }
 {
@@ -176,7 +176,7 @@ fn is_of_closed(kind: Kind, state: &State, fd: u32) -> bool
     }
 }
 
-/// Whether the Close of an open descriptor is a finding.
+/// Returns whether a successful close of the descriptor is a finding of this kind.
 pub(crate) fn is_of_number(kind: Kind, state: &State, fd: i32) -> bool
     ensures { result ≡ is_of_number kind state.now fd }
 {

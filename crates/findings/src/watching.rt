@@ -1,5 +1,4 @@
-//! Conditions that are watched, so that those that hold on to the end are told from where they
-//! began.
+//! Conditions that are findings if they last to the end, with the moment since when each holds.
 ghost use Rattle.std.specs.Prelude.{◌≡◌, ◌++◌, map, IfOk, OnOk};
 ghost use Rattle.std.specs.List.{flat_map};
 ghost use Rattle.findings.specs.Watched.{continued, advanced, of_rings, watched, fresh, of_lasting};
@@ -9,11 +8,11 @@ use finding_kinds::{Finding, Kind};
 use machine::{Setup, State};
 use std::alloc::{AllocError, Global};
 
-/// A condition, and the moment from which on it holds, if it does.
+/// A condition, and since which moment it has held; None if it doesn't hold.
 #[derive(Clone, Copy)]
 pub struct Watch {
     pub kind: Kind,
-    /// The thread that it is about, or 0.
+    /// The thread in question, or 0 for the rings.
     pub subject: u32,
     pub since: Option<u32>,
 }
@@ -30,7 +29,7 @@ fn continued(holds: bool, since: Option<u32>, moment: u32) -> Option<u32>
     }
 }
 
-// A condition once another moment has come.
+// Updates one condition for the next moment.
 fn advanced(setup: &Setup, state: &State, moment: u32, watch: Watch) -> Watch
     ensures { result ≡ advanced setup.now state.now moment watch }
 {
@@ -45,7 +44,7 @@ fn advanced(setup: &Setup, state: &State, moment: u32, watch: Watch) -> Watch
     }
 }
 
-/// All conditions once another moment has come.
+/// Updates all conditions for the next moment.
 pub(crate) fn advance(setup: &Setup, state: &State, moment: u32, watches: &mut [Watch])
     ensures { watches.new ≡ map (advanced setup.now state.now moment) watches.old }
 {
@@ -74,7 +73,7 @@ fn watches_of_rings(alloc: Global) -> Result<Vec<Watch>, AllocError>
     Ok(list)
 }
 
-/// The conditions of a setup's rings and threads.
+/// Returns the conditions to watch for a setup: of its rings and of each thread.
 pub(crate) fn watches_of(alloc: Global, setup: &Setup) -> Result<Vec<Watch>, AllocError>
     ensures { IfOk result (λ list. list.items ≡ watched setup.now) }
 {
@@ -88,7 +87,7 @@ pub(crate) fn watches_of(alloc: Global, setup: &Setup) -> Result<Vec<Watch>, All
     Ok(list)
 }
 
-// Adds a condition that holds.
+// Adds a finding if the condition holds.
 fn add_lasting(found: &mut Vec<Finding>, watch: &Watch) -> Result<(), AllocError>
     ensures { OnOk result (found.new.items ≡ found.old.items ++ of_lasting watch.now) }
 {
@@ -105,7 +104,7 @@ fn add_lasting(found: &mut Vec<Finding>, watch: &Watch) -> Result<(), AllocError
     }
 }
 
-/// Adds the conditions that hold.
+/// Adds a finding for each condition that holds.
 pub(crate) fn add_all_lasting(found: &mut Vec<Finding>, watches: &[Watch]) -> Result<(), AllocError>
     ensures { OnOk result (found.new.items ≡ found.old.items ++ flat_map of_lasting watches.now) }
 {
