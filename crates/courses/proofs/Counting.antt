@@ -1,4 +1,4 @@
--- How many rows there are, and items of the backlog.
+-- Counting the requests and the overflowed completions of a machine.
 use Rattle.std.proofs.Common.{◌≡◌, ℕ, ◌+◌, ◌∙◌, sym, ◌<◌, ◌≤◌, zero, suc, true, false, ap, List, [], ◌∷◌, ◌++◌, length, map, take, get_or, refl, arith}
 use Rattle.std.specs.Prelude.{Option, Some, None, is_some, option_map, slice_get}
 use Rattle.std.proofs.lemmas.List.{take_more}
@@ -11,19 +11,19 @@ use Rattle.places.specs.declared.value.Value.TheVariants.{Requested}
 use Rattle.machine.specs.declared.whole.Machine.{Machine}
 use Rattle.machine.specs.Whole.{WellFormed}
 
--- what stands at an index stands within the list
+-- An index with a value is within the list.
 pub stands_within : {X : Type 0} (f : X → Value) (xs : List X) (i : ℕ) (o : Option Value) → o ≡ option_map f (slice_get xs i) → is_some o ≡ true → i < length xs
 stands_within f [] i o e h = let k = ap is_some e in absurd cc
 stands_within f (x ∷ xs) zero o e h = omega arith
 stands_within f (x ∷ xs) (suc i) o e h = let l = stands_within f xs i o e h in omega (arith, l)
 
--- and where nothing stands the list has ended
+-- An index without a value is past the end.
 pub stands_beyond : {X : Type 0} (f : X → Value) (xs : List X) (i : ℕ) (o : Option Value) → o ≡ option_map f (slice_get xs i) → is_some o ≡ false → length xs ≤ i
 stands_beyond f [] i o e h = omega arith
 stands_beyond f (x ∷ xs) zero o e h = let k = ap is_some e in absurd cc
 stands_beyond f (x ∷ xs) (suc i) o e h = let l = stands_beyond f xs i o e h in omega (arith, l)
 
--- a run has at most 65,536 rows, each of which overflows once at most
+-- A run has at most 65,536 requests, each of which overflows at most once.
 pub few_kept : (m : Machine) → WellFormed m → length m.backlog.items ≤ 65536
 few_kept m f =
     let kept = f.mostly.kept.overflowed in
@@ -39,20 +39,20 @@ requested_is (Some x) row h = let e : x ≡ row = cc in ap Some e
 some_is : {X : Type 0} (y z : X) → Some y ≡ Some z → y ≡ z
 some_is y z e = cc
 
--- the elements before an index and the one there
+-- The elements up to and including an index.
 pub take_next : {X : Type 0} (xs : List X) (i : ℕ) (x : X) → slice_get xs i ≡ Some x → take (i + 1) xs ≡ take i xs ++ x ∷ []
 take_next xs i x h =
     let l = slice_get_within xs i x h in
     let e : get_or xs i x ≡ x = some_is _ _ (sym (slice_get-get_or xs i x l) ∙ h) in
     take_more xs i x l ∙ ap (λ y. take i xs ++ y ∷ []) e
 
--- the images of the elements up to an index: one more where an element is there
+-- Mapping one more element, where there is one.
 pub map_next : {X Y : Type 0} (f : X → Y) (xs : List X) (i : ℕ) (y : Y) → option_map f (slice_get xs i) ≡ Some y → take (suc i) (map f xs) ≡ take i (map f xs) ++ y ∷ []
 map_next f [] i y e = absurd cc
 map_next f (x ∷ xs) zero y e = let k : f x ≡ y = cc in ap (λ z. z ∷ []) k
 map_next f (x ∷ xs) (suc i) y e = ap (λ ys. f x ∷ ys) (map_next f xs i y e)
 
--- and no more where none is
+-- At the end of the list there is no further element.
 pub map_ended : {X Y : Type 0} (f : X → Y) (xs : List X) (i : ℕ) → option_map f (slice_get xs i) ≡ None → take (suc i) (map f xs) ≡ take i (map f xs)
 map_ended f [] zero e = refl
 map_ended f [] (suc i) e = refl

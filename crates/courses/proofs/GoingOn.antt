@@ -1,4 +1,4 @@
--- A run that is followed, one event further.
+-- The loop invariant of a followed run, from the start over each event.
 use Rattle.std.proofs.Common.{◌≡◌, ℕ, zero, suc, ◌+◌, ◌<◌, ◌≤◌, Bool, true, false, refl, sym, ap, ◌∙◌, subst, List, [], ◌∷◌, ◌++◌, length, map, get_or, arith, eq-eqb, le_refl}
 use Rattle.std.specs.Prelude.{Option, Some, None, slice_get, ◌==◌, ◌&&◌, nat_le}
 use Rattle.std.proofs.lemmas.Bool.{eqb-true}
@@ -30,7 +30,7 @@ use Rattle.courses.proofs.Moments.{Growing, are_stamped_more, are_filled_more}
 
 -- ---- the start
 
--- a setup has at most 16 threads
+-- A setup has at most 16 threads.
 few_threads : (s : Setup) → setup_refusal s ≡ None → length s.threads ≤ 16
 few_threads s h = by (nat_le (length s.threads) 16) refl (accepted s h).programs
   where
@@ -68,11 +68,11 @@ follows_starts s es m c a h f x o =
 
 -- ---- one event
 
--- an accepted event takes no row and no item of the backlog away
+-- An accepted event removes no request and no overflowed completion.
 pub grown : (m n : Machine) (e : Event) → WellFormed m → Next m e n → Grows m n
 grown m n e f next = subst (Grows m) (sym next.changed) (grows_after m e f next.accepted)
 
--- and no thread comes or goes
+-- An accepted event doesn't change the number of threads.
 same_threads : (m n : Machine) → Grows m n → length n.threads ≡ length m.threads
 same_threads m n g =
     sym (length-map n.threads program_of) ∙ (ap length (sym g.setup.programs) ∙ length-map m.threads program_of)
@@ -109,16 +109,16 @@ follows_more s es i m n e d c c' h l g next grows f t o =
             let before = l.growing j (omega (arith, b, apart)) in
             omega (arith, before, longer)
 
--- what is left to be followed where a moment is
+-- There are as many lifetimes as requests.
 pub followed_rows : (s : Setup) (es : List Event) (i : ℕ) (m : Machine) (c : Course) → Follows s es i m c → length c.stamps.items ≡ length m.table
 followed_rows s es i m c l = l.course.stamps.rows ∙ ap (λ x. length x.table) (sym l.here)
 
 pub followed_kept : (s : Setup) (es : List Event) (i : ℕ) (m : Machine) (c : Course) → Follows s es i m c → c.overflowed ≡ length m.backlog.items
 followed_kept s es i m c l = l.course.overflowed ∙ ap (λ x. length x.backlog.items) (sym l.here)
 
--- ---- runs that stop
+-- ---- runs that stop early
 
--- a step that fails is refused, or memory is
+-- A step that fails was refused, or an allocation failed.
 pub halts : (i : ℕ) (m : Machine) (e : Event) (n : Refusal) → ((k : Refusal) → refusal m e ≡ Some k → n ≡ k) → (refusal m e ≡ None → n ≡ out.Memory) → Halts i m e (stop_at i n)
 halts i m e out.Memory r h = tt
 halts i m e n r h = (refl, by (refusal m e) refl)

@@ -1,4 +1,4 @@
--- The moments of rows and how full a run is, one moment further.
+-- Lifetimes and occupancy, extended by one moment.
 use Rattle.std.proofs.Common.{◌≡◌, ℕ, zero, suc, ◌+◌, ◌-◌, ◌<◌, ◌≤◌, inl, inr, Bool, true, false, cond, refl, sym, ap, ◌∙◌, subst, List, [], ◌∷◌, ◌++◌, length, arith, eq-eqb, length-append}
 use Rattle.std.specs.Prelude.{Option, Some, None, option_map, slice_get, replicate, ◌==◌}
 use Rattle.std.specs.Option.{option_map_or}
@@ -26,7 +26,8 @@ use Rattle.courses.proofs.Noting.{stamp_changes_length, changed_at, added_before
 
 -- ---- first moments
 
--- what held at no moment before doesn't hold at the next one either, or at the same ones
+-- If the next moment fails the test and none passed before, none passes up to it. A first moment
+-- stays first.
 pub first_not : (holds : ℕ → Bool) (n : ℕ) (o : Option ℕ) → IsFirst holds n o → holds (n + 1) ≡ false → IsFirst holds (n + 1) o
 first_not holds n (Some k) f e = let b = f.0 in (omega (arith, b), f.1, f.2)
 first_not holds n None f e = λ i l. by i l (i == n + 1) refl
@@ -37,23 +38,23 @@ first_not holds n None f e = λ i l. by i l (i == n + 1) refl
         let apart : i ≡ n + 1 → ⊥ = λ (q : i ≡ n + 1). let t = eq-eqb i (n + 1) q in absurd cc in
         f i (omega (arith, l, apart))
 
--- what holds at the next moment was first there, or before
+-- If the next moment passes the test, the first moment is an earlier one or this one.
 pub first_more : (holds : ℕ → Bool) (n : ℕ) (o : Option ℕ) → IsFirst holds n o → holds (n + 1) ≡ true → IsFirst holds (n + 1) (first_moment o (n + 1))
 first_more holds n (Some k) f e = let b = f.0 in (omega (arith, b), f.1, f.2)
 first_more holds n None f e = (omega arith, e, λ i l. f i (omega (arith, l)))
 
--- what holds at the next moment just if it did at the last one
+-- If the next moment passes the test exactly if the last one does, the first moment is unchanged.
 pub first_kept : (holds : ℕ → Bool) (n : ℕ) (o : Option ℕ) → IsFirst holds n o → holds (n + 1) ≡ holds n → IsFirst holds (n + 1) o
 first_kept holds n (Some k) f e = let b = f.0 in (omega (arith, b), f.1, f.2)
 first_kept holds n None f e = first_not holds n None f (e ∙ f n (omega arith))
 
--- ---- one row
+-- ---- one request
 
--- what a row of a moment passes
+-- The test of a request at a moment depends on its phase.
 tells : (test : Phase → Bool) (s : Setup) (es : List Event) (i r : ℕ) (row : Row) → slice_get (moment s es i).table r ≡ Some row → has_row test r (moment s es i) ≡ test row.phase
 tells test s es i r row h = ap (λ o. option_map_or (λ (x : Row). test x.phase) o false) h
 
--- how far a row came by the next moment
+-- The first moments up to n at which request r was issued and was complete.
 pub record Came (s : Setup) (es : List Event) (n r : ℕ) (x : Stamps) : Type 0 where
   pub issued : IsFirst (λ i. has_row is_issued r (moment s es i)) n x.issued
   pub ended : IsFirst (λ i. has_row is_ended r (moment s es i)) n x.ended
@@ -77,7 +78,7 @@ queued_as x Queued m = refl
 queued_as x Issued m = refl
 queued_as x (Ended res) m = refl
 
--- a row that was there, and is in a phase at the next moment
+-- A request that existed before is in a phase at the next moment.
 stamped_on : (s : Setup) (es : List Event) (n r : ℕ) (x : Stamps) (row : Row) → IsStamped s es n r x → slice_get (moment s es (n + 1)).table r ≡ Some row → IsStamped s es (n + 1) r (stamped x row.phase (n + 1))
 stamped_on s es n r x row c h =
     let came = came_more s es n r x row (record { issued = c.issued; ended = c.ended }) h row.phase refl in
@@ -89,7 +90,7 @@ stamped_on s es n r x row c h =
       ended = came.ended;
     }
 
--- a row that stays as it is
+-- A request that doesn't change.
 stamped_still : (s : Setup) (es : List Event) (n r : ℕ) (x : Stamps) → IsStamped s es n r x → slice_get (moment s es (n + 1)).table r ≡ slice_get (moment s es n).table r → IsStamped s es (n + 1) r x
 stamped_still s es n r x c h = record {
   queued = first_kept _ n (Some x.queued) c.queued (ap (λ o. option_map_or (λ (row : Row). any_phase row.phase) o false) h);
@@ -102,11 +103,11 @@ beyond [] r h = refl
 beyond (x ∷ xs) zero h = absurd (omega arith)
 beyond (x ∷ xs) (suc r) h = beyond xs r (omega arith)
 
--- a row that wasn't there before
+-- A request that didn't exist before.
 absent : (test : Phase → Bool) (s : Setup) (es : List Event) (n r i : ℕ) → length (moment s es i).table ≤ r → has_row test r (moment s es i) ≡ false
 absent test s es n r i h = ap (λ o. option_map_or (λ (row : Row). test row.phase) o false) (beyond (moment s es i).table r h)
 
--- a row that came by the next moment
+-- A request that is new at the next moment.
 stamped_new : (s : Setup) (es : List Event) (n r : ℕ) (row : Row) → ((i : ℕ) → i ≤ n → length (moment s es i).table ≤ r) → slice_get (moment s es (n + 1)).table r ≡ Some row
     → IsStamped s es (n + 1) r (stamped (new_stamps (n + 1)) row.phase (n + 1))
 stamped_new s es n r row none h =
@@ -123,7 +124,7 @@ stamped_new s es n r row none h =
       ended = came.ended;
     }
 
--- ---- all rows
+-- ---- all requests
 
 requested_same : (a b : Option Row) → option_map Requested a ≡ option_map Requested b → a ≡ b
 requested_same None None h = refl
@@ -185,7 +186,7 @@ are_stamped_more s es n past xs growing grows exact a = record { rows = rows; ea
             let in_it = slice_get_within _ r y k in
             absurd (omega (arith, out, in_it, rows))
 
--- ---- how full
+-- ---- occupancy
 
 pub are_filled_more : (s : Setup) (es : List Event) (n : ℕ) (fs : List Filling) → AreFilled s es n fs → AreFilled s es (n + 1) (fs ++ filling_of (moment s es (n + 1)) ∷ [])
 are_filled_more s es n fs a = record { count = let e = length-append fs (filling_of (moment s es (n + 1)) ∷ []) in let c = a.count in omega (arith, e, c); each = each }

@@ -1,4 +1,4 @@
--- What noting the moment of a record's rows does to the moments of each row.
+-- How recording the requests of an undo record changes each lifetime.
 use Rattle.std.proofs.Common.{◌≡◌, ℕ, zero, suc, ◌+◌, ◌-◌, ◌<◌, ◌≤◌, ◌⊎◌, inl, inr, Bool, true, false, cond, refl, sym, ap, ◌∙◌, List, [], ◌∷◌, ◌++◌, length, get_or, arith, append_assoc}
 use Rattle.std.specs.Prelude.{Option, Some, None, slice_get, slice_set, replicate}
 use Rattle.std.proofs.lemmas.List.{replicate-append-replicate}
@@ -31,13 +31,13 @@ get-updated_other f (y ∷ ys) zero (suc j) h = refl
 get-updated_other f (y ∷ ys) (suc i) zero h = refl
 get-updated_other f (y ∷ ys) (suc i) (suc j) h = get-updated_other f ys i j (λ e. h (ap suc e))
 
--- ---- one row
+-- ---- one request
 
 twice : (o : Option ℕ) (m : ℕ) → first_moment (first_moment o m) m ≡ first_moment o m
 twice None m = refl
 twice (Some k) m = refl
 
--- noted twice is noted once
+-- Recording a phase twice is recording it once.
 pub stamped_twice : (x : Stamps) (p : Phase) (m : ℕ) → stamped (stamped x p m) p m ≡ stamped x p m
 stamped_twice x Queued m = refl
 stamped_twice x Issued m = ap (λ (o : Option ℕ). record { queued = x.queued; issued = o; ended = x.ended }) (twice x.issued m)
@@ -58,7 +58,7 @@ stamp_elsewhere : (rows : List Row) (m : ℕ) (p : Place) (xs : List Stamps) (r 
 stamp_elsewhere rows m (Request q) xs r h = stamped_apart rows m xs q r (λ e. let k = ap (λ j. same_place (Request q) (Request j)) e in let t = same_place_self (Request q) in absurd cc)
 stamp_elsewhere rows m p xs r h = refl
 
--- ---- all rows of a record
+-- ---- all requests of a record
 
 stamp_place_length : (rows : List Row) (m : ℕ) (p : Place) (xs : List Stamps) → length (stamp_place rows m p xs) ≡ length xs
 stamp_place_length rows m (Request q) xs = by (slice_get rows q)
@@ -72,7 +72,7 @@ pub stamp_changes_length : (rows : List Row) (m : ℕ) (cs : List Change) (xs : 
 stamp_changes_length rows m [] xs = refl
 stamp_changes_length rows m (c ∷ cs) xs = stamp_changes_length rows m cs (stamp_place rows m c.place xs) ∙ stamp_place_length rows m c.place xs
 
--- a row's moment is noted, or no change names it and it keeps its moments
+-- A request's phase is recorded, or no change names it and its lifetime is unchanged.
 pub changed_at : (rows : List Row) (m : ℕ) (cs : List Change) (xs : List Stamps) (r : ℕ) (x : Stamps) (row : Row) → slice_get rows r ≡ Some row → slice_get xs r ≡ Some x
     → (slice_get (stamp_changes rows m cs xs) r ≡ Some (stamped x row.phase m)) ⊎ ((slice_get (stamp_changes rows m cs xs) r ≡ Some x) × (named cs (Request r) ≡ None))
 unfolding named
@@ -91,7 +91,7 @@ changed_at rows m (c ∷ cs) xs r x row h k = by (same_place c.place (Request r)
         elim (rest (stamped x row.phase m) here) [ inl q ↦ inl (q ∙ ap Some (stamped_twice x row.phase m)) | inr q ↦ inl q.0 ]
     by false e rest = rest x (stamp_elsewhere rows m c.place xs r e ∙ k)
 
--- ---- rows that came
+-- ---- new requests
 
 pub added_before : {X : Type 0} (xs : List X) (k : ℕ) (y : X) (r : ℕ) → r < length xs → slice_get (xs ++ replicate k y) r ≡ slice_get xs r
 added_before [] k y r h = absurd (omega arith)
@@ -110,14 +110,14 @@ added_length [] zero y = refl
 added_length [] (suc k) y = let e = added_length [] k y in omega (arith, e)
 added_length (x ∷ xs) k y = let e = added_length xs k y in omega (arith, e)
 
--- one more row
+-- One more request.
 pub added_more : {X : Type 0} (xs ys : List X) (n r : ℕ) (y : X) → n ≤ r → ys ≡ xs ++ replicate (r - n) y → ys ++ y ∷ [] ≡ xs ++ replicate (r + 1 - n) y
 added_more xs ys n r y h e =
     let one : replicate (r - n) y ++ y ∷ [] ≡ replicate (r - n + 1) y = replicate-append-replicate (r - n) 1 y in
     let count : r - n + 1 ≡ r + 1 - n = omega (arith, h) in
     ap (λ zs. zs ++ y ∷ []) e ∙ append_assoc xs (replicate (r - n) y) (y ∷ []) ∙ ap (λ zs. xs ++ zs) (one ∙ ap (λ k. replicate k y) count)
 
--- a row's moments are written over those that stand there
+-- The loop overwrites one lifetime in place.
 pub stamp_row_set : (rows : List Row) (m : ℕ) (xs : List Stamps) (r : ℕ) (x : Stamps) (row : Row) → slice_get rows r ≡ Some row → r < length xs → x ≡ get_or xs r x → slice_set xs r (stamped x row.phase m) ≡ stamp_row rows m xs r
 stamp_row_set rows m xs r x row h l g =
     sym (updated_set (λ y. stamped y row.phase m) xs r x (slice_get-get_or xs r x l ∙ ap Some (sym g))) ∙ ap (λ o. stamp_as o m xs r) (sym h)

@@ -7,12 +7,12 @@ use Rattle.overflow.specs.Backlogs.{kept}
 use Rattle.machine.specs.declared.whole.Machine.{Machine}
 use Rattle.courses.specs.declared.filling.Filling.{Filling}
 
--- the number in a place, 0 where none is
+-- The number in an optional value, or 0.
 abbrev pub number_in : Option Value → ℕ
 number_in (Some (Number n)) = n
 number_in _ = 0
 
--- what waits in the two rings, what is kept in the backlog, and the time
+-- The items that wait in the two rings and in the backlog, and the time in nanoseconds.
 abbrev pub filling_of : Machine → Filling
 filling_of m = record {
   submissions = waiting m.submissions.head m.submissions.tail;

@@ -1,4 +1,4 @@
-//! What a run came to, moment by moment and row by row.
+//! Queue occupancy at each moment of a run, and the lifetime of each request.
 ghost use Rattle.std.specs.Prelude.{◌≡◌, ◌≤◌, ◌++◌, ◌∷◌, ◌-◌, ◌<◌, [], length, IfOk, OnOk};
 ghost use Rattle.courses.specs.Fillings.{filling_of as filling_at};
 ghost use Rattle.courses.specs.Stamping.{stamps_behind};
@@ -9,19 +9,19 @@ use machine::State;
 use places::Record;
 use std::alloc::{AllocError, Global};
 
-/// What a run came to.
+/// Queue occupancy and request lifetimes, recorded step by step.
 #[derive(Drop)]
 pub struct Course {
-    /// How full it was at each moment, from moment 0 on.
+    /// One element per moment, from moment 0 on.
     pub fillings: Vec<Filling>,
-    /// When each row was queued, issued and ended.
+    /// One element per request.
     pub stamps: Vec<Stamps>,
-    // How many completions have gone into the backlog so far.
+    // How many completions have overflowed so far.
     overflowed: u32,
 }
 
 impl Course {
-    /// At the start of a run.
+    /// Returns the record of a run at moment 0.
     pub(crate) fn new(alloc: Global, state: &State) -> Result<Course, AllocError>
         requires none_kept { state.now.backlog.items ≡ [] }
         ensures fillings { IfOk result (λ c. c.fillings.items ≡ filling_at state.now ∷ []) }
@@ -37,7 +37,8 @@ impl Course {
         })
     }
 
-    /// Notes the moment behind a step, by the step's record.
+    /// Records the moment after a step, from the step's undo record. On an allocation failure the
+    /// record may be incomplete.
     pub(crate) fn note(
         &mut self,
         past: &Record,

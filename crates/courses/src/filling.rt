@@ -1,4 +1,4 @@
-//! How full the rings and the backlog are.
+//! How full the rings and the backlog are at a moment.
 ghost use Rattle.std.specs.Prelude.{◌≡◌, ◌<◌, ◌≤◌, ◌^◌, length};
 ghost use Rattle.ring_words.specs.Rings.{waiting as waiting_between};
 ghost use Rattle.machine.specs.Whole.{view, WellFormed};
@@ -10,17 +10,17 @@ use places::{Place, Value};
 /// How full the rings and the backlog are at a moment, and its time.
 #[derive(Clone, Copy)]
 pub struct Filling {
-    /// How many entries wait in the submission ring.
+    /// Entries that wait in the submission ring.
     pub submissions: u32,
-    /// How many completions wait in the completion ring.
+    /// Completions that wait in the completion ring.
     pub completions: u32,
-    /// How many completions are kept in the backlog.
+    /// Overflowed completions that wait in the backlog.
     pub kept: u32,
-    /// In nanoseconds.
+    /// The model's clock, in nanoseconds.
     pub clock: u64,
 }
 
-// The number that stands in a place, 0 where none does.
+// Returns the number in a place, or 0 if it holds none.
 fn number_at(state: &State, place: Place) -> u64
     ensures value { result ≡ number_in (view state.now place) }
     ensures formed { WellFormed state.now }
@@ -31,7 +31,8 @@ fn number_at(state: &State, place: Place) -> u64
     }
 }
 
-// How many wait between the two words of a ring (io_uring(7)).
+// Returns how many items wait between the head and the tail of a ring, which wrap around at 32 bits
+// (io_uring(7)).
 fn waiting(head: u64, tail: u64) -> u32
     requires head { head < 2 ^ 32 }
     requires tail { tail < 2 ^ 32 }
@@ -56,7 +57,7 @@ fn completions_waiting(state: &State) -> u32
     waiting(head, tail)
 }
 
-/// How full a state is, of whose run so many completions went into the backlog.
+/// Returns the occupancy of a state, given how many completions have overflowed up to it.
 pub(crate) fn filling_of(state: &State, overflowed: u32) -> Filling
     requires { overflowed ≡ length state.now.backlog.items }
     ensures value { result ≡ filling_of state.now }
@@ -71,7 +72,7 @@ pub(crate) fn filling_of(state: &State, overflowed: u32) -> Filling
     }
 }
 
-/// How many completions went into the backlog, of which so many are known.
+/// Returns how many completions have overflowed, starting the count at a known lower bound.
 pub(crate) fn count_overflowed(state: &State, known: u32) -> u32
     requires { known ≤ length state.now.backlog.items }
     ensures { result ≡ length state.now.backlog.items }

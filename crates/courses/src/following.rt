@@ -1,4 +1,4 @@
-//! Following a run, event by event.
+//! Runs the events of a run and records its queue occupancy and request lifetimes.
 ghost use Rattle.std.specs.Prelude.{◌≡◌, ◌≤◌, ◌<◌, ◌^◌, ◌-◌, ◌+◌, ◌++◌, ◌∷◌, [], List, None, length, slice_get, IfOk, OnOk, IfErr};
 ghost use Rattle.places.specs.View.{Exact};
 ghost use Rattle.places.specs.declared.value.Change.{Change};
@@ -16,27 +16,26 @@ use machine::{Event, Refusal, Setup, State};
 use places::{Place, Value};
 use std::alloc::{AllocError, Global};
 
-/// A run that was followed to its end.
+/// The result of a whole run.
 #[derive(Drop)]
 pub struct Followed {
     pub course: Course,
-    /// Its rows, as they are at its end.
+    /// The requests at the end.
     pub rows: Vec<Row>,
-    /// What the threads and the poller do next at the requested moment, or at the end where the
-    /// run is shorter.
+    /// The threads and the poller at the requested moment, or at the end if the run is shorter.
     pub standing: Standing,
 }
 
-/// Why a run isn't followed to its end.
+/// Why a run stops early.
 #[derive(Clone, Copy)]
 pub enum Stop {
-    /// The event at this index is refused, and why.
+    /// The event at this index is refused, for this reason.
     Refused(u32, Refusal),
     /// An allocation failed.
     Memory,
 }
 
-// Why a run stops at the event of an index, which a state didn't take.
+// Returns why a run stops at the event of this index, which the state refused.
 fn stop_at(index: u32, refusal: Refusal) -> Stop
     ensures { result ≡ stop_at index refusal }
 {
@@ -46,7 +45,7 @@ fn stop_at(index: u32, refusal: Refusal) -> Stop
     }
 }
 
-// Runs an event, and adds what the run amounts to after it.
+// Does an event, and records the moment after it.
 #[tactic(auto, using(crate::proofs::GoingOn::halts))]
 fn follow_event(
     state: &mut State,
@@ -78,7 +77,7 @@ fn follow_event(
     }
 }
 
-// Runs the events from one index up to another, of a run that was followed up to the first.
+// Does the events from one index up to another, given that those before were followed.
 fn follow_on(
     state: &mut State,
     setup: &Setup,
@@ -100,7 +99,7 @@ fn follow_on(
     Ok(())
 }
 
-// The row of a number.
+// Returns request `number`, or None past the end of the table.
 fn row_at(state: &State, number: u32) -> Option<Row>
     ensures value { result ≡ slice_get state.now.table number }
     ensures formed { WellFormed state.now }
@@ -111,7 +110,7 @@ fn row_at(state: &State, number: u32) -> Option<Row>
     }
 }
 
-// The rows of a state.
+// Returns all requests of a state.
 fn rows_of(alloc: Global, state: &State) -> Result<Vec<Row>, AllocError>
     ensures { IfOk result (λ rows. rows.items ≡ state.now.table) }
 {
@@ -126,7 +125,7 @@ fn rows_of(alloc: Global, state: &State) -> Result<Vec<Row>, AllocError>
     Ok(rows)
 }
 
-// What the threads and the poller of a state do next.
+// Returns the stages of the threads and the poller.
 fn standing_of(alloc: Global, state: &State) -> Result<Standing, Stop>
     requires few { length state.now.threads ≤ 16 }
     ensures ok { IfOk result (IsStanding state.now) }
@@ -138,7 +137,7 @@ fn standing_of(alloc: Global, state: &State) -> Result<Standing, Stop>
     }
 }
 
-// Follows a run from its start, at which nothing of it has been followed.
+// Follows a run from moment 0, and reads the threads and the poller at moment `at`.
 fn follow_from(
     alloc: Global,
     state: &mut State,
@@ -166,8 +165,9 @@ fn follow_from(
     }
 }
 
-/// Runs some events from a setup, and returns what the run amounts to, and what the threads and the
-/// poller do next at a moment.
+/// Runs the events from the setup. Returns the occupancy at each moment, the lifetimes of its
+/// requests, and the threads and the poller at moment `at`. Fails if an event is refused or an
+/// allocation fails.
 pub fn follow(alloc: Global, setup: &Setup, events: &[Event], at: u32) -> Result<Followed, Stop>
     requires starts { setup_refusal setup.now ≡ None }
     requires most { length events.now ≤ 1048576 }

@@ -1,5 +1,5 @@
-//! What a run comes to: how full it is at each moment, and when its rows were queued, issued and
-//! ended.
+//! Queue occupancy and request lifetimes over a run: how full the rings and the backlog are at each
+//! moment, and when each request was submitted, issued and completed.
 #![tactic(auto)]
 
 mod course;

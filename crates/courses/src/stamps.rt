@@ -1,4 +1,4 @@
-//! When rows were queued, issued and ended.
+//! The lifetime of each request: when it was submitted, issued and completed.
 ghost use Rattle.std.specs.Prelude.{◌≡◌, ◌≤◌, ◌-◌, ◌++◌, length, replicate, OnOk};
 ghost use Rattle.machine.specs.Whole.{WellFormed};
 ghost use Rattle.courses.specs.Stamping.{first_moment, new_stamps, stamped, stamp_row, stamp_changes};
@@ -8,10 +8,10 @@ use machine::State;
 use places::{Place, Record, Value};
 use std::alloc::AllocError;
 
-/// How many rows a run can have.
+/// The most requests of a run.
 const MOST_ROWS: usize = 65536;
 
-/// The first moments at which a row was there, was issued, and had ended.
+/// The first moments at which a request existed, was issued, and was complete.
 #[derive(Clone, Copy)]
 pub struct Stamps {
     pub queued: u32,
@@ -19,7 +19,7 @@ pub struct Stamps {
     pub ended: Option<u32>,
 }
 
-// The first of two moments, if there is one.
+// Returns the first moment if there is one, else `moment`.
 fn first_of(first: Option<u32>, moment: u32) -> Option<u32>
     ensures { result ≡ first_moment first moment }
 {
@@ -29,7 +29,7 @@ fn first_of(first: Option<u32>, moment: u32) -> Option<u32>
     }
 }
 
-// The moments of a row that is in a phase at one.
+// Returns the lifetime of a request that is in a phase at a moment.
 fn stamped(before: Stamps, phase: Phase, moment: u32) -> Stamps
     ensures { result ≡ stamped before phase moment }
 {
@@ -48,7 +48,7 @@ fn stamped(before: Stamps, phase: Phase, moment: u32) -> Stamps
     }
 }
 
-/// Adds the rows that came by a moment.
+/// Adds the requests that are new at a moment.
 pub(crate) fn add_rows(
     stamps: &mut Vec<Stamps>,
     state: &State,
@@ -72,7 +72,7 @@ pub(crate) fn add_rows(
     Ok(())
 }
 
-// Notes the moment of a row.
+// Records the phase of a request at a moment.
 fn stamp_row(stamps: &mut Vec<Stamps>, state: &State, row: u32, moment: u32)
     requires { length stamps.old.items ≡ length state.now.table }
     ensures value { stamps.new.items ≡ stamp_row state.now.table moment stamps.old.items row }
@@ -84,7 +84,7 @@ fn stamp_row(stamps: &mut Vec<Stamps>, state: &State, row: u32, moment: u32)
     }
 }
 
-/// Notes the moment behind a step, of all rows that its record names.
+/// Records, at the moment after a step, the phases of all requests that its undo record names.
 pub(crate) fn stamp_changes(stamps: &mut Vec<Stamps>, past: &Record, state: &State, moment: u32)
     requires { length stamps.old.items ≡ length state.now.table }
     ensures { stamps.new.items ≡ stamp_changes state.now.table moment past.now stamps.old.items }

@@ -1,4 +1,4 @@
-//! What the threads and the poller do next in a state.
+//! Whether the threads and the poller of a state can proceed or wait.
 ghost use Rattle.std.specs.Prelude.{◌≡◌, ◌≤◌, map, option_map, length, slice_get, IfOk};
 ghost use Rattle.sqpoll.specs.Pollers.{is_awake};
 ghost use Rattle.courses.specs.Courses.{IsStanding};
@@ -7,17 +7,17 @@ use machine::State;
 use places::{Place, Stage, Value};
 use std::alloc::{AllocError, Global};
 
-/// How many threads a setup can have.
+/// The most threads of a setup.
 const MOST_THREADS: u32 = 16;
 
-/// What each thread does next, and whether the poller is awake, if there is one.
+/// The stage of each thread, and whether the poller is awake; None without IORING_SETUP_SQPOLL.
 #[derive(Drop)]
 pub struct Standing {
     pub stages: Vec<Stage>,
     pub awake: Option<bool>,
 }
 
-// What a thread does next, if there is a thread of the number.
+// Returns the stage of a thread, or None if there is no such thread.
 fn stage_at(state: &State, thread: u32) -> Option<Stage>
     ensures { result ≡ option_map (λ x. x.stage) (slice_get state.now.threads thread) }
 {
@@ -27,7 +27,7 @@ fn stage_at(state: &State, thread: u32) -> Option<Stage>
     }
 }
 
-// What each thread does next.
+// Returns the stages of all threads.
 fn stages_of(alloc: Global, state: &State) -> Result<Vec<Stage>, AllocError>
     requires few { length state.now.threads ≤ 16 }
     ensures { IfOk result (λ stages. stages.items ≡ map (λ x. x.stage) state.now.threads) }
@@ -41,7 +41,7 @@ fn stages_of(alloc: Global, state: &State) -> Result<Vec<Stage>, AllocError>
     Ok(stages)
 }
 
-// Whether the poller is awake, if there is one.
+// Returns whether the poller is awake, or None if there is no poller.
 fn poller_awake(state: &State) -> Option<bool>
     ensures { result ≡ option_map is_awake state.now.poller }
 {
@@ -52,7 +52,7 @@ fn poller_awake(state: &State) -> Option<bool>
 }
 
 impl Standing {
-    /// Returns what the threads and the poller of a state do next.
+    /// Reads the stages of the threads and the poller.
     pub(crate) fn new(alloc: Global, state: &State) -> Result<Standing, AllocError>
         requires few { length state.now.threads ≤ 16 }
         ensures { IfOk result (IsStanding state.now) }

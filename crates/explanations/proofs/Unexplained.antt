@@ -1,4 +1,4 @@
--- What bytes hold, explained or not.
+-- From the result for a setup and its events to the result for the bytes that describe them.
 use Rattle.std.proofs.Common.{◌≡◌, ◌⊎◌, inl, inr, ℕ, List, Bool, true, false, sym, subst}
 use Rattle.std.specs.Prelude.{Option, Ok}
 use Rattle.scenario.specs.declared.event.Event.{Event}

@@ -1,4 +1,4 @@
-//! Explaining a script or a trace.
+//! The `explain` subcommand: runs a script or a trace and prints its findings.
 ghost use Rattle.std.specs.Prelude.{◌≡◌, ◌⊎◌, ◌≤◌, true, false, None, IfOk, IfErr, length};
 ghost use Rattle.std.specs.List.{list_any};
 ghost use Rattle.scenario.specs.Setups.{setup_refusal};
@@ -16,15 +16,15 @@ use std::io::Write;
 use traces::{TraceFault, read_trace2};
 use whole_files::write_out;
 
-/// What a trace begins with, and no script.
+/// The first byte of a trace. No script begins with it.
 const TRACE_MARK: u8 = b'U';
 
-/// What is asked for.
+/// The options of `explain`.
 #[derive(Clone, Copy)]
 pub struct Asked {
-    /// This kind alone; where there is none, all.
+    /// Report only this kind (`--kind`), or all kinds if None.
     pub kind: Option<Kind>,
-    /// As JSON, and else as paragraphs.
+    /// Print JSON (`--json`) instead of paragraphs.
     pub json: bool,
 }
 
@@ -37,7 +37,7 @@ fn is_asked(asked: Option<Kind>, kind: Kind) -> bool
     }
 }
 
-// Whether a finding is a fault of a kind that is asked for.
+// Returns whether the finding is a fault of a requested kind.
 fn counts(asked: Option<Kind>, finding: &Finding) -> bool
     ensures { result ≡ counts asked finding.now }
 {
@@ -50,7 +50,7 @@ fn has_fault(asked: Option<Kind>, found: &[Finding]) -> bool
     found.iter().any(|finding| counts(asked, finding))
 }
 
-// Adds a headline, and below it the sentence.
+// Appends a headline, with the kind and the moment, and the finding's sentences below it.
 fn add_paragraph(
     alloc: Global,
     out: &mut String,
@@ -65,7 +65,7 @@ fn add_paragraph(
     out.push_str(paragraph.as_str())
 }
 
-// Adds what is told of a finding, if its kind is asked for.
+// Appends a finding, if its kind is requested.
 fn add_finding(
     alloc: Global,
     out: &mut String,
@@ -96,7 +96,7 @@ fn add_findings(
     Ok(())
 }
 
-// How many findings of the kinds that are asked for there are, and how many of them are faults.
+// Returns how many findings of the requested kinds there are, and how many of them are faults.
 fn counted(run: &Run<'_>, asked: Option<Kind>) -> (usize, usize) {
     let told = run
         .found
@@ -118,7 +118,7 @@ fn add_sum(alloc: Global, out: &mut String, run: &Run<'_>, asked: Asked) -> Resu
     out.push_str(sum.as_str())
 }
 
-// What is told of a run.
+// Returns the report of a run.
 fn text_of(alloc: Global, run: &Run<'_>, asked: Asked) -> Result<String, AllocError> {
     let mut out = String::new(alloc);
     if asked.json {
@@ -149,7 +149,8 @@ fn tell<W: Write>(
     }
 }
 
-// Runs some events from a setup, and tells what they show. Says whether some of it is a fault.
+// Runs the events and prints their findings. Returns whether some finding of a requested kind is a
+// fault.
 #[tactic(auto, using(crate::proofs::Unexplained::unexplained_halted, crate::proofs::Unexplained::unexplained_untold))]
 fn explain_events<W: Write>(
     alloc: Global,
@@ -184,7 +185,7 @@ fn explain_events<W: Write>(
     }
 }
 
-// The same of a script's schedule.
+// Explains the schedule of a script in the same way.
 fn explain_plan<W: Write>(
     alloc: Global,
     script: &Script,
@@ -233,9 +234,9 @@ fn explain_trace<W: Write>(
     explain_events(alloc, &setup, &events, asked, writer)
 }
 
-/// Runs what the bytes are, a trace where the first one is a `U`, and else a script, and tells what
-/// the run shows: a headline and a sentence of each finding of the kinds that are asked for, in
-/// order. Says whether some of them is a fault.
+/// Runs a trace, if the first byte is `U`, or else a script, and prints the findings of the
+/// requested kinds in order. Returns whether some of them is a fault. Errors: the input is
+/// malformed, an event is refused, an allocation or a write fails.
 pub fn explain_run<W: Write>(
     alloc: Global,
     bytes: &[u8],

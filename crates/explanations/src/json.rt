@@ -1,4 +1,4 @@
-//! Findings as JSON.
+//! Findings as JSON objects.
 
 use finding_kinds::Finding;
 use sentences::{Run, sentence};
@@ -6,7 +6,7 @@ use serde_json::Value;
 use std::alloc::{AllocError, Global};
 use std::fmt;
 
-// A number in a list, or nothing.
+// The contents of a JSON list: the number, or nothing.
 #[derive(Clone, Copy)]
 struct Listed(bool, u32);
 
@@ -19,12 +19,12 @@ impl fmt::Display for Listed {
     }
 }
 
-// A text in quotes.
+// Returns the text as a JSON string.
 fn quoted(alloc: Global, text: String) -> Result<String, AllocError> {
     Value::String(text).to_string(alloc)
 }
 
-/// Adds a finding as an object on a line of its own.
+/// Appends a finding as a JSON object on its own line, after a comma unless it is the first.
 pub(crate) fn add_object(
     alloc: Global,
     out: &mut String,

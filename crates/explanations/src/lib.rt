@@ -1,4 +1,4 @@
-//! What a run shows, told: its findings with their sentences, as text or as JSON.
+//! Reports the findings of a run with their sentences, as text, as JSON, or as a list.
 #![tactic(auto)]
 
 mod explaining;

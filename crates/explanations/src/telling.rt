@@ -1,4 +1,4 @@
-//! What a run shows, each finding with its sentence, for those who show it elsewhere.
+//! The findings of a run with their sentences, as a list for other crates to present.
 ghost use Rattle.std.specs.Prelude.{◌≡◌, ◌≤◌, ◌∷◌, ◌++◌, [], None, IfOk, IfErr, OnOk, length};
 ghost use Rattle.scenario.specs.Setups.{setup_refusal};
 ghost use Rattle.machine.specs.Runs.{start, Accepts};
@@ -13,14 +13,14 @@ use script::LogFault;
 use sentences::{Run, sentence};
 use std::alloc::{AllocError, Global};
 
-/// A finding, and the sentence that tells it.
+/// A finding and its sentences.
 #[derive(Drop)]
 pub struct Told {
     pub finding: Finding,
     pub text: String,
 }
 
-// Adds a finding with its sentence.
+// Appends a finding with its sentences.
 fn add_told(
     alloc: Global,
     told: &mut Vec<Told>,
@@ -46,7 +46,8 @@ fn all_told(alloc: Global, run: &Run<'_>, found: &[Finding]) -> Result<Vec<Told>
     Ok(told)
 }
 
-/// Runs some events from a setup, and tells what they show.
+/// Runs the events from the setup, and returns their findings with sentences, in order. Fails if an
+/// event is refused or an allocation fails.
 pub fn told_of(alloc: Global, setup: &Setup, events: &[Event]) -> Result<Vec<Told>, LogFault>
     requires starts { setup_refusal setup.now ≡ None }
     requires most { length events.now ≤ 1048576 }
