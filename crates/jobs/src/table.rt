@@ -1,6 +1,6 @@
-//! The program's words: what help says of each, and what may follow it.
+//! The commands of the program with their arguments, options and help texts.
 
-/// What a word of the program does.
+/// A command of the program.
 #[derive(Clone, Copy)]
 pub enum Verb {
     Walk,
@@ -15,33 +15,33 @@ pub enum Verb {
     Serve,
 }
 
-/// How a thing that may follow a word is written.
+/// How an argument or an option of a command is written.
 #[derive(Clone, Copy)]
 pub enum Shape {
-    /// The name of a file, which has to be there.
+    /// The path of a file, which is required.
     File,
-    /// A name behind this option.
+    /// This option with a path.
     Named(&'static str),
-    /// A number behind this option.
+    /// This option with a number.
     Number(&'static str),
-    /// A port, which has to be there.
+    /// A port, which is required.
     Port,
-    /// The form of a trace.
+    /// The form of a trace, 1 or 2.
     Form,
-    /// A kind of findings.
+    /// A kind of finding.
     Kind,
-    /// This option alone.
+    /// This option without a value.
     Flag(&'static str),
 }
 
-/// What may follow a word.
+/// An argument or an option of a command.
 pub struct Operand {
     pub name: &'static str,
     pub help: &'static str,
     pub shape: Shape,
 }
 
-/// A word of the program.
+/// A command, as help shows it.
 pub struct Word {
     pub verb: Verb,
     pub name: &'static str,
@@ -51,53 +51,53 @@ pub struct Word {
 }
 
 const COMMANDS: &str =
-    "Commands, one a line: where, show PLACE, goto N, back N, on N, watch PLACE, break PLACE = VALUE, unwatch, cont, rcont, sync, quit. docs/USE.md tells what they do, and what faults and refusals mean.";
+    "Debugger commands, one per line: where, show PLACE, goto N, back N, on N, watch PLACE, break PLACE = VALUE, unwatch, cont, rcont, sync, quit. docs/COMMANDS.md explains them, and docs/FAULTS.md the replies that begin with fault or refused.";
 
 const CHECKED: &str =
-    "A line for each fault, at most 20, as SCRIPT:LINE:COLUMN: WHERE: what stands there, and what may; of a script that is read its schedule is run, and the first event that can't happen is told so. The status is 0 where all is well, and the line ok. Example:\n  uringwalk check examples/one_nop.json";
+    "Prints a line for each fault, at most 20, as SCRIPT:LINE:COLUMN: WHERE: what is there, and what is allowed. If the script has none, its schedule is run, and the first event that can't happen is printed in the same way. Without faults it prints ok, with status 0; otherwise the status is 1. Example:\n  uringwalk check examples/one_nop.json";
 
 const TRACED: &str =
-    "OUT is made, or takes the place of a file of its name; it can't be SCRIPT's own file. Example:\n  uringwalk trace examples/one_nop.json one_nop.trace\n  echo where | uringwalk replay one_nop.trace";
+    "Creates or replaces OUT, which can't be SCRIPT's own file. Example:\n  uringwalk trace examples/one_nop.json one_nop.trace\n  echo where | uringwalk replay one_nop.trace";
 
 const MIGRATED: &str =
-    "IN is a trace that trace has written with --form 1. OUT is made, or takes the place of a file of its name, IN among them; it can't be SCRIPT's own file. Example:\n  uringwalk trace --form 1 examples/one_nop.json one_nop.trace\n  uringwalk migrate examples/one_nop.json one_nop.trace one_nop.trace";
+    "IN is a trace that trace --form 1 wrote. Creates or replaces OUT, which can be IN, but not SCRIPT's own file. Example:\n  uringwalk trace --form 1 examples/one_nop.json one_nop.trace\n  uringwalk migrate examples/one_nop.json one_nop.trace one_nop.trace";
 
 const LOGGED: &str =
-    "One line an event, as its number and its words in a schedule, and below it a line for each place that it changed, as PLACE OLD -> NEW. Example:\n  uringwalk log examples/one_nop.json --from 3 --to 4";
+    "Prints a line for each event, its number and its words in a schedule, and below it a line for each place that it changed, as PLACE OLD -> NEW. Example:\n  uringwalk log examples/one_nop.json --from 3 --to 4";
 
 const EXPLAINED: &str =
-    "A headline for each finding, its kind and the moment to go to, and a sentence or two; then how many are faults, and how many notes. The status is 3 where some are faults. docs/USE.md has the kinds. Example:\n  uringwalk explain examples/severed_link/script.json";
+    "Prints the kind of each finding, the moment to go to, and what happened; then the number of faults and of notes. The status is 3 if there are faults. docs/FINDINGS.md explains the kinds. Example:\n  uringwalk explain examples/severed_link/script.json";
 
 const DRAWN: &str =
-    "OUT ends in .html: a page that a browser shows, with no network; or in .json: trace events, which Perfetto and chrome://tracing open. It is made, or takes the place of a file of its name; it can't be RUN's own file. Of more than 5000 events those from M to below N alone are drawn. Example:\n  uringwalk timeline examples/severed_link/script.json severed_link.html";
+    "OUT ends in .html for a page that a browser opens without a network, or in .json for trace events that Perfetto and chrome://tracing open. Creates or replaces OUT, which can't be RUN's own file. A run of more than 5000 events needs both --from and --to. Example:\n  uringwalk timeline examples/severed_link/script.json severed_link.html";
 
 const LIVE: &str =
-    "A thread runs each thread of the script, the poller if there is one, and each kernel worker, all side by side; the script's schedule isn't run. It prints how many events there were, as closed E, and then answers commands as walk does. Another run may go another way: OUT keeps this one, for replay. Example:\n  uringwalk live examples/words_in_a_pipe/script.json --trace words.trace <examples/words_in_a_pipe/stdin\n  echo where | uringwalk replay words.trace";
+    "Runs each thread of the script, the poller if there is one, and each kernel worker in a thread of its own, all at once; the script's schedule isn't used. Prints closed E, with E the number of events, and then reads commands as walk does. The next run may differ: --trace saves this one for replay. Example:\n  uringwalk live examples/words_in_a_pipe/script.json --trace words.trace <examples/words_in_a_pipe/stdin\n  echo where | uringwalk replay words.trace";
 
 const SERVE: &str =
-    "The script's threads, the poller if there is one, and the kernel workers run as live runs them. It listens on 127.0.0.1 alone, prints port P, and answers each client's commands over a session of the client's own, which begins without events: sync takes over what the run has got meanwhile. Up to 16 clients are served at once, and more wait. Example:\n  uringwalk serve examples/words_in_a_pipe/script.json --port 7001 --clients 1 &\n  sleep 1\n  printf 'sync\\nwhere\\nquit\\n' | nc 127.0.0.1 7001";
+    "Runs the script's threads as live does, listens on 127.0.0.1, and prints port P. Each client has a session of its own, which begins without events: sync adds the events that the run has made so far. Up to 16 clients are served at once, and more wait. Example:\n  uringwalk serve examples/words_in_a_pipe/script.json --port 7001 --clients 1 &\n  sleep 1\n  printf 'sync\\nwhere\\nquit\\n' | nc 127.0.0.1 7001";
 
 const SCRIPT: Operand = Operand {
     name: "SCRIPT",
-    help: "A script: a setup, programs and a schedule, as JSON",
+    help: "Script file: a setup, programs and a schedule, as JSON",
     shape: Shape::File,
 };
 
 const RUN: Operand = Operand {
     name: "RUN",
-    help: "A trace of form 2 where its first byte is a U, or else a script",
+    help: "Script file, or trace file of form 2, whose first byte is U",
     shape: Shape::File,
 };
 
 const TURNS: Operand = Operand {
     name: "N",
-    help: "How many turns each makes, 1 to 1000000; where left out, 1000",
+    help: "Turns of each thread, of the poller and of each kernel worker: 1 to 1000000, default 1000",
     shape: Shape::Number("turns"),
 };
 
 const WORKERS: Operand = Operand {
     name: "Q",
-    help: "How many kernel workers there are, 1 to 8; where left out, 2",
+    help: "Number of kernel workers: 1 to 8, default 2",
     shape: Shape::Number("kernel"),
 };
 
@@ -137,40 +137,59 @@ pub const KINDS: &[&str] = &[
     "refused-flags",
 ];
 
+/// What help of the program says after its commands.
+pub const OPTIONS: &str = "Options of the commands:
+  trace     --form <FORM>  Form of the trace: 1 for events only, 2 for setup and events; default 2
+  log       --from <M>     First event to print: 0 to 4294967295, default 0
+            --to <N>       Event to stop before: 0 to 4294967295, default all
+  explain   --kind <KIND>  Report only findings of this kind, default all
+            --json         Print the findings as JSON, default text
+  timeline  --from <M>     First event to draw: 0 to 4294967295, default 0
+            --to <N>       Event to stop before: 0 to 4294967295, default all
+  live      --turns <N>    Turns of each thread, of the poller and of each kernel worker: 1 to 1000000, default 1000
+            --kernel <Q>   Number of kernel workers: 1 to 8, default 2
+            --trace <OUT>  Trace file to write, default none
+  serve     --port <P>     Port to listen on: 1 to 65535, required
+            --turns <N>    Turns of each thread, of the poller and of each kernel worker: 1 to 1000000, default 1000
+            --kernel <Q>   Number of kernel workers: 1 to 8, default 2
+            --clients <C>  Number of sessions to stop after: 1 to 1000000, default never
+
+Example: echo where | uringwalk walk examples/one_nop.json";
+
 /// The forms of a trace.
 pub const FORMS: &[&str] = &["1", "2"];
 
-/// The words, as help lists them.
+/// The commands, as help lists them.
 pub const WORDS: &[Word] = &[
     Word {
         verb: Verb::Walk,
         name: "walk",
-        about: "Run a script's schedule, and answer commands from standard input",
+        about: "Run a script's schedule, then read debugger commands from standard input",
         after: COMMANDS,
         operands: &[SCRIPT],
     },
     Word {
         verb: Verb::Check,
         name: "check",
-        about: "Tell what is wrong with a script, line by line",
+        about: "Check a script, and print its faults with line and column",
         after: CHECKED,
         operands: &[SCRIPT],
     },
     Word {
         verb: Verb::Trace,
         name: "trace",
-        about: "Run a script's schedule, and write its trace to a file",
+        about: "Run a script's schedule, and save it as a trace file",
         after: TRACED,
         operands: &[
             SCRIPT,
             Operand {
                 name: "OUT",
-                help: "Where the trace is written to",
+                help: "Trace file to write",
                 shape: Shape::File,
             },
             Operand {
                 name: "FORM",
-                help: "1: the events alone; 2: the setup and the events",
+                help: "Form of the trace: 1 for events only, 2 for setup and events",
                 shape: Shape::Form,
             },
         ],
@@ -178,18 +197,18 @@ pub const WORDS: &[Word] = &[
     Word {
         verb: Verb::Migrate,
         name: "migrate",
-        about: "Put a script's setup before the events of a trace of form 1",
+        about: "Convert a trace of form 1 to form 2, with a script's setup",
         after: MIGRATED,
         operands: &[
             SCRIPT,
             Operand {
                 name: "IN",
-                help: "A trace of form 1",
+                help: "Trace file of form 1",
                 shape: Shape::File,
             },
             Operand {
                 name: "OUT",
-                help: "Where the trace of form 2 is written to",
+                help: "Trace file of form 2 to write",
                 shape: Shape::File,
             },
         ],
@@ -197,29 +216,29 @@ pub const WORDS: &[Word] = &[
     Word {
         verb: Verb::Replay,
         name: "replay",
-        about: "Run a trace of form 2, as trace makes it, and answer commands from standard input",
+        about: "Run a trace of form 2, then read debugger commands from standard input",
         after: COMMANDS,
         operands: &[Operand {
             name: "TRACE",
-            help: "A trace of form 2",
+            help: "Trace file of form 2, as trace writes it",
             shape: Shape::File,
         }],
     },
     Word {
         verb: Verb::Log,
         name: "log",
-        about: "Run a script's schedule or a trace's events, and tell what each changed",
+        about: "Run a script or a trace, and print what each event changes",
         after: LOGGED,
         operands: &[
             RUN,
             Operand {
                 name: "M",
-                help: "The first event to tell of; where left out, that is event 0",
+                help: "First event to print: 0 to 4294967295, default 0",
                 shape: Shape::Number("from"),
             },
             Operand {
                 name: "N",
-                help: "The event to end before; where left out, all the rest are told",
+                help: "Event to stop before: 0 to 4294967295, default all",
                 shape: Shape::Number("to"),
             },
         ],
@@ -227,18 +246,18 @@ pub const WORDS: &[Word] = &[
     Word {
         verb: Verb::Explain,
         name: "explain",
-        about: "Run a script's schedule or a trace's events, and tell what went wrong, and when",
+        about: "Run a script or a trace, and report what went wrong, and when",
         after: EXPLAINED,
         operands: &[
             RUN,
             Operand {
                 name: "KIND",
-                help: "The findings of this kind alone",
+                help: "Report only findings of this kind, default all",
                 shape: Shape::Kind,
             },
             Operand {
                 name: "json",
-                help: "Write them as JSON",
+                help: "Print the findings as JSON, default text",
                 shape: Shape::Flag("json"),
             },
         ],
@@ -246,23 +265,23 @@ pub const WORDS: &[Word] = &[
     Word {
         verb: Verb::Timeline,
         name: "timeline",
-        about: "Draw what a script's schedule or a trace's events did, moment by moment",
+        about: "Run a script or a trace, and draw it over time",
         after: DRAWN,
         operands: &[
             RUN,
             Operand {
                 name: "OUT",
-                help: "Where the picture is written to: a name that ends in .html or .json",
+                help: "File to write: an HTML page (.html) or trace events (.json)",
                 shape: Shape::File,
             },
             Operand {
                 name: "M",
-                help: "The first event to draw; where left out, that is event 0",
+                help: "First event to draw: 0 to 4294967295, default 0",
                 shape: Shape::Number("from"),
             },
             Operand {
                 name: "N",
-                help: "The event to end before; where left out, all the rest are drawn",
+                help: "Event to stop before: 0 to 4294967295, default all",
                 shape: Shape::Number("to"),
             },
         ],
@@ -270,7 +289,7 @@ pub const WORDS: &[Word] = &[
     Word {
         verb: Verb::Live,
         name: "live",
-        about: "Run a script's threads side by side, and answer commands from standard input",
+        about: "Run a script's threads in parallel, then read debugger commands from standard input",
         after: LIVE,
         operands: &[
             SCRIPT,
@@ -278,7 +297,7 @@ pub const WORDS: &[Word] = &[
             WORKERS,
             Operand {
                 name: "OUT",
-                help: "Where the trace of the run is written to",
+                help: "Trace file to write, default none",
                 shape: Shape::Named("trace"),
             },
         ],
@@ -286,20 +305,20 @@ pub const WORDS: &[Word] = &[
     Word {
         verb: Verb::Serve,
         name: "serve",
-        about: "Run a script's threads side by side, and answer commands of many clients meanwhile",
+        about: "Run a script's threads in parallel, and serve debugger commands over TCP",
         after: SERVE,
         operands: &[
             SCRIPT,
             Operand {
                 name: "P",
-                help: "The port to listen on, 1 to 65535",
+                help: "Port to listen on: 1 to 65535",
                 shape: Shape::Port,
             },
             TURNS,
             WORKERS,
             Operand {
                 name: "C",
-                help: "How many sessions to end after, 1 to 1000000; where left out, it goes on",
+                help: "Number of sessions to stop after: 1 to 1000000, default never",
                 shape: Shape::Number("clients"),
             },
         ],

@@ -1,17 +1,15 @@
-//! The program's words.
+//! Reads the words of the command line.
 ghost use Rattle.std.specs.Prelude.{◌↔◌, IsTrue, IfOk, IfNone};
 ghost use Rattle.jobs.specs.Jobs.{LosesScript, IsInRange, AreInRange, AreClients};
 
-use crate::table::{FORMS, KINDS, Operand, Shape, Verb, WORDS, Word};
+use crate::table::{FORMS, KINDS, OPTIONS, Operand, Shape, Verb, WORDS, Word};
 use crate::task::{Form, Job};
 use crate::version::VERSION;
 use clap::error::ErrorKind;
 use clap::{Arg, ArgAction, ArgMatches, Command, Error, value_parser};
 use std::alloc::{AllocError, Global};
 
-const EXAMPLE: &str = "Example: echo where | uringwalk walk examples/one_nop.json";
-
-const ONTO_SCRIPT: &str = "OUT is SCRIPT's own file: the trace would take the script's place";
+const ONTO_SCRIPT: &str = "OUT is SCRIPT's own file: the trace would overwrite the script";
 
 /// The most turns that an actor of a live run makes.
 const MOST_TURNS: u32 = 1000000;
@@ -28,14 +26,13 @@ const DEFAULT_WORKERS: u32 = 2;
 /// The most sessions after which a server ends.
 const MOST_SESSIONS: u32 = 1000000;
 
-const BEYOND_TURNS: &str = "invalid value for '--turns <N>': a number from 1 to 1000000 is wanted";
+const BEYOND_TURNS: &str = "invalid value for '--turns <N>': it must be 1 to 1000000";
 
-const BEYOND_WORKERS: &str = "invalid value for '--kernel <Q>': a number from 1 to 8 is wanted";
+const BEYOND_WORKERS: &str = "invalid value for '--kernel <Q>': it must be 1 to 8";
 
-const BEYOND_PORTS: &str = "invalid value for '--port <P>': a number from 1 to 65535 is wanted";
+const BEYOND_PORTS: &str = "invalid value for '--port <P>': it must be 1 to 65535";
 
-const BEYOND_SESSIONS: &str =
-    "invalid value for '--clients <C>': a number from 1 to 1000000 is wanted";
+const BEYOND_SESSIONS: &str = "invalid value for '--clients <C>': it must be 1 to 1000000";
 
 // What may follow a word, as clap takes it.
 fn arg_of<'a>(alloc: Global, operand: &'a Operand) -> Arg<'a> {
@@ -241,7 +238,7 @@ fn program<'a>(alloc: Global) -> Result<Command<'a>, AllocError> {
         .version(VERSION)
         .disable_version_flag(true)
         .about("A reversible debugger for io_uring programs")
-        .after_help(EXAMPLE)
+        .after_help(OPTIONS)
         .subcommand_required(true)
         .arg(version_option(alloc))?;
     for word in WORDS {

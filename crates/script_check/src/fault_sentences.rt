@@ -1,6 +1,7 @@
-//! Sentences about the faults of a script: what stands there, and what may.
+//! Sentences about the faults of a script: the value that is there, and what is allowed.
 
 use crate::document::{shown, value_at};
+use crate::entry_names::{odd_member, odd_value};
 use crate::ranges::range;
 use script::items::{is_entry_key, is_object_key, is_script_key};
 use script::{Key, Path, ScriptFault};
@@ -16,19 +17,19 @@ const EVENT: &str =
 const OBJECT: &str =
     "an object is {\"name\": N, \"file\": \"hex\"}, {\"name\": N, \"pipe\": capacity} or {\"name\": N, \"eventfd\": number}";
 
-const PIECE: &str = "a piece of memory is [address, \"hex\"], with two hex digits a byte";
+const PIECE: &str = "a piece of memory is [address, \"hex\"], with two hex digits per byte";
 
 const DESCRIPTOR: &str =
-    "a descriptor is a text: an object's name, of a pipe with :r or :w behind it";
+    "a descriptor is a string: an object's name, and for a pipe :r or :w after it";
 
-// What an instruction with a word is.
+// Returns the form of an instruction with a word.
 fn instruction_of_word(word: &str) -> &'static str {
     match word {
         "put" => {
             "a put is [\"put\", slot, entry], where an entry is an object of whole numbers, or 128 hex digits"
         }
         "push" => "a push is [\"push\", slot]",
-        "store" => "a store is [\"store\", address, \"hex\"], with two hex digits a byte",
+        "store" => "a store is [\"store\", address, \"hex\"], with two hex digits per byte",
         "enter" => "an enter is [\"enter\", to_submit, min_complete, flags]",
         "reap" => "a reap is [\"reap\"]",
         "close" => "a close is [\"close\", fd]",
@@ -36,7 +37,7 @@ fn instruction_of_word(word: &str) -> &'static str {
     }
 }
 
-// What an event with a word is.
+// Returns the form of an event with a word.
 fn event_of_word(word: &str) -> &'static str {
     match word {
         "step" => "a step is [\"step\", thread]",
@@ -52,7 +53,7 @@ fn event_of_word(word: &str) -> &'static str {
     }
 }
 
-/// The word with which an instruction or an event begins.
+/// Returns the word with which an instruction or an event begins.
 pub(crate) fn word_of(value: &Value) -> &str {
     match value.get(0) {
         Some(first) => first.as_str().unwrap_or(""),
@@ -60,7 +61,7 @@ pub(crate) fn word_of(value: &Value) -> &str {
     }
 }
 
-/// What may stand at a key.
+/// Returns the form of a key's value.
 pub(crate) fn form_of_key(key: Key) -> &'static str {
     match key {
         Key::Document => "a script is an object",
@@ -76,7 +77,7 @@ pub(crate) fn form_of_key(key: Key) -> &'static str {
     }
 }
 
-// What may stand at an item of a key.
+// Returns the form of an item of a key.
 fn form_of_item(key: Key) -> &'static str {
     match key {
         Key::Memory => PIECE,
@@ -96,7 +97,7 @@ fn form_of(path: Path, value: &Value) -> &'static str {
     }
 }
 
-// The first key of an object that fails a test of an entry's keys, or of an object's.
+// Returns the first key of an object that isn't one of an entry, or of an object of a script.
 fn odd_key(value: &Value, is_entry: bool) -> Option<&str> {
     for key in value.as_object()?.keys() {
         let known = if is_entry {
@@ -111,7 +112,7 @@ fn odd_key(value: &Value, is_entry: bool) -> Option<&str> {
     None
 }
 
-// The entry of a put.
+// Returns the entry of a put.
 fn entry_of(instruction: &Value) -> Option<&Value> {
     if word_of(instruction) == "put" {
         instruction.get(2)
@@ -120,7 +121,7 @@ fn entry_of(instruction: &Value) -> Option<&Value> {
     }
 }
 
-// The key of an item that it may not have.
+// Returns the first unknown key of an item.
 fn odd_key_at(path: Path, value: &Value) -> Option<&str> {
     match (path.key, path.item, path.inner) {
         (Key::Threads, _, Some(_)) => odd_key(entry_of(value)?, true),
@@ -129,7 +130,7 @@ fn odd_key_at(path: Path, value: &Value) -> Option<&str> {
     }
 }
 
-/// Whether a key is none of a script.
+/// Returns whether a key isn't one of a script.
 pub(crate) fn is_unknown(key: &Value) -> bool {
     match key.as_str() {
         Some(word) => !is_script_key(word),
@@ -137,24 +138,32 @@ pub(crate) fn is_unknown(key: &Value) -> bool {
     }
 }
 
-/// What is told of a key that a script may not have.
+/// Returns the sentence of an unknown key of a script.
 pub(crate) fn unknown_key(alloc: Global, key: &Value) -> Result<String, AllocError> {
     let key = shown(alloc, key)?;
     format!(in alloc;
-        "{key} is no key of a script: its keys are entries, cq, sqpoll, submit_all, base, memory, objects, fds, threads and schedule"
+        "{key} is not a key of a script: its keys are entries, cq, sqpoll, submit_all, base, memory, objects, fds, threads and schedule"
     )
 }
 
-// Of an entry's key, or of an object's.
+// Returns the sentence of an unknown key of an entry, or of an object.
 fn unknown_inner_key(alloc: Global, path: Path, key: &str) -> Result<String, AllocError> {
     let key = shown(alloc, &Value::String(String::from_str(alloc, key)?))?;
     match path.key {
         Key::Threads => format!(in alloc;
-            "{key} is no key of an entry: its keys are op, flags, ioprio, fd, off, addr, len, opflags and ud"
+            "{key} is not a key of an entry: its keys are op, flags, ioprio, fd, off, addr, len, opflags and ud"
         ),
         _ => format!(in alloc;
-            "{key} is no key of an object: its keys are name, and file, pipe or eventfd"
+            "{key} is not a key of an object: its keys are name, and file, pipe or eventfd"
         ),
+    }
+}
+
+// Returns the first value of an entry that isn't a whole number, and its key.
+fn odd_member_at(path: Path, value: &Value) -> Option<(&'static str, &Value)> {
+    match (path.key, path.inner) {
+        (Key::Threads, Some(_)) => odd_member(entry_of(value)?),
+        _ => None,
     }
 }
 
@@ -166,12 +175,15 @@ fn shape(alloc: Global, path: Path, value: Option<&Value>) -> Result<String, All
     if let Some(key) = odd_key_at(path, value) {
         return unknown_inner_key(alloc, path, key);
     }
-    let stands = shown(alloc, value)?;
+    if let Some((key, value)) = odd_member_at(path, value) {
+        return odd_value(alloc, key, value);
+    }
+    let found = shown(alloc, value)?;
     let form = form_of(path, value);
-    format!(in alloc; "{stands}, but {form}")
+    format!(in alloc; "{found}, but {form}")
 }
 
-// What there may be of a thing, and how much.
+// Returns the limit of what a path names.
 fn most_of(path: Path) -> &'static str {
     match (path.key, path.item, path.inner) {
         (Key::Memory, _, _) => "a piece of memory has at most 65536",
@@ -185,7 +197,7 @@ fn most_of(path: Path) -> &'static str {
     }
 }
 
-// What there is too much of.
+// Returns the noun for what exceeds its limit.
 fn thing_of(path: Path) -> &'static str {
     match (path.key, path.item, path.inner) {
         (Key::Objects, None, _) => "objects",
@@ -197,12 +209,12 @@ fn thing_of(path: Path) -> &'static str {
     }
 }
 
-// How many bytes a text writes in hex.
+// Returns how many bytes a text of hex digits has.
 fn bytes_of(text: Option<&Value>) -> Option<usize> {
     Some(text?.as_str()?.len() / 2)
 }
 
-// How much of it there is.
+// Returns how many of them there are.
 fn count_of(path: Path, value: &Value) -> Option<usize> {
     match (path.key, path.item, path.inner) {
         (Key::Memory, Some(_), _) => bytes_of(value.get(1)),
@@ -222,7 +234,7 @@ fn limit(alloc: Global, path: Path, value: Option<&Value>) -> Result<String, All
     format!(in alloc; "{count} {things}, but {most}")
 }
 
-/// What is told of a fault of a script's JSON value.
+/// Returns the sentence of a fault of a script's JSON value.
 pub(crate) fn sentence(
     alloc: Global,
     document: &Value,
@@ -232,7 +244,7 @@ pub(crate) fn sentence(
         ScriptFault::Shape(path) => shape(alloc, path, value_at(document, path)),
         ScriptFault::Range(path) => range(alloc, document, path),
         ScriptFault::Limit(path) => limit(alloc, path, value_at(document, path)),
-        ScriptFault::NotJson => String::from_str(alloc, "it is no JSON value"),
+        ScriptFault::NotJson => String::from_str(alloc, "it is not JSON"),
         ScriptFault::Memory => Err(AllocError),
     }
 }

@@ -1,11 +1,14 @@
-//! Whether a script can be read and run: its faults in sentences, with line and column.
+//! Checks whether a script can be read and run, and reports its faults in sentences, with line and
+//! column.
 #![tactic(auto)]
 
 mod checking;
 mod document;
+mod entry_names;
 mod fault_sentences;
 mod further;
 mod locating;
+mod not_json;
 mod ranges;
 mod refusals;
 mod report;

@@ -1,4 +1,4 @@
-//! Where something stands in a JSON text: lines and columns.
+//! Lines and columns in a JSON text.
 
 use crate::walk::{Begins, Walk, string_length};
 use script::{Key, Path};
@@ -12,19 +12,42 @@ pub(crate) struct Position {
     pub column: usize,
 }
 
-/// Where the byte at an offset stands.
-pub(crate) fn position_of(text: &[u8], offset: usize) -> Position {
-    let mut line = 1usize;
-    let mut column = 1usize;
-    for byte in &text[..offset.min(text.len())] {
-        if *byte == b'\n' {
-            line = line.saturating_add(1);
-            column = 1;
+impl Position {
+    // Returns the position after a byte.
+    fn after(self, byte: u8) -> Position {
+        if byte == b'\n' {
+            Position {
+                line: self.line.saturating_add(1),
+                column: 1,
+            }
         } else {
-            column = column.saturating_add(1);
+            Position {
+                line: self.line,
+                column: self.column.saturating_add(1),
+            }
         }
     }
-    Position { line, column }
+}
+
+/// Returns the position of the byte at an offset.
+pub(crate) fn position_of(text: &[u8], offset: usize) -> Position {
+    let mut position = Position { line: 1, column: 1 };
+    for byte in &text[..offset.min(text.len())] {
+        position = position.after(*byte);
+    }
+    position
+}
+
+/// Returns the offset of the byte at a line and a column, or the text's length if there is none.
+pub(crate) fn offset_at(text: &[u8], line: usize, column: usize) -> usize {
+    let mut before = Position { line: 1, column: 1 };
+    for (offset, byte) in text.iter().enumerate() {
+        if before.line == line && before.column == column {
+            return offset;
+        }
+        before = before.after(*byte);
+    }
+    text.len()
 }
 
 /// The word of a key.

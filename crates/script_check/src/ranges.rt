@@ -1,22 +1,23 @@
-//! Sentences about numbers that are out of their range, and names that aren't there.
+//! Sentences about numbers that are out of their range, and unknown names.
 
 use crate::document::{shown, value_at};
 use crate::fault_sentences::{form_of_key, word_of};
 use scenario::{is_name, ring_size};
 use script::{Key, Path};
+use sentences::Counted;
 use serde_json::Value;
 use std::alloc::{AllocError, Global};
 
-/// The most places that a submission ring has.
+/// The largest size of a submission ring.
 const MOST_ENTRIES: u32 = 4096;
 
-/// The numbers of descriptors, those that name none among them.
+/// The range of descriptors. Negative ones name none.
 const DESCRIPTORS: &str = "-2147483648 to 2147483647";
 
-/// The greatest number of an eventfd.
+/// The largest counter of an eventfd.
 const LARGEST_COUNTER: u64 = 18446744073709551614;
 
-/// The keys of an entry with their greatest number, but for fd, which is signed.
+/// The keys of an entry with their largest number, except fd, which is signed.
 const ENTRY_KEYS: [(&str, u64); 8] = [
     ("op", 255),
     ("flags", 255),
@@ -28,7 +29,7 @@ const ENTRY_KEYS: [(&str, u64); 8] = [
     ("ud", u64::MAX),
 ];
 
-// A number of a script that stands in its range.
+// Returns a number of a script if it is in its range.
 fn number_within(value: Option<&Value>, low: u64, high: u64) -> Option<u64> {
     let number = value?.as_u64()?;
     if low <= number && number <= high {
@@ -38,7 +39,7 @@ fn number_within(value: Option<&Value>, low: u64, high: u64) -> Option<u64> {
     }
 }
 
-// What a script says of entries, if that is right.
+// Returns a script's number of entries, if it is in its range.
 fn entries_of(document: &Value) -> Option<u32> {
     let entries = number_within(document.get("entries"), 1, 4096)?;
     u32::try_from(entries).ok()
@@ -50,7 +51,7 @@ fn completion_ring(alloc: Global, document: &Value, cq: &Value) -> Result<String
         (Some(_), Some(entries)) => {
             let size = ring_size(entries);
             format!(in alloc;
-                "{stands}, but the completion ring has no fewer places than the submission ring, which has {size} (entries {entries})"
+                "{stands}, but the completion ring can't be smaller than the submission ring, whose size is {size} (entries {entries})"
             )
         }
         _ => {
@@ -60,20 +61,20 @@ fn completion_ring(alloc: Global, document: &Value, cq: &Value) -> Result<String
     }
 }
 
-// What is wrong with an object's name, if its number is right.
+// Returns what is wrong with an object's name, if its number is right.
 fn name(alloc: Global, object: &Value) -> Result<String, AllocError> {
     let Some(name) = object.get("name") else {
         return String::from_str(alloc, "it has no name");
     };
     let stands = shown(alloc, name)?;
     if is_name(name.as_str().unwrap_or("").as_bytes()) {
-        format!(in alloc; "name {stands}, but an object before it has that name")
+        format!(in alloc; "name {stands}, but an earlier object has that name")
     } else {
-        format!(in alloc; "name {stands}, but a name is 1 to 16 of a to z, 0 to 9 and _")
+        format!(in alloc; "name {stands}, but a name is 1 to 16 characters of a to z, 0 to 9 and _")
     }
 }
 
-// What is wrong with an object: its number, or its name.
+// Returns what is wrong with an object: its number, or its name.
 fn object(alloc: Global, object: &Value) -> Result<String, AllocError> {
     if let Some(capacity) = object.get("pipe") {
         if number_within(Some(capacity), 1, 65536).is_none() {
@@ -85,14 +86,14 @@ fn object(alloc: Global, object: &Value) -> Result<String, AllocError> {
         if number_within(Some(number), 0, LARGEST_COUNTER).is_none() {
             let stands = shown(alloc, number)?;
             return format!(in alloc;
-                "eventfd {stands}, but an eventfd's number is 0 to {LARGEST_COUNTER}"
+                "eventfd {stands}, but an eventfd's counter is 0 to {LARGEST_COUNTER}"
             );
         }
     }
     name(alloc, object)
 }
 
-// What is wrong with an entry's numbers.
+// Returns what is wrong with an entry's numbers.
 fn entry(alloc: Global, entry: &Value) -> Result<String, AllocError> {
     for (key, most) in ENTRY_KEYS {
         if let Some(number) = entry.get(key) {
@@ -111,7 +112,7 @@ fn entry(alloc: Global, entry: &Value) -> Result<String, AllocError> {
     }
 }
 
-// What is wrong with a put: its slot, or its entry.
+// Returns what is wrong with a put: its slot, or its entry.
 fn put(
     alloc: Global,
     document: &Value,
@@ -124,26 +125,27 @@ fn put(
         return entry(alloc, written);
     }
     let stands = shown(alloc, slot)?;
+    let slots = Counted::slots(u64::from(size));
     match entries {
         Some(entries) => format!(in alloc;
-            "slot {stands}, but the ring has {size} slots (entries {entries})"
+            "slot {stands}, but the ring has {slots} (entries {entries})"
         ),
-        None => format!(in alloc; "slot {stands}, but a ring has at most {size} slots"),
+        None => format!(in alloc; "slot {stands}, but a ring has at most {slots}"),
     }
 }
 
-// What the numbers of an instruction or of an event with this word are.
+// Returns the ranges of an instruction or an event with a word.
 fn range_of_word(word: &str) -> &'static str {
     match word {
-        "store" => "its bytes lie within addresses 0 to 65535",
+        "store" => "its bytes must be within addresses 0 to 65535",
         "close" => "a descriptor is -2147483648 to 2147483647",
         "tick" => "nanoseconds are 0 to 18446744073709551615",
-        "finish" => "a row is 0 to 4294967295, and a short end moves 1 to 4294967295 bytes",
+        "finish" => "a row is 0 to 4294967295, and a short transfer moves 1 to 4294967295 bytes",
         _ => "its numbers are 0 to 4294967295",
     }
 }
 
-// What is wrong with an instruction or an event.
+// Returns what is wrong with an instruction or an event.
 fn words(alloc: Global, document: &Value, value: &Value) -> Result<String, AllocError> {
     let word = word_of(value);
     if word == "put" {
@@ -156,7 +158,7 @@ fn words(alloc: Global, document: &Value, value: &Value) -> Result<String, Alloc
     format!(in alloc; "{stands}, but {wanted}")
 }
 
-// The sentence of a key that has a number.
+// Returns the sentence of a key with a number.
 fn number(alloc: Global, key: Key, value: &Value) -> Result<String, AllocError> {
     let stands = shown(alloc, value)?;
     let form = form_of_key(key);
@@ -165,17 +167,17 @@ fn number(alloc: Global, key: Key, value: &Value) -> Result<String, AllocError> 
 
 fn piece(alloc: Global, value: &Value) -> Result<String, AllocError> {
     let stands = shown(alloc, value)?;
-    format!(in alloc; "{stands}, but its bytes lie within addresses 0 to 65535")
+    format!(in alloc; "{stands}, but its bytes must be within addresses 0 to 65535")
 }
 
 fn descriptor(alloc: Global, value: &Value) -> Result<String, AllocError> {
     let stands = shown(alloc, value)?;
     format!(in alloc;
-        "{stands}, but no object has such an end: a file or an eventfd is named by its name, the ends of a pipe p by p:r and p:w"
+        "{stands}, but there is no such object or end: a file or an eventfd has its name, a pipe p has p:r and p:w"
     )
 }
 
-/// What is told of a fault of a range at a path.
+/// Returns the sentence of a value that is out of its range.
 pub(crate) fn range(alloc: Global, document: &Value, path: Path) -> Result<String, AllocError> {
     let Some(value) = value_at(document, path) else {
         return String::from_str(alloc, "it is missing");

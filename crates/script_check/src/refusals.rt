@@ -1,12 +1,12 @@
-//! Sentences about events that are refused: why, and what would let them happen.
+//! Sentences about events that are refused: why, and what must happen first.
 
-use entries::{IORING_SQ_CQ_OVERFLOW, Phase, Row};
+use entries::{EINVAL, IORING_SQ_CQ_OVERFLOW, Phase, Row};
 use links_drains::is_guard;
 use machine::{Event, Refusal, Setup, State, ring_size};
 use opcodes::{Choice, is_timer};
 use places::{Place, Stage, Value};
 use script::EventText;
-use sentences::{RowName, why_unfinished};
+use sentences::{Counted, ResultName, RowName, Unmodelled, is_modelled, why_unfinished};
 use std::alloc::{AllocError, Global};
 
 /// The most rows of a run.
@@ -17,7 +17,7 @@ const WORD: u64 = 0xffff_ffff;
 
 type Told = Result<String, AllocError>;
 
-// A row, if it is there.
+// Returns a row, if it exists.
 fn row_at(state: &State, number: u32) -> Option<Row> {
     match state.value(Place::Request(number)) {
         Some(Value::Requested(row)) => Some(row),
@@ -25,7 +25,7 @@ fn row_at(state: &State, number: u32) -> Option<Row> {
     }
 }
 
-// The number that stands in a place, 0 where none does.
+// Returns the number in a place, or 0 if it has none.
 fn number_at(state: &State, place: Place) -> u64 {
     match state.value(place) {
         Some(Value::Number(number)) => number,
@@ -33,7 +33,7 @@ fn number_at(state: &State, place: Place) -> u64 {
     }
 }
 
-// How many rows there are.
+// Returns how many rows there are.
 fn row_count(state: &State) -> u32 {
     for number in 0..MOST_ROWS {
         if row_at(state, number).is_none() {
@@ -43,7 +43,7 @@ fn row_count(state: &State) -> u32 {
     MOST_ROWS
 }
 
-// How many wait between the two words of a ring (io_uring(7)).
+// Returns how many entries or completions a ring has, by its head and its tail (io_uring(7)).
 fn waiting(state: &State, head: Place, tail: Place) -> u64 {
     number_at(state, tail).wrapping_sub(number_at(state, head)) & WORD
 }
@@ -52,12 +52,12 @@ fn completions_waiting(state: &State) -> u64 {
     waiting(state, Place::CompletionHead, Place::CompletionTail)
 }
 
-// What brings completions into the ring. One that is posted while others are kept goes behind those.
+// Returns what adds completions to the ring. While the backlog has some, new ones are added to it.
 fn remedy_for_completions(state: &State) -> &'static str {
     if number_at(state, Place::SubmissionFlags) & IORING_SQ_CQ_OVERFLOW as u64 == 0 {
-        "requests must end first"
+        "requests must complete first"
     } else {
-        "some are kept in the backlog, which an enter with GETEVENTS (flags 1) moves into the ring"
+        "the backlog has some, which an enter with IORING_ENTER_GETEVENTS (flags 1) flushes into the ring"
     }
 }
 
@@ -69,15 +69,13 @@ fn no_such_thread(alloc: Global, setup: &Setup) -> Told {
 }
 
 fn full_ring(alloc: Global, setup: &Setup) -> Told {
-    let size = ring_size(setup.entries);
+    let entries = Counted::entries(u64::from(ring_size(setup.entries)));
     let taker = if setup.sqpoll {
         "a take of the poller"
     } else {
         "an enter that submits"
     };
-    format!(in alloc;
-        "all {size} places of the submission ring wait to be taken: {taker} must come first"
-    )
+    format!(in alloc; "the submission ring is full, with {entries}: {taker} must come first")
 }
 
 fn still_waiting(alloc: Global, state: &State, thread: u32) -> Told {
@@ -85,10 +83,11 @@ fn still_waiting(alloc: Global, state: &State, thread: u32) -> Told {
         Some(Value::Staged(Stage::Waiting(_, wanted))) => wanted,
         _ => 0,
     };
-    let there = completions_waiting(state);
+    let wanted = Counted::completions(u64::from(wanted));
+    let ready = completions_waiting(state);
     let remedy = remedy_for_completions(state);
     format!(in alloc;
-        "the thread waits in its enter: of {wanted} completions that it waits for, the ring has {there}: {remedy}"
+        "the thread waits in its enter for {wanted}, and the ring has {ready}: {remedy}"
     )
 }
 
@@ -97,12 +96,12 @@ fn empty_ring(alloc: Global, state: &State) -> Told {
     format!(in alloc; "the thread would reap, and the completion ring is empty: {remedy}")
 }
 
-// A step that is refused.
+// Returns why a step is refused.
 fn step(alloc: Global, state: &State, setup: &Setup, thread: u32, refusal: Refusal) -> Told {
     match refusal {
         Refusal::NoSuchThread => no_such_thread(alloc, setup),
         Refusal::ThreadDone => {
-            String::from_str(alloc, "the thread has done its last instruction")
+            String::from_str(alloc, "the thread has executed its last instruction")
         }
         Refusal::SqFull => full_ring(alloc, setup),
         Refusal::StillWaiting => still_waiting(alloc, state, thread),
@@ -116,29 +115,39 @@ fn too_many(alloc: Global) -> Told {
 }
 
 fn no_such_row(alloc: Global, state: &State) -> Told {
-    let count = row_count(state);
+    let rows = Counted::rows(u64::from(row_count(state)));
     format!(in alloc;
-        "there is no such row: rows are numbered from 0 as entries are taken, and so far {count} were"
+        "there is no such row: rows are numbered from 0 as entries are submitted, and so far there are {rows}"
     )
 }
 
-// Why a row isn't where an event wants it: it isn't of the kind, or it has come too far, or not far
-// enough.
+// Returns why an event doesn't fit a row's phase, or its opcode.
 fn wrong_phase(alloc: Global, name: RowName, row: &Row, event: Event) -> Told {
     match (event, row.phase) {
         (Event::Finish(_, _), _) if is_timer(row.entry.opcode) => {
-            format!(in alloc; "row {name} ends by expire")
+            format!(in alloc; "row {name} completes by expire")
         }
         (Event::Expire(_), _) if !is_timer(row.entry.opcode) => {
-            format!(in alloc; "row {name} ends by finish")
+            format!(in alloc; "row {name} completes by finish")
         }
-        (_, Phase::Ended(res)) => format!(in alloc; "row {name} has ended, with {res}"),
-        (_, Phase::Issued) => format!(in alloc; "row {name} was issued already"),
+        (_, Phase::Ended(res)) => completed(alloc, name, row, res),
+        (_, Phase::Issued) => format!(in alloc; "row {name} is already issued"),
         (_, Phase::Queued) if is_guard(row) => {
             format!(in alloc; "row {name} is queued: it is issued with its target")
         }
         (_, Phase::Queued) => format!(in alloc; "row {name} is queued: issue it first"),
     }
+}
+
+// Returns that a row has completed, with its result; of an opcode that isn't modelled, also that.
+fn completed(alloc: Global, name: RowName, row: &Row, res: i32) -> Told {
+    let result = ResultName(res);
+    let opcode = row.entry.opcode;
+    if res == -EINVAL && !is_modelled(opcode) {
+        let unmodelled = Unmodelled(opcode);
+        return format!(in alloc; "row {name} has completed with {result}; {unmodelled}");
+    }
+    format!(in alloc; "row {name} has completed with {result}")
 }
 
 fn not_eligible(alloc: Global, state: &State, setup: &Setup, number: u32, row: &Row) -> Told {
@@ -147,7 +156,7 @@ fn not_eligible(alloc: Global, state: &State, setup: &Setup, number: u32, row: &
     let remedy = if is_guard(row) {
         "Issue that row."
     } else {
-        "That row must end first."
+        "That row must complete first."
     };
     format!(in alloc; "row {name} can't be issued. {reason} {remedy}")
 }
@@ -155,14 +164,14 @@ fn not_eligible(alloc: Global, state: &State, setup: &Setup, number: u32, row: &
 fn not_ready(alloc: Global, state: &State, setup: &Setup, number: u32, row: &Row) -> Told {
     let name = RowName::of(number, row);
     let reason = why_unfinished(alloc, setup, state, number)?;
-    format!(in alloc; "row {name} can't end. {reason} That must come first.")
+    format!(in alloc; "row {name} can't complete. {reason} That must come first.")
 }
 
 fn not_due(alloc: Global, state: &State, name: RowName, row: &Row) -> Told {
     let clock = number_at(state, Place::Clock);
     match row.deadline {
         Some(deadline) if deadline > u128::from(u64::MAX) => format!(in alloc;
-            "row {name} is due at {deadline}, behind the end of the clock"
+            "row {name} is due at {deadline}, after the end of the clock"
         ),
         Some(deadline) => {
             let left = deadline.saturating_sub(u128::from(clock));
@@ -176,17 +185,20 @@ fn not_due(alloc: Global, state: &State, name: RowName, row: &Row) -> Told {
 
 fn bad_choice(alloc: Global, name: RowName, choice: Choice) -> Told {
     match choice {
-        Choice::Full => format!(in alloc; "row {name} can't end"),
-        Choice::Short(bytes) => format!(in alloc;
-            "row {name} can't end with {bytes} bytes: only a READ or a WRITE of a file can end short, with fewer bytes than it would move"
-        ),
+        Choice::Full => format!(in alloc; "row {name} can't complete"),
+        Choice::Short(bytes) => {
+            let bytes = Counted::bytes(u64::from(bytes));
+            format!(in alloc;
+                "row {name} can't complete with {bytes}: only a READ or a WRITE of a file can be short, with fewer bytes than it would transfer"
+            )
+        }
         Choice::Eio => format!(in alloc;
-            "row {name} can't end in EIO: only a READ, a WRITE or an FSYNC of a file can, where nothing else is wrong with it, and no WRITE of 0 bytes"
+            "row {name} can't complete with EIO: only a READ, a WRITE or an FSYNC of a file can, unless it fails with another error or is a WRITE of 0 bytes"
         ),
     }
 }
 
-// An event of a row that is refused.
+// Returns why an event of a row is refused.
 fn of_row(
     alloc: Global,
     state: &State,
@@ -208,19 +220,20 @@ fn of_row(
     }
 }
 
-// A take or a sleep that is refused.
+// Returns why a take or a sleep is refused.
 fn of_poller(alloc: Global, state: &State, refusal: Refusal) -> Told {
     match refusal {
         Refusal::NoPoller => {
-            String::from_str(alloc, "there is no poller: \"sqpoll\": true makes one")
+            String::from_str(alloc, "there is no poller: set \"sqpoll\": true for one")
         }
         Refusal::Asleep => String::from_str(
             alloc,
-            "the poller is asleep: an enter with SQ_WAKEUP (flags 2) wakes it",
+            "the poller is asleep: an enter with IORING_ENTER_SQ_WAKEUP (flags 2) wakes it",
         ),
         Refusal::NotIdle => {
             let waiting = waiting(state, Place::SubmissionHead, Place::SubmissionTail);
-            format!(in alloc; "{waiting} entries wait in the submission ring: take them first")
+            let entries = Counted::entries(waiting);
+            format!(in alloc; "the submission ring has {entries}: take all of them first")
         }
         _ => too_many(alloc),
     }
@@ -229,7 +242,7 @@ fn of_poller(alloc: Global, state: &State, refusal: Refusal) -> Told {
 fn late_tick(alloc: Global, state: &State) -> Told {
     let clock = number_at(state, Place::Clock);
     let end = u64::MAX;
-    format!(in alloc; "the clock is at {clock}, and would pass its end, {end}")
+    format!(in alloc; "the clock is at {clock}, and can't pass {end}")
 }
 
 fn reason(alloc: Global, state: &State, setup: &Setup, event: Event, refusal: Refusal) -> Told {
@@ -243,7 +256,7 @@ fn reason(alloc: Global, state: &State, setup: &Setup, event: Event, refusal: Re
     }
 }
 
-/// What is told of an event that is refused in a state.
+/// Returns the sentence of an event that is refused in a state.
 pub(crate) fn sentence(
     alloc: Global,
     state: &State,

@@ -1,11 +1,12 @@
-//! The lines that tell of a script.
+//! The lines that report what is wrong with a script.
 
 use crate::fault_sentences::{is_unknown, sentence, unknown_key};
 use crate::further::{MOST_FAULTS, faults_of};
 use crate::locating::{Member, key_word, members_of, offset_of, position_of};
+use crate::not_json::no_json;
 use script::items::{item_path, key_path};
 use script::{Key, Path, ScriptFault};
-use serde_json::{Error, Value};
+use serde_json::Value;
 use std::alloc::{AllocError, Global};
 
 /// A script's text, and the name of its file.
@@ -102,19 +103,6 @@ fn path_of(fault: ScriptFault) -> Path {
     }
 }
 
-// The line of a text that is no JSON value.
-fn no_json(alloc: Global, source: Source<'_>, error: &Error) -> Result<String, AllocError> {
-    let name = source.name;
-    let line = error.line();
-    let column = error.column();
-    let reason = if error.is_eof() {
-        "the text ends within its JSON value"
-    } else {
-        "no JSON value goes on like this, or it nests too deep, or a number is too large: look at what stands here, and just before it"
-    };
-    format!(in alloc; "{name}:{line}:{column}: {reason}\n")
-}
-
 fn fault_lines(
     alloc: Global,
     source: Source<'_>,
@@ -149,7 +137,7 @@ pub(crate) fn faults_text(
             if error.is_memory() {
                 return Err(AllocError);
             }
-            no_json(alloc, source, &error)
+            no_json(alloc, source.name, source.text, &error)
         }
     }
 }

@@ -1,6 +1,7 @@
 //! The sentence of a finding, by its kind.
 
 use crate::about::About;
+use crate::counted::Counted;
 use crate::rules::{LINK_TIMEOUT_RULE, TIMEOUT_RULE};
 use crate::run::Run;
 use crate::uses::Standing;
@@ -8,19 +9,20 @@ use crate::{cancels, chains, conflicts, durable, errors, left, matches, rings, u
 use finding_kinds::{Finding, Kind};
 use std::alloc::{AllocError, Global};
 
-const READ_RULE: &str = "A READ or WRITE may move fewer bytes than it asks for (read(2), write(2))";
+const READ_RULE: &str =
+    "A READ or WRITE may transfer fewer bytes than requested (read(2), write(2))";
 
 fn short(alloc: Global, run: &Run<'_>, about: &About) -> Result<String, AllocError> {
     let name = about.name();
     let res = about.result(run);
-    let len = about.row.entry.len;
+    let requested = Counted::bytes(u64::from(about.row.entry.len));
     let reason = errors::reason_of_short(run, about);
-    format!(in alloc; "Row {name} ended with {res} of {len} bytes: {reason}. {READ_RULE}.")
+    format!(in alloc; "Row {name} completed with {res} of {requested}: {reason}. {READ_RULE}.")
 }
 
 fn expired(alloc: Global, about: &About) -> Result<String, AllocError> {
     let name = about.name();
-    format!(in alloc; "Row {name} ended with -62 (ETIME): its time was up {TIMEOUT_RULE}.")
+    format!(in alloc; "Row {name} completed with -62 (ETIME): its time was up {TIMEOUT_RULE}.")
 }
 
 // What became of the target of a LINK_TIMEOUT that expired.
@@ -32,11 +34,11 @@ fn timed_out(alloc: Global, run: &Run<'_>, about: &About) -> Result<String, Allo
     };
     if run.ends_at(target, about.moment) {
         return format!(in alloc;
-            "Row {name} expired and ended its target, row {of}, with -125 (ECANCELED). That tells nothing of what the target waited for, which may be there by now {LINK_TIMEOUT_RULE}."
+            "Row {name} expired and canceled its target, row {of}, with -125 (ECANCELED). What the target waited for may be there by now all the same {LINK_TIMEOUT_RULE}."
         );
     }
     format!(in alloc;
-        "Row {name} expired, but its target, row {of}, was running, and goes on {LINK_TIMEOUT_RULE}."
+        "Row {name} expired, but its target, row {of}, was already running, and continued {LINK_TIMEOUT_RULE}."
     )
 }
 

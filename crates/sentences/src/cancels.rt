@@ -1,7 +1,8 @@
-//! Sentences about cancels and removals that ended nothing.
+//! Sentences about cancels and removals that canceled nothing.
 
 use crate::about::About;
-use crate::names::{OpcodeName, ResultName, RowName};
+use crate::names::{ResultName, RowName};
+use crate::opcode_names::OpcodeName;
 use crate::run::Run;
 use entries::{IORING_ASYNC_CANCEL_FD, Row, Sqe};
 use finding_kinds::MOST_ROWS;
@@ -43,10 +44,10 @@ fn fits_opcode(entry: &Sqe, row: &Row) -> bool {
 // What it finds of rows with the user_data.
 fn what_it_finds(entry: &Sqe) -> &'static str {
     if entry.opcode == Op::PollRemove as u8 {
-        return "POLL_REMOVE finds POLL_ADDs alone";
+        return "POLL_REMOVE finds only POLL_ADDs";
     }
     if entry.opcode == Op::TimeoutRemove as u8 {
-        return "TIMEOUT_REMOVE finds TIMEOUTs alone";
+        return "TIMEOUT_REMOVE finds only TIMEOUTs";
     }
     "ASYNC_CANCEL finds no LINK_TIMEOUT"
 }
@@ -112,7 +113,7 @@ fn reason_of(
     let name = RowName::of(number, row);
     if !fits_opcode(&about.row.entry, row) {
         let finds = what_it_finds(&about.row.entry);
-        return format!(in alloc; "row {name} does not count, as {finds}");
+        return format!(in alloc; "row {name} does not match, as {finds}");
     }
     let ended = match run.times_of(number) {
         Some(times) => times.ended,
@@ -120,12 +121,12 @@ fn reason_of(
     };
     match ended {
         Some(moment) if moment < about.moment => {
-            format!(in alloc; "row {name} had ended by event {moment}")
+            format!(in alloc; "row {name} had completed at event {moment}")
         }
         _ => {
             let operation = OpcodeName(about.row.entry.opcode);
             format!(in alloc;
-                "row {name} was queued still, and {operation} finds issued requests alone"
+                "row {name} was still queued, and {operation} finds only issued requests"
             )
         }
     }
@@ -168,18 +169,18 @@ fn reason_by_descriptor(alloc: Global, run: &Run<'_>, about: &About) -> Result<S
     };
     match queued {
         Some(name) => format!(in alloc;
-            "no issued request held descriptor {fd}; row {name} names it, but was queued still, and ASYNC_CANCEL finds issued requests alone"
+            "no issued request held descriptor {fd}; row {name} names it, but was still queued, and ASYNC_CANCEL finds only issued requests"
         ),
         None => format!(in alloc; "no issued request held descriptor {fd}"),
     }
 }
 
-// What the result of a cancel of all that found nothing says.
+// What the result of a cancel of all says that found nothing.
 fn what_counts(res: i32) -> &'static str {
     if res < 0 {
         return "";
     }
-    ", as it counts what it ended"
+    ", the number of requests that it canceled"
 }
 
 /// A cancel or a removal that found nothing.
@@ -193,7 +194,7 @@ pub(crate) fn not_found(alloc: Global, run: &Run<'_>, about: &About) -> Result<S
     } else {
         reason_by_user_data(alloc, run, about)?
     };
-    format!(in alloc; "Row {name} ended with {told}{count}: {reason} {rule}.")
+    format!(in alloc; "Row {name} completed with {told}{count}: {reason} {rule}.")
 }
 
 /// The first row from a number on that a cancel found as it ended, by its user_data or descriptor.
@@ -230,9 +231,9 @@ fn became(alloc: Global, run: &Run<'_>, number: u32) -> Result<String, AllocErro
     match (ended, run.result(number)) {
         (Some(moment), Some(res)) => {
             let told = ResultName(res);
-            format!(in alloc; "it ended by event {moment} with {told}")
+            format!(in alloc; "it completed at event {moment} with {told}")
         }
-        _ => String::from_str(alloc, "it has not ended"),
+        _ => String::from_str(alloc, "it has not completed"),
     }
 }
 
@@ -240,7 +241,7 @@ fn became(alloc: Global, run: &Run<'_>, number: u32) -> Result<String, AllocErro
 fn advice_of(run: &Run<'_>, number: u32) -> &'static str {
     match run.row(number) {
         Some(row) if row.entry.opcode == Op::Read as u8 || row.entry.opcode == Op::Write as u8 => {
-            ". Until its own completion its buffer is the kernel's"
+            ". Until it completes, its buffer belongs to the kernel"
         }
         _ => "",
     }
@@ -251,14 +252,14 @@ pub(crate) fn too_late(alloc: Global, run: &Run<'_>, about: &About) -> Result<St
     let name = about.name();
     let rule = rule_of(&about.row.entry);
     let Some(number) = next_found(run, about, 0) else {
-        return format!(in alloc; "Row {name} ended with -114 (EALREADY) {rule}.");
+        return format!(in alloc; "Row {name} completed with -114 (EALREADY) {rule}.");
     };
     let Some(of) = run.name(number) else {
-        return format!(in alloc; "Row {name} ended with -114 (EALREADY) {rule}.");
+        return format!(in alloc; "Row {name} completed with -114 (EALREADY) {rule}.");
     };
     let became = became(alloc, run, number)?;
     let advice = advice_of(run, number);
     format!(in alloc;
-        "Row {name} ended with -114 (EALREADY): row {of} was running, and goes on; {became}{advice} {rule}."
+        "Row {name} completed with -114 (EALREADY): row {of} was already running, and continued; {became}{advice} {rule}."
     )
 }

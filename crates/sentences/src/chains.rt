@@ -1,4 +1,4 @@
-//! Sentences about chains that were severed, and rows that were cancelled.
+//! Sentences about chains that were severed, and rows that were canceled.
 
 use crate::about::About;
 use crate::cancels::rule_of;
@@ -44,11 +44,11 @@ pub(crate) fn severed(alloc: Global, run: &Run<'_>, about: &About) -> Result<Str
     let rows = cut_rows(alloc, run, about)?;
     if rows.is_empty() {
         return format!(in alloc;
-            "Row {name} ended with {told}, which breaks its soft link; no later row of its chain was left to end with it {LINK_RULE}."
+            "Row {name} completed with {told}, which broke its soft link; no later row of its chain was left to cancel {LINK_RULE}."
         );
     }
     format!(in alloc;
-        "Row {name} ended with {told}, which breaks its soft link. With it ended, with -125 (ECANCELED): {rows} {LINK_RULE}."
+        "Row {name} completed with {told}, which broke its soft link. It canceled {rows}, with -125 (ECANCELED) {LINK_RULE}."
     )
 }
 
@@ -114,11 +114,11 @@ fn row_of(cause: Cause) -> Option<u32> {
 fn deed_of(cause: Cause) -> &'static str {
     match cause {
         Cause::Chain(_) => " broke its chain",
-        Cause::Target(_) => ", its target, ended first",
-        Cause::Cancel(_) => " cancelled it",
+        Cause::Target(_) => ", its target, completed first",
+        Cause::Cancel(_) => " canceled it",
         Cause::Guard(_) => " expired",
-        Cause::Failure(_) => ", of its chain, failed as it was submitted",
-        Cause::None => "it was cancelled",
+        Cause::Failure(_) => ", in its chain, failed as it was submitted",
+        Cause::None => "it was canceled",
     }
 }
 
@@ -149,9 +149,9 @@ pub(crate) fn canceled(alloc: Global, run: &Run<'_>, about: &About) -> Result<St
     };
     match by {
         Some(by) => format!(in alloc;
-            "Row {name} ended with -125 (ECANCELED): row {by}{deed} {rule}."
+            "Row {name} completed with -125 (ECANCELED): row {by}{deed} {rule}."
         ),
-        None => format!(in alloc; "Row {name} ended with -125 (ECANCELED): {deed} {rule}."),
+        None => format!(in alloc; "Row {name} completed with -125 (ECANCELED): {deed} {rule}."),
     }
 }
 
@@ -162,7 +162,7 @@ pub(crate) fn went_on(alloc: Global, run: &Run<'_>, about: &About) -> Result<Str
     let distance = distance_to_next(run.state, about.number);
     match run.name(about.number.saturating_add(distance)) {
         Some(next) => format!(in alloc;
-            "Row {name} ended with {told}, and its chain goes on with row {next}: its link is a hard one {HARD_RULE}."
+            "Row {name} completed with {told}, and its chain continued with row {next}: its link is a hard one {HARD_RULE}."
         ),
         None => Ok(String::new(alloc)),
     }
@@ -172,12 +172,12 @@ pub(crate) fn went_on(alloc: Global, run: &Run<'_>, about: &About) -> Result<Str
 pub(crate) fn cut_off(alloc: Global, run: &Run<'_>, about: &About) -> Result<String, AllocError> {
     let name = about.name();
     let reason = if !run.setup.submit_all && run.ends_at(about.number, about.moment) {
-        "it failed, and the submission halted there"
+        "it failed, and the submission stopped there"
     } else {
-        "no further entry was taken with it"
+        "no further entry was submitted with it"
     };
     let rule = rule_of_link(Some(about.row));
     format!(in alloc;
-        "Row {name} is linked to the next entry, but is the last of its submission: {reason}. A chain ends with its submission, so what is taken later does not wait for it by this link {rule}."
+        "Row {name} is linked to the next entry, but is the last of its submission: {reason}. A chain ends with its submission, so entries that are submitted later do not wait for it by this link {rule}."
     )
 }

@@ -1,6 +1,7 @@
-//! Sentences about requests that haven't ended, beside what an event did.
+//! Sentences about requests that conflict with what an event did before they completed.
 
 use crate::about::About;
+use crate::counted::Counted;
 use crate::names::RowName;
 use crate::run::Run;
 use machine::Event;
@@ -33,11 +34,11 @@ fn ended_at(run: &Run<'_>, moment: u32) -> Option<RowName> {
 // What wrote into the buffer.
 fn writer(alloc: Global, run: &Run<'_>, about: &About) -> Result<String, AllocError> {
     if let Some(by) = ended_at(run, about.moment) {
-        return format!(in alloc; "row {by} moved bytes");
+        return format!(in alloc; "row {by} transferred bytes");
     }
     match (run.event(about.moment), run.counter(about.moment)) {
         (Some(Event::Step(thread)), Some(counter)) => {
-            format!(in alloc; "thread {thread} stored bytes, instruction {counter},")
+            format!(in alloc; "thread {thread}, instruction {counter}, stored bytes")
         }
         _ => String::from_str(alloc, "bytes were written"),
     }
@@ -53,9 +54,9 @@ pub(crate) fn buffer_in_use(
     let stage = stage(run, about);
     let writer = writer(alloc, run, about)?;
     let address = about.row.entry.addr;
-    let len = about.row.entry.len;
+    let buffer = Counted::bytes(u64::from(about.row.entry.len));
     format!(in alloc;
-        "Row {name} was {stage}, and {writer} into its buffer, {len} bytes from {address} on, in no order with it. Until its own completion its buffer is the kernel's {READ_RULE}."
+        "Row {name} was {stage} as {writer} into its buffer ({buffer} from address {address} on), and nothing orders the two. Until a request completes, its buffer belongs to the kernel {READ_RULE}."
     )
 }
 
@@ -67,7 +68,7 @@ pub(crate) fn unordered(alloc: Global, run: &Run<'_>, about: &About) -> Result<S
         return Ok(String::new(alloc));
     };
     format!(in alloc;
-        "Row {name} was {stage} as row {by} ended, and both go to the same bytes of a file, in no order, one of them a WRITE: which comes first is up to the kernel. Link them, or drain {ORDER_RULE}."
+        "Row {name} was {stage} as row {by} completed. Both access the same bytes of a file, at least one of them is a WRITE, and nothing orders them: which comes first is up to the kernel. Link them, or drain {ORDER_RULE}."
     )
 }
 
@@ -84,7 +85,7 @@ pub(crate) fn shared_position(
         return Ok(String::new(alloc));
     };
     format!(in alloc;
-        "Row {name} was {stage} as row {by} moved the position of descriptor {fd}, at which both begin (offset -1), in no order. Give offsets, or link them {POSITION_RULE}."
+        "Row {name} was {stage} as row {by} moved the position of descriptor {fd}. Both start at this position (offset -1), and nothing orders them. Give offsets, or link them {POSITION_RULE}."
     )
 }
 
@@ -100,6 +101,6 @@ pub(crate) fn fsync_early(
         return Ok(String::new(alloc));
     };
     format!(in alloc;
-        "Row {name} was {stage} as row {by} of its file ended, which came behind it: its bytes are not durable by that. Link them, or drain {SYNC_RULE}."
+        "Row {name} was {stage} as row {by} completed, which syncs the same file and was submitted later: the FSYNC did not make the bytes of this WRITE durable. Link them, or drain {SYNC_RULE}."
     )
 }

@@ -1,5 +1,6 @@
 //! Sentences about files that aren't durable at the end.
 
+use crate::counted::Counted;
 use crate::run::Run;
 use finding_kinds::{differs_at, number_at};
 use places::Place;
@@ -7,7 +8,7 @@ use std::alloc::{AllocError, Global};
 
 const SYNC_RULE: &str = "(fsync(2))";
 
-/// Where a file differs from what the device has of it.
+/// Where a file differs from its durable copy.
 #[derive(Clone, Copy)]
 struct Differing {
     first: u32,
@@ -16,7 +17,7 @@ struct Differing {
 }
 
 impl Differing {
-    // With one byte more, which stands behind the others.
+    // Adds a byte after the others.
     fn with(differing: Option<Differing>, at: u32) -> Differing {
         match differing {
             Some(found) => Differing {
@@ -33,7 +34,7 @@ impl Differing {
     }
 }
 
-// The number in a place of a file at the end.
+// Returns the number in a place of a file at the end.
 fn number(run: &Run<'_>, place: Place) -> u32 {
     match number_at(run.state, place) {
         Some(number) => number.min(65536) as u32,
@@ -41,7 +42,7 @@ fn number(run: &Run<'_>, place: Place) -> u32 {
     }
 }
 
-// Where the bytes of a file differ that has as many as one number, of which the device has another.
+// Returns where a file of `len` bytes differs from its durable copy of `durable` bytes.
 fn find_differing(run: &Run<'_>, object: u32, len: u32, durable: u32) -> Option<Differing> {
     let mut found = None;
     for at in 0..len.max(durable) {
@@ -52,7 +53,7 @@ fn find_differing(run: &Run<'_>, object: u32, len: u32, durable: u32) -> Option<
     found
 }
 
-/// A file of which bytes were written that aren't durable.
+/// Returns the sentence of a file with bytes that aren't durable.
 pub(crate) fn not_durable(alloc: Global, run: &Run<'_>, object: u32) -> Result<String, AllocError> {
     let Some(file) = run.setup.objects.as_slice().get(object as usize) else {
         return Ok(String::new(alloc));
@@ -63,7 +64,9 @@ pub(crate) fn not_durable(alloc: Global, run: &Run<'_>, object: u32) -> Result<S
         return Ok(String::new(alloc));
     };
     let name = String::from_utf8_lossy(alloc, file.name.as_slice())?;
+    let differing = Counted::bytes(u64::from(count));
+    let size = Counted::bytes(u64::from(len));
     format!(in alloc;
-        "The file {name} is not durable. Bytes that the device does not have as they are: {count}, the first at {first}, the last at {last}; the file has {len} bytes, the device {durable}. Only an FSYNC that ends behind a WRITE makes its bytes durable {SYNC_RULE}."
+        "File {name} differs from its durable copy in {differing}, the first at {first}, the last at {last}. The file has {size}, its durable copy {durable}. Only an FSYNC that completes after a WRITE makes its bytes durable {SYNC_RULE}."
     )
 }

@@ -1,11 +1,12 @@
-//! Sentences about requests that ended with an error, or short.
+//! Sentences about requests that completed with an error, or short.
 
 use crate::about::About;
 use crate::names::ResultName;
 use crate::objects::{reason_of_descriptor, reason_of_object};
+use crate::opcode_names::{Unmodelled, is_modelled};
 use crate::rules::ERROR_RULE;
 use crate::run::Run;
-use crate::submitting::reason_of_entry;
+use crate::submitting::{left_out, reason_of_entry};
 use entries::{EBADF, EFAULT, EFBIG, EINVAL, EPIPE, Sqe};
 use machine::Event;
 use opcodes::{Choice, Op};
@@ -21,18 +22,18 @@ const IDLE_CLASS: u16 = 3;
 
 fn word_of_end(res: i32) -> &'static str {
     if res == -EFAULT {
-        return "its buffer leaves memory";
+        return "its buffer extends past the end of memory";
     }
     if res == -EFBIG {
-        return "a file cannot grow so far";
+        return "its offset is past the largest size of a file";
     }
     if res == -EPIPE {
-        return "no descriptor of the pipe's read end is left";
+        return "the pipe has no reader";
     }
     "it could not be carried out"
 }
 
-// What a request met as it was carried out.
+// Returns why a request failed once it was issued.
 fn reason_of_end(
     alloc: Global,
     run: &Run<'_>,
@@ -56,7 +57,7 @@ fn reason(alloc: Global, run: &Run<'_>, about: &About, res: i32) -> Result<Strin
     }
 }
 
-// When in its life it ended.
+// Returns at which stage it completed.
 fn stage(run: &Run<'_>, moment: u32) -> &'static str {
     match run.event(moment) {
         Some(Event::Step(_) | Event::Take(_)) => " as it was submitted",
@@ -65,20 +66,33 @@ fn stage(run: &Run<'_>, moment: u32) -> &'static str {
     }
 }
 
-/// A request that ended with an error.
+// Returns whether a request failed because its opcode isn't modelled. Flags are tested first.
+fn is_of_opcode(about: &About, res: i32) -> bool {
+    res == -EINVAL
+        && !is_modelled(about.row.entry.opcode)
+        && left_out(about.row.entry.flags).is_none()
+}
+
+/// Returns the sentence of a request that completed with an error.
 pub(crate) fn failed(alloc: Global, run: &Run<'_>, about: &About) -> Result<String, AllocError> {
     let name = about.name();
     let res = about.result(run);
-    let told = ResultName(res);
+    let result = ResultName(res);
     let stage = stage(run, about.moment);
+    if is_of_opcode(about, res) {
+        let opcode = Unmodelled(about.row.entry.opcode);
+        return format!(in alloc;
+            "Row {name} completed with {result}{stage}; {opcode} {ERROR_RULE}."
+        );
+    }
     let reason = reason(alloc, run, about, res)?;
-    format!(in alloc; "Row {name} ended with {told}{stage}: {reason} {ERROR_RULE}.")
+    format!(in alloc; "Row {name} completed with {result}{stage}: {reason} {ERROR_RULE}.")
 }
 
-/// Why a transfer moved fewer bytes than it asked for.
+/// Returns why a transfer moved fewer bytes than requested.
 pub(crate) fn reason_of_short(run: &Run<'_>, about: &About) -> &'static str {
     match run.event(about.moment) {
-        Some(Event::Finish(_, Choice::Short(_))) => "the schedule ends it short",
+        Some(Event::Finish(_, Choice::Short(_))) => "the schedule makes it short",
         _ => {
             if about.row.entry.opcode == Op::Read as u8 {
                 "no more could be read"
@@ -89,7 +103,7 @@ pub(crate) fn reason_of_short(run: &Run<'_>, about: &About) -> &'static str {
     }
 }
 
-// The fields that nothing looks at, with their values.
+// Returns the fields that have no effect, with their values.
 fn idle_fields(entry: &Sqe) -> [(&'static str, i64); 4] {
     [
         ("ioprio", i64::from(entry.ioprio)),
@@ -99,7 +113,7 @@ fn idle_fields(entry: &Sqe) -> [(&'static str, i64); 4] {
     ]
 }
 
-// Names those that aren't 0, and says whether they are several.
+// Returns the names of those that aren't 0, and whether there are several.
 fn named_fields(alloc: Global, entry: &Sqe) -> Result<(String, bool), AllocError> {
     let mut text = String::new(alloc);
     let mut are_several = false;
@@ -146,6 +160,6 @@ pub(crate) fn no_effect(alloc: Global, about: &About) -> Result<String, AllocErr
         ""
     };
     format!(in alloc;
-        "Row {name} has {fields}, which {verb} no effect here: no request of this profile looks at {object} (io_uring_enter(2)).{kernel}"
+        "Row {name} has {fields}, which {verb} no effect here: no modelled request uses {object} (io_uring_enter(2)).{kernel}"
     )
 }

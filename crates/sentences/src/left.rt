@@ -1,5 +1,6 @@
-//! Sentences about requests that haven't ended at the end.
+//! Sentences about requests that haven't completed at the end.
 
+use crate::counted::Counted;
 use crate::names::RowName;
 use crate::rules::{LINK_RULE, LINK_TIMEOUT_RULE, TIMEOUT_RULE};
 use crate::run::Run;
@@ -92,7 +93,7 @@ fn held_back(alloc: Global, run: &Run<'_>, number: u32, row: &Row) -> Result<Str
     match name {
         Some(name) => {
             format!(in alloc;
-                "It is queued, and waits behind row {name}, which has not ended {rule}."
+                "It is queued, and waits for row {name}, which has not completed {rule}."
             )
         }
         None => String::from_str(alloc, "It is queued."),
@@ -104,7 +105,7 @@ fn queued_guard(alloc: Global, run: &Run<'_>, row: &Row) -> Result<String, Alloc
     match run.name(row.target.unwrap_or(0)) {
         Some(name) => {
             format!(in alloc;
-                "It is queued, and starts with its target, row {name} {LINK_TIMEOUT_RULE}."
+                "It is queued, and is issued with its target, row {name} {LINK_TIMEOUT_RULE}."
             )
         }
         None => String::from_str(alloc, "It is queued."),
@@ -119,12 +120,12 @@ fn queued(alloc: Global, run: &Run<'_>, number: u32, row: &Row) -> Result<String
         Some(_) => held_back(alloc, run, number, row),
         None => String::from_str(
             alloc,
-            "It is queued, and nothing holds it back: the schedule just ends.",
+            "It is queued and could be issued: the schedule ends before that.",
         ),
     }
 }
 
-// What an issued TIMEOUT lacks of the completions that it waits for beside its time.
+// Returns how many completions an issued TIMEOUT counts to, and how many are missing.
 fn lacking(alloc: Global, run: &Run<'_>, row: &Row) -> Result<String, AllocError> {
     let wanted = row.entry.off;
     if is_guard(row) || wanted == 0 {
@@ -133,8 +134,9 @@ fn lacking(alloc: Global, run: &Run<'_>, row: &Row) -> Result<String, AllocError
     let counted = run
         .number(Place::Counted)
         .saturating_sub(u64::from(row.base));
-    let lacks = wanted.saturating_sub(counted);
-    format!(in alloc; "; it waits for {wanted} completions too, and lacks {lacks}")
+    let missing = wanted.saturating_sub(counted);
+    let wanted = Counted::completions(wanted);
+    format!(in alloc; "; it would also complete after {wanted} ({missing} still missing)")
 }
 
 fn timer(alloc: Global, run: &Run<'_>, number: u32, row: &Row) -> Result<String, AllocError> {
@@ -146,7 +148,10 @@ fn timer(alloc: Global, run: &Run<'_>, number: u32, row: &Row) -> Result<String,
     let lacking = lacking(alloc, run, row)?;
     match run.state.refuses(Event::Expire(number)) {
         Some(_) => format!(in alloc; "It is issued, and its time is not up{lacking} {rule}."),
-        None => String::from_str(alloc, "It is issued and due: the schedule just ends."),
+        None => String::from_str(
+            alloc,
+            "It is issued and due: the schedule ends before it expires.",
+        ),
     }
 }
 
@@ -158,12 +163,12 @@ fn issued(alloc: Global, run: &Run<'_>, number: u32, row: &Row) -> Result<String
         Some(Refusal::NotReady) => waits(alloc, run, row),
         _ => String::from_str(
             alloc,
-            "It is issued, and nothing keeps it from ending: the schedule just ends.",
+            "It is issued and could complete: the schedule ends before that.",
         ),
     }
 }
 
-// Why a row hasn't ended.
+// Returns why a row hasn't completed.
 fn reason(alloc: Global, run: &Run<'_>, number: u32, row: &Row) -> Result<String, AllocError> {
     match row.phase {
         Phase::Queued => queued(alloc, run, number, row),
@@ -171,17 +176,17 @@ fn reason(alloc: Global, run: &Run<'_>, number: u32, row: &Row) -> Result<String
     }
 }
 
-/// A request that hasn't ended.
+/// Returns the sentence of a request that hasn't completed.
 pub(crate) fn unfinished(alloc: Global, run: &Run<'_>, number: u32) -> Result<String, AllocError> {
     let Some(row) = run.row(number) else {
         return Ok(String::new(alloc));
     };
     let name = RowName::of(number, &row);
     let reason = reason(alloc, run, number, &row)?;
-    format!(in alloc; "Row {name} has not ended. {reason}")
+    format!(in alloc; "Row {name} has not completed. {reason}")
 }
 
-/// Why a row of a state hasn't ended, as a sentence: what holds it back, or what it waits for.
+/// Returns why a row of a state hasn't completed, as a sentence: which row it waits for, or what.
 pub fn why_unfinished(
     alloc: Global,
     setup: &Setup,

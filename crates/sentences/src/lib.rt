@@ -1,4 +1,5 @@
-//! Findings of a run, told in sentences; why a request hasn't ended; the names of rows.
+//! Sentences about the findings of a run, and why a request hasn't completed; names of rows and
+//! opcodes.
 #![tactic(auto)]
 
 mod about;
@@ -6,6 +7,7 @@ mod by_kind;
 mod cancels;
 mod chains;
 mod conflicts;
+mod counted;
 mod durable;
 mod errors;
 mod left;
@@ -13,6 +15,7 @@ mod listing;
 mod matches;
 mod names;
 mod objects;
+mod opcode_names;
 mod rings;
 mod rules;
 mod run;
@@ -21,6 +24,8 @@ mod uses;
 mod waiting;
 
 pub use by_kind::sentence;
+pub use counted::Counted;
 pub use left::why_unfinished;
-pub use names::RowName;
+pub use names::{ResultName, RowName};
+pub use opcode_names::{Unmodelled, is_modelled, opcode_name, opcode_of_name};
 pub use run::Run;

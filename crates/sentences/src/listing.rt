@@ -21,7 +21,7 @@ impl Listing {
         }
     }
 
-    /// Adds a row, behind a comma where another stands before it.
+    /// Adds a row, after a comma if it isn't the first.
     pub fn add(&mut self, alloc: Global, run: &Run<'_>, number: u32) -> Result<(), AllocError> {
         self.count = self.count.saturating_add(1);
         if self.count > NAMED {
@@ -37,7 +37,7 @@ impl Listing {
             .push_str(format!(in alloc; "row {name}")?.as_str())
     }
 
-    /// The whole list, with how many more there are than are named.
+    /// Returns the list, and how many more rows there are than it names.
     pub fn finish(self, alloc: Global) -> Result<String, AllocError> {
         let Listing { mut text, count } = self;
         if count > NAMED {

@@ -13,7 +13,7 @@ const ALL_RULE: &str = "(io_uring_prep_cancel(3), IORING_ASYNC_CANCEL_ALL)";
 
 const USER_RULE: &str = "(io_uring_enter(2), user_data)";
 
-// How many rows a cancel found as it ended.
+// Returns how many rows a cancel found as it completed.
 fn count_found(run: &Run<'_>, about: &About) -> u32 {
     let mut count: u32 = 0;
     let mut from = 0;
@@ -27,12 +27,12 @@ fn count_found(run: &Run<'_>, about: &About) -> u32 {
     count
 }
 
-// How all of them are reached.
+// Returns how to cancel all of them.
 fn advice(opcode: u8) -> &'static str {
     if opcode == Op::AsyncCancel as u8 {
-        return "IORING_ASYNC_CANCEL_ALL ends all that wait";
+        return "IORING_ASYNC_CANCEL_ALL cancels all of them that wait";
     }
-    "Give each a user_data of its own"
+    "Give each its own user_data"
 }
 
 /// A cancel or a removal of one request that matched more.
@@ -50,7 +50,7 @@ pub(crate) fn several(alloc: Global, run: &Run<'_>, about: &About) -> Result<Str
     let advice = advice(about.row.entry.opcode);
     let rule = rule_of(&about.row.entry);
     format!(in alloc;
-        "Row {name} ended with {told}: it matched {count} issued requests, and looks at that of the least number alone, row {least}. {advice} {rule}."
+        "Row {name} completed with {told}: it matched {count} issued requests, and acts only on the one with the lowest row number, row {least}. {advice} {rule}."
     )
 }
 
@@ -64,11 +64,11 @@ pub(crate) fn left_running(
     let count = about.result(run);
     let rows = left_rows(alloc, run, about)?;
     format!(in alloc;
-        "Row {name} ended with {count}, as many matches as it ended. What was running goes on: {rows} {ALL_RULE}."
+        "Row {name} completed with {count}, the number of requests that it canceled. Matches that were already running continued: {rows} {ALL_RULE}."
     )
 }
 
-// Names the rows that a cancel found, and that did not end with it.
+// Lists the rows that a cancel found but did not cancel.
 fn left_rows(alloc: Global, run: &Run<'_>, about: &About) -> Result<String, AllocError> {
     let mut rows = Listing::new(alloc);
     let mut from = 0;
@@ -84,7 +84,8 @@ fn left_rows(alloc: Global, run: &Run<'_>, about: &About) -> Result<String, Allo
     rows.finish(alloc)
 }
 
-// Whether a row had come by the event at a moment, hasn't ended by it, and has a user_data.
+// Returns whether a row was submitted and had not completed after the event at a moment, and has
+// this user_data.
 fn is_alike(run: &Run<'_>, number: u32, moment: u32, user_data: u64) -> bool {
     match (run.times_of(number), run.row(number)) {
         (Some(times), Some(row)) => {
@@ -105,7 +106,8 @@ fn alike(run: &Run<'_>, about: &About) -> Option<u32> {
     None
 }
 
-/// A request that came with the user_data of an earlier one that hadn't ended.
+/// Returns the sentence of a request that was submitted with the user_data of an earlier one that
+/// hadn't completed.
 pub(crate) fn same_user_data(
     alloc: Global,
     run: &Run<'_>,
@@ -118,7 +120,7 @@ pub(crate) fn same_user_data(
     };
     match other {
         Some(other) => format!(in alloc;
-            "Row {name} came while row {other} had not ended, which has the same user_data: by that alone their completions can't be told apart {USER_RULE}."
+            "Row {name} was submitted before row {other} completed, which has the same user_data: user_data alone does not distinguish their completions {USER_RULE}."
         ),
         None => Ok(String::new(alloc)),
     }

@@ -1,37 +1,8 @@
-//! The names of what sentences speak of.
+//! The names of rows and results in sentences.
 
+use crate::opcode_names::OpcodeName;
 use entries::Row;
-use opcodes::Op;
 use std::fmt;
-
-/// The name of an opcode (io_uring_enter(2)).
-#[derive(Clone, Copy)]
-pub(crate) struct OpcodeName(pub u8);
-
-fn opcode_word(op: Op) -> &'static str {
-    match op {
-        Op::Nop => "NOP",
-        Op::Fsync => "FSYNC",
-        Op::PollAdd => "POLL_ADD",
-        Op::PollRemove => "POLL_REMOVE",
-        Op::Timeout => "TIMEOUT",
-        Op::TimeoutRemove => "TIMEOUT_REMOVE",
-        Op::AsyncCancel => "ASYNC_CANCEL",
-        Op::LinkTimeout => "LINK_TIMEOUT",
-        Op::Read => "READ",
-        Op::Write => "WRITE",
-    }
-}
-
-impl fmt::Display for OpcodeName {
-    fn fmt<W: fmt::Write>(&self, f: &mut fmt::Formatter<W>) -> fmt::Result {
-        let OpcodeName(opcode) = self;
-        match Op::of(*opcode) {
-            Some(op) => f.write_str(opcode_word(op)),
-            None => write!(f, "opcode {opcode}"),
-        }
-    }
-}
 
 /// A row by its number, its operation and its user_data.
 #[derive(Clone, Copy)]
@@ -64,9 +35,9 @@ impl fmt::Display for RowName {
     }
 }
 
-/// A result; of an error also its name (errno(3)).
+/// A result, and the name of an error (errno(3)).
 #[derive(Clone, Copy)]
-pub(crate) struct ResultName(pub i32);
+pub struct ResultName(pub i32);
 
 fn error_word(errno: u32) -> &'static str {
     match errno {

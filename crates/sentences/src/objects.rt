@@ -1,4 +1,4 @@
-//! What a descriptor, or the object behind it, has against a request.
+//! Why a descriptor, or its object, refuses a request.
 
 use crate::run::Run;
 use entries::Sqe;
@@ -20,8 +20,8 @@ pub(super) fn descriptor_at(setup: &Setup, fd: i32) -> Option<Descriptor> {
 // What keeps a request from an end, which is of another use, or was closed.
 fn word_of_end(fits: bool, end: End) -> &'static str {
     match end {
-        End::Read if !fits => "is the read end of a pipe, which takes no WRITE",
-        End::Write if !fits => "is the write end of a pipe, which gives no READ",
+        End::Read if !fits => "is the read end of a pipe, which can't be written",
+        End::Write if !fits => "is the write end of a pipe, which can't be read",
         _ => "is not open",
     }
 }
@@ -56,18 +56,18 @@ fn reason_of_contents(
 ) -> Result<String, AllocError> {
     let kind = kind_of(contents);
     if entry.opcode == Op::Fsync as u8 {
-        return format!(in alloc; "its object is {kind}, and an FSYNC is of a file");
+        return format!(in alloc; "its object is {kind}, and FSYNC needs a file");
     }
     let len = entry.len;
     match contents {
         Contents::File(_) => String::from_str(alloc, "its offset is negative, and not -1"),
         Contents::EventFd(_) if len < EVENT_BYTES => {
-            format!(in alloc; "its len is {len}, and an eventfd takes no fewer than 8 bytes")
+            format!(in alloc; "its len is {len}, and an eventfd needs at least 8 bytes")
         }
         Contents::EventFd(_) => {
             String::from_str(
                 alloc,
-                "it adds 2^64 - 1, and an eventfd takes 2^64 - 2 at most",
+                "it adds 2^64 - 1, and an eventfd takes at most 2^64 - 2",
             )
         }
         Contents::Pipe(_) => String::from_str(alloc, "a pipe refuses such a request"),

@@ -1,5 +1,6 @@
-//! Sentences about rings, and threads at them.
+//! Sentences about rings, the threads that use them, and the poller.
 
+use crate::counted::Counted;
 use crate::run::Run;
 use entries::{ETIME, IORING_ENTER_GETEVENTS, IORING_ENTER_SQ_WAKEUP, Phase, Row};
 use finding_kinds::{MOST_ROWS, instruction_at};
@@ -37,18 +38,18 @@ fn is_overflowing(run: &Run<'_>) -> bool {
     run.number(Place::SubmissionFlags) & 2 != 0
 }
 
-/// Completions that began to be kept.
+/// Returns the sentence of a completion ring that overflowed.
 pub(crate) fn overflow(alloc: Global, run: &Run<'_>, moment: u32) -> Result<String, AllocError> {
     let outlook = match run.emptied_behind(moment) {
         Some(emptied) => format!(in alloc; "The backlog was empty again at moment {emptied}")?,
-        None => String::from_str(alloc, "At the end of the run some are kept")?,
+        None => String::from_str(alloc, "The backlog is not empty at the end of the run")?,
     };
     format!(in alloc;
-        "The completion ring was full, and a completion was put into the backlog, with CQ_OVERFLOW in sq.flags. Reap, and enter with IORING_ENTER_GETEVENTS to have it moved into the ring. {outlook} {BACKLOG_RULE}."
+        "The completion ring was full: a completion went into the backlog, and CQ_OVERFLOW is set in sq.flags. Reap, then enter with IORING_ENTER_GETEVENTS to flush the backlog into the ring. {outlook} {BACKLOG_RULE}."
     )
 }
 
-/// An Enter that was answered EBUSY.
+/// Returns the sentence of an Enter that returned EBUSY.
 pub(crate) fn busy(
     alloc: Global,
     run: &Run<'_>,
@@ -57,14 +58,14 @@ pub(crate) fn busy(
 ) -> Result<String, AllocError> {
     let counter = run.counter(moment).unwrap_or(0);
     format!(in alloc;
-        "The enter of thread {thread}, instruction {counter}, was answered -16 (EBUSY), and took no entry: completions are kept, and the ring has no room for all of them. Reap, then enter again {BACKLOG_RULE}."
+        "The enter of thread {thread}, instruction {counter}, returned -16 (EBUSY), and submitted no entry: the ring has no room for all completions of the backlog. Reap, then enter again {BACKLOG_RULE}."
     )
 }
 
 /// The flags that an Enter may have: IORING_ENTER_GETEVENTS and IORING_ENTER_SQ_WAKEUP.
 const ENTER_FLAGS: u32 = IORING_ENTER_GETEVENTS | IORING_ENTER_SQ_WAKEUP;
 
-/// An Enter that was answered EINVAL.
+/// Returns the sentence of an Enter that returned EINVAL.
 pub(crate) fn refused_flags(
     alloc: Global,
     run: &Run<'_>,
@@ -78,11 +79,11 @@ pub(crate) fn refused_flags(
     let counter = run.counter(moment).unwrap_or(0);
     let others = flags & !ENTER_FLAGS;
     format!(in alloc;
-        "The enter of thread {thread}, instruction {counter}, was answered -22 (EINVAL), and did nothing: its flags {flags} have {others}, which is neither IORING_ENTER_GETEVENTS (1) nor IORING_ENTER_SQ_WAKEUP (2), and no other flag is modelled here (io_uring_enter(2))."
+        "The enter of thread {thread}, instruction {counter}, returned -22 (EINVAL), and did nothing: its flags {flags} include {others}, which isn't modelled: only IORING_ENTER_GETEVENTS (1) and IORING_ENTER_SQ_WAKEUP (2) are (io_uring_enter(2))."
     )
 }
 
-// How many rows came by the event at a moment, and whether one of them failed by it.
+// Returns how many rows the event at a moment submitted, and whether one of them failed by it.
 fn came_at(run: &Run<'_>, moment: u32) -> (usize, bool) {
     let came = run
         .history
@@ -95,18 +96,21 @@ fn came_at(run: &Run<'_>, moment: u32) -> (usize, bool) {
     (came, failed)
 }
 
-// A reason, if there is one, and how many indexes were dropped.
+// Adds to a reason, which may be empty, how many indexes were dropped.
 fn with_dropped(alloc: Global, reason: &str, dropped: u32) -> Result<String, AllocError> {
     if dropped == 0 {
         return String::from_str(alloc, reason);
     }
     let before = if reason.is_empty() { "" } else { "; " };
-    format!(in alloc;
-        "{reason}{before}of its indexes so many name no slot, and were dropped: {dropped}"
-    )
+    let verbs = if dropped == 1 {
+        "names no slot and was dropped"
+    } else {
+        "name no slot and were dropped"
+    };
+    format!(in alloc; "{reason}{before}{dropped} of its indexes {verbs}")
 }
 
-/// An Enter that took fewer entries than it was to submit.
+/// Returns the sentence of an Enter that submitted fewer entries than requested.
 pub(crate) fn taken_short(
     alloc: Global,
     run: &Run<'_>,
@@ -123,17 +127,18 @@ pub(crate) fn taken_short(
     let reason = if came.saturating_add(dropped as usize) >= wanted as usize {
         ""
     } else if failed && !run.setup.submit_all {
-        "an entry failed, and the submission halts behind one"
+        "an entry failed, and the submission stops at one that fails"
     } else {
-        "no more waited in the ring"
+        "the ring had no more"
     };
     let reason = with_dropped(alloc, reason, dropped)?;
+    let wanted = Counted::entries(u64::from(wanted));
     format!(in alloc;
-        "The enter of thread {thread}, instruction {counter}, was to submit {wanted} entries, and took {came}: {reason} {SUBMIT_RULE}."
+        "The enter of thread {thread}, instruction {counter}, was to submit {wanted}, and submitted {came}: {reason} {SUBMIT_RULE}."
     )
 }
 
-/// A Push of an index that names no slot.
+/// Returns the sentence of a Push of an index that names no slot.
 pub(crate) fn no_such_slot(
     alloc: Global,
     run: &Run<'_>,
@@ -146,11 +151,11 @@ pub(crate) fn no_such_slot(
     };
     let counter = run.counter(moment).unwrap_or(0);
     format!(in alloc;
-        "The push of thread {thread}, instruction {counter}, is of index {index}, which names no slot of the ring: once taken it is dropped, and counted in sq.dropped (io_uring(7))."
+        "The push of thread {thread}, instruction {counter}, adds index {index}, which names no slot of the ring: a submission drops it, and counts it in sq.dropped (io_uring(7))."
     )
 }
 
-// What an Enter asked for, where the ring can't hold as many completions.
+// Returns what an Enter requested, where the ring can't hold as many completions.
 fn beyond_ring(
     alloc: Global,
     run: &Run<'_>,
@@ -189,7 +194,7 @@ fn has_completed_timeout(run: &Run<'_>, since: u32) -> bool {
     false
 }
 
-/// A thread that waits from a moment to the end.
+/// Returns the sentence of a thread that waits from a moment to the end.
 pub(crate) fn waits(
     alloc: Global,
     run: &Run<'_>,
@@ -205,53 +210,55 @@ pub(crate) fn waits(
     let beyond = beyond_ring(alloc, run, thread, counter, wanted)?;
     let outlook = match run.state.refuses(Event::Step(thread)) {
         Some(_) => "",
-        None => ". It has what it wants, and could go on: the schedule just ends",
+        None => ". It could continue: the schedule ends before that",
     };
     let returns = if has_completed_timeout(run, since) {
         TIMEOUT_RETURNS
     } else {
         ""
     };
+    let wanted = Counted::completions(u64::from(wanted));
     format!(in alloc;
-        "Thread {thread} waits in its enter, instruction {counter}, to the end. It wants completions: {wanted}{beyond}; in the ring: {ready}{outlook} {WAIT_RULE}.{returns}"
+        "Thread {thread} waits in its enter, instruction {counter}, to the end of the run. It waits for {wanted}{beyond}, and the ring has {ready}{outlook} {WAIT_RULE}.{returns}"
     )
 }
 
-/// A poller that sleeps while entries wait.
+/// Returns the sentence of a poller that sleeps while the submission ring has entries.
 pub(crate) fn lost_wake_up(alloc: Global, run: &Run<'_>) -> Result<String, AllocError> {
-    let entries = entries(run);
+    let entries = Counted::entries(entries(run));
     format!(in alloc;
-        "The poller sleeps to the end, with NEED_WAKEUP in sq.flags, while entries wait for it: {entries}. Look at sq.flags once the tail is written, and enter with IORING_ENTER_SQ_WAKEUP {POLLER_RULE}."
+        "The poller sleeps to the end of the run, with NEED_WAKEUP set in sq.flags, and the submission ring has {entries}. After writing the tail, check sq.flags, and enter with IORING_ENTER_SQ_WAKEUP {POLLER_RULE}."
     )
 }
 
-/// Entries that nothing took.
+/// Returns the sentence of entries that were never submitted.
 pub(crate) fn not_taken(alloc: Global, run: &Run<'_>) -> Result<String, AllocError> {
-    let entries = entries(run);
+    let entries = Counted::entries(entries(run));
     let rule = if run.state.value(Place::PollerStage).is_some() {
         POLLER_RULE
     } else {
         SUBMIT_RULE
     };
     format!(in alloc;
-        "Entries wait in the submission ring to the end, and nothing takes them: {entries} {rule}."
+        "At the end of the run the submission ring has {entries}, never submitted {rule}."
     )
 }
 
-/// Completions that nobody reaped.
+/// Returns the sentence of completions that no thread reaped.
 pub(crate) fn not_reaped(alloc: Global, run: &Run<'_>) -> Result<String, AllocError> {
     let completions = completions(run);
     if completions == 0 {
         return format!(in alloc;
-            "Completions are kept in the backlog to the end, and none waits in the ring: enter with IORING_ENTER_GETEVENTS to have them moved there {BACKLOG_RULE}."
+            "At the end of the run the backlog has completions, and the completion ring has none: enter with IORING_ENTER_GETEVENTS to flush the backlog into the ring {BACKLOG_RULE}."
         );
     }
+    let completions = Counted::completions(completions);
     let kept = if is_overflowing(run) {
-        ", and others are kept in the backlog"
+        "; the backlog has more"
     } else {
         ""
     };
     format!(in alloc;
-        "Completions wait in the ring to the end, and nobody reaps them: {completions}{kept} (io_uring(7))."
+        "At the end of the run the completion ring has {completions}, never reaped{kept} (io_uring(7))."
     )
 }

@@ -3,7 +3,7 @@
 /// Of a soft link.
 pub(crate) const LINK_RULE: &str = "(io_uring_enter(2), IOSQE_IO_LINK)";
 
-/// Of what ends with an error.
+/// Of what completes with an error.
 pub(crate) const ERROR_RULE: &str = "(io_uring_enter(2), CQE ERRORS)";
 
 /// Of a TIMEOUT.

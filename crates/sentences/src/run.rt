@@ -36,7 +36,7 @@ impl Run<'_> {
         Some(RowName::of(number, &row))
     }
 
-    /// The result of a row that has ended.
+    /// Returns the result of a row that has completed.
     pub(crate) fn result(&self, number: u32) -> Option<i32> {
         match self.row(number)?.phase {
             Phase::Ended(res) => Some(res),
@@ -52,12 +52,12 @@ impl Run<'_> {
         self.events.get(moment as usize).copied()
     }
 
-    /// Where the program of the thread stood that did the event at a moment, if one did.
+    /// Returns which instruction the event at a moment executed, if it was a step of a thread.
     pub(crate) fn counter(&self, moment: u32) -> Option<u32> {
         self.history.counters.get(moment as usize).copied()?
     }
 
-    /// The instruction that a thread did at a moment, if one did.
+    /// Returns the instruction that the event at a moment executed, if it was a step of a thread.
     pub(crate) fn instruction(&self, moment: u32) -> Option<&Instruction> {
         let counter = self.counter(moment)?;
         instruction_at(self.setup, self.event(moment)?, Some(u64::from(counter)))
@@ -74,7 +74,7 @@ impl Run<'_> {
         }
     }
 
-    /// The first moment behind one at which the backlog was empty again.
+    /// Returns the first moment after one at which the backlog was empty again.
     pub(crate) fn emptied_behind(&self, moment: u32) -> Option<u32> {
         let emptied = &self.history.emptied;
         let behind = emptied.partition_point(|emptied| *emptied <= moment);
@@ -103,7 +103,7 @@ impl Run<'_> {
         }
     }
 
-    /// Whether a row ended by the event at a moment.
+    /// Returns whether a row completed by the event at a moment.
     pub(crate) fn ends_at(&self, number: u32, moment: u32) -> bool {
         match self.times_of(number) {
             Some(times) => times.ended == Some(moment),
@@ -123,7 +123,7 @@ impl Run<'_> {
         Some(self.row(number)?.unit)
     }
 
-    /// Whether two rows are of one chain.
+    /// Returns whether two rows belong to one chain.
     pub(crate) fn are_of_one_chain(&self, first: u32, second: u32) -> bool {
         match (self.unit(first), self.unit(second)) {
             (Some(one), Some(other)) => one == other,
@@ -131,7 +131,7 @@ impl Run<'_> {
         }
     }
 
-    /// Whether a finding is that another row of a row's chain was cancelled at a moment.
+    /// Returns whether a finding is that another row of a row's chain was canceled at a moment.
     fn is_cut(&self, finding: &Finding, number: u32, moment: u32) -> bool {
         finding.moment == moment
             && matches!(finding.kind, Kind::Canceled)
@@ -139,7 +139,7 @@ impl Run<'_> {
             && self.are_of_one_chain(number, finding.subject)
     }
 
-    /// The next row behind one, in a list of findings, that ended with a row's chain at a moment.
+    /// Returns the next row in the list of findings that was canceled with a row's chain at a moment.
     pub(crate) fn next_cut(&self, from: usize, number: u32, moment: u32) -> Option<usize> {
         for index in from..self.found.len() {
             let finding = &self.found[index];

@@ -1,6 +1,7 @@
 //! Why an entry failed as it was submitted: its field, and what its opcode takes there.
 
 use crate::about::About;
+use crate::opcode_names::{OpcodeName, Unmodelled};
 use crate::run::Run;
 use entries::{EFAULT, Sqe};
 use opcodes::Op;
@@ -17,7 +18,8 @@ struct Refused {
     taken: &'static str,
 }
 
-fn left_out(flags: u8) -> Option<u8> {
+/// Returns the first flag of an entry that isn't modelled.
+pub(super) fn left_out(flags: u8) -> Option<u8> {
     for flag in LEFT_OUT {
         if flags & flag != 0 {
             return Some(flag);
@@ -35,7 +37,7 @@ fn flag_name(flag: u8) -> &'static str {
     }
 }
 
-// The length of an entry, if it isn't the one that is taken.
+// Returns the length of an entry, if it isn't the one that is accepted.
 fn refused_len(entry: &Sqe, len: u32, taken: &'static str) -> Option<Refused> {
     if entry.len == len {
         return None;
@@ -47,7 +49,7 @@ fn refused_len(entry: &Sqe, len: u32, taken: &'static str) -> Option<Refused> {
     })
 }
 
-// The flags of its operation, if they are above the largest that are taken.
+// Returns the flags of its operation, if they are above the largest that are accepted.
 fn refused_flags(entry: &Sqe, most: u32, taken: &'static str) -> Option<Refused> {
     if entry.operation_flags <= most {
         return None;
@@ -126,7 +128,7 @@ fn reason_of_op(
     if matches!(op, Op::LinkTimeout) && !has_target(run, about.number) {
         return String::from_str(
             alloc,
-            "no request that it could guard stands just before it in its chain",
+            "it has no target: the entry before it must belong to its chain, and be no LINK_TIMEOUT",
         );
     }
     if let Some(
@@ -137,18 +139,19 @@ fn reason_of_op(
         },
     ) = refused_field(&about.row.entry, op)
     {
-        return format!(in alloc; "its {field} is {value}, where its opcode takes {taken}");
+        let operation = OpcodeName(about.row.entry.opcode);
+        return format!(in alloc; "its {field} is {value}, but {operation} takes {taken}");
     }
     if res == -EFAULT {
-        return String::from_str(alloc, "its time leaves memory");
+        return String::from_str(alloc, "its timespec extends past the end of memory");
     }
     String::from_str(
         alloc,
-        "the seconds or the nanoseconds of its time are negative",
+        "the seconds or nanoseconds of its timespec are negative",
     )
 }
 
-/// What a submission has against an entry, by the first test that it fails.
+/// Returns why a submission refuses an entry, by the first test that it fails.
 pub(super) fn reason_of_entry(
     alloc: Global,
     run: &Run<'_>,
@@ -158,11 +161,11 @@ pub(super) fn reason_of_entry(
     if let Some(flag) = left_out(about.row.entry.flags) {
         let name = flag_name(flag);
         return format!(in alloc;
-            "its flags have {flag}{name}, which is not modelled here: IO_DRAIN (2), IO_LINK (4), IO_HARDLINK (8) and ASYNC (16) are"
+            "its flags include {flag}{name}, which isn't modelled: IOSQE_IO_DRAIN (2), IOSQE_IO_LINK (4), IOSQE_IO_HARDLINK (8) and IOSQE_ASYNC (16) are"
         );
     }
     match Op::of(about.row.entry.opcode) {
         Some(op) => reason_of_op(alloc, run, about, op, res),
-        None => String::from_str(alloc, "its opcode is none that is modelled here"),
+        None => format!(in alloc; "{}", Unmodelled(about.row.entry.opcode)),
     }
 }

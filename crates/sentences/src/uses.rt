@@ -1,4 +1,4 @@
-//! Sentences about slots that wait, and descriptors that requests name or hold.
+//! Sentences about slots that are pushed, and descriptors that requests name or hold.
 
 use crate::listing::Listing;
 use crate::run::Run;
@@ -10,7 +10,7 @@ use std::alloc::{AllocError, Global};
 
 const RULE: &str = "(close(2), io_uring_enter(2))";
 
-/// An entry that was changed before it was taken.
+/// Returns the sentence of an entry that was changed before it was submitted.
 pub(crate) fn slot_in_use(
     alloc: Global,
     run: &Run<'_>,
@@ -23,11 +23,11 @@ pub(crate) fn slot_in_use(
     };
     let counter = run.counter(moment).unwrap_or(0);
     format!(in alloc;
-        "The put of thread {thread}, instruction {counter}, changes slot {slot}, whose entry was pushed and is not yet taken: what is taken is what stands there by then (io_uring(7))."
+        "The put of thread {thread}, instruction {counter}, changes slot {slot}, whose entry was pushed and is not yet submitted: the submission takes what the slot has by then (io_uring(7))."
     )
 }
 
-/// How far a row was as its descriptor was closed.
+/// The phase of a row as its descriptor was closed.
 #[derive(Clone, Copy)]
 pub(crate) enum Standing {
     Queued,
@@ -43,20 +43,20 @@ impl Standing {
         }
     }
 
-    // What comes of it.
+    // Returns the consequence.
     fn outcome(self) -> &'static str {
         match self {
             Standing::Queued => {
-                "A request whose descriptor is not open ends with -9 (EBADF) as it is issued"
+                "A request whose descriptor is not open completes with -9 (EBADF) as it is issued"
             }
             Standing::Issued => {
-                "An issued request goes on, and the object stays for it until it ends"
+                "An issued request continues, and keeps the object until it completes"
             }
         }
     }
 }
 
-// Whether a row of a number stood so before the event at a moment, and uses a descriptor.
+// Returns whether a row was in this phase before the event at a moment, and uses a descriptor.
 fn is_user(run: &Run<'_>, number: u32, row: &Row, fd: i32, moment: u32, stood: Standing) -> bool {
     let stands = match (run.times_of(number), stood) {
         (Some(times), Standing::Queued) => times.is_queued_at(moment),
@@ -85,7 +85,7 @@ fn users(
     rows.finish(alloc)
 }
 
-// Names the slot whose entry names a descriptor, behind queued rows that do.
+// Adds the slot whose entry names a descriptor to the queued rows that name it.
 fn with_slot(alloc: Global, mut rows: String, slot: Option<u32>) -> Result<String, AllocError> {
     if !rows.is_empty() {
         rows.push_str(", still queued")?;
@@ -96,7 +96,7 @@ fn with_slot(alloc: Global, mut rows: String, slot: Option<u32>) -> Result<Strin
     if !rows.is_empty() {
         rows.push_str(", and by ")?;
     }
-    let entry = format!(in alloc; "the entry in slot {slot}, pushed and not yet taken")?;
+    let entry = format!(in alloc; "the entry in slot {slot}, pushed and not yet submitted")?;
     rows.push_str(entry.as_str())?;
     Ok(rows)
 }

@@ -1,4 +1,4 @@
-//! What an issued request waits for at its descriptor, and what could bring it.
+//! What an issued request waits for on its descriptor, and which operation could cause it.
 
 use crate::objects::descriptor_at;
 use crate::run::Run;
@@ -71,33 +71,34 @@ impl Awaited {
     // The words before the object's name.
     fn words(self) -> &'static str {
         match self {
-            Awaited::Bytes => "bytes of pipe",
+            Awaited::Bytes => "bytes in pipe",
             Awaited::Room => "room in pipe",
             Awaited::HangUp => "a hang-up of pipe",
             Awaited::Error => "an error of pipe",
-            Awaited::Counter => "a counter above 0 of eventfd",
+            Awaited::Counter => "a counter above 0 in eventfd",
             Awaited::CounterRoom => "room in the counter of eventfd",
-            Awaited::Nothing => "events that never come of",
+            Awaited::Nothing => "events that never occur on",
         }
     }
 
-    // What brings it, before the number of a descriptor.
+    // Returns what causes it, before the number of a descriptor.
     fn deed(self) -> &'static str {
         match self {
-            Awaited::Bytes | Awaited::Counter => "a WRITE at descriptor ",
-            Awaited::Room | Awaited::CounterRoom => "a READ at descriptor ",
+            Awaited::Bytes | Awaited::Counter => "a WRITE to descriptor ",
+            Awaited::Room | Awaited::CounterRoom => "a READ from descriptor ",
             Awaited::HangUp | Awaited::Error | Awaited::Nothing => "a close of descriptor ",
         }
     }
 
     fn verb(self) -> &'static str {
         match self {
+            Awaited::Bytes => "supply",
             Awaited::Room | Awaited::CounterRoom => "make",
-            _ => "bring",
+            _ => "cause",
         }
     }
 
-    // Whether it comes through descriptors of an end.
+    // Returns whether an operation on descriptors of an end can cause it.
     fn comes_by(self, end: End) -> bool {
         match end {
             End::Whole => matches!(self, Awaited::Counter | Awaited::CounterRoom),
@@ -125,7 +126,7 @@ fn is_open(run: &Run<'_>, number: u32) -> bool {
     )
 }
 
-// Through which open descriptors of an object it could come.
+// Returns the operations on open descriptors of an object that could cause it.
 fn bringers(
     alloc: Global,
     run: &Run<'_>,
@@ -168,11 +169,11 @@ fn waits_at(
     let verb = awaited.verb();
     let rule = awaited.rule(entry);
     format!(in alloc;
-        "It is issued, and waits at descriptor {fd} for {words} {name}, which {bringers} could {verb} {rule}."
+        "It is issued, and waits on descriptor {fd} for {words} {name}, which {bringers} could {verb} {rule}."
     )
 }
 
-/// Of an issued request that can't end yet.
+/// Returns why an issued request can't complete yet.
 pub(super) fn waits(alloc: Global, run: &Run<'_>, row: &Row) -> Result<String, AllocError> {
     let Some(descriptor) = descriptor_at(run.setup, row.entry.fd) else {
         return String::from_str(alloc, "It is issued.");

@@ -1,6 +1,6 @@
-//! The page around its data: what shows them, with no network and nothing else.
+//! The page around its data: HTML, style and script in one file that needs no network.
 
-/// What stands before the data.
+/// The page before the data.
 pub(crate) const HEAD: &str = r##"<!doctype html>
 <html lang="en">
 <head>
@@ -85,11 +85,11 @@ svg .note { fill: var(--back); stroke: var(--faint); stroke-width: 1.6; }
 </form>
 </header>
 <main id="view" tabindex="0" role="application" aria-label="Timeline of the run" aria-describedby="about" aria-activedescendant="picked"><div id="room"><svg id="picture" role="img" aria-label="Lanes of the run"></svg></div></main>
-<aside id="told" aria-live="polite"><noscript>The picture is drawn by a script inside this file: let it run. It needs no network.</noscript></aside>
+<aside id="told" aria-live="polite"><noscript>A script in this file draws the timeline: allow it to run. It needs no network.</noscript></aside>
 <script type="application/json" id="run">
 "##;
 
-/// What stands behind the data, and draws them.
+/// The page after the data: the script that draws them.
 pub(crate) const TAIL: &str = r##"
 </script>
 <script>
@@ -108,10 +108,10 @@ const ERRORS = {
   28: 'ENOSPC', 29: 'ESPIPE', 32: 'EPIPE', 62: 'ETIME', 95: 'EOPNOTSUPP', 114: 'EALREADY', 125: 'ECANCELED',
 };
 const ENDINGS = {
-  good: 'ended well', short: 'ended short', bad: 'ended with an error', canceled: 'canceled (-125)',
-  expired: 'timed out (-62)', open: 'not ended',
+  good: 'completed', short: 'completed short', bad: 'completed with an error', canceled: 'canceled (-125)',
+  expired: 'timed out (-62)', open: 'not completed',
 };
-const TIES = {'': 'link', hard: 'hard link', guard: 'guard', cancel: 'ended by another row'};
+const TIES = {'': 'link', hard: 'hard link', guard: 'linked timeout', cancel: 'completed by another row'};
 const FLAGS = {2: 'IO_DRAIN', 4: 'IO_LINK', 8: 'IO_HARDLINK', 16: 'ASYNC'};
 const DRAIN = 2, HARDLINK = 8, TRANSFERS = [22, 23];
 
@@ -126,7 +126,7 @@ const rect = (kind, x, y, width, height, inner = '') => element('rect', {class: 
 
 // ---- what the data says
 
-// A line of the log is 'PLACE OLD -> NEW', and the first word of a place tells how many words it
+// A line of the log is 'PLACE OLD -> NEW', and the first word of a place says how many words it
 // has.
 const LONE = /^(sq\.|cq\.|bfront|clock|counted|poller)/, TRIPLE = /^(file|durable|pipe) /;
 function change(line) {
@@ -141,13 +141,13 @@ function lane_key(word, number) {
   return word === 'tick' ? 'clock' : 'row ' + number;
 }
 
-// What a step of a thread did, by its program.
+// Returns what a step of a thread did, by its program.
 function instruction(number, changes) {
   const stage = changes.find((it) => it.place === 'stage ' + number);
-  if (stage?.now.startsWith('waiting')) return 'enter, and wait';
+  if (stage?.now.startsWith('waiting')) return 'enter, starts to wait';
   const counter = changes.find((it) => it.place === 'pc ' + number);
   const text = counter ? run.programs[number]?.[Number(counter.old)] ?? '' : '';
-  return stage ? text + ', waited for' : text;
+  return stage ? text + ', stops waiting' : text;
 }
 
 const steps = run.steps.map(({event: text, changes: lines}, k) => {
@@ -165,7 +165,7 @@ function ending(row) {
 }
 const result_text = (row) => [row.result, ERRORS[-row.result]].filter((it) => it !== undefined).join(' ');
 
-// How long something holds: that a thread waits, or that the poller sleeps.
+// Returns the periods in which a thread waits, or the poller sleeps.
 function spans(first, place, holds) {
   const found = [];
   let since = holds(first) ? from : null, value = first;
@@ -180,13 +180,15 @@ function spans(first, place, holds) {
   return found;
 }
 
-// The row before one in its chain. A guard stands behind its target, and is no link of the chain.
+// Returns the row before one in its chain. A linked timeout follows its target, and is no link of the
+// chain.
 function linked_before(row) {
   const other = rows.get(row.row - 1), before = other && other.target !== null ? rows.get(other.target) : other;
   return row.target === null && before?.unit === row.unit ? before : null;
 }
 
-// Which rows were ended by an event that names another row: by a cancel, or by their guard.
+// Returns the rows that completed by an event of another row: a cancel, a linked timeout, or a
+// completion that a timeout counts.
 function causes() {
   const ended = new Map(), found = [];
   for (const row of run.rows) {
@@ -231,8 +233,8 @@ const arrows = causes();
 
 let column = 24, event_picked = from, lane_chosen = 0, pointed = null;
 
-// Where a moment stands, and where, in the middle of the event before it, things came to stand as
-// they do there.
+// Returns the x of a moment, and of the middle of the event before it, at which what holds at the
+// moment begins.
 const x_of = (moment) => LABELS + (moment - from) * column - view.scrollLeft;
 const x_since = (moment) => x_of(moment) - (moment > from ? column / 2 : 0);
 const x_until = (moment) => (moment === null || moment > to ? x_of(to) : x_since(moment));
@@ -273,8 +275,8 @@ function mark(step, y) {
 // Faults are drawn over notes.
 const marked = [...findings].sort((one, other) => one.fault - other.fault);
 
-// The event that a finding is told beside: that at its moment, or the last one of what holds at the
-// end.
+// Returns the event at which a finding is shown: that at its moment, or the last one for what holds
+// at the end.
 const event_of = (it) => Math.min(it.moment, Math.max(from, to - 1));
 
 function axis(low, high) {
@@ -313,7 +315,7 @@ function clock(y, low, high) {
   return out.join('');
 }
 
-// A row: hollow while it is queued, full while it is issued, with its result behind it.
+// Draws a row: hollow while it is queued, filled while it is issued, then its result.
 function bar(row, y) {
   const clip = (x) => within(-9, x, 1e5), color = `var(--${row.ending})`;
   const x2 = clip(x_until(row.ended)), x0 = clip(x_since(row.queued)), x1 = row.issued === null ? x2 : clip(x_until(row.issued));
@@ -326,12 +328,13 @@ function bar(row, y) {
     out.push(element('path', {class: 'link', stroke: color, d: `M${x2 - 5} ${y + 6}l5 5l-5 5`}));
   }
   if (row.flags & DRAIN) {
-    out.push(rect('mark', x0 - 5, y + 3, 3, 16, titled('IO_DRAIN: it waits for all rows before it')));
+    out.push(rect('mark', x0 - 5, y + 3, 3, 16, titled('IOSQE_IO_DRAIN: waits for all earlier rows')));
   }
   return element('g', {}, out.join(''));
 }
 
-// What ties rows: links of one chain, guards, and ends that another row's event brought.
+// Draws what connects rows: links of a chain, linked timeouts, and completions by another row's
+// event.
 function ties(y_of, low, high) {
   const out = [];
   const tie = (kind, a, b, x, z, text) => out.push(element('path', {
@@ -341,15 +344,15 @@ function ties(y_of, low, high) {
     const before = linked_before(row), target = row.target === null ? null : rows.get(row.target);
     if (before) {
       const hard = before.flags & HARDLINK ? 'hard' : '', x = x_until(before.ended);
-      tie(hard, before, row, x, Math.max(x, x_until(row.issued ?? row.ended)), `row ${before.row} is linked ${hard} to row ${row.row}`);
+      tie(hard, before, row, x, Math.max(x, x_until(row.issued ?? row.ended)), `${hard} link from row ${before.row} to row ${row.row}`.trim());
     }
-    if (target) tie('guard', target, row, x_since(row.queued) + 4, x_since(row.queued) + 4, `row ${row.row} guards row ${row.target}`);
+    if (target) tie('guard', target, row, x_since(row.queued) + 4, x_since(row.queued) + 4, `row ${row.row} is the linked timeout of row ${row.target}`);
   }
   for (const {cause, row, index} of arrows) {
     if (Math.max(cause.lane, row.lane) < low || Math.min(cause.lane, row.lane) > high) continue;
     const x = x_of(index) + column / 2, end = y_of(row.lane) + 11, d = row.lane > cause.lane ? -6 : 6;
     const shaft = `M${x} ${y_of(cause.lane) + 11}V${end}`, head = `M${x - 4} ${end + d}L${x} ${end}L${x + 4} ${end + d}`;
-    out.push(element('path', {class: 'link cancel', d: shaft + head}, titled(`event ${index}: row ${cause.row} ended row ${row.row}`)));
+    out.push(element('path', {class: 'link cancel', d: shaft + head}, titled(`event ${index}: row ${cause.row} completed row ${row.row}`)));
   }
   return out.join('');
 }
@@ -426,14 +429,14 @@ function draw() {
     + element('line', {class: 'lane', x1: LABELS, x2: LABELS, y1: 0, y2: height});
 }
 
-// ---- what is told
+// ---- the text beside the picture
 
 function row_text(row) {
   const flags = Object.entries(FLAGS).filter(([bit]) => row.flags & bit).map(([, name]) => ' ' + name).join('');
   const issued = row.issued === null ? 'never issued' : `issued at moment ${row.issued}`;
-  const ended = row.ended === null ? 'not ended' : `ended at moment ${row.ended} with ${result_text(row)}`;
+  const ended = row.ended === null ? 'not completed' : `completed at moment ${row.ended} with ${result_text(row)}`;
   return `row ${row.row} ${row.name}, user_data ${row.user}, chain ${row.unit}`
-    + `${row.target === null ? '' : `, guards row ${row.target}`}; fd ${row.fd}, off ${row.off}, addr ${row.addr}, `
+    + `${row.target === null ? '' : `, linked timeout of row ${row.target}`}; fd ${row.fd}, off ${row.off}, addr ${row.addr}, `
     + `len ${row.len}, flags ${row.flags}${flags}; queued at moment ${row.queued}, ${issued}, ${ended}`;
 }
 
@@ -450,13 +453,13 @@ function tell() {
     told.innerHTML = '<h2>No events</h2>';
     return;
   }
-  const before = run.fillings[index - from], behind = run.fillings[index - from + 1];
+  const before = run.fillings[index - from], after = run.fillings[index - from + 1];
   const names = ['submission ring', 'completion ring', 'backlog', 'clock'];
   out.push(element('h2', {}, plain(`Event ${index}: ${step.text}`)), element('p', {}, plain(step.did)),
-    `<p class="faint"><code>goto ${index}</code> stands before it</p>`,
-    table(['place', 'before', 'behind'], step.changes.slice(0, 400).map((it) => [it.place, it.old, it.now])),
-    step.changes.length ? '' : '<p>It changed nothing.</p>', '<h3>How full</h3>',
-    table(['', 'before', 'behind'], names.map((name, k) => [name, before[k], behind[k]])));
+    `<p class="faint"><code>goto ${index}</code> shows the state before it</p>`,
+    table(['place', 'before', 'after'], step.changes.slice(0, 400).map((it) => [it.place, it.old, it.now])),
+    step.changes.length ? '' : '<p>It changed nothing.</p>', '<h3>Occupancy</h3>',
+    table(['', 'before', 'after'], names.map((name, k) => [name, before[k], after[k]])));
   for (const it of findings.filter((found) => event_of(found) === index)) {
     out.push(element('h3', {}, plain(`${it.kind} at ${it.moment}`)), element('p', {}, plain(it.text)));
   }
@@ -467,7 +470,7 @@ function tell() {
 
 // ---- moving
 
-// Brings the first row into view that hasn't ended where the picked event stands.
+// Scrolls to the first row that hasn't completed at the picked event.
 function show_rows(top) {
   const row = run.rows.find((it) => (it.ended ?? to) > event_picked), y = row && lanes[row.lane].top;
   if (row && (y - view.scrollTop < top || y + 4 * ROW - view.scrollTop > view.clientHeight)) view.scrollTop = y - top - ROW;
@@ -580,8 +583,11 @@ window.addEventListener('hashchange', () => pick(Number(location.hash.slice(1)),
 
 document.title = `${run.run} - uringwalk timeline`;
 by_id('name').textContent = `uringwalk timeline ${run.run}`;
-by_id('about').textContent = `Events ${from} to ${to} of ${run.events}, ${run.rows.length} rows, ${run.stages.length} threads. `
-  + 'Moment M stands before event M.';
+const counted = (count, noun) => `${count} ${noun}${count === 1 ? '' : 's'}`;
+const some = to - from === 1 ? `Event ${from}` : to > from ? `Events ${from} to ${to - 1}` : 'No events';
+const shown = to - from === run.events ? counted(run.events, 'event') : `${some} of ${run.events}`;
+by_id('about').textContent = `${shown}, ${counted(run.rows.length, 'row')}, ${counted(run.stages.length, 'thread')}. `
+  + 'Moment M is the state before event M.';
 const swatch = (style, text) => element('span', {}, element('i', {style}) + text);
 const stroke = (kind, text) => element('span', {}, element('svg', {}, element('path', {class: 'link ' + kind, d: 'M1 7H29'})) + text);
 const sign = (kind) => element('span', {}, element('svg', {}, element('path', {class: kind, d: 'M12 2l5 10h-10z'})) + kind);

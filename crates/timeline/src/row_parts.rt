@@ -1,30 +1,18 @@
-//! Rows and programs, as a page is told them.
+//! Rows and programs in the data of a page.
 
 use crate::parts::RowPart;
 use courses::Stamps;
 use entries::{Phase, Row, Sqe};
 use machine::Instruction;
-use opcodes::Op;
+use sentences::{Counted, opcode_name};
 use std::alloc::{AllocError, Global};
 
-/// The name of an opcode (io_uring_enter(2)).
+/// Returns the kernel's name of an opcode, also of one that isn't modelled.
 pub(crate) fn name_of(opcode: u8) -> &'static str {
-    match Op::of(opcode) {
-        Some(Op::Nop) => "NOP",
-        Some(Op::Fsync) => "FSYNC",
-        Some(Op::PollAdd) => "POLL_ADD",
-        Some(Op::PollRemove) => "POLL_REMOVE",
-        Some(Op::Timeout) => "TIMEOUT",
-        Some(Op::TimeoutRemove) => "TIMEOUT_REMOVE",
-        Some(Op::AsyncCancel) => "ASYNC_CANCEL",
-        Some(Op::LinkTimeout) => "LINK_TIMEOUT",
-        Some(Op::Read) => "READ",
-        Some(Op::Write) => "WRITE",
-        None => "unknown",
-    }
+    opcode_name(opcode).unwrap_or("unknown")
 }
 
-/// The result of a row that has ended.
+/// Returns the result of a row that has completed.
 pub(crate) fn result_of(phase: Phase) -> Option<i32> {
     match phase {
         Phase::Ended(result) => Some(result),
@@ -74,8 +62,8 @@ fn instruction_text(alloc: Global, instruction: &Instruction) -> Result<String, 
         Instruction::Put(slot, entry) => put_text(alloc, *slot, entry),
         Instruction::Push(slot) => format!(in alloc; "push {slot}"),
         Instruction::Store(address, bytes) => {
-            let count = bytes.len();
-            format!(in alloc; "store {address} ({count} bytes)")
+            let bytes = Counted::bytes(bytes.len() as u64);
+            format!(in alloc; "store {address} ({bytes})")
         }
         Instruction::Enter {
             to_submit,

@@ -195,14 +195,14 @@ fn add_phase(
 // What a row asks for.
 fn asked(alloc: Global, part: &RowPart) -> Result<String, AllocError> {
     let user = part.user.as_str();
-    let unit = part.unit;
+    let chain = part.unit;
     let fd = part.fd;
     let off = part.off.as_str();
     let addr = part.addr.as_str();
     let len = part.len;
     let flags = part.flags;
     format!(in alloc;
-        "\"user_data\":\"{user}\",\"unit\":{unit},\"fd\":{fd},\"off\":\"{off}\",\"addr\":\"{addr}\",\"len\":{len},\"flags\":{flags}"
+        "\"user_data\":\"{user}\",\"chain\":{chain},\"fd\":{fd},\"off\":\"{off}\",\"addr\":\"{addr}\",\"len\":{len},\"flags\":{flags}"
     )
 }
 

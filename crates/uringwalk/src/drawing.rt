@@ -13,9 +13,9 @@ use whole_files::{lead_to_one_file, read_file, write_file};
 const WORDS: u8 = 2;
 
 /// What is told where OUT is another path of the run's file.
-const ONTO_RUN: &str = "error: OUT leads to RUN's own file: the picture would take the run's place";
+const ONTO_RUN: &str = "error: OUT leads to RUN's own file: the picture would overwrite the run";
 
-const NO_PICTURE: &str = "error: OUT ends in .html or .json";
+const NO_PICTURE: &str = "error: OUT must end in .html or .json";
 
 /// What a run that isn't drawn is told as; one of too many events, which words can mend, is told by
 /// them.
@@ -33,7 +33,7 @@ pub fn fault_of_drawing(fault: TimelineFault) -> Fault
 // Tells that a run has too many events.
 fn refuse_long(rt: &impl Eprint, events: u32) -> ExitCode {
     match eprintln!(rt;
-        "error: RUN has {events} events: more than 5000 are drawn with both --from and --to"
+        "error: RUN has {events} events: more than 5000 need both --from and --to"
     ) {
         Ok(()) | Err(_) => ExitCode::from(WORDS),
     }

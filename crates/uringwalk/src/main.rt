@@ -45,7 +45,7 @@ const WHOLE_TRACE_AND_ONE: u64 = 287966118;
 
 /// What is told where OUT is another path of the script's file.
 const ONTO_SCRIPT: &str =
-    "error: OUT leads to SCRIPT's own file: the trace would take the script's place";
+    "error: OUT leads to SCRIPT's own file: the trace would overwrite the script";
 
 /// What a session stands over.
 #[derive(Clone, Copy)]
