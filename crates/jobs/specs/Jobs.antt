@@ -17,7 +17,7 @@ LosesScript (Serve script port turns kernel clients) = ⊥
 LosesScript (Trace script out form) = out.now ≡ script.now
 LosesScript (Migrate script trace out) = out.now ≡ script.now
 
--- so many turns, and so many kernel workers
+-- the ranges of a live run's numbers: turns, and kernel workers
 abbrev pub AreInRange : ℕ → ℕ → Type 0
 AreInRange turns kernel = ((1 ≤ turns) × (turns ≤ 1000000)) × ((1 ≤ kernel) × (kernel ≤ 8))
 

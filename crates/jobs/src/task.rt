@@ -40,9 +40,9 @@ pub enum Job<'a> {
         from: Option<u32>,
         to: Option<u32>,
     },
-    /// A session over what threads made together from the setup of the script in this file: a
-    /// thread for each of its threads, the poller if there is one, and so many kernel workers, each
-    /// of which made so many turns. If there is an `out`, the run's trace is written there first.
+    /// A session over a run that threads make together from the setup of the script in this file: a
+    /// thread for each of its threads, the poller if there is one, and `kernel` kernel workers. Each
+    /// makes `turns` turns. If there is an `out`, the run's trace is written there first.
     Live {
         script: &'a str,
         /// 1 to 1000000.
@@ -51,8 +51,8 @@ pub enum Job<'a> {
         kernel: u32,
         out: Option<&'a str>,
     },
-    /// Clients on a port of loopback, each with a session of its own over such a run while it goes
-    /// on; it ends once so many sessions have, or goes on.
+    /// Clients on a port of loopback, each with its own session over such a run while it continues.
+    /// It ends after `clients` sessions, or never.
     Serve {
         script: &'a str,
         /// From 1 on.

@@ -169,7 +169,7 @@ fn loses_script(job: Job<'_>) -> bool
     }
 }
 
-// Which number of a live run is out of its range, as a text that tells the range.
+// Returns the range of the number of a live run that is out of its range, as text.
 fn run_out_of_range(turns: u32, kernel: u32) -> Option<&'static str>
     ensures { IfNone result (AreInRange turns kernel) }
 {

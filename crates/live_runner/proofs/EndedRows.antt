@@ -171,7 +171,7 @@ not_ended rows r x Queued g h = refl
 not_ended rows r x Issued g h = refl
 not_ended rows r x (Ended res) g h = absurd (let k : issue_refusal rows r (Some x) ≡ Some WrongPhase = rw g refl in cc)
 
--- Nor does a completed request guard another as a linked timeout.
+-- Nor is a completed request an active linked timeout of another.
 not_guarding : (r : ℕ) (x : Row) (p : Phase) (b : Bool) → x.phase ≡ p → is_guard x ≡ b → is_ended p ≡ true → is_guard_of r x ≡ false
 not_guarding r x Queued b g i h = absurd (cc)
 not_guarding r x Issued b g i h = absurd (cc)

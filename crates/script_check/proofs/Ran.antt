@@ -23,7 +23,7 @@ ran_more s es i m n e d h r g next = record {
   accepts = accepts_more (start s) es i e d h g r.accepts (ap (λ x. refusal x e) (sym r.here) ∙ next.accepted);
 }
 
--- the next one is refused, for the reason that is told, if that isn't memory
+-- the next one is refused, for the reported reason, if that isn't memory
 pub ran_stops : (s : Setup) (es : List Event) (i : ℕ) (m : Machine) (e d : Event) (n : Refusal) → i < length es → Ran s es i m → e ≡ get_or es i d
     → ((k : Refusal) → refusal m e ≡ Some k → n ≡ k) → (refusal m e ≡ None → n ≡ Memory) → Stops s es i n
 ran_stops s es i m e d n h r g refused memory = λ other. record {

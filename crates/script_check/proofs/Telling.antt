@@ -1,4 +1,4 @@
--- What is told of a schedule is told of its script.
+-- The verdict on a schedule is the verdict on its script.
 use Rattle.std.proofs.Common.{ℕ, ◌≤◌, List, length, Ok}
 use Rattle.script.specs.Scripts.{Scenario, Reads, limit}
 use Rattle.script.specs.declared.log_fault.LogFault.{LogFault}

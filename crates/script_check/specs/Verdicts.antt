@@ -1,4 +1,4 @@
--- What is told of a script.
+-- The verdict on a script.
 use Rattle.std.specs.Prelude.{◌≡◌, ◌≢◌, ◌<◌, ◌≤◌, ℕ, List, length, Ok, Err}
 use Rattle.scenario.specs.declared.event.Event.{Event}
 use Rattle.scenario.specs.declared.event.Refusal.{Refusal}
@@ -25,7 +25,7 @@ Ends s es (Refused i n) = IsRefused s es i n
 Ends s es (Faulty f) = ⊥
 
 -- What is answered of a text: its first fault, of one that isn't longer than a script may be, or
--- what its schedule comes to.
+-- how its schedule ends.
 abbrev pub IsVerdict : List ℕ → Verdict → Type 0
 IsVerdict text (Faulty f) = (length text ≤ limit) × Reads text (Err f)
 IsVerdict text Fine = (p : Scenario) × Reads text (Ok p) × Ends p.setup p.schedule Fine

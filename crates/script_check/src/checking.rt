@@ -17,7 +17,7 @@ use whole_files::write_out;
 /// The most bytes that a script may have.
 const MOST_BYTES: usize = 8388608;
 
-// Writes what is told.
+// Writes the report.
 fn tell<W: Write>(told: Result<String, AllocError>, writer: &mut W) -> Result<(), LogFault>
     ensures { IfErr result IsOfOutput }
 {
@@ -46,7 +46,7 @@ fn refusal_text(
     event_text(alloc, source, stop.index, told.as_str())
 }
 
-// Runs some events from a setup, and tells how that ends.
+// Runs some events from a setup, and returns how that ends.
 fn check_events<W: Write>(
     alloc: Global,
     source: Source<'_>,

@@ -1,14 +1,14 @@
-//! What stands at a path of a script.
+//! The value at a path of a script.
 
 use crate::locating::key_word;
 use script::{Key, Path};
 use serde_json::Value;
 use std::alloc::{AllocError, Global};
 
-/// How many characters of a value are told.
+/// The most characters of a value that a sentence quotes.
 const MOST_CHARACTERS: usize = 60;
 
-/// What stands at a path, if anything does.
+/// Returns the value at a path, if there is one.
 pub(crate) fn value_at(document: &Value, path: Path) -> Option<&Value> {
     if let Key::Document = path.key {
         return Some(document);

@@ -11,7 +11,7 @@ use script::{Key, Path, ScriptFault};
 use serde_json::Value;
 use std::alloc::{AllocError, Global};
 
-/// How many faults are told at most.
+/// The most faults that are reported.
 pub(crate) const MOST_FAULTS: usize = 20;
 
 /// The size of memory, in bytes.
@@ -62,7 +62,7 @@ impl Faults {
         }
     }
 
-    // The items of a list that has at most so many, or none.
+    // Returns the items of a list with at most `most` items, or none.
     fn limited<'a>(
         &mut self,
         path: Path,
@@ -234,8 +234,8 @@ impl Faults {
     }
 }
 
-/// The faults of a script, in the order in which they are tested, at most 20. None is told that
-/// would rest on a key or an item which is faulty itself.
+/// Returns the faults of a script, in the order in which they are tested, at most 20. It leaves out
+/// faults that depend on a key or an item which is faulty itself.
 pub(crate) fn faults_of(alloc: Global, document: &Value) -> Result<Vec<ScriptFault>, AllocError> {
     let mut faults = Faults {
         alloc,

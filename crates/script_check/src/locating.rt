@@ -169,8 +169,8 @@ fn value_of(members: &[Member], word: &str) -> Option<usize> {
     found
 }
 
-/// Where what a path names begins in the text of a script; where it isn't there, what it would
-/// stand in.
+/// Returns where the value at a path begins in the text of a script. Of a missing value it is where
+/// the object that should have it begins.
 pub(crate) fn offset_of(text: &[u8], members: &[Member], path: Path) -> usize {
     let Some(value) = value_of(members, key_word(path.key)) else {
         return document_at(text);

@@ -24,7 +24,7 @@ struct Lines {
     count: usize,
 }
 
-// A path as it is told: its key, and its indexes.
+// Returns the text of a path: its key, and its indexes.
 fn path_text(alloc: Global, path: Path) -> Result<String, AllocError> {
     let word = key_word(path.key);
     match (path.item, path.inner) {
@@ -43,7 +43,7 @@ impl Lines {
         }
     }
 
-    // Adds what is told of a path, and of what begins at an offset, unless there are enough lines.
+    // Adds a line about a path, and about the value at an offset, unless there are enough lines.
     fn add(
         &mut self,
         source: Source<'_>,

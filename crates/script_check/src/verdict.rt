@@ -1,9 +1,9 @@
-//! What is told of a script.
+//! Verdicts on scripts.
 
 use machine::Refusal;
 use script::ScriptFault;
 
-/// What a script comes to.
+/// The verdict on a script.
 #[derive(Clone, Copy)]
 pub enum Verdict {
     /// It is read, and its whole schedule runs.

@@ -7,7 +7,7 @@ enum Within {
     /// No string.
     Plain,
     String,
-    /// A string, behind a backslash.
+    /// A string, after a backslash.
     Escape,
 }
 
@@ -21,7 +21,7 @@ pub(crate) enum Begins {
     End,
 }
 
-/// How far a list or an object was read, from behind its bracket on.
+/// How far a list or an object was read, after its opening bracket.
 #[derive(Clone, Copy)]
 pub(crate) struct Walk {
     /// How many lists and objects inside are open.
@@ -72,7 +72,7 @@ impl Walk {
         }
     }
 
-    /// Reads the next byte, and tells what begins there.
+    /// Reads the next byte, and returns what begins there.
     pub fn read(&mut self, byte: u8) -> Begins {
         if self.depth == 0 && matches!(self.within, Within::Plain) {
             return self.read_outside(byte);

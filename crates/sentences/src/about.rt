@@ -10,7 +10,7 @@ pub(crate) struct About {
     pub number: u32,
     pub row: Row,
     pub moment: u32,
-    /// Where it stands among all findings.
+    /// Its index among all findings.
     pub index: usize,
 }
 

@@ -57,7 +57,7 @@ pub(crate) fn severed(alloc: Global, run: &Run<'_>, about: &About) -> Result<Str
 enum Cause {
     /// This row broke its chain.
     Chain(u32),
-    /// It guards this row, which ended.
+    /// Its target, which completed.
     Target(u32),
     /// This row cancelled it.
     Cancel(u32),
@@ -155,7 +155,7 @@ pub(crate) fn canceled(alloc: Global, run: &Run<'_>, about: &About) -> Result<St
     }
 }
 
-/// A hard link that held behind a bad end.
+/// Returns the sentence of a hard link that held after a failure.
 pub(crate) fn went_on(alloc: Global, run: &Run<'_>, about: &About) -> Result<String, AllocError> {
     let name = about.name();
     let told = ResultName(about.result(run));

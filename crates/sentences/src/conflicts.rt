@@ -60,7 +60,7 @@ pub(crate) fn buffer_in_use(
     )
 }
 
-/// Bytes of a file that were moved beside a request that asks for them.
+/// Returns the sentence of two unordered requests for the same bytes of a file.
 pub(crate) fn unordered(alloc: Global, run: &Run<'_>, about: &About) -> Result<String, AllocError> {
     let name = about.name();
     let stage = stage(run, about);
@@ -72,7 +72,7 @@ pub(crate) fn unordered(alloc: Global, run: &Run<'_>, about: &About) -> Result<S
     )
 }
 
-/// A position that was moved beside a request that begins at it.
+/// Returns the sentence of two unordered requests at the position of one descriptor.
 pub(crate) fn shared_position(
     alloc: Global,
     run: &Run<'_>,

@@ -15,7 +15,7 @@ use std::alloc::{AllocError, Global};
 
 const DRAIN_RULE: &str = "(io_uring_enter(2), IOSQE_IO_DRAIN)";
 
-// Whether a row of a number is unfinished, no guard, and before another in its chain.
+// Returns whether a row is incomplete, no linked timeout, and before another in its chain.
 fn is_before_in_chain(run: &Run<'_>, number: u32, unit: u32) -> bool {
     match run.row(number) {
         Some(row) => row.unit == unit && is_unfinished(&row) && !is_guard(&row),

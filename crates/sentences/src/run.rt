@@ -1,4 +1,4 @@
-//! A run that has ended, as sentences look at it.
+//! A run that has ended, as sentences see it.
 
 use crate::names::RowName;
 use entries::{Phase, Row};
@@ -153,8 +153,8 @@ impl Run<'_> {
         None
     }
 
-    /// The row of another's chain, below a number, of which a kind was told last at a moment,
-    /// before a place in the list.
+    /// Returns the row of another's chain, below a number, with the last finding of a kind at a
+    /// moment, before an index of the list.
     fn told_before(
         &self,
         index: usize,
@@ -177,7 +177,7 @@ impl Run<'_> {
         None
     }
 
-    /// The row before another that broke its chain at a moment: it is told before it in the list.
+    /// Returns the row before another that broke its chain at a moment. The list has it first.
     pub(crate) fn severing(&self, index: usize, number: u32, moment: u32) -> Option<u32> {
         self.told_before(index, Kind::Severed, number, moment, number)
     }

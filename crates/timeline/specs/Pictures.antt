@@ -21,7 +21,7 @@ picture_of path =
     if ends_with nat_eq path (codes ".html") then Some Page
     else if ends_with nat_eq path (codes ".json") then Some TraceEvents else None
 
--- whether so many events are too many to be drawn without both ends of a window
+-- whether a number of events is too large to be drawn without both ends of a window
 abbrev pub is_long : ℕ → Window → Bool
 is_long count w = nat_lt 5000 count && (not (is_some w.from) || not (is_some w.to))
 

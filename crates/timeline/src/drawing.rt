@@ -58,14 +58,14 @@ pub fn picture_of(path: &str) -> Option<Picture>
     None
 }
 
-// Whether so many events are too many to be drawn without both ends.
+// Returns whether a number of events is too large to be drawn without both ends.
 fn is_long(count: usize, window: Window) -> bool
     ensures { result ≡ is_long count window }
 {
     count > MOST_EVENTS && (window.from.is_none() || window.to.is_none())
 }
 
-// The events of a window, of so many.
+// Returns the events of a window over `count` events.
 fn range_of(count: u32, window: Window) -> EventRange {
     let to = window.to.unwrap_or(count).min(count);
     EventRange {
@@ -220,8 +220,7 @@ fn draw_trace(
     draw_events(alloc, name, &setup, &events, window, picture)
 }
 
-/// Draws what the bytes are: a trace where the first one is a `U`, and else a script. The picture
-/// tells the run's name.
+/// Draws a run: a trace if the first byte is a `U`, else a script. The picture shows the run's name.
 pub fn draw_run(
     alloc: Global,
     name: &str,

@@ -12,7 +12,7 @@ pub(crate) struct Drawn<'a> {
     pub setup: &'a Setup,
     pub range: EventRange,
     pub followed: &'a Followed,
-    /// What `log` tells of the part.
+    /// What `log` prints of the part.
     pub log: &'a [u8],
     pub findings: &'a [Told],
 }

@@ -13,8 +13,7 @@ pub enum TimelineFault {
     Trace(TraceFault),
     /// The event at this index was refused, and why.
     Schedule(u32, Refusal),
-    /// The run has so many events, which are more than are drawn where an end of the range is left
-    /// out.
+    /// The run has this number of events, more than are drawn if an end of the range is left out.
     Long(u32),
     Memory,
 }

@@ -4,7 +4,7 @@ use crate::parts::FindingPart;
 use explanations::Told;
 use std::alloc::{AllocError, Global};
 
-// Whether a finding stands in a part of a run: at one of its events, or at the end where the part
+// Returns whether a finding is in a part of a run: at one of its events, or at the end if the part
 // ends there.
 fn is_within(moment: u32, from: u32, to: u32, count: u32) -> bool {
     from <= moment && (moment < to || moment == to && to == count)
@@ -20,7 +20,7 @@ fn finding_part(told: &Told) -> Result<FindingPart, AllocError> {
     })
 }
 
-/// The findings that stand in a part of a run of so many events.
+/// Returns the findings in a part of a run of `count` events.
 pub(crate) fn finding_parts(
     alloc: Global,
     findings: &[Told],

@@ -429,7 +429,7 @@ function draw() {
     + element('line', {class: 'lane', x1: LABELS, x2: LABELS, y1: 0, y2: height});
 }
 
-// ---- the text beside the picture
+// ---- the text next to the picture
 
 function row_text(row) {
   const flags = Object.entries(FLAGS).filter(([bit]) => row.flags & bit).map(([, name]) => ' ' + name).join('');

@@ -1,11 +1,11 @@
-//! What a page is told, as JSON. Numbers that may pass 2^53 are texts: a browser reads the others
-//! as they are.
+//! The data of a page, as JSON. Numbers that may pass 2^53 are texts, since a browser reads numbers
+//! as floats.
 
 use courses::Filling;
 use serde::Serialize;
 use std::alloc::{AllocError, Global};
 
-/// An event in the words of a schedule, and the lines of what it changed, as `log` tells them.
+/// An event in the words of a schedule, and the lines of what it changed, as `log` prints them.
 #[derive(Drop, Serialize)]
 pub struct StepPart {
     pub event: String,
@@ -26,7 +26,7 @@ pub struct RowPart {
     pub user: String,
     /// The first row of its chain.
     pub unit: u32,
-    /// The row that it guards.
+    /// The row that it limits, of a linked timeout.
     pub target: Option<u32>,
     pub queued: u32,
     pub issued: Option<u32>,
@@ -54,7 +54,7 @@ pub struct PagePart<'a> {
     pub run: &'a str,
     /// The first event that is shown.
     pub from: u32,
-    /// Behind the last one.
+    /// The end: one more than the last.
     pub to: u32,
     pub events: u32,
     /// The sizes of the rings.
@@ -66,7 +66,7 @@ pub struct PagePart<'a> {
     /// Each thread's instructions.
     pub programs: Vec<Vec<String>>,
     pub steps: Vec<StepPart>,
-    /// From the moment before the first event to that behind the last.
+    /// From the moment before the first event to the moment after the last.
     pub fillings: Vec<FillingPart>,
     pub rows: Vec<RowPart>,
     pub findings: Vec<FindingPart>,

@@ -25,12 +25,12 @@ fn event_count(course: &Course) -> u32 {
         .min(u32::MAX as usize) as u32
 }
 
-// The end of a range of so many events.
+// Returns the end of a range over `count` events.
 fn end_of(range: EventRange, count: u32) -> u32 {
     range.to.unwrap_or(count)
 }
 
-// Whether a row stands between two moments.
+// Returns whether a row is present between two moments.
 fn is_within(part: &RowPart, from: u32, to: u32) -> bool {
     part.queued <= to
         && match part.ended {
@@ -39,7 +39,7 @@ fn is_within(part: &RowPart, from: u32, to: u32) -> bool {
         }
 }
 
-// The rows that stand between two moments.
+// Returns the rows that are present between two moments.
 fn row_parts(
     alloc: Global,
     rows: &[Row],
@@ -81,7 +81,7 @@ fn programs(alloc: Global, setup: &Setup) -> Result<Vec<Vec<String>>, AllocError
     Ok(texts)
 }
 
-// What a thread does next, as `show` tells it.
+// Returns what each thread does next, as `show` prints it.
 fn stage_texts(alloc: Global, standing: &Standing) -> Result<Vec<String>, AllocError> {
     let mut texts = Vec::new(alloc);
     for stage in &standing.stages {
@@ -102,7 +102,7 @@ fn poller_text(alloc: Global, standing: &Standing) -> Result<Option<String>, All
     }
 }
 
-/// All that the page of a run shows.
+/// Returns the data of the page of a run.
 pub(crate) fn page_part<'a>(alloc: Global, drawn: Drawn<'a>) -> Result<PagePart<'a>, AllocError> {
     let setup = drawn.setup;
     let course = &drawn.followed.course;
@@ -140,7 +140,7 @@ fn slice_before(tracks: &[u32], from: u32, moment: Option<u32>) -> Option<Slice>
     }
 }
 
-// Which of the rows before one is linked to it: guards stand between.
+// Returns which earlier row is linked to a row; linked timeouts may be between them.
 fn linked_before(parts: &[RowPart], index: usize) -> Option<usize> {
     let part = parts.get(index)?;
     let before = index.checked_sub(1)?;

@@ -1,4 +1,4 @@
-//! What the log of a run tells of its events, in parts.
+//! The log of a run, split into its events.
 
 use crate::parts::StepPart;
 use std::alloc::{AllocError, Global};
