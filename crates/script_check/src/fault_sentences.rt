@@ -20,7 +20,7 @@ const OBJECT: &str =
 const PIECE: &str = "a piece of memory is [address, \"hex\"], with two hex digits per byte";
 
 const DESCRIPTOR: &str =
-    "a descriptor is a string: an object's name, and for a pipe :r or :w after it";
+    "a descriptor is a string: an object's name, for a pipe followed by :r or :w";
 
 // Returns the form of an instruction with a word.
 fn instruction_of_word(word: &str) -> &'static str {

@@ -173,7 +173,7 @@ fn piece(alloc: Global, value: &Value) -> Result<String, AllocError> {
 fn descriptor(alloc: Global, value: &Value) -> Result<String, AllocError> {
     let stands = shown(alloc, value)?;
     format!(in alloc;
-        "{stands}, but there is no such object or end: a file or an eventfd has its name, a pipe p has p:r and p:w"
+        "{stands}, but there is no such object or end: write the name of a file or an eventfd, and p:r or p:w for an end of a pipe p"
     )
 }
 

@@ -34,7 +34,7 @@ fn timed_out(alloc: Global, run: &Run<'_>, about: &About) -> Result<String, Allo
     };
     if run.ends_at(target, about.moment) {
         return format!(in alloc;
-            "Row {name} expired and canceled its target, row {of}, with -125 (ECANCELED). What the target waited for may be there by now all the same {LINK_TIMEOUT_RULE}."
+            "Row {name} expired and canceled its target, row {of}, with -125 (ECANCELED). That says nothing about what the target waited for, which may be there by now {LINK_TIMEOUT_RULE}."
         );
     }
     format!(in alloc;

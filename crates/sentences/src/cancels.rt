@@ -241,7 +241,7 @@ fn became(alloc: Global, run: &Run<'_>, number: u32) -> Result<String, AllocErro
 fn advice_of(run: &Run<'_>, number: u32) -> &'static str {
     match run.row(number) {
         Some(row) if row.entry.opcode == Op::Read as u8 || row.entry.opcode == Op::Write as u8 => {
-            ". Until it completes, its buffer belongs to the kernel"
+            ". Until a request completes, its buffer belongs to the kernel"
         }
         _ => "",
     }

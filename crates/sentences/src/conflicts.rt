@@ -53,10 +53,11 @@ pub(crate) fn buffer_in_use(
     let name = about.name();
     let stage = stage(run, about);
     let writer = writer(alloc, run, about)?;
+    let number = about.number;
     let address = about.row.entry.addr;
     let buffer = Counted::bytes(u64::from(about.row.entry.len));
     format!(in alloc;
-        "Row {name} was {stage} as {writer} into its buffer ({buffer} from address {address} on), and nothing orders the two. Until a request completes, its buffer belongs to the kernel {READ_RULE}."
+        "Row {name} was {stage} as {writer} into row {number}'s buffer ({buffer} from address {address} on), and nothing orders the two. Until a request completes, its buffer belongs to the kernel {READ_RULE}."
     )
 }
 

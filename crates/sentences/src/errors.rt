@@ -25,7 +25,7 @@ fn word_of_end(res: i32) -> &'static str {
         return "its buffer extends past the end of memory";
     }
     if res == -EFBIG {
-        return "its offset is past the largest size of a file";
+        return "a file can't grow that far";
     }
     if res == -EPIPE {
         return "the pipe has no reader";

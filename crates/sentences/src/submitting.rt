@@ -128,7 +128,7 @@ fn reason_of_op(
     if matches!(op, Op::LinkTimeout) && !has_target(run, about.number) {
         return String::from_str(
             alloc,
-            "it has no target: the entry before it must belong to its chain, and be no LINK_TIMEOUT",
+            "it has no target, as the entry before it is not of its chain, or is a LINK_TIMEOUT",
         );
     }
     if let Some(
