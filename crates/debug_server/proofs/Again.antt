@@ -1,8 +1,7 @@
--- Runs and sessions give the same results for the original setup and for the setup stored in its
--- trace.
-use Rattle.std.proofs.Common.{◌≡◌, ℕ, suc, Bool, true, false, cond, List, [], ◌∷◌, length, take, drop, Option, Some, None, Result, Ok, Err, refl, sym, ap, subst, ◌∙◌, ◌+◌, ◌-◌}
-use Rattle.std.specs.Prelude.{nat_lt, nat_le, if◌then◌else◌}
-use Rattle.std.specs.List.{range_with_len}
+-- A run, and what a session of it replies, from the setup that a trace has and from the setup that
+-- the trace was written of.
+use Rattle.std.proofs.Common.{◌≡◌, ℕ, Bool, true, false, List, [], ◌∷◌, length, take, drop, Option, Some, None, Result, Ok, Err, refl, ap, subst, ◌+◌}
+use Rattle.std.specs.Prelude.{nat_lt, if◌then◌else◌}
 use Rattle.places.specs.declared.place.Place.{Place}
 use Rattle.scenario.specs.Setups.{setup_refusal}
 use Rattle.scenario.specs.Names.{is_member, member_of, number_of, pair_named, place_in, place_named, kind_named}
@@ -15,19 +14,16 @@ use Rattle.scenario.specs.declared.event.Refusal.{Refusal}
 use Rattle.scenario.specs.declared.setup.Setup.{Setup}
 use Rattle.machine.specs.declared.whole.Machine.{Machine}
 use Rattle.machine.specs.Steps.{refusal}
-use Rattle.machine.specs.Whole.{view}
 use Rattle.machine.specs.Runs.{start, run, Accepts, IsRefused}
-use Rattle.commands.specs.declared.command.Command.{Command}
-use Rattle.commands.specs.declared.command.Command.TheVariants.{Where, Show, Goto, Back, On, Watch, Break, Unwatch, Cont, Rcont, Sync, Quit}
-use Rattle.commands.specs.declared.command.CommandFault.{CommandFault}
+use Rattle.commands.specs.declared.command.Command.TheVariants.{Show, Watch}
 use Rattle.commands.specs.declared.command.CommandFault.TheVariants as fault
 use Rattle.commands.specs.declared.verb.Verb.{Verb}
 use Rattle.commands.specs.declared.verb.Verb.TheVariants as verb
-use Rattle.commands.specs.Commands.{break_named, breaking_by, command_by, command_of, command_of_words, mark_of, placed, stopping_at, value_in, verb_of, words_of}
+use Rattle.commands.specs.Commands.{breaking_by, command_by, command_of, command_of_words, mark_of, placed, stopping_at, value_in, verb_of, words_of}
 use Rattle.traces.specs.Setups.{canonical}
 use Rattle.traces.proofs.Kept.{completion_size_kept, memory_few, submission_size_kept, trimmed_filled}
 
--- ---- The start
+-- ---- the start
 
 pub start_again : (s : Setup) → setup_refusal s ≡ None → start (canonical s) ≡ start s
 start_again s h = rw (submission_size_kept s h, completion_size_kept s h, trimmed_filled 65536 s.memory (memory_few s h)) refl
@@ -43,7 +39,7 @@ refused_again s es i n h r = record {
   refused = subst (λ (m : Machine). refusal (run m (take i es)) r.event ≡ Some n) (start_again s h) r.refused;
 }
 
--- ---- The commands
+-- ---- the commands
 
 member_again : (s : Setup) → setup_refusal s ≡ None → (k : PlaceKind) (i : ℕ) → is_member (canonical s) k i ≡ is_member s k i
 member_again s h kind.Array i = ap (λ (n : ℕ). nat_lt i n) (submission_size_kept s h)

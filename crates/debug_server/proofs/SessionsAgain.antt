@@ -4,7 +4,6 @@ use Rattle.std.proofs.Common.{◌≡◌, ℕ, Bool, true, false, List, [], ◌�
 use Rattle.std.specs.Prelude.{nat_lt, nat_le, if◌then◌else◌}
 use Rattle.std.specs.List.{range_with_len}
 use Rattle.std.specs.Io.KnownBytes.{Appends}
-use Rattle.places.specs.declared.place.Place.{Place}
 use Rattle.places.specs.View.{View}
 use Rattle.scenario.specs.Setups.{setup_refusal}
 use Rattle.scenario.specs.declared.event.Event.{Event}
@@ -15,18 +14,16 @@ use Rattle.machine.specs.Runs.{start, run}
 use Rattle.watches.specs.declared.stopping.Stop.{Stop}
 use Rattle.watches.specs.declared.stopping.Stop.TheVariants.{Change, Met, Start, End}
 use Rattle.watches.specs.Stops.{changes, meets, first_stop, moments_before, reverse_stop, forward_stop}
-use Rattle.watches.specs.Watchpoints.{Stops}
 use Rattle.commands.specs.declared.command.Command.{Command}
 use Rattle.commands.specs.declared.command.Command.TheVariants.{Where, Show, Goto, Back, On, Watch, Break, Unwatch, Cont, Rcont, Sync, Quit}
 use Rattle.commands.specs.declared.command.CommandFault.{CommandFault}
-use Rattle.commands.specs.declared.command.CommandFault.TheVariants as fault
 use Rattle.commands.specs.Commands.{command_of}
 use Rattle.traces.specs.Setups.{canonical}
 use Rattle.debug_server.specs.SessionStates.{SessionState}
 use Rattle.debug_server.specs.Syncs.{torn_from, refused_from}
-use Rattle.debug_server.specs.Replies.{Answer, Reply, agrees, breaks, goes, goes_to, is_full, reply, reply_to, shown_text, stays, stops_back, stops_on, syncs, takes_over, watches}
+use Rattle.debug_server.specs.Replies.{Answer, Reply, agrees, is_full, reply, reply_to, shown_text, stays, stops_back, stops_on, syncs, takes_over}
 use Rattle.debug_server.specs.Schedules.{state_over}
-use Rattle.debug_server.specs.Transcripts.{Broke, Given, Served, Streams, Transcript, Whole, asks, ended, given_to, line_on, output, prepended, transcript}
+use Rattle.debug_server.specs.Transcripts.{Given, Streams, Transcript, asks, ended, given_to, line_on, prepended, transcript}
 use Rattle.debug_server.specs.Lines.{ended_lines}
 use Rattle.debug_server.specs.Walked.{BrokenOff, Walked}
 use Rattle.debug_server.specs.declared.faults.ServeFault.{ServeFault}

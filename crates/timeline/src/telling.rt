@@ -15,7 +15,7 @@ fn line_of(alloc: Global, line: &[u8]) -> Result<String, AllocError> {
     format!(in alloc; "{front}..")
 }
 
-// What stands behind the first space of a line.
+// Returns the text after the first space of a line.
 fn behind_number(line: &[u8]) -> &[u8] {
     for (index, byte) in line.iter().enumerate() {
         if *byte == b' ' {

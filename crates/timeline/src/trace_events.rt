@@ -34,7 +34,7 @@ fn json<T: Serialize>(alloc: Global, value: &T) -> Result<String, AllocError> {
     }
 }
 
-// Adds an event of the format behind others, by its members.
+// Appends an event of the format, by its members.
 fn add(out: &mut Vec<u8>, members: &str) -> Added {
     out.extend_from_slice(b",\n{\"pid\":1,")?;
     out.extend_from_slice(members.as_bytes())?;
@@ -206,7 +206,7 @@ fn asked(alloc: Global, part: &RowPart) -> Result<String, AllocError> {
     )
 }
 
-// A moment, if it isn't behind another.
+// Returns a moment, if it isn't after another.
 fn up_to(last: u32, moment: Option<u32>) -> Option<u32> {
     match moment {
         Some(moment) if moment <= last => Some(moment),
@@ -222,7 +222,7 @@ fn add_row_end(alloc: Global, out: &mut Vec<u8>, part: &RowPart, name: &str, mom
 }
 
 /// Adds a row as an asynchronous slice, and within it how long it was queued and issued. What comes
-/// behind the last moment is left out.
+/// after the last moment is left out.
 pub(crate) fn add_row(alloc: Global, out: &mut Vec<u8>, part: &RowPart, last: u32) -> Added {
     let row = part.row;
     let operation = part.name;
@@ -249,7 +249,8 @@ pub(crate) fn add_row(alloc: Global, out: &mut Vec<u8>, part: &RowPart, last: u3
     }
 }
 
-/// Adds the flow from the event that ended a row to the one by which the next of its chain went on.
+/// Adds the flow from the event that completed a row to the next event of the row after it in its
+/// chain.
 pub(crate) fn add_link(
     alloc: Global,
     out: &mut Vec<u8>,

@@ -18,7 +18,7 @@ fn json_of(alloc: Global, value: &PagePart<'_>) -> Result<Vec<u8>, TimelineFault
     }
 }
 
-// Writes JSON where a page holds it: a `<` stands in its texts alone, and is escaped there.
+// Writes JSON into a page. A `<` occurs only in its texts, where it is escaped.
 fn put_json(out: &mut Vec<u8>, json: &[u8]) -> Result<(), AllocError> {
     for (i, part) in json.split(|byte| *byte == b'<').enumerate() {
         if i > 0 {

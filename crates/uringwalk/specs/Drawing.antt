@@ -5,7 +5,7 @@ use Rattle.debug_server.specs.declared.faults.RunFault.TheVariants as run
 use Rattle.timeline.specs.declared.fault.TimelineFault.{TimelineFault}
 use Rattle.timeline.specs.declared.fault.TimelineFault.TheVariants.{Script, Trace, Schedule, Long, Memory}
 
--- what a run that isn't drawn is told as
+-- the fault that is reported for a run that isn't drawn
 abbrev pub told_as : TimelineFault → Fault
 told_as (Script fault) = Run (run.Script fault)
 told_as (Trace fault) = Run (run.Trace fault)

@@ -5,7 +5,7 @@ use Rattle.debug_server.specs.declared.faults.Fault.{Fault}
 use Rattle.debug_server.specs.declared.faults.Fault.TheVariants.{File, Run}
 use Rattle.debug_server.specs.declared.faults.RunFault.TheVariants.{Memory}
 
--- what a fault of a file is told as
+-- the fault that is reported for a file
 abbrev pub told_as : FileFault → Fault
 told_as WantOfMemory = Run Memory
 told_as OfAFile = File

@@ -6,7 +6,7 @@ use Rattle.debug_server.specs.declared.faults.ServeFault.TheVariants as serve
 use Rattle.script.specs.declared.log_fault.LogFault.{LogFault}
 use Rattle.script.specs.declared.log_fault.LogFault.TheVariants.{Script, Trace, Schedule, Write, Memory}
 
--- what a log that ended early is told as
+-- the fault that is reported for a log that ended early
 abbrev pub told_as : LogFault → Fault
 told_as (Script fault) = Run (run.Script fault)
 told_as (Trace fault) = Run (run.Trace fault)

@@ -12,13 +12,13 @@ use whole_files::{lead_to_one_file, read_file, write_file};
 /// The status of words that can't be followed.
 const WORDS: u8 = 2;
 
-/// What is told where OUT is another path of the run's file.
+/// The message if OUT is another path of the run's file.
 const ONTO_RUN: &str = "error: OUT leads to RUN's own file: the picture would overwrite the run";
 
 const NO_PICTURE: &str = "error: OUT must end in .html or .json";
 
-/// What a run that isn't drawn is told as; one of too many events, which words can mend, is told by
-/// them.
+/// Returns the fault that is reported for a run that isn't drawn. A run with too many events has a
+/// message of its own instead, since other words can draw it.
 pub fn fault_of_drawing(fault: TimelineFault) -> Fault
     ensures { result ≡ told_as fault }
 {
@@ -30,7 +30,7 @@ pub fn fault_of_drawing(fault: TimelineFault) -> Fault
     })
 }
 
-// Tells that a run has too many events.
+// Reports that a run has too many events.
 fn refuse_long(rt: &impl Eprint, events: u32) -> ExitCode {
     match eprintln!(rt;
         "error: RUN has {events} events: more than 5000 need both --from and --to"

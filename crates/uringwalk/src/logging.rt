@@ -10,7 +10,7 @@ use std::io;
 use std::rt::Files;
 use whole_files::read_file;
 
-/// What a log that ended early is told as.
+/// Returns the fault that is reported for a log that ended early.
 pub fn fault_of_log(fault: LogFault) -> Fault
     ensures { result ≡ told_as fault }
 {

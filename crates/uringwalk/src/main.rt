@@ -33,7 +33,7 @@ use std::{env, fmt, io};
 use timeline::Window;
 use whole_files::{FileFault, lead_to_one_file, read_file, write_file};
 
-/// One byte more than a script may have: what lies behind it is not read.
+/// One byte more than a script may have: what follows is not read.
 const SCRIPT_AND_ONE: u64 = 8388609;
 
 /// One byte more than a trace of the first form may have.
@@ -43,18 +43,18 @@ const TRACE_AND_ONE: u64 = 16777229;
 /// long, 64 descriptors, 16 programs of 4,096 stores of 4,096 bytes, and 1,048,576 events.
 const WHOLE_TRACE_AND_ONE: u64 = 287966118;
 
-/// What is told where OUT is another path of the script's file.
+/// The message if OUT is another path of the script's file.
 const ONTO_SCRIPT: &str =
     "error: OUT leads to SCRIPT's own file: the trace would overwrite the script";
 
-/// What a session stands over.
+/// What a session is opened over.
 #[derive(Clone, Copy)]
 enum Over {
     Script,
     Trace,
 }
 
-// What a file's fault is told as.
+// Returns the fault that is reported for a file.
 fn told(fault: FileFault) -> Fault
     ensures { result ≡ told_as fault }
 {
@@ -104,7 +104,7 @@ fn trace_file(
     keep(rt, out, &trace_script(rt.alloc(), &text, form)?)
 }
 
-// A trace of the first form, behind a script's setup, in a file.
+// Writes the events of a trace of the first form, after a script's setup, to a file.
 fn migrate_file(
     rt: &(impl Files + Print + AllocGlobal),
     script: &str,
@@ -193,7 +193,7 @@ fn fail<T: fmt::Display>(rt: &impl Eprint, status: u8, line: &T) -> ExitCode {
     }
 }
 
-// Ends for want of memory.
+// Reports that memory ran out.
 fn fail_for_memory(rt: &impl Eprint) -> ExitCode {
     fail(rt, 1, &Fault::Run(RunFault::Memory))
 }

@@ -1,4 +1,4 @@
-//! Clients of a run that goes on.
+//! Serving clients of a run while threads make it.
 ghost use Rattle.std.specs.Prelude.{◌≤◌};
 
 use crate::{SCRIPT_AND_ONE, told};
@@ -59,7 +59,7 @@ fn serve_script<
 }
 
 /// Listens on a port of loopback, prints it, and serves clients the run that threads make meanwhile
-/// over a script's setup. It ends after so many sessions, or goes on.
+/// over a script's setup. It ends after a number of sessions, or never.
 pub fn serve_file<
     R: Files
         + Print
