@@ -1,5 +1,5 @@
--- A run, and what a session of it replies, from the setup that a trace has and from the setup that
--- the trace was written of.
+-- Runs and sessions give the same results for the original setup and for the setup stored in its
+-- trace.
 use Rattle.std.proofs.Common.{◌≡◌, ℕ, Bool, true, false, List, [], ◌∷◌, length, take, drop, Option, Some, None, Result, Ok, Err, refl, ap, subst, ◌+◌}
 use Rattle.std.specs.Prelude.{nat_lt, if◌then◌else◌}
 use Rattle.places.specs.declared.place.Place.{Place}
@@ -23,7 +23,7 @@ use Rattle.commands.specs.Commands.{breaking_by, command_by, command_of, command
 use Rattle.traces.specs.Setups.{canonical}
 use Rattle.traces.proofs.Kept.{completion_size_kept, memory_few, submission_size_kept, trimmed_filled}
 
--- ---- the start
+-- ---- The start
 
 pub start_again : (s : Setup) → setup_refusal s ≡ None → start (canonical s) ≡ start s
 start_again s h = rw (submission_size_kept s h, completion_size_kept s h, trimmed_filled 65536 s.memory (memory_few s h)) refl
@@ -39,7 +39,7 @@ refused_again s es i n h r = record {
   refused = subst (λ (m : Machine). refusal (run m (take i es)) r.event ≡ Some n) (start_again s h) r.refused;
 }
 
--- ---- the commands
+-- ---- The commands
 
 member_again : (s : Setup) → setup_refusal s ≡ None → (k : PlaceKind) (i : ℕ) → is_member (canonical s) k i ≡ is_member s k i
 member_again s h kind.Array i = ap (λ (n : ℕ). nat_lt i n) (submission_size_kept s h)
