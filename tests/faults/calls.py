@@ -1,4 +1,4 @@
-"""Fails each allocation of a call of the program `growths` in turn, alone and with all later ones.
+"""Fails each allocation of a call of the program `allocation_faults` in turn, alone and with all later ones.
 
 A run prints what its calls answered, and after each call one sum of the state and one of everything else. They are compared
 with those of runs without failures: after a failure everything must be as before the call, and the same call made again must
@@ -35,7 +35,7 @@ def parsed(done):
 
 def ran(room, situation, number, how="one"):
     """Runs a situation. Returns what it printed, whether the failure was injected, and the number of allocations."""
-    words = [room.growths, *situation.words(room.script(situation.over), number)]
+    words = [room.allocation_faults, *situation.words(room.script(situation.over), number)]
     done, reached, count = room.ran(words, "allocation", how, None, room.lines_of(situation.asked))
     return parsed(done), reached, count
 
@@ -61,7 +61,7 @@ class Expected:
 def stepped(room, over, at):
     """Returns the sums of the states before and after an event of a schedule, as `State::step` leaves them."""
     if (over, at) not in room.made:
-        words = [room.growths, "step", room.script(over), "0", str(at), "0"]
+        words = [room.allocation_faults, "step", room.script(over), "0", str(at), "0"]
         (_, before), (_, after) = parsed(room.ran(words, "allocation", "one", None)[0])
         room.made[over, at] = before[:2], after[:2]
     return room.made[over, at]

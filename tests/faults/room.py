@@ -27,7 +27,7 @@ class Room:
         self.path = path
         self.shim = f"{path}/shim.so"
         subprocess.run(["cc", "-O2", "-shared", "-fPIC", "-o", self.shim, f"{HERE}/shim.c", "-ldl"], check=True)
-        self.growths = os.environ.get("GROWTHS", f"{TOP}/crates/growths/out/growths")
+        self.allocation_faults = os.environ.get("ALLOCATION_FAULTS", f"{TOP}/crates/allocation_faults/out/allocation_faults")
         self.uringwalk = os.environ.get("URINGWALK", f"{TOP}/crates/uringwalk/out/uringwalk")
         for name in SCRIPTS:
             with open(self.script(name), "w", encoding="ascii") as it:

@@ -1,4 +1,4 @@
-"""The scripts on which failures are injected, and the calls of the program `growths` on them."""
+"""The scripts on which failures are injected, and the calls of the program `allocation_faults` on them."""
 import json
 
 NOP, FSYNC, POLL_ADD, POLL_REMOVE, TIMEOUT, TIMEOUT_REMOVE = 0, 3, 6, 7, 11, 12
@@ -153,7 +153,7 @@ def shown_places(run, memory=65536):
 
 
 class Situation:
-    """A call of `growths` on a script, and what a failed allocation makes of it.
+    """A call of `allocation_faults` on a script, and what a failed allocation makes of it.
 
     over     the script
     answers  the answers to failed allocations, each of which must occur; None is any number

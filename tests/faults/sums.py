@@ -1,4 +1,4 @@
-"""Computes in Python the sums that the program `growths` prints."""
+"""Computes in Python the sums that the program `allocation_faults` prints."""
 import struct
 
 

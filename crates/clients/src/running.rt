@@ -74,7 +74,7 @@ fn serve_over<L: Ledger + Send + Sync, R: Threads + Wait + Clock + Sync>(
         return Err(Fault::Run(RunFault::Memory));
     };
     let lock = Mutex::new(live);
-    match run_beside(rt, alloc, script, listener, &lock, seats, turns, sessions) {
+    match run_with_clients(rt, alloc, script, listener, &lock, seats, turns, sessions) {
         Ok(workers) => close_run(lock.into_inner(), setup, actors(setup, kernel), workers),
         Err(fault) => Err(Fault::Run(fault)),
     }
@@ -100,7 +100,7 @@ fn close_run<'g, L: Ledger>(
 }
 
 // Runs one thread per seat and serves clients meanwhile. Returns when all threads have ended.
-fn run_beside<L: Ledger + Send + Sync, R: Threads + Wait + Clock + Sync>(
+fn run_with_clients<L: Ledger + Send + Sync, R: Threads + Wait + Clock + Sync>(
     rt: &R,
     alloc: Global,
     script: &Script,
@@ -132,7 +132,7 @@ fn run_beside<L: Ledger + Send + Sync, R: Threads + Wait + Clock + Sync>(
             ensures { HandlesInOrder result.0.items × AllOfTurns turns result.0.items
                 × IfErr result.1 (IsOf (OfMemory ∷ OfListening ∷ [])) }
         {
-            start_beside(
+            start_with_clients(
                 scope, rt, alloc, script, listener, lock, seats, turns, sessions, handles,
             )
         },
@@ -148,7 +148,7 @@ fn run_beside<L: Ledger + Send + Sync, R: Threads + Wait + Clock + Sync>(
 }
 
 // Starts one thread per seat, and serves clients if all threads were started.
-fn start_beside<'s, E, L: Ledger + Send + Sync + 's, R: Threads + Wait + Clock + Sync + 's>(
+fn start_with_clients<'s, E, L: Ledger + Send + Sync + 's, R: Threads + Wait + Clock + Sync + 's>(
     scope: &Scope<'s, E>,
     rt: &'s R,
     alloc: Global,

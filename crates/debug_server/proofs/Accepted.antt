@@ -11,7 +11,7 @@ use Rattle.entries.specs.declared.row.Phase.TheVariants.{Queued, Issued, Ended}
 use Rattle.model_files.specs.declared.descriptor.DescriptorState.{DescriptorState}
 use Rattle.model_files.specs.declared.stock.Stock.{Stock}
 use Rattle.model_files.specs.declared.stock.Stock.TheVariants.{File, Pipe, EventFd}
-use Rattle.model_files.specs.Ends.{mask_behind}
+use Rattle.model_files.specs.Ends.{mask_of_descriptor}
 use Rattle.model_files.specs.Worlds.{WorldState, number_at}
 use Rattle.entries.specs.declared.choice.Choice.TheVariants.{Full, Short, Eio}
 use Rattle.opcodes.specs.declared.op.Op.{Op}
@@ -20,14 +20,14 @@ use Rattle.opcodes.specs.declared.ending.Outcome.{Outcome}
 use Rattle.opcodes.specs.declared.ending.Outcome.TheVariants.{Res, Waits, BadChoice}
 use Rattle.opcodes.specs.Check.{op_of}
 use Rattle.opcodes.specs.Opcodes.{is_cancel}
-use Rattle.opcodes.specs.Outcomes.{held_descriptor, stock_behind, position_of, writer_behind, reader_behind, is_bad_offset, offset_of, passes_memory, ready_of, waits_for_room, file_read, file_written, pipe_read, pipe_written, event_read, event_written, fsync_outcome, read_outcome, write_outcome, outcome_on}
+use Rattle.opcodes.specs.Outcomes.{held_descriptor, stock_at, position_of, has_writer_at, has_reader_at, is_bad_offset, offset_of, passes_memory, ready_of, waits_for_room, file_read, file_written, pipe_read, pipe_written, event_read, event_written, fsync_outcome, read_outcome, write_outcome, outcome_on}
 use Rattle.scenario.specs.declared.event.Event.{Event}
 use Rattle.scenario.specs.declared.event.Event.TheVariants.{Step, Take, Sleep, Issue, Finish, Expire, Tick}
 use Rattle.scenario.specs.declared.event.Refusal.{Refusal}
 use Rattle.scenario.specs.declared.event.Refusal.TheVariants.{BadChoice as BadlyChosen}
 use Rattle.scenario.specs.declared.setup.Setup.{Setup}
 use Rattle.scenario.specs.declared.setup.SetupRefusal.{SetupRefusal}
-use Rattle.scenario.specs.declared.setup.SetupRefusal.TheVariants.{Memory as WantOfMemory}
+use Rattle.scenario.specs.declared.setup.SetupRefusal.TheVariants.{Memory as OutOfMemory}
 use Rattle.machine.specs.declared.whole.Machine.{Machine}
 use Rattle.machine.specs.Steps.{refusal, after, outcome_refusal, phase_refusal, finish_refusal}
 use Rattle.machine.specs.Runs.{run, start, Accepts, IsRefused}
@@ -97,15 +97,15 @@ syncs (Some (EventFd counter)) = bad
 ends : (held : ℕ → Bool) (w : WorldState) (e : Sqe) (op : Option Op) (d : Option DescriptorState) → NoResult (outcome_on held w e op d (Short zero))
 ends held w e None d = bad
 ends held w e (Some Nop) d = bad
-ends held w e (Some Fsync) d = syncs (stock_behind w d)
-ends held w e (Some PollAdd) d = neither (ready_of e (mask_behind held w d) == 0) _ _ waits bad
+ends held w e (Some Fsync) d = syncs (stock_at w d)
+ends held w e (Some PollAdd) d = neither (ready_of e (mask_of_descriptor held w d) == 0) _ _ waits bad
 ends held w e (Some PollRemove) d = bad
 ends held w e (Some Timeout) d = bad
 ends held w e (Some TimeoutRemove) d = bad
 ends held w e (Some AsyncCancel) d = bad
 ends held w e (Some LinkTimeout) d = bad
-ends held w e (Some Read) d = neither (passes_memory e) _ _ bad (reads e (position_of d) (writer_behind held w d) (stock_behind w d))
-ends held w e (Some Write) d = neither (passes_memory e) _ _ bad (writes e (position_of d) (reader_behind held w d) (number_at w e.addr) (stock_behind w d))
+ends held w e (Some Read) d = neither (passes_memory e) _ _ bad (reads e (position_of d) (has_writer_at held w d) (stock_at w d))
+ends held w e (Some Write) d = neither (passes_memory e) _ _ bad (writes e (position_of d) (has_reader_at held w d) (number_at w e.addr) (stock_at w d))
 
 -- ---- Accepted events
 
@@ -168,11 +168,11 @@ answering K s es (Err e) a f h = answers s es e a f h
 
 -- ---- Runs that weren't closed
 
-no_start : (setup : Setup) (count : ℕ) (e : LiveFault) → ((n : SetupRefusal) → e ≡ live.Setup n → n ≡ WantOfMemory) → ((s : Setup) (k : ℕ) → e ≡ live.Strange s k → s ≡ setup → k ≢ count) → IsOfRunning setup count e
+no_start : (setup : Setup) (count : ℕ) (e : LiveFault) → ((n : SetupRefusal) → e ≡ live.Setup n → n ≡ OutOfMemory) → ((s : Setup) (k : ℕ) → e ≡ live.Strange s k → s ≡ setup → k ≢ count) → IsOfRunning setup count e
 no_start setup count (live.Setup n) f g = f n refl
 no_start setup count (live.Torn actor) f g = tt
 no_start setup count (live.Strange s k) f g = g s k refl
 
-pub running : {A : Type 0} (setup : Setup) (count : ℕ) (r : Result A LiveFault) → ((n : SetupRefusal) → r ≡ Err (live.Setup n) → n ≡ WantOfMemory) → ((s : Setup) (k : ℕ) → r ≡ Err (live.Strange s k) → s ≡ setup → k ≢ count) → IfErr r (IsOfRunning setup count)
+pub running : {A : Type 0} (setup : Setup) (count : ℕ) (r : Result A LiveFault) → ((n : SetupRefusal) → r ≡ Err (live.Setup n) → n ≡ OutOfMemory) → ((s : Setup) (k : ℕ) → r ≡ Err (live.Strange s k) → s ≡ setup → k ≢ count) → IfErr r (IsOfRunning setup count)
 running setup count (Ok x) f g = tt
 running setup count (Err e) f g = no_start setup count e (λ n h. f n (ap (λ x. Err x) h)) (λ s k h. g s k (ap (λ x. Err x) h))

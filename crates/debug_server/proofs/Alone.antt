@@ -38,19 +38,19 @@ abbrev Same : List (List ℕ) → Type 0
 Same ls = (v : SessionState) (ts us : List Answer) → Unanswered ts → Unanswered us → length ls ≤ length us → (transcript v ls ts).left ≡ Some [] → Alike (transcript v ls us) (transcript v ls ts)
 
 -- The step after a reply.
-behind : (r : Reply) (ls : List (List ℕ)) (ts us : List Answer) → Same ls → Unanswered ts → Unanswered us → length ls ≤ length us → (q : Bool) → (cond q (ended r.next true (Some ts)) (transcript r.next ls ts)).left ≡ Some [] → Alike (prepended r.text (cond q (ended r.next true (Some us)) (transcript r.next ls us))) (prepended r.text (cond q (ended r.next true (Some ts)) (transcript r.next ls ts)))
-behind r ls ts us f a b n true h = record { text = refl; quits = refl }
-behind r ls ts us f a b n false h = let k = f r.next ts us a b n h in record { text = ap (λ x. r.text ++ x) k.text; quits = k.quits }
+rest_alike : (r : Reply) (ls : List (List ℕ)) (ts us : List Answer) → Same ls → Unanswered ts → Unanswered us → length ls ≤ length us → (q : Bool) → (cond q (ended r.next true (Some ts)) (transcript r.next ls ts)).left ≡ Some [] → Alike (prepended r.text (cond q (ended r.next true (Some us)) (transcript r.next ls us))) (prepended r.text (cond q (ended r.next true (Some ts)) (transcript r.next ls ts)))
+rest_alike r ls ts us f a b n true h = record { text = refl; quits = refl }
+rest_alike r ls ts us f a b n false h = let k = f r.next ts us a b n h in record { text = ap (λ x. r.text ++ x) k.text; quits = k.quits }
 
 first_alike : (q : Bool) (v : SessionState) (l : List ℕ) (ls : List (List ℕ)) (ts us : List Answer) → Same ls → Unanswered ts → Unanswered us → length (l ∷ ls) ≤ length us → (first q v l ls ts).left ≡ Some [] → Alike (first q v l ls us) (first q v l ls ts)
-first_alike false v l ls ts us f a b n h = behind (reply v l None) ls ts us f a b (omega arith) (reply v l None).quits h
+first_alike false v l ls ts us f a b n h = rest_alike (reply v l None) ls ts us f a b (omega arith) (reply v l None).quits h
 first_alike true v l ls [] us f a b n h = absurd (cc)
 first_alike true v l ls (t ∷ ts) [] f a b n h = absurd (omega arith)
 first_alike true v l ls (t ∷ ts) (u ∷ us) f a b n h =
     let P : Answer → Type 0 = λ x. (first true v l ls (x ∷ ts)).left ≡ Some [] in
     let Q : Answer → Type 0 = λ x. Alike (first true v l ls (u ∷ us)) (first true v l ls (x ∷ ts)) in
     let R : Answer → Type 0 = λ x. Alike (first true v l ls (x ∷ us)) (first true v l ls (None ∷ ts)) in
-    subst Q (sym a.0) (subst R (sym b.0) (behind (reply v l None) ls ts us f a.1 b.1 (omega arith) (reply v l None).quits (subst P a.0 h)))
+    subst Q (sym a.0) (subst R (sym b.0) (rest_alike (reply v l None) ls ts us f a.1 b.1 (omega arith) (reply v l None).quits (subst P a.0 h)))
 
 alike : (ls : List (List ℕ)) → Same ls
 alike [] v ts us a b n h = record { text = refl; quits = refl }

@@ -76,14 +76,14 @@ ended_lines-plain line h = ap ended_lines (sym (append-nil line)) ∙ lines_by-p
 
 -- ---- Whatever follows
 
-stays_behind : (q : Bool) (b : ℕ) (all ended ls : List (List ℕ)) → all ≡ ended ++ ls → (more : List (List ℕ)) × (cond q ([] ∷ all) (onto_line true b all) ≡ cond q ([] ∷ ended) (onto_line false b ended) ++ more)
-stays_behind true b all ended ls h = (ls, ap (λ x. [] ∷ x) h)
-stays_behind false b all [] ls h = (onto_line true b all, refl)
-stays_behind false b all (l ∷ ended) ls h = (ls, ap (onto_line true b) h)
+stays_rest : (q : Bool) (b : ℕ) (all ended ls : List (List ℕ)) → all ≡ ended ++ ls → (more : List (List ℕ)) × (cond q ([] ∷ all) (onto_line true b all) ≡ cond q ([] ∷ ended) (onto_line false b ended) ++ more)
+stays_rest true b all ended ls h = (ls, ap (λ x. [] ∷ x) h)
+stays_rest false b all [] ls h = (onto_line true b all, refl)
+stays_rest false b all (l ∷ ended) ls h = (ls, ap (onto_line true b) h)
 
 -- Complete lines stay the first lines.
 pub ended_stay : (bytes more : List ℕ) → (ls : List (List ℕ)) × (lines_of (bytes ++ more) ≡ ended_lines bytes ++ ls)
 ended_stay [] more = (lines_of more, refl)
 ended_stay (b ∷ bytes) more =
     let rest = ended_stay bytes more in
-    stays_behind (b == 10) b (lines_of (bytes ++ more)) (ended_lines bytes) rest.0 rest.1
+    stays_rest (b == 10) b (lines_of (bytes ++ more)) (ended_lines bytes) rest.0 rest.1

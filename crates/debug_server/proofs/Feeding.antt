@@ -153,8 +153,8 @@ cut_at w line text given answer b h h' p fits e t f =
 seam : (line bytes : List ℕ) (i : ℕ) → i < length bytes → (line ++ take i bytes) ++ get_or bytes i 0 ∷ [] ≡ line ++ take (i + 1) bytes
 seam line bytes i h = append_assoc line (take i bytes) (get_or bytes i 0 ∷ []) ∙ ap (λ l. line ++ l) (sym (take_more bytes i 0 h))
 
-behind : (line bytes : List ℕ) (i : ℕ) → (line ++ take (i + 1) bytes) ++ drop (i + 1) bytes ≡ line ++ bytes
-behind line bytes i = append_assoc line (take (i + 1) bytes) (drop (i + 1) bytes) ∙ ap (λ l. line ++ l) (take-append-drop (i + 1) bytes)
+joined : (line bytes : List ℕ) (i : ℕ) → (line ++ take (i + 1) bytes) ++ drop (i + 1) bytes ≡ line ++ bytes
+joined line bytes i = append_assoc line (take (i + 1) bytes) (drop (i + 1) bytes) ∙ ap (λ l. line ++ l) (take-append-drop (i + 1) bytes)
 
 pub fed_on : (w v u : SessionState) (line bytes now line' : List ℕ) (ts ts' : List Answer) (i : ℕ) (h h' h'' : Option (List ℕ)) (q : Bool) → i < length bytes → Fills w (line ++ take i bytes) ts h h' false v now → Fills v (now ++ get_or bytes i 0 ∷ []) ts' h' h'' q u line' → Fills w (line ++ take (i + 1) bytes) (ts ++ ts') h h'' q u line'
 fed_on w v u line bytes now line' ts ts' i h h' h'' q lt f g =
@@ -164,18 +164,18 @@ fed_on w v u line bytes now line' ts ts' i h h' h'' q lt f g =
 pub fed_quit : (w v u : SessionState) (line bytes now line' : List ℕ) (ts ts' : List Answer) (i : ℕ) (h h' h'' : Option (List ℕ)) → i < length bytes → Fills w (line ++ take i bytes) ts h h' false v now → Fills v (now ++ get_or bytes i 0 ∷ []) ts' h' h'' true u line' → Fills w (line ++ bytes) (ts ++ ts') h h'' true u line'
 fed_quit w v u line bytes now line' ts ts' i h h' h'' lt f g =
     let P : List ℕ → Type 0 = λ l. Fills w l (ts ++ ts') h h'' true u line' in
-    subst P (behind line bytes i) (fills_past w u (line ++ take (i + 1) bytes) (drop (i + 1) bytes) (ts ++ ts') line' line' h h'' (fed_on w v u line bytes now line' ts ts' i h h' h'' true lt f g))
+    subst P (joined line bytes i) (fills_past w u (line ++ take (i + 1) bytes) (drop (i + 1) bytes) (ts ++ ts') line' line' h h'' (fed_on w v u line bytes now line' ts ts' i h h' h'' true lt f g))
 
 pub cut_on : (w v : SessionState) (line bytes now : List ℕ) (ts ts' : List Answer) (i : ℕ) (h h' h'' : Option (List ℕ)) → i < length bytes → Fills w (line ++ take i bytes) ts h h' false v now → Breaks v (now ++ get_or bytes i 0 ∷ []) ts' h' h'' → Breaks w (line ++ bytes) (ts ++ ts') h h''
 cut_on w v line bytes now ts ts' i h h' h'' lt f b =
     let P : List ℕ → Type 0 = λ l. Breaks w l (ts ++ ts') h h'' in
-    subst P (behind line bytes i) (breaks_more w (line ++ take (i + 1) bytes) (drop (i + 1) bytes) (ts ++ ts') h h''
+    subst P (joined line bytes i) (breaks_more w (line ++ take (i + 1) bytes) (drop (i + 1) bytes) (ts ++ ts') h h''
     (subst P (seam line bytes i lt) (breaks_later w v (line ++ take i bytes) now (get_or bytes i 0 ∷ []) ts ts' h h' h'' f b)))
 
 -- The remaining bytes need an answer that isn't there.
 pub lacks_on : (w v : SessionState) (line bytes now : List ℕ) (ts ts' : List Answer) (i : ℕ) (h h' : Option (List ℕ)) → i < length bytes → Fills w (line ++ take i bytes) ts h h' false v now → ((more : List ℕ) → (transcript v (ended_lines ((now ++ get_or bytes i 0 ∷ []) ++ more)) ts').left ≡ None) → (more : List ℕ) → (transcript w (ended_lines ((line ++ bytes) ++ more)) (ts ++ ts')).left ≡ None
 lacks_on w v line bytes now ts ts' i h h' lt f k more =
-    let all : line ++ bytes ≡ ((line ++ take i bytes) ++ get_or bytes i 0 ∷ []) ++ drop (i + 1) bytes = sym (ap (λ l. l ++ drop (i + 1) bytes) (seam line bytes i lt) ∙ behind line bytes i) in
+    let all : line ++ bytes ≡ ((line ++ take i bytes) ++ get_or bytes i 0 ∷ []) ++ drop (i + 1) bytes = sym (ap (λ l. l ++ drop (i + 1) bytes) (seam line bytes i lt) ∙ joined line bytes i) in
     ap (λ l. (transcript w (ended_lines (l ++ more)) (ts ++ ts')).left) all
     ∙ ap (λ l. (transcript w (ended_lines l) (ts ++ ts')).left) (append_assoc ((line ++ take i bytes) ++ get_or bytes i 0 ∷ []) (drop (i + 1) bytes) more)
     ∙ ap (λ (x : Transcript). x.left) (transcript_later w v (line ++ take i bytes) now (get_or bytes i 0 ∷ []) ts ts' h h' f (drop (i + 1) bytes ++ more))

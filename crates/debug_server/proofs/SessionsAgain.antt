@@ -60,14 +60,14 @@ on_from : (s t : Setup) → Alike s t → (v : SessionState) → forward_stop (o
 unfolding forward_stop
 on_from s t a v = ap from a.starts
   where
-    behind : Machine → ℕ → Option Stop
-    behind start m =
+    stop_from : Machine → ℕ → Option Stop
+    stop_from start m =
         if changes (seen_from start v.walk.events (m - 1)) (seen_from start v.walk.events m) v.stops.watchpoints then Some (Change m)
         else if meets (seen_from start v.walk.events (m - 1)) (seen_from start v.walk.events m) v.stops.breakpoints then Some (Met m)
         else None
 
     from : Machine → Stop
-    from start = first_stop (behind start) End (range_with_len (v.walk.at + 1) (length v.walk.events - v.walk.at))
+    from start = first_stop (stop_from start) End (range_with_len (v.walk.at + 1) (length v.walk.events - v.walk.at))
 
 -- ---- Replies
 
@@ -92,24 +92,24 @@ syncs_again : (s t : Setup) → Alike s t → (v : SessionState) (answer : Answe
 syncs_again s t a v None = refl
 syncs_again s t a v (Some es) = chosen t (nat_lt 1048576 (length es)) _ _ _ _ refl (agrees_again s t a v es (torn_from 0 v.walk.events es))
 
-told : (s t : Setup) → Alike s t → (v : SessionState) (c : Result Command CommandFault) (answer : Answer) → reply_to (over t v) c answer ≡ replied_over t (reply_to (over s v) c answer)
-told s t a v (Err f) answer = refl
-told s t a v (Ok Where) answer = refl
-told s t a v (Ok (Show p)) answer = ap (λ (m : Machine). stays (over t v) (shown_text (view (run m (take v.walk.at v.walk.events)) p))) a.starts
-told s t a v (Ok (Goto n)) answer = chosen t (nat_le n (length v.walk.events)) _ _ _ _ refl refl
-told s t a v (Ok (Back n)) answer = refl
-told s t a v (Ok (On n)) answer = refl
-told s t a v (Ok (Watch p)) answer = chosen t (is_full v.stops.watchpoints) _ _ _ _ refl refl
-told s t a v (Ok (Break p x)) answer = chosen t (is_full v.stops.breakpoints) _ _ _ _ refl refl
-told s t a v (Ok Unwatch) answer = refl
-told s t a v (Ok Cont) answer = ap (λ (x : Stop). stops_on (over t v) x) (on_from s t a v)
-told s t a v (Ok Rcont) answer = ap (λ (x : Stop). stops_back (over t v) x) (back_from s t a v)
-told s t a v (Ok Sync) answer = syncs_again s t a v answer
-told s t a v (Ok Quit) answer = refl
+reply_again : (s t : Setup) → Alike s t → (v : SessionState) (c : Result Command CommandFault) (answer : Answer) → reply_to (over t v) c answer ≡ replied_over t (reply_to (over s v) c answer)
+reply_again s t a v (Err f) answer = refl
+reply_again s t a v (Ok Where) answer = refl
+reply_again s t a v (Ok (Show p)) answer = ap (λ (m : Machine). stays (over t v) (shown_text (view (run m (take v.walk.at v.walk.events)) p))) a.starts
+reply_again s t a v (Ok (Goto n)) answer = chosen t (nat_le n (length v.walk.events)) _ _ _ _ refl refl
+reply_again s t a v (Ok (Back n)) answer = refl
+reply_again s t a v (Ok (On n)) answer = refl
+reply_again s t a v (Ok (Watch p)) answer = chosen t (is_full v.stops.watchpoints) _ _ _ _ refl refl
+reply_again s t a v (Ok (Break p x)) answer = chosen t (is_full v.stops.breakpoints) _ _ _ _ refl refl
+reply_again s t a v (Ok Unwatch) answer = refl
+reply_again s t a v (Ok Cont) answer = ap (λ (x : Stop). stops_on (over t v) x) (on_from s t a v)
+reply_again s t a v (Ok Rcont) answer = ap (λ (x : Stop). stops_back (over t v) x) (back_from s t a v)
+reply_again s t a v (Ok Sync) answer = syncs_again s t a v answer
+reply_again s t a v (Ok Quit) answer = refl
 
 replies_again : (s t : Setup) → Alike s t → (v : SessionState) (line : List ℕ) (answer : Answer) → reply (over t v) line answer ≡ replied_over t (reply (over s v) line answer)
 unfolding reply
-replies_again s t a v line answer = ap (λ (c : Result Command CommandFault). reply_to (over t v) c answer) (a.commands line) ∙ told s t a v (command_of s line) answer
+replies_again s t a v line answer = ap (λ (c : Result Command CommandFault). reply_to (over t v) c answer) (a.commands line) ∙ reply_again s t a v (command_of s line) answer
 
 -- ---- Transcripts
 

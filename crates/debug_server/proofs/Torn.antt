@@ -20,7 +20,7 @@ use Rattle.debug_server.specs.Syncs.{same_choice, same_event, torn_from, refused
 use Rattle.watches.specs.Watchpoints.{Stops}
 use Rattle.debug_server.specs.SessionStates.{SessionState, walked_to}
 use Rattle.debug_server.specs.Replies.{event_text, takes_over}
-use Rattle.debug_server.specs.Refusing.{Tells}
+use Rattle.debug_server.specs.Refusing.{RefusalText}
 
 -- ---- Events
 
@@ -128,18 +128,18 @@ pub refused_one : (i k : ℕ) (m : Machine) (es : List Event) (n : Refusal) → 
 refused_one i k m es n d s = refused_first i k m es s.event n s.runs s.there (elim s.refused [ inl e ↦ e | inr e ↦ absurd (d e.0) ])
 
 -- The reply that names it.
-pub refused_told : (known : ℕ) (m : Machine) (es : List Event) (e : ExtendRefusal) (text : List ℕ) → ((i : ℕ) (n : Refusal) → e ≡ Refused i n → RefusedAt m es i n) → Tells known e text → (k : ℕ) × (refused_from known m es ≡ Some (known + k)) × (text ≡ event_text (known + k))
-refused_told known m es TraceFull text s t = absurd t
-refused_told known m es (Refused i Memory) text s t = absurd t
-refused_told known m es (Refused i n) text s t = (i, refused_one known i m es n (λ e. cc) (s i n refl), t)
+pub refused_reported : (known : ℕ) (m : Machine) (es : List Event) (e : ExtendRefusal) (text : List ℕ) → ((i : ℕ) (n : Refusal) → e ≡ Refused i n → RefusedAt m es i n) → RefusalText known e text → (k : ℕ) × (refused_from known m es ≡ Some (known + k)) × (text ≡ event_text (known + k))
+refused_reported known m es TraceFull text s t = absurd t
+refused_reported known m es (Refused i Memory) text s t = absurd t
+refused_reported known m es (Refused i n) text s t = (i, refused_one known i m es n (λ e. cc) (s i n refl), t)
 
 -- ---- In the form that the code needs
 
 -- The index of the first of the source's new events that is refused.
-abbrev pub fate : SessionState → List Event → Option ℕ
-fate v es = refused_from (length v.walk.events) (ending v.walk) (drop (length v.walk.events) es)
+abbrev pub first_refused : SessionState → List Event → Option ℕ
+first_refused v es = refused_from (length v.walk.events) (ending v.walk) (drop (length v.walk.events) es)
 
-pub taken : (v : SessionState) (w : Walk) (known : ℕ) (es rest : List Event) → w ≡ v.walk → known ≡ length w.events → rest ≡ drop known es → Accepts (ending w) rest → fate v es ≡ None
+pub taken : (v : SessionState) (w : Walk) (known : ℕ) (es rest : List Event) → w ≡ v.walk → known ≡ length w.events → rest ≡ drop known es → Accepts (ending w) rest → first_refused v es ≡ None
 taken v w known es rest a b c h =
     let r : rest ≡ drop (length v.walk.events) es = c ∙ ap (λ n. drop n es) (b ∙ ap (λ (x : Walk). length x.events) a) in
     let P : Walk → Type 0 = λ x. Accepts (ending x) rest in
@@ -153,11 +153,11 @@ taken_next v w u m known es rest a b c d e =
     λ i. record { walk = f i; stops = e i }
 
 -- An event was refused, and the reply names it.
-pub left : (v : SessionState) (w : Walk) (known : ℕ) (es rest : List Event) (e : ExtendRefusal) (text : List ℕ) → w ≡ v.walk → known ≡ length w.events → rest ≡ drop known es → ((i : ℕ) (n : Refusal) → e ≡ Refused i n → RefusedAt (ending w) rest i n) → Tells known e text → (i : ℕ) × (fate v es ≡ Some i) × (text ≡ event_text i)
+pub left : (v : SessionState) (w : Walk) (known : ℕ) (es rest : List Event) (e : ExtendRefusal) (text : List ℕ) → w ≡ v.walk → known ≡ length w.events → rest ≡ drop known es → ((i : ℕ) (n : Refusal) → e ≡ Refused i n → RefusedAt (ending w) rest i n) → RefusalText known e text → (i : ℕ) × (first_refused v es ≡ Some i) × (text ≡ event_text i)
 left v w known es rest e text a b c h t =
     let k : known ≡ length v.walk.events = b ∙ ap (λ (x : Walk). length x.events) a in
     let r : rest ≡ drop (length v.walk.events) es = c ∙ ap (λ n. drop n es) k in
-    let f = refused_told known (ending v.walk) (drop (length v.walk.events) es) e text (λ i n q. stops i n (h i n q) r) t in
+    let f = refused_reported known (ending v.walk) (drop (length v.walk.events) es) e text (λ i n q. stops i n (h i n q) r) t in
     (known + f.0, ap (λ n. refused_from n (ending v.walk) (drop (length v.walk.events) es)) (sym k) ∙ f.1, f.2)
   where
     stops : (i : ℕ) (n : Refusal) → RefusedAt (ending w) rest i n → rest ≡ drop (length v.walk.events) es → RefusedAt (ending v.walk) (drop (length v.walk.events) es) i n
@@ -166,10 +166,10 @@ left v w known es rest e text a b c h t =
         let Q : List Event → Type 0 = λ l. RefusedAt (ending v.walk) l i n in
         subst Q r (subst P a s)
 
-pub left_text : (v : SessionState) (es : List Event) (text : List ℕ) → (i : ℕ) × (fate v es ≡ Some i) × (text ≡ event_text i) → text ≡ (takes_over v es (fate v es)).text
+pub left_text : (v : SessionState) (es : List Event) (text : List ℕ) → (i : ℕ) × (first_refused v es ≡ Some i) × (text ≡ event_text i) → text ≡ (takes_over v es (first_refused v es)).text
 left_text v es text f = f.2 ∙ sym (ap (λ o. (takes_over v es o).text) f.1)
 
-pub left_next : (v : SessionState) (w u : Walk) (m : Stops) (es : List Event) (text : List ℕ) → w ≡ v.walk → u ≡ w → m ≡ v.stops → (i : ℕ) × (fate v es ≡ Some i) × (text ≡ event_text i) → (let x : SessionState = record { walk = u; stops = m } in x) ≡ (takes_over v es (fate v es)).next
+pub left_next : (v : SessionState) (w u : Walk) (m : Stops) (es : List Event) (text : List ℕ) → w ≡ v.walk → u ≡ w → m ≡ v.stops → (i : ℕ) × (first_refused v es ≡ Some i) × (text ≡ event_text i) → (let x : SessionState = record { walk = u; stops = m } in x) ≡ (takes_over v es (first_refused v es)).next
 left_next v w u m es text a d e f =
     let g : u ≡ v.walk = d ∙ a in
     let same : (let x : SessionState = record { walk = u; stops = m } in x) ≡ v = λ i. record { walk = g i; stops = e i } in

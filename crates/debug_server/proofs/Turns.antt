@@ -25,13 +25,13 @@ abbrev pub Takes : Bool → List Answer → Answer → Type 0
 Takes q ts answer = given_to q ts ≡ Some (record { answer = answer; left = [] })
 
 -- Any further answers are left.
-given_behind : (q : Bool) (ts others : List Answer) (g : Given) → given_to q ts ≡ Some g → given_to q (ts ++ others) ≡ Some (record { answer = g.answer; left = g.left ++ others })
-given_behind false ts others g h =
+given_rest : (q : Bool) (ts others : List Answer) (g : Given) → given_to q ts ≡ Some g → given_to q (ts ++ others) ≡ Some (record { answer = g.answer; left = g.left ++ others })
+given_rest false ts others g h =
     let was : Given = record { answer = None; left = ts } in
     let same : was ≡ g = cc in
     ap (λ (x : Given). let y : Given = record { answer = x.answer; left = x.left ++ others } in Some y) same
-given_behind true [] others g h = absurd (cc)
-given_behind true (a ∷ ts) others g h =
+given_rest true [] others g h = absurd (cc)
+given_rest true (a ∷ ts) others g h =
     let was : Given = record { answer = a; left = ts } in
     let same : was ≡ g = cc in
     ap (λ (x : Given). let y : Given = record { answer = x.answer; left = x.left ++ others } in Some y) same
@@ -42,7 +42,7 @@ then_prepended r ls ts = prepended r.text (cond r.quits (ended r.next true (Some
 
 pub transcript_line : (w : SessionState) (l : List ℕ) (ls : List (List ℕ)) (given others : List Answer) (answer : Answer) → Takes (asks l) given answer → transcript w (l ∷ ls) (given ++ others) ≡ then_prepended (reply w l answer) ls others
 transcript_line w l ls given others answer h =
-    ap (λ (o : Option Given). line_on w l o (λ v us. transcript v ls us)) (given_behind (asks l) given others (record { answer = answer; left = [] }) h)
+    ap (λ (o : Option Given). line_on w l o (λ v us. transcript v ls us)) (given_rest (asks l) given others (record { answer = answer; left = [] }) h)
 
 -- No answer is left over.
 abbrev pub NoneOver : Option (List Answer) → Type 0
@@ -59,13 +59,13 @@ over_nil ts e = cc
 abbrev AskedLater : List (List ℕ) → Type 0
 AskedLater ls = (v : SessionState) → NoneOver (transcript v ls []).left
 
-asked_behind : (ls : List (List ℕ)) (r : Reply) (q : Bool) → AskedLater ls → NoneOver (prepended r.text (cond q (ended r.next true (Some [])) (transcript r.next ls []))).left
-asked_behind ls r true f = over_nil
-asked_behind ls r false f = f r.next
+asked_rest : (ls : List (List ℕ)) (r : Reply) (q : Bool) → AskedLater ls → NoneOver (prepended r.text (cond q (ended r.next true (Some [])) (transcript r.next ls []))).left
+asked_rest ls r true f = over_nil
+asked_rest ls r false f = f r.next
 
 asked_line : (q : Bool) (v : SessionState) (l : List ℕ) (ls : List (List ℕ)) → AskedLater ls → NoneOver (line_on v l (given_to q []) (λ w us. transcript w ls us)).left
 asked_line true v l ls f = over_none
-asked_line false v l ls f = asked_behind ls (reply v l None) (reply v l None).quits f
+asked_line false v l ls f = asked_rest ls (reply v l None) (reply v l None).quits f
 
 -- Without answers, a transcript stops at the first line that queries the source.
 pub alone_asked : (ls : List (List ℕ)) (v : SessionState) → NoneOver (transcript v ls []).left
@@ -139,11 +139,11 @@ quit_reply : (quit : Bool) (next : SessionState) (text : List ℕ) (ts : List An
 quit_reply true next text ts ls more f h = refl
 quit_reply false next text ts ls more f h = ap (prepended text) (f next ts h)
 
-quit_behind : (v : SessionState) (l : List ℕ) (o : Option Given) (ls more : List (List ℕ)) → QuitLater ls more → (line_on v l o (λ w us. transcript w ls us)).quits ≡ true
+quit_rest : (v : SessionState) (l : List ℕ) (o : Option Given) (ls more : List (List ℕ)) → QuitLater ls more → (line_on v l o (λ w us. transcript w ls us)).quits ≡ true
     → line_on v l o (λ w us. transcript w (ls ++ more) us) ≡ line_on v l o (λ w us. transcript w ls us)
-quit_behind v l None ls more f h = absurd (cc)
-quit_behind v l (Some g) ls more f h = quit_reply (reply v l g.answer).quits (reply v l g.answer).next (reply v l g.answer).text g.left ls more f h
+quit_rest v l None ls more f h = absurd (cc)
+quit_rest v l (Some g) ls more f h = quit_reply (reply v l g.answer).quits (reply v l g.answer).next (reply v l g.answer).text g.left ls more f h
 
 pub transcript_quit : (ls more : List (List ℕ)) (v : SessionState) (ts : List Answer) → (transcript v ls ts).quits ≡ true → transcript v (ls ++ more) ts ≡ transcript v ls ts
 transcript_quit [] more v ts h = absurd (cc)
-transcript_quit (l ∷ ls) more v ts h = quit_behind v l (given_to (asks l) ts) ls more (λ w us k. transcript_quit ls more w us k) h
+transcript_quit (l ∷ ls) more v ts h = quit_rest v l (given_to (asks l) ts) ls more (λ w us k. transcript_quit ls more w us k) h

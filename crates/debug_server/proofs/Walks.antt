@@ -32,27 +32,27 @@ broken_at t setup events before after (Err d) e a h = λ f k. record {
   runs = a;
   answers = h.answers;
   unanswered = h.unanswered;
-  broke = broke_at t (state_over setup events) before after h.answers h.fault f e (sym h.told ∙ k) h.broke;
+  broke = broke_at t (state_over setup events) before after h.answers h.fault f e (sym h.is_serve ∙ k) h.broke;
 }
 
 pub no_schedule : {A : Type 0} (v : SessionState) (before after : Streams) (r : Result A RunFault) (X : ℕ → Refusal → Type 0) → IfErr r (BrokenBy v before after) → IfErr r (λ e. (i : ℕ) (n : Refusal) → e ≡ Schedule i n → X i n)
 no_schedule v before after (Ok x) X h = h
-no_schedule v before after (Err e) X h = λ i n k. let same : Schedule i n ≡ Serve h.fault = sym k ∙ h.told in absurd (cc)
+no_schedule v before after (Err e) X h = λ i n k. let same : Schedule i n ≡ Serve h.fault = sym k ∙ h.is_serve in absurd (cc)
 
 pub no_memory : {A : Type 0} (v : SessionState) (before after : Streams) (r : Result A RunFault) (X : Type 0) → IfErr r (BrokenBy v before after) → IfErr r (λ e. e ≡ Memory → X)
 no_memory v before after (Ok x) X h = h
-no_memory v before after (Err e) X h = λ k. let same : Memory ≡ Serve h.fault = sym k ∙ h.told in absurd (cc)
+no_memory v before after (Err e) X h = λ k. let same : Memory ≡ Serve h.fault = sym k ∙ h.is_serve in absurd (cc)
 
 is_serving : (e : RunFault) (f : ServeFault) → e ≡ Serve f → is_kind e OfServing ≡ true
 is_serving e f k = rw k refl
 
 pub no_other : {A : Type 0} (v : SessionState) (before after : Streams) (r : Result A RunFault) (X : Type 0) → IfErr r (BrokenBy v before after) → IfErr r (λ e. is_kind e OfServing ≡ false → X)
 no_other v before after (Ok x) X h = h
-no_other v before after (Err e) X h = λ k. let same : true ≡ false = sym (is_serving e h.fault h.told) ∙ k in absurd (cc)
+no_other v before after (Err e) X h = λ k. let same : true ≡ false = sym (is_serving e h.fault h.is_serve) ∙ k in absurd (cc)
 
 served : (e : RunFault) (f : ServeFault) → e ≡ Serve f → IsOf (OfSchedule ∷ OfServing ∷ OfMemory ∷ []) e
 served e f k = rw k refl
 
 pub of_run : {A : Type 0} (v : SessionState) (before after : Streams) (r : Result A RunFault) → IfErr r (BrokenBy v before after) → IfErr r (IsOf (OfSchedule ∷ OfServing ∷ OfMemory ∷ []))
 of_run v before after (Ok x) h = h
-of_run v before after (Err e) h = served e h.fault h.told
+of_run v before after (Err e) h = served e h.fault h.is_serve

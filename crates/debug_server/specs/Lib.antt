@@ -12,6 +12,6 @@ pub mod Schedules
 pub mod Walked
 pub mod Living
 pub mod Failing
-pub use Rattle.jobs.specs.Jobs
+pub use Rattle.command_line.specs.Jobs
 pub use Rattle.commands.specs.Commands
 pub use Rattle.commands.specs.Values

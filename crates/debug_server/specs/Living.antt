@@ -1,7 +1,7 @@
 -- The faults of live runs.
 use Rattle.std.specs.Prelude.{◌≡◌, ◌≢◌, ℕ, List, [], ◌∷◌, Ok}
 use Rattle.scenario.specs.declared.setup.Setup.{Setup}
-use Rattle.scenario.specs.declared.setup.SetupRefusal.TheVariants.{Memory as WantOfMemory}
+use Rattle.scenario.specs.declared.setup.SetupRefusal.TheVariants.{Memory as OutOfMemory}
 use Rattle.live_runner.specs.Actors.{actors}
 use Rattle.live_runner.specs.declared.running.LiveFault.{LiveFault}
 use Rattle.live_runner.specs.declared.running.LiveFault.TheVariants as live
@@ -13,7 +13,7 @@ use Rattle.debug_server.specs.Kinds.{IsOf, OfScript, OfMemory}
 -- A fault of running a valid setup with `count` actors. Such a setup is refused only if an
 -- allocation fails. A strange run has another setup or another number of actors.
 abbrev pub IsOfRunning : Setup → ℕ → LiveFault → Type 0
-IsOfRunning setup count (live.Setup n) = n ≡ WantOfMemory
+IsOfRunning setup count (live.Setup n) = n ≡ OutOfMemory
 IsOfRunning setup count (live.Torn actor) = Unit {0}
 IsOfRunning setup count (live.Strange s k) = s ≡ setup → k ≢ count
 

@@ -7,7 +7,7 @@ use Rattle.debug_server.specs.Replies.{event_text}
 
 -- After `known` events, the text names the event that a rule refuses. An allocation failure has no
 -- text.
-abbrev pub Tells : ℕ → ExtendRefusal → List ℕ → Type 0
-Tells known TraceFull text = ⊥
-Tells known (Refused i refusal.Memory) text = ⊥
-Tells known (Refused i n) text = text ≡ event_text (known + i)
+abbrev pub RefusalText : ℕ → ExtendRefusal → List ℕ → Type 0
+RefusalText known TraceFull text = ⊥
+RefusalText known (Refused i refusal.Memory) text = ⊥
+RefusalText known (Refused i n) text = text ≡ event_text (known + i)

@@ -3,8 +3,8 @@ use Rattle.std.specs.Prelude.{◌≡◌, ℕ, List, length}
 use Rattle.script.specs.Scripts.{Scenario}
 use Rattle.traces.specs.Setups.{canonical, IsTrace2}
 use Rattle.traces.specs.Spelling.{IsTrace}
-use Rattle.jobs.specs.declared.task.Form.{Form}
-use Rattle.jobs.specs.declared.task.Form.TheVariants.{Events, Whole}
+use Rattle.command_line.specs.declared.task.Form.{Form}
+use Rattle.command_line.specs.declared.task.Form.TheVariants.{Events, Whole}
 use Rattle.debug_server.specs.declared.tracing.Traced.{Traced}
 
 -- The bytes are the trace of a scenario in a form.

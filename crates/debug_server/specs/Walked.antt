@@ -22,7 +22,7 @@ pub record Replied (start : SessionState) (before after : Streams) : Type 0 wher
 -- A serving fault interrupted the replies, and is reported as a run fault.
 pub record BrokenBy (start : SessionState) (before after : Streams) (run_fault : RunFault) : Type 0 where
   pub fault : ServeFault
-  pub told : run_fault ≡ Serve fault
+  pub is_serve : run_fault ≡ Serve fault
   pub answers : List Answer
   pub unanswered : Unanswered answers
   pub broke : Broke start before after answers fault

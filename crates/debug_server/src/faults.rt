@@ -2,7 +2,7 @@
 
 use live_runner::LiveFault;
 use machine::Refusal;
-use machine::laws::number_told;
+use machine::laws::number_of_refusal;
 use script::{Key, Path, ScriptFault};
 use std::fmt;
 use thiserror::Error;
@@ -181,7 +181,7 @@ impl fmt::Display for RunFault {
             }
             RunFault::Script(ScriptFault::Memory) | RunFault::Memory => write!(f, "fault memory"),
             RunFault::Schedule(i, refusal) => {
-                let number = number_told(*refusal);
+                let number = number_of_refusal(*refusal);
                 write!(f, "fault schedule {i} {number}")
             }
             RunFault::Serve(fault) => {

@@ -17,14 +17,14 @@ ghost use Rattle.debug_server.specs.declared.faults.ServeFault.{ServeFault};
 
 /// `torn_from` returns the index of the first event that the other trace doesn't have at that
 /// index. It returns `None` only if the other trace begins with all the events.
-pub fn torn_tells()
+pub fn torn_is_first()
     ensures first { (es fs : List Event) (k : ℕ) → torn_from 0 es fs ≡ Some k → IsTorn es fs k }
     ensures whole { (es fs : List Event) → torn_from 0 es fs ≡ None → take (length es) fs ≡ es }
 {}
 
 /// `refused_from` returns the index of the first refused event, counted from `from`. It returns
 /// `None` only if every event is accepted.
-pub fn refused_tells()
+pub fn refused_is_first()
     ensures first { (from j : ℕ) (m : Machine) (es : List Event) → refused_from from m es ≡ Some j
         → (k : ℕ) × (j ≡ from + k) × IsFirstRefused m es k }
     ensures whole { (from : ℕ) (m : Machine) (es : List Event) → refused_from from m es ≡ None

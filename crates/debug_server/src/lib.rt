@@ -20,8 +20,8 @@ mod tracing;
 mod visitor;
 mod walking;
 
+pub use command_line::{Form, Job, job};
 pub use faults::{Fault, PathText, RunFault, ServeFault};
-pub use jobs::{Form, Job, job};
 pub use living::{answer_closed, live_script, trace_closed};
 pub use memory::replies;
 pub use replaying::replay;

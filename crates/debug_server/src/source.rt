@@ -15,9 +15,9 @@ pub trait Source {
 
     /// Returns the trace so far, or `None` if there is no live run.
     fn trace(&mut self) -> Result<Option<Vec<Event>>, AllocError>
-        ensures told { IfOk result
+        ensures answers_as { IfOk result
             (λ answer. gives self.old (option_map (λ v. v.items) answer) self.new) }
-        ensures wanted { OnErr result (fails self.old self.new) };
+        ensures fails_as { OnErr result (fails self.old self.new) };
 }
 
 /// The source of a session that has no live run.

@@ -3,7 +3,7 @@ ghost use Rattle.std.specs.Prelude.{◌≡◌, ◌≤◌, ◌↔◌, None, drop,
 ghost use Rattle.inverse_log.specs.Walks.{ending};
 ghost use Rattle.debug_server.specs.Syncs.{torn_from, refused_from};
 ghost use Rattle.debug_server.specs.Replies.{takes_over, syncs};
-ghost use Rattle.debug_server.specs.Refusing.{Tells};
+ghost use Rattle.debug_server.specs.Refusing.{RefusalText};
 
 use crate::texts::{event_line, synced_line, torn_line};
 use crate::visitor::Visitor;
@@ -70,7 +70,7 @@ fn rest_of(events: &[Event], known: usize) -> &[Event]
 // has no reply.
 fn refused_line(alloc: Global, known: usize, refusal: ExtendRefusal) -> Result<Vec<u8>, AllocError>
     requires { known ≤ 1048576 }
-    ensures { IfOk result (λ text. Tells known refusal text.items) }
+    ensures { IfOk result (λ text. RefusalText known refusal text.items) }
 {
     match refusal {
         ExtendRefusal::TraceFull => Err(AllocError),

@@ -16,7 +16,7 @@ ghost use Rattle.debug_server.specs.Tracing.{IsSpelling, IsTraceOf};
 use crate::faults::RunFault;
 use crate::running::run_schedule;
 use crate::scripts::script_of;
-use jobs::Form;
+use command_line::Form;
 use scenario::Event;
 use script::Script;
 use std::alloc::{AllocError, Global};

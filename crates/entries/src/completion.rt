@@ -16,7 +16,7 @@ impl Cqe {
     ghost use Rattle.entries.specs.Layout.{CompletionLayout};
 
     /// Returns whether two completions are equal in every field.
-    pub fn is(&self, other: &Cqe) -> bool
+    pub fn equals(&self, other: &Cqe) -> bool
         ensures { IsTrue result ↔ (self.now ≡ other.now) }
     {
         self == other

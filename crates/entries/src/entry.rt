@@ -28,7 +28,7 @@ impl Sqe {
     ghost use Rattle.entries.specs.Layout.{EntryLayout};
 
     /// Returns whether two entries are equal in every field.
-    pub fn is(&self, other: &Sqe) -> bool
+    pub fn equals(&self, other: &Sqe) -> bool
         ensures { IsTrue result ↔ (self.now ≡ other.now) }
     {
         self == other

@@ -39,7 +39,7 @@ pub struct Row {
 
 impl Phase {
     /// Returns whether two phases are equal, the result of a completed request included.
-    pub fn is(&self, other: &Phase) -> bool
+    pub fn equals(&self, other: &Phase) -> bool
         ensures { IsTrue result ↔ (self.now ≡ other.now) }
     {
         self == other
@@ -48,11 +48,11 @@ impl Phase {
 
 impl Row {
     /// Returns whether two rows are equal in every field.
-    pub fn is(&self, other: &Row) -> bool
+    pub fn equals(&self, other: &Row) -> bool
         ensures { IsTrue result ↔ (self.now ≡ other.now) }
     {
-        self.entry.is(&other.entry)
-            && self.phase.is(&other.phase)
+        self.entry.equals(&other.entry)
+            && self.phase.equals(&other.phase)
             && self.unit == other.unit
             && self.base == other.base
             && is_same_number(self.target, other.target)

@@ -18,9 +18,9 @@ unexplained_halted s es Write h = absurd h
 unexplained_halted s es (Script f) h = absurd h
 unexplained_halted s es (Trace f) h = absurd h
 
-pub unexplained_untold : (s : Setup) (es : List Event) (f : LogFault) → (f ≡ Memory) ⊎ (f ≡ Write) → Unexplained s es f
-unexplained_untold s es f (inl e) = subst (Unexplained s es) (sym e) (record {})
-unexplained_untold s es f (inr e) = subst (Unexplained s es) (sym e) (record {})
+pub unexplained_by_output : (s : Setup) (es : List Event) (f : LogFault) → (f ≡ Memory) ⊎ (f ≡ Write) → Unexplained s es f
+unexplained_by_output s es f (inl e) = subst (Unexplained s es) (sym e) (record {})
+unexplained_by_output s es f (inr e) = subst (Unexplained s es) (sym e) (record {})
 
 unexplained_run : (trace : Bool) (bytes : List ℕ) (s : Setup) (es : List Event) (f : LogFault) → Holds trace bytes s es → Unexplained s es f → UnexplainedRun trace bytes f
 unexplained_run trace bytes s es (Schedule i n) r h = (s, es, r, h)
@@ -35,5 +35,5 @@ unexplained_script text p f r h = unexplained_run false text p.setup p.schedule 
 pub unexplained_trace : (trace : List ℕ) (s : Setup) (es : List Event) (f : LogFault) → IsTrace2 s es trace → Unexplained s es f → UnexplainedRun true trace f
 unexplained_trace trace s es f r h = unexplained_run true trace s es f r h
 
-pub explained_script : (text : List ℕ) (p : Scenario) (asked : Option Kind) (some : Bool) → Reads text (Ok p) → Explains p.setup p.schedule asked some → ExplainsRun false text asked some
-explained_script text p asked some r h = (p.setup, p.schedule, r, h)
+pub explained_script : (text : List ℕ) (p : Scenario) (request : Option Kind) (some : Bool) → Reads text (Ok p) → Explains p.setup p.schedule request some → ExplainsRun false text request some
+explained_script text p request some r h = (p.setup, p.schedule, r, h)

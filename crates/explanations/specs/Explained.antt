@@ -11,25 +11,25 @@ use Rattle.script.specs.declared.log_fault.LogFault.{LogFault}
 use Rattle.script.specs.declared.log_fault.LogFault.TheVariants.{Script, Trace, Schedule, Write, Memory}
 use Rattle.finding_kinds.specs.declared.finding.Finding.{Finding}
 use Rattle.finding_kinds.specs.declared.kind.Kind.{Kind}
-use Rattle.findings.specs.Findings.{IsToldOf}
+use Rattle.findings.specs.Findings.{IsReportOf}
 use Rattle.finding_kinds.specs.Kinds.{number_of, is_fault}
 
 -- Whether a kind is requested: only one, or all.
-abbrev pub is_asked : Option Kind → Kind → Bool
-is_asked None kind = true
-is_asked (Some only) kind = number_of only == number_of kind
+abbrev pub is_requested : Option Kind → Kind → Bool
+is_requested None kind = true
+is_requested (Some only) kind = number_of only == number_of kind
 
 -- Whether a finding is a fault of a requested kind.
 abbrev pub counts : Option Kind → Finding → Bool
-counts asked f = is_asked asked f.kind && is_fault f.kind
+counts request f = is_requested request f.kind && is_fault f.kind
 
 -- The result for a run: no event is refused, and `some` says whether a finding of a requested kind
 -- is a fault.
-pub record Explains (s : Setup) (es : List Event) (asked : Option Kind) (some : Bool) : Type 0 where
+pub record Explains (s : Setup) (es : List Event) (request : Option Kind) (some : Bool) : Type 0 where
   pub runs : Accepts (start s) es
   pub found : List Finding
-  pub told : IsToldOf s es found
-  pub faults : some ≡ list_any (counts asked) found
+  pub reported : IsReportOf s es found
+  pub faults : some ≡ list_any (counts request) found
 
 -- The bytes are a trace, or else a script, with this setup and these events.
 abbrev pub Holds : Bool → List ℕ → Setup → List Event → Type 0
@@ -38,7 +38,7 @@ Holds false bytes s es = Reads bytes (Ok (record { setup = s; schedule = es }))
 
 -- The result for the run that the bytes describe.
 abbrev pub ExplainsRun : Bool → List ℕ → Option Kind → Bool → Type 0
-ExplainsRun trace bytes asked some = (s : Setup) × (es : List Event) × Holds trace bytes s es × Explains s es asked some
+ExplainsRun trace bytes request some = (s : Setup) × (es : List Event) × Holds trace bytes s es × Explains s es request some
 
 -- ---- why a run isn't explained
 

@@ -3,7 +3,7 @@ ghost use Rattle.std.specs.Prelude.{◌≡◌, ◌⊎◌, ◌≤◌, true, false
 ghost use Rattle.std.specs.List.{list_any};
 ghost use Rattle.scenario.specs.Setups.{setup_refusal};
 ghost use Rattle.script.specs.Logs.{is_trace};
-ghost use Rattle.explanations.specs.Explained.{is_asked, counts, Explains, ExplainsRun, Unexplained, UnexplainedRun};
+ghost use Rattle.explanations.specs.Explained.{is_requested, counts, Explains, ExplainsRun, Unexplained, UnexplainedRun};
 
 use crate::json::add_object;
 use finding_kinds::{Finding, History, Kind};
@@ -21,33 +21,33 @@ const TRACE_MARK: u8 = b'U';
 
 /// The options of `explain`.
 #[derive(Clone, Copy)]
-pub struct Asked {
+pub struct Request {
     /// Report only this kind (`--kind`), or all kinds if None.
     pub kind: Option<Kind>,
     /// Print JSON (`--json`) instead of paragraphs.
     pub json: bool,
 }
 
-fn is_asked(asked: Option<Kind>, kind: Kind) -> bool
-    ensures { result ≡ is_asked asked kind }
+fn is_requested(request: Option<Kind>, kind: Kind) -> bool
+    ensures { result ≡ is_requested request kind }
 {
-    match asked {
+    match request {
         Some(only) => only.number() == kind.number(),
         None => true,
     }
 }
 
 // Returns whether the finding is a fault of a requested kind.
-fn counts(asked: Option<Kind>, finding: &Finding) -> bool
-    ensures { result ≡ counts asked finding.now }
+fn counts(request: Option<Kind>, finding: &Finding) -> bool
+    ensures { result ≡ counts request finding.now }
 {
-    is_asked(asked, finding.kind) && finding.kind.is_fault()
+    is_requested(request, finding.kind) && finding.kind.is_fault()
 }
 
-fn has_fault(asked: Option<Kind>, found: &[Finding]) -> bool
-    ensures { result ≡ list_any (counts asked) found.now }
+fn has_fault(request: Option<Kind>, found: &[Finding]) -> bool
+    ensures { result ≡ list_any (counts request) found.now }
 {
-    found.iter().any(|finding| counts(asked, finding))
+    found.iter().any(|finding| counts(request, finding))
 }
 
 // Appends a headline, with the kind and the moment, and the finding's sentences below it.
@@ -70,14 +70,14 @@ fn add_finding(
     alloc: Global,
     out: &mut String,
     run: &Run<'_>,
-    asked: Asked,
+    request: Request,
     index: usize,
     finding: Finding,
 ) -> Result<(), AllocError> {
-    if !is_asked(asked.kind, finding.kind) {
+    if !is_requested(request.kind, finding.kind) {
         return Ok(());
     }
-    if asked.json {
+    if request.json {
         add_object(alloc, out, run, index, finding)
     } else {
         add_paragraph(alloc, out, run, index, finding)
@@ -88,59 +88,64 @@ fn add_findings(
     alloc: Global,
     out: &mut String,
     run: &Run<'_>,
-    asked: Asked,
+    request: Request,
 ) -> Result<(), AllocError> {
     for index in 0..run.found.len() {
-        add_finding(alloc, out, run, asked, index, run.found[index])?;
+        add_finding(alloc, out, run, request, index, run.found[index])?;
     }
     Ok(())
 }
 
 // Returns how many findings of the requested kinds there are, and how many of them are faults.
-fn counted(run: &Run<'_>, asked: Option<Kind>) -> (usize, usize) {
-    let told = run
+fn counted(run: &Run<'_>, request: Option<Kind>) -> (usize, usize) {
+    let reported = run
         .found
         .iter()
-        .filter(|finding| is_asked(asked, finding.kind))
+        .filter(|finding| is_requested(request, finding.kind))
         .count();
     let faults = run
         .found
         .iter()
-        .filter(|finding| counts(asked, finding))
+        .filter(|finding| counts(request, finding))
         .count();
-    (told, faults)
+    (reported, faults)
 }
 
-fn add_sum(alloc: Global, out: &mut String, run: &Run<'_>, asked: Asked) -> Result<(), AllocError> {
-    let (told, faults) = counted(run, asked.kind);
-    let notes = told.saturating_sub(faults);
+fn add_sum(
+    alloc: Global,
+    out: &mut String,
+    run: &Run<'_>,
+    request: Request,
+) -> Result<(), AllocError> {
+    let (reported, faults) = counted(run, request.kind);
+    let notes = reported.saturating_sub(faults);
     let sum = format!(in alloc; "faults {faults}, notes {notes}\n")?;
     out.push_str(sum.as_str())
 }
 
 // Returns the report of a run.
-fn text_of(alloc: Global, run: &Run<'_>, asked: Asked) -> Result<String, AllocError> {
+fn text_of(alloc: Global, run: &Run<'_>, request: Request) -> Result<String, AllocError> {
     let mut out = String::new(alloc);
-    if asked.json {
+    if request.json {
         out.push_str("[\n")?;
-        add_findings(alloc, &mut out, run, asked)?;
+        add_findings(alloc, &mut out, run, request)?;
         out.push_str("\n]\n")?;
     } else {
-        add_findings(alloc, &mut out, run, asked)?;
-        add_sum(alloc, &mut out, run, asked)?;
+        add_findings(alloc, &mut out, run, request)?;
+        add_sum(alloc, &mut out, run, request)?;
     }
     Ok(out)
 }
 
-fn tell<W: Write>(
+fn write_reports<W: Write>(
     alloc: Global,
     run: &Run<'_>,
-    asked: Asked,
+    request: Request,
     writer: &mut W,
 ) -> Result<(), LogFault>
     ensures { IfErr result (λ f. (f ≡ LogFault.Memory) ⊎ (f ≡ LogFault.Write)) }
 {
-    let Ok(text) = text_of(alloc, run, asked) else {
+    let Ok(text) = text_of(alloc, run, request) else {
         return Err(LogFault::Memory);
     };
     match write_out(writer, text.as_str().as_bytes()) {
@@ -151,17 +156,17 @@ fn tell<W: Write>(
 
 // Runs the events and prints their findings. Returns whether some finding of a requested kind is a
 // fault.
-#[tactic(auto, using(crate::proofs::Unexplained::unexplained_halted, crate::proofs::Unexplained::unexplained_untold))]
+#[tactic(auto, using(crate::proofs::Unexplained::unexplained_halted, crate::proofs::Unexplained::unexplained_by_output))]
 fn explain_events<W: Write>(
     alloc: Global,
     setup: &Setup,
     events: &[Event],
-    asked: Asked,
+    request: Request,
     writer: &mut W,
 ) -> Result<bool, LogFault>
     requires starts { setup_refusal setup.now ≡ None }
     requires most { length events.now ≤ 1048576 }
-    ensures ok { IfOk result (Explains setup.now events.now asked.kind) }
+    ensures ok { IfOk result (Explains setup.now events.now request.kind) }
     ensures err { IfErr result (Unexplained setup.now events.now) }
 {
     let Ok(mut state) = State::new(alloc, setup) else {
@@ -179,8 +184,8 @@ fn explain_events<W: Write>(
         history: &history,
         found: &found,
     };
-    match tell(alloc, &run, asked, writer) {
-        Ok(()) => Ok(has_fault(asked.kind, &found)),
+    match write_reports(alloc, &run, request, writer) {
+        Ok(()) => Ok(has_fault(request.kind, &found)),
         Err(fault) => Err(fault),
     }
 }
@@ -189,23 +194,23 @@ fn explain_events<W: Write>(
 fn explain_plan<W: Write>(
     alloc: Global,
     script: &Script,
-    asked: Asked,
+    request: Request,
     writer: &mut W,
 ) -> Result<bool, LogFault>
-    ensures ok { IfOk result (Explains script.now.setup script.now.schedule asked.kind) }
+    ensures ok { IfOk result (Explains script.now.setup script.now.schedule request.kind) }
     ensures err { IfErr result (Unexplained script.now.setup script.now.schedule) }
 {
-    explain_events(alloc, script.setup(), script.schedule(), asked, writer)
+    explain_events(alloc, script.setup(), script.schedule(), request, writer)
 }
 
 #[tactic(auto, using(crate::proofs::Unexplained::explained_script, crate::proofs::Unexplained::unexplained_script))]
 fn explain_script<W: Write>(
     alloc: Global,
     text: &[u8],
-    asked: Asked,
+    request: Request,
     writer: &mut W,
 ) -> Result<bool, LogFault>
-    ensures ok { IfOk result (ExplainsRun false text.now asked.kind) }
+    ensures ok { IfOk result (ExplainsRun false text.now request.kind) }
     ensures err { IfErr result (UnexplainedRun false text.now) }
 {
     let script = match read_script(alloc, text) {
@@ -213,17 +218,17 @@ fn explain_script<W: Write>(
         Err(ScriptFault::Memory) => return Err(LogFault::Memory),
         Err(fault) => return Err(LogFault::Script(fault)),
     };
-    explain_plan(alloc, &script, asked, writer)
+    explain_plan(alloc, &script, request, writer)
 }
 
 #[tactic(auto, using(crate::proofs::Unexplained::unexplained_trace))]
 fn explain_trace<W: Write>(
     alloc: Global,
     trace: &[u8],
-    asked: Asked,
+    request: Request,
     writer: &mut W,
 ) -> Result<bool, LogFault>
-    ensures ok { IfOk result (ExplainsRun true trace.now asked.kind) }
+    ensures ok { IfOk result (ExplainsRun true trace.now request.kind) }
     ensures err { IfErr result (UnexplainedRun true trace.now) }
 {
     let (setup, events) = match read_trace2(alloc, trace) {
@@ -231,7 +236,7 @@ fn explain_trace<W: Write>(
         Err(TraceFault::Memory) => return Err(LogFault::Memory),
         Err(fault) => return Err(LogFault::Trace(fault)),
     };
-    explain_events(alloc, &setup, &events, asked, writer)
+    explain_events(alloc, &setup, &events, request, writer)
 }
 
 /// Runs a trace, if the first byte is `U`, or else a script, and prints the findings of the
@@ -240,14 +245,14 @@ fn explain_trace<W: Write>(
 pub fn explain_run<W: Write>(
     alloc: Global,
     bytes: &[u8],
-    asked: Asked,
+    request: Request,
     writer: &mut W,
 ) -> Result<bool, LogFault>
-    ensures ok { IfOk result (ExplainsRun (is_trace bytes.now) bytes.now asked.kind) }
+    ensures ok { IfOk result (ExplainsRun (is_trace bytes.now) bytes.now request.kind) }
     ensures err { IfErr result (UnexplainedRun (is_trace bytes.now) bytes.now) }
 {
     match bytes {
-        [TRACE_MARK, ..] => explain_trace(alloc, bytes, asked, writer),
-        _ => explain_script(alloc, bytes, asked, writer),
+        [TRACE_MARK, ..] => explain_trace(alloc, bytes, request, writer),
+        _ => explain_script(alloc, bytes, request, writer),
     }
 }

@@ -3,7 +3,7 @@
 
 mod explaining;
 mod json;
-mod telling;
+mod reporting;
 
-pub use explaining::{Asked, explain_run};
-pub use telling::{Told, told_of};
+pub use explaining::{Request, explain_run};
+pub use reporting::{Report, report_of};

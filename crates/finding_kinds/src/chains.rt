@@ -11,11 +11,11 @@ pub fn distance_to_next(state: &State, number: u32) -> u32
     ensures { result ≡ distance_to_next state.now.table number }
 {
     let _row = state.row(number);
-    let behind = match number.checked_add(1) {
+    let next_number = match number.checked_add(1) {
         Some(next) => state.row(next),
         None => None,
     };
-    match behind {
+    match next_number {
         Some(row) if is_guard(&row) => 2,
         _ => 1,
     }

@@ -5,7 +5,7 @@ use std::alloc::Global;
 /// The moments before the events that submitted, issued and completed a request.
 #[derive(Clone, Copy)]
 pub struct Times {
-    pub came: u32,
+    pub queued: u32,
     pub issued: Option<u32>,
     pub ended: Option<u32>,
 }
@@ -31,7 +31,7 @@ impl Times {
     /// Returns whether the request was submitted, but neither issued nor completed, before the
     /// event at this moment.
     pub fn is_queued_at(&self, moment: u32) -> bool {
-        self.came < moment && !self.is_issued_at(moment) && !self.has_ended_at(moment)
+        self.queued < moment && !self.is_issued_at(moment) && !self.has_ended_at(moment)
     }
 }
 

@@ -52,8 +52,8 @@ pub twin_on : (rows : List Row) (r user from q : ℕ) → NoTwin rows r user fro
 twin_on rows r user from q none next other k x l e =
     elim (cases_lt k from) [
       | inl before ↦ none k x before e
-      | inr behind ↦ elim (cases_lt k q) [
-        | inl less ↦ not_second (is_near r k) (is_open x) (x.entry.user_data == user) (next.least k x behind less e)
+      | inr above ↦ elim (cases_lt k q) [
+        | inl less ↦ not_second (is_near r k) (is_open x) (x.entry.user_data == user) (next.least k x above less e)
         | inr last ↦
             let same : q ≡ k = omega (arith, l, last) in
             not_third (is_near r k) (is_open x) (x.entry.user_data == user) (sym (has_user_at rows user k x e) ∙ ap (has_user rows user) (sym same) ∙ other)
@@ -86,8 +86,8 @@ pub twin_past : (rows : List Row) (r from q : ℕ) (row : Row) → NoTwin rows r
 twin_past rows r from q row none next l = none_anywhere _ _ (no_twin rows r row (λ k x e.
     elim (cases_lt k from) [
       | inl before ↦ none k x before e
-      | inr behind ↦ elim (cases_lt k q) [
-        | inl less ↦ not_second (is_near r k) (is_open x) (x.entry.user_data == row.entry.user_data) (next.least k x behind less e)
+      | inr above ↦ elim (cases_lt k q) [
+        | inl less ↦ not_second (is_near r k) (is_open x) (x.entry.user_data == row.entry.user_data) (next.least k x above less e)
         | inr late ↦ and_left _ _ (and_left _ _ (not_before k r (omega (arith, l, late))))
       ]
     ]))
@@ -97,5 +97,5 @@ pub twin_none : (rows : List Row) (r from : ℕ) (row : Row) → NoTwin rows r r
 twin_none rows r from row none absent = none_anywhere _ _ (no_twin rows r row (λ k x e.
     elim (cases_lt k from) [
       | inl before ↦ none k x before e
-      | inr behind ↦ not_second (is_near r k) (is_open x) (x.entry.user_data == row.entry.user_data) (absent k x behind e)
+      | inr above ↦ not_second (is_near r k) (is_open x) (x.entry.user_data == row.entry.user_data) (absent k x above e)
     ]))

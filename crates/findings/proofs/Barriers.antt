@@ -8,14 +8,14 @@ use Rattle.links_drains.specs.Eligible.{drains}
 use Rattle.links_drains.specs.Links.{Chained}
 use Rattle.links_drains.specs.Units.{is_open}
 use Rattle.links_drains.proofs.Units.{any_true, any_false}
-use Rattle.findings.specs.Conflicts.{is_between, is_behind_barrier}
+use Rattle.findings.specs.Conflicts.{is_between, is_after_barrier}
 use Rattle.findings.proofs.Draining.{by_bool, none_past}
 
 -- No request from the start of the other's chain up to number k is between the two.
 abbrev pub NoneBetween : List Row → Row → Row → ℕ → Type 0
 NoneBetween rows row other k = (j : ℕ) (x : Row) → other.unit ≤ j → j < k → slice_get rows j ≡ Some x → is_between rows row other x ≡ false
 
-pub between_found : (rows : List Row) (row other x : Row) (k : ℕ) → slice_get rows k ≡ Some x → is_between rows row other x ≡ true → is_behind_barrier rows row other ≡ true
+pub between_found : (rows : List Row) (row other x : Row) (k : ℕ) → slice_get rows k ≡ Some x → is_between rows row other x ≡ true → is_after_barrier rows row other ≡ true
 between_found rows row other x k e h = any_true (is_between rows row other) rows k x e h
 
 -- A request before the start of the other's chain belongs to an earlier chain.
@@ -28,12 +28,12 @@ earlier_chain rows row other x j c e l =
     absurd (omega (arith, up, low, l)))
 
 -- At the end of the table the search has found none.
-pub between_end : (rows : List Row) (row other : Row) (k : ℕ) → Chained rows → NoneBetween rows row other k → length rows ≤ k → is_behind_barrier rows row other ≡ false
+pub between_end : (rows : List Row) (row other : Row) (k : ℕ) → Chained rows → NoneBetween rows row other k → length rows ≤ k → is_after_barrier rows row other ≡ false
 between_end rows row other k c none l = any_false (is_between rows row other) rows (λ j x e.
     elim (cases_lt j other.unit) [
       | inl before ↦ earlier_chain rows row other x j c e before
-      | inr behind ↦ elim (cases_lt j k) [
-        | inl below ↦ none j x behind below e
+      | inr above ↦ elim (cases_lt j k) [
+        | inl below ↦ none j x above below e
         | inr past ↦ absurd (none_past rows k j x l past e)
       ]
     ])

@@ -75,10 +75,10 @@ covers_view old new cs ns x h q c = by (named cs (Request q)) refl
 seen_alike : (m : Machine) (q : ℕ) → is_candidate_in (view m (Request q)) ≡ option_map_or is_candidate (slice_get m.table q) false
 seen_alike m q = ap (λ (o : Option Row). option_map_or is_candidate o false) (row_in_requested (slice_get m.table q))
 
-pub covers_more : (before behind : Machine) (cs : List Change) (ns now : List ℕ) → Covers before.table ns → Exact (view before) (view behind) cs → now ≡ after_notes (view behind) ns cs → Covers behind.table now
-covers_more before behind cs ns now h x e = λ q c.
+pub covers_more : (before after : Machine) (cs : List Change) (ns now : List ℕ) → Covers before.table ns → Exact (view before) (view after) cs → now ≡ after_notes (view after) ns cs → Covers after.table now
+covers_more before after cs ns now h x e = λ q c.
     let earlier : (k : ℕ) → is_candidate_in (view before (Request k)) ≡ true → Has ns k = λ k t. contains_has ns k (h k (sym (seen_alike before k) ∙ t)) in
-    has_contains now q (subst (λ (ks : List ℕ). Has ks q) (sym e) (covers_view (view before) (view behind) cs ns x earlier q (seen_alike behind q ∙ c)))
+    has_contains now q (subst (λ (ks : List ℕ). Has ks q) (sym e) (covers_view (view before) (view after) cs ns x earlier q (seen_alike after q ∙ c)))
 
 pub covers_none : (ns : List ℕ) → Covers [] ns
 covers_none ns = λ q c. absurd (false_true c)

@@ -5,25 +5,25 @@ use Rattle.std.proofs.lemmas.Bool.{cases_lt, and_parts, and_from, eqb-true, eq-e
 use Rattle.std.specs.Prelude.{Some, slice_get, ◌==◌, ◌&&◌}
 use Rattle.entries.specs.declared.row.Row.{Row}
 use Rattle.links_drains.specs.Eligible.{drains}
-use Rattle.links_drains.specs.Links.{asks_to_drain, Chained}
+use Rattle.links_drains.specs.Links.{has_drain_flag, Chained}
 use Rattle.links_drains.proofs.Units.{any_true, any_false}
 
 abbrev pub is_draining : ℕ → Row → Bool
-is_draining unit row = (row.unit == unit) && asks_to_drain row
+is_draining unit row = (row.unit == unit) && has_drain_flag row
 
 -- No request of the chain before number k drains.
 abbrev pub NoneDrains : List Row → ℕ → ℕ → Type 0
 NoneDrains rows unit k = (j : ℕ) (row : Row) → unit ≤ j → j < k → slice_get rows j ≡ Some row → is_draining unit row ≡ false
 
-pub drains_found : (rows : List Row) (k unit : ℕ) (row : Row) → slice_get rows k ≡ Some row → row.unit ≡ unit → asks_to_drain row ≡ true → drains rows unit ≡ true
-drains_found rows k unit row e u a = any_true (is_draining unit) rows k row e (and_from (row.unit == unit) (asks_to_drain row) (eq-eqb row.unit unit u) a)
+pub drains_found : (rows : List Row) (k unit : ℕ) (row : Row) → slice_get rows k ≡ Some row → row.unit ≡ unit → has_drain_flag row ≡ true → drains rows unit ≡ true
+drains_found rows k unit row e u a = any_true (is_draining unit) rows k row e (and_from (row.unit == unit) (has_drain_flag row) (eq-eqb row.unit unit u) a)
 
 pub by_bool : (b : Bool) → (b ≡ true → ⊥) → b ≡ false
 by_bool true h = absurd (h refl)
 by_bool false h = refl
 
 not_draining : (unit : ℕ) (row : Row) → (row.unit ≡ unit → ⊥) → is_draining unit row ≡ false
-not_draining unit row g = by_bool (is_draining unit row) (λ t. g (eqb-true row.unit unit (and_parts (row.unit == unit) (asks_to_drain row) t).0))
+not_draining unit row g = by_bool (is_draining unit row) (λ t. g (eqb-true row.unit unit (and_parts (row.unit == unit) (has_drain_flag row) t).0))
 
 -- A request before the start of a chain belongs to another.
 earlier : (rows : List Row) (unit j : ℕ) (row : Row) → Chained rows → slice_get rows j ≡ Some row → j < unit → is_draining unit row ≡ false
@@ -37,8 +37,8 @@ pub drains_end : (rows : List Row) (unit k : ℕ) → Chained rows → NoneDrain
 drains_end rows unit k c none l = any_false (is_draining unit) rows (λ j row e.
     elim (cases_lt j unit) [
       | inl before ↦ earlier rows unit j row c e before
-      | inr behind ↦ elim (cases_lt j k) [
-        | inl below ↦ none j row behind below e
+      | inr above ↦ elim (cases_lt j k) [
+        | inl below ↦ none j row above below e
         | inr past ↦ absurd (none_past rows k j row l past e)
       ]
     ])
@@ -48,8 +48,8 @@ pub drains_other : (rows : List Row) (unit k : ℕ) (y : Row) → Chained rows �
 drains_other rows unit k y c none u there other = any_false (is_draining unit) rows (λ j row e.
     elim (cases_lt j unit) [
       | inl before ↦ earlier rows unit j row c e before
-      | inr behind ↦ elim (cases_lt j k) [
-        | inl below ↦ none j row behind below e
+      | inr above ↦ elim (cases_lt j k) [
+        | inl below ↦ none j row above below e
         | inr past ↦ not_draining unit row (λ same. other (c.run k j y row there e past (omega (arith, same, u)) ∙ same))
       ]
     ])

@@ -19,14 +19,14 @@ use Rattle.machine.proofs.Longer.{accepts_more, moment_more}
 use Rattle.finding_kinds.specs.declared.finding.Finding.{Finding}
 use Rattle.finding_kinds.specs.declared.kind.Kind.{Kind}
 use Rattle.findings.specs.Conflicts.{done_at}
-use Rattle.findings.specs.Findings.{occurs, occurs_at, stands_at, IsLeft, IsFinding, IsToldOf, Rises}
-use Rattle.findings.specs.Records.{of_change, of_event, of_deed, Covers, Adds, FoundBefore, IsLasting, AreLeft, IsAll, all_left, all_unsynced, SameFindings, HaltsAt, Halted}
+use Rattle.findings.specs.Findings.{occurs, occurs_at, condition_holds_at, IsLeft, IsFinding, IsReportOf, Rises}
+use Rattle.findings.specs.Records.{of_change, of_event, of_effect, Covers, Adds, FoundBefore, IsLasting, AreLeft, IsAll, all_left, all_unsynced, SameFindings, HaltsAt, Halted}
 use Rattle.findings.specs.Conditions.{Began}
 use Rattle.findings.specs.declared.watching.Watch.{Watch}
 use Rattle.findings.specs.Watched.{advanced, watched, of_lasting}
-use Rattle.findings.proofs.Lasting.{watch_at, watched_first, advanced_more, lasting_told}
+use Rattle.findings.proofs.Lasting.{watch_at, watched_first, advanced_more, lasting_reported}
 use Rattle.findings.proofs.Left.{all_at_end}
-use Rattle.findings.proofs.Beside.{IsDone, deed_done, deed_there}
+use Rattle.findings.proofs.WouldConflict.{IsDone, effect_done, effect_there}
 use Rattle.findings.proofs.Candidates.{covers_more, covers_none}
 use Rattle.findings.proofs.Members.{Has, has_left, has_right, has_contains}
 use Rattle.findings.proofs.Shown.{IsShown, IsRung, or_first, or_second, record_shown, shown_there, event_rung, rung_there}
@@ -70,51 +70,51 @@ moved s es i f h = ap (λ (k : ℕ). occurs_at s es k f.kind f.subject) h
 
 -- The findings that an event adds: about requests, and about conflicts.
 abbrev of_rows : ℕ → Machine → List Change → List Finding
-of_rows i behind cs = flat_map (of_change i behind.table) cs
+of_rows i next_state cs = flat_map (of_change i next_state.table) cs
 
-abbrev of_deeds : Setup → ℕ → Machine → Event → Machine → List ℕ → List Finding
-of_deeds s i before e behind numbers = of_deed i s behind (done_at s before e behind) numbers
+abbrev of_effects : Setup → ℕ → Machine → Event → Machine → List ℕ → List Finding
+of_effects s i before e next_state numbers = of_effect i s next_state (done_at s before e next_state) numbers
 
 found_more : (s : Setup) (es : List Event) (i : ℕ) (e : Event) (fs gs : List Finding) (numbers now : List ℕ) → slice_get es i ≡ Some e → FoundBefore s es i fs → Covers (after (machine_at s es i) e).table now
     → Adds s i (machine_at s es i) e (after (machine_at s es i) e) fs gs numbers now → FoundBefore s es (i + 1) gs
 found_more s es i e fs gs numbers now there h covered adds = record {
   only = subst (All (IsEarly s es (i + 1))) (sym adds.added)
-      (All-append (IsEarly s es (i + 1)) ((fs ++ of_rows i (after (machine_at s es i) e) adds.past) ++ of_event s i (machine_at s es i) e (after (machine_at s es i) e)) (of_deeds s i (machine_at s es i) e (after (machine_at s es i) e) now)
+      (All-append (IsEarly s es (i + 1)) ((fs ++ of_rows i (after (machine_at s es i) e) adds.past) ++ of_event s i (machine_at s es i) e (after (machine_at s es i) e)) (of_effects s i (machine_at s es i) e (after (machine_at s es i) e) now)
       (All-append (IsEarly s es (i + 1)) (fs ++ of_rows i (after (machine_at s es i) e) adds.past) (of_event s i (machine_at s es i) e (after (machine_at s es i) e))
-      (All-append (IsEarly s es (i + 1)) fs (of_rows i (after (machine_at s es i) e) adds.past) earlier rows_told) rings_told) deeds_told);
+      (All-append (IsEarly s es (i + 1)) fs (of_rows i (after (machine_at s es i) e) adds.past) earlier rows_reported) rings_reported) effects_reported);
   whole = λ f l k. subst (λ (xs : List Finding). Contains xs f) (sym adds.added) (member f l k);
 }
   where
     earlier : All (IsEarly s es (i + 1)) fs
     earlier = All-weaker (IsEarly s es i) (IsEarly s es (i + 1)) (λ f p. let l : f.moment < i = p.0 in (omega arith, p.1)) fs h.only
 
-    told : (f : Finding) → f.moment ≡ i → is_shown s (machine_at s es i) e f.kind f.subject ≡ true → IsEarly s es (i + 1) f
-    told f same k = (omega arith, moved s es i f same ∙ at_moment s es i e f.kind f.subject there ∙ k)
+    reported : (f : Finding) → f.moment ≡ i → is_shown s (machine_at s es i) e f.kind f.subject ≡ true → IsEarly s es (i + 1) f
+    reported f same k = (omega arith, moved s es i f same ∙ at_moment s es i e f.kind f.subject there ∙ k)
 
-    rows_told : All (IsEarly s es (i + 1)) (of_rows i (after (machine_at s es i) e) adds.past)
-    rows_told =
-        All-weaker (IsShown i (machine_at s es i) (after (machine_at s es i) e)) (IsEarly s es (i + 1)) (λ f p. told f p.0 (or_first _ _ (or_first _ _ p.1))) _
+    rows_reported : All (IsEarly s es (i + 1)) (of_rows i (after (machine_at s es i) e) adds.past)
+    rows_reported =
+        All-weaker (IsShown i (machine_at s es i) (after (machine_at s es i) e)) (IsEarly s es (i + 1)) (λ f p. reported f p.0 (or_first _ _ (or_first _ _ p.1))) _
         (record_shown i (machine_at s es i) (after (machine_at s es i) e) adds.past adds.exact adds.once)
 
-    rings_told : All (IsEarly s es (i + 1)) (of_event s i (machine_at s es i) e (after (machine_at s es i) e))
-    rings_told =
-        All-weaker (IsRung s i (machine_at s es i) e (after (machine_at s es i) e)) (IsEarly s es (i + 1)) (λ f p. told f p.0 (or_first _ _ (or_second _ _ p.1))) _
+    rings_reported : All (IsEarly s es (i + 1)) (of_event s i (machine_at s es i) e (after (machine_at s es i) e))
+    rings_reported =
+        All-weaker (IsRung s i (machine_at s es i) e (after (machine_at s es i) e)) (IsEarly s es (i + 1)) (λ f p. reported f p.0 (or_first _ _ (or_second _ _ p.1))) _
         (event_rung s i (machine_at s es i) e (after (machine_at s es i) e))
 
-    deeds_told : All (IsEarly s es (i + 1)) (of_deeds s i (machine_at s es i) e (after (machine_at s es i) e) now)
-    deeds_told =
-        All-weaker (IsDone i s (after (machine_at s es i) e) (done_at s (machine_at s es i) e (after (machine_at s es i) e))) (IsEarly s es (i + 1)) (λ f p. told f p.0 (or_second _ _ p.1)) _
-        (deed_done i s (after (machine_at s es i) e) (done_at s (machine_at s es i) e (after (machine_at s es i) e)) now)
+    effects_reported : All (IsEarly s es (i + 1)) (of_effects s i (machine_at s es i) e (after (machine_at s es i) e) now)
+    effects_reported =
+        All-weaker (IsDone i s (after (machine_at s es i) e) (done_at s (machine_at s es i) e (after (machine_at s es i) e))) (IsEarly s es (i + 1)) (λ f p. reported f p.0 (or_second _ _ p.1)) _
+        (effect_done i s (after (machine_at s es i) e) (done_at s (machine_at s es i) e (after (machine_at s es i) e)) now)
 
     back : (f : Finding) → f.moment ≡ i → (xs : List Finding) → Has xs (record { moment = i; kind = f.kind; subject = f.subject }) → Has xs f
     back f same xs has = subst (λ (k : ℕ). Has xs (record { moment = k; kind = f.kind; subject = f.subject })) (sym same) has
 
-    now_told : (f : Finding) → f.moment ≡ i → occurs_at s es f.moment f.kind f.subject ≡ true
-        → Has (((fs ++ of_rows i (after (machine_at s es i) e) adds.past) ++ of_event s i (machine_at s es i) e (after (machine_at s es i) e)) ++ of_deeds s i (machine_at s es i) e (after (machine_at s es i) e) now) f
-    now_told f same k =
+    now_reported : (f : Finding) → f.moment ≡ i → occurs_at s es f.moment f.kind f.subject ≡ true
+        → Has (((fs ++ of_rows i (after (machine_at s es i) e) adds.past) ++ of_event s i (machine_at s es i) e (after (machine_at s es i) e)) ++ of_effects s i (machine_at s es i) e (after (machine_at s es i) e) now) f
+    now_reported f same k =
         let shown : is_shown s (machine_at s es i) e f.kind f.subject ≡ true = sym (at_moment s es i e f.kind f.subject there) ∙ sym (moved s es i f same) ∙ k in
         elim (or_cases _ _ shown) [
-          | inl early ↦ has_left _ (of_deeds s i (machine_at s es i) e (after (machine_at s es i) e) now) f
+          | inl early ↦ has_left _ (of_effects s i (machine_at s es i) e (after (machine_at s es i) e) now) f
               (elim (or_cases _ _ early) [
                 | inl row ↦ has_left (fs ++ of_rows i (after (machine_at s es i) e) adds.past) (of_event s i (machine_at s es i) e (after (machine_at s es i) e)) f
                     (has_right fs (of_rows i (after (machine_at s es i) e) adds.past) f
@@ -122,15 +122,15 @@ found_more s es i e fs gs numbers now there h covered adds = record {
                 | inr ring ↦ has_right (fs ++ of_rows i (after (machine_at s es i) e) adds.past) (of_event s i (machine_at s es i) e (after (machine_at s es i) e)) f
                     (back f same _ (rung_there s i (machine_at s es i) e (after (machine_at s es i) e) f.kind f.subject ring))
               ])
-          | inr beside ↦ has_right ((fs ++ of_rows i (after (machine_at s es i) e) adds.past) ++ of_event s i (machine_at s es i) e (after (machine_at s es i) e)) (of_deeds s i (machine_at s es i) e (after (machine_at s es i) e) now) f
-              (back f same _ (deed_there i s (after (machine_at s es i) e) (done_at s (machine_at s es i) e (after (machine_at s es i) e)) now f.kind f.subject covered beside))
+          | inr effects ↦ has_right ((fs ++ of_rows i (after (machine_at s es i) e) adds.past) ++ of_event s i (machine_at s es i) e (after (machine_at s es i) e)) (of_effects s i (machine_at s es i) e (after (machine_at s es i) e) now) f
+              (back f same _ (effect_there i s (after (machine_at s es i) e) (done_at s (machine_at s es i) e (after (machine_at s es i) e)) now f.kind f.subject covered effects))
         ]
 
     member : (f : Finding) → f.moment < i + 1 → occurs_at s es f.moment f.kind f.subject ≡ true
-        → Contains (((fs ++ of_rows i (after (machine_at s es i) e) adds.past) ++ of_event s i (machine_at s es i) e (after (machine_at s es i) e)) ++ of_deeds s i (machine_at s es i) e (after (machine_at s es i) e) now) f
+        → Contains (((fs ++ of_rows i (after (machine_at s es i) e) adds.past) ++ of_event s i (machine_at s es i) e (after (machine_at s es i) e)) ++ of_effects s i (machine_at s es i) e (after (machine_at s es i) e) now) f
     member f l k =
         elim (cases_order f.moment i) [
-          | inl same ↦ has_contains _ f (now_told f same k)
+          | inl same ↦ has_contains _ f (now_reported f same k)
           | inr (inl before) ↦ Contains-append_left ((fs ++ of_rows i (after (machine_at s es i) e) adds.past) ++ of_event s i (machine_at s es i) e (after (machine_at s es i) e)) _ f
               (Contains-append_left (fs ++ of_rows i (after (machine_at s es i) e) adds.past) _ f (Contains-append_left fs _ f (h.whole f before k)))
           | inr (inr past) ↦ absurd (omega arith)
@@ -141,18 +141,18 @@ pub finds_more : (s : Setup) (es : List Event) (i k : ℕ) (m n : Machine) (e d 
 finds_more s es i k m n e d fs gs numbers now ws xs l up h g next adds w =
     let there : slice_get es i ≡ Some e = slice_get-get_or es i d l ∙ ap Some (sym g) in
     let accepted : refusal (machine_at s es i) e ≡ None = ap (λ (x : Machine). refusal x e) (sym h.here) ∙ next.accepted in
-    let behind : n ≡ after (machine_at s es i) e = next.changed ∙ ap (λ (x : Machine). after x e) h.here in
-    let told : Adds s i (machine_at s es i) e (after (machine_at s es i) e) fs gs numbers now =
-    subst (λ (x : Machine). Adds s i x e (after (machine_at s es i) e) fs gs numbers now) h.here (subst (λ (x : Machine). Adds s i m e x fs gs numbers now) behind adds)
+    let next_state : n ≡ after (machine_at s es i) e = next.changed ∙ ap (λ (x : Machine). after x e) h.here in
+    let reported : Adds s i (machine_at s es i) e (after (machine_at s es i) e) fs gs numbers now =
+    subst (λ (x : Machine). Adds s i x e (after (machine_at s es i) e) fs gs numbers now) h.here (subst (λ (x : Machine). Adds s i m e x fs gs numbers now) next_state adds)
     in
     let covered : Covers n.table now = covers_more m n adds.past numbers now h.covered adds.exact adds.further in
-    let here : n ≡ machine_at s es (i + 1) = behind ∙ sym (moment_more s es i e d l g) in
+    let here : n ≡ machine_at s es (i + 1) = next_state ∙ sym (moment_more s es i e d l g) in
     let one : k ≡ suc i = omega arith in
     let here_too : n ≡ machine_at s es k = here ∙ ap (machine_at s es) (sym up) in
     record {
       here = here;
       runs = accepts_more (start s) es i e d l g h.runs accepted;
-      found = found_more s es i e fs gs numbers now there h.found (subst (λ (x : Machine). Covers x.table now) behind covered) told;
+      found = found_more s es i e fs gs numbers now there h.found (subst (λ (x : Machine). Covers x.table now) next_state covered) reported;
       covered = covered;
       watching =
           w ∙ ap (λ (ys : List Watch). map (advanced s n k) ys) h.watching ∙ advanced_more s es i k n (watched s) one here_too ∙ ap (λ (j : ℕ). map (watch_at s es j) (watched s)) up;
@@ -178,10 +178,10 @@ within s es f h =
       | inl l ↦ l
       | inr p ↦
           let none : slice_get es f.moment ≡ None = slice_get_past es f.moment p in
-          let untold : occurs_at s es f.moment f.kind f.subject ≡ false =
+          let unreported : occurs_at s es f.moment f.kind f.subject ≡ false =
           ap (λ (o : Option Event). option_map_or (λ (x : Event). is_shown s (machine_at s es f.moment) x f.kind f.subject) o false) none
           in
-          absurd (false_true (sym untold ∙ h))
+          absurd (false_true (sym unreported ∙ h))
     ]
 
 -- The findings of events, of conditions that last, and of things left at the end are all findings.
@@ -190,7 +190,7 @@ all_found s es fs ls us gs h lasting left e = subst (IsAll s es) (sym e) (record
   only = All-append (IsFinding s es) (fs ++ ls) us
       (All-append (IsFinding s es) fs ls
       (All-weaker (IsEarly s es (length es)) (IsFinding s es) (λ f p. inl p.1) fs h.only)
-      (All-weaker (λ (f : Finding). Began (stands_at s es f.kind f.subject) (length es) f.moment) (IsFinding s es) (λ f p. inr (inl p)) ls lasting.only))
+      (All-weaker (λ (f : Finding). Began (condition_holds_at s es f.kind f.subject) (length es) f.moment) (IsFinding s es) (λ f p. inr (inl p)) ls lasting.only))
       (All-weaker (IsLeft s es) (IsFinding s es) (λ f p. inr (inr p)) us left.only);
   whole = λ f k. elim k [
     | inl shown ↦ Contains-append_left (fs ++ ls) us f (Contains-append_left fs ls f (h.whole f (within s es f shown) shown))
@@ -204,19 +204,19 @@ pub finds_run : (s : Setup) (es : List Event) (i : ℕ) (m : Machine) (fs : List
 finds_run s es i m fs numbers ws e h = subst (Accepts (start s)) (take_all i es (omega arith)) h.runs
 
 pub finds_lasting : (s : Setup) (es : List Event) (i : ℕ) (m : Machine) (fs : List Finding) (numbers : List ℕ) (ws : List Watch) → i ≡ length es → Finds s es i m fs numbers ws → IsLasting s es (flat_map of_lasting ws)
-finds_lasting s es i m fs numbers ws e h = lasting_told s es ws (h.watching ∙ ap (λ (n : ℕ). map (watch_at s es n) (watched s)) e)
+finds_lasting s es i m fs numbers ws e h = lasting_reported s es ws (h.watching ∙ ap (λ (n : ℕ). map (watch_at s es n) (watched s)) e)
 
 pub finds_left : (s : Setup) (es : List Event) (i : ℕ) (m : Machine) (fs : List Finding) (numbers : List ℕ) (ws : List Watch) → i ≡ length es → Finds s es i m fs numbers ws → AreLeft s es (all_left (length es) m.table ++ all_unsynced s (length es) m.world)
 finds_left s es i m fs numbers ws e h = all_at_end s es m (h.here ∙ ap (machine_at s es) e)
 
 -- All findings, sorted, are the report.
-pub told_of : (s : Setup) (es : List Event) (fs gs : List Finding) → IsAll s es fs → SameFindings fs gs → Rises zero gs → IsToldOf s es gs
-told_of s es fs gs h same order = record {
+pub report_of : (s : Setup) (es : List Event) (fs gs : List Finding) → IsAll s es fs → SameFindings fs gs → Rises zero gs → IsReportOf s es gs
+report_of s es fs gs h same order = record {
   only = λ k d l. All-contains (IsFinding s es) fs (get_or gs k d) h.only (same.back (get_or gs k d) (Contains-get_or gs k d l));
   whole = λ f k. same.there f (h.whole f k);
   order = order;
 }
 
-pub told_result : {V E : Type 0} (r : Result V E) (items : V → List Finding) (s : Setup) (es : List Event) (fs : List Finding) → IsAll s es fs → IfOk r (λ v. Rises zero (items v)) → IfOk r (λ v. SameFindings fs (items v)) → IfOk r (λ v. IsToldOf s es (items v))
-told_result (Ok v) items s es fs h order same = told_of s es fs (items v) h same order
-told_result (Err e) items s es fs h order same = tt
+pub report_of_result : {V E : Type 0} (r : Result V E) (items : V → List Finding) (s : Setup) (es : List Event) (fs : List Finding) → IsAll s es fs → IfOk r (λ v. Rises zero (items v)) → IfOk r (λ v. SameFindings fs (items v)) → IfOk r (λ v. IsReportOf s es (items v))
+report_of_result (Ok v) items s es fs h order same = report_of s es fs (items v) h same order
+report_of_result (Err e) items s es fs h order same = tt

@@ -12,8 +12,8 @@ use Rattle.finding_kinds.specs.declared.finding.Finding.{Finding}
 use Rattle.finding_kinds.specs.declared.kind.Kind.{Kind}
 use Rattle.finding_kinds.specs.declared.kind.Kind.TheVariants.{Waits, LostWakeUp, NotTaken, NotReaped}
 use Rattle.findings.specs.declared.watching.Watch.{Watch}
-use Rattle.findings.specs.Conditions.{stands, Began}
-use Rattle.findings.specs.Findings.{stands_at}
+use Rattle.findings.specs.Conditions.{condition_holds, Began}
+use Rattle.findings.specs.Findings.{condition_holds_at}
 use Rattle.findings.specs.Records.{IsLasting}
 use Rattle.findings.specs.Watched.{continued, advanced, fresh, numbers_below, watched, of_watch, of_lasting}
 use Rattle.findings.proofs.Members.{Has, has_left, has_right, has_flat_map, has_contains}
@@ -100,7 +100,7 @@ begins_since holds n i b = by (since_of holds n) (since_is holds n)
 
 -- A watched condition at moment n of a run.
 abbrev pub watch_at : Setup → List Event → ℕ → Watch → Watch
-watch_at s es n w = record w { since = since_of (stands_at s es w.kind w.subject) n }
+watch_at s es n w = record w { since = since_of (condition_holds_at s es w.kind w.subject) n }
 
 threads_first : (s : Setup) (es : List Event) (ns : List ℕ) → map (advanced s (start s) zero) (map (fresh Waits) ns) ≡ map (watch_at s es zero) (map (fresh Waits) ns)
 unfolding since_of
@@ -147,14 +147,14 @@ mapped_step f xs ys i d r l h e =
 -- ---- their findings
 
 abbrev IsOn : Setup → List Event → ℕ → Finding → Type 0
-IsOn s es n f = Began (stands_at s es f.kind f.subject) n f.moment
+IsOn s es n f = Began (condition_holds_at s es f.kind f.subject) n f.moment
 
 watch_on : (s : Setup) (es : List Event) (n : ℕ) (w : Watch) → All (IsOn s es n) (of_lasting (watch_at s es n w))
-watch_on s es n w = by (since_of (stands_at s es w.kind w.subject) n) refl
+watch_on s es n w = by (since_of (condition_holds_at s es w.kind w.subject) n) refl
   where
-    by : (o : Option ℕ) → since_of (stands_at s es w.kind w.subject) n ≡ o → All (IsOn s es n) (of_watch w.kind w.subject o)
+    by : (o : Option ℕ) → since_of (condition_holds_at s es w.kind w.subject) n ≡ o → All (IsOn s es n) (of_watch w.kind w.subject o)
     by None e = All-nil (IsOn s es n)
-    by (Some i) e = All-cons (IsOn s es n) (record { moment = i; kind = w.kind; subject = w.subject }) [] (since_begins (stands_at s es w.kind w.subject) n i e) (All-nil (IsOn s es n))
+    by (Some i) e = All-cons (IsOn s es n) (record { moment = i; kind = w.kind; subject = w.subject }) [] (since_begins (condition_holds_at s es w.kind w.subject) n i e) (All-nil (IsOn s es n))
 
 watches_on : (s : Setup) (es : List Event) (n : ℕ) (ws : List Watch) → All (IsOn s es n) (flat_map of_lasting (map (watch_at s es n) ws))
 watches_on s es n [] = All-nil (IsOn s es n)
@@ -175,7 +175,7 @@ below_there n (suc m) l =
     ]
 
 -- Each condition that can hold is watched.
-watched_has : (s : Setup) (kind : Kind) (m : Machine) (n : ℕ) → stands s kind m n ≡ true → Has (watched s) (fresh kind n)
+watched_has : (s : Setup) (kind : Kind) (m : Machine) (n : ℕ) → condition_holds s kind m n ≡ true → Has (watched s) (fresh kind n)
 watched_has s LostWakeUp m n h = let e : n ≡ zero = eqb-true n zero (and_parts _ _ h).0 in inl (ap (fresh LostWakeUp) (sym e))
 watched_has s NotTaken m n h = let e : n ≡ zero = eqb-true n zero (and_parts _ _ h).0 in inr (inl (ap (fresh NotTaken) (sym e)))
 watched_has s NotReaped m n h = let e : n ≡ zero = eqb-true n zero (and_parts _ _ h).0 in inr (inr (inl (ap (fresh NotReaped) (sym e))))
@@ -184,19 +184,19 @@ watched_has s Waits m n h =
     inr (inr (inr (has_map (fresh Waits) (numbers_below (length s.threads)) n (below_there n (length s.threads) l))))
 watched_has s _ m n h = absurd (false_true h)
 
-watch_told : (s : Setup) (es : List Event) (n : ℕ) (f : Finding) → IsOn s es n f → Has (flat_map of_lasting (map (watch_at s es n) (watched s))) f
-watch_told s es n f h =
-    let stands_now : stands s f.kind (machine_at s es n) f.subject ≡ true = h.lasts n h.within (omega arith) in
-    let there = has_map (watch_at s es n) (watched s) (fresh f.kind f.subject) (watched_has s f.kind (machine_at s es n) f.subject stands_now) in
-    let since : since_of (stands_at s es f.kind f.subject) n ≡ Some f.moment = begins_since (stands_at s es f.kind f.subject) n f.moment h in
-    let told : Has (of_lasting (watch_at s es n (fresh f.kind f.subject))) f =
+watch_reported : (s : Setup) (es : List Event) (n : ℕ) (f : Finding) → IsOn s es n f → Has (flat_map of_lasting (map (watch_at s es n) (watched s))) f
+watch_reported s es n f h =
+    let holds_now : condition_holds s f.kind (machine_at s es n) f.subject ≡ true = h.lasts n h.within (omega arith) in
+    let there = has_map (watch_at s es n) (watched s) (fresh f.kind f.subject) (watched_has s f.kind (machine_at s es n) f.subject holds_now) in
+    let since : since_of (condition_holds_at s es f.kind f.subject) n ≡ Some f.moment = begins_since (condition_holds_at s es f.kind f.subject) n f.moment h in
+    let reported : Has (of_lasting (watch_at s es n (fresh f.kind f.subject))) f =
     subst (λ (o : Option ℕ). Has (of_watch f.kind f.subject o) f) (sym since) (inl refl)
     in
-    has_flat_map of_lasting (map (watch_at s es n) (watched s)) (watch_at s es n (fresh f.kind f.subject)) f there told
+    has_flat_map of_lasting (map (watch_at s es n) (watched s)) (watch_at s es n (fresh f.kind f.subject)) f there reported
 
 -- The findings of the watched conditions are those that last to the end.
-pub lasting_told : (s : Setup) (es : List Event) (ws : List Watch) → ws ≡ map (watch_at s es (length es)) (watched s) → IsLasting s es (flat_map of_lasting ws)
-lasting_told s es ws e = subst (λ (xs : List Watch). IsLasting s es (flat_map of_lasting xs)) (sym e) (record {
+pub lasting_reported : (s : Setup) (es : List Event) (ws : List Watch) → ws ≡ map (watch_at s es (length es)) (watched s) → IsLasting s es (flat_map of_lasting ws)
+lasting_reported s es ws e = subst (λ (xs : List Watch). IsLasting s es (flat_map of_lasting xs)) (sym e) (record {
   only = watches_on s es (length es) (watched s);
-  whole = λ f h. has_contains _ f (watch_told s es (length es) f h);
+  whole = λ f h. has_contains _ f (watch_reported s es (length es) f h);
 })

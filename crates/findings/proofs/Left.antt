@@ -62,16 +62,16 @@ number_there k (suc r) (x ∷ rest) row e =
 open_there : (n r : ℕ) (rows : List Row) → option_map_or is_open (slice_get rows r) false ≡ true → Has (all_left n rows) (record { moment = n; kind = Unfinished; subject = r })
 open_there n r rows h = by (slice_get rows r) refl h
   where
-    told : (b : Bool) → b ≡ true → Has (given b (record { moment = n; kind = Unfinished; subject = r })) (record { moment = n; kind = Unfinished; subject = r })
-    told true e = inl refl
-    told false e = cc
+    given_there : (b : Bool) → b ≡ true → Has (given b (record { moment = n; kind = Unfinished; subject = r })) (record { moment = n; kind = Unfinished; subject = r })
+    given_there true e = inl refl
+    given_there false e = cc
 
     by : (o : Option Row) → slice_get rows r ≡ o → option_map_or is_open o false ≡ true → Has (all_left n rows) (record { moment = n; kind = Unfinished; subject = r })
     by None e t = cc
     by (Some row) e t =
         let same : zero + r ≡ r = omega arith in
         let there : Has (enumerate_from zero rows) (r, row) = subst (λ (j : ℕ). Has (enumerate_from zero rows) (j, row)) same (number_there zero r rows row e) in
-        has_flat_map (of_left n) (enumerate_from zero rows) (r, row) (record { moment = n; kind = Unfinished; subject = r }) there (told (is_open row) t)
+        has_flat_map (of_left n) (enumerate_from zero rows) (r, row) (record { moment = n; kind = Unfinished; subject = r }) there (given_there (is_open row) t)
 
 open_is_left : (s : Setup) (kind : Kind) (m : Machine) (r : ℕ) → kind ≡ Unfinished → option_map_or is_open (slice_get m.table r) false ≡ true → is_left s kind m r ≡ true
 open_is_left s kind m r e h = subst (λ (k : Kind). is_left s k m r ≡ true) (sym e) h
@@ -117,14 +117,14 @@ left_is s _ m r h = absurd (false_true h)
 left_there : (s : Setup) (es : List Event) (f : Finding) → IsLeft s es f → Has (all_left (length es) (machine_at s es (length es)).table ++ all_unsynced s (length es) (machine_at s es (length es)).world) f
 left_there s es f h =
     elim (left_is s f.kind (machine_at s es (length es)) f.subject h.1) [
-      | inl p ↦ has_left (all_left (length es) (machine_at s es (length es)).table) _ f (told Unfinished p.0 _ (open_there (length es) f.subject (machine_at s es (length es)).table p.1))
+      | inl p ↦ has_left (all_left (length es) (machine_at s es (length es)).table) _ f (given_there Unfinished p.0 _ (open_there (length es) f.subject (machine_at s es (length es)).table p.1))
       | inr p ↦ has_right (all_left (length es) (machine_at s es (length es)).table) _ f
-          (told NotDurable p.0 (all_unsynced s (length es) (machine_at s es (length es)).world)
+          (given_there NotDurable p.0 (all_unsynced s (length es) (machine_at s es (length es)).world)
           (has_flat_map (of_object (length es) (machine_at s es (length es)).world) (numbers_below (length s.objects)) f.subject _ (below_there f.subject (length s.objects) p.1) (object_there (length es) f.subject (machine_at s es (length es)).world p.2)))
     ]
   where
-    told : (kind : Kind) → kind ≡ f.kind → (fs : List Finding) → Has fs (record { moment = length es; kind = kind; subject = f.subject }) → Has fs f
-    told kind e fs has =
+    given_there : (kind : Kind) → kind ≡ f.kind → (fs : List Finding) → Has fs (record { moment = length es; kind = kind; subject = f.subject }) → Has fs f
+    given_there kind e fs has =
         subst (λ (i : ℕ). Has fs (record { moment = i; kind = f.kind; subject = f.subject })) (sym h.0) (subst (λ (k : Kind). Has fs (record { moment = length es; kind = k; subject = f.subject })) e has)
 
 pub all_at_end : (s : Setup) (es : List Event) (m : Machine) → m ≡ machine_at s es (length es) → AreLeft s es (all_left (length es) m.table ++ all_unsynced s (length es) m.world)

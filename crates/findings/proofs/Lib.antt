@@ -3,7 +3,7 @@ pub mod Notes
 pub mod Shown
 pub mod Candidates
 pub mod Passing
-pub mod Beside
+pub mod WouldConflict
 pub mod Draining
 pub mod Looking
 pub mod Unfinished
@@ -14,5 +14,5 @@ pub mod Distinct
 pub mod Lasting
 pub mod Left
 pub mod Alike
-pub mod OnDevice
+pub mod Durability
 pub mod Followed

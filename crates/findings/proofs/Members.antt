@@ -39,7 +39,7 @@ has_contains (y ∷ ys) x (inr h) =
     (suc c.0, omega arith, c.2)
 
 -- An index without an element is past the end.
-pub none_behind : {X : Type 0} (xs : List X) (k : ℕ) → slice_get xs k ≡ None → length xs ≤ k
-none_behind [] k e = omega arith
-none_behind (x ∷ xs) zero e = cc
-none_behind (x ∷ xs) (suc k) e = let l : length xs ≤ k = none_behind xs k e in omega arith
+pub none_after : {X : Type 0} (xs : List X) (k : ℕ) → slice_get xs k ≡ None → length xs ≤ k
+none_after [] k e = omega arith
+none_after (x ∷ xs) zero e = cc
+none_after (x ∷ xs) (suc k) e = let l : length xs ≤ k = none_after xs k e in omega arith

@@ -38,7 +38,7 @@ use Rattle.findings.proofs.Notes.{AreTrue, true_notes, is_named, change_there}
 
 -- A finding about a request, of event i, which leads from one machine to another.
 abbrev pub IsShown : ℕ → Machine → Machine → Finding → Type 0
-IsShown i before behind f = (f.moment ≡ i) × (ends f.kind before behind f.subject ≡ true)
+IsShown i before next_state f = (f.moment ≡ i) × (ends f.kind before next_state f.subject ≡ true)
 
 abbrev the_finding : ℕ → Kind → ℕ → Finding
 the_finding i kind r = record { moment = i; kind = kind; subject = r }
@@ -49,47 +49,47 @@ row_in_requested (Some row) = refl
 
 -- ---- nothing else
 
-given_shown : (i r : ℕ) (before behind : Machine) (kind : Kind) (old : Option Row) (row : Row) → slice_get before.table r ≡ old → slice_get behind.table r ≡ Some row
-    → All (IsShown i before behind) (given (row_test kind old behind.table r row) (the_finding i kind r))
-given_shown i r before behind kind old row e k = by (row_test kind old behind.table r row) refl
+given_shown : (i r : ℕ) (before next_state : Machine) (kind : Kind) (old : Option Row) (row : Row) → slice_get before.table r ≡ old → slice_get next_state.table r ≡ Some row
+    → All (IsShown i before next_state) (given (row_test kind old next_state.table r row) (the_finding i kind r))
+given_shown i r before next_state kind old row e k = by (row_test kind old next_state.table r row) refl
   where
-    shows : row_test kind old behind.table r row ≡ true → ends kind before behind r ≡ true
-    shows t = ap (λ o. option_map_or (row_test kind (slice_get before.table r) behind.table r) o false) k ∙ ap (λ o. row_test kind o behind.table r row) e ∙ t
+    shows : row_test kind old next_state.table r row ≡ true → ends kind before next_state r ≡ true
+    shows t = ap (λ o. option_map_or (row_test kind (slice_get before.table r) next_state.table r) o false) k ∙ ap (λ o. row_test kind o next_state.table r row) e ∙ t
 
-    by : (b : Bool) → row_test kind old behind.table r row ≡ b → All (IsShown i before behind) (given b (the_finding i kind r))
-    by true t = All-cons (IsShown i before behind) (the_finding i kind r) [] (refl, shows t) (All-nil (IsShown i before behind))
-    by false t = All-nil (IsShown i before behind)
+    by : (b : Bool) → row_test kind old next_state.table r row ≡ b → All (IsShown i before next_state) (given b (the_finding i kind r))
+    by true t = All-cons (IsShown i before next_state) (the_finding i kind r) [] (refl, shows t) (All-nil (IsShown i before next_state))
+    by false t = All-nil (IsShown i before next_state)
 
-row_shown : (i r : ℕ) (before behind : Machine) (old : Option Row) (row : Row) (kinds : List Kind) → slice_get before.table r ≡ old → slice_get behind.table r ≡ Some row → All (IsShown i before behind) (of_row i old behind.table r row kinds)
-row_shown i r before behind old row [] e k = All-nil (IsShown i before behind)
-row_shown i r before behind old row (kind ∷ kinds) e k =
-    All-append (IsShown i before behind) (given (row_test kind old behind.table r row) (the_finding i kind r)) (of_row i old behind.table r row kinds) (given_shown i r before behind kind old row e k) (row_shown i r before behind old row kinds e k)
+row_shown : (i r : ℕ) (before next_state : Machine) (old : Option Row) (row : Row) (kinds : List Kind) → slice_get before.table r ≡ old → slice_get next_state.table r ≡ Some row → All (IsShown i before next_state) (of_row i old next_state.table r row kinds)
+row_shown i r before next_state old row [] e k = All-nil (IsShown i before next_state)
+row_shown i r before next_state old row (kind ∷ kinds) e k =
+    All-append (IsShown i before next_state) (given (row_test kind old next_state.table r row) (the_finding i kind r)) (of_row i old next_state.table r row kinds) (given_shown i r before next_state kind old row e k) (row_shown i r before next_state old row kinds e k)
 
-place_shown : (i : ℕ) (before behind : Machine) (x : Option Value) (p : Place) → x ≡ view before p → All (IsShown i before behind) (of_place i behind.table x p)
-place_shown i before behind x (Request r) e = by (slice_get behind.table r) refl
+place_shown : (i : ℕ) (before next_state : Machine) (x : Option Value) (p : Place) → x ≡ view before p → All (IsShown i before next_state) (of_place i next_state.table x p)
+place_shown i before next_state x (Request r) e = by (slice_get next_state.table r) refl
   where
     old : slice_get before.table r ≡ row_in x
     old = sym (ap row_in e ∙ row_in_requested (slice_get before.table r))
 
-    by : (o : Option Row) → slice_get behind.table r ≡ o → All (IsShown i before behind) (option_map_or (λ (row : Row). of_row i (row_in x) behind.table r row row_kinds) o [])
-    by None k = All-nil (IsShown i before behind)
-    by (Some row) k = row_shown i r before behind (row_in x) row row_kinds old k
-place_shown i before behind x _ e = All-nil (IsShown i before behind)
+    by : (o : Option Row) → slice_get next_state.table r ≡ o → All (IsShown i before next_state) (option_map_or (λ (row : Row). of_row i (row_in x) next_state.table r row row_kinds) o [])
+    by None k = All-nil (IsShown i before next_state)
+    by (Some row) k = row_shown i r before next_state (row_in x) row row_kinds old k
+place_shown i before next_state x _ e = All-nil (IsShown i before next_state)
 
-changes_shown : (i : ℕ) (before behind : Machine) (cs : List Change) → AreTrue (view before) cs → All (IsShown i before behind) (flat_map (of_change i behind.table) cs)
-changes_shown i before behind [] h = All-nil (IsShown i before behind)
-changes_shown i before behind (c ∷ cs) h =
-    All-append (IsShown i before behind) (of_change i behind.table c) (flat_map (of_change i behind.table) cs) (place_shown i before behind c.old c.place h.0) (changes_shown i before behind cs h.1)
+changes_shown : (i : ℕ) (before next_state : Machine) (cs : List Change) → AreTrue (view before) cs → All (IsShown i before next_state) (flat_map (of_change i next_state.table) cs)
+changes_shown i before next_state [] h = All-nil (IsShown i before next_state)
+changes_shown i before next_state (c ∷ cs) h =
+    All-append (IsShown i before next_state) (of_change i next_state.table c) (flat_map (of_change i next_state.table) cs) (place_shown i before next_state c.old c.place h.0) (changes_shown i before next_state cs h.1)
 
 -- Each finding computed from the record is one of the event.
-pub record_shown : (i : ℕ) (before behind : Machine) (cs : List Change) → Exact (view before) (view behind) cs → NamesOnce cs → All (IsShown i before behind) (flat_map (of_change i behind.table) cs)
-record_shown i before behind cs x o = changes_shown i before behind cs (true_notes (view before) (view behind) cs x o)
+pub record_shown : (i : ℕ) (before next_state : Machine) (cs : List Change) → Exact (view before) (view next_state) cs → NamesOnce cs → All (IsShown i before next_state) (flat_map (of_change i next_state.table) cs)
+record_shown i before next_state cs x o = changes_shown i before next_state cs (true_notes (view before) (view next_state) cs x o)
 
 -- ---- nothing left out
 
 -- A request that doesn't change has no finding.
-stays_untold : (kind : Kind) (rows : List Row) (r : ℕ) (row : Row) → row_test kind (Some row) rows r row ≡ false
-stays_untold kind rows r row = by row.phase (is_of kind (Some row) row (next_in rows r)) (comes_as kind rows r row)
+stays_unreported : (kind : Kind) (rows : List Row) (r : ℕ) (row : Row) → row_test kind (Some row) rows r row ≡ false
+stays_unreported kind rows r row = by row.phase (is_of kind (Some row) row (next_in rows r)) (comes_as kind rows r row)
   where
     by : (p : Phase) (f : ℤ → Bool) (c : Bool) → (option_map_or f (cond (is_ended p) None (result_in p)) false || (false && c)) ≡ false
     by Queued f c = refl
@@ -133,27 +133,27 @@ row_there i r kind old rows row t =
     has_flat_map (λ (k : Kind). given (row_test k old rows r row) (the_finding i k r)) row_kinds kind (the_finding i kind r) (kind_there kind old rows r row t) (given_there (row_test kind old rows r row) (the_finding i kind r) t)
 
 -- Each finding of the event about a request is computed from the record.
-pub shown_there : (i : ℕ) (before behind : Machine) (cs : List Change) (kind : Kind) (r : ℕ) → Exact (view before) (view behind) cs → ends kind before behind r ≡ true
-    → Has (flat_map (of_change i behind.table) cs) (the_finding i kind r)
-shown_there i before behind cs kind r x h = by (slice_get behind.table r) refl h
+pub shown_there : (i : ℕ) (before next_state : Machine) (cs : List Change) (kind : Kind) (r : ℕ) → Exact (view before) (view next_state) cs → ends kind before next_state r ≡ true
+    → Has (flat_map (of_change i next_state.table) cs) (the_finding i kind r)
+shown_there i before next_state cs kind r x h = by (slice_get next_state.table r) refl h
   where
-    with_row : (row : Row) → slice_get behind.table r ≡ Some row → row_test kind (slice_get before.table r) behind.table r row ≡ true → Has (flat_map (of_change i behind.table) cs) (the_finding i kind r)
+    with_row : (row : Row) → slice_get next_state.table r ≡ Some row → row_test kind (slice_get before.table r) next_state.table r row ≡ true → Has (flat_map (of_change i next_state.table) cs) (the_finding i kind r)
     with_row row k t =
-        let differs : view before (Request r) ≡ view behind (Request r) → ⊥ = λ e.
-        let same : slice_get before.table r ≡ Some row = sym (row_in_requested (slice_get before.table r)) ∙ ap row_in e ∙ row_in_requested (slice_get behind.table r) ∙ k in
-        false_true (sym (stays_untold kind behind.table r row) ∙ ap (λ o. row_test kind o behind.table r row) (sym same) ∙ t)
+        let differs : view before (Request r) ≡ view next_state (Request r) → ⊥ = λ e.
+        let same : slice_get before.table r ≡ Some row = sym (row_in_requested (slice_get before.table r)) ∙ ap row_in e ∙ row_in_requested (slice_get next_state.table r) ∙ k in
+        false_true (sym (stays_unreported kind next_state.table r row) ∙ ap (λ o. row_test kind o next_state.table r row) (sym same) ∙ t)
         in
-        let noted = change_there cs (Request r) (view before (Request r)) (is_named (view before) (view behind) cs (Request r) x differs) in
+        let noted = change_there cs (Request r) (view before (Request r)) (is_named (view before) (view next_state) cs (Request r) x differs) in
         let old : row_in (view before (Request r)) ≡ slice_get before.table r = row_in_requested (slice_get before.table r) in
-        let told : Has (of_row i (row_in (view before (Request r))) behind.table r row row_kinds) (the_finding i kind r) =
-        row_there i r kind (row_in (view before (Request r))) behind.table row (ap (λ o. row_test kind o behind.table r row) old ∙ t)
+        let reported : Has (of_row i (row_in (view before (Request r))) next_state.table r row row_kinds) (the_finding i kind r) =
+        row_there i r kind (row_in (view before (Request r))) next_state.table row (ap (λ o. row_test kind o next_state.table r row) old ∙ t)
         in
-        let placed : Has (of_place i behind.table (view before (Request r)) (Request r)) (the_finding i kind r) =
-        subst (λ (o : Option Row). Has (option_map_or (λ (y : Row). of_row i (row_in (view before (Request r))) behind.table r y row_kinds) o []) (the_finding i kind r)) (sym k) told
+        let placed : Has (of_place i next_state.table (view before (Request r)) (Request r)) (the_finding i kind r) =
+        subst (λ (o : Option Row). Has (option_map_or (λ (y : Row). of_row i (row_in (view before (Request r))) next_state.table r y row_kinds) o []) (the_finding i kind r)) (sym k) reported
         in
-        has_flat_map (of_change i behind.table) cs (record { place = Request r; old = view before (Request r) }) (the_finding i kind r) noted placed
+        has_flat_map (of_change i next_state.table) cs (record { place = Request r; old = view before (Request r) }) (the_finding i kind r) noted placed
 
-    by : (o : Option Row) → slice_get behind.table r ≡ o → option_map_or (row_test kind (slice_get before.table r) behind.table r) o false ≡ true → Has (flat_map (of_change i behind.table) cs) (the_finding i kind r)
+    by : (o : Option Row) → slice_get next_state.table r ≡ o → option_map_or (row_test kind (slice_get before.table r) next_state.table r) o false ≡ true → Has (flat_map (of_change i next_state.table) cs) (the_finding i kind r)
     by None k t = absurd (false_true t)
     by (Some row) k t = with_row row k t
 
@@ -161,7 +161,7 @@ shown_there i before behind cs kind r x h = by (slice_get behind.table r) refl h
 
 -- A finding of event i about the rings, a thread, or a cancel or removal.
 abbrev pub IsRung : Setup → ℕ → Machine → Event → Machine → Finding → Type 0
-IsRung s i before e behind f = (f.moment ≡ i) × (shows s f.kind before e behind f.subject ≡ true)
+IsRung s i before e next_state f = (f.moment ≡ i) × (shows s f.kind before e next_state f.subject ≡ true)
 
 pub or_first : (a b : Bool) → a ≡ true → (a || b) ≡ true
 or_first true b h = refl
@@ -171,52 +171,52 @@ pub or_second : (a b : Bool) → b ≡ true → (a || b) ≡ true
 or_second true b h = refl
 or_second false b h = h
 
-rung_if : (s : Setup) (i : ℕ) (before : Machine) (e : Event) (behind : Machine) (b : Bool) (kind : Kind) (n : ℕ) → (b ≡ true → shows s kind before e behind n ≡ true) → All (IsRung s i before e behind) (given b (the_finding i kind n))
-rung_if s i before e behind true kind n h = All-cons (IsRung s i before e behind) (the_finding i kind n) [] (refl, h refl) (All-nil (IsRung s i before e behind))
-rung_if s i before e behind false kind n h = All-nil (IsRung s i before e behind)
+rung_if : (s : Setup) (i : ℕ) (before : Machine) (e : Event) (next_state : Machine) (b : Bool) (kind : Kind) (n : ℕ) → (b ≡ true → shows s kind before e next_state n ≡ true) → All (IsRung s i before e next_state) (given b (the_finding i kind n))
+rung_if s i before e next_state true kind n h = All-cons (IsRung s i before e next_state) (the_finding i kind n) [] (refl, h refl) (All-nil (IsRung s i before e next_state))
+rung_if s i before e next_state false kind n h = All-nil (IsRung s i before e next_state)
 
-instruction_rung : (s : Setup) (i : ℕ) (before : Machine) (t : ℕ) (behind : Machine) (x : Instruction) (kinds : List Kind) → done_by s before (Step t) ≡ Some x
-    → All (IsRung s i before (Step t) behind) (of_instruction i (changes_slot before x) x behind t kinds)
-instruction_rung s i before t behind x [] d = All-nil (IsRung s i before (Step t) behind)
-instruction_rung s i before t behind x (kind ∷ kinds) d =
-    All-append (IsRung s i before (Step t) behind) (given (is_of_step kind (changes_slot before x) x behind t) (the_finding i kind t)) (of_instruction i (changes_slot before x) x behind t kinds)
-    (rung_if s i before (Step t) behind (is_of_step kind (changes_slot before x) x behind t) kind t told)
-    (instruction_rung s i before t behind x kinds d)
+instruction_rung : (s : Setup) (i : ℕ) (before : Machine) (t : ℕ) (next_state : Machine) (x : Instruction) (kinds : List Kind) → done_by s before (Step t) ≡ Some x
+    → All (IsRung s i before (Step t) next_state) (of_instruction i (changes_slot before x) x next_state t kinds)
+instruction_rung s i before t next_state x [] d = All-nil (IsRung s i before (Step t) next_state)
+instruction_rung s i before t next_state x (kind ∷ kinds) d =
+    All-append (IsRung s i before (Step t) next_state) (given (is_of_step kind (changes_slot before x) x next_state t) (the_finding i kind t)) (of_instruction i (changes_slot before x) x next_state t kinds)
+    (rung_if s i before (Step t) next_state (is_of_step kind (changes_slot before x) x next_state t) kind t reported)
+    (instruction_rung s i before t next_state x kinds d)
   where
-    told : is_of_step kind (changes_slot before x) x behind t ≡ true → shows s kind before (Step t) behind t ≡ true
-    told h = or_second (ring_shows kind before behind t) (step_shows s kind before (Step t) behind t || cancel_shows kind before (Step t) behind t)
-        (or_first (step_shows s kind before (Step t) behind t) (cancel_shows kind before (Step t) behind t)
-        (and_from (t == t) (option_map_or (λ (y : Instruction). is_of_step kind (changes_slot before y) y behind t) (done_by s before (Step t)) false) (eq-eqb t t refl)
-        (ap (λ (o : Option Instruction). option_map_or (λ (y : Instruction). is_of_step kind (changes_slot before y) y behind t) o false) d ∙ h)))
+    reported : is_of_step kind (changes_slot before x) x next_state t ≡ true → shows s kind before (Step t) next_state t ≡ true
+    reported h = or_second (ring_shows kind before next_state t) (step_shows s kind before (Step t) next_state t || cancel_shows kind before (Step t) next_state t)
+        (or_first (step_shows s kind before (Step t) next_state t) (cancel_shows kind before (Step t) next_state t)
+        (and_from (t == t) (option_map_or (λ (y : Instruction). is_of_step kind (changes_slot before y) y next_state t) (done_by s before (Step t)) false) (eq-eqb t t refl)
+        (ap (λ (o : Option Instruction). option_map_or (λ (y : Instruction). is_of_step kind (changes_slot before y) y next_state t) o false) d ∙ h)))
 
-step_rung : (s : Setup) (i : ℕ) (before : Machine) (e : Event) (behind : Machine) (o : Option Instruction) → done_by s before e ≡ o → All (IsRung s i before e behind) (of_step i (changes_at before o) o e behind)
-step_rung s i before e behind None d = All-nil (IsRung s i before e behind)
-step_rung s i before (Step t) behind (Some x) d = instruction_rung s i before t behind x step_kinds d
-step_rung s i before _ behind (Some x) d = All-nil _
+step_rung : (s : Setup) (i : ℕ) (before : Machine) (e : Event) (next_state : Machine) (o : Option Instruction) → done_by s before e ≡ o → All (IsRung s i before e next_state) (of_step i (changes_at before o) o e next_state)
+step_rung s i before e next_state None d = All-nil (IsRung s i before e next_state)
+step_rung s i before (Step t) next_state (Some x) d = instruction_rung s i before t next_state x step_kinds d
+step_rung s i before _ next_state (Some x) d = All-nil _
 
-kinds_rung : (s : Setup) (i : ℕ) (before : Machine) (e : Event) (behind : Machine) (x : Cancel) (kinds : List Kind) → cancel_before before e ≡ Some x → All (IsRung s i before e behind) (of_kinds i x behind.table kinds)
-kinds_rung s i before e behind x [] d = All-nil (IsRung s i before e behind)
-kinds_rung s i before e behind x (kind ∷ kinds) d =
-    All-append (IsRung s i before e behind) (given (is_of_cancel kind x behind.table) (the_finding i kind x.number)) (of_kinds i x behind.table kinds)
-    (rung_if s i before e behind (is_of_cancel kind x behind.table) kind x.number told)
-    (kinds_rung s i before e behind x kinds d)
+kinds_rung : (s : Setup) (i : ℕ) (before : Machine) (e : Event) (next_state : Machine) (x : Cancel) (kinds : List Kind) → cancel_before before e ≡ Some x → All (IsRung s i before e next_state) (of_kinds i x next_state.table kinds)
+kinds_rung s i before e next_state x [] d = All-nil (IsRung s i before e next_state)
+kinds_rung s i before e next_state x (kind ∷ kinds) d =
+    All-append (IsRung s i before e next_state) (given (is_of_cancel kind x next_state.table) (the_finding i kind x.number)) (of_kinds i x next_state.table kinds)
+    (rung_if s i before e next_state (is_of_cancel kind x next_state.table) kind x.number reported)
+    (kinds_rung s i before e next_state x kinds d)
   where
-    told : is_of_cancel kind x behind.table ≡ true → shows s kind before e behind x.number ≡ true
-    told h = or_second (ring_shows kind before behind x.number) (step_shows s kind before e behind x.number || cancel_shows kind before e behind x.number)
-        (or_second (step_shows s kind before e behind x.number) (cancel_shows kind before e behind x.number)
-        (ap (λ (o : Option Cancel). option_map_or (λ (y : Cancel). (y.number == x.number) && is_of_cancel kind y behind.table) o false) d
-        ∙ and_from (x.number == x.number) (is_of_cancel kind x behind.table) (eq-eqb x.number x.number refl) h))
+    reported : is_of_cancel kind x next_state.table ≡ true → shows s kind before e next_state x.number ≡ true
+    reported h = or_second (ring_shows kind before next_state x.number) (step_shows s kind before e next_state x.number || cancel_shows kind before e next_state x.number)
+        (or_second (step_shows s kind before e next_state x.number) (cancel_shows kind before e next_state x.number)
+        (ap (λ (o : Option Cancel). option_map_or (λ (y : Cancel). (y.number == x.number) && is_of_cancel kind y next_state.table) o false) d
+        ∙ and_from (x.number == x.number) (is_of_cancel kind x next_state.table) (eq-eqb x.number x.number refl) h))
 
-cancel_rung : (s : Setup) (i : ℕ) (before : Machine) (e : Event) (behind : Machine) (o : Option Cancel) → cancel_before before e ≡ o → All (IsRung s i before e behind) (of_cancel i o behind.table)
-cancel_rung s i before e behind None d = All-nil (IsRung s i before e behind)
-cancel_rung s i before e behind (Some x) d = kinds_rung s i before e behind x cancel_kinds d
+cancel_rung : (s : Setup) (i : ℕ) (before : Machine) (e : Event) (next_state : Machine) (o : Option Cancel) → cancel_before before e ≡ o → All (IsRung s i before e next_state) (of_cancel i o next_state.table)
+cancel_rung s i before e next_state None d = All-nil (IsRung s i before e next_state)
+cancel_rung s i before e next_state (Some x) d = kinds_rung s i before e next_state x cancel_kinds d
 
-pub event_rung : (s : Setup) (i : ℕ) (before : Machine) (e : Event) (behind : Machine) → All (IsRung s i before e behind) (of_event s i before e behind)
-event_rung s i before e behind =
-    All-append (IsRung s i before e behind) (of_overflow i (overflows before) (overflows behind)) (of_step i (changes_at before (done_by s before e)) (done_by s before e) e behind ++ of_cancel i (cancel_before before e) behind.table)
-    (rung_if s i before e behind (not (overflows before) && overflows behind) Overflow zero (λ h. or_first (not (overflows before) && overflows behind) (step_shows s Overflow before e behind zero || cancel_shows Overflow before e behind zero) h))
-    (All-append (IsRung s i before e behind) (of_step i (changes_at before (done_by s before e)) (done_by s before e) e behind) (of_cancel i (cancel_before before e) behind.table)
-    (step_rung s i before e behind (done_by s before e) refl) (cancel_rung s i before e behind (cancel_before before e) refl))
+pub event_rung : (s : Setup) (i : ℕ) (before : Machine) (e : Event) (next_state : Machine) → All (IsRung s i before e next_state) (of_event s i before e next_state)
+event_rung s i before e next_state =
+    All-append (IsRung s i before e next_state) (of_overflow i (overflows before) (overflows next_state)) (of_step i (changes_at before (done_by s before e)) (done_by s before e) e next_state ++ of_cancel i (cancel_before before e) next_state.table)
+    (rung_if s i before e next_state (not (overflows before) && overflows next_state) Overflow zero (λ h. or_first (not (overflows before) && overflows next_state) (step_shows s Overflow before e next_state zero || cancel_shows Overflow before e next_state zero) h))
+    (All-append (IsRung s i before e next_state) (of_step i (changes_at before (done_by s before e)) (done_by s before e) e next_state) (of_cancel i (cancel_before before e) next_state.table)
+    (step_rung s i before e next_state (done_by s before e) refl) (cancel_rung s i before e next_state (cancel_before before e) refl))
 
 -- The kinds that are about steps of threads.
 enter_kind : (kind : Kind) (n : ℕ) (m : Machine) (t : ℕ) → is_of_enter kind n m t ≡ true → Has step_kinds kind
@@ -249,22 +249,22 @@ step_kind kind changes (Put slot entry) m t h = put_kind kind changes slot m h
 step_kind kind changes (Close fd) m t h = close_kind kind fd m t h
 step_kind kind changes _ m t h = absurd (false_true h)
 
-step_there : (i : ℕ) (kind : Kind) (before : Machine) (o : Option Instruction) (e : Event) (behind : Machine) (n : ℕ) → is_step_of n e ≡ true → option_map_or (λ (x : Instruction). is_of_step kind (changes_slot before x) x behind n) o false ≡ true
-    → Has (of_step i (changes_at before o) o e behind) (the_finding i kind n)
-step_there i kind before None (Step t) behind n a b = absurd (false_true b)
-step_there i kind before (Some x) (Step t) behind n a b =
+step_there : (i : ℕ) (kind : Kind) (before : Machine) (o : Option Instruction) (e : Event) (next_state : Machine) (n : ℕ) → is_step_of n e ≡ true → option_map_or (λ (x : Instruction). is_of_step kind (changes_slot before x) x next_state n) o false ≡ true
+    → Has (of_step i (changes_at before o) o e next_state) (the_finding i kind n)
+step_there i kind before None (Step t) next_state n a b = absurd (false_true b)
+step_there i kind before (Some x) (Step t) next_state n a b =
     let same : t ≡ n = eqb-true t n a in
-    let here : is_of_step kind (changes_slot before x) x behind t ≡ true = ap (is_of_step kind (changes_slot before x) x behind) same ∙ b in
-    subst (λ (k : ℕ). Has (of_instruction i (changes_slot before x) x behind t step_kinds) (the_finding i kind k)) same
-    (has_flat_map (λ (k : Kind). given (is_of_step k (changes_slot before x) x behind t) (the_finding i k t)) step_kinds kind (the_finding i kind t) (step_kind kind (changes_slot before x) x behind t here) (given_there (is_of_step kind (changes_slot before x) x behind t) (the_finding i kind t) here))
-step_there i kind before o _ behind n a b = absurd (false_true a)
+    let here : is_of_step kind (changes_slot before x) x next_state t ≡ true = ap (is_of_step kind (changes_slot before x) x next_state) same ∙ b in
+    subst (λ (k : ℕ). Has (of_instruction i (changes_slot before x) x next_state t step_kinds) (the_finding i kind k)) same
+    (has_flat_map (λ (k : Kind). given (is_of_step k (changes_slot before x) x next_state t) (the_finding i k t)) step_kinds kind (the_finding i kind t) (step_kind kind (changes_slot before x) x next_state t here) (given_there (is_of_step kind (changes_slot before x) x next_state t) (the_finding i kind t) here))
+step_there i kind before o _ next_state n a b = absurd (false_true a)
 
-overflow_there : (i : ℕ) (before behind : Machine) (kind : Kind) (n : ℕ) → ring_shows kind before behind n ≡ true → Has (of_overflow i (overflows before) (overflows behind)) (the_finding i kind n)
-overflow_there i before behind Overflow n h =
-    let parts = and_parts (n == zero) (not (overflows before) && overflows behind) h in
+overflow_there : (i : ℕ) (before next_state : Machine) (kind : Kind) (n : ℕ) → ring_shows kind before next_state n ≡ true → Has (of_overflow i (overflows before) (overflows next_state)) (the_finding i kind n)
+overflow_there i before next_state Overflow n h =
+    let parts = and_parts (n == zero) (not (overflows before) && overflows next_state) h in
     let same : n ≡ zero = eqb-true n zero parts.0 in
-    subst (λ (k : ℕ). Has (of_overflow i (overflows before) (overflows behind)) (the_finding i Overflow k)) (sym same) (given_there (not (overflows before) && overflows behind) (the_finding i Overflow zero) parts.1)
-overflow_there i before behind _ n h = absurd (false_true h)
+    subst (λ (k : ℕ). Has (of_overflow i (overflows before) (overflows next_state)) (the_finding i Overflow k)) (sym same) (given_there (not (overflows before) && overflows next_state) (the_finding i Overflow zero) parts.1)
+overflow_there i before next_state _ n h = absurd (false_true h)
 
 cancel_kind : (kind : Kind) (x : Cancel) (rows : List Row) → is_of_cancel kind x rows ≡ true → Has cancel_kinds kind
 cancel_kind Several x rows h = inl refl
@@ -280,15 +280,15 @@ cancel_there i kind (Some x) rows n h =
     (has_flat_map (λ (k : Kind). given (is_of_cancel k x rows) (the_finding i k x.number)) cancel_kinds kind (the_finding i kind x.number) (cancel_kind kind x rows parts.1) (given_there (is_of_cancel kind x rows) (the_finding i kind x.number) parts.1))
 
 -- Each such finding of the event is computed.
-pub rung_there : (s : Setup) (i : ℕ) (before : Machine) (e : Event) (behind : Machine) (kind : Kind) (n : ℕ) → shows s kind before e behind n ≡ true → Has (of_event s i before e behind) (the_finding i kind n)
-rung_there s i before e behind kind n h =
-    elim (or_cases (ring_shows kind before behind n) (step_shows s kind before e behind n || cancel_shows kind before e behind n) h) [
-      | inl ring ↦ has_left (of_overflow i (overflows before) (overflows behind)) (of_step i (changes_at before (done_by s before e)) (done_by s before e) e behind ++ of_cancel i (cancel_before before e) behind.table) (the_finding i kind n) (overflow_there i before behind kind n ring)
-      | inr more ↦ has_right (of_overflow i (overflows before) (overflows behind)) (of_step i (changes_at before (done_by s before e)) (done_by s before e) e behind ++ of_cancel i (cancel_before before e) behind.table) (the_finding i kind n)
-          (elim (or_cases (step_shows s kind before e behind n) (cancel_shows kind before e behind n) more) [
+pub rung_there : (s : Setup) (i : ℕ) (before : Machine) (e : Event) (next_state : Machine) (kind : Kind) (n : ℕ) → shows s kind before e next_state n ≡ true → Has (of_event s i before e next_state) (the_finding i kind n)
+rung_there s i before e next_state kind n h =
+    elim (or_cases (ring_shows kind before next_state n) (step_shows s kind before e next_state n || cancel_shows kind before e next_state n) h) [
+      | inl ring ↦ has_left (of_overflow i (overflows before) (overflows next_state)) (of_step i (changes_at before (done_by s before e)) (done_by s before e) e next_state ++ of_cancel i (cancel_before before e) next_state.table) (the_finding i kind n) (overflow_there i before next_state kind n ring)
+      | inr more ↦ has_right (of_overflow i (overflows before) (overflows next_state)) (of_step i (changes_at before (done_by s before e)) (done_by s before e) e next_state ++ of_cancel i (cancel_before before e) next_state.table) (the_finding i kind n)
+          (elim (or_cases (step_shows s kind before e next_state n) (cancel_shows kind before e next_state n) more) [
             | inl step ↦
-                let parts = and_parts (is_step_of n e) (option_map_or (λ (x : Instruction). is_of_step kind (changes_slot before x) x behind n) (done_by s before e) false) step in
-                has_left (of_step i (changes_at before (done_by s before e)) (done_by s before e) e behind) (of_cancel i (cancel_before before e) behind.table) (the_finding i kind n) (step_there i kind before (done_by s before e) e behind n parts.0 parts.1)
-            | inr cancel ↦ has_right (of_step i (changes_at before (done_by s before e)) (done_by s before e) e behind) (of_cancel i (cancel_before before e) behind.table) (the_finding i kind n) (cancel_there i kind (cancel_before before e) behind.table n cancel)
+                let parts = and_parts (is_step_of n e) (option_map_or (λ (x : Instruction). is_of_step kind (changes_slot before x) x next_state n) (done_by s before e) false) step in
+                has_left (of_step i (changes_at before (done_by s before e)) (done_by s before e) e next_state) (of_cancel i (cancel_before before e) next_state.table) (the_finding i kind n) (step_there i kind before (done_by s before e) e next_state n parts.0 parts.1)
+            | inr cancel ↦ has_right (of_step i (changes_at before (done_by s before e)) (done_by s before e) e next_state) (of_cancel i (cancel_before before e) next_state.table) (the_finding i kind n) (cancel_there i kind (cancel_before before e) next_state.table n cancel)
           ])
     ]

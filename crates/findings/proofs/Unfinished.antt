@@ -25,22 +25,22 @@ pub none_on : (test : Row → Bool) (rows : List Row) (from q : ℕ) → PassOpe
 none_on test rows from q closed none next other = λ j l.
     elim (cases_lt j from) [
       | inl before ↦ none j before
-      | inr behind ↦ elim (cases_lt j q) [
-        | inl less ↦ by j behind less (slice_get rows j) refl
+      | inr above ↦ elim (cases_lt j q) [
+        | inl less ↦ by j above less (slice_get rows j) refl
         | inr last ↦ let same : j ≡ q = omega (arith, l, last) in ap (passes test rows) same ∙ other
       ]
     ]
   where
     by : (j : ℕ) → from ≤ j → j < q → (o : Option Row) → slice_get rows j ≡ o → passes test rows j ≡ false
-    by j behind less None e = ap (λ (o : Option Row). option_map_or test o false) e
-    by j behind less (Some x) e = ap (λ (o : Option Row). option_map_or test o false) e ∙ closed x (next.least j x behind less e)
+    by j above less None e = ap (λ (o : Option Row). option_map_or test o false) e
+    by j above less (Some x) e = ap (λ (o : Option Row). option_map_or test o false) e ∙ closed x (next.least j x above less e)
 
 -- If no request is incomplete from there on, none passes.
 pub none_further : (test : Row → Bool) (rows : List Row) (from : ℕ) → PassOpen test → NonePasses test rows from → NoneWhere is_open rows from → list_any test rows ≡ false
 none_further test rows from closed none absent = any_false test rows (λ j x e.
     elim (cases_lt j from) [
       | inl before ↦ sym (ap (λ (o : Option Row). option_map_or test o false) e) ∙ none j before
-      | inr behind ↦ closed x (absent j x behind e)
+      | inr above ↦ closed x (absent j x above e)
     ])
 
 not_queued : (p : Phase) → is_unfinished p ≡ false → is_queued p ≡ false

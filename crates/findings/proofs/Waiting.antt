@@ -6,9 +6,9 @@ use Rattle.std.specs.Prelude.{Some, slice_get}
 use Rattle.std.specs.Option.{option_map_or}
 use Rattle.findings.proofs.Looking.{passes}
 
-behind_at : (xs : List ℕ) (n k : ℕ) → slice_get (drop n xs) k ≡ slice_get xs (n + k)
-behind_at xs n k = grind (arith, common_steps, gets)
+drop_get : (xs : List ℕ) (n k : ℕ) → slice_get (drop n xs) k ≡ slice_get xs (n + k)
+drop_get xs n k = grind (arith, common_steps, gets)
 
 -- The test of an index read from the ring is that of the list's element.
 pub looked_at : (xs : List ℕ) (test : ℕ → Bool) (passed k x : ℕ) (b : Bool) → slice_get xs (passed + k) ≡ Some x → test x ≡ b → passes test (drop passed xs) k ≡ b
-looked_at xs test passed k x b there t = ap (λ o. option_map_or test o false) (behind_at xs passed k ∙ there) ∙ t
+looked_at xs test passed k x b there t = ap (λ o. option_map_or test o false) (drop_get xs passed k ∙ there) ∙ t

@@ -39,4 +39,4 @@ is_of_cancel kind x rows = false
 
 -- Whether an event completes cancel or removal n, and that is a finding about it.
 abbrev pub cancel_shows : Kind → Machine → Event → Machine → ℕ → Bool
-cancel_shows kind before e behind n = option_map_or (λ (x : Cancel). (x.number == n) && is_of_cancel kind x behind.table) (cancel_before before e) false
+cancel_shows kind before e after n = option_map_or (λ (x : Cancel). (x.number == n) && is_of_cancel kind x after.table) (cancel_before before e) false

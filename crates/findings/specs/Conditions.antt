@@ -54,7 +54,7 @@ done_by s m e = instruction_at s e (counter_of m e)
 -- Whether a thread waits in its enter.
 abbrev pub is_held_up : Stage → Bool
 is_held_up Ready = false
-is_held_up (Waiting submitted wanted) = true
+is_held_up (Waiting submitted needed) = true
 
 -- The result of a thread's last enter or close. None while the thread waits in its enter, since its
 -- last result is that of an earlier call.
@@ -113,12 +113,12 @@ waits s m t = nat_lt t (length s.threads) && option_map_or (λ (x : ThreadState)
 --   NotTaken: entries wait, and no poller is asleep.
 --   NotReaped: completions wait in the ring or in the backlog.
 --   Waits: the thread waits in its enter.
-abbrev pub stands : Setup → Kind → Machine → ℕ → Bool
-stands s LostWakeUp m n = (n == 0) && (needs_wake_up m && has_entries m)
-stands s NotTaken m n = (n == 0) && (not (needs_wake_up m) && has_entries m)
-stands s NotReaped m n = (n == 0) && (overflows m || has_completions m)
-stands s Waits m t = waits s m t
-stands s kind m n = false
+abbrev pub condition_holds : Setup → Kind → Machine → ℕ → Bool
+condition_holds s LostWakeUp m n = (n == 0) && (needs_wake_up m && has_entries m)
+condition_holds s NotTaken m n = (n == 0) && (not (needs_wake_up m) && has_entries m)
+condition_holds s NotReaped m n = (n == 0) && (overflows m || has_completions m)
+condition_holds s Waits m t = waits s m t
+condition_holds s kind m n = false
 
 -- ---- the end
 

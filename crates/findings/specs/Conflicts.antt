@@ -23,12 +23,12 @@ use Rattle.opcodes.specs.Outcomes.{is_at_position}
 use Rattle.links_drains.specs.Phases.{is_issued}
 use Rattle.links_drains.specs.Eligible.{drains, is_before_in_unit, is_before_in_drain}
 use Rattle.links_drains.specs.Units.{is_open}
-use Rattle.timeouts_cancel.specs.Falls.{is_transfer}
+use Rattle.timeouts_cancel.specs.Cascades.{is_transfer}
 use Rattle.machine.specs.Steps.{number_in}
 use Rattle.machine.specs.Whole.{view}
 use Rattle.machine.specs.declared.whole.Machine.{Machine}
-use Rattle.findings.specs.declared.deed.Deed.{Deed}
-use Rattle.findings.specs.declared.deed.Deed.TheVariants.{Nothing, Stored, Finished}
+use Rattle.findings.specs.declared.effect.Effect.{Effect}
+use Rattle.findings.specs.declared.effect.Effect.TheVariants.{Nothing, Stored, Finished}
 use Rattle.finding_kinds.specs.declared.kind.Kind.{Kind}
 use Rattle.finding_kinds.specs.declared.kind.Kind.TheVariants.{BufferInUse, Unordered, SharedPosition, FsyncEarly}
 use Rattle.findings.specs.Conditions.{done_by}
@@ -36,26 +36,26 @@ use Rattle.findings.specs.Conditions.{done_by}
 -- ---- the effect of an event
 
 -- The effect of an instruction: a store writes bytes of memory.
-abbrev pub deed_of : Option Instruction → Deed
-deed_of (Some (Store address bytes)) = Stored address (length bytes)
-deed_of _ = Nothing
+abbrev pub effect_of : Option Instruction → Effect
+effect_of (Some (Store address bytes)) = Stored address (length bytes)
+effect_of _ = Nothing
 
 -- The effect of completing a request: only a READ, WRITE or FSYNC can conflict.
-abbrev pub finish_of : ℕ → Row → Deed
+abbrev pub finish_of : ℕ → Row → Effect
 finish_of r row = if is_transfer row.entry.opcode || (row.entry.opcode == 3) then Finished r row else Nothing
 
 -- The effect of completing request r, by the machine after it.
-abbrev pub finished_in : Machine → ℕ → Deed
+abbrev pub finished_in : Machine → ℕ → Effect
 finished_in m r = option_map_or (finish_of r) (slice_get m.table r) Nothing
 
 -- The effect of an event, by the instruction that it does, if any, and the machine after it.
-abbrev pub done_as : Event → Option Instruction → Machine → Deed
-done_as (Finish r c) x behind = finished_in behind r
-done_as e x behind = deed_of x
+abbrev pub done_as : Event → Option Instruction → Machine → Effect
+done_as (Finish r c) x after = finished_in after r
+done_as e x after = effect_of x
 
 -- The effect of an event that leads from one machine to another.
-abbrev pub done_at : Setup → Machine → Event → Machine → Deed
-done_at s before e behind = done_as e (done_by s before e) behind
+abbrev pub done_at : Setup → Machine → Event → Machine → Effect
+done_at s before e after = done_as e (done_by s before e) after
 
 -- ---- ranges
 
@@ -85,12 +85,12 @@ file_number o (File bytes) = Some o
 file_number o _ = None
 
 -- The object of a descriptor, if it is a regular file.
-abbrev pub file_behind : Setup → Descriptor → Option ℕ
-file_behind s d = option_and_then (λ (o : Object). file_number d.object o.contents) (slice_get s.objects d.object)
+abbrev pub file_of_descriptor : Setup → Descriptor → Option ℕ
+file_of_descriptor s d = option_and_then (λ (o : Object). file_number d.object o.contents) (slice_get s.objects d.object)
 
 -- The same by descriptor number. The lowest is 3, after the standard streams (stdin(3)).
 abbrev pub file_numbered : Setup → ℕ → Option ℕ
-file_numbered s fd = if nat_lt fd 3 then None else option_and_then (file_behind s) (slice_get s.fds (fd - 3))
+file_numbered s fd = if nat_lt fd 3 then None else option_and_then (file_of_descriptor s) (slice_get s.fds (fd - 3))
 
 -- The same for the fd field of an entry, which may be negative.
 abbrev pub file_of : Setup → ℤ → Option ℕ
@@ -145,13 +145,13 @@ abbrev pub is_between : List Row → Row → Row → Row → Bool
 is_between rows row other x = (nat_lt other.unit x.unit && nat_lt x.unit row.unit) && (is_open x && drains rows x.unit)
 
 -- Whether a draining chain between the two orders `row` after `other`.
-abbrev pub is_behind_barrier : List Row → Row → Row → Bool
-is_behind_barrier rows row other = list_any (is_between rows row other) rows
+abbrev pub is_after_barrier : List Row → Row → Row → Bool
+is_after_barrier rows row other = list_any (is_between rows row other) rows
 
 -- Whether request q is ordered after request r: by their chain, by a drain of either chain, or by a
 -- draining chain between them (io_uring_enter(2), IOSQE_IO_LINK and IOSQE_IO_DRAIN).
-abbrev pub is_behind : List Row → ℕ → Row → ℕ → Row → Bool
-is_behind rows q row r other = is_before_in_unit q row r other || (is_before_in_drain rows row other || is_behind_barrier rows row other)
+abbrev pub is_ordered_after : List Row → ℕ → Row → ℕ → Row → Bool
+is_ordered_after rows q row r other = is_before_in_unit q row r other || (is_before_in_drain rows row other || is_after_barrier rows row other)
 
 -- ---- kinds
 
@@ -172,12 +172,12 @@ is_synced_early s r done q row = (done.entry.opcode == 3) && (is_good done.phase
 --   SharedPosition: r moved bytes at the position at which q begins, and q asks for at least one.
 --   FsyncEarly: r is an FSYNC of q's file without error, and q is an earlier WRITE of at least one
 --     byte.
-abbrev pub is_beside : Kind → Setup → Machine → ℕ → Row → ℕ → Row → Bool
-is_beside BufferInUse s m r done q row = (done.entry.opcode == 22) && is_in_buffer done.entry.addr (moved done.phase) row
-is_beside Unordered s m r done q row = is_one_write done.entry row.entry && (is_over s m (moved done.phase) done.entry row && is_same_file s done.entry row.entry)
-is_beside SharedPosition s m r done q row = (nat_lt 0 (moved done.phase) && nat_lt 0 row.entry.len) && is_by_position s done.entry row.entry
-is_beside FsyncEarly s m r done q row = is_synced_early s r done q row
-is_beside kind s m r done q row = false
+abbrev pub would_conflict : Kind → Setup → Machine → ℕ → Row → ℕ → Row → Bool
+would_conflict BufferInUse s m r done q row = (done.entry.opcode == 22) && is_in_buffer done.entry.addr (moved done.phase) row
+would_conflict Unordered s m r done q row = is_one_write done.entry row.entry && (is_over s m (moved done.phase) done.entry row && is_same_file s done.entry row.entry)
+would_conflict SharedPosition s m r done q row = (nat_lt 0 (moved done.phase) && nat_lt 0 row.entry.len) && is_by_position s done.entry row.entry
+would_conflict FsyncEarly s m r done q row = is_synced_early s r done q row
+would_conflict kind s m r done q row = false
 
 -- Whether a store to memory conflicts with an incomplete READ or WRITE:
 --   BufferInUse: the bytes are in its buffer.
@@ -187,15 +187,15 @@ is_stored_over kind address n row = false
 
 -- Whether the effect of an event conflicts with request q, which is not ordered after the request
 -- that completes.
-abbrev pub is_conflict : Kind → Setup → Machine → Deed → ℕ → Row → Bool
+abbrev pub is_conflict : Kind → Setup → Machine → Effect → ℕ → Row → Bool
 is_conflict kind s m Nothing q row = false
 is_conflict kind s m (Stored address n) q row = is_stored_over kind address n row
-is_conflict kind s m (Finished r done) q row = is_beside kind s m r done q row && not (is_behind m.table q row r done)
+is_conflict kind s m (Finished r done) q row = would_conflict kind s m r done q row && not (is_ordered_after m.table q row r done)
 
 -- Whether request q is an incomplete READ or WRITE with which the effect of an event conflicts.
-abbrev pub conflicts : Kind → Setup → Machine → Deed → ℕ → Row → Bool
-conflicts kind s m deed q row = is_candidate row && is_conflict kind s m deed q row
+abbrev pub conflicts : Kind → Setup → Machine → Effect → ℕ → Row → Bool
+conflicts kind s m effect q row = is_candidate row && is_conflict kind s m effect q row
 
 -- Whether an event that leads from one machine to another is a finding about request q.
 abbrev pub clashes : Setup → Kind → Machine → Event → Machine → ℕ → Bool
-clashes s kind before e behind q = option_map_or (conflicts kind s behind (done_at s before e behind) q) (slice_get behind.table q) false
+clashes s kind before e after q = option_map_or (conflicts kind s after (done_at s before e after) q) (slice_get after.table q) false

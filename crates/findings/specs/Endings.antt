@@ -10,7 +10,7 @@ use Rattle.links_drains.specs.Links.{has_flag, is_guard, is_linked, is_soft_link
 use Rattle.links_drains.specs.Numbered.{any_numbered}
 use Rattle.links_drains.specs.Phases.{is_ended, is_issued}
 use Rattle.links_drains.specs.Units.{is_open}
-use Rattle.timeouts_cancel.specs.Falls.{is_bad, is_negative, is_transfer}
+use Rattle.timeouts_cancel.specs.Cascades.{is_bad, is_negative, is_transfer}
 use Rattle.finding_kinds.specs.Chains.{distance_to_next}
 use Rattle.finding_kinds.specs.declared.kind.Kind.{Kind}
 use Rattle.finding_kinds.specs.declared.kind.Kind.TheVariants.{Failed, Short, Severed, Canceled, TimedOut, Expired, NotFound, TooLate, WentOn, CutOff, NoEffect, SameUserData}
@@ -50,8 +50,8 @@ is_less (negsuc n) m = false
 
 -- Whether another kind than Failed covers the error: ECANCELED, ETIME of a timer, and ENOENT and
 -- EALREADY of a cancel or removal.
-abbrev pub is_told_apart : Row → ℤ → Bool
-is_told_apart row res =
+abbrev pub is_reported_apart : Row → ℤ → Bool
+is_reported_apart row res =
     is_error 125 res || ((is_timer row.entry.opcode && is_error 62 res) || (is_cancel row.entry.opcode && (is_error 2 res || is_error 114 res)))
 
 -- ---- kinds
@@ -80,7 +80,7 @@ leaves_chain before row res = has_flag row.entry.flags 8 && (is_bad row res && (
 --   WentOn: a hard-linked request failed or was short, and its chain has another member besides a
 --     linked timeout.
 abbrev pub is_of : Kind → Option Row → Row → Option Row → ℤ → Bool
-is_of Failed before row next res = is_negative res && not (is_told_apart row res)
+is_of Failed before row next res = is_negative res && not (is_reported_apart row res)
 is_of Short before row next res = is_transfer row.entry.opcode && is_less res row.entry.len
 is_of Severed before row next res = is_soft_linked row && (is_bad row res && (was_issued before || not (is_error 125 res)))
 is_of Canceled before row next res = is_error 125 res

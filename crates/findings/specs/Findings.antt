@@ -12,7 +12,7 @@ use Rattle.finding_kinds.specs.declared.kind.Kind.TheVariants.{Overflow}
 use Rattle.finding_kinds.specs.declared.finding.Finding.{Finding}
 use Rattle.finding_kinds.specs.Kinds.{rank}
 use Rattle.findings.specs.Endings.{row_test}
-use Rattle.findings.specs.Conditions.{overflows, done_by, is_of_step, is_step_of, stands, is_left, Began}
+use Rattle.findings.specs.Conditions.{overflows, done_by, is_of_step, is_step_of, condition_holds, is_left, Began}
 use Rattle.findings.specs.Conflicts.{clashes}
 use Rattle.findings.specs.Canceling.{cancel_shows}
 use Rattle.findings.specs.Uses.{changes_slot}
@@ -28,25 +28,25 @@ Rises least (f ∷ fs) = (least ≤ rank f) × Rises (rank f + 1) fs
 
 -- Whether an event completes or submits request r, and that is a finding.
 abbrev pub ends : Kind → Machine → Machine → ℕ → Bool
-ends kind before behind r = option_map_or (row_test kind (slice_get before.table r) behind.table r) (slice_get behind.table r) false
+ends kind before next_state r = option_map_or (row_test kind (slice_get before.table r) next_state.table r) (slice_get next_state.table r) false
 
 -- Whether an event is a finding about the rings, whose subject is 0:
 --   Overflow: completions went to the backlog, which was empty before.
 abbrev pub ring_shows : Kind → Machine → Machine → ℕ → Bool
-ring_shows Overflow before behind n = (n == 0) && (not (overflows before) && overflows behind)
-ring_shows kind before behind n = false
+ring_shows Overflow before next_state n = (n == 0) && (not (overflows before) && overflows next_state)
+ring_shows kind before next_state n = false
 
 -- Whether an event is a step of thread t and a finding about it.
 abbrev pub step_shows : Setup → Kind → Machine → Event → Machine → ℕ → Bool
-step_shows s kind before e behind t = is_step_of t e && option_map_or (λ x. is_of_step kind (changes_slot before x) x behind t) (done_by s before e) false
+step_shows s kind before e next_state t = is_step_of t e && option_map_or (λ x. is_of_step kind (changes_slot before x) x next_state t) (done_by s before e) false
 
 -- Whether an event is a finding about the rings, a thread, or a cancel or removal.
 abbrev pub shows : Setup → Kind → Machine → Event → Machine → ℕ → Bool
-shows s kind before e behind n = ring_shows kind before behind n || (step_shows s kind before e behind n || cancel_shows kind before e behind n)
+shows s kind before e next_state n = ring_shows kind before next_state n || (step_shows s kind before e next_state n || cancel_shows kind before e next_state n)
 
 -- Whether an event that leads from one machine to another is a finding about subject n.
 abbrev pub occurs : Setup → Kind → Machine → Event → Machine → ℕ → Bool
-occurs s kind before e behind n = (ends kind before behind n || shows s kind before e behind n) || clashes s kind before e behind n
+occurs s kind before e next_state n = (ends kind before next_state n || shows s kind before e next_state n) || clashes s kind before e next_state n
 
 -- Whether event i of a run is a finding about subject n.
 abbrev pub occurs_at : Setup → List Event → ℕ → Kind → ℕ → Bool
@@ -54,8 +54,8 @@ occurs_at s es i kind n =
     option_map_or (λ e. occurs s kind (machine_at s es i) e (after (machine_at s es i) e) n) (slice_get es i) false
 
 -- Whether a condition holds at moment i of a run.
-abbrev pub stands_at : Setup → List Event → Kind → ℕ → ℕ → Bool
-stands_at s es kind n i = stands s kind (machine_at s es i) n
+abbrev pub condition_holds_at : Setup → List Event → Kind → ℕ → ℕ → Bool
+condition_holds_at s es kind n i = condition_holds s kind (machine_at s es i) n
 
 -- A request that is incomplete at the end, or a file that isn't durable then.
 abbrev pub IsLeft : Setup → List Event → Finding → Type 0
@@ -64,10 +64,10 @@ IsLeft s es f = (f.moment ≡ length es) × (is_left s f.kind (machine_at s es (
 -- A finding of a run is one of three: an event, at the moment before it; a condition that lasts to
 -- the end, at the moment since when it holds; or something left at the end.
 abbrev pub IsFinding : Setup → List Event → Finding → Type 0
-IsFinding s es f = (occurs_at s es f.moment f.kind f.subject ≡ true) ⊎ (Began (stands_at s es f.kind f.subject) (length es) f.moment ⊎ IsLeft s es f)
+IsFinding s es f = (occurs_at s es f.moment f.kind f.subject ≡ true) ⊎ (Began (condition_holds_at s es f.kind f.subject) (length es) f.moment ⊎ IsLeft s es f)
 
 -- Exactly the findings of a run: nothing else, nothing left out, each once, in order.
-pub record IsToldOf (s : Setup) (es : List Event) (fs : List Finding) : Type 0 where
+pub record IsReportOf (s : Setup) (es : List Event) (fs : List Finding) : Type 0 where
   pub only : All (IsFinding s es) fs
   pub whole : (f : Finding) → IsFinding s es f → Contains fs f
   pub order : Rises 0 fs

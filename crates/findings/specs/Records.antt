@@ -24,15 +24,15 @@ use Rattle.script.specs.declared.log_fault.LogFault.TheVariants.{Script, Trace, 
 use Rattle.finding_kinds.specs.declared.kind.Kind.{Kind}
 use Rattle.finding_kinds.specs.declared.kind.Kind.TheVariants.{Failed, Short, Severed, Canceled, TimedOut, Expired, NotFound, TooLate, Overflow, Busy, Unfinished, BufferInUse, Unordered, SharedPosition, FsyncEarly, TakenShort, NoSuchSlot, CutOff, WentOn, NoEffect, SlotInUse, ClosedEarly, ClosedWhileHeld, Several, LeftRunning, SameUserData, NotDurable, RefusedFlags}
 use Rattle.findings.specs.declared.canceling.Cancel.{Cancel}
-use Rattle.findings.specs.declared.deed.Deed.{Deed}
-use Rattle.findings.specs.declared.deed.Deed.TheVariants.{Nothing}
+use Rattle.findings.specs.declared.effect.Effect.{Effect}
+use Rattle.findings.specs.declared.effect.Effect.TheVariants.{Nothing}
 use Rattle.finding_kinds.specs.declared.finding.Finding.{Finding}
 use Rattle.findings.specs.Endings.{row_test}
 use Rattle.findings.specs.Canceling.{cancel_before, is_of_cancel}
 use Rattle.findings.specs.Conditions.{overflows, done_by, is_of_step, has_unsynced, Began}
 use Rattle.findings.specs.Conflicts.{done_at, is_candidate, conflicts}
 use Rattle.findings.specs.Uses.{changes_at}
-use Rattle.findings.specs.Findings.{occurs_at, stands_at, IsLeft, IsFinding}
+use Rattle.findings.specs.Findings.{occurs_at, condition_holds_at, IsLeft, IsFinding}
 use Rattle.finding_kinds.specs.Kinds.{rank}
 use Rattle.findings.specs.Watched.{numbers_below}
 
@@ -78,7 +78,7 @@ OfNoRow (c ∷ cs) = (is_row c.place ≡ false) × OfNoRow cs
 
 -- Completions went to the backlog, which was empty before.
 abbrev pub of_overflow : ℕ → Bool → Bool → List Finding
-of_overflow i before behind = given (not before && behind) (record { moment = i; kind = Overflow; subject = 0 })
+of_overflow i before after = given (not before && after) (record { moment = i; kind = Overflow; subject = 0 })
 
 -- The kinds that are about steps of threads.
 abbrev pub step_kinds : List Kind
@@ -87,12 +87,12 @@ step_kinds = Busy ∷ TakenShort ∷ NoSuchSlot ∷ SlotInUse ∷ ClosedEarly �
 -- The findings of some kinds about an instruction that thread t did. `changes` says whether it
 -- changed a slot.
 abbrev pub of_instruction : ℕ → Bool → Instruction → Machine → ℕ → List Kind → List Finding
-of_instruction i changes x behind t kinds = flat_map (λ (kind : Kind). given (is_of_step kind changes x behind t) (record { moment = i; kind = kind; subject = t })) kinds
+of_instruction i changes x after t kinds = flat_map (λ (kind : Kind). given (is_of_step kind changes x after t) (record { moment = i; kind = kind; subject = t })) kinds
 
 -- The findings about a step of a thread; none for any other event.
 abbrev pub of_step : ℕ → Bool → Option Instruction → Event → Machine → List Finding
-of_step i changes (Some x) (Step t) behind = of_instruction i changes x behind t step_kinds
-of_step i changes x e behind = []
+of_step i changes (Some x) (Step t) after = of_instruction i changes x after t step_kinds
+of_step i changes x e after = []
 
 -- The kinds that are about the matches of a cancel or removal.
 abbrev pub cancel_kinds : List Kind
@@ -109,7 +109,7 @@ of_cancel i (Some x) rows = of_kinds i x rows cancel_kinds
 
 -- The findings of an event about the rings, the threads, and a cancel or removal.
 abbrev pub of_event : Setup → ℕ → Machine → Event → Machine → List Finding
-of_event s i before e behind = of_overflow i (overflows before) (overflows behind) ++ (of_step i (changes_at before (done_by s before e)) (done_by s before e) e behind ++ of_cancel i (cancel_before before e) behind.table)
+of_event s i before e after = of_overflow i (overflows before) (overflows after) ++ (of_step i (changes_at before (done_by s before e)) (done_by s before e) e after ++ of_cancel i (cancel_before before e) after.table)
 
 -- ---- conflicts
 
@@ -118,17 +118,17 @@ abbrev pub conflict_kinds : List Kind
 conflict_kinds = BufferInUse ∷ Unordered ∷ SharedPosition ∷ FsyncEarly ∷ []
 
 -- The conflicts of some kinds with request q.
-abbrev pub of_candidate : ℕ → Setup → Machine → Deed → ℕ → Row → List Kind → List Finding
-of_candidate i s m deed q row kinds = flat_map (λ (kind : Kind). given (conflicts kind s m deed q row) (record { moment = i; kind = kind; subject = q })) kinds
+abbrev pub of_candidate : ℕ → Setup → Machine → Effect → ℕ → Row → List Kind → List Finding
+of_candidate i s m effect q row kinds = flat_map (λ (kind : Kind). given (conflicts kind s m effect q row) (record { moment = i; kind = kind; subject = q })) kinds
 
 -- All conflicts with request q.
-abbrev pub of_number : ℕ → Setup → Machine → Deed → ℕ → List Finding
-of_number i s m deed q = option_map_or (λ (row : Row). of_candidate i s m deed q row conflict_kinds) (slice_get m.table q) []
+abbrev pub of_number : ℕ → Setup → Machine → Effect → ℕ → List Finding
+of_number i s m effect q = option_map_or (λ (row : Row). of_candidate i s m effect q row conflict_kinds) (slice_get m.table q) []
 
 -- The conflicts of an event with the requests of some numbers.
-abbrev pub of_deed : ℕ → Setup → Machine → Deed → List ℕ → List Finding
-of_deed i s m Nothing numbers = []
-of_deed i s m deed numbers = flat_map (of_number i s m deed) numbers
+abbrev pub of_effect : ℕ → Setup → Machine → Effect → List ℕ → List Finding
+of_effect i s m Nothing numbers = []
+of_effect i s m effect numbers = flat_map (of_number i s m effect) numbers
 
 -- ---- the numbers of the incomplete READs and WRITEs
 
@@ -146,13 +146,13 @@ followed numbers q false false = numbers
 
 -- The numbers after one change of a record.
 abbrev pub after_note : View → List ℕ → Option Value → Place → List ℕ
-after_note behind numbers old (Request q) = followed numbers q (is_candidate_in old) (is_candidate_in (behind (Request q)))
-after_note behind numbers old _ = numbers
+after_note after numbers old (Request q) = followed numbers q (is_candidate_in old) (is_candidate_in (after (Request q)))
+after_note after numbers old _ = numbers
 
 -- The numbers after all changes of a record.
 abbrev pub after_notes : View → List ℕ → List Change → List ℕ
-after_notes behind numbers [] = numbers
-after_notes behind numbers (c ∷ cs) = after_notes behind (after_note behind numbers c.old c.place) cs
+after_notes after numbers [] = numbers
+after_notes after numbers (c ∷ cs) = after_notes after (after_note after numbers c.old c.place) cs
 
 -- Each incomplete READ and WRITE is one of some numbers.
 abbrev pub Covers : List Row → List ℕ → Type 0
@@ -162,12 +162,12 @@ Covers rows numbers = (q : ℕ) → option_map_or is_candidate (slice_get rows q
 
 -- The search has added the findings of event i, using the undo record of the event, and updated the
 -- numbers of the incomplete READs and WRITEs.
-pub record Adds (s : Setup) (i : ℕ) (before : Machine) (e : Event) (behind : Machine) (fs gs : List Finding) (numbers now : List ℕ) : Type 0 where
+pub record Adds (s : Setup) (i : ℕ) (before : Machine) (e : Event) (after : Machine) (fs gs : List Finding) (numbers now : List ℕ) : Type 0 where
   pub past : List Change
-  pub exact : Exact (view before) (view behind) past
+  pub exact : Exact (view before) (view after) past
   pub once : NamesOnce past
-  pub added : gs ≡ ((fs ++ flat_map (of_change i behind.table) past) ++ of_event s i before e behind) ++ of_deed i s behind (done_at s before e behind) now
-  pub further : now ≡ after_notes (view behind) numbers past
+  pub added : gs ≡ ((fs ++ flat_map (of_change i after.table) past) ++ of_event s i before e after) ++ of_effect i s after (done_at s before e after) now
+  pub further : now ≡ after_notes (view after) numbers past
 
 -- Exactly the findings of the first n events.
 pub record FoundBefore (s : Setup) (es : List Event) (n : ℕ) (fs : List Finding) : Type 0 where
@@ -176,8 +176,8 @@ pub record FoundBefore (s : Setup) (es : List Event) (n : ℕ) (fs : List Findin
 
 -- Exactly the conditions that last to the end.
 pub record IsLasting (s : Setup) (es : List Event) (fs : List Finding) : Type 0 where
-  pub only : All (λ f. Began (stands_at s es f.kind f.subject) (length es) f.moment) fs
-  pub whole : (f : Finding) → Began (stands_at s es f.kind f.subject) (length es) f.moment → Contains fs f
+  pub only : All (λ f. Began (condition_holds_at s es f.kind f.subject) (length es) f.moment) fs
+  pub whole : (f : Finding) → Began (condition_holds_at s es f.kind f.subject) (length es) f.moment → Contains fs f
 
 -- A finding if the numbered request is incomplete at the end.
 abbrev pub of_left : ℕ → ℕ × Row → List Finding

@@ -6,7 +6,7 @@ use Rattle.finding_kinds.specs.declared.finding.Finding.{Finding}
 use Rattle.finding_kinds.specs.declared.kind.Kind.{Kind}
 use Rattle.finding_kinds.specs.declared.kind.Kind.TheVariants.{Waits, LostWakeUp, NotTaken, NotReaped}
 use Rattle.findings.specs.declared.watching.Watch.{Watch}
-use Rattle.findings.specs.Conditions.{stands}
+use Rattle.findings.specs.Conditions.{condition_holds}
 
 -- Since when a condition holds, given whether it holds at the next moment.
 abbrev pub continued : Bool → Option ℕ → ℕ → Option ℕ
@@ -16,7 +16,7 @@ continued true (Some i) moment = Some i
 
 -- A condition updated for the next moment.
 abbrev pub advanced : Setup → Machine → ℕ → Watch → Watch
-advanced s m moment w = record w { since = continued (stands s w.kind m w.subject) w.since moment }
+advanced s m moment w = record w { since = continued (condition_holds s w.kind m w.subject) w.since moment }
 
 -- A condition that has not held so far.
 abbrev pub fresh : Kind → ℕ → Watch

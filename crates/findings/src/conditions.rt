@@ -2,7 +2,7 @@
 ghost use Rattle.std.specs.Prelude.{◌≡◌, false};
 ghost use Rattle.std.specs.Option.{option_map_or};
 ghost use Rattle.links_drains.specs.Links.{has_flag};
-ghost use Rattle.findings.specs.Conditions.{needs_wake_up, overflows, has_entries, has_completions, counter_of, done_by, answer_of, is_of_enter, is_of_push, has_closed, is_of_close, is_of_step, waits, stands};
+ghost use Rattle.findings.specs.Conditions.{needs_wake_up, overflows, has_entries, has_completions, counter_of, done_by, answer_of, is_of_enter, is_of_push, has_closed, is_of_close, is_of_step, waits, condition_holds};
 ghost use Rattle.findings.specs.Canceling.{cancel_before};
 ghost use Rattle.findings.specs.Endings.{is_error, is_less};
 ghost use Rattle.findings.specs.Uses.{changes_at};
@@ -28,7 +28,7 @@ pub(crate) struct Before {
 }
 
 impl Before {
-    pub fn of(setup: &Setup, state: &State, event: Event) -> Before
+    pub fn new(setup: &Setup, state: &State, event: Event) -> Before
         ensures overflows { result.overflows ≡ overflows state.now }
         ensures counter { result.counter ≡ counter_of state.now event }
         ensures changes { result.changes ≡ changes_at state.now
@@ -228,8 +228,8 @@ fn waits(setup: &Setup, state: &State, thread: u32) -> bool
 }
 
 /// Returns whether a condition holds that is a finding if it lasts to the end of the run.
-pub(crate) fn stands(setup: &Setup, kind: Kind, state: &State, subject: u32) -> bool
-    ensures { result ≡ stands setup.now kind state.now subject }
+pub(crate) fn condition_holds(setup: &Setup, kind: Kind, state: &State, subject: u32) -> bool
+    ensures { result ≡ condition_holds setup.now kind state.now subject }
 {
     match kind {
         Kind::LostWakeUp => subject == 0 && (needs_wake_up(state) && has_entries(state)),

@@ -1,11 +1,11 @@
 //! Conflicts between an event and incomplete READs and WRITEs that are not ordered with it.
 ghost use Rattle.std.specs.Prelude.{◌≡◌, ◌==◌};
 ghost use Rattle.opcodes.specs.Outcomes.{is_at_position};
-ghost use Rattle.links_drains.specs.Links.{asks_to_drain};
+ghost use Rattle.links_drains.specs.Links.{has_drain_flag};
 ghost use Rattle.links_drains.specs.Eligible.{drains, is_before_in_unit, is_before_in_drain};
-ghost use Rattle.findings.specs.Conflicts.{meet, moved, is_good, is_in_buffer, is_same_file, number_or_zero, position_at, begins, is_placed, is_over, is_by_position, is_between, is_behind_barrier, is_behind, is_candidate, is_synced_early, is_beside, is_stored_over, is_conflict, conflicts};
+ghost use Rattle.findings.specs.Conflicts.{meet, moved, is_good, is_in_buffer, is_same_file, number_or_zero, position_at, begins, is_placed, is_over, is_by_position, is_between, is_after_barrier, is_ordered_after, is_candidate, is_synced_early, would_conflict, is_stored_over, is_conflict, conflicts};
 
-use crate::deed::{Deed, is_transfer};
+use crate::effect::{Effect, is_transfer};
 use crate::files::{is_same_descriptor, is_same_file};
 use crate::leftover::row_at;
 use crate::transition::Transition;
@@ -126,8 +126,8 @@ fn is_over(setup: &Setup, state: &State, count: u64, done: &Sqe, row: &Row) -> b
 
 // ---- order
 
-fn asks_to_drain(row: &Row) -> bool
-    ensures { result ≡ asks_to_drain row.now }
+fn has_drain_flag(row: &Row) -> bool
+    ensures { result ≡ has_drain_flag row.now }
 {
     row.entry.flags & IOSQE_IO_DRAIN != 0
 }
@@ -140,7 +140,7 @@ fn drains(state: &State, unit: u32) -> bool
     for number in unit..MOST_ROWS {
         match row_at(state, number) {
             Some(row) if row.unit == unit => {
-                if asks_to_drain(&row) {
+                if has_drain_flag(&row) {
                     return true;
                 }
             }
@@ -173,8 +173,8 @@ fn is_between(state: &State, row: &Row, before: &Row, other: &Row) -> bool
 
 // Returns whether a draining chain between two others orders `row` after `before`. Only requests
 // from the start of the earlier chain on can belong to it.
-fn is_behind_barrier(state: &State, row: &Row, before: &Row) -> bool
-    ensures { result ≡ is_behind_barrier state.now.table row.now before.now }
+fn is_after_barrier(state: &State, row: &Row, before: &Row) -> bool
+    ensures { result ≡ is_after_barrier state.now.table row.now before.now }
 {
     let _first = row_at(state, before.unit);
     for number in before.unit..MOST_ROWS {
@@ -191,11 +191,11 @@ fn is_behind_barrier(state: &State, row: &Row, before: &Row) -> bool
 }
 
 // Returns whether `row` is ordered after `before`.
-fn is_behind(state: &State, number: u32, row: &Row, other: u32, before: &Row) -> bool
-    ensures { result ≡ is_behind state.now.table number row.now other before.now }
+fn is_ordered_after(state: &State, number: u32, row: &Row, other: u32, before: &Row) -> bool
+    ensures { result ≡ is_ordered_after state.now.table number row.now other before.now }
 {
     is_before_in_unit(number, row, other, before)
-        || (is_before_in_drain(state, row, before) || is_behind_barrier(state, row, before))
+        || (is_before_in_drain(state, row, before) || is_after_barrier(state, row, before))
 }
 
 // ---- kinds
@@ -220,8 +220,16 @@ fn is_synced_early(setup: &Setup, number: u32, done: &Row, other: u32, row: &Row
 }
 
 // Returns whether the completion of `done` conflicts with `row`, whatever their order.
-fn is_beside(kind: Kind, at: Transition<'_>, number: u32, done: &Row, other: u32, row: &Row) -> bool
-    ensures { result ≡ is_beside kind at.entry.setup.now at.entry.state.now number done.now other
+fn would_conflict(
+    kind: Kind,
+    at: Transition<'_>,
+    number: u32,
+    done: &Row,
+    other: u32,
+    row: &Row,
+) -> bool
+    ensures { result
+        ≡ would_conflict kind at.entry.setup.now at.entry.state.now number done.now other
         row.now }
 {
     let count = moved(done.phase);
@@ -252,24 +260,30 @@ fn is_stored_over(kind: Kind, address: u64, count: u64, row: &Row) -> bool
     }
 }
 
-fn is_conflict(kind: Kind, at: Transition<'_>, deed: &Deed, number: u32, row: &Row) -> bool
-    ensures { result ≡ is_conflict kind at.entry.setup.now at.entry.state.now deed.now number
+fn is_conflict(kind: Kind, at: Transition<'_>, effect: &Effect, number: u32, row: &Row) -> bool
+    ensures { result ≡ is_conflict kind at.entry.setup.now at.entry.state.now effect.now number
         row.now }
 {
-    match deed {
-        Deed::Nothing => false,
-        Deed::Stored(address, count) => is_stored_over(kind, *address, *count, row),
-        Deed::Finished(by, done) => {
-            is_beside(kind, at, *by, done, number, row)
-                && !is_behind(at.state, number, row, *by, done)
+    match effect {
+        Effect::Nothing => false,
+        Effect::Stored(address, count) => is_stored_over(kind, *address, *count, row),
+        Effect::Finished(by, done) => {
+            would_conflict(kind, at, *by, done, number, row)
+                && !is_ordered_after(at.state, number, row, *by, done)
         }
     }
 }
 
 /// Returns whether the event's deed is a finding of this kind about an incomplete READ or WRITE.
-pub(crate) fn conflicts(kind: Kind, at: Transition<'_>, deed: &Deed, number: u32, row: &Row) -> bool
-    ensures { result ≡ conflicts kind at.entry.setup.now at.entry.state.now deed.now number
+pub(crate) fn conflicts(
+    kind: Kind,
+    at: Transition<'_>,
+    effect: &Effect,
+    number: u32,
+    row: &Row,
+) -> bool
+    ensures { result ≡ conflicts kind at.entry.setup.now at.entry.state.now effect.now number
         row.now }
 {
-    is_candidate(row) && is_conflict(kind, at, deed, number, row)
+    is_candidate(row) && is_conflict(kind, at, effect, number, row)
 }

@@ -1,9 +1,9 @@
 //! Findings about requests that an event submits or completes (io_uring_enter(2)).
 ghost use Rattle.std.specs.Prelude.{◌≡◌, ◌+◌, ◌&&◌, None, false, slice_get};
-ghost use Rattle.timeouts_cancel.specs.Falls.{is_bad, is_transfer};
+ghost use Rattle.timeouts_cancel.specs.Cascades.{is_bad, is_transfer};
 ghost use Rattle.std.specs.Option.{option_map_or};
 ghost use Rattle.links_drains.specs.Links.{has_flag, is_linked};
-ghost use Rattle.findings.specs.Endings.{had_ended, was_issued, ending_of, is_error, is_less, is_told_apart, next_in, has_next, leaves_chain, is_of, has_idle_field, comes_as, row_test};
+ghost use Rattle.findings.specs.Endings.{had_ended, was_issued, ending_of, is_error, is_less, is_reported_apart, next_in, has_next, leaves_chain, is_of, has_idle_field, comes_as, row_test};
 
 use crate::leftover::row_at;
 use crate::twins::has_twin;
@@ -99,8 +99,8 @@ fn is_bad(row: &Row, res: i32) -> bool
 }
 
 // Returns whether another kind than `Failed` covers the error.
-fn is_told_apart(row: &Row, res: i32) -> bool
-    ensures { result ≡ is_told_apart row.now res }
+fn is_reported_apart(row: &Row, res: i32) -> bool
+    ensures { result ≡ is_reported_apart row.now res }
 {
     is_canceled(res)
         || (is_timer(row.entry.opcode) && is_out_of_time(res)
@@ -116,7 +116,7 @@ fn severs(before: &Option<Row>, row: &Row, res: i32) -> bool
 }
 
 // Returns the request that is `count` after the given one, if there is one.
-fn row_behind(state: &State, number: u32, count: u32) -> Option<Row>
+fn row_after(state: &State, number: u32, count: u32) -> Option<Row>
     ensures { result ≡ slice_get state.now.table (number + count) }
 {
     let _row = row_at(state, number);
@@ -130,7 +130,7 @@ fn row_behind(state: &State, number: u32, count: u32) -> Option<Row>
 fn next_in(state: &State, number: u32) -> Option<Row>
     ensures { result ≡ next_in state.now.table number }
 {
-    row_behind(state, number, distance_to_next(state, number))
+    row_after(state, number, distance_to_next(state, number))
 }
 
 // Returns whether the chain of the request has another member after it, besides a linked timeout.
@@ -162,7 +162,7 @@ fn is_of(kind: Kind, before: &Option<Row>, state: &State, number: u32, row: &Row
     ensures { result ≡ is_of kind before.now row.now (next_in state.now.table number) res }
 {
     match kind {
-        Kind::Failed => res < 0 && !is_told_apart(row, res),
+        Kind::Failed => res < 0 && !is_reported_apart(row, res),
         Kind::Short => is_transfer(row) && is_less(res, row.entry.len),
         Kind::Severed => severs(before, row, res),
         Kind::Canceled => is_canceled(res),
@@ -195,7 +195,7 @@ fn comes_as(kind: Kind, state: &State, number: u32, row: &Row) -> bool
     ensures { result ≡ comes_as kind state.now.table number row.now }
 {
     match kind {
-        Kind::CutOff => is_linked(&row.entry) && row_behind(state, number, 1).is_none(),
+        Kind::CutOff => is_linked(&row.entry) && row_after(state, number, 1).is_none(),
         Kind::NoEffect => has_idle_field(&row.entry),
         Kind::SameUserData => has_twin(state, number, row),
         _ => false,

@@ -1,7 +1,7 @@
 //! The files that entries name by their descriptors.
 ghost use Rattle.std.specs.Prelude.{◌≡◌};
 ghost use Rattle.machine.specs.Steps.{number_in};
-ghost use Rattle.findings.specs.Conflicts.{file_number, file_behind, file_numbered, file_of, are_one, is_same_file};
+ghost use Rattle.findings.specs.Conflicts.{file_number, file_of_descriptor, file_numbered, file_of, are_one, is_same_file};
 
 use entries::Sqe;
 use finding_kinds::{FIRST_DESCRIPTOR, descriptor_number};
@@ -18,8 +18,8 @@ fn file_number(object: u32, contents: &Contents) -> Option<u32>
 }
 
 // Returns the object of the descriptor, if it is a regular file.
-fn file_behind(setup: &Setup, descriptor: Descriptor) -> Option<u32>
-    ensures { result ≡ file_behind setup.now descriptor }
+fn file_of_descriptor(setup: &Setup, descriptor: Descriptor) -> Option<u32>
+    ensures { result ≡ file_of_descriptor setup.now descriptor }
 {
     match setup.objects.as_slice().get(descriptor.object as usize) {
         Some(object) => file_number(descriptor.object, &object.contents),
@@ -34,7 +34,7 @@ fn file_numbered(setup: &Setup, fd: u32) -> Option<u32>
         return None;
     }
     match setup.fds.as_slice().get((fd - FIRST_DESCRIPTOR) as usize) {
-        Some(descriptor) => file_behind(setup, *descriptor),
+        Some(descriptor) => file_of_descriptor(setup, *descriptor),
         None => None,
     }
 }

@@ -6,7 +6,7 @@ mod canceling;
 mod changes;
 mod conditions;
 mod conflicts;
-mod deed;
+mod effect;
 mod ends;
 mod files;
 mod following;

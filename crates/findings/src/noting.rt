@@ -37,7 +37,7 @@ pub(crate) fn note_row(
 ) -> Result<(), AllocError> {
     for _row in times.len()..number as usize + 1 {
         times.push(Times {
-            came: moment,
+            queued: moment,
             issued: None,
             ended: None,
         })?;

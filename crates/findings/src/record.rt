@@ -5,12 +5,12 @@ ghost use Rattle.std.specs.Option.{option_copied};
 ghost use Rattle.findings.specs.Endings.{row_test};
 ghost use Rattle.findings.specs.Conditions.{overflows};
 ghost use Rattle.finding_kinds.specs.Programs.{instruction_at};
-ghost use Rattle.findings.specs.Records.{given, row_kinds, of_row, row_in, of_overflow, of_instruction, of_step, of_kinds, of_cancel, of_candidate, of_number, of_deed};
+ghost use Rattle.findings.specs.Records.{given, row_kinds, of_row, row_in, of_overflow, of_instruction, of_step, of_kinds, of_cancel, of_candidate, of_number, of_effect};
 
 use crate::canceling::{Cancel, is_of_cancel};
 use crate::conditions::{is_of_step, overflows};
 use crate::conflicts::conflicts;
-use crate::deed::Deed;
+use crate::effect::Effect;
 use crate::ends::row_test;
 use crate::leftover::row_at;
 use crate::transition::Transition;
@@ -125,16 +125,16 @@ fn add_overflow(
     found: &mut Vec<Finding>,
     moment: u32,
     before: bool,
-    behind: bool,
+    after: bool,
 ) -> Result<(), AllocError>
-    ensures { OnOk result (found.new.items ≡ found.old.items ++ of_overflow moment before behind) }
+    ensures { OnOk result (found.new.items ≡ found.old.items ++ of_overflow moment before after) }
 {
     let finding = Finding {
         moment,
         kind: Kind::Overflow,
         subject: 0,
     };
-    add_if(found, !before && behind, finding)
+    add_if(found, !before && after, finding)
 }
 
 // Adds the findings of some kinds about an instruction that a thread did.
@@ -234,13 +234,13 @@ pub(crate) fn add_of_event(found: &mut Vec<Finding>, at: Transition<'_>) -> Resu
 fn add_of_candidate(
     found: &mut Vec<Finding>,
     at: Transition<'_>,
-    deed: &Deed,
+    effect: &Effect,
     number: u32,
     row: &Row,
     kinds: &[Kind],
 ) -> Result<(), AllocError>
     ensures { OnOk result (found.new.items ≡ found.old.items ++ of_candidate at.entry.moment
-        at.entry.setup.now at.entry.state.now deed.now number row.now kinds.now) }
+        at.entry.setup.now at.entry.state.now effect.now number row.now kinds.now) }
 {
     for kind in kinds {
         let finding = Finding {
@@ -248,7 +248,7 @@ fn add_of_candidate(
             kind: *kind,
             subject: number,
         };
-        let test = conflicts(*kind, at, deed, number, row);
+        let test = conflicts(*kind, at, effect, number, row);
         add_if(found, test, finding)?;
     }
     Ok(())
@@ -257,14 +257,14 @@ fn add_of_candidate(
 fn add_of_number(
     found: &mut Vec<Finding>,
     at: Transition<'_>,
-    deed: &Deed,
+    effect: &Effect,
     number: u32,
 ) -> Result<(), AllocError>
     ensures { OnOk result (found.new.items ≡ found.old.items ++ of_number at.entry.moment
-        at.entry.setup.now at.entry.state.now deed.now number) }
+        at.entry.setup.now at.entry.state.now effect.now number) }
 {
     match row_at(at.state, number) {
-        Some(row) => add_of_candidate(found, at, deed, number, &row, &CONFLICT_KINDS),
+        Some(row) => add_of_candidate(found, at, effect, number, &row, &CONFLICT_KINDS),
         None => Ok(()),
     }
 }
@@ -272,31 +272,31 @@ fn add_of_number(
 fn add_of_numbers(
     found: &mut Vec<Finding>,
     at: Transition<'_>,
-    deed: &Deed,
+    effect: &Effect,
     numbers: &[u32],
 ) -> Result<(), AllocError>
     ensures { OnOk result (found.new.items ≡ found.old.items
-        ++ flat_map (of_number at.entry.moment at.entry.setup.now at.entry.state.now deed.now)
+        ++ flat_map (of_number at.entry.moment at.entry.setup.now at.entry.state.now effect.now)
         numbers.now) }
 {
     for number in numbers {
-        add_of_number(found, at, deed, *number)?;
+        add_of_number(found, at, effect, *number)?;
     }
     Ok(())
 }
 
 /// Adds the conflicts of an event with the incomplete READs and WRITEs of these numbers.
-pub(crate) fn add_of_deed(
+pub(crate) fn add_of_effect(
     found: &mut Vec<Finding>,
     at: Transition<'_>,
-    deed: &Deed,
+    effect: &Effect,
     numbers: &[u32],
 ) -> Result<(), AllocError>
-    ensures { OnOk result (found.new.items ≡ found.old.items ++ of_deed at.entry.moment
-        at.entry.setup.now at.entry.state.now deed.now numbers.now) }
+    ensures { OnOk result (found.new.items ≡ found.old.items ++ of_effect at.entry.moment
+        at.entry.setup.now at.entry.state.now effect.now numbers.now) }
 {
-    match deed {
-        Deed::Nothing => Ok(()),
-        _ => add_of_numbers(found, at, deed, numbers),
+    match effect {
+        Effect::Nothing => Ok(()),
+        _ => add_of_numbers(found, at, effect, numbers),
     }
 }

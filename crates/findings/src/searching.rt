@@ -5,20 +5,20 @@ ghost use Rattle.places.specs.View.{NamesOnce};
 ghost use Rattle.machine.specs.Steps.{Next};
 ghost use Rattle.machine.specs.Runs.{start, Accepts};
 ghost use Rattle.machine.specs.Whole.{view};
-ghost use Rattle.findings.specs.Findings.{IsToldOf, Rises};
+ghost use Rattle.findings.specs.Findings.{IsReportOf, Rises};
 ghost use Rattle.findings.specs.Conditions.{overflows};
 ghost use Rattle.finding_kinds.specs.Programs.{instruction_at};
 ghost use Rattle.findings.specs.Conflicts.{done_as};
-ghost use Rattle.findings.specs.Records.{of_change, of_overflow, of_step, of_cancel, of_deed, after_notes, Adds, FoundBefore, IsLasting, AreLeft, all_left, all_unsynced, IsAll, SameFindings, HaltsAt, Halted};
+ghost use Rattle.findings.specs.Records.{of_change, of_overflow, of_step, of_cancel, of_effect, after_notes, Adds, FoundBefore, IsLasting, AreLeft, all_left, all_unsynced, IsAll, SameFindings, HaltsAt, Halted};
 ghost use Rattle.findings.specs.Watched.{advanced, watched, of_lasting};
 
 use crate::changes::look_at_record;
 use crate::conditions::{Before, overflows, slot_met};
-use crate::deed::done_as;
+use crate::effect::done_as;
 use crate::leftover::add_all_left;
 use crate::noting::{note_counter, note_dropped, note_emptied, note_slot};
 use crate::ordering::in_order;
-use crate::record::{add_of_deed, add_of_event};
+use crate::record::{add_of_effect, add_of_event};
 use crate::transition::Transition;
 use crate::unsynced::add_all_unsynced;
 use crate::watching::{Watch, add_all_lasting, advance, watches_of};
@@ -37,19 +37,19 @@ struct Gathered {
 }
 
 // Adds the conflicts of an event with the incomplete READs and WRITEs.
-fn look_beside(
+fn add_effects(
     at: Transition<'_>,
     found: &mut Vec<Finding>,
     numbers: &[u32],
 ) -> Result<(), AllocError>
     ensures { OnOk result (found.new.items ≡ found.old.items
-        ++ of_deed at.entry.moment at.entry.setup.now at.entry.state.now
+        ++ of_effect at.entry.moment at.entry.setup.now at.entry.state.now
         (done_as at.entry.event
         (instruction_at at.entry.setup.now at.entry.event at.entry.before.counter)
         at.entry.state.now) numbers.now) }
 {
-    let deed = done_as(at.setup, at.before, at.event, at.state);
-    add_of_deed(found, at, &deed, numbers)
+    let effect = done_as(at.setup, at.before, at.event, at.state);
+    add_of_effect(found, at, &effect, numbers)
 }
 
 // Records the history of an event that sentences need.
@@ -82,7 +82,7 @@ fn look(
         (instruction_at at.entry.setup.now at.entry.event at.entry.before.counter)
         at.entry.event at.entry.state.now
         ++ of_cancel at.entry.moment at.entry.before.cancel at.entry.state.now.table)))
-        ++ of_deed at.entry.moment at.entry.setup.now at.entry.state.now
+        ++ of_effect at.entry.moment at.entry.setup.now at.entry.state.now
         (done_as at.entry.event
         (instruction_at at.entry.setup.now at.entry.event at.entry.before.counter)
         at.entry.state.now) gathered.new.numbers.items) }
@@ -94,7 +94,7 @@ fn look(
     let rows = &mut history.rows;
     look_at_record(&mut gathered.found, &mut gathered.numbers, rows, at, past)?;
     add_of_event(&mut gathered.found, at)?;
-    look_beside(at, &mut gathered.found, &gathered.numbers)
+    add_effects(at, &mut gathered.found, &gathered.numbers)
 }
 
 // Does an event, and adds its findings.
@@ -112,7 +112,7 @@ fn find_at(
         gathered.new.numbers.items) }
     ensures err { IfErr result (HaltsAt moment state.old event) }
 {
-    let before = Before::of(setup, state, event);
+    let before = Before::new(setup, state, event);
     let past = match state.step(event) {
         Ok(past) => past,
         Err(refusal) => return Err(fault_by(moment, refusal)),
@@ -232,7 +232,7 @@ pub fn search(
     requires starts { state.old ≡ start setup.now }
     requires most { length events.now ≤ 1048576 }
     ensures runs { OnOk result (Accepts (start setup.now) events.now) }
-    ensures ok { IfOk result (λ list. IsToldOf setup.now events.now list.items) }
+    ensures ok { IfOk result (λ list. IsReportOf setup.now events.now list.items) }
     ensures err { IfErr result (Halted setup.now events.now) }
 {
     let Ok(mut watches) = watches_of(alloc, setup) else {

@@ -85,7 +85,7 @@ fn is_sought(ring: &SubRing, sought: Sought, word: u32) -> bool
 }
 
 // Returns the first waiting index that matches, after skipping some.
-fn first_behind(ring: &SubRing, sought: Sought, passed: u32) -> Option<u32>
+fn first_after(ring: &SubRing, sought: Sought, passed: u32) -> Option<u32>
     requires { passed ≤ waiting ring.now.head ring.now.tail }
     ensures { is_some result ≡ list_any (is_sought ring.now.slots sought)
         (drop passed (sub_list ring.now)) }
@@ -103,7 +103,7 @@ fn first_behind(ring: &SubRing, sought: Sought, passed: u32) -> Option<u32>
 pub(crate) fn first_pushed(state: &State, sought: Sought) -> Option<u32>
     ensures { is_some result ≡ is_pushed state.now.submissions sought }
 {
-    first_behind(state.submissions(), sought, 0)
+    first_after(state.submissions(), sought, 0)
 }
 
 // Returns whether one of the last pushed indexes, still waiting, is this slot.
@@ -112,7 +112,7 @@ fn is_pushed_last(ring: &SubRing, slot: u32) -> bool
         (pushed_last ring.now) }
 {
     let passed = ring.waiting().saturating_sub(LOOKED_AT);
-    first_behind(ring, Sought::Named(slot), passed).is_some()
+    first_after(ring, Sought::Named(slot), passed).is_some()
 }
 
 // Returns whether the request is one that a close of the descriptor is a finding about.

@@ -3,7 +3,7 @@ ghost use Rattle.std.specs.Prelude.{◌≡◌, ◌++◌, map, IfOk, OnOk};
 ghost use Rattle.std.specs.List.{flat_map};
 ghost use Rattle.findings.specs.Watched.{continued, advanced, of_rings, watched, fresh, of_lasting};
 
-use crate::conditions::stands;
+use crate::conditions::condition_holds;
 use finding_kinds::{Finding, Kind};
 use machine::{Setup, State};
 use std::alloc::{AllocError, Global};
@@ -37,7 +37,7 @@ fn advanced(setup: &Setup, state: &State, moment: u32, watch: Watch) -> Watch
         kind: watch.kind,
         subject: watch.subject,
         since: continued(
-            stands(setup, watch.kind, state, watch.subject),
+            condition_holds(setup, watch.kind, state, watch.subject),
             watch.since,
             moment,
         ),

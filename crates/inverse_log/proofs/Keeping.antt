@@ -14,12 +14,12 @@ use Rattle.inverse_log.specs.Tracks.{Keeps}
 use Rattle.inverse_log.proofs.Runs.{linked_at, length_linked, linked_more, linked_take, recorded_more, recorded_take, run-take_more, run-push, run_all}
 
 -- The event and record that lead from moment i to `state`.
-pub record Behind (setup : Setup) (es : List Event) (i : ℕ) (r : List Change) (state : Machine) : Type 0 where
+pub record StepBefore (setup : Setup) (es : List Event) (i : ℕ) (r : List Change) (state : Machine) : Type 0 where
   pub event : Event
   pub link : Link (moment setup es i) event r state
 
-pub behind : (setup : Setup) (es : List Event) (rs : List (List Change)) (at : ℕ) (state : Machine) (walked : ℕ) (r : List Change) → Keeps setup es rs at state walked → 0 < at → r ≡ get_or rs (at - 1) r → Behind setup es (at - 1) r state
-behind setup es rs at state walked r k some g =
+pub step_before : (setup : Setup) (es : List Event) (rs : List (List Change)) (at : ℕ) (state : Machine) (walked : ℕ) (r : List Change) → Keeps setup es rs at state walked → 0 < at → r ≡ get_or rs (at - 1) r → StepBefore setup es (at - 1) r state
+step_before setup es rs at state walked r k some g =
     let l = linked_at (start setup) (run (start setup) es) es rs (at - 1) r k.linked (let w = k.within in omega arith) g in
     let n : suc (at - 1) ≡ at = omega arith in
     let same : run (start setup) (take (suc (at - 1)) es) ≡ state = ap (λ m. run (start setup) (take m es)) n ∙ sym k.here in

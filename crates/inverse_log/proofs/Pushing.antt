@@ -9,7 +9,7 @@ use Rattle.scenario.specs.declared.event.Refusal.{Refusal}
 use Rattle.scenario.specs.declared.event.Refusal.TheVariants.{Memory}
 use Rattle.machine.specs.Steps.{refusal, after}
 use Rattle.machine.specs.Runs.{run, start, Accepts}
-use Rattle.inverse_log.specs.Tracks.{Track, stands, ends, grown, RefusedAt}
+use Rattle.inverse_log.specs.Tracks.{Track, current, ends, grown, RefusedAt}
 use Rattle.inverse_log.proofs.Runs.{run-append, run_all, accepts-push}
 
 -- `v` is the track `w` after the first i events were pushed.
@@ -25,18 +25,18 @@ pushed_last w v es i last h p =
     let short = length-take i es in
     omega arith
 
-pub pushed_stands : (w v : Track) (es : List Event) (i : ℕ) → w.at ≡ length w.events → i ≤ length es → Pushed w es i v → stands v ≡ run (ends w) (take i es)
-pushed_stands w v es i last h p =
+pub pushed_current : (w v : Track) (es : List Event) (i : ℕ) → w.at ≡ length w.events → i ≤ length es → Pushed w es i v → current v ≡ run (ends w) (take i es)
+pushed_current w v es i last h p =
     run_all (start v.setup) v.events v.at (pushed_last w v es i last h p) ∙ ap (λ (x : Track). run (start x.setup) x.events) p.walk ∙ run-append (start w.setup) w.events (take i es)
 
 one_more : (es : List Event) (i : ℕ) (e d : Event) → i < length es → e ≡ get_or es i d → take (i + 1) es ≡ take i es ++ e ∷ []
 one_more es i e d h g = take_more es i d h ∙ ap (λ x. take i es ++ x ∷ []) (sym g)
 
-pub pushed_more : (w v v' : Track) (es : List Event) (i : ℕ) (e d : Event) → w.at ≡ length w.events → i < length es → Pushed w es i v → refusal (stands v) e ≡ None → v' ≡ grown v (e ∷ []) (v.at + 1) → e ≡ get_or es i d → Pushed w es (i + 1) v'
+pub pushed_more : (w v v' : Track) (es : List Event) (i : ℕ) (e d : Event) → w.at ≡ length w.events → i < length es → Pushed w es i v → refusal (current v) e ≡ None → v' ≡ grown v (e ∷ []) (v.at + 1) → e ≡ get_or es i d → Pushed w es (i + 1) v'
 pushed_more w v v' es i e d last h p a k g =
     let more : (w.events ++ take i es) ++ e ∷ [] ≡ w.events ++ take (i + 1) es = append_assoc w.events (take i es) (e ∷ []) ∙ ap (λ fs. w.events ++ fs) (sym (one_more es i e d h g)) in
     let below : i ≤ length es = omega arith in
-    let run_on : Accepts (ends w) (take i es ++ e ∷ []) = accepts-push (ends w) (take i es) e p.accepts (ap (λ m. refusal m e) (sym (pushed_stands w v es i last below p)) ∙ a) in
+    let run_on : Accepts (ends w) (take i es ++ e ∷ []) = accepts-push (ends w) (take i es) e p.accepts (ap (λ m. refusal m e) (sym (pushed_current w v es i last below p)) ∙ a) in
     record {
       walk = k ∙ ap (λ (x : Track). grown x (e ∷ []) (x.at + 1)) p.walk
           ∙ ap (λ fs. record { setup = w.setup; events = fs; at = w.at + i + 1; walked = w.walked }) more
@@ -44,7 +44,7 @@ pushed_more w v v' es i e d last h p a k g =
       accepts = subst (Accepts (ends w)) (sym (one_more es i e d h g)) run_on;
     }
 
-pub pushed_stops : (w v : Track) (es : List Event) (i : ℕ) (e d : Event) (n : Refusal) → w.at ≡ length w.events → i < length es → Pushed w es i v → (refusal (stands v) e ≡ Some n) ⊎ ((n ≡ Memory) × (refusal (stands v) e ≡ None)) → e ≡ get_or es i d → RefusedAt (ends w) es i n
+pub pushed_stops : (w v : Track) (es : List Event) (i : ℕ) (e d : Event) (n : Refusal) → w.at ≡ length w.events → i < length es → Pushed w es i v → (refusal (current v) e ≡ Some n) ⊎ ((n ≡ Memory) × (refusal (current v) e ≡ None)) → e ≡ get_or es i d → RefusedAt (ends w) es i n
 pushed_stops w v es i e d n last h p r g =
     let below : i ≤ length es = omega arith in
     let P : Machine → Type 0 = λ m. (refusal m e ≡ Some n) ⊎ ((n ≡ Memory) × ((i ≡ 0) ⊎ (refusal m e ≡ None))) in
@@ -52,7 +52,7 @@ pushed_stops w v es i e d n last h p r g =
       event = e;
       there = slice_get-get_or es i d h ∙ ap Some (sym g);
       runs = p.accepts;
-      refused = subst P (pushed_stands w v es i last below p) (elim r [ inl k ↦ inl k | inr k ↦ inr (k.0, inr k.1) ]);
+      refused = subst P (pushed_current w v es i last below p) (elim r [ inl k ↦ inl k | inr k ↦ inr (k.0, inr k.1) ]);
     }
 
 -- An allocation failure before the first event is reported at index 0.

@@ -22,8 +22,8 @@ pub record Track : Type 0 where
   pub walked : ℕ
 
 -- The machine at the position.
-abbrev pub stands : Track → Machine
-stands t = moment t.setup t.events t.at
+abbrev pub current : Track → Machine
+current t = moment t.setup t.events t.at
 
 -- The machine after the last event.
 abbrev pub ends : Track → Machine

@@ -45,7 +45,7 @@ impl Model for Trail {
 }
 
 impl Trail {
-    ghost use Rattle.inverse_log.specs.Tracks.{stands, ends, stepped, reached, grown, RefusedAt, Recorded, Covers};
+    ghost use Rattle.inverse_log.specs.Tracks.{current, ends, stepped, reached, grown, RefusedAt, Recorded, Covers};
 
     /// Returns a run without events, at its start. Fails as `State::new` does: if the setup breaks
     /// a limit, or with `Memory`.
@@ -99,7 +99,7 @@ impl Trail {
 
     /// Returns the state at the position.
     pub fn state(&self) -> &State
-        ensures { result.now ≡ stands self.now }
+        ensures { result.now ≡ current self.now }
     {
         &self.state
     }
@@ -249,9 +249,9 @@ impl Trail {
         requires last { self.old.at ≡ length self.old.events }
         requires room { length self.old.events < 1048576 }
         ensures ok { OnOk result (self.new ≡ grown self.old (event ∷ []) (self.old.at + 1)) }
-        ensures accepts { OnOk result (refusal (stands self.old) event ≡ None) }
-        ensures refuses { IfErr result (λ n. (refusal (stands self.old) event ≡ Some n)
-            ⊎ ((n ≡ Refusal.Memory) × (refusal (stands self.old) event ≡ None))) }
+        ensures accepts { OnOk result (refusal (current self.old) event ≡ None) }
+        ensures refuses { IfErr result (λ n. (refusal (current self.old) event ≡ Some n)
+            ⊎ ((n ≡ Refusal.Memory) × (refusal (current self.old) event ≡ None))) }
         ensures err { OnErr result (self.new ≡ self.old) }
     {
         if self.records.reserve(1).is_err() || self.events.reserve(1).is_err() {

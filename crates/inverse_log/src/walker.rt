@@ -225,7 +225,7 @@ impl Walker {
 
     /// Goes back one event. Returns false at the start. Allocates nothing.
     pub fn back(&mut self) -> bool
-        ensures told { result ≡ nat_lt 0 self.old.at }
+        ensures moves { result ≡ nat_lt 0 self.old.at }
         ensures moved { self.new ≡ moved self.old (self.old.at - 1) }
     {
         let at = self.at();
@@ -239,7 +239,7 @@ impl Walker {
     /// Goes forward one event. Returns false at the end. If an allocation fails,
     /// the position is unchanged.
     pub fn on(&mut self) -> Result<bool, AllocError>
-        ensures told { IfOk result (λ went. went ≡ nat_lt self.old.at (length self.old.events)) }
+        ensures moves { IfOk result (λ went. went ≡ nat_lt self.old.at (length self.old.events)) }
         ensures ends { self.old.at ≡ length self.old.events → IsOk result }
         ensures moved { OnOk result (self.new
             ≡ moved self.old (min (self.old.at + 1) (length self.old.events))) }

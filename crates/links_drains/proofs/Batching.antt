@@ -15,8 +15,8 @@ use Rattle.places.specs.View.{Keeps, named}
 use Rattle.places.proofs.Keeping.{keeps_then}
 use Rattle.model_files.specs.Worlds.{WorldState}
 use Rattle.opcodes.specs.Check.{time_of}
-use Rattle.links_drains.specs.Batches.{behind_in, chain_of, error_at, error_of, errors_of, row_of, rows_of, target_of, up_to_failure}
-use Rattle.links_drains.specs.Links.{is_linked, GoesOn}
+use Rattle.links_drains.specs.Batches.{previous_in, chain_of, error_at, error_of, errors_of, row_of, rows_of, target_of, up_to_failure}
+use Rattle.links_drains.specs.Links.{is_linked, ChainContinues}
 use Rattle.links_drains.specs.Rows.{table_owns, table_seen, new_row}
 use Rattle.links_drains.proofs.Chains.{enumerated, get-batch}
 use Rattle.links_drains.proofs.RowsKept.{length-push, get-pushed}
@@ -122,18 +122,18 @@ all_added w before now old new es i unit begins t h =
     t.rows ∙ ap (λ rs. before ++ rs) (take_all i (rows_of w (length before) es) (let n = length-rows_of w (length before) es in omega (arith, n, h)))
 
 -- The next row begins a chain, or belongs to the last row's.
-pub next_goes_on : (w : WorldState) (before now : List Row) (old new : Notes) (es : List Sqe) (i unit here : ℕ) (begins : Bool) (row : Row) → Adding w before now old new es i unit begins → i ≤ length es
-    → here ≡ cond begins (length before + i) unit → row.unit ≡ here → GoesOn now row
-next_goes_on w before now old new es i unit here begins row t l u e = by begins t.last (e ∙ u)
+pub next_continues : (w : WorldState) (before now : List Row) (old new : Notes) (es : List Sqe) (i unit here : ℕ) (begins : Bool) (row : Row) → Adding w before now old new es i unit begins → i ≤ length es
+    → here ≡ cond begins (length before + i) unit → row.unit ≡ here → ChainContinues now row
+next_continues w before now old new es i unit here begins row t l u e = by begins t.last (e ∙ u)
   where
-    by : (b : Bool) → (b ≡ true) ⊎ LastOf now unit → row.unit ≡ cond b (length before + i) unit → GoesOn now row
+    by : (b : Bool) → (b ≡ true) ⊎ LastOf now unit → row.unit ≡ cond b (length before + i) unit → ChainContinues now row
     by true m k = inl (k ∙ sym (count_added w before now old new es i unit begins t l))
     by false (inl m) k = absurd cc
     by false (inr m) k = inr (m.0, m.1, m.2, m.3, k ∙ m.4)
 
 -- One more row was added.
 pub adding_on : (w : WorldState) (before now later : List Row) (old new newer : Notes) (es : List Sqe) (i unit here : ℕ) (begins : Bool) (e : Sqe) (row : Row) → Adding w before now old new es i unit begins → slice_get es i ≡ Some e
-    → here ≡ cond begins (length before + i) unit → row ≡ new_row e here (time_of w (behind_in es i) e) (target_of w (length before) es i e)
+    → here ≡ cond begins (length before + i) unit → row ≡ new_row e here (time_of w (previous_in es i) e) (target_of w (length before) es i e)
     → later ≡ now ++ row ∷ [] → Keeps table_owns (table_seen now) (table_seen later) new.made newer.made → ((p : Place) → named newer.made p ≡ None → named new.made p ≡ None)
     → new.numbers ≤ newer.numbers → new.completions ≤ newer.completions → Adding w before later old newer es (i + 1) here (not (is_linked e))
 adding_on w before now later old new newer es i unit here begins e row t g u r h k names numbers completions = record {
@@ -151,7 +151,7 @@ adding_on w before now later old new newer es i unit here begins e row t g u r h
 
     there : slice_get (rows_of w (length before) es) i ≡ Some row
     there = get-batch w (length before) es i ∙ ap (option_map (row_of w (length before) es i)) g
-        ∙ ap Some (ap (λ n. new_row e n (time_of w (behind_in es i) e) (target_of w (length before) es i e)) (sym unit_is) ∙ sym r)
+        ∙ ap Some (ap (λ n. new_row e n (time_of w (previous_in es i) e) (target_of w (length before) es i e)) (sym unit_is) ∙ sym r)
 
     next : (b : Bool) → is_linked e ≡ b → cond (not b) (length before + (i + 1)) here ≡ length before + chain_of es (i + 1)
     next b l = by b ∙ sym (ap (λ n. length before + chain_of es n) one ∙ ap (λ o. length before + cond (option_map_or is_linked o false) (chain_of es i) (suc i)) g ∙ ap (λ c. length before + cond c (chain_of es i) (suc i)) l)
@@ -164,11 +164,11 @@ adding_on w before now later old new newer es i unit here begins e row t g u r h
         by false = omega arith
 
 -- The row of an entry, by its fields.
-pub row_told : (w : WorldState) (first : ℕ) (es : List Sqe) (i unit : ℕ) (x e : Sqe) (behind time target : Option ℕ) (row : Row) → row ≡ new_row x unit time target → time ≡ time_of w behind x → behind ≡ behind_in es i
-    → target ≡ target_of w first es i e → x ≡ e → row ≡ new_row e unit (time_of w (behind_in es i) e) (target_of w first es i e)
-row_told w first es i unit x e behind time target row r t b g same =
-    r ∙ ap (λ z. new_row x unit z target) (t ∙ ap (λ c. time_of w c x) b) ∙ ap (new_row x unit (time_of w (behind_in es i) x)) g
-    ∙ ap (λ y. new_row y unit (time_of w (behind_in es i) y) (target_of w first es i e)) same
+pub row_is_row_of : (w : WorldState) (first : ℕ) (es : List Sqe) (i unit : ℕ) (x e : Sqe) (previous time target : Option ℕ) (row : Row) → row ≡ new_row x unit time target → time ≡ time_of w previous x → previous ≡ previous_in es i
+    → target ≡ target_of w first es i e → x ≡ e → row ≡ new_row e unit (time_of w (previous_in es i) e) (target_of w first es i e)
+row_is_row_of w first es i unit x e previous time target row r t b g same =
+    r ∙ ap (λ z. new_row x unit z target) (t ∙ ap (λ c. time_of w c x) b) ∙ ap (new_row x unit (time_of w (previous_in es i) x)) g
+    ∙ ap (λ y. new_row y unit (time_of w (previous_in es i) y) (target_of w first es i e)) same
 
 -- There is an entry at each index within the batch.
 pub element_there : (es : List Sqe) (i : ℕ) → i < length es → (e : Sqe) × (slice_get es i ≡ Some e)

@@ -74,23 +74,23 @@ get-front [] more i h = absurd (omega (arith, h))
 get-front (x ∷ rows) more zero h = refl
 get-front (x ∷ rows) more (suc i) h = get-front rows more i (omega (arith, h))
 
-pub get-behind : (rows more : List Row) (i : ℕ) → slice_get (rows ++ more) (length rows + i) ≡ slice_get more i
-get-behind [] more i = let m : 0 + i ≡ i = omega arith in ap (slice_get more) m
-get-behind (x ∷ rows) more i = let m : suc (length rows) + i ≡ suc (length rows + i) = omega arith in ap (slice_get (x ∷ rows ++ more)) m ∙ get-behind rows more i
+pub get-appended : (rows more : List Row) (i : ℕ) → slice_get (rows ++ more) (length rows + i) ≡ slice_get more i
+get-appended [] more i = let m : 0 + i ≡ i = omega arith in ap (slice_get more) m
+get-appended (x ∷ rows) more i = let m : suc (length rows) + i ≡ suc (length rows + i) = omega arith in ap (slice_get (x ∷ rows ++ more)) m ∙ get-appended rows more i
 
-record Behind (rows more : List Row) (r : ℕ) (x : Row) : Type 0 where
+record InBatch (rows more : List Row) (r : ℕ) (x : Row) : Type 0 where
   pub index : ℕ
   pub is : r ≡ length rows + index
   pub there : slice_get more index ≡ Some x
 
-placed : (rows more : List Row) (r : ℕ) (x : Row) → slice_get (rows ++ more) r ≡ Some x → (slice_get rows r ≡ Some x) ⊎ Behind rows more r x
+placed : (rows more : List Row) (r : ℕ) (x : Row) → slice_get (rows ++ more) r ≡ Some x → (slice_get rows r ≡ Some x) ⊎ InBatch rows more r x
 placed rows more r x h = by (cases_lt r (length rows))
   where
-    by : (r < length rows) ⊎ (length rows ≤ r) → (slice_get rows r ≡ Some x) ⊎ Behind rows more r x
+    by : (r < length rows) ⊎ (length rows ≤ r) → (slice_get rows r ≡ Some x) ⊎ InBatch rows more r x
     by (inl less) = inl (sym (get-front rows more r less) ∙ h)
     by (inr le) =
         let m : r ≡ length rows + (r - length rows) = omega (arith, le) in
-        inr (record { index = r - length rows; is = m; there = sym (get-behind rows more (r - length rows)) ∙ ap (slice_get (rows ++ more)) (sym m) ∙ h })
+        inr (record { index = r - length rows; is = m; there = sym (get-appended rows more (r - length rows)) ∙ ap (slice_get (rows ++ more)) (sym m) ∙ h })
 
 -- ---- Changes of a table
 
@@ -106,14 +106,14 @@ chained-batch w rows es c = record {
     batch : List Row
     batch = rows_of w (length rows) es
 
-    unit : (r : ℕ) (x : Row) (b : Behind rows batch r x) → x.unit ≡ length rows + chain_of es b.index
+    unit : (r : ℕ) (x : Row) (b : InBatch rows batch r x) → x.unit ≡ length rows + chain_of es b.index
     unit r x b = ap (λ (y : Row). y.unit) (became w (length rows) es b.index x b.there).is
 
-    back : (r : ℕ) (x : Row) → (slice_get rows r ≡ Some x) ⊎ Behind rows batch r x → x.unit ≤ r
+    back : (r : ℕ) (x : Row) → (slice_get rows r ≡ Some x) ⊎ InBatch rows batch r x → x.unit ≤ r
     back r x (inl h) = c.back r x h
     back r x (inr b) = let u = unit r x b in let m = chain_before es b.index in let i = b.is in omega (arith, u, m, i)
 
-    run : (q r : ℕ) (y x : Row) → (slice_get rows q ≡ Some y) ⊎ Behind rows batch q y → (slice_get rows r ≡ Some x) ⊎ Behind rows batch r x → q ≤ r → x.unit ≤ q → y.unit ≡ x.unit
+    run : (q r : ℕ) (y x : Row) → (slice_get rows q ≡ Some y) ⊎ InBatch rows batch q y → (slice_get rows r ≡ Some x) ⊎ InBatch rows batch r x → q ≤ r → x.unit ≤ q → y.unit ≡ x.unit
     run q r y x (inl g) (inl h) l k = c.run q r y x g h l k
     run q r y x (inr b) (inl h) l k = absurd (let w = slice_get_within rows r x h in let i = b.is in omega (arith, w, i, l))
     run q r y x (inl g) (inr b) l k = absurd (let w = slice_get_within rows q y g in let u = unit r x b in omega (arith, w, u, k))

@@ -8,13 +8,13 @@ use Rattle.model_files.specs.Worlds.{WorldState}
 use Rattle.links_drains.specs.Batches.{error_at, rows_of, direct_result, direct_of}
 use Rattle.links_drains.specs.Endings.{or_else, result_in, Direct}
 use Rattle.links_drains.specs.Phases.{is_unfinished}
-use Rattle.links_drains.proofs.Chains.{became, get-behind}
+use Rattle.links_drains.proofs.Chains.{became, get-appended}
 use Rattle.links_drains.proofs.Listing.{result_of, listed_from}
 use Rattle.links_drains.proofs.Rising.{ends_from, rising_from}
 
 pub direct-batch : (w : WorldState) (rows : List Row) (es : List Sqe) → Direct (rows ++ rows_of w (length rows) es) (direct_of w (length rows) es)
 direct-batch w rows es = record {
-  each = λ i e h. let x = ends_from test (length rows) batch i e h in (x.row, ap (slice_get (rows ++ batch)) x.is ∙ get-behind rows batch x.index ∙ x.there, x.unfinished);
+  each = λ i e h. let x = ends_from test (length rows) batch i e h in (x.row, ap (slice_get (rows ++ batch)) x.is ∙ get-appended rows batch x.index ∙ x.there, x.unfinished);
   rising = λ i j p q h k l. rising_from test (length rows) batch i j p q h k l;
 }
   where

@@ -10,7 +10,7 @@ use Rattle.links_drains.specs.Eligible.{drains, waits_for, is_eligible, GuardsFo
 use Rattle.links_drains.specs.Indexes.{Indexed}
 use Rattle.links_drains.specs.Links.{is_guard}
 use Rattle.links_drains.specs.Phases.{is_queued, is_unfinished}
-use Rattle.number_sets.specs.Sets.{has, IsNext}
+use Rattle.bit_sets.specs.Sets.{has, IsNext}
 use Rattle.links_drains.specs.Units.{is_open, is_under_way}
 use Rattle.links_drains.specs.declared.index.Index.{Index}
 use Rattle.links_drains.proofs.Chains.{enumerated}
@@ -142,15 +142,15 @@ module _ (rows : List Row) (index : Index) (i : Indexed rows index) (guards : Gu
       ])
 
   -- The chain does not drain, and has no earlier unfinished request.
-  pub eligible_behind : (b : Bool) → has index.barriers row.unit ≡ false → IsNext index.unfinished row.unit r
+  pub eligible_in_turn : (b : Bool) → has index.barriers row.unit ≡ false → IsNext index.unfinished row.unit r
       → MatchBool b ((k : ℕ) → k < row.unit → has index.barriers k ≡ false) ((k : ℕ) × (k < row.unit) × (has index.barriers k ≡ true)) → b ≡ is_eligible rows r
-  eligible_behind false drain next found =
+  eligible_in_turn false drain next found =
       let p = and_parts _ _ (sym (i.barriers found.0) ∙ found.2) in
       let w = any_of_found is_open rows found.0 p.1 in
       let less = found.1 in
       let same = w.same in
       waits_in_drain w.number w.row w.there w.passes (omega (arith, less, same)) (or_left _ _ (ap (drains rows) same ∙ p.0))
-  eligible_behind true drain next none = waits_for_none
+  eligible_in_turn true drain next none = waits_for_none
       (λ k x h u same less. not_open k x h (next.least k (let b = i.chained.back k x h in omega (arith, b, same)) less) u)
       (λ k x h u low d. elim (or_cases _ _ d) [
         | inr own ↦ both_ways _ (drains_not drain) own

@@ -107,17 +107,17 @@ failing_at w es i at failing t h p m = by (element_there es i h)
     by : (e : Sqe) × (slice_get es i ≡ Some e) → FailingTo w es (i + 1) (slice_set failing at true)
     by (e, g) = record {
       len = length-set failing at true ∙ t.len;
-      each = λ u l. slice_get-set failing at u true high ∙ ap (λ o. cond (at == u) (Some true) o) (t.each u l) ∙ told u (at == u) refl ∙ ap Some (sym (fails_more w es i u e g));
+      each = λ u l. slice_get-set failing at u true high ∙ ap (λ o. cond (at == u) (Some true) o) (t.each u l) ∙ fails_so u (at == u) refl ∙ ap Some (sym (fails_more w es i u e g));
     }
       where
         fails : is_some (error_of w es i e) ≡ true
         fails = sym (ap is_some (error_here w es i e g)) ∙ p
 
-        told : (u : ℕ) (b : Bool) → (at == u) ≡ b → cond b (Some true) (Some (fails_to w es i u)) ≡ Some (fails_to w es i u || (fails_in w es u (i, e) || false))
-        told u true k =
+        fails_so : (u : ℕ) (b : Bool) → (at == u) ≡ b → cond b (Some true) (Some (fails_to w es i u)) ≡ Some (fails_to w es i u || (fails_in w es u (i, e) || false))
+        fails_so u true k =
             let same = eqb-true at u k in
             ap Some (sym (or_some _ _ (ap (λ c. c && is_some (error_of w es i e)) (eq-eqb (chain_of es i) u (sym m ∙ same)) ∙ fails)))
-        told u false k = ap Some (sym (or_none _ _ (and_left _ _ (ne_eqb (chain_of es i) u (λ q. let x = sym k ∙ eq-eqb at u (m ∙ q) in cc)))))
+        fails_so u false k = ap Some (sym (or_none _ _ (and_left _ _ (ne_eqb (chain_of es i) u (λ q. let x = sym k ∙ eq-eqb at u (m ∙ q) in cc)))))
 
 -- ---- The list
 
@@ -158,8 +158,8 @@ ends_more w first es rows i d failing c b o p batch h known e g k =
     len : length (take i rows) ≡ i
     len = length-take-le i rows (omega (arith, h))
 
-    told : b ≡ chain_fails w es (chain_of es i)
-    told = e ∙ get_or_from_slice_get failing (row.unit - first) _ c (known (row.unit - first) (unit_high w first es rows i d batch h)) ∙ ap (chain_fails w es) (chain_is w first es rows i d batch h)
+    fails_so : b ≡ chain_fails w es (chain_of es i)
+    fails_so = e ∙ get_or_from_slice_get failing (row.unit - first) _ c (known (row.unit - first) (unit_high w first es rows i d batch h)) ∙ ap (chain_fails w es) (chain_is w first es rows i d batch h)
 
     queued : is_unfinished row.phase ≡ true
     queued = ap (λ (x : Row). is_unfinished x.phase) (became w first es i row (sym (ap (λ (rs : List Row). slice_get rs i) batch) ∙ here)).is
@@ -168,4 +168,4 @@ ends_more w first es rows i d failing c b o p batch h known e g k =
     gives =
         ap (λ c. cond c (test (first + i) row) None) queued
         ∙ (let m : first + i - first ≡ i = omega arith in ap (direct_result w es) m)
-        ∙ ap (λ c. or_else (error_at w es i) (given c ecanceled)) (sym told) ∙ sym g
+        ∙ ap (λ c. or_else (error_at w es i) (given c ecanceled)) (sym fails_so) ∙ sym g

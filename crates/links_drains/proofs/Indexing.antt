@@ -8,14 +8,14 @@ use Rattle.std.proofs.lemmas.Option.{slice_get_within, slice_get_past}
 use Rattle.entries.specs.declared.row.Row.{Row}
 use Rattle.places.proofs.ListLemmas.{slice_get-set, slice_get-push, slice_get-take_below, slice_get-take_above, updated_set}
 use Rattle.links_drains.specs.Counts.{threshold_in, threshold_of}
-use Rattle.links_drains.specs.Links.{asks_to_drain, Chained, GoesOn}
+use Rattle.links_drains.specs.Links.{has_drain_flag, Chained, ChainContinues}
 use Rattle.links_drains.specs.Indexes.{HasRoom, Indexed, IndexedBut, Cleared, Unreached, Forgotten}
-use Rattle.number_sets.specs.Sets.{has}
-use Rattle.number_sets.specs.Thresholds.{never, threshold_at}
-use Rattle.links_drains.specs.Units.{passes_at, is_going, is_open, is_barrier}
+use Rattle.bit_sets.specs.Sets.{has}
+use Rattle.bit_sets.specs.Thresholds.{never, threshold_at}
+use Rattle.links_drains.specs.Units.{passes_at, is_issued_row, is_open, is_barrier}
 use Rattle.links_drains.specs.declared.index.Index.{Index}
 use Rattle.links_drains.proofs.Chains.{chained-none, chained-take, chained-updated}
-use Rattle.number_sets.proofs.Bits.{has_past}
+use Rattle.bit_sets.proofs.Bits.{has_past}
 use Rattle.links_drains.proofs.RowsKept.{length-push}
 use Rattle.links_drains.proofs.Units.{any_of_set, any_of_push, any_of_take, any_of_none}
 
@@ -35,12 +35,12 @@ pushed rows row q x h = by (length rows == q) refl (sym (slice_get-push rows q r
     by true e k = inr (sym (eqb-true (length rows) q e), cc)
     by false e k = inl k
 
-unit_within : (rows : List Row) (row : Row) → Chained rows → GoesOn rows row → row.unit ≤ length rows
+unit_within : (rows : List Row) (row : Row) → Chained rows → ChainContinues rows row → row.unit ≤ length rows
 unit_within rows row c (inl new) = omega (arith, new)
 unit_within rows row c (inr on) = let b = c.back on.1 on.0 on.3 in let k = on.2 in let e = on.4 in omega (arith, b, k, e)
 
 -- All rows from the chain's first on belong to the chain.
-of_last_unit : (rows : List Row) (row : Row) → Chained rows → GoesOn rows row → (q : ℕ) (x : Row) → slice_get rows q ≡ Some x → row.unit ≤ q → x.unit ≡ row.unit
+of_last_unit : (rows : List Row) (row : Row) → Chained rows → ChainContinues rows row → (q : ℕ) (x : Row) → slice_get rows q ≡ Some x → row.unit ≤ q → x.unit ≡ row.unit
 of_last_unit rows row c (inl new) q x h low = absurd (let w = slice_get_within rows q x h in omega (arith, w, new, low))
 of_last_unit rows row c (inr on) q x h low =
     let w = slice_get_within rows q x h in
@@ -48,7 +48,7 @@ of_last_unit rows row c (inr on) q x h low =
     let e = on.4 in
     c.run q on.1 x on.0 h on.3 (omega (arith, w, k)) (omega (arith, low, e)) ∙ sym e
 
-pub chained_push : (rows : List Row) (row : Row) → Chained rows → GoesOn rows row → Chained (rows ++ row ∷ [])
+pub chained_push : (rows : List Row) (row : Row) → Chained rows → ChainContinues rows row → Chained (rows ++ row ∷ [])
 chained_push rows row c on = record {
   back = λ r x h. back r x (pushed rows row r x h);
   run = λ q r y x g h l k. run q r y x (pushed rows row q y g) (pushed rows row r x h) l k;
@@ -90,16 +90,16 @@ tied_barriers rows unit b old new t others written u = elim (cases_eq u unit) [
 pub updated_index : (rows : List Row) (r : ℕ) (x row : Row) (b : Bool) (old new : Index) → x ≡ row → b ≡ is_barrier rows x.unit → IndexedBut r row.unit rows old
     → length new.unfinished ≡ length old.unfinished → length new.flagged ≡ length old.flagged → length new.barriers ≡ length old.barriers → length new.issued ≡ length old.issued
     → length new.thresholds ≡ length old.thresholds
-    → ((q : ℕ) → has new.unfinished q ≡ passes_at is_open rows q) → ((q : ℕ) → has new.flagged q ≡ passes_at asks_to_drain rows q)
-    → ((u : ℕ) → has new.barriers u ≡ cond (u == x.unit) b (has old.barriers u)) → ((q : ℕ) → has new.issued q ≡ passes_at is_going rows q)
+    → ((q : ℕ) → has new.unfinished q ≡ passes_at is_open rows q) → ((q : ℕ) → has new.flagged q ≡ passes_at has_drain_flag rows q)
+    → ((u : ℕ) → has new.barriers u ≡ cond (u == x.unit) b (has old.barriers u)) → ((q : ℕ) → has new.issued q ≡ passes_at is_issued_row rows q)
     → ((q : ℕ) → threshold_at new.thresholds q ≡ threshold_in rows q) → Indexed rows new
-updated_index rows r x row stands old new e t i la lb lc ld le a b c d f = record {
+updated_index rows r x row blocks old new e t i la lb lc ld le a b c d f = record {
   chained = i.chained;
   room = let x = i.room.unfinished in let y = i.room.flagged in let z = i.room.barriers in let s = i.room.issued in let u = i.room.thresholds in
       record { unfinished = omega (arith, la, x); flagged = omega (arith, lb, y); barriers = omega (arith, lc, z); issued = omega (arith, ld, s); thresholds = omega (arith, le, u) };
   unfinished = a;
   flagged = b;
-  barriers = tied_barriers rows x.unit stands old.barriers new.barriers t (λ u other. i.barriers u (λ same. other (same ∙ sym (ap (λ (y : Row). y.unit) e)))) c;
+  barriers = tied_barriers rows x.unit blocks old.barriers new.barriers t (λ u other. i.barriers u (λ same. other (same ∙ sym (ap (λ (y : Row). y.unit) e)))) c;
   issued = d;
   thresholds = f;
 }
@@ -118,9 +118,9 @@ indexed_set rows index r before row i h same = record {
   chained = chained_set rows r before row i.chained h same;
   room = subst (λ n. HasRoom n index) (sym (length-set rows r row)) i.room;
   unfinished = λ q other. i.unfinished q ∙ ap (λ o. option_map_or is_open o false) (sym (get_other rows r q row (slice_get_within rows r before h) other));
-  flagged = λ q other. i.flagged q ∙ ap (λ o. option_map_or asks_to_drain o false) (sym (get_other rows r q row (slice_get_within rows r before h) other));
-  barriers = λ u other. i.barriers u ∙ both _ _ _ _ (sym (any_of_set asks_to_drain rows r u before row h same other)) (sym (any_of_set is_open rows r u before row h same other));
-  issued = λ q other. i.issued q ∙ ap (λ o. option_map_or is_going o false) (sym (get_other rows r q row (slice_get_within rows r before h) other));
+  flagged = λ q other. i.flagged q ∙ ap (λ o. option_map_or has_drain_flag o false) (sym (get_other rows r q row (slice_get_within rows r before h) other));
+  barriers = λ u other. i.barriers u ∙ both _ _ _ _ (sym (any_of_set has_drain_flag rows r u before row h same other)) (sym (any_of_set is_open rows r u before row h same other));
+  issued = λ q other. i.issued q ∙ ap (λ o. option_map_or is_issued_row o false) (sym (get_other rows r q row (slice_get_within rows r before h) other));
   thresholds = λ q other. i.thresholds q ∙ ap (λ o. option_map_or threshold_of o never) (sym (get_other rows r q row (slice_get_within rows r before h) other));
 }
 
@@ -128,14 +128,14 @@ indexed_set rows index r before row i h same = record {
 get_before : (rows : List Row) (row : Row) (q : ℕ) → q ≢ length rows → slice_get (rows ++ row ∷ []) q ≡ slice_get rows q
 get_before rows row q other = slice_get-push rows q row ∙ ap (λ b. cond b (Some row) (slice_get rows q)) (ne_eqb (length rows) q (λ e. other (sym e)))
 
-pub indexed_push : (rows : List Row) (index : Index) (row : Row) → Indexed rows index → HasRoom (length rows + 1) index → GoesOn rows row → IndexedBut (length rows) row.unit (rows ++ row ∷ []) index
+pub indexed_push : (rows : List Row) (index : Index) (row : Row) → Indexed rows index → HasRoom (length rows + 1) index → ChainContinues rows row → IndexedBut (length rows) row.unit (rows ++ row ∷ []) index
 indexed_push rows index row i room on = record {
   chained = chained_push rows row i.chained on;
   room = subst (λ n. HasRoom n index) (sym (length-push rows row)) room;
   unfinished = λ q other. i.unfinished q ∙ ap (λ o. option_map_or is_open o false) (sym (get_before rows row q other));
-  flagged = λ q other. i.flagged q ∙ ap (λ o. option_map_or asks_to_drain o false) (sym (get_before rows row q other));
-  barriers = λ u other. i.barriers u ∙ both _ _ _ _ (sym (any_of_push asks_to_drain rows u row other)) (sym (any_of_push is_open rows u row other));
-  issued = λ q other. i.issued q ∙ ap (λ o. option_map_or is_going o false) (sym (get_before rows row q other));
+  flagged = λ q other. i.flagged q ∙ ap (λ o. option_map_or has_drain_flag o false) (sym (get_before rows row q other));
+  barriers = λ u other. i.barriers u ∙ both _ _ _ _ (sym (any_of_push has_drain_flag rows u row other)) (sym (any_of_push is_open rows u row other));
+  issued = λ q other. i.issued q ∙ ap (λ o. option_map_or is_issued_row o false) (sym (get_before rows row q other));
   thresholds = λ q other. i.thresholds q ∙ ap (λ o. option_map_or threshold_of o never) (sym (get_before rows row q other));
 }
 
@@ -174,12 +174,12 @@ kept_row rows n r x h = by (cases_lt r n)
 
 -- A chain without rows blocks nothing.
 no_barrier : (rows : List Row) (u : ℕ) → ((r : ℕ) (x : Row) → slice_get rows r ≡ Some x → x.unit ≢ u) → is_barrier rows u ≡ false
-no_barrier rows u h = and_left _ _ (any_of_none asks_to_drain rows u h)
+no_barrier rows u h = and_left _ _ (any_of_none has_drain_flag rows u h)
 
 barrier_dropped : (rows : List Row) (n u : ℕ) (old new : List ℕ) → Chained rows → ((v : ℕ) → has old v ≡ is_barrier rows v) → Cleared n (length rows) old new
     → (u < n → (r : ℕ) (x : Row) → n ≤ r → slice_get rows r ≡ Some x → x.unit ≢ u) → has new u ≡ is_barrier (take n rows) u
 barrier_dropped rows n u old new chained h c others = elim (cases_lt u n) [
-  | inl less ↦ c.below u less ∙ h u ∙ both _ _ _ _ (sym (any_of_take asks_to_drain rows n u (others less))) (sym (any_of_take is_open rows n u (others less)))
+  | inl less ↦ c.below u less ∙ h u ∙ both _ _ _ _ (sym (any_of_take has_drain_flag rows n u (others less))) (sym (any_of_take is_open rows n u (others less)))
   | inr past ↦ elim (cases_lt u (length rows)) [
     | inl inside ↦ c.inside u past inside ∙ sym (gone past)
     | inr out ↦ c.past u out ∙ h u ∙ no_barrier rows u (λ r x g e. absurd (let w = slice_get_within rows r x g in let b = chained.back r x g in omega (arith, w, b, e, out))) ∙ sym (gone past)
@@ -194,9 +194,9 @@ indexed_none rows old new i f = record {
   chained = chained-none;
   room = record { unfinished = omega arith; flagged = omega arith; barriers = omega arith; issued = omega arith; thresholds = omega arith };
   unfinished = tie_dropped is_open rows 0 old.unfinished new.unfinished i.unfinished f.unfinished;
-  flagged = tie_dropped asks_to_drain rows 0 old.flagged new.flagged i.flagged f.flagged;
+  flagged = tie_dropped has_drain_flag rows 0 old.flagged new.flagged i.flagged f.flagged;
   barriers = λ u. barrier_dropped rows 0 u old.barriers new.barriers i.chained i.barriers f.barriers (λ less. absurd (omega (arith, less)));
-  issued = tie_dropped is_going rows 0 old.issued new.issued i.issued f.issued;
+  issued = tie_dropped is_issued_row rows 0 old.issued new.issued i.issued f.issued;
   thresholds = thresholds_dropped rows 0 old.thresholds new.thresholds i.thresholds f.thresholds;
 }
 
@@ -215,10 +215,10 @@ indexed_take rows old new n last i some h f = record {
   room = let t = length-take n rows in let a = i.room.unfinished in let b = i.room.flagged in let d = i.room.barriers in let e = i.room.issued in let g = i.room.thresholds in let x = f.unfinished.len in let y = f.flagged.len in let z = f.barriers.len in let w = f.issued.len in let u = f.thresholds.len in
       record { unfinished = omega (arith, t, a, x); flagged = omega (arith, t, b, y); barriers = omega (arith, t, d, z); issued = omega (arith, t, e, w); thresholds = omega (arith, t, g, u) };
   unfinished = λ q other. tie_dropped is_open rows n old.unfinished new.unfinished i.unfinished f.unfinished q;
-  flagged = λ q other. tie_dropped asks_to_drain rows n old.flagged new.flagged i.flagged f.flagged q;
+  flagged = λ q other. tie_dropped has_drain_flag rows n old.flagged new.flagged i.flagged f.flagged q;
   barriers = λ u other. barrier_dropped rows n u old.barriers new.barriers i.chained i.barriers f.barriers
       (λ less r x past g e. other (sym e ∙ sym (i.chained.run (n - 1) r last x h g (omega (arith, past)) (omega (arith, e, less)))));
-  issued = λ q other. tie_dropped is_going rows n old.issued new.issued i.issued f.issued q;
+  issued = λ q other. tie_dropped is_issued_row rows n old.issued new.issued i.issued f.issued q;
   thresholds = λ q other. thresholds_dropped rows n old.thresholds new.thresholds i.thresholds f.thresholds q;
 }
 

@@ -5,7 +5,7 @@ use Rattle.std.specs.Option.{option_map_or}
 use Rattle.std.proofs.lemmas.Bool.Decides.{nat_tests}
 use Rattle.entries.specs.declared.row.Row.{Row}
 use Rattle.links_drains.specs.Counts.{is_count_timeout, is_met, threshold_of, threshold_in, IsNextMet, NoneMetFrom}
-use Rattle.number_sets.specs.Thresholds.{never, threshold_at, IsNextReached, NoneReachedFrom}
+use Rattle.bit_sets.specs.Thresholds.{never, threshold_at, IsNextReached, NoneReachedFrom}
 
 -- If the total reaches the threshold, the count is reached.
 met_reached : (total : ℕ) (row : Row) → total < never → threshold_of row ≤ total → is_met total row ≡ true

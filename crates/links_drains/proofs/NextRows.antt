@@ -11,9 +11,9 @@ use Rattle.entries.specs.declared.row.Phase.{Phase}
 use Rattle.entries.specs.declared.row.Phase.TheVariants.{Queued, Issued, Ended}
 use Rattle.links_drains.specs.Numbered.{next_where, IsNextWhere, NoneWhere}
 use Rattle.links_drains.specs.Phases.{is_queued, is_issued, is_unfinished}
-use Rattle.number_sets.specs.Sets.{has, IsNext, NoneFrom}
-use Rattle.number_sets.specs.Beside.{is_beside, IsNextBeside, NoneBeside}
-use Rattle.links_drains.specs.Units.{passes_at, is_going, is_open}
+use Rattle.bit_sets.specs.Sets.{has, IsNext, NoneFrom}
+use Rattle.bit_sets.specs.Difference.{in_difference, IsNextInDifference, NoneInDifference}
+use Rattle.links_drains.specs.Units.{passes_at, is_issued_row, is_open}
 use Rattle.links_drains.specs.Queued.{is_queued_row, IsNextQueued, NoneQueuedFrom}
 use Rattle.links_drains.proofs.Filters.{first_numbered, none_numbered}
 use Rattle.links_drains.proofs.Units.{passes_here}
@@ -49,21 +49,21 @@ phase_queued Queued = refl
 phase_queued Issued = refl
 phase_queued (Ended res) = refl
 
-there_queued : (o : Option Row) → (option_map_or is_open o false && not (option_map_or is_going o false)) ≡ option_map_or is_queued_row o false
+there_queued : (o : Option Row) → (option_map_or is_open o false && not (option_map_or is_issued_row o false)) ≡ option_map_or is_queued_row o false
 there_queued None = refl
 there_queued (Some row) = phase_queued row.phase
 
-beside_queued : (rows : List Row) (unended going : List ℕ) → ((q : ℕ) → has unended q ≡ passes_at is_open rows q) → ((q : ℕ) → has going q ≡ passes_at is_going rows q)
-    → (r : ℕ) → is_beside unended going r ≡ passes_at is_queued_row rows r
-beside_queued rows unended going f g r = ap (λ b. b && not (has going r)) (f r) ∙ ap (λ b. passes_at is_open rows r && not b) (g r) ∙ there_queued (slice_get rows r)
+difference_queued : (rows : List Row) (unended issued_rows : List ℕ) → ((q : ℕ) → has unended q ≡ passes_at is_open rows q) → ((q : ℕ) → has issued_rows q ≡ passes_at is_issued_row rows q)
+    → (r : ℕ) → in_difference unended issued_rows r ≡ passes_at is_queued_row rows r
+difference_queued rows unended issued_rows f g r = ap (λ b. b && not (has issued_rows r)) (f r) ∙ ap (λ b. passes_at is_open rows r && not b) (g r) ∙ there_queued (slice_get rows r)
 
-pub queued_found : (rows : List Row) (unended going : List ℕ) (from r : ℕ) → ((q : ℕ) → has unended q ≡ passes_at is_open rows q) → ((q : ℕ) → has going q ≡ passes_at is_going rows q)
-    → IsNextBeside unended going from r → IsNextQueued rows from r
-queued_found rows unended going from r f g next = found is_queued_row rows (is_beside unended going) (beside_queued rows unended going f g) from r next.after next.member next.least
+pub queued_found : (rows : List Row) (unended issued_rows : List ℕ) (from r : ℕ) → ((q : ℕ) → has unended q ≡ passes_at is_open rows q) → ((q : ℕ) → has issued_rows q ≡ passes_at is_issued_row rows q)
+    → IsNextInDifference unended issued_rows from r → IsNextQueued rows from r
+queued_found rows unended issued_rows from r f g next = found is_queued_row rows (in_difference unended issued_rows) (difference_queued rows unended issued_rows f g) from r next.after next.member next.least
 
-pub none_queued : (rows : List Row) (unended going : List ℕ) (from : ℕ) → ((q : ℕ) → has unended q ≡ passes_at is_open rows q) → ((q : ℕ) → has going q ≡ passes_at is_going rows q)
-    → NoneBeside unended going from → NoneQueuedFrom rows from
-none_queued rows unended going from f g absent = none is_queued_row rows (is_beside unended going) (beside_queued rows unended going f g) from absent
+pub none_queued : (rows : List Row) (unended issued_rows : List ℕ) (from : ℕ) → ((q : ℕ) → has unended q ≡ passes_at is_open rows q) → ((q : ℕ) → has issued_rows q ≡ passes_at is_issued_row rows q)
+    → NoneInDifference unended issued_rows from → NoneQueuedFrom rows from
+none_queued rows unended issued_rows from f g absent = none is_queued_row rows (in_difference unended issued_rows) (difference_queued rows unended issued_rows f g) from absent
 
 -- ---- As a filter
 

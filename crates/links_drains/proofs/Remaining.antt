@@ -36,8 +36,8 @@ stay_cut rows next n e h = same_list _ _ (λ r. slice_get-map fixed_of rows r �
     by r (inr more) = ap (option_map fixed_of) (past rows r (omega (arith, more, e)) ∙ sym (slice_get-take_above next n r more))
 
 -- A row may be replaced by the row that was there before.
-pub stood_there : (rows now : List Row) (i : ℕ) (x : Row) → map fixed_of rows ≡ map fixed_of now → slice_get rows i ≡ Some x → option_map fixed_of (slice_get now i) ≡ Some (fixed_of x)
-stood_there rows now i x e h = sym (slice_get-map fixed_of now i) ∙ ap (λ fs. slice_get fs i) (sym e) ∙ slice_get-map fixed_of rows i ∙ ap (option_map fixed_of) h
+pub was_fixed : (rows now : List Row) (i : ℕ) (x : Row) → map fixed_of rows ≡ map fixed_of now → slice_get rows i ≡ Some x → option_map fixed_of (slice_get now i) ≡ Some (fixed_of x)
+was_fixed rows now i x e h = sym (slice_get-map fixed_of now i) ∙ ap (λ fs. slice_get fs i) (sym e) ∙ slice_get-map fixed_of rows i ∙ ap (option_map fixed_of) h
 
 -- The tables have the same length.
 pub as_many : (rows now : List Row) → map fixed_of rows ≡ map fixed_of now → length rows ≡ length now

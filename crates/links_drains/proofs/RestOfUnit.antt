@@ -21,11 +21,11 @@ none_before p zero xs h = refl
 none_before p (suc k) [] h = refl
 none_before p (suc k) (x ∷ xs) h = ap (λ b. cond b (x ∷ filter p (take k xs)) (filter p (take k xs))) (h 0 x (omega arith) refl) ∙ none_before p k xs (λ i y l e. h (suc i) y (omega (arith, l)) e)
 
-pub none_behind : {X : Type 0} (p : X → Bool) (k : ℕ) (xs : List X) → ((i : ℕ) (x : X) → k ≤ i → slice_get xs i ≡ Some x → p x ≡ false) → filter p (take k xs) ≡ filter p xs
-none_behind p zero [] h = refl
-none_behind p zero (x ∷ xs) h = sym (ap (λ b. cond b (x ∷ filter p xs) (filter p xs)) (h 0 x (omega arith) refl) ∙ sym (none_behind p zero xs (λ i y l e. h (suc i) y (omega arith) e)))
-none_behind p (suc k) [] h = refl
-none_behind p (suc k) (x ∷ xs) h = ap (λ ys. cond (p x) (x ∷ ys) ys) (none_behind p k xs (λ i y l e. h (suc i) y (omega (arith, l)) e))
+pub none_after : {X : Type 0} (p : X → Bool) (k : ℕ) (xs : List X) → ((i : ℕ) (x : X) → k ≤ i → slice_get xs i ≡ Some x → p x ≡ false) → filter p (take k xs) ≡ filter p xs
+none_after p zero [] h = refl
+none_after p zero (x ∷ xs) h = sym (ap (λ b. cond b (x ∷ filter p xs) (filter p xs)) (h 0 x (omega arith) refl) ∙ sym (none_after p zero xs (λ i y l e. h (suc i) y (omega arith) e)))
+none_after p (suc k) [] h = refl
+none_after p (suc k) (x ∷ xs) h = ap (λ ys. cond (p x) (x ∷ ys) ys) (none_after p k xs (λ i y l e. h (suc i) y (omega (arith, l)) e))
 
 -- ---- The rest of the chain among the first k rows
 
@@ -72,7 +72,7 @@ rest_on rows r k head row b h g l u e = rest_more rows r k row g ∙ ap (λ c. r
 
 -- If no row from k on belongs to the chain, the list is complete.
 pub rest_end : (rows : List Row) (r k : ℕ) → ((i : ℕ) (row head : Row) → k ≤ i → slice_get rows i ≡ Some row → slice_get rows r ≡ Some head → row.unit ≡ head.unit → ⊥) → rest_to rows r k ≡ rest_of rows r
-rest_end rows r k other = ap (map (λ (other : ℕ × Row). other.0)) (none_behind (in_rest rows r) k (enumerate_from 0 rows) (λ i p l e. numbered (in_rest rows r) rows i p (λ row g. apart i row l g) e))
+rest_end rows r k other = ap (map (λ (other : ℕ × Row). other.0)) (none_after (in_rest rows r) k (enumerate_from 0 rows) (λ i p l e. numbered (in_rest rows r) rows i p (λ row g. apart i row l g) e))
   where
     apart : (i : ℕ) (row : Row) → k ≤ i → slice_get rows i ≡ Some row → in_rest rows r (i, row) ≡ false
     apart i row l g = by (nat_lt r i) (passes_at (λ (x : Row). row.unit == x.unit) rows r) (is_open row) (of_unit (slice_get rows r) refl)

@@ -106,8 +106,8 @@ tallied_cut rows held after n t off = record {
 
 -- ---- A descriptor is held exactly if its count is positive
 
-pub tells : (rows : List Row) (held : Held) → Tallied rows held → (fd : ℕ) → is_held held fd ≡ is_held_by rows fd
-tells rows held t fd = ap (λ n. nat_lt 0 n) (t.counts fd) ∙ some rows
+pub is_held_tallied : (rows : List Row) (held : Held) → Tallied rows held → (fd : ℕ) → is_held held fd ≡ is_held_by rows fd
+is_held_tallied rows held t fd = ap (λ n. nat_lt 0 n) (t.counts fd) ∙ some rows
   where
     some : (xs : List Row) → nat_lt 0 (length (filter (holds fd) xs)) ≡ list_any (holds fd) xs
     some [] = refl

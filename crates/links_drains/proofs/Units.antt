@@ -7,7 +7,7 @@ use Rattle.std.proofs.lemmas.Bool.{both_ways, cases_lt, cases_Bool, eq-eqb, eqb-
 use Rattle.std.proofs.lemmas.List.Folds.{list_any-append}
 use Rattle.entries.specs.declared.row.Row.{Row}
 use Rattle.links_drains.specs.Links.{Chained}
-use Rattle.number_sets.specs.Sets.{has, IsNext}
+use Rattle.bit_sets.specs.Sets.{has, IsNext}
 use Rattle.links_drains.specs.Units.{passes_at, HasRowOf, HasNoRowOf}
 
 -- ---- Some item passes a test

@@ -26,15 +26,15 @@ abbrev pub shown_on : Sqe → Option ℕ
 shown_on entry = if is_linked entry then Some entry.opcode else None
 
 -- The opcode of the entry before entry i in its chain; none if entry i begins the chain.
-abbrev pub behind_in : List Sqe → ℕ → Option ℕ
-behind_in entries zero = None
-behind_in entries (suc i) = option_and_then shown_on (slice_get entries i)
+abbrev pub previous_in : List Sqe → ℕ → Option ℕ
+previous_in entries zero = None
+previous_in entries (suc i) = option_and_then shown_on (slice_get entries i)
 
 -- ---- Entries that fail
 
 -- The error with which an entry fails as it is submitted, if any.
 abbrev pub error_of : WorldState → List Sqe → ℕ → Sqe → Option ℤ
-error_of w entries i entry = result_err (check_of w (behind_in entries i) entry)
+error_of w entries i entry = result_err (check_of w (previous_in entries i) entry)
 
 -- The error of entry i, if there is such an entry and it fails.
 abbrev pub error_at : WorldState → List Sqe → ℕ → Option ℤ
@@ -71,7 +71,7 @@ target_of w first entries i entry =
 -- The request that an entry becomes.
 abbrev pub row_of : WorldState → ℕ → List Sqe → ℕ → Sqe → Row
 row_of w first entries i entry =
-    new_row entry (first + chain_of entries i) (time_of w (behind_in entries i) entry)
+    new_row entry (first + chain_of entries i) (time_of w (previous_in entries i) entry)
     (target_of w first entries i entry)
 
 -- The requests that the entries become. `first` is the number of the first, and each request's

@@ -2,7 +2,7 @@
 use Rattle.std.specs.Prelude.{◌≡◌, ℕ, ◌+◌, ◌==◌, ◌≤◌, ◌<◌, min, Bool, true, false, ◌&&◌, nat_lt, nat_le, if◌then◌else◌, Some, List, slice_get}
 use Rattle.std.specs.Option.{option_map_or}
 use Rattle.entries.specs.declared.row.Row.{Row}
-use Rattle.number_sets.specs.Thresholds.{never}
+use Rattle.bit_sets.specs.Thresholds.{never}
 use Rattle.links_drains.specs.Phases.{is_issued}
 
 -- An issued TIMEOUT that waits for a number of completions, given in its `off` field.

@@ -4,13 +4,13 @@ use Rattle.std.specs.Prelude.{◌≡◌, ℕ, ◌<◌, ◌==◌, Bool, true, fal
 use Rattle.std.specs.Option.{option_map_or}
 use Rattle.std.specs.List.{list_any}
 use Rattle.entries.specs.declared.row.Row.{Row}
-use Rattle.links_drains.specs.Links.{asks_to_drain, is_guard}
+use Rattle.links_drains.specs.Links.{has_drain_flag, is_guard}
 use Rattle.links_drains.specs.Numbered.{any_numbered}
 use Rattle.links_drains.specs.Phases.{is_queued, is_unfinished}
 
 -- Whether a chain drains: some member has IOSQE_IO_DRAIN, even one that has completed.
 abbrev pub drains : List Row → ℕ → Bool
-drains rows unit = list_any (λ (row : Row). (row.unit == unit) && asks_to_drain row) rows
+drains rows unit = list_any (λ (row : Row). (row.unit == unit) && has_drain_flag row) rows
 
 -- Whether request q precedes request r in its chain, and is not a linked timeout.
 abbrev pub is_before_in_unit : ℕ → Row → ℕ → Row → Bool

@@ -2,10 +2,10 @@
 use Rattle.std.specs.Prelude.{◌≡◌, ◌≢◌, ℕ, ◌*◌, ◌≤◌, ◌<◌, false, List, length}
 use Rattle.entries.specs.declared.row.Row.{Row}
 use Rattle.links_drains.specs.Counts.{threshold_in}
-use Rattle.links_drains.specs.Links.{asks_to_drain, Chained}
-use Rattle.number_sets.specs.Sets.{has}
-use Rattle.number_sets.specs.Thresholds.{never, threshold_at}
-use Rattle.links_drains.specs.Units.{passes_at, is_going, is_open, is_barrier}
+use Rattle.links_drains.specs.Links.{has_drain_flag, Chained}
+use Rattle.bit_sets.specs.Sets.{has}
+use Rattle.bit_sets.specs.Thresholds.{never, threshold_at}
+use Rattle.links_drains.specs.Units.{passes_at, is_issued_row, is_open, is_barrier}
 use Rattle.links_drains.specs.declared.index.Index.{Index}
 
 -- The sets and thresholds have room for n requests.
@@ -21,9 +21,9 @@ pub record Indexed (rows : List Row) (index : Index) : Type 0 where
   pub chained : Chained rows
   pub room : HasRoom (length rows) index
   pub unfinished : (r : ℕ) → has index.unfinished r ≡ passes_at is_open rows r
-  pub flagged : (r : ℕ) → has index.flagged r ≡ passes_at asks_to_drain rows r
+  pub flagged : (r : ℕ) → has index.flagged r ≡ passes_at has_drain_flag rows r
   pub barriers : (unit : ℕ) → has index.barriers unit ≡ is_barrier rows unit
-  pub issued : (r : ℕ) → has index.issued r ≡ passes_at is_going rows r
+  pub issued : (r : ℕ) → has index.issued r ≡ passes_at is_issued_row rows r
   pub thresholds : (r : ℕ) → threshold_at index.thresholds r ≡ threshold_in rows r
 
 -- The index is correct but for request r and the chain `unit`.
@@ -31,9 +31,9 @@ pub record IndexedBut (r unit : ℕ) (rows : List Row) (index : Index) : Type 0 
   pub chained : Chained rows
   pub room : HasRoom (length rows) index
   pub unfinished : (q : ℕ) → q ≢ r → has index.unfinished q ≡ passes_at is_open rows q
-  pub flagged : (q : ℕ) → q ≢ r → has index.flagged q ≡ passes_at asks_to_drain rows q
+  pub flagged : (q : ℕ) → q ≢ r → has index.flagged q ≡ passes_at has_drain_flag rows q
   pub barriers : (u : ℕ) → u ≢ unit → has index.barriers u ≡ is_barrier rows u
-  pub issued : (q : ℕ) → q ≢ r → has index.issued q ≡ passes_at is_going rows q
+  pub issued : (q : ℕ) → q ≢ r → has index.issued q ≡ passes_at is_issued_row rows q
   pub thresholds : (q : ℕ) → q ≢ r → threshold_at index.thresholds q ≡ threshold_in rows q
 
 -- The numbers in a range were removed from a set.

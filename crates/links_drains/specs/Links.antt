@@ -19,8 +19,8 @@ abbrev pub is_linked : Sqe → Bool
 is_linked entry = has_flag entry.flags 4 || has_flag entry.flags 8
 
 -- Whether the request has IOSQE_IO_DRAIN.
-abbrev pub asks_to_drain : Row → Bool
-asks_to_drain row = has_flag row.entry.flags 2
+abbrev pub has_drain_flag : Row → Bool
+has_drain_flag row = has_flag row.entry.flags 2
 
 -- Whether the request is a guard: a linked timeout (IORING_OP_LINK_TIMEOUT), which limits the
 -- request before it.
@@ -28,8 +28,8 @@ abbrev pub is_guard : Row → Bool
 is_guard row = row.entry.opcode == 15
 
 -- A new request begins a chain, or belongs to the chain of the last request.
-abbrev pub GoesOn : List Row → Row → Type 0
-GoesOn rows row =
+abbrev pub ChainContinues : List Row → Row → Type 0
+ChainContinues rows row =
     (row.unit ≡ length rows)
     ⊎ ((last : Row) × (k : ℕ) × (k + 1 ≡ length rows) × (slice_get rows k ≡ Some last)
     × (row.unit ≡ last.unit))

@@ -6,7 +6,7 @@ use Rattle.entries.specs.declared.row.Row.{Row}
 use Rattle.links_drains.specs.Eligible.{drains}
 use Rattle.links_drains.specs.Numbered.{numbers_where, next_where, IsNextWhere, NoneWhere}
 use Rattle.links_drains.specs.Phases.{is_issued, is_unfinished}
-use Rattle.number_sets.specs.Sets.{has}
+use Rattle.bit_sets.specs.Sets.{has}
 
 -- Whether there is a row r, and it passes a test.
 abbrev pub passes_at : (Row → Bool) → List Row → ℕ → Bool
@@ -17,18 +17,18 @@ abbrev pub is_open : Row → Bool
 is_open row = is_unfinished row.phase
 
 -- Whether the request was issued and has not completed.
-abbrev pub is_going : Row → Bool
-is_going row = is_issued row.phase
+abbrev pub is_issued_row : Row → Bool
+is_issued_row row = is_issued row.phase
 
 -- The first issued request from a number on.
 abbrev pub next_issued : List Row → ℕ → Option ℕ
-next_issued = next_where is_going
+next_issued = next_where is_issued_row
 
 abbrev pub IsNextIssued : List Row → ℕ → ℕ → Type 0
-IsNextIssued = IsNextWhere is_going
+IsNextIssued = IsNextWhere is_issued_row
 
 abbrev pub NoneIssuedFrom : List Row → ℕ → Type 0
-NoneIssuedFrom = NoneWhere is_going
+NoneIssuedFrom = NoneWhere is_issued_row
 
 -- Whether request k is a later, unfinished request of r's chain.
 abbrev pub is_rest : List Row → ℕ → ℕ → Row → Bool

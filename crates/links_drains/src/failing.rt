@@ -1,7 +1,7 @@
 //! Requests that complete as they are submitted, because an entry of their chain is invalid
 //! (io_uring_enter(2)).
 ghost use Rattle.std.specs.Prelude.{◌≡◌, ◌+◌, ◌<◌, ◌≤◌, ℕ, IfOk, Some, length, slice_get};
-ghost use Rattle.links_drains.specs.Batches.{behind_in, chain_fails, direct_of, error_at, rows_of, shown_on as shown_by};
+ghost use Rattle.links_drains.specs.Batches.{previous_in, chain_fails, direct_of, error_at, rows_of, shown_on as shown_by};
 ghost use Rattle.links_drains.specs.Endings.{ecanceled, given, or_else};
 
 use crate::links::is_linked;
@@ -15,14 +15,14 @@ pub(crate) fn error_at(world: &World, entries: &[Sqe], i: usize) -> Option<i32>
     requires { i < length entries.now }
     ensures { result ≡ error_at world.now entries.now i }
 {
-    let behind = behind_at(entries, i);
-    check(&entries[i], Context { behind, world }).err()
+    let previous = previous_at(entries, i);
+    check(&entries[i], Context { previous, world }).err()
 }
 
 /// Returns the opcode of the entry before entry i in its chain, if there is one.
-pub(crate) fn behind_at(entries: &[Sqe], i: usize) -> Option<u8>
+pub(crate) fn previous_at(entries: &[Sqe], i: usize) -> Option<u8>
     requires { i < length entries.now }
-    ensures { result ≡ behind_in entries.now i }
+    ensures { result ≡ previous_in entries.now i }
 {
     if i == 0 {
         return None;

@@ -3,31 +3,31 @@
 ghost use Rattle.std.specs.Prelude.{◌≡◌, ℕ, ◌+◌, ◌-◌, ◌^◌, ◌<◌, ◌≤◌, [], true, Some, IfOk, IfSome, IfNone, OnOk, MatchBool, length, slice_get, take};
 ghost use Rattle.entries.specs.declared.row.Row.{Row};
 ghost use Rattle.links_drains.specs.Eligible.{is_eligible, GuardsFollow};
-ghost use Rattle.links_drains.specs.Links.{asks_to_drain as has_drain, Chained};
-ghost use Rattle.number_sets.specs.Sets.{has, IsNext, NoneFrom};
-ghost use Rattle.number_sets.specs.Thresholds.{IsNextReached, NoneReachedFrom};
-ghost use Rattle.links_drains.specs.Units.{passes_at, is_open, is_barrier as stands_before, HasRowOf, HasNoRowOf};
+ghost use Rattle.links_drains.specs.Links.{has_drain_flag as has_drain, Chained};
+ghost use Rattle.bit_sets.specs.Sets.{has, IsNext, NoneFrom};
+ghost use Rattle.bit_sets.specs.Thresholds.{IsNextReached, NoneReachedFrom};
+ghost use Rattle.links_drains.specs.Units.{passes_at, is_open, is_barrier as is_barrier_of, HasRowOf, HasNoRowOf};
 
 mod queued;
 
-use crate::links::{asks_to_drain, is_guard, is_issued, is_queued, is_unfinished, threshold_of};
+use crate::links::{has_drain_flag, is_guard, is_issued, is_queued, is_unfinished, threshold_of};
+use bit_sets::BitSet;
+use bit_sets::thresholds::{NEVER, Thresholds};
 use entries::Row;
-use number_sets::NumberSet;
-use number_sets::thresholds::{NEVER, Thresholds};
 use std::alloc::{AllocError, Global};
 
 /// Sets of request numbers, stored as bitmaps, and the thresholds of TIMEOUTs.
 #[derive(Drop)]
 pub(crate) struct Index {
     /// The requests that have not completed.
-    unfinished: NumberSet,
+    unfinished: BitSet,
     /// The requests with IOSQE_IO_DRAIN.
-    flagged: NumberSet,
+    flagged: BitSet,
     /// The chains that drain and have an unfinished request, each by the number of its first
     /// request.
-    barriers: NumberSet,
+    barriers: BitSet,
     /// The issued requests.
-    issued: NumberSet,
+    issued: BitSet,
     /// The total of counted completions at which each request completes, or `NEVER`.
     thresholds: Thresholds,
 }
@@ -40,10 +40,10 @@ impl Index {
         ensures { Indexed [] result }
     {
         Index {
-            unfinished: NumberSet::new(alloc),
-            flagged: NumberSet::new(alloc),
-            barriers: NumberSet::new(alloc),
-            issued: NumberSet::new(alloc),
+            unfinished: BitSet::new(alloc),
+            flagged: BitSet::new(alloc),
+            barriers: BitSet::new(alloc),
+            issued: BitSet::new(alloc),
             thresholds: Thresholds::new(alloc),
         }
     }
@@ -71,9 +71,9 @@ impl Index {
     {
         let row = &rows[r];
         self.unfinished.write(r, is_unfinished(row));
-        self.flagged.write(r, asks_to_drain(row));
-        let stands = is_barrier(&self.flagged, &self.unfinished, rows, row.unit);
-        self.barriers.write(row.unit as usize, stands);
+        self.flagged.write(r, has_drain_flag(row));
+        let blocks = is_barrier(&self.flagged, &self.unfinished, rows, row.unit);
+        self.barriers.write(row.unit as usize, blocks);
         self.issued.write(r, is_issued(row));
         self.thresholds.write(r, threshold_of(row));
     }
@@ -167,11 +167,11 @@ impl Index {
 }
 
 // Whether the chain drains and has an unfinished request.
-fn is_barrier(flagged: &NumberSet, unfinished: &NumberSet, rows: &[Row], unit: u32) -> bool
+fn is_barrier(flagged: &BitSet, unfinished: &BitSet, rows: &[Row], unit: u32) -> bool
     requires chained { Chained rows.now }
     requires flagged { (r : ℕ) → has flagged.now r ≡ passes_at has_drain rows.now r }
     requires unfinished { (r : ℕ) → has unfinished.now r ≡ passes_at is_open rows.now r }
-    ensures { result ≡ stands_before rows.now unit }
+    ensures { result ≡ is_barrier_of rows.now unit }
 {
     if has_row_of(flagged, rows, unit) {
         has_row_of(unfinished, rows, unit)
@@ -181,7 +181,7 @@ fn is_barrier(flagged: &NumberSet, unfinished: &NumberSet, rows: &[Row], unit: u
 }
 
 // Whether a set of request numbers has a request of the chain.
-fn has_row_of(set: &NumberSet, rows: &[Row], unit: u32) -> bool
+fn has_row_of(set: &BitSet, rows: &[Row], unit: u32) -> bool
     requires chained { Chained rows.now }
     requires within { (r : ℕ) → has set.now r ≡ true → r < length rows.now }
     ensures { MatchBool result (HasRowOf set.now rows.now unit) (HasNoRowOf set.now rows.now unit) }

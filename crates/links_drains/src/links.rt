@@ -1,11 +1,11 @@
 //! Tests of a request's link and drain flags, and of its phase (io_uring_enter(2)).
 ghost use Rattle.std.specs.Prelude.{◌≡◌};
 ghost use Rattle.links_drains.specs.Counts.{is_count_timeout, threshold_of};
-ghost use Rattle.links_drains.specs.Links.{is_soft_linked, is_linked, is_guard, asks_to_drain};
+ghost use Rattle.links_drains.specs.Links.{is_soft_linked, is_linked, is_guard, has_drain_flag};
 ghost use Rattle.links_drains.specs.Phases.{is_issued, is_queued, is_unfinished};
 
+use bit_sets::thresholds::NEVER;
 use entries::{IOSQE_IO_DRAIN, IOSQE_IO_HARDLINK, IOSQE_IO_LINK, Phase, Row, Sqe};
-use number_sets::thresholds::NEVER;
 use opcodes::Op;
 
 /// Returns whether a failure of the request severs the rest of its chain: it has IOSQE_IO_LINK and
@@ -24,8 +24,8 @@ pub(crate) fn is_linked(entry: &Sqe) -> bool
 }
 
 /// Returns whether the request has IOSQE_IO_DRAIN.
-pub(crate) fn asks_to_drain(row: &Row) -> bool
-    ensures { result ≡ asks_to_drain row.now }
+pub(crate) fn has_drain_flag(row: &Row) -> bool
+    ensures { result ≡ has_drain_flag row.now }
 {
     row.entry.flags & IOSQE_IO_DRAIN != 0
 }

@@ -4,10 +4,10 @@ ghost use Rattle.entries.specs.declared.entry.Sqe.{Sqe};
 ghost use Rattle.opcodes.specs.Check.{time_of as time_in};
 ghost use Rattle.places.specs.View.{Keeps, named};
 ghost use Rattle.places.specs.declared.place.Place.{Place};
-ghost use Rattle.links_drains.specs.Batches.{behind_in, taken_of, target_of, rows_of, direct_of, halts};
+ghost use Rattle.links_drains.specs.Batches.{previous_in, taken_of, target_of, rows_of, direct_of, halts};
 ghost use Rattle.links_drains.specs.Rows.{table_owns, table_seen, new_row as row_with};
 
-use crate::failing::{behind_at, direct_ends, error_at};
+use crate::failing::{direct_ends, error_at, previous_at};
 use crate::links::is_linked;
 use crate::table::{Table, new_row};
 use entries::{Row, Sqe};
@@ -136,11 +136,11 @@ fn row_at(world: &World, entries: &[Sqe], i: usize, first: u32, unit: u32) -> Ro
     requires within { i < length entries.now }
     requires few { first + length entries.now ≤ 65536 }
     ensures { (entry : Sqe) → slice_get entries.now i ≡ Some entry
-        → result ≡ row_with entry unit (time_in world.now (behind_in entries.now i) entry)
+        → result ≡ row_with entry unit (time_in world.now (previous_in entries.now i) entry)
         (target_of world.now first entries.now i entry) }
 {
     let context = Context {
-        behind: behind_at(entries, i),
+        previous: previous_at(entries, i),
         world,
     };
     let time = time_of(&entries[i], context);

@@ -9,7 +9,7 @@ ghost use Rattle.model_files.specs.Holders.{is_held};
 ghost use Rattle.links_drains.specs.Counts.{IsNextMet, NoneMetFrom};
 ghost use Rattle.links_drains.specs.Eligible.{is_eligible, GuardsFollow};
 ghost use Rattle.links_drains.specs.Holding.{is_held_by};
-ghost use Rattle.links_drains.specs.Links.{Chained, GoesOn};
+ghost use Rattle.links_drains.specs.Links.{Chained, ChainContinues};
 ghost use Rattle.links_drains.specs.Numbered.{IsNextWhere, NoneWhere};
 ghost use Rattle.links_drains.specs.Rows.{fixed_of, Stay, table_owns, table_seen, table_can_put, new_row as new_row_of};
 ghost use Rattle.links_drains.specs.Units.{is_open, rest_of as rest_of_unit, next_issued, IsNextIssued, NoneIssuedFrom};
@@ -223,7 +223,7 @@ impl Table {
     /// Adds a request at the end. If an allocation fails, the table is unchanged.
     pub fn push(&mut self, row: Row, notes: &mut Recorder) -> Result<(), AllocError>
         requires room { length self.old < 65536 }
-        requires goes_on { GoesOn self.old row }
+        requires continues { ChainContinues self.old row }
         ensures ok { OnOk result (self.new ≡ self.old ++ row ∷ []) }
         ensures err { OnErr result (self.new ≡ self.old) }
         ensures len { OnOk result (length self.new ≡ length self.old + 1) }
@@ -351,9 +351,9 @@ fn copy_rows(alloc: Global, rows: &[Row]) -> Result<Vec<Row>, AllocError>
     let mut copy = Vec::with_capacity(alloc, rows.len())?;
     let mut left = rows;
     while !left.is_empty() {
-        let (piece, behind) = left.split_at(left.len().min(PIECE));
+        let (piece, remaining) = left.split_at(left.len().min(PIECE));
         copy.extend_from_slice(piece)?;
-        left = behind;
+        left = remaining;
     }
     Ok(copy)
 }

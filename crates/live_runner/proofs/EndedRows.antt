@@ -33,15 +33,15 @@ use Rattle.scenario.specs.declared.event.Event.TheVariants.{Step, Take, Sleep, I
 use Rattle.scenario.specs.declared.setup.Instruction.{Instruction}
 use Rattle.scenario.specs.declared.setup.Instruction.TheVariants.{Put, Push, Store, Enter, Reap, Close}
 use Rattle.scenario.specs.declared.event.Refusal.TheVariants.{WrongPhase}
-use Rattle.timeouts_cancel.specs.Falls.{fall_of}
+use Rattle.timeouts_cancel.specs.Cascades.{fall_of}
 use Rattle.machine.specs.declared.whole.Machine.{Machine}
 use Rattle.machine.specs.Cancels.{verdict_of, ending_with}
-use Rattle.machine.specs.Steps.{refusal, issue_refusal, after, resumed, stepped, executed, entered, entered_alone, entered_beside, submitting, before_submission, is_busy, is_unknown, gets_events, wakes, woken, shown, awaited, ready_count, wanted, held_back, with_poller, closed, is_open, flushed, ended_by, fallen, taken, submitted, answered, issued, cancelled, finished, finished_as, lacks_descriptor, all_started, entries_for, expired, expiring, is_guard_of, started_with, waiting_target}
+use Rattle.machine.specs.Steps.{refusal, issue_refusal, after, resumed, stepped, executed, entered, entered_without_poller, entered_with_poller, submitting, before_submission, is_busy, is_unknown, gets_events, wakes, woken, shown, awaited, ready_count, needed, held_back, with_poller, closed, is_open, flushed, ended_by, cascaded, taken, submitted, answered, issued, cancelled, finished, finished_as, lacks_descriptor, all_started, entries_for, expired, expiring, is_guard_of, started_with, waiting_target}
 use Rattle.machine.specs.Submission.{einval, ebusy, ebadf}
 use Rattle.machine.specs.Threads.{ThreadState}
 use Rattle.machine.proofs.MappedRows.{mapped_at}
 use Rattle.machine.specs.Deadlines.{deadline_at}
-use Rattle.live_runner.specs.declared.offering.Deed.TheVariants.{Issuing, Finishing, Expiring}
+use Rattle.live_runner.specs.declared.offering.Action.TheVariants.{Issuing, Finishing, Expiring}
 use Rattle.live_runner.specs.Least.{least, least_value}
 use Rattle.live_runner.specs.Offers.{may_do}
 use Rattle.live_runner.specs.Passing.{EndedBelow}
@@ -80,21 +80,21 @@ ended_again : (x : Row) (o : Option ℤ) → is_ended x.phase ≡ true → is_en
 ended_again x None h = h
 ended_again x (Some res) h = refl
 
-stays_fallen : (m : Machine) (direct : List Ending) → Stays m (fallen m direct)
-unfolding fallen
-stays_fallen m direct = mapped (ended_by (fall_of m.table m.counted direct)) m.table (λ r x e h. ended_again x (result_in (fall_of m.table m.counted direct) r) h)
+stays_cascaded : (m : Machine) (direct : List Ending) → Stays m (cascaded m direct)
+unfolding cascaded
+stays_cascaded m direct = mapped (ended_by (fall_of m.table m.counted direct)) m.table (λ r x e h. ended_again x (result_in (fall_of m.table m.counted direct) r) h)
 
 stays_submitted : (m : Machine) (k : ℕ) → Stays m (submitted m k)
 stays_submitted m k =
     both m.table (taken m k).table (submitted m k).table (appended m.table (rows_of m.world (length m.table) (entries_for m k)))
-    (stays_fallen (taken m k) (direct_of m.world (length m.table) (entries_for m k)))
+    (stays_cascaded (taken m k) (direct_of m.world (length m.table) (entries_for m k)))
 
 -- ---- Threads
 
 stays_awaited : (m n : Machine) (t k to_submit min_complete flags : ℕ) → Stays m n → Stays m (awaited n t k to_submit min_complete flags)
-stays_awaited m n t k to_submit min_complete flags h = by (gets_events flags && ((k == to_submit) && nat_lt (ready_count n) (wanted n min_complete)))
+stays_awaited m n t k to_submit min_complete flags h = by (gets_events flags && ((k == to_submit) && nat_lt (ready_count n) (needed n min_complete)))
   where
-    by : (b : Bool) → Stays m (if b then held_back n t k (wanted n min_complete) else answered n t (pos k))
+    by : (b : Bool) → Stays m (if b then held_back n t k (needed n min_complete) else answered n t (pos k))
     by true = h
     by false = h
 
@@ -126,17 +126,17 @@ stays_shown m n flags h = by (gets_events flags)
     by true = h
     by false = h
 
-stays_alone : (m : Machine) (t k w flags : ℕ) (b : Bool) → Stays m (if b then answered m t einval else entered_alone m t k w flags)
+stays_alone : (m : Machine) (t k w flags : ℕ) (b : Bool) → Stays m (if b then answered m t einval else entered_without_poller m t k w flags)
 stays_alone m t k w flags true = self m.table
 stays_alone m t k w flags false = stays_submitting m (before_submission m k flags) t k w flags (stays_before m k flags)
 
-stays_beside : (m : Machine) (t k w flags : ℕ) (b : Bool) → Stays m (if b then answered m t einval else entered_beside m t k w flags)
-stays_beside m t k w flags true = self m.table
-stays_beside m t k w flags false = stays_awaited m (shown (woken m flags) flags) t k k w flags (stays_shown m (woken m flags) flags (stays_woken m flags))
+stays_with_poller : (m : Machine) (t k w flags : ℕ) (b : Bool) → Stays m (if b then answered m t einval else entered_with_poller m t k w flags)
+stays_with_poller m t k w flags true = self m.table
+stays_with_poller m t k w flags false = stays_awaited m (shown (woken m flags) flags) t k k w flags (stays_shown m (woken m flags) flags (stays_woken m flags))
 
 stays_entered : (m : Machine) (o : Option Poller) (t k w flags : ℕ) → Stays m (entered m o t k w flags)
 stays_entered m None t k w flags = stays_alone m t k w flags (is_unknown flags)
-stays_entered m (Some p) t k w flags = stays_beside m t k w flags (is_unknown flags)
+stays_entered m (Some p) t k w flags = stays_with_poller m t k w flags (is_unknown flags)
 
 stays_closed : (m : Machine) (t : ℕ) (fd : ℤ) → Stays m (closed m t fd)
 stays_closed m t (negsuc n) = self m.table
@@ -189,8 +189,8 @@ stays_issued : (m : Machine) (r : ℕ) (o : Option Row) → slice_get m.table r 
 stays_issued m r None e h = self m.table
 stays_issued m r (Some x) e h = by (lacks_descriptor m.world x)
   where
-    by : (b : Bool) → Stays m (if b then fallen m ((r, ebadf) ∷ []) else record m { table = all_started m.clock m.counted m.table r })
-    by true = stays_fallen m ((r, ebadf) ∷ [])
+    by : (b : Bool) → Stays m (if b then cascaded m ((r, ebadf) ∷ []) else record m { table = all_started m.clock m.counted m.table r })
+    by true = stays_cascaded m ((r, ebadf) ∷ [])
     by false = stays_started m r x e (not_ended m.table r x x.phase refl h)
 
 stays_finished : (m : Machine) (r : ℕ) (c : Choice) (o : Option Row) → Stays m (finished m r o c)
@@ -198,17 +198,17 @@ stays_finished m r c None = self m.table
 stays_finished m r c (Some x) = choosing (is_cancel x.entry.opcode)
   where
     by : (o : Outcome) → Stays m (finished_as m r x o)
-    by (Res res) = stays_fallen (record m { world = world_after x res m.world }) ((r, res) ∷ [])
+    by (Res res) = stays_cascaded (record m { world = world_after x res m.world }) ((r, res) ∷ [])
     by Waits = self m.table
     by BadChoice = self m.table
 
     choosing : (b : Bool) → Stays m (if b then cancelled m r x.entry else finished_as m r x (outcome_of (is_held_by m.table) m.world x c))
-    choosing true = stays_fallen m (ending_with r (verdict_of m.table m.world r x.entry))
+    choosing true = stays_cascaded m (ending_with r (verdict_of m.table m.world r x.entry))
     choosing false = by (outcome_of (is_held_by m.table) m.world x c)
 
 stays_expired : (m : Machine) (r : ℕ) (o : Option Row) → Stays m (expired m r o)
 stays_expired m r None = self m.table
-stays_expired m r (Some x) = stays_fallen m (expiring r (waiting_target m.table m.world x x.target))
+stays_expired m r (Some x) = stays_cascaded m (expiring r (waiting_target m.table m.world x x.target))
 
 stays_after : (m : Machine) (e : Event) → refusal m e ≡ None → Stays m (after m e)
 stays_after m (Step t) h = stays_stepped m t (slice_get m.threads t)
@@ -280,22 +280,22 @@ unqueued Queued h = absurd (cc)
 unqueued Issued h = refl
 unqueued (Ended res) h = refl
 
-not_going : (p : Phase) → is_ended p ≡ true → is_issued p ≡ false
-not_going Queued h = refl
-not_going Issued h = absurd (cc)
-not_going (Ended res) h = refl
+is_not_issued : (p : Phase) → is_ended p ≡ true → is_issued p ≡ false
+is_not_issued Queued h = refl
+is_not_issued Issued h = absurd (cc)
+is_not_issued (Ended res) h = refl
 
 pub none_issuing : (m : Machine) (first : ℕ) → EndedBelow m.table first → (k : ℕ) → k < first → may_do m Issuing k ≡ false
 none_issuing m first b k l = unissued m.table k (slice_get m.table k) (λ row e. unqueued row.phase (ended_at m.table first b k l row e))
 
 pub none_finishing : (m : Machine) (first : ℕ) → EndedBelow m.table first → (k : ℕ) → k < first → may_do m Finishing k ≡ false
-none_finishing m first b k l = not_finished (is_held_by m.table) m.world (slice_get m.table k) (λ row e. not_going row.phase (ended_at m.table first b k l row e))
+none_finishing m first b k l = not_finished (is_held_by m.table) m.world (slice_get m.table k) (λ row e. is_not_issued row.phase (ended_at m.table first b k l row e))
 
 none_expiring : (m : Machine) (first : ℕ) → EndedBelow m.table first → (k : ℕ) → k < first → may_do m Expiring k ≡ false
-none_expiring m first b k l = not_expired m.clock (slice_get m.table k) (λ row e. not_going row.phase (ended_at m.table first b k l row e))
+none_expiring m first b k l = not_expired m.clock (slice_get m.table k) (λ row e. is_not_issued row.phase (ended_at m.table first b k l row e))
 
 pub none_due_yet : (m : Machine) (first : ℕ) → EndedBelow m.table first → None ≡ least (may_do m Expiring) first
 none_due_yet m first b = sym (least_none (may_do m Expiring) first (λ k l. none_expiring m first b k l))
 
 pub no_deadline_yet : (m : Machine) (first : ℕ) → EndedBelow m.table first → None ≡ least_value (deadline_at m.table) first
-no_deadline_yet m first b = sym (least_value_same (deadline_at m.table) 0 first (omega arith) (λ k low l. no_deadline (slice_get m.table k) (λ row e. not_going row.phase (ended_at m.table first b k l row e))))
+no_deadline_yet m first b = sym (least_value_same (deadline_at m.table) 0 first (omega arith) (λ k low l. no_deadline (slice_get m.table k) (λ row e. is_not_issued row.phase (ended_at m.table first b k l row e))))

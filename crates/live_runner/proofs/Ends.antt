@@ -14,10 +14,10 @@ use Rattle.machine.specs.Deadlines.{issued_deadline, deadline_at}
 use Rattle.machine.specs.Steps.{finish_refusal}
 use Rattle.machine.specs.Whole.{WellFormed}
 use Rattle.machine.proofs.FormedRows.{unfinished_issued}
-use Rattle.live_runner.specs.declared.offering.Deed.TheVariants.{Finishing, Expiring}
+use Rattle.live_runner.specs.declared.offering.Action.TheVariants.{Finishing, Expiring}
 use Rattle.live_runner.specs.Least.{or_else}
 use Rattle.live_runner.specs.Offers.{may_do, event_on, on_row, least_row, least_deadline, ticks, ticks_to, ends}
-use Rattle.live_runner.specs.Passing.{has_come}
+use Rattle.live_runner.specs.Passing.{is_reached}
 use Rattle.live_runner.proofs.OfferLemmas.{expired_due}
 
 -- An issued request has a deadline exactly if it is a TIMEOUT or a LINK_TIMEOUT.
@@ -43,7 +43,7 @@ timer_unfinished m r d f e = waits_there m r d (slice_get m.table r) f refl e
 
 -- ---- It may expire exactly if the clock has reached the deadline
 
-due_by : (clock : ℕ) (t i : Bool) (o : Option ℕ) → (i ≡ true → is_some o ≡ t) → (t && (i && has_come clock o)) ≡ has_come clock (if i then o else None)
+due_by : (clock : ℕ) (t i : Bool) (o : Option ℕ) → (i ≡ true → is_some o ≡ t) → (t && (i && is_reached clock o)) ≡ is_reached clock (if i then o else None)
 due_by clock true true (Some d) h = refl
 due_by clock true true None h = refl
 due_by clock false true (Some d) h = absurd (let k = h refl in cc)
@@ -52,12 +52,12 @@ due_by clock true false o h = refl
 due_by clock false false o h = refl
 
 due_there : (m : Machine) (r : ℕ) (o : Option Row) → WellFormed m → slice_get m.table r ≡ o
-    → option_map_or (λ (row : Row). is_timer row.entry.opcode && (is_issued row.phase && is_due m.clock row)) o false ≡ has_come m.clock (option_map_or issued_deadline o None)
+    → option_map_or (λ (row : Row). is_timer row.entry.opcode && (is_issued row.phase && is_due m.clock row)) o false ≡ is_reached m.clock (option_map_or issued_deadline o None)
 due_there m r None f g = refl
 due_there m r (Some row) f g = due_by m.clock (is_timer row.entry.opcode) (is_issued row.phase) row.deadline (timer_due m r row f g)
 
-pub expires_come : (m : Machine) (r : ℕ) → WellFormed m → may_do m Expiring r ≡ has_come m.clock (deadline_at m.table r)
-expires_come m r f = expired_due m r ∙ due_there m r (slice_get m.table r) f refl
+pub expires_reached : (m : Machine) (r : ℕ) → WellFormed m → may_do m Expiring r ≡ is_reached m.clock (deadline_at m.table r)
+expires_reached m r f = expired_due m r ∙ due_there m r (slice_get m.table r) f refl
 
 -- ---- The result of the search
 

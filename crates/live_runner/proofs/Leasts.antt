@@ -1,7 +1,7 @@
 -- Lemmas on searches for the first number that passes and for the least value.
 use Rattle.std.proofs.Common.{◌≡◌, ℕ, zero, suc, ◌+◌, ◌-◌, ◌<◌, ◌≤◌, Bool, true, false, Option, Some, None, refl, ap, ◌∙◌, inl, inr, arith, add-one, if◌then◌else◌}
 use Rattle.std.proofs.lemmas.Bool.{cases_lt}
-use Rattle.live_runner.specs.Least.{least, or_else, least_value, lesser}
+use Rattle.live_runner.specs.Least.{least, or_else, least_value, smaller_of}
 use Rattle.live_runner.specs.Passing.{IsNextRow}
 
 -- ---- The first number that passes
@@ -64,21 +64,21 @@ none_left f from so_far rest k = elim (cases_lt k from) [
 
 -- ---- The least value
 
-lesser_none : (o : Option ℕ) → lesser o None ≡ o
-lesser_none None = refl
-lesser_none (Some a) = refl
+smaller_of_none : (o : Option ℕ) → smaller_of o None ≡ o
+smaller_of_none None = refl
+smaller_of_none (Some a) = refl
 
 least_value_skip : (f : ℕ → Option ℕ) (n d m : ℕ) → m ≡ d + n → ((k : ℕ) → n ≤ k → k < m → f k ≡ None) → least_value f m ≡ least_value f n
 least_value_skip f n zero m is none = let e : m ≡ n = omega (arith, is) in ap (λ k. least_value f k) e
 least_value_skip f n (suc d) m is none =
     let e : m ≡ suc (d + n) = omega (arith, is) in
-    ap (λ k. least_value f k) e ∙ ap (λ o. lesser (least_value f (d + n)) o) (none (d + n) (omega arith) (omega (arith, e)))
-    ∙ lesser_none (least_value f (d + n)) ∙ least_value_skip f n d (d + n) refl (λ k low high. none k low (omega (arith, high, e)))
+    ap (λ k. least_value f k) e ∙ ap (λ o. smaller_of (least_value f (d + n)) o) (none (d + n) (omega arith) (omega (arith, e)))
+    ∙ smaller_of_none (least_value f (d + n)) ∙ least_value_skip f n d (d + n) refl (λ k low high. none k low (omega (arith, high, e)))
 
 -- Numbers without a value don't change the result.
 pub least_value_same : (f : ℕ → Option ℕ) (n m : ℕ) → n ≤ m → ((k : ℕ) → n ≤ k → k < m → f k ≡ None) → least_value f m ≡ least_value f n
 least_value_same f n m h none = least_value_skip f n (m - n) m (omega arith) none
 
 -- The minimum of the result so far and the value of the next number that may have one.
-pub least_value_next : (f : ℕ → Option ℕ) (from r : ℕ) → from ≤ r → ((k : ℕ) → from ≤ k → k < r → f k ≡ None) → least_value f (r + 1) ≡ lesser (least_value f from) (f r)
-least_value_next f from r h none = ap (λ k. least_value f k) (add-one r) ∙ ap (λ o. lesser o (f r)) (least_value_same f from r h none)
+pub least_value_next : (f : ℕ → Option ℕ) (from r : ℕ) → from ≤ r → ((k : ℕ) → from ≤ k → k < r → f k ≡ None) → least_value f (r + 1) ≡ smaller_of (least_value f from) (f r)
+least_value_next f from r h none = ap (λ k. least_value f k) (add-one r) ∙ ap (λ o. smaller_of o (f r)) (least_value_same f from r h none)

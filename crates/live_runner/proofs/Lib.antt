@@ -1,5 +1,5 @@
-pub mod Going
-pub mod Telling
+pub mod AppendingLemmas
+pub mod ReceiptLemmas
 pub mod Numbering
 pub mod Working
 pub mod Leasts

@@ -24,10 +24,10 @@ use Rattle.machine.specs.declared.whole.Machine.{Machine}
 use Rattle.machine.specs.Deadlines.{deadline_at, issued_deadline}
 use Rattle.machine.specs.Steps.{refusal, issue_refusal, finish_refusal, expire_refusal}
 use Rattle.machine.specs.Whole.{WellFormed}
-use Rattle.live_runner.specs.declared.offering.Deed.{Deed}
-use Rattle.live_runner.specs.declared.offering.Deed.TheVariants.{Issuing, Finishing, Expiring}
+use Rattle.live_runner.specs.declared.offering.Action.{Action}
+use Rattle.live_runner.specs.declared.offering.Action.TheVariants.{Issuing, Finishing, Expiring}
 use Rattle.live_runner.specs.Actors.{is_own, is_submitter, is_poller, is_worker}
-use Rattle.live_runner.specs.Least.{least, or_else, least_value, lesser}
+use Rattle.live_runner.specs.Least.{least, or_else, least_value, smaller_of}
 use Rattle.live_runner.specs.Offers.{least_row, least_deadline, may_do, event_on, on_row, offer, submits, polls, polls_by, works, ticks, ticks_to, is_over, is_of_worker}
 use Rattle.live_runner.specs.Passing.{IsLeastDeadline}
 use Rattle.live_runner.proofs.Rows.{unfinished}
@@ -56,17 +56,17 @@ least_found : (f : ℕ → Bool) (n r : ℕ) → least f n ≡ Some r → (f r �
 least_found f zero r h = absurd (cc)
 least_found f (suc n) r h = found_by f n r (least f n) (f n) refl h (least_found f n r) (none_below f n)
 
-pub least_offered : (m : Machine) (deed : Deed) (r : ℕ) → least_row m deed ≡ Some r → (may_do m deed r ≡ true) × ((k : ℕ) → k < r → may_do m deed k ≡ false)
-least_offered m deed r h = least_found (may_do m deed) (length m.table) r h
+pub least_offered : (m : Machine) (action : Action) (r : ℕ) → least_row m action ≡ Some r → (may_do m action r ≡ true) × ((k : ℕ) → k < r → may_do m action k ≡ false)
+least_offered m action r h = least_found (may_do m action) (length m.table) r h
 
 -- ---- Which requests each action applies to
 
-told_none : (b : Bool) (n : Refusal) → is_none (if b then None else Some n) ≡ b
-told_none true n = refl
-told_none false n = refl
+none_if : (b : Bool) (n : Refusal) → is_none (if b then None else Some n) ≡ b
+none_if true n = refl
+none_if false n = refl
 
 eligible_phase : (rows : List Row) (r : ℕ) (row : Row) (p : Phase) → row.phase ≡ p → slice_get rows r ≡ Some row → is_none (issue_refusal rows r (Some row)) ≡ is_eligible rows r
-eligible_phase rows r row Queued g e = rw g (told_none (is_eligible rows r) NotEligible)
+eligible_phase rows r row Queued g e = rw g (none_if (is_eligible rows r) NotEligible)
 eligible_phase rows r row Issued g e = rw (e, g) refl
 eligible_phase rows r row (Ended res) g e = rw (e, g) refl
 
@@ -93,7 +93,7 @@ finished_issued m r h = finished_there (is_held_by m.table) m.world (slice_get m
 expires : (now : ℕ) (row : Row) (b : Bool) → is_timer row.entry.opcode ≡ b → (p : Phase) → row.phase ≡ p → is_none (expire_refusal now (Some row)) ≡ (is_timer row.entry.opcode && (is_issued row.phase && is_due now row))
 expires now row false e p g = rw e refl
 expires now row true e Queued g = rw (e, g) refl
-expires now row true e Issued g = rw (e, g) (told_none (is_due now row) NotDue)
+expires now row true e Issued g = rw (e, g) (none_if (is_due now row) NotDue)
 expires now row true e (Ended res) g = rw (e, g) refl
 
 expires_there : (now : ℕ) (o : Option Row) → is_none (expire_refusal now o) ≡ option_map_or (λ (row : Row). is_timer row.entry.opcode && (is_issued row.phase && is_due now row)) o false
@@ -111,7 +111,7 @@ record HasLeast (f : ℕ → Option ℕ) (n d : ℕ) : Type 0 where
   pub is : f at ≡ Some d
   pub least : (k e : ℕ) → k < n → f k ≡ Some e → d ≤ e
 
-nothing_by : (f : ℕ → Option ℕ) (n : ℕ) (o p : Option ℕ) → f n ≡ p → lesser o p ≡ None → (o ≡ None → (k : ℕ) → k < n → f k ≡ None) → (k : ℕ) → k < suc n → f k ≡ None
+nothing_by : (f : ℕ → Option ℕ) (n : ℕ) (o p : Option ℕ) → f n ≡ p → smaller_of o p ≡ None → (o ≡ None → (k : ℕ) → k < n → f k ≡ None) → (k : ℕ) → k < suc n → f k ≡ None
 nothing_by f n None None g h rest k l = elim (cases_lt k n) [
   | inl less ↦ rest refl k less
   | inr last ↦ let e : k ≡ n = omega arith in ap f e ∙ g
@@ -131,7 +131,7 @@ at_each f n d below here k e l h = elim (cases_lt k n) [
   | inr last ↦ let same : n ≡ k = omega arith in here e (ap f same ∙ h)
 ]
 
-least_by : (f : ℕ → Option ℕ) (n d : ℕ) (o p : Option ℕ) → f n ≡ p → lesser o p ≡ Some d → ((a : ℕ) → o ≡ Some a → HasLeast f n a) → (o ≡ None → (k : ℕ) → k < n → f k ≡ None) → HasLeast f (suc n) d
+least_by : (f : ℕ → Option ℕ) (n d : ℕ) (o p : Option ℕ) → f n ≡ p → smaller_of o p ≡ Some d → ((a : ℕ) → o ≡ Some a → HasLeast f n a) → (o ≡ None → (k : ℕ) → k < n → f k ≡ None) → HasLeast f (suc n) d
 least_by f n d None None g h found none = absurd (cc)
 least_by f n d None (Some b) g h found none =
     let same : b ≡ d = cc in
@@ -172,11 +172,11 @@ is_none_true : (o : Option Refusal) → is_none o ≡ true → o ≡ None
 is_none_true None h = refl
 is_none_true (Some n) h = absurd (cc)
 
-row_accepted : (m : Machine) (deed : Deed) (e : Event) (o : Option ℕ) → least_row m deed ≡ o → on_row deed o ≡ Some e → refusal m e ≡ None
-row_accepted m deed e None g h = absurd (cc)
-row_accepted m deed e (Some r) g h =
-    let same : event_on deed r ≡ e = cc in
-    ap (λ (x : Event). refusal m x) (sym same) ∙ is_none_true (refusal m (event_on deed r)) (least_offered m deed r g).0
+row_accepted : (m : Machine) (action : Action) (e : Event) (o : Option ℕ) → least_row m action ≡ o → on_row action o ≡ Some e → refusal m e ≡ None
+row_accepted m action e None g h = absurd (cc)
+row_accepted m action e (Some r) g h =
+    let same : event_on action r ≡ e = cc in
+    ap (λ (x : Event). refusal m x) (sym same) ∙ is_none_true (refusal m (event_on action r)) (least_offered m action r g).0
 
 reached : (clock d : ℕ) → clock < 2 ^ 64 → nat_lt d (2 ^ 64) ≡ true → nat_lt (clock + (d - clock)) (2 ^ 64) ≡ true
 reached clock d c h = grind (arith, nat_tests)
@@ -233,15 +233,15 @@ pub offer_accepted : (setup : Setup) (count : ℕ) (m : Machine) (actor : ℕ) (
 offer_accepted setup count m actor e formed h w = accepted_by m actor e (nat_lt actor count) (is_submitter setup actor) (is_poller setup actor) formed.mostly.clock w h
 
 -- An actor whose number is after those of the submitters and the poller is a kernel worker.
-behind : (n actor : ℕ) (b : Bool) → nat_lt actor n ≡ false → (b && (actor == n)) ≡ false → nat_le (n + (if b then 1 else 0)) actor ≡ true
-behind n actor true h k = grind (arith, nat_tests)
-behind n actor false h k = grind (arith, nat_tests)
+is_past : (n actor : ℕ) (b : Bool) → nat_lt actor n ≡ false → (b && (actor == n)) ≡ false → nat_le (n + (if b then 1 else 0)) actor ≡ true
+is_past n actor true h k = grind (arith, nat_tests)
+is_past n actor false h k = grind (arith, nat_tests)
 
-deed_own : (setup : Setup) (count actor : ℕ) (e : Event) (deed : Deed) (o : Option ℕ) → on_row deed o ≡ Some e → is_own setup count actor e ≡ (nat_lt actor count && is_worker setup actor)
-deed_own setup count actor e deed None h = absurd (cc)
-deed_own setup count actor e Issuing (Some r) h = let same : Issue r ≡ e = cc in ap (λ (x : Event). is_own setup count actor x) (sym same)
-deed_own setup count actor e Finishing (Some r) h = let same : Finish r Full ≡ e = cc in ap (λ (x : Event). is_own setup count actor x) (sym same)
-deed_own setup count actor e Expiring (Some r) h = let same : Expire r ≡ e = cc in ap (λ (x : Event). is_own setup count actor x) (sym same)
+action_own : (setup : Setup) (count actor : ℕ) (e : Event) (action : Action) (o : Option ℕ) → on_row action o ≡ Some e → is_own setup count actor e ≡ (nat_lt actor count && is_worker setup actor)
+action_own setup count actor e action None h = absurd (cc)
+action_own setup count actor e Issuing (Some r) h = let same : Issue r ≡ e = cc in ap (λ (x : Event). is_own setup count actor x) (sym same)
+action_own setup count actor e Finishing (Some r) h = let same : Finish r Full ≡ e = cc in ap (λ (x : Event). is_own setup count actor x) (sym same)
+action_own setup count actor e Expiring (Some r) h = let same : Expire r ≡ e = cc in ap (λ (x : Event). is_own setup count actor x) (sym same)
 
 tick_own : (setup : Setup) (count actor x : ℕ) (e : Event) (b : Bool) → (if b then Some (Tick x) else None) ≡ Some e → is_own setup count actor e ≡ (nat_lt actor count && is_worker setup actor)
 tick_own setup count actor x e true h = let same : Tick x ≡ e = cc in ap (λ (y : Event). is_own setup count actor y) (sym same)
@@ -253,11 +253,11 @@ ticks_own setup count actor clock e (Some d) h = tick_own setup count actor (d -
 
 works_own : (setup : Setup) (count actor : ℕ) (m : Machine) (e : Event) → works m ≡ Some e → is_own setup count actor e ≡ (nat_lt actor count && is_worker setup actor)
 works_own setup count actor m e h = elim (one_of (on_row Issuing (least_row m Issuing)) (or_else (on_row Finishing (least_row m Finishing)) (or_else (on_row Expiring (least_row m Expiring)) (ticks m))) e h) [
-  | inl a ↦ deed_own setup count actor e Issuing (least_row m Issuing) a
+  | inl a ↦ action_own setup count actor e Issuing (least_row m Issuing) a
   | inr b ↦ elim (one_of (on_row Finishing (least_row m Finishing)) (or_else (on_row Expiring (least_row m Expiring)) (ticks m)) e b) [
-    | inl a ↦ deed_own setup count actor e Finishing (least_row m Finishing) a
+    | inl a ↦ action_own setup count actor e Finishing (least_row m Finishing) a
     | inr b ↦ elim (one_of (on_row Expiring (least_row m Expiring)) (ticks m) e b) [
-      | inl a ↦ deed_own setup count actor e Expiring (least_row m Expiring) a
+      | inl a ↦ action_own setup count actor e Expiring (least_row m Expiring) a
       | inr b ↦ ticks_own setup count actor m.clock e (least_deadline m) b
     ]
   ]
@@ -269,7 +269,7 @@ own_by setup count m actor e false c d x y z h = absurd (cc)
 own_by setup count m actor e true true d x y z h =
     ap (λ (v : Event). is_own setup count actor v) (submits_is actor e (is_over (refusal m (Step actor))) h) ∙ and_from _ _ x (and_from _ _ y (eq-eqb actor actor refl))
 own_by setup count m actor e true false true x y z h = polls_own (is_own setup count actor) true (refusal m Sleep) e (and_from _ _ x z) (and_from _ _ x z) h
-own_by setup count m actor e true false false x y z h = works_own setup count actor m e h ∙ and_from _ _ x (behind (length setup.threads) actor setup.sqpoll y z)
+own_by setup count m actor e true false false x y z h = works_own setup count actor m e h ∙ and_from _ _ x (is_past (length setup.threads) actor setup.sqpoll y z)
 
 pub offer_own : (setup : Setup) (count : ℕ) (m : Machine) (actor : ℕ) (e : Event) → offer setup count m actor ≡ Some e → is_own setup count actor e ≡ true
 offer_own setup count m actor e h = own_by setup count m actor e (nat_lt actor count) (is_submitter setup actor) (is_poller setup actor) refl refl refl h

@@ -19,7 +19,7 @@ use Rattle.timeouts_cancel.specs.Timers.{is_due}
 use Rattle.machine.specs.declared.whole.Machine.{Machine}
 use Rattle.machine.specs.Deadlines.{issued_deadline, deadline_at}
 use Rattle.machine.specs.Steps.{issue_refusal, finish_refusal, expire_refusal, phase_refusal, choice_refusal}
-use Rattle.live_runner.specs.declared.offering.Deed.TheVariants.{Issuing, Finishing, Expiring}
+use Rattle.live_runner.specs.declared.offering.Action.TheVariants.{Issuing, Finishing, Expiring}
 use Rattle.live_runner.specs.Offers.{may_do}
 use Rattle.live_runner.specs.Passing.{IsNextRow}
 

@@ -4,19 +4,19 @@ use Rattle.std.specs.Prelude.{All}
 use Rattle.std.specs.declared.thread.PromisedHandle.{PromisedHandle}
 use Rattle.std.proofs.lemmas.List.Elements.{All-head, All-push, All-rest, All-same}
 use Rattle.live_runner.specs.declared.running.ForActor.{ForActor}
-use Rattle.live_runner.specs.History.{Held, Labour, fresh}
+use Rattle.live_runner.specs.History.{Held, WorkerState, fresh}
 use Rattle.live_runner.specs.Running.{AllOfTurns}
 use Rattle.live_runner.specs.Turns.{HasWorked}
 
 module _ {G : Type 0} (g : G) where
   -- The workers created so far, and those of the remaining seats, before and after the next one.
-  pub made_next : (ws ws' all : List (Labour G)) (w : Labour G) (s : Held) (rest rest' : List Held) → ws ++ map (fresh g) rest ≡ all → rest ≡ s ∷ rest' → w ≡ fresh g s → ws' ≡ ws ++ w ∷ [] → ws' ++ map (fresh g) rest' ≡ all
+  pub made_next : (ws ws' all : List (WorkerState G)) (w : WorkerState G) (s : Held) (rest rest' : List Held) → ws ++ map (fresh g) rest ≡ all → rest ≡ s ∷ rest' → w ≡ fresh g s → ws' ≡ ws ++ w ∷ [] → ws' ++ map (fresh g) rest' ≡ all
   made_next ws ws' all w s rest rest' was next made pushed =
       ap (λ l. l ++ map (fresh g) rest') pushed ∙ append_assoc ws (w ∷ []) (map (fresh g) rest') ∙ ap (λ x. ws ++ x ∷ map (fresh g) rest') made
       ∙ ap (λ l. ws ++ map (fresh g) l) (sym next) ∙ was
 
   -- The remaining handles, and the workers returned so far, after the next one.
-  pub worked_next : {T : Type 0} (n : ℕ) (ws ws' : List (Labour G)) (w : Labour G) (h : PromisedHandle T ForActor) (rest rest' : List (PromisedHandle T ForActor)) → AllOfTurns n rest × All (HasWorked g n) ws → rest ≡ h ∷ rest' → (h.promise.turns ≡ n → HasWorked g n w) → ws' ≡ ws ++ w ∷ [] → AllOfTurns n rest' × All (HasWorked g n) ws'
+  pub worked_next : {T : Type 0} (n : ℕ) (ws ws' : List (WorkerState G)) (w : WorkerState G) (h : PromisedHandle T ForActor) (rest rest' : List (PromisedHandle T ForActor)) → AllOfTurns n rest × All (HasWorked g n) ws → rest ≡ h ∷ rest' → (h.promise.turns ≡ n → HasWorked g n w) → ws' ≡ ws ++ w ∷ [] → AllOfTurns n rest' × All (HasWorked g n) ws'
   worked_next {T} n ws ws' w h rest rest' was next has pushed =
       let P : PromisedHandle T ForActor → Type 0 = λ x. x.promise.turns ≡ n in
       let all : All P (h ∷ rest') = All-same P (h ∷ rest') rest (sym next) was.0 in

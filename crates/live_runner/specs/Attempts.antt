@@ -8,16 +8,16 @@ use Rattle.live_runner.specs.declared.receipt.Receipt.{Receipt}
 use Rattle.live_runner.specs.declared.lives.LiveRefusal.{LiveRefusal}
 use Rattle.live_runner.specs.declared.lives.LiveRefusal.TheVariants.{NotYours, TraceFull, Step}
 use Rattle.live_runner.specs.Actors.{is_own}
-use Rattle.live_runner.specs.Told.{receipt}
-use Rattle.live_runner.specs.History.{History, Held, gone_on, seat_with}
+use Rattle.live_runner.specs.Received.{receipt}
+use Rattle.live_runner.specs.History.{History, Held, with_event, seat_with}
 
 -- An accepted event is appended to the run, and its actor receives a receipt. The checks come in
 -- order: an event that the actor may not make, a full trace, an event that the rules refuse. Any
 -- other refusal is an allocation failure. A refusal changes nothing.
 pub record Attempted (old : History) (seat : Held) (e : Event) (answer : Result Receipt LiveRefusal) (new : History) (after : Held) : Type 0 where
   pub accepted : OnOk answer (refusal old.state e ≡ None)
-  pub run : OnOk answer (new ≡ gone_on old seat.actor e)
-  pub told : IfOk answer (λ r. r ≡ receipt seat.actor (length old.events) e)
+  pub run : OnOk answer (new ≡ with_event old seat.actor e)
+  pub received : IfOk answer (λ r. r ≡ receipt seat.actor (length old.events) e)
   pub kept : IfOk answer (λ r. after ≡ seat_with seat r)
   pub not_yours : (answer ≡ Err NotYours) ↔ (is_own old.setup old.actors seat.actor e ≡ false)
   pub full : (answer ≡ Err TraceFull) ↔

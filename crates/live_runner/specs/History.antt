@@ -10,7 +10,7 @@ use Rattle.machine.specs.Steps.{after}
 use Rattle.machine.specs.Runs.{start, run, Accepts, Linked}
 use Rattle.live_runner.specs.declared.receipt.Receipt.{Receipt}
 use Rattle.live_runner.specs.Actors.{is_own}
-use Rattle.live_runner.specs.Told.{AllTold}
+use Rattle.live_runner.specs.Received.{AllReceived}
 
 -- A live run. `owners` are the actors that made the events, and `total` is the total of the
 -- ledger's book.
@@ -50,7 +50,7 @@ pub record Held : Type 0 where
 pub record Counted (s : Held) : Type 0 where
   pub own : All (λ (r : Receipt). r.actor ≡ s.actor) s.receipts
   pub one : s.parts ≡ 1
-  pub told : s.amount ≡ length s.receipts
+  pub received : s.amount ≡ length s.receipts
 
 -- Seat i belongs to actor i.
 abbrev pub InOrder : List Held → Type 0
@@ -63,8 +63,8 @@ opened setup count =
     { setup = setup; actors = count; events = []; owners = []; state = start setup; total = 0 }
 
 -- The run after one more event, made by `actor`.
-abbrev pub gone_on : History → ℕ → Event → History
-gone_on h actor event = record {
+abbrev pub with_event : History → ℕ → Event → History
+with_event h actor event = record {
   setup = h.setup;
   actors = h.actors;
   events = h.events ++ event ∷ [];
@@ -89,28 +89,28 @@ altered s i e = record {
 }
 
 -- A worker. `turns` is the number of turns that it has taken.
-pub record Labour (G : Type 0) : Type 0 where
+pub record WorkerState (G : Type 0) : Type 0 where
   pub seat : Held
   pub gate : G
   pub turns : ℕ
   pub is_stuck : Bool
 
 -- A worker that has taken no turn.
-abbrev pub fresh : {G : Type 0} → G → Held → Labour G
+abbrev pub fresh : {G : Type 0} → G → Held → WorkerState G
 fresh gate seat = record { seat = seat; gate = gate; turns = 0; is_stuck = false }
 
 -- The workers' receipts, in the workers' order.
-abbrev pub told_to : {G : Type 0} → List (Labour G) → List (List Receipt)
-told_to {G} workers = map (λ (w : Labour G). w.seat.receipts) workers
+abbrev pub all_receipts : {G : Type 0} → List (WorkerState G) → List (List Receipt)
+all_receipts {G} workers = map (λ (w : WorkerState G). w.seat.receipts) workers
 
 -- The total number of the workers' receipts.
-abbrev pub receipt_count : {G : Type 0} → List (Labour G) → ℕ
-receipt_count {G} workers = sum_by (λ (w : Labour G). length w.seat.receipts) workers
+abbrev pub receipt_count : {G : Type 0} → List (WorkerState G) → ℕ
+receipt_count {G} workers = sum_by (λ (w : WorkerState G). length w.seat.receipts) workers
 
 -- Worker i belongs to actor i.
-abbrev pub WorkInOrder : {G : Type 0} → List (Labour G) → Type 0
+abbrev pub WorkInOrder : {G : Type 0} → List (WorkerState G) → Type 0
 WorkInOrder {G} workers =
-    (i : ℕ) (d : Labour G) → i < length workers → (slice_index_or workers i d).seat.actor ≡ i
+    (i : ℕ) (d : WorkerState G) → i < length workers → (slice_index_or workers i d).seat.actor ≡ i
 
 -- A closed run.
 pub record Past : Type 0 where
@@ -131,7 +131,7 @@ pub record Whole (c : Past) : Type 0 where
   pub ends : c.state ≡ run (start c.setup) c.events
   pub own : AllOwn c.setup c.actors c.owners c.events
   pub each : length c.receipts ≡ c.actors
-  pub told : AllTold c.owners c.events c.receipts
+  pub received : AllReceived c.owners c.events c.receipts
 
 -- The closed run of a live run whose actors have these receipts.
 abbrev pub closed_of : History → List (List Receipt) → Past

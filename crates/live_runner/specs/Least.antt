@@ -12,12 +12,12 @@ least f zero = None
 least f (suc n) = or_else (least f n) (if f n then Some n else None)
 
 -- The minimum of two optional numbers.
-abbrev pub lesser : Option ℕ → Option ℕ → Option ℕ
-lesser None o = o
-lesser (Some a) None = Some a
-lesser (Some a) (Some b) = Some (min a b)
+abbrev pub smaller_of : Option ℕ → Option ℕ → Option ℕ
+smaller_of None o = o
+smaller_of (Some a) None = Some a
+smaller_of (Some a) (Some b) = Some (min a b)
 
 -- The minimum of the values that a function has below n.
 abbrev pub least_value : (ℕ → Option ℕ) → ℕ → Option ℕ
 least_value f zero = None
-least_value f (suc n) = lesser (least_value f n) (f n)
+least_value f (suc n) = smaller_of (least_value f n) (f n)

@@ -2,7 +2,7 @@ pub mod Actors
 pub mod Least
 pub mod Passing
 pub mod Offers
-pub mod Told
+pub mod Received
 pub mod History
 pub mod Attempts
 pub mod Turns

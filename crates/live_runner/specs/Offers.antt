@@ -11,8 +11,8 @@ use Rattle.machine.specs.Deadlines.{deadline_at}
 use Rattle.machine.specs.Steps.{refusal}
 use Rattle.live_runner.specs.Actors.{is_submitter, is_poller}
 use Rattle.live_runner.specs.Least.{or_else, least, least_value}
-use Rattle.live_runner.specs.declared.offering.Deed.{Deed}
-use Rattle.live_runner.specs.declared.offering.Deed.TheVariants.{Issuing, Finishing, Expiring}
+use Rattle.live_runner.specs.declared.offering.Action.{Action}
+use Rattle.live_runner.specs.declared.offering.Action.TheVariants.{Issuing, Finishing, Expiring}
 
 -- ---- Submitters
 
@@ -39,23 +39,23 @@ polls m = polls_by (refusal m Sleep)
 
 -- ---- Kernel workers
 
--- The event that does `deed` to request r.
-abbrev pub event_on : Deed → ℕ → Event
+-- The event that does `action` to request r.
+abbrev pub event_on : Action → ℕ → Event
 event_on Issuing r = Issue r
 event_on Finishing r = Finish r Full
 event_on Expiring r = Expire r
 
--- Whether the rules accept doing `deed` to request r.
-abbrev pub may_do : Machine → Deed → ℕ → Bool
-may_do m deed r = is_none (refusal m (event_on deed r))
+-- Whether the rules accept doing `action` to request r.
+abbrev pub may_do : Machine → Action → ℕ → Bool
+may_do m action r = is_none (refusal m (event_on action r))
 
 -- The first request to which the action may be applied.
-abbrev pub least_row : Machine → Deed → Option ℕ
-least_row m deed = least (may_do m deed) (length m.table)
+abbrev pub least_row : Machine → Action → Option ℕ
+least_row m action = least (may_do m action) (length m.table)
 
-abbrev pub on_row : Deed → Option ℕ → Option Event
-on_row deed None = None
-on_row deed (Some r) = Some (event_on deed r)
+abbrev pub on_row : Action → Option ℕ → Option Event
+on_row action None = None
+on_row action (Some r) = Some (event_on action r)
 
 -- The least deadline of an issued request.
 abbrev pub least_deadline : Machine → Option ℕ

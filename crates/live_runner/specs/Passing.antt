@@ -18,8 +18,8 @@ pub record IsLeastDeadline (rows : List Row) (d : ℕ) : Type 0 where
   pub least : (k e : ℕ) → deadline_at rows k ≡ Some e → d ≤ e
 
 -- Whether there is a deadline and the clock has reached it.
-abbrev pub has_come : ℕ → Option ℕ → Bool
-has_come clock deadline = option_map_or (λ d. nat_le d clock) deadline false
+abbrev pub is_reached : ℕ → Option ℕ → Bool
+is_reached clock deadline = option_map_or (λ d. nat_le d clock) deadline false
 
 -- Every request below `first` exists and has completed.
 pub record EndedBelow (rows : List Row) (first : ℕ) : Type 0 where

@@ -1,6 +1,6 @@
 //! Closed runs: the trace, the final state, and the receipts of each actor.
 ghost use Rattle.std.specs.Prelude.{◌≡◌, ◌↔◌, ◌<◌, ◌≢◌, ℕ, Some, None, true, Contains, slice_get};
-ghost use Rattle.live_runner.specs.Told.{IsOf, told};
+ghost use Rattle.live_runner.specs.Received.{IsOf, receipts_of};
 
 use crate::receipt::Receipt;
 use machine::State;
@@ -105,19 +105,19 @@ impl Closed {
     pub fn receipts(&self, actor: u32) -> &[Receipt]
         requires { actor < self.now.actors }
         ensures list { slice_get self.now.receipts actor ≡ Some result.now }
-        ensures told { result.now ≡ told actor self.now.owners self.now.events }
+        ensures receipts_of { result.now ≡ receipts_of actor self.now.owners self.now.events }
     {
         self.ended.lists[actor as usize].as_slice()
     }
 
     /// Returns the event of a receipt, if the trace has that event at the receipt's moment, made by
     /// the receipt's actor.
-    #[tactic(auto, using(crate::proofs::Telling::told_is_of))]
+    #[tactic(auto, using(crate::proofs::ReceiptLemmas::receipts_are_of))]
     pub fn redeem(&self, receipt: &Receipt) -> Option<Event>
         ensures some { (result ≡ Some receipt.now.event)
             ↔ IsOf self.now.owners self.now.events receipt.now }
         ensures none { result ≢ None → result ≡ Some receipt.now.event }
-        ensures own { (a : ℕ) → Contains (told a self.now.owners self.now.events) receipt.now
+        ensures own { (a : ℕ) → Contains (receipts_of a self.now.owners self.now.events) receipt.now
             → result ≡ Some receipt.now.event }
     {
         if self.has(receipt) {

@@ -1,7 +1,7 @@
 //! Closing a run: merges the actors' shares and checks their receipts against the trace.
 ghost use Rattle.std.specs.Prelude.{◌≡◌, ◌↔◌, ◌+◌, ◌++◌, ◌∷◌, ◌^◌, ◌<◌, ◌≤◌, [], length, true, IfOk, IfErr, IfSome, IfNone, OnOk, vec_len, vec_capacity, slice_get, Some, option_map};
-ghost use Rattle.live_runner.specs.Told.{receipt, told, AllTold, LeastTorn};
-ghost use Rattle.live_runner.specs.History.{told_to, WorkInOrder, Whole, closed_of, receipt_count};
+ghost use Rattle.live_runner.specs.Received.{receipt, receipts_of, AllReceived, LeastTorn};
+ghost use Rattle.live_runner.specs.History.{all_receipts, WorkInOrder, Whole, closed_of, receipt_count};
 
 use crate::closed::{Closed, Ended};
 use crate::lives::Live;
@@ -24,10 +24,11 @@ pub fn finish<'g, L: Ledger, G: Gate>(
     requires actors { length workers.items ≡ live.actors }
     requires order { WorkInOrder workers.items }
     ensures count { receipt_count workers.entry.items ≡ length live.events }
-    ensures closed { IfOk result (λ c. c ≡ closed_of live (told_to workers.entry.items)) }
-    ensures whole { OnOk result (AllTold live.owners live.events (told_to workers.entry.items)) }
+    ensures closed { IfOk result (λ c. c ≡ closed_of live (all_receipts workers.entry.items)) }
+    ensures whole { OnOk result
+        (AllReceived live.owners live.events (all_receipts workers.entry.items)) }
     ensures torn { IfErr result
-        (λ t. LeastTorn live.owners live.events (told_to workers.entry.items) t.0) }
+        (λ t. LeastTorn live.owners live.events (all_receipts workers.entry.items) t.0) }
 {
     let ended = end(live, workers);
     match first_torn(&ended.owners, &ended.events, &ended.lists) {
@@ -40,12 +41,12 @@ pub fn finish<'g, L: Ledger, G: Gate>(
 fn end<'g, L: Ledger, G: Gate>(live: Live<L>, workers: Vec<Worker<'g, L, G>>) -> Ended
     requires { length workers.items ≡ live.actors }
     ensures count { receipt_count workers.entry.items ≡ length live.events }
-    ensures value { result ≡ closed_of live (told_to workers.entry.items) }
-    ensures few { length (told_to workers.entry.items) < 2 ^ 32 }
+    ensures value { result ≡ closed_of live (all_receipts workers.entry.items) }
+    ensures few { length (all_receipts workers.entry.items) < 2 ^ 32 }
     ensures pairs { length live.owners ≡ length live.events }
     ensures most { length live.events ≤ 1048576 }
-    ensures whole { AllTold live.owners live.events (told_to workers.entry.items)
-        → Whole (closed_of live (told_to workers.entry.items)) }
+    ensures whole { AllReceived live.owners live.events (all_receipts workers.entry.items)
+        → Whole (closed_of live (all_receipts workers.entry.items)) }
 {
     let Live {
         alloc: _,
@@ -82,7 +83,7 @@ fn give_all_back<'g, L: Ledger, G: Gate>(
     requires room { length workers.items ≤ vec_capacity lists.old }
     ensures parts { share.new.parts ≡ share.old.parts + length workers.entry.items }
     ensures amount { share.new.amount ≡ share.old.amount + receipt_count workers.entry.items }
-    ensures lists { lists.new.items ≡ told_to workers.entry.items }
+    ensures lists { lists.new.items ≡ all_receipts workers.entry.items }
 {
     for worker in workers {
         give_back(worker, share, lists);
@@ -107,7 +108,7 @@ fn give_back<'g, L: Ledger, G: Gate>(
         share: theirs,
     } = worker.into_seat();
     share.merge(theirs);
-    lists.push_reserved(Items::of(receipts));
+    lists.push_reserved(Items::from_vec(receipts));
 }
 
 // Returns the lowest-numbered actor whose receipts differ from its events.
@@ -115,11 +116,11 @@ fn first_torn(owners: &[u32], events: &[Event], lists: &[Items<Receipt>]) -> Opt
     requires few { length lists.now < 2 ^ 32 }
     requires pairs { length owners.now ≡ length events.now }
     requires most { length events.now ≤ 1048576 }
-    ensures none { IfNone result (AllTold owners.now events.now lists.now) }
+    ensures none { IfNone result (AllReceived owners.now events.now lists.now) }
     ensures some { IfSome result (LeastTorn owners.now events.now lists.now) }
 {
     for actor in 0..lists.len() {
-        if !is_told(actor as u32, owners, events, lists[actor].as_slice()) {
+        if !are_receipts_of(actor as u32, owners, events, lists[actor].as_slice()) {
             return Some(actor as u32);
         }
     }
@@ -127,15 +128,15 @@ fn first_torn(owners: &[u32], events: &[Event], lists: &[Items<Receipt>]) -> Opt
 }
 
 // Returns whether the receipts are exactly an actor's events with their moments, in order.
-fn is_told(actor: u32, owners: &[u32], events: &[Event], receipts: &[Receipt]) -> bool
+fn are_receipts_of(actor: u32, owners: &[u32], events: &[Event], receipts: &[Receipt]) -> bool
     requires pairs { length owners.now ≡ length events.now }
     requires most { length events.now ≤ 1048576 }
-    ensures { (result ≡ true) ↔ (receipts.now ≡ told actor owners.now events.now) }
+    ensures { (result ≡ true) ↔ (receipts.now ≡ receipts_of actor owners.now events.now) }
 {
     let mut next = 0;
     for moment in 0..events.len() {
         if owners[moment] == actor {
-            if !is_told_at(receipts, next, actor, events, moment) {
+            if !is_receipt_at(receipts, next, actor, events, moment) {
                 return false;
             }
             next += 1;
@@ -145,7 +146,7 @@ fn is_told(actor: u32, owners: &[u32], events: &[Event], receipts: &[Receipt]) -
 }
 
 // Returns whether the receipt at an index is that of the event at a moment.
-fn is_told_at(
+fn is_receipt_at(
     receipts: &[Receipt],
     place: usize,
     actor: u32,
@@ -158,20 +159,20 @@ fn is_told_at(
         ↔ (slice_get receipts.now place
         ≡ option_map (receipt actor moment) (slice_get events.now moment)) }
 {
-    let wanted = Receipt {
+    let expected = Receipt {
         actor,
         moment: moment as u32,
         event: events[moment],
     };
-    is_at(receipts, place, wanted)
+    is_at(receipts, place, expected)
 }
 
 // Returns whether a receipt is at an index.
-fn is_at(receipts: &[Receipt], place: usize, wanted: Receipt) -> bool
-    ensures { (result ≡ true) ↔ (slice_get receipts.now place ≡ Some wanted) }
+fn is_at(receipts: &[Receipt], place: usize, expected: Receipt) -> bool
+    ensures { (result ≡ true) ↔ (slice_get receipts.now place ≡ Some expected) }
 {
     match receipts.get(place) {
-        Some(receipt) => *receipt == wanted,
+        Some(receipt) => *receipt == expected,
         None => false,
     }
 }

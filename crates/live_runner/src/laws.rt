@@ -16,10 +16,10 @@ ghost use Rattle.live_runner.specs.Actors.{is_own};
 ghost use Rattle.live_runner.specs.History.{Past, Whole};
 ghost use Rattle.live_runner.specs.Offers.{least_row, least_deadline, may_do, offer, is_of_worker};
 ghost use Rattle.live_runner.specs.Passing.{IsLeastDeadline};
-ghost use Rattle.live_runner.specs.Told.{IsOf};
+ghost use Rattle.live_runner.specs.Received.{IsOf};
 ghost use Rattle.live_runner.specs.Receipts.{IsReceiptOf};
-ghost use Rattle.live_runner.specs.declared.offering.Deed.{Deed};
-ghost use Rattle.live_runner.specs.declared.offering.Deed.TheVariants.{Issuing, Finishing, Expiring};
+ghost use Rattle.live_runner.specs.declared.offering.Action.{Action};
+ghost use Rattle.live_runner.specs.declared.offering.Action.TheVariants.{Issuing, Finishing, Expiring};
 ghost use Rattle.live_runner.specs.declared.receipt.Receipt.{Receipt};
 
 /// In a closed run, the moments of an actor's receipts increase strictly.
@@ -43,8 +43,8 @@ pub fn receipts_redeem()
 
 /// The offered request is the first to which the action may be applied.
 pub fn least_rows_offered()
-    ensures { (m : Machine) (deed : Deed) (r : ℕ) → least_row m deed ≡ Some r
-        → (may_do m deed r ≡ true) × ((k : ℕ) → k < r → may_do m deed k ≡ false) }
+    ensures { (m : Machine) (action : Action) (r : ℕ) → least_row m action ≡ Some r
+        → (may_do m action r ≡ true) × ((k : ℕ) → k < r → may_do m action k ≡ false) }
 {}
 
 /// The requests that may be issued are the eligible ones.
@@ -69,7 +69,7 @@ pub fn due_rows_expired()
 {}
 
 /// The least deadline is that of a request, and no request has an earlier one.
-pub fn least_deadline_told()
+pub fn least_deadline_offered()
     ensures { (m : Machine) (d : ℕ) → least_deadline m ≡ Some d → IsLeastDeadline m.table d }
 {}
 

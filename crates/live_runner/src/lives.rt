@@ -8,9 +8,9 @@ ghost use Rattle.machine.specs.Runs.{start, Accepts};
 ghost use Rattle.machine.specs.Steps.{refusal};
 ghost use Rattle.live_runner.specs.Actors.{actors, is_own};
 ghost use Rattle.live_runner.specs.Attempts.{Attempted};
-ghost use Rattle.live_runner.specs.History.{InOrder, opened, gone_on, seat_with};
+ghost use Rattle.live_runner.specs.History.{InOrder, opened, with_event, seat_with};
 ghost use Rattle.live_runner.specs.Offers.{offer};
-ghost use Rattle.live_runner.specs.Told.{receipt};
+ghost use Rattle.live_runner.specs.Received.{receipt};
 
 use crate::kinds::{actors, is_own};
 use crate::offering::{first_open, offer};
@@ -119,7 +119,7 @@ impl<L: Ledger> Live<L> {
         ensures live { IfOk result (λ r. r.0 ≡ opened setup.now (actors setup.now kernel)) }
         ensures count { IfOk result (λ r. vec_len r.1 ≡ actors setup.now kernel) }
         ensures order { IfOk result (λ r. InOrder r.1.items) }
-        ensures untold { IfOk result (λ r. All (λ s. s.receipts ≡ []) r.1.items) }
+        ensures no_receipts { IfOk result (λ r. All (λ s. s.receipts ≡ []) r.1.items) }
         ensures refused { (r : SetupRefusal) → setup_refusal setup.now ≡ Some r → result ≡ Err r }
         ensures only_memory { IfErr result (λ r. setup_refusal setup.now ≡ None
             → r ≡ SetupRefusal.Memory) }
@@ -200,19 +200,24 @@ impl<L: Ledger> Live<L> {
         if moment >= TRACE_LIMIT {
             return Err(LiveRefusal::TraceFull);
         }
-        match self.go_on(seat, event, moment as u32) {
+        match self.append_event(seat, event, moment as u32) {
             Ok(receipt) => Ok(receipt),
             Err(refusal) => Err(LiveRefusal::Step(refusal)),
         }
     }
 
     // Makes an event that the seat's actor may make, once the trace is known to have room.
-    fn go_on(&mut self, seat: &mut Seat<L>, event: Event, moment: u32) -> Result<Receipt, Refusal>
+    fn append_event(
+        &mut self,
+        seat: &mut Seat<L>,
+        event: Event,
+        moment: u32,
+    ) -> Result<Receipt, Refusal>
         requires own { is_own self.old.setup self.old.actors seat.old.actor event ≡ true }
         requires moment { moment ≡ length self.old.events }
         requires room { length self.old.events < 1048576 }
         ensures accepted { OnOk result (refusal self.old.state event ≡ None) }
-        ensures run { OnOk result (self.new ≡ gone_on self.old seat.old.actor event) }
+        ensures run { OnOk result (self.new ≡ with_event self.old seat.old.actor event) }
         ensures receipt { IfOk result (λ r. r ≡ receipt seat.old.actor moment event) }
         ensures seat { IfOk result (λ r. seat.new ≡ seat_with seat.old r) }
         ensures refused { (n : Refusal) → refusal self.old.state event ≡ Some n → result ≡ Err n }
@@ -262,7 +267,7 @@ impl<L: Ledger> Live<L> {
         ensures idle { result ≡ None → (self.new ≡ self.old) × (seat.new ≡ seat.old) }
         ensures kept { (self.new.setup ≡ self.old.setup) × (self.new.actors ≡ self.old.actors)
             × (seat.new.actor ≡ seat.old.actor) }
-        ensures told { (r : _) → result ≡ Some (Ok r) → seat.new ≡ seat_with seat.old r }
+        ensures receipt_added { (r : _) → result ≡ Some (Ok r) → seat.new ≡ seat_with seat.old r }
         ensures attempted { (e : Event) (x : _)
             → offer self.old.setup self.old.actors self.old.state seat.old.actor ≡ Some e
             → result ≡ Some x
@@ -311,7 +316,7 @@ fn open_for<L: Ledger>(
     ensures live { IfOk result (λ r. r.0 ≡ opened setup.now count) }
     ensures count { IfOk result (λ r. vec_len r.1 ≡ count) }
     ensures order { IfOk result (λ r. InOrder r.1.items) }
-    ensures untold { IfOk result (λ r. All (λ s. s.receipts ≡ []) r.1.items) }
+    ensures no_receipts { IfOk result (λ r. All (λ s. s.receipts ≡ []) r.1.items) }
 {
     let room = Vec::with_capacity(alloc, count as usize)?;
     let (book, mut rest) = blank.open::<L>();
@@ -347,7 +352,7 @@ fn seats_of<L: Ledger>(
     ensures parts { OnOk result ((rest.new.parts ≡ 0) × (rest.new.amount ≡ 0)) }
     ensures count { IfOk result (λ seats. vec_len seats ≡ count) }
     ensures order { IfOk result (λ seats. InOrder seats.items) }
-    ensures untold { IfOk result (λ seats. All (λ s. s.receipts ≡ []) seats.items) }
+    ensures no_receipts { IfOk result (λ seats. All (λ s. s.receipts ≡ []) seats.items) }
 {
     let mut seats = Vec::new(alloc);
     for actor in 0..count {

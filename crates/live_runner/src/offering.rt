@@ -2,10 +2,10 @@
 ghost use Rattle.std.specs.Prelude.{◌≡◌, Some, None, if◌then◌else◌};
 ghost use Rattle.machine.specs.Deadlines.{deadline_at};
 ghost use Rattle.machine.specs.Whole.{WellFormed};
-ghost use Rattle.live_runner.specs.Least.{or_else, lesser};
+ghost use Rattle.live_runner.specs.Least.{or_else, smaller_of};
 ghost use Rattle.live_runner.specs.Offers.{submits, polls, works, ends, on_row, least_row, may_do, event_on, ticks_to, offer};
-ghost use Rattle.live_runner.specs.Passing.{EndedBelow, has_come};
-ghost use Rattle.live_runner.specs.declared.offering.Deed.TheVariants.{Issuing, Finishing, Expiring};
+ghost use Rattle.live_runner.specs.Passing.{EndedBelow, is_reached};
+ghost use Rattle.live_runner.specs.declared.offering.Action.TheVariants.{Issuing, Finishing, Expiring};
 
 use crate::kinds::{is_poller, is_submitter};
 use machine::State;
@@ -14,7 +14,7 @@ use scenario::{Event, Refusal, Setup};
 
 /// What a kernel worker does to a request.
 #[derive(Clone, Copy)]
-pub enum Deed {
+pub enum Action {
     Issuing,
     Finishing,
     Expiring,
@@ -81,18 +81,18 @@ fn works(state: &State, first: u32) -> Option<Event>
     ensures { result ≡ works state.now }
 {
     match least_to_issue(state, first) {
-        Some(r) => Some(event_on(Deed::Issuing, r)),
+        Some(r) => Some(event_on(Action::Issuing, r)),
         None => ends(state, first),
     }
 }
 
-fn event_on(deed: Deed, r: u32) -> Event
-    ensures { result ≡ event_on deed r }
+fn event_on(action: Action, r: u32) -> Event
+    ensures { result ≡ event_on action r }
 {
-    match deed {
-        Deed::Issuing => Event::Issue(r),
-        Deed::Finishing => Event::Finish(r, Choice::Full),
-        Deed::Expiring => Event::Expire(r),
+    match action {
+        Action::Issuing => Event::Issue(r),
+        Action::Finishing => Event::Finish(r, Choice::Full),
+        Action::Expiring => Event::Expire(r),
     }
 }
 
@@ -103,7 +103,7 @@ fn least_to_issue(state: &State, first: u32) -> Option<u32>
 {
     let mut from = first;
     'rows: while let Some(r) = state.next_queued(from) {
-        if may_do(state, Deed::Issuing, r) {
+        if may_do(state, Action::Issuing, r) {
             return Some(r);
         }
         from = r + 1;
@@ -111,10 +111,10 @@ fn least_to_issue(state: &State, first: u32) -> Option<u32>
     None
 }
 
-fn may_do(state: &State, deed: Deed, r: u32) -> bool
-    ensures { result ≡ may_do state.now deed r }
+fn may_do(state: &State, action: Action, r: u32) -> bool
+    ensures { result ≡ may_do state.now action r }
 {
-    state.refuses(event_on(deed, r)).is_none()
+    state.refuses(event_on(action, r)).is_none()
 }
 
 // Returns the event to make when no request may be issued. Examines each issued request once.
@@ -129,10 +129,10 @@ fn ends(state: &State, first: u32) -> Option<Event>
     'rows: while let Some(r) = state.next_issued(from) {
         let deadline = state.deadline(r);
         if may_finish(state, r, deadline) {
-            return Some(event_on(Deed::Finishing, r));
+            return Some(event_on(Action::Finishing, r));
         }
         due = first_due(clock, due, r, deadline);
-        least = lesser(least, deadline);
+        least = smaller_of(least, deadline);
         from = r + 1;
     }
     expires_or_ticks(clock, due, least)
@@ -147,22 +147,22 @@ fn may_finish(state: &State, r: u32, deadline: Option<u128>) -> bool
 {
     match deadline {
         Some(_) => false,
-        None => may_do(state, Deed::Finishing, r),
+        None => may_do(state, Action::Finishing, r),
     }
 }
 
 // Returns the due request found so far, or else `r` if its deadline has passed.
 fn first_due(clock: u64, due: Option<u32>, r: u32, deadline: Option<u128>) -> Option<u32>
-    ensures { result ≡ or_else due (if has_come clock deadline then Some r else None) }
+    ensures { result ≡ or_else due (if is_reached clock deadline then Some r else None) }
 {
     match due {
         Some(first) => Some(first),
-        None => has_come(clock, deadline).then_some(r),
+        None => is_reached(clock, deadline).then_some(r),
     }
 }
 
-fn has_come(clock: u64, deadline: Option<u128>) -> bool
-    ensures { result ≡ has_come clock deadline }
+fn is_reached(clock: u64, deadline: Option<u128>) -> bool
+    ensures { result ≡ is_reached clock deadline }
 {
     match deadline {
         Some(deadline) => deadline <= clock as u128,
@@ -174,7 +174,7 @@ fn expires_or_ticks(clock: u64, due: Option<u32>, least: Option<u128>) -> Option
     ensures { result ≡ or_else (on_row Expiring due) (ticks_to clock least) }
 {
     match due {
-        Some(r) => Some(event_on(Deed::Expiring, r)),
+        Some(r) => Some(event_on(Action::Expiring, r)),
         None => ticks_to(clock, least),
     }
 }
@@ -190,8 +190,8 @@ fn ticks_to(clock: u64, least: Option<u128>) -> Option<Event>
     Some(Event::Tick((deadline as u64).saturating_sub(clock)))
 }
 
-fn lesser(a: Option<u128>, b: Option<u128>) -> Option<u128>
-    ensures { result ≡ lesser a b }
+fn smaller_of(a: Option<u128>, b: Option<u128>) -> Option<u128>
+    ensures { result ≡ smaller_of a b }
 {
     match (a, b) {
         (Some(a), Some(b)) => Some(a.min(b)),

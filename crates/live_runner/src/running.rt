@@ -4,8 +4,8 @@ ghost use Rattle.scenario.specs.Setups.{setup_refusal};
 ghost use Rattle.scenario.specs.declared.setup.Setup.{Setup};
 ghost use Rattle.scenario.specs.declared.setup.SetupRefusal.{SetupRefusal};
 ghost use Rattle.live_runner.specs.Actors.{actors};
-ghost use Rattle.live_runner.specs.History.{InOrder, WorkInOrder, Whole, closed_of, told_to};
-ghost use Rattle.live_runner.specs.Told.{LeastTorn};
+ghost use Rattle.live_runner.specs.History.{InOrder, WorkInOrder, Whole, closed_of, all_receipts};
+ghost use Rattle.live_runner.specs.Received.{LeastTorn};
 ghost use Rattle.live_runner.specs.Turns.{HasWorked};
 ghost use Rattle.live_runner.specs.Running.{HandlesInOrder, AllOfTurns};
 
@@ -118,17 +118,17 @@ pub fn close<'g, L: Ledger, G: Gate>(
 ) -> Result<Closed, LiveFault>
     requires actors { length workers.items ≡ count }
     requires order { WorkInOrder workers.items }
-    ensures closed { IfOk result (λ c. c ≡ closed_of live (told_to workers.entry.items)) }
+    ensures closed { IfOk result (λ c. c ≡ closed_of live (all_receipts workers.entry.items)) }
     ensures whole { IfOk result Whole }
     ensures same { IfOk result (λ c. (c.setup ≡ setup.now) × (c.actors ≡ count)) }
     ensures started { (n : SetupRefusal) → result ≢ Err (LiveFault.Setup n) }
     ensures torn { (a : ℕ) → result ≡ Err (LiveFault.Torn a)
         → (live.setup ≡ setup.now) × (live.actors ≡ count)
-        × LeastTorn live.owners live.events (told_to workers.entry.items) a }
+        × LeastTorn live.owners live.events (all_receipts workers.entry.items) a }
     ensures strange { (s : Setup) (k : ℕ) → result ≡ Err (LiveFault.Strange s k)
         → (s ≡ live.setup) × (k ≡ live.actors) × (s ≡ setup.now → k ≢ count) }
 {
-    if !live.setup().is(setup) || live.actors() != count {
+    if !live.setup().equals(setup) || live.actors() != count {
         let (setup, count) = live.into_setup();
         return Err(LiveFault::Strange(setup, count));
     }

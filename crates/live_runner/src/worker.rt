@@ -62,9 +62,9 @@ pub struct Worker<'g, L: Ledger, G: Gate> {
 }
 
 impl<'g, L: Ledger, G: Gate> Model for Worker<'g, L, G> {
-    ghost use Rattle.live_runner.specs.History.{Labour};
+    ghost use Rattle.live_runner.specs.History.{WorkerState};
 
-    ghost Value = { Labour G };
+    ghost Value = { WorkerState G };
 
     ghost view = { λ w. record {
       seat = w.seat;

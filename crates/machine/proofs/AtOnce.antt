@@ -16,7 +16,7 @@ use Rattle.links_drains.specs.Numbered.{map_numbered}
 use Rattle.links_drains.specs.Endings.{Ending, result_in}
 use Rattle.links_drains.specs.Phases.{counts, is_ended}
 use Rattle.links_drains.proofs.RowsKept.{get-updated}
-use Rattle.timeouts_cancel.specs.Falls.{counted_in}
+use Rattle.timeouts_cancel.specs.Cascades.{counted_in}
 use Rattle.machine.specs.InTurn.{completion_at, count_of, ended, ended_in_turn}
 use Rattle.machine.specs.Steps.{all_ended, completion_of, completions_of, delivery, ended_by, taken, with_delivery}
 use Rattle.machine.specs.Whole.{Mostly, WellFormed, flag_word, is_asleep}
@@ -46,8 +46,8 @@ ended_posts m r res h = record {
   delivery = posted_formed (delivery m) (completion_at (slice_get m.table r) res) h.delivery;
   flags =
       let keeps : Bool = not (is_clear (ended m r res).backlog) in
-      let told : with_flag m.submissions.flags CqOverflow keeps ≡ flag_word (is_asleep m.poller) keeps = ap (λ n. with_flag n CqOverflow keeps) h.flags ∙ overflow_flag (is_asleep m.poller) (not (is_clear m.backlog)) keeps in
-      told;
+      let flags_are : with_flag m.submissions.flags CqOverflow keeps ≡ flag_word (is_asleep m.poller) keeps = ap (λ n. with_flag n CqOverflow keeps) h.flags ∙ overflow_flag (is_asleep m.poller) (not (is_clear m.backlog)) keeps in
+      flags_are;
 }
 
 -- ---- One request completes

@@ -83,12 +83,12 @@ rises_before rows me from (r ∷ rs) h l =
     by true k kept skipped = let m = less_of r me k in (h.0, h.1, h.2, h.3, kept (omega (arith, m)))
     by false k kept skipped = skipped
 
-rises_behind : (rows : List Row) (me start from : ℕ) (rs : List ℕ) → Others rows from rs → start ≤ length rows → ((r : ℕ) → from ≤ r → me < r → start ≤ r) → Rises rows start (length rows) (canceled (λ r. nat_lt me r) rs)
-rises_behind rows me start from [] h l high = l
-rises_behind rows me start from (r ∷ rs) h l high =
+rises_after : (rows : List Row) (me start from : ℕ) (rs : List ℕ) → Others rows from rs → start ≤ length rows → ((r : ℕ) → from ≤ r → me < r → start ≤ r) → Rises rows start (length rows) (canceled (λ r. nat_lt me r) rs)
+rises_after rows me start from [] h l high = l
+rises_after rows me start from (r ∷ rs) h l high =
     let n = h.3 in
-    by (nat_lt me r) refl (rises_behind rows me (r + 1) (r + 1) rs h.4 (let a = slice_get_within rows r h.0 h.1 in omega (arith, a)) (λ q a b. a))
-    (rises_behind rows me start (r + 1) rs h.4 l (λ q a b. high q (omega (arith, a, n)) b))
+    by (nat_lt me r) refl (rises_after rows me (r + 1) (r + 1) rs h.4 (let a = slice_get_within rows r h.0 h.1 in omega (arith, a)) (λ q a b. a))
+    (rises_after rows me start (r + 1) rs h.4 l (λ q a b. high q (omega (arith, a, n)) b))
   where
     by : (b : Bool) → nat_lt me r ≡ b → Rises rows (r + 1) (length rows) (canceled (λ q. nat_lt me q) rs) → Rises rows start (length rows) (canceled (λ q. nat_lt me q) rs)
         → Rises rows start (length rows) (map (λ (q : ℕ). (q, ecanceled)) (cond b (r ∷ filter (λ q. nat_lt me q) rs) (filter (λ q. nat_lt me q) rs)))
@@ -100,7 +100,7 @@ direct_around rows me x v e u o =
     let within = slice_get_within rows me x e in
     rises_direct rows 0 (length rows) (ending_with me v)
     (rises_join rows 0 me (length rows) (canceled (λ r. nat_lt r me) v.1) ((me, v.0) ∷ canceled (λ r. nat_lt me r) v.1) (rises_before rows me 0 v.1 o (omega arith))
-    (x, e, ap not u, le_refl me, rises_behind rows me (me + 1) 0 v.1 o (omega (arith, within)) (λ r a b. omega (arith, b))))
+    (x, e, ap not u, le_refl me, rises_after rows me (me + 1) 0 v.1 o (omega (arith, within)) (λ r a b. omega (arith, b))))
 
 -- ---- Requests that match
 
@@ -110,16 +110,16 @@ number p = p.0
 -- The rows that pass a test that only unfinished ones pass.
 others_from : (all : List Row) (test : ℕ × Row → Bool) → ((p : ℕ × Row) → test p ≡ true → is_unfinished p.1.phase ≡ true) → (n : ℕ) (rows : List Row) → ((i : ℕ) (x : Row) → slice_get rows i ≡ Some x → slice_get all (n + i) ≡ Some x)
     → Others all n (map number (filter test (enumerate_from n rows)))
-others_from all test going n [] there = tt
-others_from all test going n (row ∷ rows) there =
-    by (test (n, row)) refl (others_from all test going (n + 1) rows (λ i x e. let k : n + 1 + i ≡ n + suc i = omega arith in ap (slice_get all) k ∙ there (suc i) x e))
+others_from all test onwards n [] there = tt
+others_from all test onwards n (row ∷ rows) there =
+    by (test (n, row)) refl (others_from all test onwards (n + 1) rows (λ i x e. let k : n + 1 + i ≡ n + suc i = omega arith in ap (slice_get all) k ∙ there (suc i) x e))
   where
     here : slice_get all n ≡ Some row
     here = let k : n ≡ n + 0 = omega arith in ap (slice_get all) k ∙ there 0 row refl
 
     by : (b : Bool) → test (n, row) ≡ b → Others all (n + 1) (map number (filter test (enumerate_from (n + 1) rows)))
         → Others all n (map number (cond b ((n, row) ∷ filter test (enumerate_from (n + 1) rows)) (filter test (enumerate_from (n + 1) rows))))
-    by true k rest = (row, here, going (n, row) k, le_refl n, rest)
+    by true k rest = (row, here, onwards (n, row) k, le_refl n, rest)
     by false k rest = others_less all n (n + 1) (map number (filter test (enumerate_from (n + 1) rows))) (omega arith) rest
 
 -- An item that passes a filter's test is in the list.

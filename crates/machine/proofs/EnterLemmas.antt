@@ -16,22 +16,22 @@ use Rattle.links_drains.proofs.Counting.{ended-le-length}
 use Rattle.ring_words.specs.Rings.{sub_list}
 use Rattle.overflow.specs.Backlogs.{is_clear}
 use Rattle.machine.specs.Submission.{einval, ebusy, ebadf}
-use Rattle.machine.specs.Steps.{flushed, gets_events, before_submission, is_unknown, is_busy, submission_refusal, alone_refusal, issue_refusal, issued, held_by, lacks_descriptor, phase_refusal, choice_refusal, finish_refusal, answered, submitted, awaited, submitting, entered, entered_alone, entered_beside, fallen, all_started, base_of, deadline_of, entries_for, expire_refusal, is_guard_of, start_refusal, started}
+use Rattle.machine.specs.Steps.{flushed, gets_events, before_submission, is_unknown, is_busy, submission_refusal, alone_refusal, issue_refusal, issued, held_by, lacks_descriptor, phase_refusal, choice_refusal, finish_refusal, answered, submitted, awaited, submitting, entered, entered_without_poller, entered_with_poller, cascaded, all_started, base_of, deadline_of, entries_for, expire_refusal, is_guard_of, start_refusal, started}
 use Rattle.sqpoll.specs.declared.poller.Poller.{Poller}
 use Rattle.places.specs.Lists.{updated}
 use Rattle.places.proofs.ListLemmas.{updated_set}
 use Rattle.places.specs.declared.value.Stage.TheVariants.{Ready}
 use Rattle.machine.specs.Threads.{ThreadState}
-use Rattle.machine.specs.Whole.{AllGuardsStand, WellFormed}
+use Rattle.machine.specs.Whole.{AllGuardsLinked, WellFormed}
 use Rattle.machine.specs.declared.whole.Machine.{Machine}
 use Rattle.scenario.specs.declared.event.Refusal.TheVariants.{WrongPhase, NotEligible, NotDue}
 use Rattle.machine.proofs.IssuingRows.{started_at_once}
 use Rattle.machine.proofs.TakingWords.{lt-ltb}
 
 -- After a flush, no overflowed completion prevents the submission.
-pub alone_told : (m : Machine) (k flags : ℕ) → is_busy (flushed m) k ≡ false → submission_refusal m k ≡ alone_refusal m k flags
+pub alone_refused : (m : Machine) (k flags : ℕ) → is_busy (flushed m) k ≡ false → submission_refusal m k ≡ alone_refusal m k flags
 unfolding sub_list
-alone_told m k flags h = by (gets_events flags) (nat_lt 0 k) h
+alone_refused m k flags h = by (gets_events flags) (nat_lt 0 k) h
   where
     by : (a b : Bool) → (b && not (is_clear (flushed m).backlog)) ≡ false → submission_refusal m k ≡ cond (b && not (is_clear (cond (a || b) (flushed m) m).backlog)) None (submission_refusal (cond (a || b) (flushed m) m) k)
     by true b e = sym (ap (λ c. cond c None (submission_refusal (flushed m) k)) e)
@@ -51,19 +51,19 @@ busy_refused m k flags h = by (gets_events flags) (nat_lt 0 k) h
 -- ---- Results
 
 -- Unknown flags.
-pub unknown_told : (m : Machine) (t k w flags : ℕ) → 3 < flags → answered m t einval ≡ entered m m.poller t k w flags
-unknown_told m t k w flags h = by m.poller
+pub unknown_answered : (m : Machine) (t k w flags : ℕ) → 3 < flags → answered m t einval ≡ entered m m.poller t k w flags
+unknown_answered m t k w flags h = by m.poller
   where
     unknown : is_unknown flags ≡ true
     unknown = lt-ltb 3 flags h
 
     by : (o : Option Poller) → answered m t einval ≡ entered m o t k w flags
-    by None = sym (ap (λ b. cond b (answered m t einval) (entered_alone m t k w flags)) unknown)
-    by (Some p) = sym (ap (λ b. cond b (answered m t einval) (entered_beside m t k w flags)) unknown)
+    by None = sym (ap (λ b. cond b (answered m t einval) (entered_without_poller m t k w flags)) unknown)
+    by (Some p) = sym (ap (λ b. cond b (answered m t einval) (entered_with_poller m t k w flags)) unknown)
 
 -- Overflowed completions.
-pub busy_told : (m n : Machine) (t k w flags : ℕ) → n ≡ before_submission m k flags → 0 < k → is_clear n.backlog ≡ false → answered n t ebusy ≡ entered_alone m t k w flags
-busy_told m n t k w flags e l h =
+pub busy_answered : (m n : Machine) (t k w flags : ℕ) → n ≡ before_submission m k flags → 0 < k → is_clear n.backlog ≡ false → answered n t ebusy ≡ entered_without_poller m t k w flags
+busy_answered m n t k w flags e l h =
     sym (ap (λ b. cond b (answered n t ebusy) (awaited (submitted n k) t (length (entries_for n k)) k w flags)) busy) ∙ ap (λ (x : Machine). submitting x t k w flags) e
   where
     busy : is_busy n k ≡ true
@@ -71,8 +71,8 @@ busy_told m n t k w flags e l h =
 
 -- The same, for the result of a function.
 pub busy_answer : {T E : Type 0} (r : Result T E) (m n : Machine) (ts : List ThreadState) (t k w flags : ℕ) → n ≡ before_submission m k flags → 0 < k → is_clear n.backlog ≡ false
-    → OnOk r (ts ≡ updated (λ x. record x { counter = x.counter + 1; last = ebusy; stage = Ready }) n.threads t) → OnOk r (record n { threads = ts } ≡ entered_alone m t k w flags)
-busy_answer (Ok x) m n ts t k w flags e l h o = ap (λ us. record n { threads = us }) o ∙ busy_told m n t k w flags e l h
+    → OnOk r (ts ≡ updated (λ x. record x { counter = x.counter + 1; last = ebusy; stage = Ready }) n.threads t) → OnOk r (record n { threads = ts } ≡ entered_without_poller m t k w flags)
+busy_answer (Ok x) m n ts t k w flags e l h o = ap (λ us. record n { threads = us }) o ∙ busy_answered m n t k w flags e l h
 busy_answer (Err x) m n ts t k w flags e l h o = o
 
 -- A request that can finish is present and unfinished.
@@ -142,10 +142,10 @@ updated_alike : {X : Type 0} (f g : X → X) (xs : List X) (i : ℕ) (x : X) →
 updated_alike f g xs i x h e = updated_set f xs i x h ∙ ap (slice_set xs i) e ∙ sym (updated_set g xs i x h)
 
 -- A request that has its descriptor, deadline and count is issued.
-pub started_told : {T E : Type 0} (res : Result T E) (rows news : List Row) (c n r : ℕ) (x : Row) (held due : Option ℕ) (base : ℕ) → slice_get rows r ≡ Some x → held ≡ held_by x → due ≡ deadline_of c x → base ≡ base_of n x
+pub started_ok : {T E : Type 0} (res : Result T E) (rows news : List Row) (c n r : ℕ) (x : Row) (held due : Option ℕ) (base : ℕ) → slice_get rows r ≡ Some x → held ≡ held_by x → due ≡ deadline_of c x → base ≡ base_of n x
     → OnOk res (news ≡ updated (λ row. record row { phase = Issued; held = held; deadline = due; base = base }) rows r) → OnOk res (news ≡ updated (started c n) rows r)
-started_told (Err e) rows news c n r x held due base h k d b o = o
-started_told (Ok y) rows news c n r x held due base h k d b o =
+started_ok (Err e) rows news c n r x held due base h k d b o = o
+started_ok (Ok y) rows news c n r x held due base h k d b o =
     o ∙ updated_alike _ _ rows r x h (ap (λ z. record x { phase = Issued; held = z; deadline = due; base = base }) k ∙ ap (λ z. record x { phase = Issued; held = held_by x; deadline = z; base = base }) d
     ∙ ap (λ z. record x { phase = Issued; held = held_by x; deadline = deadline_of c x; base = z }) b)
 
@@ -155,9 +155,9 @@ started_machine (Err e) m rows news o = o
 started_machine (Ok y) m rows news o = ap (λ rs. record m { table = rs }) o
 
 -- The machine after a request was issued, with or without a linked timeout.
-pub issued_told : (m : Machine) (r : ℕ) (x : Row) (b : Bool) → AllGuardsStand m.table → slice_get m.table r ≡ Some x → lacks_descriptor m.world x ≡ false → option_map_or (is_guard_of r) (slice_get m.table (r + 1)) false ≡ b
+pub issued_with_guard : (m : Machine) (r : ℕ) (x : Row) (b : Bool) → AllGuardsLinked m.table → slice_get m.table r ≡ Some x → lacks_descriptor m.world x ≡ false → option_map_or (is_guard_of r) (slice_get m.table (r + 1)) false ≡ b
     → record m { table = if b then updated (started m.clock m.counted) (updated (started m.clock m.counted) m.table r) (r + 1) else updated (started m.clock m.counted) m.table r } ≡ issued m r (slice_get m.table r)
-issued_told m r x b s h l k =
-    sym (ap (issued m r) h ∙ ap (λ b. cond b (fallen m ((r, ebadf) ∷ [])) (record m { table = all_started m.clock m.counted m.table r })) l
+issued_with_guard m r x b s h l k =
+    sym (ap (issued m r) h ∙ ap (λ b. cond b (cascaded m ((r, ebadf) ∷ [])) (record m { table = all_started m.clock m.counted m.table r })) l
     ∙ ap (λ rows. record m { table = rows }) (started_at_once m.clock m.counted m.table r s)
     ∙ ap (λ (d : Bool). record m { table = if d then updated (started m.clock m.counted) (updated (started m.clock m.counted) m.table r) (r + 1) else updated (started m.clock m.counted) m.table r }) k)

@@ -11,12 +11,12 @@ use Rattle.machine.specs.Steps.{waiting_target, waits_at}
 use Rattle.machine.specs.Submission.{etime}
 use Rattle.machine.specs.Whole.{WellFormed}
 use Rattle.machine.specs.declared.whole.Machine.{Machine}
-use Rattle.machine.proofs.FallenRows.{direct_two}
+use Rattle.machine.proofs.CascadedRows.{direct_two}
 
 -- Only a linked timeout has a target that waits.
-waiting_told : (rows : List Row) (w : WorldState) (x : Row) (o : Option ℕ) (t : ℕ) → waiting_target rows w x o ≡ Some t → (is_guard x ≡ true) × (o ≡ Some t)
-waiting_told rows w x None t h = absurd cc
-waiting_told rows w x (Some n) t h = by (is_guard x) (waits_at rows w n) refl h
+waiting_is_guard : (rows : List Row) (w : WorldState) (x : Row) (o : Option ℕ) (t : ℕ) → waiting_target rows w x o ≡ Some t → (is_guard x ≡ true) × (o ≡ Some t)
+waiting_is_guard rows w x None t h = absurd cc
+waiting_is_guard rows w x (Some n) t h = by (is_guard x) (waits_at rows w n) refl h
   where
     by : (a b : Bool) → is_guard x ≡ a → (if a && b then Some n else None) ≡ Some t → (is_guard x ≡ true) × (Some n ≡ Some t)
     by true true k g = (k, g)
@@ -26,7 +26,7 @@ waiting_told rows w x (Some n) t h = by (is_guard x) (waits_at rows w n) refl h
 -- The target comes before its linked timeout.
 pub direct_pair : (m : Machine) (r t : ℕ) (x : Row) → WellFormed m → slice_get m.table r ≡ Some x → x.phase ≡ Issued → waiting_target m.table m.world x x.target ≡ Some t → Direct m.table ((t, ecanceled) ∷ (r, etime) ∷ [])
 direct_pair m r t x f h q k =
-    let w = waiting_told m.table m.world x x.target t k in
+    let w = waiting_is_guard m.table m.world x x.target t k in
     let s = f.guards r x h w.0 (ap is_unfinished q) in
     let same : s.target ≡ t = let o = sym s.is ∙ w.1 in cc in
-    direct_two m.table t r ecanceled etime s.row x (ap (slice_get m.table) (sym same) ∙ s.there) (ap is_ended (s.alike ∙ q)) h (ap is_ended q) (let b = s.behind in omega (arith, same, b))
+    direct_two m.table t r ecanceled etime s.row x (ap (slice_get m.table) (sym same) ∙ s.there) (ap is_ended (s.alike ∙ q)) h (ap is_ended q) (let b = s.follows in omega (arith, same, b))

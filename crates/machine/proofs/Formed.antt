@@ -33,7 +33,7 @@ use Rattle.links_drains.specs.Batches.{direct_of}
 use Rattle.links_drains.specs.Phases.{is_ended}
 use Rattle.machine.specs.Cancels.{verdict_of, ending_with}
 use Rattle.machine.specs.Submission.{offered, einval, ebusy, ebadf}
-use Rattle.machine.specs.Steps.{refusal, after, resumed, stepped, executed, entered, entered_alone, entered_beside, submitting, before_submission, is_busy, is_unknown, gets_events, wakes, woken, shown, awaited, ready_count, held_back, with_poller, flushed, submission_refusal, alone_refusal, enter_refusal, instruction_refusal, next_refusal, closed, is_open, thread_refusal, take_refusal, phase_refusal, choice_refusal, finish_refusal, taken, submitted, answered, gone_on, cancelled, finished, finished_as, lacks_descriptor, fallen, all_started, entries_for, expired, expiring, waiting_target}
+use Rattle.machine.specs.Steps.{refusal, after, resumed, stepped, executed, entered, entered_without_poller, entered_with_poller, submitting, before_submission, is_busy, is_unknown, gets_events, wakes, woken, shown, awaited, ready_count, held_back, with_poller, flushed, submission_refusal, alone_refusal, enter_refusal, instruction_refusal, next_refusal, closed, is_open, thread_refusal, take_refusal, phase_refusal, choice_refusal, finish_refusal, taken, submitted, answered, advanced, cancelled, finished, finished_as, lacks_descriptor, cascaded, all_started, entries_for, expired, expiring, waiting_target}
 use Rattle.machine.specs.Threads.{ThreadState}
 use Rattle.machine.specs.Whole.{is_asleep, flag_word, WellFormed}
 use Rattle.scenario.specs.declared.setup.Instruction.{Instruction}
@@ -42,19 +42,19 @@ use Rattle.machine.specs.declared.whole.Machine.{Machine}
 use Rattle.scenario.specs.declared.event.Event.{Event}
 use Rattle.scenario.specs.declared.event.Event.TheVariants.{Step, Take, Sleep, Issue, Finish, Expire, Tick}
 use Rattle.scenario.specs.declared.event.Refusal.TheVariants.{SqFull, NothingToReap, WrongPhase, ClockFull, RequestsFull}
-use Rattle.machine.proofs.FormedThreads.{stands_on, stands_held, formed_thread}
+use Rattle.machine.proofs.FormedThreads.{well_formed_on, well_formed_held, formed_thread}
 use Rattle.links_drains.specs.Phases.{ended_of}
-use Rattle.timeouts_cancel.specs.Falls.{fall_of}
+use Rattle.timeouts_cancel.specs.Cascades.{fall_of}
 use Rattle.opcodes.proofs.Counting.{puts_after, puts_more}
 use Rattle.machine.proofs.FormedMachines.{formed_issued, formed_world, mostly, mostly_world, rows_moved, formed_flushed, wakeup_flag, formed_put, formed_push, formed_taken_out}
 use Rattle.machine.proofs.FormedSubmissions.{formed_submitted, length-taken_entries}
-use Rattle.machine.proofs.FallenRows.{falls_some, formed_fallen, formed_fallen_but, threads_fallen}
+use Rattle.machine.proofs.CascadedRows.{cascades_some, formed_cascaded, formed_cascaded_but, threads_cascaded}
 use Rattle.machine.proofs.EnterLemmas.{CanStart, can_start}
 use Rattle.machine.proofs.GuardLemmas.{eligible_no_guard}
 use Rattle.machine.proofs.PipeCounts.{puts_fit}
 
-ltb_tells : (a b : ℕ) → ((ltb a b ≡ true) × (a < b)) ⊎ ((ltb a b ≡ false) × (b ≤ a))
-ltb_tells a b = elim (leb_tells (suc a) b) [ inl k ↦ inl (k.0, k.1) | inr k ↦ inr (k.0, let l = k.1 in omega arith) ]
+ltb_decides : (a b : ℕ) → ((ltb a b ≡ true) × (a < b)) ⊎ ((ltb a b ≡ false) × (b ≤ a))
+ltb_decides a b = elim (leb_tells (suc a) b) [ inl k ↦ inl (k.0, k.1) | inr k ↦ inr (k.0, let l = k.1 in omega arith) ]
 
 -- ---- Each event
 
@@ -65,7 +65,7 @@ formed_tick m d f h = record {
     kept = f.mostly.kept;
     table = f.mostly.table;
     world = f.mostly.world;
-    clock = by (ltb_tells (m.clock + d) (2 ^ 64));
+    clock = by (ltb_decides (m.clock + d) (2 ^ 64));
     threads = f.mostly.threads;
   };
   rows = f.rows;
@@ -84,13 +84,13 @@ formed_issue m r f h = rw c.there (by (lacks_descriptor m.world c.row) refl)
     c : CanStart m r
     c = can_start m r h
 
-    by : (b : Bool) → lacks_descriptor m.world c.row ≡ b → WellFormed (if b then fallen m ((r, ebadf) ∷ []) else record m { table = all_started m.clock m.counted m.table r })
-    by true l = formed_fallen m ((r, ebadf) ∷ []) f
+    by : (b : Bool) → lacks_descriptor m.world c.row ≡ b → WellFormed (if b then cascaded m ((r, ebadf) ∷ []) else record m { table = all_started m.clock m.counted m.table r })
+    by true l = formed_cascaded m ((r, ebadf) ∷ []) f
     by false l = formed_issued m r c.row f c.there c.queued (eligible_no_guard m.table r c.row c.there c.eligible) l
 
 formed_expire : (m : Machine) (r : ℕ) (o : Option Row) → WellFormed m → WellFormed (expired m r o)
 formed_expire m r None f = f
-formed_expire m r (Some x) f = formed_fallen m (expiring r (waiting_target m.table m.world x x.target)) f
+formed_expire m r (Some x) f = formed_cascaded m (expiring r (waiting_target m.table m.world x x.target)) f
 
 formed_finish : (m : Machine) (r : ℕ) (c : Choice) → WellFormed m → refusal m (Finish r c) ≡ None → WellFormed (after m (Finish r c))
 formed_finish m r c f h = by (slice_get m.table r) refl h
@@ -99,8 +99,8 @@ formed_finish m r c f h = by (slice_get m.table r) refl h
     ending x e q (Res res) g =
         let w : WorldState = world_after x res m.world in
         let s = stays_after (is_held_by m.table) m.world x res c f.mostly.world (puts_fit m f) g in
-        let some : 1 ≤ length (fall_of m.table m.counted ((r, res) ∷ [])) = falls_some m.table m.counted r res x e q in
-        formed_fallen_but (record m { world = w }) ((r, res) ∷ []) (mostly_world m w (mostly m f) s.formed)
+        let some : 1 ≤ length (fall_of m.table m.counted ((r, res) ∷ [])) = cascades_some m.table m.counted r res x e q in
+        formed_cascaded_but (record m { world = w }) ((r, res) ∷ []) (mostly_world m w (mostly m f) s.formed)
         (puts_more (65536 * ended_of m.table + 65536) (65536 * (ended_of m.table + length (fall_of m.table m.counted ((r, res) ∷ [])))) w (omega (arith, some)) (puts_after (is_held_by m.table) m.world x res c (65536 * ended_of m.table) g f.puts))
         (λ j y k. inl ((rows_moved m w f s.setup).each j y k))
         (λ j y k g u n. f.guards j y k g u)
@@ -108,7 +108,7 @@ formed_finish m r c f h = by (slice_get m.table r) refl h
     ending x e q BadChoice g = f
 
     choosing : (x : Row) → slice_get m.table r ≡ Some x → is_ended x.phase ≡ false → (b : Bool) → WellFormed (if b then cancelled m r x.entry else finished_as m r x (outcome_of (is_held_by m.table) m.world x c))
-    choosing x e q true = formed_fallen m (ending_with r (verdict_of m.table m.world r x.entry)) f
+    choosing x e q true = formed_cascaded m (ending_with r (verdict_of m.table m.world r x.entry)) f
     choosing x e q false = ending x e q (outcome_of (is_held_by m.table) m.world x c) refl
 
     at : (x : Row) → slice_get m.table r ≡ Some x → (p : Phase) → x.phase ≡ p → phase_refusal p (choice_refusal (is_held_by m.table) m.world x c) ≡ None → WellFormed (finished m r (Some x) c)
@@ -128,7 +128,7 @@ formed_finish m r c f h = by (slice_get m.table r) refl h
 
 -- An accepted submission has room for its requests.
 submission_room : (m : Machine) (k : ℕ) → submission_refusal m k ≡ None → length m.table + length (offered m.submissions k) ≤ 65536
-submission_room m k h = by (ltb_tells 65536 (length m.table + length (offered m.submissions k)))
+submission_room m k h = by (ltb_decides 65536 (length m.table + length (offered m.submissions k)))
   where
     by : ((ltb 65536 (length m.table + length (offered m.submissions k)) ≡ true) × (65536 < length m.table + length (offered m.submissions k))) ⊎ ((ltb 65536 (length m.table + length (offered m.submissions k)) ≡ false) × (length m.table + length (offered m.submissions k) ≤ 65536))
         → length m.table + length (offered m.submissions k) ≤ 65536
@@ -140,7 +140,7 @@ formed_submission m k f h = formed_submitted m k f (submission_room m k h)
 
 -- A submission doesn't change the threads.
 pub submitted_threads : (m : Machine) (k : ℕ) → (submitted m k).threads ≡ m.threads
-submitted_threads m k = threads_fallen (taken m k) (direct_of m.world (length m.table) (entries_for m k))
+submitted_threads m k = threads_cascaded (taken m k) (direct_of m.world (length m.table) (entries_for m k))
 
 fits_einval : FitsSigned w64 einval
 fits_einval = omega arith
@@ -149,20 +149,20 @@ fits_ebadf : FitsSigned w64 ebadf
 fits_ebadf = omega arith
 
 formed_answered : (m : Machine) (t : ℕ) (x : ThreadState) (i : Instruction) (n : ℤ) → WellFormed m → slice_get m.threads t ≡ Some x → slice_get x.program x.counter ≡ Some i → FitsSigned w64 n → WellFormed (answered m t n)
-formed_answered m t x i n f e g l = formed_thread m (λ y. record y { counter = y.counter + 1; last = n; stage = Ready }) t x f e (stands_on (length m.submissions.slots) x i Ready n x.got (f.mostly.threads t x e) g refl l)
+formed_answered m t x i n f e g l = formed_thread m (λ y. record y { counter = y.counter + 1; last = n; stage = Ready }) t x f e (well_formed_on (length m.submissions.slots) x i Ready n x.got (f.mostly.threads t x e) g refl l)
 
-formed_gone_on : (m : Machine) (t : ℕ) (x : ThreadState) (i : Instruction) → WellFormed m → slice_get m.threads t ≡ Some x → slice_get x.program x.counter ≡ Some i → x.stage ≡ Ready → WellFormed (gone_on m t)
-formed_gone_on m t x i f e g r = formed_thread m (λ y. record y { counter = y.counter + 1 }) t x f e (stands_on (length m.submissions.slots) x i x.stage x.last x.got (f.mostly.threads t x e) g r (f.mostly.threads t x e).last)
+formed_advanced : (m : Machine) (t : ℕ) (x : ThreadState) (i : Instruction) → WellFormed m → slice_get m.threads t ≡ Some x → slice_get x.program x.counter ≡ Some i → x.stage ≡ Ready → WellFormed (advanced m t)
+formed_advanced m t x i f e g r = formed_thread m (λ y. record y { counter = y.counter + 1 }) t x f e (well_formed_on (length m.submissions.slots) x i x.stage x.last x.got (f.mostly.threads t x e) g r (f.mostly.threads t x e).last)
 
 -- The machine after a thread's Enter: it waits, or has its result.
 formed_awaited : (m : Machine) (t : ℕ) (x : ThreadState) (n k w flags to_submit min_complete asked : ℕ) → WellFormed m → slice_get m.threads t ≡ Some x → slice_get x.program x.counter ≡ Some (Enter to_submit min_complete asked) → n < 2 ^ 32 → w < 2 ^ 32 → WellFormed (awaited m t n k w flags)
-formed_awaited m t x n k w flags to_submit min_complete asked f e g l l' = by (gets_events flags && ((n == k) && nat_lt (ready_count m) wanted))
+formed_awaited m t x n k w flags to_submit min_complete asked f e g l l' = by (gets_events flags && ((n == k) && nat_lt (ready_count m) needed))
   where
-    wanted : ℕ
-    wanted = min w (length m.completions.slots)
+    needed : ℕ
+    needed = min w (length m.completions.slots)
 
-    by : (b : Bool) → WellFormed (if b then held_back m t n wanted else answered m t (pos n))
-    by true = formed_thread m (λ y. record y { stage = Waiting n wanted }) t x f e (stands_held (length m.submissions.slots) x n wanted to_submit min_complete asked (f.mostly.threads t x e) g l (omega (arith, l')))
+    by : (b : Bool) → WellFormed (if b then held_back m t n needed else answered m t (pos n))
+    by true = formed_thread m (λ y. record y { stage = Waiting n needed }) t x f e (well_formed_held (length m.submissions.slots) x n needed to_submit min_complete asked (f.mostly.threads t x e) g l (omega (arith, l')))
     by false = formed_answered m t x (Enter to_submit min_complete asked) (pos n) f e g (omega (arith, l))
 
 pub formed_before : (m : Machine) (k flags : ℕ) → WellFormed m → WellFormed (before_submission m k flags)
@@ -247,8 +247,8 @@ formed_submitting m t x k w flags f e g l h = by (is_busy m k) h
     by true o = formed_answered m t x (Enter k w flags) ebusy f e g fits_ebusy
     by false o = formed_awaited (submitted m k) t x n k w flags k w flags (formed_submission m k f o) (ap (λ ts. slice_get ts t) (submitted_threads m k) ∙ e) g (few (submission_room m k o)) l
 
-formed_beside : (m : Machine) (t : ℕ) (x : ThreadState) (k w flags : ℕ) → WellFormed m → slice_get m.threads t ≡ Some x → slice_get x.program x.counter ≡ Some (Enter k w flags) → k < 2 ^ 32 → w < 2 ^ 32 → WellFormed (entered_beside m t k w flags)
-formed_beside m t x k w flags f e g l l' =
+formed_with_poller : (m : Machine) (t : ℕ) (x : ThreadState) (k w flags : ℕ) → WellFormed m → slice_get m.threads t ≡ Some x → slice_get x.program x.counter ≡ Some (Enter k w flags) → k < 2 ^ 32 → w < 2 ^ 32 → WellFormed (entered_with_poller m t k w flags)
+formed_with_poller m t x k w flags f e g l l' =
     formed_awaited (shown (woken m flags) flags) t x k k w flags k w flags (formed_shown (woken m flags) flags (formed_woken m flags f)) (ap (λ ts. slice_get ts t) (shown_threads (woken m flags) flags ∙ woken_threads m flags) ∙ e) g l l'
 
 formed_enter : (m : Machine) (t : ℕ) (x : ThreadState) (k w flags : ℕ) → WellFormed m → slice_get m.threads t ≡ Some x → slice_get x.program x.counter ≡ Some (Enter k w flags)
@@ -261,14 +261,14 @@ formed_enter m t x k w flags f e g h = by m.poller h
     by : (o : Option Poller) → enter_refusal m o k flags ≡ None → WellFormed (entered m o t k w flags)
     by None o = alone (is_unknown flags) o
       where
-        alone : (b : Bool) → (if b then None else alone_refusal m k flags) ≡ None → WellFormed (if b then answered m t einval else entered_alone m t k w flags)
+        alone : (b : Bool) → (if b then None else alone_refusal m k flags) ≡ None → WellFormed (if b then answered m t einval else entered_without_poller m t k w flags)
         alone true o' = formed_answered m t x (Enter k w flags) einval f e g fits_einval
         alone false o' = formed_submitting (before_submission m k flags) t x k w flags (formed_before m k flags f) (ap (λ ts. slice_get ts t) (before_threads m k flags) ∙ e) g widths.1 o'
-    by (Some p) o = beside (is_unknown flags)
+    by (Some p) o = by_flags (is_unknown flags)
       where
-        beside : (b : Bool) → WellFormed (if b then answered m t einval else entered_beside m t k w flags)
-        beside true = formed_answered m t x (Enter k w flags) einval f e g fits_einval
-        beside false = formed_beside m t x k w flags f e g widths.0 widths.1
+        by_flags : (b : Bool) → WellFormed (if b then answered m t einval else entered_with_poller m t k w flags)
+        by_flags true = formed_answered m t x (Enter k w flags) einval f e g fits_einval
+        by_flags false = formed_with_poller m t x k w flags f e g widths.0 widths.1
 
 formed_pushing : (m : Machine) (t : ℕ) (x : ThreadState) (index : ℕ) → WellFormed m → slice_get m.threads t ≡ Some x → slice_get x.program x.counter ≡ Some (Push index) → x.stage ≡ Ready → instruction_refusal m (Push index) ≡ None → WellFormed (executed m t (Some (Push index)))
 formed_pushing m t x index f e g r h = by _ refl h
@@ -277,7 +277,7 @@ formed_pushing m t x index f e g r h = by _ refl h
     w = waiting m.submissions.head m.submissions.tail
 
     less : (w == length m.submissions.array) ≡ false → w < length m.submissions.array
-    less o = by_order (ltb_tells w (length m.submissions.array))
+    less o = by_order (ltb_decides w (length m.submissions.array))
       where
         by_order : ((ltb w (length m.submissions.array) ≡ true) × (w < length m.submissions.array)) ⊎ ((ltb w (length m.submissions.array) ≡ false) × (length m.submissions.array ≤ w)) → w < length m.submissions.array
         by_order (inl a) = a.1
@@ -290,7 +290,7 @@ formed_pushing m t x index f e g r h = by _ refl h
     by : (b : Bool) → (w == length m.submissions.array) ≡ b → (if b then Some SqFull else None) ≡ None → WellFormed (executed m t (Some (Push index)))
     by true o k = absurd cc
     by false o k =
-        formed_gone_on (record m { submissions = record m.submissions { tail = (m.submissions.tail + 1) % 2 ^ 32; array = slice_set m.submissions.array (m.submissions.tail % length m.submissions.array) index } }) t x (Push index)
+        formed_advanced (record m { submissions = record m.submissions { tail = (m.submissions.tail + 1) % 2 ^ 32; array = slice_set m.submissions.array (m.submissions.tail % length m.submissions.array) index } }) t x (Push index)
         (formed_push m index f ((f.mostly.threads t x e).program.done x.counter (Push index) g) (less o)) e g r
 
 formed_reaping : (m : Machine) (t : ℕ) (x : ThreadState) → WellFormed m → slice_get m.threads t ≡ Some x → slice_get x.program x.counter ≡ Some Reap → x.stage ≡ Ready → instruction_refusal m Reap ≡ None → WellFormed (executed m t (Some Reap))
@@ -310,12 +310,12 @@ formed_reaping m t x f e g r h = by _ refl h
     by true o k = absurd cc
     by false o k =
         formed_thread (record m { completions = record m.completions { head = (m.completions.head + 1) % 2 ^ 32 } }) (λ y. record y { counter = y.counter + 1; got = got }) t x
-        (formed_taken_out m f (some w o)) e (stands_on (length m.submissions.slots) x Reap x.stage x.last got (f.mostly.threads t x e) g r (f.mostly.threads t x e).last)
+        (formed_taken_out m f (some w o)) e (well_formed_on (length m.submissions.slots) x Reap x.stage x.last got (f.mostly.threads t x e) g r (f.mostly.threads t x e).last)
 
 formed_storing : (m : Machine) (t : ℕ) (x : ThreadState) (address : ℕ) (bytes : List ℕ) → WellFormed m → slice_get m.threads t ≡ Some x → slice_get x.program x.counter ≡ Some (Store address bytes) → x.stage ≡ Ready → WellFormed (executed m t (Some (Store address bytes)))
 formed_storing m t x address bytes f e g r =
     let within = (f.mostly.threads t x e).program.done x.counter (Store address bytes) g in
-    formed_gone_on (record m { world = world_stored address bytes m.world }) t x (Store address bytes)
+    formed_advanced (record m { world = world_stored address bytes m.world }) t x (Store address bytes)
     (formed_world m (world_stored address bytes m.world) f (world_stored_formed address bytes m.world f.mostly.world within) f.puts (worlds.setup_stored address bytes m.world f.mostly.world within)) e g r
 
 closed_pipes : (fd : ℕ) (n : ℕ) (w : WorldState) → PutsWithin n w → PutsWithin n (world_closed fd w)
@@ -335,7 +335,7 @@ formed_step : (m : Machine) (t : ℕ) → WellFormed m → refusal m (Step t) �
 formed_step m t f h = by (slice_get m.threads t) refl h
   where
     next : (x : ThreadState) → slice_get m.threads t ≡ Some x → (i : Instruction) → slice_get x.program x.counter ≡ Some i → x.stage ≡ Ready → instruction_refusal m i ≡ None → WellFormed (executed m t (Some i))
-    next x e (Put slot entry) g r k = formed_gone_on (record m { submissions = record m.submissions { slots = slice_set m.submissions.slots slot entry } }) t x (Put slot entry) (formed_put m slot entry f) e g r
+    next x e (Put slot entry) g r k = formed_advanced (record m { submissions = record m.submissions { slots = slice_set m.submissions.slots slot entry } }) t x (Put slot entry) (formed_put m slot entry f) e g r
     next x e (Push index) g r k = formed_pushing m t x index f e g r k
     next x e (Store address bytes) g r k = formed_storing m t x address bytes f e g r
     next x e (Enter to_submit min_complete flags) g r k = formed_enter m t x to_submit min_complete flags f e g k

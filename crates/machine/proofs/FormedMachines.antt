@@ -29,18 +29,18 @@ use Rattle.overflow.specs.Backlogs.{BacklogState, is_clear, fits, Delivery, Deli
 use Rattle.overflow.proofs.KeptInOrder.{posted_formed, flushed_formed}
 use Rattle.machine.specs.InTurn.{ended}
 use Rattle.machine.specs.Steps.{all_started, delivery, flushed, held_by, is_guard_of, is_usable, lacks_descriptor, number_in, started, started_with}
-use Rattle.machine.specs.Whole.{AllGuardsStand, Mostly, NoneMet, is_asleep, flag_word, HoldsDescriptor, RowFormed, WellFormed, Stands}
+use Rattle.machine.specs.Whole.{AllGuardsLinked, Mostly, NoneMet, is_asleep, flag_word, HoldsDescriptor, RowFormed, WellFormed, ThreadWellFormed}
 use Rattle.machine.specs.declared.whole.Machine.{Machine}
 use Rattle.links_drains.proofs.Chains.{chained-updated}
 use Rattle.machine.proofs.FormedRows.{FormedRows, deadline_timed, formed_rows-updated, formed_rows-moved}
-use Rattle.machine.proofs.GuardLemmas.{apart, guard_told, started_guards, started_in_turn}
+use Rattle.machine.proofs.GuardLemmas.{apart, guard_is_guard_of, started_guards, started_in_turn}
 use Rattle.machine.proofs.IssuingRows.{started_at_once}
 use Rattle.machine.proofs.MappedRows.{mapped_at}
 
 pub mostly : (m : Machine) → WellFormed m → Mostly m
 mostly m h = h.mostly
 
-pub formed_of : (m : Machine) → Mostly m → PutsWithin (65536 * ended_of m.table) m.world → FormedRows m.world m.table → AllGuardsStand m.table → NoneMet m.counted m.table → WellFormed m
+pub formed_of : (m : Machine) → Mostly m → PutsWithin (65536 * ended_of m.table) m.world → FormedRows m.world m.table → AllGuardsLinked m.table → NoneMet m.counted m.table → WellFormed m
 formed_of m h puts k guards unmet = record { mostly = h; rows = k.each; guards = guards; unmet = unmet; puts = puts }
 
 -- ---- Completions
@@ -71,13 +71,13 @@ pub delivers : (m : Machine) → Mostly m → DeliveryFormed (delivery m)
 delivers m h = record { completions = h.rings.completions; waits = h.rings.completions_wait; front = h.kept.front }
 
 -- After completions were posted or flushed, the flags word says whether some overflow.
-pub told_kept : (m : Machine) (b : BacklogState) → Mostly m → with_flag m.submissions.flags CqOverflow (not (is_clear b)) ≡ flag_word (is_asleep m.poller) (not (is_clear b))
-told_kept m b h = ap (λ f. with_flag f CqOverflow (not (is_clear b))) h.rings.flags ∙ overflow_flag (is_asleep m.poller) (not (is_clear m.backlog)) (not (is_clear b))
+pub flags_kept : (m : Machine) (b : BacklogState) → Mostly m → with_flag m.submissions.flags CqOverflow (not (is_clear b)) ≡ flag_word (is_asleep m.poller) (not (is_clear b))
+flags_kept m b h = ap (λ f. with_flag f CqOverflow (not (is_clear b))) h.rings.flags ∙ overflow_flag (is_asleep m.poller) (not (is_clear m.backlog)) (not (is_clear b))
 
 pub mostly_flushed : (m : Machine) → Mostly m → Mostly (flushed m)
 mostly_flushed m h =
     let d : DeliveryFormed (flushed_delivery (delivery m)) = flushed_formed (delivery m) (delivers m h) in
-    let f = told_kept m (flushed m).backlog h in
+    let f = flags_kept m (flushed m).backlog h in
     record {
       rings = record {
         submissions = formed_flag m.submissions CqOverflow _ h.rings.submissions;
@@ -114,7 +114,7 @@ pub mostly_ended : (m : Machine) (r : ℕ) (x : Row) (res : ℤ) → Mostly m �
 mostly_ended m r x res h e u =
     let c : Cqe = record { user_data = x.entry.user_data; res = res; flags = 0 } in
     let d : DeliveryFormed (all_posted (delivery m) (c ∷ [])) = posted_formed (delivery m) (c ∷ []) (delivers m h) in
-    let f = told_kept m (all_posted (delivery m) (c ∷ [])).backlog h in
+    let f = flags_kept m (all_posted (delivery m) (c ∷ [])).backlog h in
     rw e (record {
       rings = record {
         submissions = formed_flag m.submissions CqOverflow _ h.rings.submissions;
@@ -252,21 +252,21 @@ issued_in_turn m r x h e q plain l = by (slice_get m.table (r + 1)) refl
     whole : (rows : List Row) → started_in_turn m.clock m.counted m.table r ≡ rows → Started m rows → WellFormed (record m { table = started_in_turn m.clock m.counted m.table r })
     whole rows k s = subst (λ rs. WellFormed (record m { table = rs })) (sym k)
         (formed_of (record m { table = rows }) s.mostly (subst (λ n. PutsWithin (65536 * n) m.world) (sym s.ended) h.puts) s.formed
-        (subst AllGuardsStand k (started_guards m.clock m.counted m.table r x e q plain h.guards))
+        (subst AllGuardsLinked k (started_guards m.clock m.counted m.table r x e q plain h.guards))
         (subst (NoneMet m.counted) (started_at_once m.clock m.counted m.table r h.guards ∙ k) (started_unmet m.clock m.counted m.table r h.unmet)))
 
-    told : (b : Bool) → option_map_or (is_guard_of r) (slice_get m.table (r + 1)) false ≡ b → started_in_turn m.clock m.counted m.table r ≡ (if b then updated f (updated f m.table r) (r + 1) else updated f m.table r)
-    told b k = ap (λ (d : Bool). if d then updated f (updated f m.table r) (r + 1) else updated f m.table r) k
+    by_guard : (b : Bool) → option_map_or (is_guard_of r) (slice_get m.table (r + 1)) false ≡ b → started_in_turn m.clock m.counted m.table r ≡ (if b then updated f (updated f m.table r) (r + 1) else updated f m.table r)
+    by_guard b k = ap (λ (d : Bool). if d then updated f (updated f m.table r) (r + 1) else updated f m.table r) k
 
     chosen : (y : Row) → slice_get m.table (r + 1) ≡ Some y → (b : Bool) → is_guard_of r y ≡ b → WellFormed (record m { table = started_in_turn m.clock m.counted m.table r })
-    chosen y g false k = whole (updated f m.table r) (told false (ap (λ o. option_map_or (is_guard_of r) o false) g ∙ k)) first
+    chosen y g false k = whole (updated f m.table r) (by_guard false (ap (λ o. option_map_or (is_guard_of r) o false) g ∙ k)) first
     chosen y g true k =
-        let t = guard_told r y k in
-        whole (updated f (updated f m.table r) (r + 1)) (told true (ap (λ o. option_map_or (is_guard_of r) o false) g ∙ k))
+        let t = guard_is_guard_of r y k in
+        whole (updated f (updated f m.table r) (r + 1)) (by_guard true (ap (λ o. option_map_or (is_guard_of r) o false) g ∙ k))
         (started_one m (updated f m.table r) (r + 1) m.clock m.counted y first (apart f m.table r (r + 1) (λ o. absurd (omega (arith, o))) ∙ g) (queued_not_ended y.phase t.queued) (guard_lacks_none m.world y t.guard))
 
     by : (o : Option Row) → slice_get m.table (r + 1) ≡ o → WellFormed (record m { table = started_in_turn m.clock m.counted m.table r })
-    by None g = whole (updated f m.table r) (told false (ap (λ o. option_map_or (is_guard_of r) o false) g)) first
+    by None g = whole (updated f m.table r) (by_guard false (ap (λ o. option_map_or (is_guard_of r) o false) g)) first
     by (Some y) g = chosen y g (is_guard_of r y) refl
 
 pub formed_issued : (m : Machine) (r : ℕ) (x : Row) → WellFormed m → slice_get m.table r ≡ Some x → x.phase ≡ Queued → is_guard x ≡ false → lacks_descriptor m.world x ≡ false → WellFormed (record m { table = all_started m.clock m.counted m.table r })
@@ -299,7 +299,7 @@ formed_put m slot entry h = record {
     table = h.mostly.table;
     world = h.mostly.world;
     clock = h.mostly.clock;
-    threads = λ t x e. subst (λ n. Stands n x) (sym (length-set m.submissions.slots slot entry)) (h.mostly.threads t x e);
+    threads = λ t x e. subst (λ n. ThreadWellFormed n x) (sym (length-set m.submissions.slots slot entry)) (h.mostly.threads t x e);
   };
   rows = h.rows;
   guards = h.guards;

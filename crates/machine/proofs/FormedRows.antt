@@ -19,7 +19,7 @@ use Rattle.opcodes.specs.Opcodes.{fits_end, is_timer}
 use Rattle.places.specs.Lists.{updated}
 use Rattle.links_drains.specs.Links.{has_flag}
 use Rattle.links_drains.specs.Phases.{is_ended, is_issued, is_queued, is_unfinished, counts, counted_of}
-use Rattle.links_drains.specs.Batches.{behind_in, error_at, error_of, rows_of}
+use Rattle.links_drains.specs.Batches.{previous_in, error_at, error_of, rows_of}
 use Rattle.links_drains.proofs.Counting.{matching-more}
 use Rattle.links_drains.proofs.Chains.{became}
 use Rattle.machine.specs.Steps.{deadline_of}
@@ -30,10 +30,10 @@ use Rattle.machine.proofs.ListsChanged.{updated_get}
 -- ---- Valid entries
 
 -- A valid entry has a supported opcode.
-passes_supported : (w : WorldState) (behind : Option ℕ) (e : Sqe) → result_err (check_of w behind e) ≡ None → IsSome (op_of e.opcode)
-passes_supported w behind e h = by (bit_and e.flags refused_flags == 0) (op_of e.opcode) h
+passes_supported : (w : WorldState) (previous : Option ℕ) (e : Sqe) → result_err (check_of w previous e) ≡ None → IsSome (op_of e.opcode)
+passes_supported w previous e h = by (bit_and e.flags refused_flags == 0) (op_of e.opcode) h
   where
-    by : (b : Bool) (o : Option Op) → result_err (if b then row_of w behind e o else invalid) ≡ None → is_some o ≡ true
+    by : (b : Bool) (o : Option Op) → result_err (if b then row_of w previous e o else invalid) ≡ None → is_some o ≡ true
     by true (Some x) k = refl
     by true None k = absurd cc
     by false o k = absurd cc
@@ -118,16 +118,16 @@ time_bound w addr t h = by (nat_lt (number_at w addr) (2 ^ 63)) (nat_lt (number_
 no_time : IsTime None
 no_time t h = absurd cc
 
-time_of_bound : (w : WorldState) (behind : Option ℕ) (e : Sqe) → IsTime (time_of w behind e)
-time_of_bound w behind e = by (is_timer e.opcode && is_ok (check_of w behind e))
+time_of_bound : (w : WorldState) (previous : Option ℕ) (e : Sqe) → IsTime (time_of w previous e)
+time_of_bound w previous e = by (is_timer e.opcode && is_ok (check_of w previous e))
   where
     by : (b : Bool) → IsTime (if b then time_at w e.addr else None)
     by true = time_bound w e.addr
     by false = no_time
 
 -- A valid timer has a timeout.
-passes_timed : (w : WorldState) (behind : Option ℕ) (e : Sqe) → result_err (check_of w behind e) ≡ None → is_timer e.opcode ≡ true → IsSome (time_of w behind e)
-passes_timed w behind e h t = by_timer (check_of w behind e) refl h
+passes_timed : (w : WorldState) (previous : Option ℕ) (e : Sqe) → result_err (check_of w previous e) ≡ None → is_timer e.opcode ≡ true → IsSome (time_of w previous e)
+passes_timed w previous e h t = by_timer (check_of w previous e) refl h
   where
     timed_some : (op : Op) → result_err (timed w e op) ≡ None → is_some (time_at w e.addr) ≡ true
     timed_some op k = one (not (e.len == 1)) (nat_lt 1 e.operation_flags) (nat_lt 65536 (e.addr + 16)) (is_some (time_at w e.addr)) refl k
@@ -139,11 +139,11 @@ passes_timed w behind e h t = by_timer (check_of w behind e) refl h
         one false false false true m k = m
         one false false false false m k = absurd cc
 
-    row_some : (n : ℕ) → n ≡ e.opcode → (n ≡ 11) ⊎ (n ≡ 15) → result_err (row_of w behind e (op_of n)) ≡ None → is_some (time_at w e.addr) ≡ true
-    row_some n m (inl k) g = let o : op_of n ≡ Some Timeout = ap op_of k in timed_some Timeout (sym (ap (λ x. result_err (row_of w behind e x)) o) ∙ g)
+    row_some : (n : ℕ) → n ≡ e.opcode → (n ≡ 11) ⊎ (n ≡ 15) → result_err (row_of w previous e (op_of n)) ≡ None → is_some (time_at w e.addr) ≡ true
+    row_some n m (inl k) g = let o : op_of n ≡ Some Timeout = ap op_of k in timed_some Timeout (sym (ap (λ x. result_err (row_of w previous e x)) o) ∙ g)
     row_some n m (inr k) g =
         let o : op_of n ≡ Some LinkTimeout = ap op_of k in
-        guard (can_guard behind && (e.off == 0)) (sym (ap (λ x. result_err (row_of w behind e x)) o) ∙ g)
+        guard (can_guard previous && (e.off == 0)) (sym (ap (λ x. result_err (row_of w previous e x)) o) ∙ g)
       where
         guard : (b : Bool) → result_err (if b then timed w e LinkTimeout else invalid) ≡ None → is_some (time_at w e.addr) ≡ true
         guard true p = timed_some LinkTimeout p
@@ -160,35 +160,35 @@ passes_timed w behind e h t = by_timer (check_of w behind e) refl h
     there : is_some (time_at w e.addr) ≡ true
     there = flags (bit_and e.flags refused_flags == 0) h
       where
-        flags : (b : Bool) → result_err (if b then row_of w behind e (op_of e.opcode) else invalid) ≡ None → is_some (time_at w e.addr) ≡ true
+        flags : (b : Bool) → result_err (if b then row_of w previous e (op_of e.opcode) else invalid) ≡ None → is_some (time_at w e.addr) ≡ true
         flags true k = row_some e.opcode refl kind k
         flags false k = absurd cc
 
-    by_timer : (r : Result Op ℤ) → check_of w behind e ≡ r → result_err r ≡ None → is_some (time_of w behind e) ≡ true
-    by_timer (Ok op) m k = ap (λ b. is_some (if b && is_ok (check_of w behind e) then time_at w e.addr else None)) t ∙ ap (λ r. is_some (if is_ok r then time_at w e.addr else None)) m ∙ there
+    by_timer : (r : Result Op ℤ) → check_of w previous e ≡ r → result_err r ≡ None → is_some (time_of w previous e) ≡ true
+    by_timer (Ok op) m k = ap (λ b. is_some (if b && is_ok (check_of w previous e) then time_at w e.addr else None)) t ∙ ap (λ r. is_some (if is_ok r then time_at w e.addr else None)) m ∙ there
     by_timer (Err n) m k = absurd cc
 
 -- A valid entry has a timeout exactly if it is a timer.
-passes_time : (w : WorldState) (behind : Option ℕ) (e : Sqe) → result_err (check_of w behind e) ≡ None → is_some (time_of w behind e) ≡ is_timer e.opcode
-passes_time w behind e h = by (is_timer e.opcode) refl
+passes_time : (w : WorldState) (previous : Option ℕ) (e : Sqe) → result_err (check_of w previous e) ≡ None → is_some (time_of w previous e) ≡ is_timer e.opcode
+passes_time w previous e h = by (is_timer e.opcode) refl
   where
-    by : (b : Bool) → is_timer e.opcode ≡ b → is_some (time_of w behind e) ≡ is_timer e.opcode
-    by true t = passes_timed w behind e h t ∙ sym t
-    by false t = ap (λ b. is_some (if b && is_ok (check_of w behind e) then time_at w e.addr else None)) t ∙ sym t
+    by : (b : Bool) → is_timer e.opcode ≡ b → is_some (time_of w previous e) ≡ is_timer e.opcode
+    by true t = passes_timed w previous e h t ∙ sym t
+    by false t = ap (λ b. is_some (if b && is_ok (check_of w previous e) then time_at w e.addr else None)) t ∙ sym t
 
 -- The request of a valid entry is well formed.
 pub batch_row : (w : WorldState) (first : ℕ) (es : List Sqe) (i : ℕ) (x : Row) → slice_get (rows_of w first es) i ≡ Some x → error_at w es i ≡ None → RowFormed w x
 batch_row w first es i x e p =
     let b = became w first es i x e in
-    let passes : result_err (check_of w (behind_in es i) b.entry) ≡ None = sym (ap (option_and_then (error_of w es i)) b.there) ∙ p in
+    let passes : result_err (check_of w (previous_in es i) b.entry) ≡ None = sym (ap (option_and_then (error_of w es i)) b.there) ∙ p in
     subst (RowFormed w) (sym b.is) (record {
-      opcode = λ u. passes_supported w (behind_in es i) b.entry passes;
+      opcode = λ u. passes_supported w (previous_in es i) b.entry passes;
       holds = λ j. absurd cc;
       holds_none = λ j. absurd cc;
       not_yet_held = λ q. refl;
       not_yet_due = λ q. refl;
-      time = λ u. time_of_bound w (behind_in es i) b.entry;
-      timed = λ u. passes_time w (behind_in es i) b.entry passes;
+      time = λ u. time_of_bound w (previous_in es i) b.entry;
+      timed = λ u. passes_time w (previous_in es i) b.entry passes;
       due = λ j. absurd cc;
     })
 

@@ -9,26 +9,26 @@ use Rattle.std.proofs.lemmas.Option.{gets}
 use Rattle.entries.specs.declared.row.Row.{Row}
 use Rattle.ring_words.specs.Rings.{SubWords, SubFormed, waiting, sub_list}
 use Rattle.ring_words.proofs.Laws.{formed_taken, sub_length}
-use Rattle.ring_words.proofs.Order.{waiting_behind}
+use Rattle.ring_words.proofs.Order.{waiting_after}
 use Rattle.links_drains.specs.Batches.{errors_of, halts, rows_of, direct_of, taken_of}
 use Rattle.links_drains.specs.Endings.{result_in, Direct}
 use Rattle.model_files.specs.Worlds.{PutsWithin, WorldState}
 use Rattle.opcodes.proofs.Counting.{puts_more}
-use Rattle.timeouts_cancel.specs.Falls.{fall_of}
+use Rattle.timeouts_cancel.specs.Cascades.{fall_of}
 use Rattle.links_drains.specs.Links.{is_guard}
 use Rattle.links_drains.specs.Phases.{is_unfinished, ended_of}
 use Rattle.links_drains.proofs.Batching.{length-rows_of}
-use Rattle.links_drains.proofs.Chains.{chained-batch, get-behind}
+use Rattle.links_drains.proofs.Chains.{chained-batch, get-appended}
 use Rattle.links_drains.proofs.Counting.{counted-append, ended-append}
 use Rattle.links_drains.proofs.DirectPairs.{direct-batch, unlisted_passes}
-use Rattle.timeouts_cancel.specs.Falls.{GuardsStand}
+use Rattle.timeouts_cancel.specs.Cascades.{GuardsAreLinked}
 use Rattle.machine.specs.Submission.{offered, offered_entries, taken_words, taken_entries, up_to_entry}
 use Rattle.machine.specs.Steps.{entries_for, taken, submitted, words_for}
-use Rattle.machine.specs.Whole.{GuardStands, Mostly, RowFormed, WellFormed}
+use Rattle.machine.specs.Whole.{GuardIsLinked, Mostly, RowFormed, WellFormed}
 use Rattle.machine.specs.declared.whole.Machine.{Machine}
 use Rattle.machine.proofs.FormedMachines.{mostly}
-use Rattle.machine.proofs.FallenRows.{formed_fallen_but}
-use Rattle.machine.proofs.GuardLemmas.{batch_behind, batch_guard, guard_before, stand_behind}
+use Rattle.machine.proofs.CascadedRows.{formed_cascaded_but}
+use Rattle.machine.proofs.GuardLemmas.{batch_target_is, batch_guard, guard_before, guards_linked}
 use Rattle.machine.proofs.TakingWords.{length-up_to_entry}
 use Rattle.machine.proofs.FormedRows.{length-entries_at, counted-rows_of, batch_row}
 
@@ -55,8 +55,8 @@ length-taken_entries b v w k =
     let c = length-entries_at w.slots (offered w k) in
     omega (arith, a, c)
 
-pub waits_behind : (h t k n : ℕ) → h < 2 ^ 32 → t < 2 ^ 32 → k ≤ waiting h t → waiting h t ≤ n → waiting ((h + k) % 2 ^ 32) t ≤ n
-waits_behind h t k n a b c d = let e = waiting_behind h t k a b c in omega (arith, e, d)
+pub waits_after : (h t k n : ℕ) → h < 2 ^ 32 → t < 2 ^ 32 → k ≤ waiting h t → waiting h t ≤ n → waiting ((h + k) % 2 ^ 32) t ≤ n
+waits_after h t k n a b c d = let e = waiting_after h t k a b c in omega (arith, e, d)
 
 pub below_wrap : (n : ℕ) → n % 2 ^ 32 < 2 ^ 32
 below_wrap n = omega arith
@@ -68,7 +68,7 @@ mostly_taken m k h l = record {
   rings = record {
     submissions = formed_taken m.submissions _ _ h.rings.submissions (below_wrap _) (below_wrap _);
     completions = h.rings.completions;
-    entries_wait = waits_behind m.submissions.head m.submissions.tail (length (words_for m k)) (length m.submissions.array) h.rings.submissions.head h.rings.submissions.tail (within (length-taken_words m.submit_all m.world m.submissions k) (length-offered m.submissions k h.rings.submissions)) h.rings.entries_wait;
+    entries_wait = waits_after m.submissions.head m.submissions.tail (length (words_for m k)) (length m.submissions.array) h.rings.submissions.head h.rings.submissions.tail (within (length-taken_words m.submit_all m.world m.submissions k) (length-offered m.submissions k h.rings.submissions)) h.rings.entries_wait;
     completions_wait = h.rings.completions_wait;
     flags = h.rings.flags;
   };
@@ -107,11 +107,11 @@ old_or_new rows more j y h = by (nat_lt j (length rows)) refl
     by false k =
         let l : length rows ≤ j = grind (arith, nat_tests, k) in
         let m : j ≡ length rows + (j - length rows) = omega (arith, l) in
-        inr (j - length rows, m, sym (get-behind rows more (j - length rows)) ∙ ap (slice_get (rows ++ more)) (sym m) ∙ h)
+        inr (j - length rows, m, sym (get-appended rows more (j - length rows)) ∙ ap (slice_get (rows ++ more)) (sym m) ∙ h)
 
 -- The requests of a batch that don't complete at once are well formed.
 pub formed_submitted : (m : Machine) (k : ℕ) → WellFormed m → length m.table + length (offered m.submissions k) ≤ 65536 → WellFormed (submitted m k)
-formed_submitted m k f l = formed_fallen_but (taken m k) direct (mostly_taken m k (mostly m f) l) puts (λ j y e. by j y (old_or_new m.table batch j y e)) (λ r x e g u n. guarded r x g u n (old_or_new m.table batch r x e))
+formed_submitted m k f l = formed_cascaded_but (taken m k) direct (mostly_taken m k (mostly m f) l) puts (λ j y e. by j y (old_or_new m.table batch j y e)) (λ r x e g u n. guarded r x g u n (old_or_new m.table batch r x e))
   where
     batch : List Row
     batch = rows_of m.world (length m.table) (entries_for m k)
@@ -130,21 +130,21 @@ formed_submitted m k f l = formed_fallen_but (taken m k) direct (mostly_taken m 
     by j y (inl e) = inl (f.rows j y e)
     by j y (inr e) = subst (λ n. RowFormed m.world y ⊎ ((res : ℤ) × (result_in direct n ≡ Some res))) (sym e.1) (at e.0 y e.2 (result_in direct (length m.table + e.0)) refl)
 
-    guarded : (r : ℕ) (x : Row) → is_guard x ≡ true → is_unfinished x.phase ≡ true → result_in direct r ≡ None → (slice_get m.table r ≡ Some x) ⊎ ((i : ℕ) × (r ≡ length m.table + i) × (slice_get batch i ≡ Some x)) → GuardStands (m.table ++ batch) r x
+    guarded : (r : ℕ) (x : Row) → is_guard x ≡ true → is_unfinished x.phase ≡ true → result_in direct r ≡ None → (slice_get m.table r ≡ Some x) ⊎ ((i : ℕ) × (r ≡ length m.table + i) × (slice_get batch i ≡ Some x)) → GuardIsLinked (m.table ++ batch) r x
     guarded r x g u n (inl e) = guard_before m.table batch r x (f.guards r x e g u)
     guarded r x g u n (inr e) =
         let none = sym (ap (result_in direct) e.1) ∙ n in
-        subst (λ j. GuardStands (m.table ++ batch) j x) (sym e.1) (batch_guard m.world m.table (entries_for m k) e.0 x e.2 g (unlisted_passes m.world (length m.table) (entries_for m k) e.0 x e.2 none))
+        subst (λ j. GuardIsLinked (m.table ++ batch) j x) (sym e.1) (batch_guard m.world m.table (entries_for m k) e.0 x e.2 g (unlisted_passes m.world (length m.table) (entries_for m k) e.0 x e.2 none))
 
 -- ---- What the cascade requires
 
-pub record FallsIn (n : Machine) (direct : List (ℕ × ℤ)) : Type 0 where
+pub record CascadesIn (n : Machine) (direct : List (ℕ × ℤ)) : Type 0 where
   pub direct_rows : Direct n.table direct
-  pub guards : GuardsStand n.table
+  pub guards : GuardsAreLinked n.table
   pub mostly : Mostly n
 
-pub falls_in : (m n : Machine) (k : ℕ) → WellFormed m → length m.table + length (offered m.submissions k) ≤ 65536 → n ≡ taken m k → FallsIn n (direct_of m.world (length m.table) (entries_for m k))
-falls_in m n k f l e = subst (λ (x : Machine). FallsIn x direct) (sym e) (record {
+pub cascades_in : (m n : Machine) (k : ℕ) → WellFormed m → length m.table + length (offered m.submissions k) ≤ 65536 → n ≡ taken m k → CascadesIn n (direct_of m.world (length m.table) (entries_for m k))
+cascades_in m n k f l e = subst (λ (x : Machine). CascadesIn x direct) (sym e) (record {
   direct_rows = direct-batch m.world m.table (entries_for m k);
   guards = λ r t x h g u w. by r t x g u w (old_or_new m.table batch r x h);
   mostly = mostly_taken m k (mostly m f) l;
@@ -157,5 +157,5 @@ falls_in m n k f l e = subst (λ (x : Machine). FallsIn x direct) (sym e) (recor
     direct = direct_of m.world (length m.table) (entries_for m k)
 
     by : (r t : ℕ) (x : Row) → is_guard x ≡ true → is_unfinished x.phase ≡ true → x.target ≡ Some t → (slice_get m.table r ≡ Some x) ⊎ ((i : ℕ) × (r ≡ length m.table + i) × (slice_get batch i ≡ Some x)) → t + 1 ≡ r
-    by r t x g u w (inl h) = stand_behind m.table f.guards r t x h g u w
-    by r t x g u w (inr h) = batch_behind m.world (length m.table) (entries_for m k) h.0 t x h.2 g w ∙ sym h.1
+    by r t x g u w (inl h) = guards_linked m.table f.guards r t x h g u w
+    by r t x g u w (inr h) = batch_target_is m.world (length m.table) (entries_for m k) h.0 t x h.2 g w ∙ sym h.1

@@ -8,7 +8,7 @@ use Rattle.places.specs.Lists.{updated}
 use Rattle.places.specs.declared.value.Stage.{Stage}
 use Rattle.places.specs.declared.value.Stage.TheVariants.{Ready, Waiting}
 use Rattle.machine.specs.Threads.{ThreadState}
-use Rattle.machine.specs.Whole.{WellFormed, Stands, Waits}
+use Rattle.machine.specs.Whole.{WellFormed, ThreadWellFormed, Waits}
 use Rattle.scenario.specs.declared.setup.Instruction.{Instruction}
 use Rattle.scenario.specs.declared.setup.Instruction.TheVariants.{Enter}
 use Rattle.machine.specs.declared.whole.Machine.{Machine}
@@ -19,8 +19,8 @@ waits_not : (x : ThreadState) → x.stage ≡ Ready → (n w : ℕ) → x.stage 
 waits_not x r n w e = absurd (let k = sym r ∙ e in cc)
 
 -- A thread that has an instruction advances.
-pub stands_on : (size : ℕ) (x : ThreadState) (i : Instruction) (stage : Stage) (n : ℤ) (got : Option Cqe) → Stands size x → slice_get x.program x.counter ≡ Some i → stage ≡ Ready → FitsSigned w64 n → Stands size (record x { counter = x.counter + 1; stage = stage; last = n; got = got })
-stands_on size x i stage n got s h r l = record {
+pub well_formed_on : (size : ℕ) (x : ThreadState) (i : Instruction) (stage : Stage) (n : ℤ) (got : Option Cqe) → ThreadWellFormed size x → slice_get x.program x.counter ≡ Some i → stage ≡ Ready → FitsSigned w64 n → ThreadWellFormed size (record x { counter = x.counter + 1; stage = stage; last = n; got = got })
+well_formed_on size x i stage n got s h r l = record {
   within = let k = slice_get_within x.program x.counter i h in omega (arith, k);
   program = s.program;
   last = l;
@@ -28,13 +28,13 @@ stands_on size x i stage n got s h r l = record {
 }
 
 -- A thread that is at an Enter waits there.
-pub stands_held : (size : ℕ) (x : ThreadState) (n w to_submit min_complete flags : ℕ) → Stands size x → slice_get x.program x.counter ≡ Some (Enter to_submit min_complete flags) → n < 2 ^ 32 → w < 2 ^ 32 → Stands size (record x { stage = Waiting n w })
-stands_held size x n w to_submit min_complete flags s g a b = record { within = s.within; program = s.program; last = s.last; waits = held }
+pub well_formed_held : (size : ℕ) (x : ThreadState) (n w to_submit min_complete flags : ℕ) → ThreadWellFormed size x → slice_get x.program x.counter ≡ Some (Enter to_submit min_complete flags) → n < 2 ^ 32 → w < 2 ^ 32 → ThreadWellFormed size (record x { stage = Waiting n w })
+well_formed_held size x n w to_submit min_complete flags s g a b = record { within = s.within; program = s.program; last = s.last; waits = held }
   where
     held : (m v : ℕ) → Waiting n w ≡ Waiting m v → Waits (record x { stage = Waiting n w }) m v
     held m v e = record {
       submitted = let k : n ≡ m = cc in omega (arith, k, a);
-      wanted = let k : w ≡ v = cc in omega (arith, k, b);
+      needed = let k : w ≡ v = cc in omega (arith, k, b);
       to_submit = to_submit;
       min_complete = min_complete;
       flags = flags;
@@ -42,17 +42,17 @@ stands_held size x n w to_submit min_complete flags s g a b = record { within = 
     }
 
 -- One thread changes.
-pub stands_updated : (size : ℕ) (ts : List ThreadState) (f : ThreadState → ThreadState) (t : ℕ) (x : ThreadState) → ((j : ℕ) (y : ThreadState) → slice_get ts j ≡ Some y → Stands size y) → slice_get ts t ≡ Some x → Stands size (f x)
-    → (j : ℕ) (y : ThreadState) → slice_get (updated f ts t) j ≡ Some y → Stands size y
-stands_updated size ts f t x h e s j y g = by (updated_get f ts t j y g)
+pub well_formed_updated : (size : ℕ) (ts : List ThreadState) (f : ThreadState → ThreadState) (t : ℕ) (x : ThreadState) → ((j : ℕ) (y : ThreadState) → slice_get ts j ≡ Some y → ThreadWellFormed size y) → slice_get ts t ≡ Some x → ThreadWellFormed size (f x)
+    → (j : ℕ) (y : ThreadState) → slice_get (updated f ts t) j ≡ Some y → ThreadWellFormed size y
+well_formed_updated size ts f t x h e s j y g = by (updated_get f ts t j y g)
   where
-    by : (slice_get ts j ≡ Some y) ⊎ ((z : ThreadState) × (t ≡ j) × (slice_get ts j ≡ Some z) × (y ≡ f z)) → Stands size y
+    by : (slice_get ts j ≡ Some y) ⊎ ((z : ThreadState) × (t ≡ j) × (slice_get ts j ≡ Some z) × (y ≡ f z)) → ThreadWellFormed size y
     by (inl k) = h j y k
     by (inr k) =
         let same : x ≡ k.0 = let o = sym e ∙ ap (slice_get ts) k.1 ∙ k.2 in cc in
-        subst (Stands size) (ap f same ∙ sym k.3) s
+        subst (ThreadWellFormed size) (ap f same ∙ sym k.3) s
 
-pub formed_thread : (m : Machine) (f : ThreadState → ThreadState) (t : ℕ) (x : ThreadState) → WellFormed m → slice_get m.threads t ≡ Some x → Stands (length m.submissions.slots) (f x) → WellFormed (record m { threads = updated f m.threads t })
+pub formed_thread : (m : Machine) (f : ThreadState → ThreadState) (t : ℕ) (x : ThreadState) → WellFormed m → slice_get m.threads t ≡ Some x → ThreadWellFormed (length m.submissions.slots) (f x) → WellFormed (record m { threads = updated f m.threads t })
 formed_thread m f t x h e s = record {
   mostly = record {
     rings = h.mostly.rings;
@@ -60,7 +60,7 @@ formed_thread m f t x h e s = record {
     table = h.mostly.table;
     world = h.mostly.world;
     clock = h.mostly.clock;
-    threads = stands_updated (length m.submissions.slots) m.threads f t x h.mostly.threads e s;
+    threads = well_formed_updated (length m.submissions.slots) m.threads f t x h.mostly.threads e s;
   };
   rows = h.rows;
   guards = h.guards;

@@ -27,9 +27,9 @@ use Rattle.sqpoll.specs.declared.poller.Poller.TheVariants.{Awake, Asleep}
 use Rattle.model_files.proofs.Fixing as worlds
 use Rattle.machine.specs.Cancels.{verdict_of, ending_with}
 use Rattle.machine.specs.Submission.{einval, ebusy, ebadf}
-use Rattle.timeouts_cancel.specs.Falls.{fall_of}
+use Rattle.timeouts_cancel.specs.Cascades.{fall_of}
 use Rattle.std.specs.Option.{option_map_or}
-use Rattle.machine.specs.Steps.{refusal, sleep_refusal, after, resumed, stepped, executed, entered, entered_alone, entered_beside, submitting, before_submission, is_busy, is_unknown, gets_events, wakes, woken, shown, awaited, ready_count, held_back, with_poller, closed, is_open, posted, flushed, completions_of, ended_by, all_ended, fallen, taken, submitted, answered, issued, cancelled, finished, finished_as, lacks_descriptor, all_started, entries_for, expired, expiring, is_guard_of, started, started_with, waiting_target}
+use Rattle.machine.specs.Steps.{refusal, sleep_refusal, after, resumed, stepped, executed, entered, entered_without_poller, entered_with_poller, submitting, before_submission, is_busy, is_unknown, gets_events, wakes, woken, shown, awaited, ready_count, held_back, with_poller, closed, is_open, posted, flushed, completions_of, ended_by, all_ended, cascaded, taken, submitted, answered, issued, cancelled, finished, finished_as, lacks_descriptor, all_started, entries_for, expired, expiring, is_guard_of, started, started_with, waiting_target}
 use Rattle.machine.specs.Threads.{ThreadState, program_of}
 use Rattle.machine.specs.Whole.{Grows, WellFormed}
 use Rattle.scenario.specs.declared.setup.Instruction.{Instruction}
@@ -87,9 +87,9 @@ grows_all_ended m es =
     by row None = refl
     by row (Some res) = refl
 
-pub grows_fallen : (m : Machine) (direct : List (ℕ × ℤ)) → Grows m (fallen m direct)
-unfolding fallen
-grows_fallen m direct = grows_all_ended m (fall_of m.table m.counted direct)
+pub grows_cascaded : (m : Machine) (direct : List (ℕ × ℤ)) → Grows m (cascaded m direct)
+unfolding cascaded
+grows_cascaded m direct = grows_all_ended m (fall_of m.table m.counted direct)
 
 -- ---- Submissions
 
@@ -111,7 +111,7 @@ grows_taken m k = record {
 }
 
 pub grows_submitted : (m : Machine) (k : ℕ) → Grows m (submitted m k)
-grows_submitted m k = grows_then m (taken m k) (submitted m k) (grows_taken m k) (grows_fallen (taken m k) (direct_of m.world (length m.table) (entries_for m k)))
+grows_submitted m k = grows_then m (taken m k) (submitted m k) (grows_taken m k) (grows_cascaded (taken m k) (direct_of m.world (length m.table) (entries_for m k)))
 
 -- ---- Threads
 
@@ -127,13 +127,13 @@ grows_answered : (m : Machine) (t : ℕ) (n : ℤ) → Grows m (answered m t n)
 grows_answered m t n = grows_thread m (λ x. record x { counter = x.counter + 1; last = n; stage = Ready }) t (λ x. refl)
 
 pub grows_awaited : (m : Machine) (t n k w flags : ℕ) → Grows m (awaited m t n k w flags)
-grows_awaited m t n k w flags = by (gets_events flags && ((n == k) && nat_lt (ready_count m) wanted))
+grows_awaited m t n k w flags = by (gets_events flags && ((n == k) && nat_lt (ready_count m) needed))
   where
-    wanted : ℕ
-    wanted = min w (length m.completions.slots)
+    needed : ℕ
+    needed = min w (length m.completions.slots)
 
-    by : (b : Bool) → Grows m (if b then held_back m t n wanted else answered m t (pos n))
-    by true = grows_thread m (λ x. record x { stage = Waiting n wanted }) t (λ x. refl)
+    by : (b : Bool) → Grows m (if b then held_back m t n needed else answered m t (pos n))
+    by true = grows_thread m (λ x. record x { stage = Waiting n needed }) t (λ x. refl)
     by false = grows_answered m t (pos n)
 
 -- ---- Enter
@@ -180,14 +180,14 @@ grows_entered m t k w flags = by m.poller refl
     by : (o : Option Poller) → m.poller ≡ o → Grows m (entered m o t k w flags)
     by None e = alone (is_unknown flags)
       where
-        alone : (c : Bool) → Grows m (if c then answered m t einval else entered_alone m t k w flags)
+        alone : (c : Bool) → Grows m (if c then answered m t einval else entered_without_poller m t k w flags)
         alone true = grows_answered m t einval
         alone false = grows_then m (before_submission m k flags) _ (grows_before m k flags) (grows_submitting (before_submission m k flags) t k w flags)
-    by (Some p) e = beside (is_unknown flags)
+    by (Some p) e = by_flags (is_unknown flags)
       where
-        beside : (c : Bool) → Grows m (if c then answered m t einval else entered_beside m t k w flags)
-        beside true = grows_answered m t einval
-        beside false =
+        by_flags : (c : Bool) → Grows m (if c then answered m t einval else entered_with_poller m t k w flags)
+        by_flags true = grows_answered m t einval
+        by_flags false =
             grows_then m (woken m flags) _ (grows_woken m flags (ap is_some e))
             (grows_then (woken m flags) (shown (woken m flags) flags) _ (grows_shown (woken m flags) flags) (grows_awaited (shown (woken m flags) flags) t k k w flags))
 
@@ -270,8 +270,8 @@ pub grows_issued : (m : Machine) (r : ℕ) (o : Option Row) → Grows m (issued 
 grows_issued m r None = grows_self m
 grows_issued m r (Some x) = by (lacks_descriptor m.world x)
   where
-    by : (b : Bool) → Grows m (if b then fallen m ((r, ebadf) ∷ []) else record m { table = all_started m.clock m.counted m.table r })
-    by true = grows_fallen m ((r, ebadf) ∷ [])
+    by : (b : Bool) → Grows m (if b then cascaded m ((r, ebadf) ∷ []) else record m { table = all_started m.clock m.counted m.table r })
+    by true = grows_cascaded m ((r, ebadf) ∷ [])
     by false = record {
       setup = record { array = refl; slots = refl; completions = refl; world = worlds.setup_self _; programs = refl; poller = refl; submit_all = refl };
       rows = let a = mapped_length (started_with m.clock m.counted r) m.table in omega (arith, a);
@@ -290,17 +290,17 @@ grows_finished m r c f (Some x) = choosing (is_cancel x.entry.opcode)
     by : (o : Outcome) → outcome_of (is_held_by m.table) m.world x c ≡ o → Grows m (finished_as m r x o)
     by (Res res) e =
         let after_it = record m { world = world_after x res m.world } in
-        grows_then m after_it _ (grows_world m (world_after x res m.world) (stays_after (is_held_by m.table) m.world x res c f.mostly.world (puts_fit m f) e).setup) (grows_fallen after_it ((r, res) ∷ []))
+        grows_then m after_it _ (grows_world m (world_after x res m.world) (stays_after (is_held_by m.table) m.world x res c f.mostly.world (puts_fit m f) e).setup) (grows_cascaded after_it ((r, res) ∷ []))
     by Waits e = grows_self m
     by BadChoice e = grows_self m
 
     choosing : (b : Bool) → Grows m (if b then cancelled m r x.entry else finished_as m r x (outcome_of (is_held_by m.table) m.world x c))
-    choosing true = grows_fallen m (ending_with r (verdict_of m.table m.world r x.entry))
+    choosing true = grows_cascaded m (ending_with r (verdict_of m.table m.world r x.entry))
     choosing false = by (outcome_of (is_held_by m.table) m.world x c) refl
 
 pub grows_expired : (m : Machine) (r : ℕ) (o : Option Row) → Grows m (expired m r o)
 grows_expired m r None = grows_self m
-grows_expired m r (Some x) = grows_fallen m (expiring r (waiting_target m.table m.world x x.target))
+grows_expired m r (Some x) = grows_cascaded m (expiring r (waiting_target m.table m.world x x.target))
 
 pub grows_after : (m : Machine) (e : Event) → WellFormed m → refusal m e ≡ None → Grows m (after m e)
 grows_after m (Step t) f h = grows_stepped m t f (slice_get m.threads t) refl

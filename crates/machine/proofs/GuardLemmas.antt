@@ -13,30 +13,30 @@ use Rattle.model_files.specs.Worlds.{WorldState}
 use Rattle.opcodes.specs.declared.op.Op.TheVariants.{LinkTimeout}
 use Rattle.opcodes.specs.Check.{can_guard, check_of, invalid, op_of, refused_flags, row_of, timed}
 use Rattle.places.specs.Lists.{updated}
-use Rattle.links_drains.specs.Batches.{behind_in, chain_of, error_at, error_of, row_of as batch_row_of, rows_of, shown_on}
+use Rattle.links_drains.specs.Batches.{previous_in, chain_of, error_at, error_of, row_of as batch_row_of, rows_of, shown_on}
 use Rattle.links_drains.specs.Eligible.{GuardsFollow, is_eligible, may_start, waits_for}
 use Rattle.links_drains.specs.Links.{is_guard, is_linked}
 use Rattle.links_drains.specs.Phases.{is_queued, is_unfinished}
-use Rattle.links_drains.proofs.Chains.{Became, became, get-batch, get-behind}
+use Rattle.links_drains.proofs.Chains.{Became, became, get-batch, get-appended}
 use Rattle.links_drains.proofs.RowsKept.{get-updated}
-use Rattle.timeouts_cancel.specs.Falls.{GuardsStand}
+use Rattle.timeouts_cancel.specs.Cascades.{GuardsAreLinked}
 use Rattle.machine.specs.Steps.{is_guard_of, started}
-use Rattle.machine.specs.Whole.{AllGuardsStand, GuardStands, WellFormed}
+use Rattle.machine.specs.Whole.{AllGuardsLinked, GuardIsLinked, WellFormed}
 use Rattle.machine.specs.declared.whole.Machine.{Machine}
 
 -- ---- What cascades require of linked timeouts
 
 -- An unfinished linked timeout comes directly after its target.
-pub stand_behind : (rows : List Row) → AllGuardsStand rows → GuardsStand rows
-stand_behind rows h r t row e g u k =
+pub guards_linked : (rows : List Row) → AllGuardsLinked rows → GuardsAreLinked rows
+guards_linked rows h r t row e g u k =
     let s = h r row e g u in
     let same : s.target ≡ t = let o = sym s.is ∙ k in cc in
-    ap (λ n. n + 1) (sym same) ∙ s.behind
+    ap (λ n. n + 1) (sym same) ∙ s.follows
 
 pub guards_follow : (m : Machine) → WellFormed m → GuardsFollow m.table
 guards_follow m f k guard e g u =
     let s = f.guards k guard e g u in
-    (s.target, s.row, (let b = s.behind in omega (arith, b)), s.there, ap is_unfinished s.alike ∙ u, s.unit)
+    (s.target, s.row, (let b = s.follows in omega (arith, b)), s.there, ap is_unfinished s.alike ∙ u, s.unit)
 
 -- ---- Requests added after others
 
@@ -45,14 +45,14 @@ front [] more i x h = absurd cc
 front (y ∷ rows) more zero x h = h
 front (y ∷ rows) more (suc i) x h = front rows more i x h
 
-pub guard_before : (rows more : List Row) (r : ℕ) (x : Row) → GuardStands rows r x → GuardStands (rows ++ more) r x
-guard_before rows more r x s = record { target = s.target; is = s.is; behind = s.behind; row = s.row; there = front rows more s.target s.row s.there; other = s.other; unit = s.unit; alike = s.alike }
+pub guard_before : (rows more : List Row) (r : ℕ) (x : Row) → GuardIsLinked rows r x → GuardIsLinked (rows ++ more) r x
+guard_before rows more r x s = record { target = s.target; is = s.is; follows = s.follows; row = s.row; there = front rows more s.target s.row s.there; other = s.other; unit = s.unit; alike = s.alike }
 
 -- ---- Linked timeouts of a batch
 
 -- A valid LINK_TIMEOUT follows an entry with another opcode.
-passes_behind : (w : WorldState) (behind : Option ℕ) (e : Sqe) → e.opcode ≡ 15 → result_err (check_of w behind e) ≡ None → can_guard behind ≡ true
-passes_behind w behind e o h = flags (bit_and e.flags refused_flags == 0) h
+passes_previous : (w : WorldState) (previous : Option ℕ) (e : Sqe) → e.opcode ≡ 15 → result_err (check_of w previous e) ≡ None → can_guard previous ≡ true
+passes_previous w previous e o h = flags (bit_and e.flags refused_flags == 0) h
   where
     op : op_of e.opcode ≡ Some LinkTimeout
     op = ap op_of o
@@ -61,8 +61,8 @@ passes_behind w behind e o h = flags (bit_and e.flags refused_flags == 0) h
     both true b k = refl
     both false b k = absurd cc
 
-    flags : (b : Bool) → result_err (if b then row_of w behind e (op_of e.opcode) else invalid) ≡ None → can_guard behind ≡ true
-    flags true k = both (can_guard behind) (e.off == 0) (sym (ap (λ p. result_err (row_of w behind e p)) op) ∙ k)
+    flags : (b : Bool) → result_err (if b then row_of w previous e (op_of e.opcode) else invalid) ≡ None → can_guard previous ≡ true
+    flags true k = both (can_guard previous) (e.off == 0) (sym (ap (λ p. result_err (row_of w previous e p)) op) ∙ k)
     flags false k = absurd cc
 
 -- The entry before i is linked, and no LINK_TIMEOUT.
@@ -74,9 +74,9 @@ record Before (es : List Sqe) (i : ℕ) : Type 0 where
   linked : is_linked entry ≡ true
   other : (entry.opcode == 15) ≡ false
 
-stands_before : (es : List Sqe) (i : ℕ) → can_guard (behind_in es i) ≡ true → Before es i
-stands_before es zero h = absurd cc
-stands_before es (suc j) h = by (slice_get es j) refl h
+before_of : (es : List Sqe) (i : ℕ) → can_guard (previous_in es i) ≡ true → Before es i
+before_of es zero h = absurd cc
+before_of es (suc j) h = by (slice_get es j) refl h
   where
     shown : (p : Sqe) → slice_get es j ≡ Some p → (b : Bool) → is_linked p ≡ b → can_guard (if b then Some p.opcode else None) ≡ true → Before es (suc j)
     shown p e true l k = record { index = j; is = refl; entry = p; there = e; linked = l; other = negated (p.opcode == 15) k }
@@ -91,13 +91,13 @@ stands_before es (suc j) h = by (slice_get es j) refl h
     by (Some p) e k = shown p e (is_linked p) refl k
 
 pub batch_guard : (w : WorldState) (rows : List Row) (es : List Sqe) (i : ℕ) (x : Row) → slice_get (rows_of w (length rows) es) i ≡ Some x → is_guard x ≡ true → error_at w es i ≡ None
-    → GuardStands (rows ++ rows_of w (length rows) es) (length rows + i) x
-batch_guard w rows es i x h g p = subst (GuardStands (rows ++ rows_of w first es) (first + i)) (sym b.is) (record {
+    → GuardIsLinked (rows ++ rows_of w (length rows) es) (length rows + i) x
+batch_guard w rows es i x h g p = subst (GuardIsLinked (rows ++ rows_of w first es) (first + i)) (sym b.is) (record {
   target = first + v.index;
   is = ap (λ c. if c && is_none (error_of w es i b.entry) then Some (first + i - 1) else None) number ∙ ap (λ o. if is_none o then Some (first + i - 1) else None) passes ∙ (let k = v.is in let n : first + i - 1 ≡ first + v.index = omega (arith, k) in ap Some n);
-  behind = let k = v.is in omega (arith, k);
+  follows = let k = v.is in omega (arith, k);
   row = batch_row_of w first es v.index v.entry;
-  there = get-behind rows (rows_of w first es) v.index ∙ get-batch w first es v.index ∙ ap (option_map (batch_row_of w first es v.index)) v.there;
+  there = get-appended rows (rows_of w first es) v.index ∙ get-batch w first es v.index ∙ ap (option_map (batch_row_of w first es v.index)) v.there;
   other = v.other;
   unit = ap (λ n. first + n) (sym (ap (chain_of es) v.is ∙ ap (λ o. cond (option_map_or is_linked o false) (chain_of es v.index) (suc v.index)) v.there ∙ ap (λ c. cond c (chain_of es v.index) (suc v.index)) v.linked));
   alike = refl;
@@ -116,22 +116,22 @@ batch_guard w rows es i x h g p = subst (GuardStands (rows ++ rows_of w first es
     passes = sym (ap (option_and_then (error_of w es i)) b.there) ∙ p
 
     v : Before es i
-    v = stands_before es i (passes_behind w (behind_in es i) b.entry (eqb-true b.entry.opcode 15 number) passes)
+    v = before_of es i (passes_previous w (previous_in es i) b.entry (eqb-true b.entry.opcode 15 number) passes)
 
 -- A linked timeout of a batch that has a target is valid, and comes directly after it.
-pub batch_target : (w : WorldState) (rows : List Row) (es : List Sqe) (i t : ℕ) (x : Row) → slice_get (rows_of w (length rows) es) i ≡ Some x → is_guard x ≡ true → x.target ≡ Some t → GuardStands (rows ++ rows_of w (length rows) es) (length rows + i) x
+pub batch_target : (w : WorldState) (rows : List Row) (es : List Sqe) (i t : ℕ) (x : Row) → slice_get (rows_of w (length rows) es) i ≡ Some x → is_guard x ≡ true → x.target ≡ Some t → GuardIsLinked (rows ++ rows_of w (length rows) es) (length rows + i) x
 batch_target w rows es i t x h g k = by (error_of w es i b.entry) refl (sym (ap (λ (y : Row). y.target) b.is) ∙ k)
   where
     b : Became w (length rows) es i x
     b = became w (length rows) es i x h
 
-    by : (o : Option ℤ) → error_of w es i b.entry ≡ o → (if (b.entry.opcode == 15) && is_none o then Some (length rows + i - 1) else None) ≡ Some t → GuardStands (rows ++ rows_of w (length rows) es) (length rows + i) x
+    by : (o : Option ℤ) → error_of w es i b.entry ≡ o → (if (b.entry.opcode == 15) && is_none o then Some (length rows + i - 1) else None) ≡ Some t → GuardIsLinked (rows ++ rows_of w (length rows) es) (length rows + i) x
     by None e q = batch_guard w rows es i x h g (ap (option_and_then (error_of w es i)) b.there ∙ e)
     by (Some n) e q = absurd (let o : None ≡ Some t = sym (ap (λ c. if c && false then Some (length rows + i - 1) else None) (sym (ap is_guard b.is) ∙ g)) ∙ q in cc)
 
 -- The target of a linked timeout in a batch, if it has one, is directly before it.
-pub batch_behind : (w : WorldState) (first : ℕ) (es : List Sqe) (i t : ℕ) (x : Row) → slice_get (rows_of w first es) i ≡ Some x → is_guard x ≡ true → x.target ≡ Some t → t + 1 ≡ first + i
-batch_behind w first es i t x h g k = by (error_of w es i b.entry) refl (sym (ap (λ (y : Row). y.target) b.is) ∙ k)
+pub batch_target_is : (w : WorldState) (first : ℕ) (es : List Sqe) (i t : ℕ) (x : Row) → slice_get (rows_of w first es) i ≡ Some x → is_guard x ≡ true → x.target ≡ Some t → t + 1 ≡ first + i
+batch_target_is w first es i t x h g k = by (error_of w es i b.entry) refl (sym (ap (λ (y : Row). y.target) b.is) ∙ k)
   where
     b : Became w first es i x
     b = became w first es i x h
@@ -141,7 +141,7 @@ batch_behind w first es i t x h g k = by (error_of w es i b.entry) refl (sym (ap
 
     by : (o : Option ℤ) → error_of w es i b.entry ≡ o → (if (b.entry.opcode == 15) && is_none o then Some (first + i - 1) else None) ≡ Some t → t + 1 ≡ first + i
     by None e q =
-        let v = stands_before es i (passes_behind w (behind_in es i) b.entry (eqb-true b.entry.opcode 15 number) e) in
+        let v = before_of es i (passes_previous w (previous_in es i) b.entry (eqb-true b.entry.opcode 15 number) e) in
         let s : first + i - 1 ≡ t = let o : Some (first + i - 1) ≡ Some t = sym (ap (λ c. if c && true then Some (first + i - 1) else None) number) ∙ q in cc in
         let k = v.is in
         omega (arith, s, k)
@@ -164,8 +164,8 @@ pub record IsGuardOf (r : ℕ) (y : Row) : Type 0 where
   pub queued : is_queued y.phase ≡ true
   pub target : y.target ≡ Some r
 
-pub guard_told : (r : ℕ) (y : Row) → is_guard_of r y ≡ true → IsGuardOf r y
-guard_told r y h = by (is_guard y) (is_queued y.phase) refl refl h
+pub guard_is_guard_of : (r : ℕ) (y : Row) → is_guard_of r y ≡ true → IsGuardOf r y
+guard_is_guard_of r y h = by (is_guard y) (is_queued y.phase) refl refl h
   where
     number : (o : Option ℕ) → option_map_or (λ t. t == r) o false ≡ true → o ≡ Some r
     number None k = absurd cc
@@ -176,8 +176,8 @@ guard_told r y h = by (is_guard y) (is_queued y.phase) refl refl h
     by true false p q k = absurd cc
     by false b p q k = absurd cc
 
-told_guard : (r : ℕ) (y : Row) → is_guard y ≡ true → is_queued y.phase ≡ true → y.target ≡ Some r → is_guard_of r y ≡ true
-told_guard r y g q t = ap (λ b. b && (is_queued y.phase && option_map_or (λ n. n == r) y.target false)) g ∙ ap (λ b. b && option_map_or (λ n. n == r) y.target false) q ∙ ap (λ o. option_map_or (λ n. n == r) o false) t ∙ eq-eqb r r refl
+is_guard_from : (r : ℕ) (y : Row) → is_guard y ≡ true → is_queued y.phase ≡ true → y.target ≡ Some r → is_guard_of r y ≡ true
+is_guard_from r y g q t = ap (λ b. b && (is_queued y.phase && option_map_or (λ n. n == r) y.target false)) g ∙ ap (λ b. b && option_map_or (λ n. n == r) y.target false) q ∙ ap (λ o. option_map_or (λ n. n == r) o false) t ∙ eq-eqb r r refl
 
 pub unfinished_queued : (p : Phase) → is_queued p ≡ true → is_unfinished p ≡ true
 unfinished_queued Queued h = refl
@@ -191,7 +191,7 @@ started_in_turn c n rows r =
     then updated (started c n) (updated (started c n) rows r) (r + 1)
     else updated (started c n) rows r
 
-pub started_guards : (c n : ℕ) (rows : List Row) (r : ℕ) (x : Row) → slice_get rows r ≡ Some x → x.phase ≡ Queued → is_guard x ≡ false → AllGuardsStand rows → AllGuardsStand (started_in_turn c n rows r)
+pub started_guards : (c n : ℕ) (rows : List Row) (r : ℕ) (x : Row) → slice_get rows r ≡ Some x → x.phase ≡ Queued → is_guard x ≡ false → AllGuardsLinked rows → AllGuardsLinked (started_in_turn c n rows r)
 started_guards c n rows r x h q plain s = by (slice_get rows (r + 1)) refl
   where
     f : Row → Row
@@ -201,32 +201,32 @@ started_guards c n rows r x h q plain s = by (slice_get rows (r + 1)) refl
     not_itself rs i y e g k o = let m = same_row (f x) y (sym o ∙ ap (slice_get rs) k ∙ e) in let z : false ≡ true = sym plain ∙ ap is_guard m ∙ g in cc
 
     -- The request has no linked timeout.
-    alone : ((y : Row) → slice_get rows (r + 1) ≡ Some y → is_guard_of r y ≡ true → ⊥) → AllGuardsStand (updated f rows r)
+    alone : ((y : Row) → slice_get rows (r + 1) ≡ Some y → is_guard_of r y ≡ true → ⊥) → AllGuardsLinked (updated f rows r)
     alone none i y e g u = elim (cases_eq r i) [
       | inl k ↦ absurd (not_itself (updated f rows r) i y e g k (here f rows r x h))
       | inr k ↦
           let e' = sym (apart f rows r i k) ∙ e in
           let w = s i y e' g u in
           let away : (r ≡ w.target) → ⊥ = λ t.
-          let at : i ≡ r + 1 = sym w.behind ∙ ap (λ n. n + 1) (sym t) in
+          let at : i ≡ r + 1 = sym w.follows ∙ ap (λ n. n + 1) (sym t) in
           let mine = same_row x w.row (sym h ∙ ap (slice_get rows) t ∙ w.there) in
           let queued : is_queued y.phase ≡ true = ap is_queued (sym w.alike ∙ sym (ap (λ (z : Row). z.phase) mine) ∙ q) in
-          none y (sym (ap (slice_get rows) at) ∙ e') (told_guard r y g queued (w.is ∙ ap Some (sym t))) in
-          record { target = w.target; is = w.is; behind = w.behind; row = w.row; there = apart f rows r w.target away ∙ w.there; other = w.other; unit = w.unit; alike = w.alike }
+          none y (sym (ap (slice_get rows) at) ∙ e') (is_guard_from r y g queued (w.is ∙ ap Some (sym t))) in
+          record { target = w.target; is = w.is; follows = w.follows; row = w.row; there = apart f rows r w.target away ∙ w.there; other = w.other; unit = w.unit; alike = w.alike }
     ]
 
     -- The request has one.
-    pair : (y : Row) → slice_get rows (r + 1) ≡ Some y → IsGuardOf r y → AllGuardsStand (updated f (updated f rows r) (r + 1))
+    pair : (y : Row) → slice_get rows (r + 1) ≡ Some y → IsGuardOf r y → AllGuardsLinked (updated f (updated f rows r) (r + 1))
     pair y e t i z o g u = elim (cases_eq (r + 1) i) [
       | inl k ↦
           let w = s (r + 1) y e t.guard (unfinished_queued y.phase t.queued) in
-          let target : w.target ≡ r = let m = w.behind in omega (arith, m) in
+          let target : w.target ≡ r = let m = w.follows in omega (arith, m) in
           let mine = same_row x w.row (sym h ∙ ap (slice_get rows) (sym target) ∙ w.there) in
           let is = same_row (f y) z (sym (here f (updated f rows r) (r + 1) y (apart f rows r (r + 1) (λ m. absurd (omega (arith, m))) ∙ e)) ∙ ap (slice_get (updated f (updated f rows r) (r + 1))) k ∙ o) in
-          subst (GuardStands (updated f (updated f rows r) (r + 1)) i) is (record {
+          subst (GuardIsLinked (updated f (updated f rows r) (r + 1)) i) is (record {
             target = r;
             is = t.target;
-            behind = k;
+            follows = k;
             row = f x;
             there = apart f (updated f rows r) (r + 1) r (λ m. absurd (omega (arith, m))) ∙ here f rows r x h;
             other = plain;
@@ -238,23 +238,23 @@ started_guards c n rows r x h q plain s = by (slice_get rows (r + 1)) refl
         | inr l ↦
             let o' = sym (apart f (updated f rows r) (r + 1) i k ∙ apart f rows r i l) ∙ o in
             let w = s i z o' g u in
-            let away : (r ≡ w.target) → ⊥ = λ m. k (ap (λ n. n + 1) m ∙ w.behind) in
+            let away : (r ≡ w.target) → ⊥ = λ m. k (ap (λ n. n + 1) m ∙ w.follows) in
             let past : (r + 1 ≡ w.target) → ⊥ = λ m.
             let guard = same_row y w.row (sym e ∙ ap (slice_get rows) m ∙ w.there) in
             let b : false ≡ true = sym w.other ∙ sym (ap is_guard guard) ∙ t.guard in cc in
-            record { target = w.target; is = w.is; behind = w.behind; row = w.row; there = apart f (updated f rows r) (r + 1) w.target past ∙ apart f rows r w.target away ∙ w.there; other = w.other; unit = w.unit; alike = w.alike }
+            record { target = w.target; is = w.is; follows = w.follows; row = w.row; there = apart f (updated f rows r) (r + 1) w.target past ∙ apart f rows r w.target away ∙ w.there; other = w.other; unit = w.unit; alike = w.alike }
       ]
     ]
 
-    told : (b : Bool) → option_map_or (is_guard_of r) (slice_get rows (r + 1)) false ≡ b → AllGuardsStand (if b then updated f (updated f rows r) (r + 1) else updated f rows r) → AllGuardsStand (started_in_turn c n rows r)
-    told b k a = subst (λ (d : Bool). AllGuardsStand (if d then updated f (updated f rows r) (r + 1) else updated f rows r)) (sym k) a
+    by_guard : (b : Bool) → option_map_or (is_guard_of r) (slice_get rows (r + 1)) false ≡ b → AllGuardsLinked (if b then updated f (updated f rows r) (r + 1) else updated f rows r) → AllGuardsLinked (started_in_turn c n rows r)
+    by_guard b k a = subst (λ (d : Bool). AllGuardsLinked (if d then updated f (updated f rows r) (r + 1) else updated f rows r)) (sym k) a
 
-    chosen : (y : Row) → slice_get rows (r + 1) ≡ Some y → (b : Bool) → is_guard_of r y ≡ b → AllGuardsStand (started_in_turn c n rows r)
-    chosen y e true k = told true (ap (λ o. option_map_or (is_guard_of r) o false) e ∙ k) (pair y e (guard_told r y k))
-    chosen y e false k = told false (ap (λ o. option_map_or (is_guard_of r) o false) e ∙ k) (alone (λ z a t. let m = same_row z y (sym a ∙ e) in let b : true ≡ false = sym t ∙ ap (is_guard_of r) m ∙ k in cc))
+    chosen : (y : Row) → slice_get rows (r + 1) ≡ Some y → (b : Bool) → is_guard_of r y ≡ b → AllGuardsLinked (started_in_turn c n rows r)
+    chosen y e true k = by_guard true (ap (λ o. option_map_or (is_guard_of r) o false) e ∙ k) (pair y e (guard_is_guard_of r y k))
+    chosen y e false k = by_guard false (ap (λ o. option_map_or (is_guard_of r) o false) e ∙ k) (alone (λ z a t. let m = same_row z y (sym a ∙ e) in let b : true ≡ false = sym t ∙ ap (is_guard_of r) m ∙ k in cc))
 
-    by : (o : Option Row) → slice_get rows (r + 1) ≡ o → AllGuardsStand (started_in_turn c n rows r)
-    by None e = told false (ap (λ o. option_map_or (is_guard_of r) o false) e) (alone (λ z a t. let b : None ≡ Some z = sym e ∙ a in cc))
+    by : (o : Option Row) → slice_get rows (r + 1) ≡ o → AllGuardsLinked (started_in_turn c n rows r)
+    by None e = by_guard false (ap (λ o. option_map_or (is_guard_of r) o false) e) (alone (λ z a t. let b : None ≡ Some z = sym e ∙ a in cc))
     by (Some y) e = chosen y e (is_guard_of r y) refl
 
 -- A request that may be issued is no linked timeout.

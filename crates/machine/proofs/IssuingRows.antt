@@ -9,8 +9,8 @@ use Rattle.places.specs.Lists.{updated}
 use Rattle.places.proofs.ListLemmas.{same_list}
 use Rattle.links_drains.proofs.RowsKept.{get-updated}
 use Rattle.machine.specs.Steps.{all_started, is_guard_of, started, started_with}
-use Rattle.machine.specs.Whole.{AllGuardsStand}
-use Rattle.machine.proofs.GuardLemmas.{apart, guard_told, here, started_in_turn, unfinished_queued}
+use Rattle.machine.specs.Whole.{AllGuardsLinked}
+use Rattle.machine.proofs.GuardLemmas.{apart, guard_is_guard_of, here, started_in_turn, unfinished_queued}
 use Rattle.machine.proofs.MappedRows.{mapped_at}
 
 none_changed : (f : Row → Row) (rows : List Row) (r i : ℕ) → slice_get rows i ≡ None → slice_get (updated f rows r) i ≡ None
@@ -20,7 +20,7 @@ none_changed f rows r i h = get-updated f rows r i ∙ ap (λ o. cond (r == i) (
     by true = refl
     by false = refl
 
-pub started_at_once : (c n : ℕ) (rows : List Row) (r : ℕ) → AllGuardsStand rows → all_started c n rows r ≡ started_in_turn c n rows r
+pub started_at_once : (c n : ℕ) (rows : List Row) (r : ℕ) → AllGuardsLinked rows → all_started c n rows r ≡ started_in_turn c n rows r
 started_at_once c n rows r s = same_list _ _ (λ i. mapped_at (started_with c n r) rows i ∙ by i (slice_get rows i) refl)
   where
     f : Row → Row
@@ -30,36 +30,36 @@ started_at_once c n rows r s = same_list _ _ (λ i. mapped_at (started_with c n 
     follows = option_map_or (is_guard_of r) (slice_get rows (r + 1)) false
 
     -- With a linked timeout, and without.
-    told : (b : Bool) → follows ≡ b → started_in_turn c n rows r ≡ (if b then updated f (updated f rows r) (r + 1) else updated f rows r)
-    told b e = ap (λ (d : Bool). if d then updated f (updated f rows r) (r + 1) else updated f rows r) e
+    by_follows : (b : Bool) → follows ≡ b → started_in_turn c n rows r ≡ (if b then updated f (updated f rows r) (r + 1) else updated f rows r)
+    by_follows b e = ap (λ (d : Bool). if d then updated f (updated f rows r) (r + 1) else updated f rows r) e
 
     -- The request itself.
     itself : (row : Row) → slice_get rows r ≡ Some row → (b : Bool) → follows ≡ b → slice_get (started_in_turn c n rows r) r ≡ Some (f row)
-    itself row h true e = ap (λ rs. slice_get rs r) (told true e) ∙ apart f (updated f rows r) (r + 1) r (λ o. absurd (omega (arith, o))) ∙ here f rows r row h
-    itself row h false e = ap (λ rs. slice_get rs r) (told false e) ∙ here f rows r row h
+    itself row h true e = ap (λ rs. slice_get rs r) (by_follows true e) ∙ apart f (updated f rows r) (r + 1) r (λ o. absurd (omega (arith, o))) ∙ here f rows r row h
+    itself row h false e = ap (λ rs. slice_get rs r) (by_follows false e) ∙ here f rows r row h
 
     -- A request that is neither this one nor the next.
     other : (i : ℕ) → (r ≡ i → ⊥) → (r + 1 ≡ i → ⊥) → (b : Bool) → follows ≡ b → slice_get (started_in_turn c n rows r) i ≡ slice_get rows i
-    other i away past true e = ap (λ rs. slice_get rs i) (told true e) ∙ apart f (updated f rows r) (r + 1) i past ∙ apart f rows r i away
-    other i away past false e = ap (λ rs. slice_get rs i) (told false e) ∙ apart f rows r i away
+    other i away past true e = ap (λ rs. slice_get rs i) (by_follows true e) ∙ apart f (updated f rows r) (r + 1) i past ∙ apart f rows r i away
+    other i away past false e = ap (λ rs. slice_get rs i) (by_follows false e) ∙ apart f rows r i away
 
     -- The next request.
     next : (row : Row) → slice_get rows (r + 1) ≡ Some row → (b : Bool) → is_guard_of r row ≡ b → slice_get (started_in_turn c n rows r) (r + 1) ≡ Some (if b then f row else row)
-    next row h true g = ap (λ rs. slice_get rs (r + 1)) (told true (ap (λ o. option_map_or (is_guard_of r) o false) h ∙ g)) ∙ here f (updated f rows r) (r + 1) row (apart f rows r (r + 1) (λ o. absurd (omega (arith, o))) ∙ h)
-    next row h false g = ap (λ rs. slice_get rs (r + 1)) (told false (ap (λ o. option_map_or (is_guard_of r) o false) h ∙ g)) ∙ apart f rows r (r + 1) (λ o. absurd (omega (arith, o))) ∙ h
+    next row h true g = ap (λ rs. slice_get rs (r + 1)) (by_follows true (ap (λ o. option_map_or (is_guard_of r) o false) h ∙ g)) ∙ here f (updated f rows r) (r + 1) row (apart f rows r (r + 1) (λ o. absurd (omega (arith, o))) ∙ h)
+    next row h false g = ap (λ rs. slice_get rs (r + 1)) (by_follows false (ap (λ o. option_map_or (is_guard_of r) o false) h ∙ g)) ∙ apart f rows r (r + 1) (λ o. absurd (omega (arith, o))) ∙ h
 
     -- The linked timeout is the next request.
-    stands : (i : ℕ) (row : Row) → slice_get rows i ≡ Some row → is_guard_of r row ≡ true → r + 1 ≡ i
-    stands i row h g =
-        let t = guard_told r row g in
+    guard_is_next : (i : ℕ) (row : Row) → slice_get rows i ≡ Some row → is_guard_of r row ≡ true → r + 1 ≡ i
+    guard_is_next i row h g =
+        let t = guard_is_guard_of r row g in
         let w = s i row h t.guard (unfinished_queued row.phase t.queued) in
         let same : w.target ≡ r = let o = sym w.is ∙ t.target in cc in
-        let b = w.behind in
+        let b = w.follows in
         omega (arith, same, b)
 
-    apart_told : (i : ℕ) (row : Row) → slice_get rows i ≡ Some row → (r ≡ i → ⊥) → (r + 1 ≡ i → ⊥) → (b : Bool) → is_guard_of r row ≡ b → slice_get (started_in_turn c n rows r) i ≡ Some (if b then f row else row)
-    apart_told i row h away past true g = absurd (past (stands i row h g))
-    apart_told i row h away past false g = other i away past follows refl ∙ h
+    apart_here : (i : ℕ) (row : Row) → slice_get rows i ≡ Some row → (r ≡ i → ⊥) → (r + 1 ≡ i → ⊥) → (b : Bool) → is_guard_of r row ≡ b → slice_get (started_in_turn c n rows r) i ≡ Some (if b then f row else row)
+    apart_here i row h away past true g = absurd (past (guard_is_next i row h g))
+    apart_here i row h away past false g = other i away past follows refl ∙ h
 
     at : (i : ℕ) (row : Row) → slice_get rows i ≡ Some row → slice_get (started_in_turn c n rows r) i ≡ Some (started_with c n r i row)
     at i row h = elim (cases_eq r i) [
@@ -69,14 +69,14 @@ started_at_once c n rows r s = same_list _ _ (λ i. mapped_at (started_with c n 
       | inr k ↦
           elim (cases_eq (r + 1) i) [
             | inl l ↦ ap (slice_get (started_in_turn c n rows r)) (sym l) ∙ next row (ap (slice_get rows) l ∙ h) (is_guard_of r row) refl
-            | inr l ↦ apart_told i row h k l (is_guard_of r row) refl
+            | inr l ↦ apart_here i row h k l (is_guard_of r row) refl
           ]
           ∙ ap (λ (b : Bool). Some (if b || is_guard_of r row then f row else row)) (sym (ne_eqb i r (λ o. k (sym o))))
     ]
 
     none : (i : ℕ) → slice_get rows i ≡ None → (b : Bool) → follows ≡ b → slice_get (started_in_turn c n rows r) i ≡ None
-    none i h true e = ap (λ rs. slice_get rs i) (told true e) ∙ none_changed f (updated f rows r) (r + 1) i (none_changed f rows r i h)
-    none i h false e = ap (λ rs. slice_get rs i) (told false e) ∙ none_changed f rows r i h
+    none i h true e = ap (λ rs. slice_get rs i) (by_follows true e) ∙ none_changed f (updated f rows r) (r + 1) i (none_changed f rows r i h)
+    none i h false e = ap (λ rs. slice_get rs i) (by_follows false e) ∙ none_changed f rows r i h
 
     by : (i : ℕ) (o : Option Row) → slice_get rows i ≡ o → option_map (λ row. started_with c n r i row) o ≡ slice_get (started_in_turn c n rows r) i
     by i None h = sym (none i h follows refl)

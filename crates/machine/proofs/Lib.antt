@@ -15,13 +15,13 @@ pub mod Growing
 pub mod GuardLemmas
 pub mod MappedRows
 pub mod IssuingRows
-pub mod WholeFalls
+pub mod WholeCascades
 pub mod ExpiryLemmas
 pub mod CancelLemmas
 pub mod Endings
 pub mod PostedTogether
 pub mod AtOnce
-pub mod FallenRows
+pub mod CascadedRows
 pub mod FormedSubmissions
 pub mod Formed
 pub mod NothingTaken

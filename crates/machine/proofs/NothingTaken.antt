@@ -12,20 +12,20 @@ use Rattle.links_drains.specs.Phases.{is_unfinished}
 use Rattle.model_files.specs.Worlds.{WorldState}
 use Rattle.ring_words.specs.Rings.{SubWords}
 use Rattle.sqpoll.specs.declared.poller.Poller.{Poller}
-use Rattle.timeouts_cancel.specs.Falls.{fall_of, guards_listed, is_met, with_guards, with_met, with_severed}
+use Rattle.timeouts_cancel.specs.Cascades.{fall_of, guards_listed, is_met, with_guards, with_met, with_severed}
 use Rattle.timeouts_cancel.proofs.Listed.{upto_all}
 use Rattle.machine.specs.InTurn.{ended_in_turn}
 use Rattle.machine.specs.Submission.{taken_entries}
-use Rattle.machine.specs.Steps.{after, answered, awaited, entered, entries_for, executed, fallen, submitted, taken, words_for}
+use Rattle.machine.specs.Steps.{after, answered, awaited, entered, entries_for, executed, cascaded, submitted, taken, words_for}
 use Rattle.machine.specs.Whole.{NoneMet, WellFormed}
 use Rattle.machine.specs.declared.whole.Machine.{Machine}
 use Rattle.scenario.specs.declared.setup.Instruction.TheVariants.{Enter}
 use Rattle.scenario.specs.declared.event.Event.TheVariants.{Take}
 use Rattle.machine.proofs.AtOnce.{posts}
-use Rattle.machine.proofs.FallenRows.{fall_in_turn}
+use Rattle.machine.proofs.CascadedRows.{cascade_in_turn}
 use Rattle.machine.proofs.FormedMachines.{mostly}
 use Rattle.machine.proofs.FormedSubmissions.{length-taken_words}
-use Rattle.machine.proofs.SubmissionLemmas.{take_told}
+use Rattle.machine.proofs.SubmissionLemmas.{take_is_taken}
 
 -- ---- An empty cascade
 
@@ -55,8 +55,8 @@ nothing_listed rows counted h =
         by true (Some t) = refl
         by false o = refl
 
-pub nothing_falls : (m : Machine) → WellFormed m → fallen m [] ≡ m
-nothing_falls m f = fall_in_turn m [] (posts m (mostly m f)) ∙ ap (ended_in_turn m) (nothing_listed m.table m.counted f.unmet)
+pub nothing_cascades : (m : Machine) → WellFormed m → cascaded m [] ≡ m
+nothing_cascades m f = cascade_in_turn m [] (posts m (mostly m f)) ∙ ap (ended_in_turn m) (nothing_listed m.table m.counted f.unmet)
 
 -- ---- Nothing is consumed
 
@@ -72,7 +72,7 @@ no_words : (m : Machine) → words_for m 0 ≡ []
 no_words m = let l = length-taken_words m.submit_all m.world m.submissions 0 in empty (words_for m 0) (omega (arith, l))
 
 nothing_taken : (m : Machine) → WellFormed m → taken m 0 ≡ m
-nothing_taken m f = sym (take_told m 0 0 0 m.submissions m.table (sym (no_words m)) (omega arith) rows (ap length (sym none)) ring)
+nothing_taken m f = sym (take_is_taken m 0 0 0 m.submissions m.table (sym (no_words m)) (omega arith) rows (ap length (sym none)) ring)
   where
     none : entries_for m 0 ≡ []
     none = no_entries m.submit_all m.world m.submissions
@@ -88,8 +88,8 @@ nothing_taken m f = sym (take_told m 0 0 0 m.submissions m.table (sym (no_words 
 
 pub nothing_submitted : (m : Machine) → WellFormed m → submitted m 0 ≡ m
 nothing_submitted m f =
-    ap (λ es. fallen (taken m 0) (direct_of m.world (length m.table) es)) (no_entries m.submit_all m.world m.submissions)
-    ∙ ap (λ (n : Machine). fallen n []) (nothing_taken m f) ∙ nothing_falls m f
+    ap (λ es. cascaded (taken m 0) (direct_of m.world (length m.table) es)) (no_entries m.submit_all m.world m.submissions)
+    ∙ ap (λ (n : Machine). cascaded n []) (nothing_taken m f) ∙ nothing_cascades m f
 
 pub take_of_nothing : (m : Machine) → WellFormed m → after m (Take 0) ≡ m
 take_of_nothing m f = nothing_submitted m f

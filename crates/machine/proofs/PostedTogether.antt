@@ -7,7 +7,7 @@ use Rattle.entries.specs.declared.completion.Cqe.{Cqe}
 use Rattle.ring_words.specs.Rings.{SubWords, with_flag}
 use Rattle.ring_words.specs.declared.flag.RingFlag.TheVariants.{CqOverflow}
 use Rattle.overflow.specs.Backlogs.{BacklogState, kept, is_clear, free_slots, posted_one, posted_in_order, Delivery, DeliveryFormed, flagged, fits, backlog_with, all_posted_at, all_posted}
-use Rattle.overflow.proofs.KeptInOrder.{fits_behind, fits_clear, kept_with}
+use Rattle.overflow.proofs.KeptInOrder.{none_fit, fits_clear, kept_with}
 use Rattle.overflow.proofs.Posting.{posted_slots, posted_waits}
 use Rattle.machine.specs.Whole.{flag_word}
 use Rattle.machine.proofs.FormedMachines.{overflow_flag}
@@ -24,8 +24,8 @@ into_ring d a b c cs j h =
     ∙ ap (λ xs. record { submissions = flagged d.submissions (record d.backlog { items = xs ++ drop j cs }); completions = posted_in_order (posted_one d.completions c) (take j cs); backlog = record d.backlog { items = xs ++ drop j cs } }) (append-nil d.backlog.items)
 
 -- No completion fits.
-behind_kept : (d : Delivery) (a b : Bool) (c : Cqe) (cs : List Cqe) → d.submissions.flags ≡ flag_word a b → all_posted_at (all_posted_at d (c ∷ []) 0) cs 0 ≡ all_posted_at d (c ∷ cs) 0
-behind_kept d a b c cs h =
+after_backlog : (d : Delivery) (a b : Bool) (c : Cqe) (cs : List Cqe) → d.submissions.flags ≡ flag_word a b → all_posted_at (all_posted_at d (c ∷ []) 0) cs 0 ≡ all_posted_at d (c ∷ cs) 0
+after_backlog d a b c cs h =
     ap (λ s. record { submissions = s; completions = d.completions; backlog = backlog_with (backlog_with d.backlog (c ∷ [])) cs })
     (flagged_again d.submissions a b (backlog_with d.backlog (c ∷ [])) (backlog_with (backlog_with d.backlog (c ∷ [])) cs) h)
     ∙ ap (λ xs. record { submissions = flagged d.submissions (record d.backlog { items = xs }); completions = d.completions; backlog = record d.backlog { items = xs } }) (append_assoc d.backlog.items (c ∷ []) cs)
@@ -47,7 +47,7 @@ pub posted_together : (d : Delivery) (a b : Bool) (c : Cqe) (cs : List Cqe) → 
 posted_together d a b c cs f h = by (is_clear d.backlog) (cases_lt 0 (free_slots d.completions)) refl
   where
     none : fits d.completions d.backlog 1 ≡ 0 → fits d.completions d.backlog (suc (length cs)) ≡ 0 → all_posted (all_posted d (c ∷ [])) cs ≡ all_posted d (c ∷ cs)
-    none e g = counted_out d c cs 0 0 0 e (fits_behind d.completions (backlog_with d.backlog (c ∷ [])) (length cs) (not_clear d.backlog c f.front)) g (behind_kept d a b c cs h)
+    none e g = counted_out d c cs 0 0 0 e (none_fit d.completions (backlog_with d.backlog (c ∷ [])) (length cs) (not_clear d.backlog c f.front)) g (after_backlog d a b c cs h)
 
     room : is_clear d.backlog ≡ true → 0 < free_slots d.completions → all_posted (all_posted d (c ∷ [])) cs ≡ all_posted d (c ∷ cs)
     room e l =
@@ -66,7 +66,7 @@ posted_together d a b c cs f h = by (is_clear d.backlog) (cases_lt 0 (free_slots
     by : (t : Bool) → (0 < free_slots d.completions) ⊎ (free_slots d.completions ≤ 0) → is_clear d.backlog ≡ t → all_posted (all_posted d (c ∷ [])) cs ≡ all_posted d (c ∷ cs)
     by true (inl l) e = room e l
     by true (inr l) e = none (let k = fits_clear d.completions d.backlog 1 e in omega (arith, k, l)) (let k = fits_clear d.completions d.backlog (suc (length cs)) e in omega (arith, k, l))
-    by false s e = none (fits_behind d.completions d.backlog 1 e) (fits_behind d.completions d.backlog (suc (length cs)) e)
+    by false s e = none (none_fit d.completions d.backlog 1 e) (none_fit d.completions d.backlog (suc (length cs)) e)
 
 -- Posting none changes nothing.
 pub none_posted : (d : Delivery) (a : Bool) → d.submissions.flags ≡ flag_word a (not (is_clear d.backlog)) → all_posted d [] ≡ d

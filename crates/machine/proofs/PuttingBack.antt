@@ -6,7 +6,7 @@ use Rattle.std.proofs.lemmas.List.{length-map}
 use Rattle.places.specs.declared.place.Place.{Place}
 use Rattle.places.specs.declared.place.Place.TheVariants.{SubmissionHead, SubmissionTail, SubmissionFlags, SubmissionDropped, CompletionHead, CompletionTail, Array, Slot, Completion, MemoryByte, FileByte, DurableByte, FileLength, DurableLength, Position, OpenMark, PipeByte, PutCount, TakenCount, EventCount, Request, Backlog, BacklogFront, Clock, Counted, PollerStage, ProgramCounter, ThreadStage, Last, Got}
 use Rattle.places.specs.declared.value.Value.{Value}
-use Rattle.places.specs.declared.value.Value.TheVariants.{Number, Signed, Requested, Staged, Reaped, Awake as StandsAwake}
+use Rattle.places.specs.declared.value.Value.TheVariants.{Number, Signed, Requested, Staged, Reaped, Awake as AwakeValue}
 use Rattle.places.specs.declared.value.Change.{Change}
 use Rattle.places.specs.Places.{same_place}
 use Rattle.places.specs.View.{View, named, undo, put_at, LeadsBack, Exact}
@@ -14,7 +14,7 @@ use Rattle.places.proofs.SamePlace.{same_place_is}
 use Rattle.places.proofs.ListLemmas.{same_list}
 use Rattle.links_drains.specs.Rows.{fixed_of}
 use Rattle.links_drains.proofs.Counting.{counted-le-length, ended-le-length}
-use Rattle.links_drains.proofs.Remaining.{stood_there, as_many}
+use Rattle.links_drains.proofs.Remaining.{was_fixed, as_many}
 use Rattle.ring_words.specs.Rings.{sub_seen, com_seen}
 use Rattle.ring_words.proofs.Restoring.{none_here, some_here, same_through, sub_seen_can_put, com_seen_can_put, sub_absent_same, com_absent_same, same_sub, same_com}
 use Rattle.model_files.specs.Worlds.{world_seen}
@@ -50,7 +50,7 @@ same_count s m h = simp length-map at (ap length h.programs)
 
 -- ---- The poller, if there is one
 
-poller_put : (o o' : Option Poller) (v : Value) → is_some o ≡ is_some o' → stage_of o ≡ Some v → (is_some o' ≡ true) × ((b : Bool) × (v ≡ StandsAwake b))
+poller_put : (o o' : Option Poller) (v : Value) → is_some o ≡ is_some o' → stage_of o ≡ Some v → (is_some o' ≡ true) × ((b : Bool) × (v ≡ AwakeValue b))
 poller_put None o' v h e = absurd cc
 poller_put (Some p) o' v h e = (sym h, (is_awake p, cc))
 
@@ -96,7 +96,7 @@ seen_can_put s m f h r b (PipeByte o i) v e = world_seen_can_put s.world m.world
 seen_can_put s m f h r b (PutCount o) v e = world_seen_can_put s.world m.world f.mostly.world h.world (PutCount o) v e
 seen_can_put s m f h r b (TakenCount o) v e = world_seen_can_put s.world m.world f.mostly.world h.world (TakenCount o) v e
 seen_can_put s m f h r b (EventCount o) v e = world_seen_can_put s.world m.world f.mostly.world h.world (EventCount o) v e
-seen_can_put s m f h r b (Request i) v e = let k = some_here Requested s.table m.table i v (as_many s.table m.table r) e in subst (λ (w : Value). can_put m (Request i) (Some w)) (sym k.1.2) (stood_there s.table m.table i k.1.0 r k.1.1)
+seen_can_put s m f h r b (Request i) v e = let k = some_here Requested s.table m.table i v (as_many s.table m.table r) e in subst (λ (w : Value). can_put m (Request i) (Some w)) (sym k.1.2) (was_fixed s.table m.table i k.1.0 r k.1.1)
 seen_can_put s m f h r b (Backlog i) v e = backlog_seen_can_put s.backlog m.backlog (kept_front s f) b (Backlog i) v e
 seen_can_put s m f h r b BacklogFront v e = backlog_seen_can_put s.backlog m.backlog (kept_front s f) b BacklogFront v e
 seen_can_put s m f h r b PollerStage v e = let k = poller_put s.poller m.poller v h.poller e in subst (λ (w : Value). can_put m PollerStage (Some w)) (sym k.1.1) k.0

@@ -42,28 +42,28 @@ abbrev refusals : List Refusal
 refusals = NoSuchThread ∷ ThreadDone ∷ SqFull ∷ NothingToReap ∷ StillWaiting ∷ NoSuchRequest ∷ WrongPhase ∷ NotEligible ∷ NotReady ∷ NotDue ∷ BadChoice ∷ NoPoller ∷ Asleep ∷ NotIdle ∷ ClockFull ∷ RequestsFull ∷ Memory ∷ []
 
 -- Each refusal is in the list at the index that its number gives.
-stands_at : (k : Refusal) → (i : ℕ) × (number_of k ≡ i + 1) × (slice_get refusals i ≡ Some k)
-stands_at NoSuchThread = (0, refl, refl)
-stands_at ThreadDone = (1, refl, refl)
-stands_at SqFull = (2, refl, refl)
-stands_at NothingToReap = (3, refl, refl)
-stands_at StillWaiting = (4, refl, refl)
-stands_at NoSuchRequest = (5, refl, refl)
-stands_at WrongPhase = (6, refl, refl)
-stands_at NotEligible = (7, refl, refl)
-stands_at NotReady = (8, refl, refl)
-stands_at NotDue = (9, refl, refl)
-stands_at BadChoice = (10, refl, refl)
-stands_at NoPoller = (11, refl, refl)
-stands_at Asleep = (12, refl, refl)
-stands_at NotIdle = (13, refl, refl)
-stands_at ClockFull = (14, refl, refl)
-stands_at RequestsFull = (15, refl, refl)
-stands_at Memory = (16, refl, refl)
+refusal_at : (k : Refusal) → (i : ℕ) × (number_of k ≡ i + 1) × (slice_get refusals i ≡ Some k)
+refusal_at NoSuchThread = (0, refl, refl)
+refusal_at ThreadDone = (1, refl, refl)
+refusal_at SqFull = (2, refl, refl)
+refusal_at NothingToReap = (3, refl, refl)
+refusal_at StillWaiting = (4, refl, refl)
+refusal_at NoSuchRequest = (5, refl, refl)
+refusal_at WrongPhase = (6, refl, refl)
+refusal_at NotEligible = (7, refl, refl)
+refusal_at NotReady = (8, refl, refl)
+refusal_at NotDue = (9, refl, refl)
+refusal_at BadChoice = (10, refl, refl)
+refusal_at NoPoller = (11, refl, refl)
+refusal_at Asleep = (12, refl, refl)
+refusal_at NotIdle = (13, refl, refl)
+refusal_at ClockFull = (14, refl, refl)
+refusal_at RequestsFull = (15, refl, refl)
+refusal_at Memory = (16, refl, refl)
 
 -- Refusals with the same number are equal.
 same_number : (j k : Refusal) → number_of j ≡ number_of k → j ≡ k
-same_number j k e = let x = stands_at j in let y = stands_at k in let same : x.0 ≡ y.0 = omega (arith, x.1, y.1, e) in ap (λ o. unwrap_or o j) (sym x.2 ∙ ap (slice_get refusals) same ∙ y.2)
+same_number j k e = let x = refusal_at j in let y = refusal_at k in let same : x.0 ≡ y.0 = omega (arith, x.1, y.1, e) in ap (λ o. unwrap_or o j) (sym x.2 ∙ ap (slice_get refusals) same ∙ y.2)
 
 -- The refusals are numbered consecutively from i to the last.
 Numbered : ℕ → List Refusal → Type 0
@@ -75,25 +75,25 @@ unfolding Numbered
 all_numbered = (refl, (refl, (refl, (refl, (refl, (refl, (refl, (refl, (refl, (refl, (refl, (refl, (refl, (refl, (refl, (refl, (refl, refl)))))))))))))))))
 
 -- The result is the refusal with the smallest number that passes the test, or none if none does.
-abbrev Told : (Refusal → Bool) → Option Refusal → Type 0
-Told test None = (k : Refusal) → test k ≡ false
-Told test (Some n) = (test n ≡ true) × ((k : Refusal) → number_of k < number_of n → test k ≡ false)
+abbrev IsLeastCause : (Refusal → Bool) → Option Refusal → Type 0
+IsLeastCause test None = (k : Refusal) → test k ≡ false
+IsLeastCause test (Some n) = (test n ≡ true) × ((k : Refusal) → number_of k < number_of n → test k ≡ false)
 
 lt_or_same : (a b : ℕ) → a < b + 1 → (a < b) ⊎ (a ≡ b)
 lt_or_same a b l = elim (cases_order a b) [ inl same ↦ inr same | inr o ↦ elim o [ inl under ↦ inl under | inr over ↦ absurd (omega (arith, l, over)) ] ]
 
 most : (k : Refusal) (i : ℕ) → i ≡ 18 → number_of k < i
-most k i e = let x = stands_at k in let l = slice_get_within refusals x.0 k x.2 in omega (arith, x.1, l, e)
+most k i e = let x = refusal_at k in let l = slice_get_within refusals x.0 k x.2 in omega (arith, x.1, l, e)
 
-first_told : (test : Refusal → Bool) (i : ℕ) (xs : List Refusal) → Numbered i xs → ((k : Refusal) → number_of k < i → test k ≡ false) → Told test (find test xs)
+first_is_least : (test : Refusal → Bool) (i : ℕ) (xs : List Refusal) → Numbered i xs → ((k : Refusal) → number_of k < i → test k ≡ false) → IsLeastCause test (find test xs)
 unfolding Numbered
-first_told test i [] e below = λ k. below k (most k i e)
-first_told test i (x ∷ xs) e below = by (λ b. first_told test (i + 1) xs e.1 b) (test x) refl
+first_is_least test i [] e below = λ k. below k (most k i e)
+first_is_least test i (x ∷ xs) e below = by (λ b. first_is_least test (i + 1) xs e.1 b) (test x) refl
   where
     further : test x ≡ false → (k : Refusal) → number_of k < i + 1 → test k ≡ false
     further h k l = elim (lt_or_same (number_of k) i l) [ inl under ↦ below k under | inr same ↦ ap test (same_number k x (same ∙ sym e.0)) ∙ h ]
 
-    by : (((k : Refusal) → number_of k < i + 1 → test k ≡ false) → Told test (find test xs)) → (b : Bool) → test x ≡ b → Told test (cond b (Some x) (find test xs))
+    by : (((k : Refusal) → number_of k < i + 1 → test k ≡ false) → IsLeastCause test (find test xs)) → (b : Bool) → test x ≡ b → IsLeastCause test (cond b (Some x) (find test xs))
     by next true h = (h, λ k l. below k (subst (λ n. number_of k < n) e.0 l))
     by next false h = next (further h)
 
@@ -233,25 +233,25 @@ step_first m t = by (slice_get m.threads t)
     by None = refl
     by (Some x) = rw (ends x.program x.counter) (at x.stage (slice_get x.program x.counter))
 
-first_is_told : (m : Machine) (e : Event) → refusal m e ≡ find (has_cause m e) refusals
-first_is_told m (Step t) = step_first m t
-first_is_told m (Take n) = take_first m n
-first_is_told m Sleep = sleep_first m
-first_is_told m (Issue r) = issue_first m r
-first_is_told m (Finish r c) = finish_first m r c
-first_is_told m (Expire r) = expire_first m r
-first_is_told m (Tick d) = tick_first m d
+first_is_refusal : (m : Machine) (e : Event) → refusal m e ≡ find (has_cause m e) refusals
+first_is_refusal m (Step t) = step_first m t
+first_is_refusal m (Take n) = take_first m n
+first_is_refusal m Sleep = sleep_first m
+first_is_refusal m (Issue r) = issue_first m r
+first_is_refusal m (Finish r c) = finish_first m r c
+first_is_refusal m (Expire r) = expire_first m r
+first_is_refusal m (Tick d) = tick_first m d
 
 -- ---- The theorems
 
-told_as : (m : Machine) (e : Event) → Told (has_cause m e) (refusal m e)
-told_as m e = subst (Told (has_cause m e)) (sym (first_is_told m e)) (first_told (has_cause m e) 1 refusals all_numbered (λ k l. let x = stands_at k in absurd (omega (arith, x.1, l))))
+refusal_is_least : (m : Machine) (e : Event) → IsLeastCause (has_cause m e) (refusal m e)
+refusal_is_least m e = subst (IsLeastCause (has_cause m e)) (sym (first_is_refusal m e)) (first_is_least (has_cause m e) 1 refusals all_numbered (λ k l. let x = refusal_at k in absurd (omega (arith, x.1, l))))
 
-pub told : (m : Machine) (e : Event) (n : Refusal) → refusal m e ≡ Some n → has_cause m e n ≡ true
-told m e n h = (subst (Told (has_cause m e)) h (told_as m e)).0
+pub has_its_cause : (m : Machine) (e : Event) (n : Refusal) → refusal m e ≡ Some n → has_cause m e n ≡ true
+has_its_cause m e n h = (subst (IsLeastCause (has_cause m e)) h (refusal_is_least m e)).0
 
 pub least : (m : Machine) (e : Event) (n k : Refusal) → refusal m e ≡ Some n → number_of k < number_of n → has_cause m e k ≡ false
-least m e n k h l = (subst (Told (has_cause m e)) h (told_as m e)).1 k l
+least m e n k h l = (subst (IsLeastCause (has_cause m e)) h (refusal_is_least m e)).1 k l
 
-pub untold : (m : Machine) (e : Event) → refusal m e ≡ None → (n : Refusal) → has_cause m e n ≡ false
-untold m e h = subst (Told (has_cause m e)) h (told_as m e)
+pub has_no_cause : (m : Machine) (e : Event) → refusal m e ≡ None → (n : Refusal) → has_cause m e n ≡ false
+has_no_cause m e h = subst (IsLeastCause (has_cause m e)) h (refusal_is_least m e)

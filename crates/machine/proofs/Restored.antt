@@ -10,7 +10,7 @@ use Rattle.places.specs.declared.notes.runs.Region.{Region}
 use Rattle.places.specs.declared.notes.runs.Region.TheVariants.{Memory, File, Durable, Pipe}
 use Rattle.places.specs.View.{named, undo, put_at, Keeps, NamesOnce}
 use Rattle.places.specs.Runs.{place_in, old_bytes}
-use Rattle.places.specs.Masked.{BytesStand}
+use Rattle.places.specs.Masked.{BytesPresent}
 use Rattle.places.proofs.SamePlace.{same_place_is, same_place_self}
 use Rattle.places.proofs.Undoing.{once_back, named_front, named_back, undo-append}
 use Rattle.places.proofs.KeptAt.{named_here}
@@ -30,7 +30,7 @@ pub record Restored (before : Machine) (cs : List Change) (now : Machine) (left 
   pub rows : map fixed_of before.table ≡ map fixed_of now.table
   pub backlog : length before.backlog.items ≡ length now.backlog.items
   pub once : NamesOnce left
-  pub told : (p : Place) (x : Option Value) → named left p ≡ Some x → named cs p ≡ Some x
+  pub includes : (p : Place) (x : Option Value) → named left p ≡ Some x → named cs p ≡ Some x
   pub same : (p : Place) → undo (view now) left p ≡ undo (view before) cs p
 
 pub setup_then : (a b c : Machine) → OneSetup a b → OneSetup b c → OneSetup a c
@@ -40,7 +40,7 @@ pub setup_self : (m : Machine) → OneSetup m m
 setup_self m = record { array = refl; slots = refl; completions = refl; world = worlds.setup_self _; programs = refl; poller = refl; submit_all = refl }
 
 pub restored_from : (m : Machine) (cs : List Change) → NamesOnce cs → Restored m cs m cs
-restored_from m cs o = record { setup = setup_self m; rows = refl; backlog = refl; once = o; told = λ p x h. h; same = λ p. refl }
+restored_from m cs o = record { setup = setup_self m; rows = refl; backlog = refl; once = o; includes = λ p x h. h; same = λ p. refl }
 
 first_named : (c : Change) (left : List Change) → named (c ∷ left) c.place ≡ Some c.old
 unfolding named
@@ -48,7 +48,7 @@ first_named c left = ap (λ b. cond b (Some c.old) (named left c.place)) (same_p
 
 -- The old value of the next change is the value in the machine to restore.
 next_is : (s before now : Machine) (cs : List Change) (c : Change) (left : List Change) → Overwrites s before cs → Restored before cs now (c ∷ left) → c.old ≡ view s c.place
-next_is s before now cs c left g r = g.stood c.place c.old (r.told c.place c.old (first_named c left))
+next_is s before now cs c left g r = g.values c.place c.old (r.includes c.place c.old (first_named c left))
 
 pub next_can_put : (s before now : Machine) (cs : List Change) (c : Change) (left : List Change) (v : Value) → c.old ≡ Some v → Overwrites s before cs → Restored before cs now (c ∷ left) → can_put now c.place c.old
 next_can_put s before now cs c left v e g r =
@@ -62,7 +62,7 @@ restored_on before now next cs c left o l b e r = record {
   rows = r.rows ∙ l;
   backlog = r.backlog ∙ b;
   once = r.once.1;
-  told = λ p x h. r.told p x (named_back (c ∷ []) left p x r.once h);
+  includes = λ p x h. r.includes p x (named_back (c ∷ []) left p x r.once h);
   same = λ p. undo-cons (view now) (view next) c left r.once.0 e p ∙ r.same p;
 }
 
@@ -94,23 +94,23 @@ restored_over before now next cs ds left o r = record {
   rows = r.rows ∙ o.rows;
   backlog = r.backlog ∙ o.backlog;
   once = once_back ds left r.once;
-  told = λ p x h. r.told p x (named_back ds left p x r.once h);
+  includes = λ p x h. r.includes p x (named_back ds left p x r.once h);
   same = λ p. ap (λ y. unwrap_or (named left p) y) (o.undone p) ∙ sym (undo-append (view now) ds left r.once p) ∙ r.same p;
 }
 
 -- A place of a byte that may be written in the machine is present among the objects and the memory.
-stands : (m : Machine) (g : Region) (j : ℕ) (v : Value) → can_put m (place_in g j) (Some v) → IsSome (world_seen m.world (place_in g j))
-stands m Memory j v h = h.there
-stands m (File o) j v h = h.there
-stands m (Durable o) j v h = h.there
-stands m (Pipe o) j v h = h.there
+value_there : (m : Machine) (g : Region) (j : ℕ) (v : Value) → can_put m (place_in g j) (Some v) → IsSome (world_seen m.world (place_in g j))
+value_there m Memory j v h = h.there
+value_there m (File o) j v h = h.there
+value_there m (Durable o) j v h = h.there
+value_there m (Pipe o) j v h = h.there
 
 -- Each byte of the next range that has an old value is present.
-pub stretch_stands : (s before now : Machine) (cs : List Change) (g : Region) (i : ℕ) (os : List (Option ℕ)) (left : List Change) → Overwrites s before cs → Restored before cs now (old_bytes g i os ++ left) → BytesStand (world_seen now.world) g i os
-stretch_stands s before now cs g i os left w r k b e =
-    let told = r.told (place_in g (i + k)) (Some (Byte b)) (named_front (old_bytes g i os) left (place_in g (i + k)) (Some (Byte b)) (named_here g i os k b e)) in
-    let here = w.stood (place_in g (i + k)) (Some (Byte b)) told in
-    stands now g (i + k) (Byte b) (seen_can_put s now w.formed (setup_then s before now w.setup r.setup) (w.rows ∙ r.rows) (w.backlog ∙ r.backlog) (place_in g (i + k)) (Byte b) (sym here))
+pub stretch_present : (s before now : Machine) (cs : List Change) (g : Region) (i : ℕ) (os : List (Option ℕ)) (left : List Change) → Overwrites s before cs → Restored before cs now (old_bytes g i os ++ left) → BytesPresent (world_seen now.world) g i os
+stretch_present s before now cs g i os left w r k b e =
+    let includes = r.includes (place_in g (i + k)) (Some (Byte b)) (named_front (old_bytes g i os) left (place_in g (i + k)) (Some (Byte b)) (named_here g i os k b e)) in
+    let here = w.values (place_in g (i + k)) (Some (Byte b)) includes in
+    value_there now g (i + k) (Byte b) (seen_can_put s now w.formed (setup_then s before now w.setup r.setup) (w.rows ∙ r.rows) (w.backlog ∙ r.backlog) (place_in g (i + k)) (Byte b) (sym here))
 
 unnamed : (p : Place) → named [] p ≡ None
 unfolding named
@@ -134,10 +134,10 @@ world_put_back m w g i os o h = record {
 -- ---- One part of the changes after the other
 
 overwrites : (s m : Machine) (cs : List Change) → Remains s m cs → Overwrites s m cs
-overwrites s m cs r = record { formed = r.formed; setup = r.setup; rows = r.rows; backlog = r.backlog; stood = λ p x h. sym (ap (λ n. unwrap_or n (view m p)) h) ∙ r.back p }
+overwrites s m cs r = record { formed = r.formed; setup = r.setup; rows = r.rows; backlog = r.backlog; values = λ p x h. sym (ap (λ n. unwrap_or n (view m p)) h) ∙ r.back p }
 
 overwrites_front : (s m : Machine) (cs ds : List Change) → Overwrites s m (cs ++ ds) → Overwrites s m cs
-overwrites_front s m cs ds w = record { formed = w.formed; setup = w.setup; rows = w.rows; backlog = w.backlog; stood = λ p x h. w.stood p x (named_front cs ds p x h) }
+overwrites_front s m cs ds w = record { formed = w.formed; setup = w.setup; rows = w.rows; backlog = w.backlog; values = λ p x h. w.values p x (named_front cs ds p x h) }
 
 overwrites_back : (s m n : Machine) (cs ds : List Change) → NamesOnce (cs ++ ds) → Overwrites s m (cs ++ ds) → Overwritten m n cs → Overwrites s n ds
 overwrites_back s m n cs ds once w o = record {
@@ -145,7 +145,7 @@ overwrites_back s m n cs ds once w o = record {
   setup = setup_then s m n w.setup o.setup;
   rows = w.rows ∙ o.rows;
   backlog = w.backlog ∙ o.backlog;
-  stood = λ p x h. w.stood p x (named_back cs ds p x once h);
+  values = λ p x h. w.values p x (named_back cs ds p x once h);
 }
 
 overwritten_then : (m n o : Machine) (cs ds : List Change) → NamesOnce (cs ++ ds) → Overwritten m n cs → Overwritten n o ds → Overwritten m o (cs ++ ds)

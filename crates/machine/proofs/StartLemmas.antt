@@ -28,7 +28,7 @@ use Rattle.model_files.specs.Pipes.{PipeState, pipe_start}
 use Rattle.model_files.specs.Worlds.{ContentsFit, PutsWithin, body_start, pipe_in, world_start}
 use Rattle.model_files.proofs.Forming.{world_start_formed}
 use Rattle.places.specs.declared.value.Stage.TheVariants.{Ready, Waiting}
-use Rattle.machine.specs.Whole.{is_asleep, flag_word, WellFormed, Stands}
+use Rattle.machine.specs.Whole.{is_asleep, flag_word, WellFormed, ThreadWellFormed}
 use Rattle.machine.specs.Runs.{first_poller, start, completion_entries}
 use Rattle.scenario.specs.declared.setup.Instruction.{Instruction}
 use Rattle.scenario.specs.declared.setup.Instruction.TheVariants.{Put, Push, Store, Enter, Reap, Close}
@@ -156,8 +156,8 @@ completions_between entries (Some n) l m h =
 
 -- ---- The whole machine
 
-threads_stand : (s : Setup) → Accepted s → HaveWidths s.threads → (t : ℕ) (x : ThreadState) → slice_get (map thread_start s.threads) t ≡ Some x → Stands (rounded s.entries) x
-threads_stand s a w t x h = by (slice_get s.threads t) refl (sym (slice_get-map thread_start s.threads t) ∙ h)
+threads_well_formed : (s : Setup) → Accepted s → HaveWidths s.threads → (t : ℕ) (x : ThreadState) → slice_get (map thread_start s.threads) t ≡ Some x → ThreadWellFormed (rounded s.entries) x
+threads_well_formed s a w t x h = by (slice_get s.threads t) refl (sym (slice_get-map thread_start s.threads t) ∙ h)
   where
     ready : (n v : ℕ) → Ready ≡ Waiting n v → ⊥
     ready n v q = cc
@@ -165,11 +165,11 @@ threads_stand s a w t x h = by (slice_get s.threads t) refl (sym (slice_get-map 
     all : list_all (is_program (rounded s.entries)) s.threads ≡ true
     all = (both_true (leb (length s.threads) 16) (list_all (is_program (rounded s.entries)) s.threads) a.programs).1
 
-    by : (o : Option (List Instruction)) → slice_get s.threads t ≡ o → option_map thread_start o ≡ Some x → Stands (rounded s.entries) x
+    by : (o : Option (List Instruction)) → slice_get s.threads t ≡ o → option_map thread_start o ≡ Some x → ThreadWellFormed (rounded s.entries) x
     by None g k = absurd cc
     by (Some p) g k =
         let e : thread_start p ≡ x = cc in
-        subst (Stands (rounded s.entries)) e (record {
+        subst (ThreadWellFormed (rounded s.entries)) e (record {
           within = omega arith;
           program = program (rounded s.entries) p (list_all_get (is_program (rounded s.entries)) s.threads t p all g) (w t p g);
           last = search rules;
@@ -200,7 +200,7 @@ formed_start s h b w =
         table = record { few = omega arith; chained = chained-none; counted = refl };
         world = world_start_formed s.memory s.objects s.fds (memory_fits s a) (objects_fit s a) (descriptors_few s a);
         clock = omega arith;
-        threads = λ t x k. subst (λ (i : ℕ). Stands i x) (sym size) (threads_stand s a w t x k);
+        threads = λ t x k. subst (λ (i : ℕ). ThreadWellFormed i x) (sym size) (threads_well_formed s a w t x k);
       };
       rows = λ r x k. absurd (none_there x k);
       guards = λ r x k. absurd (none_there x k);

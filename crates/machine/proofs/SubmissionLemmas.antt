@@ -30,11 +30,11 @@ words_least w k count h = ap (λ n. take n (sub_list w)) h ∙ take_least k (sub
 
 -- ---- The machine after it
 
-pub take_told : (m : Machine) (k count taken_rows : ℕ) (ring : SubWords) (rows : List Row) → offered m.submissions count ≡ words_for m k → count ≤ length (sub_list m.submissions)
+pub take_is_taken : (m : Machine) (k count taken_rows : ℕ) (ring : SubWords) (rows : List Row) → offered m.submissions count ≡ words_for m k → count ≤ length (sub_list m.submissions)
     → rows ≡ m.table ++ rows_of m.world (length m.table) (entries_for m k) → taken_rows ≡ length (entries_for m k)
     → ring ≡ record m.submissions { head = (m.submissions.head + count) % 2 ^ 32; dropped = (m.submissions.dropped + (count - taken_rows)) % 2 ^ 32 }
     → record m { submissions = ring; table = rows } ≡ taken m k
-take_told m k count taken_rows ring rows w l r t e = ap (λ n. built n rows) e ∙ ap (λ n. built (moved n taken_rows) rows) number ∙ ap (λ n. built (moved (length words) n) rows) t ∙ ap (built (moved (length words) (length (entries_for m k)))) r
+take_is_taken m k count taken_rows ring rows w l r t e = ap (λ n. built n rows) e ∙ ap (λ n. built (moved n taken_rows) rows) number ∙ ap (λ n. built (moved (length words) n) rows) t ∙ ap (built (moved (length words) (length (entries_for m k)))) r
   where
     words : List ℕ
     words = words_for m k

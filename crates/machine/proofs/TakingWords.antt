@@ -49,7 +49,7 @@ length-up_to_entry slots (suc n) (x ∷ words) = by (is_some (slice_get slots x)
 
 -- `count` words were read, and `left` entries remain to be found.
 pub record Reading (slots : List Sqe) (words : List ℕ) (n count left : ℕ) : Type 0 where
-  pub told : up_to_entry slots n words ≡ take count words ++ up_to_entry slots left (drop count words)
+  pub splits : up_to_entry slots n words ≡ take count words ++ up_to_entry slots left (drop count words)
   pub named : left ≤ length (entries_at slots (drop count words))
   pub enough : n ≤ count + left
   pub within : count ≤ length words
@@ -72,14 +72,14 @@ reading_there slots words n count left r l = grind (arith, less)
     less : length words ≤ count → left ≤ 0
     less h = let m = r.named in let e = ap (λ ws. length (entries_at slots ws)) (past_end words count h) in omega (arith, m, e)
 
-step_told : (slots : List Sqe) (x : ℕ) (words : List ℕ) (left : ℕ) (b : Bool) → is_some (slice_get slots x) ≡ b → 0 < left → up_to_entry slots left (x ∷ words) ≡ x ∷ up_to_entry slots (cond b (left - 1) left) words
-step_told slots x words zero b h l = absurd (omega (arith, l))
-step_told slots x words (suc left) b h l = let m : suc left - 1 ≡ left = omega arith in ap (λ c. x ∷ up_to_entry slots (cond c left (suc left)) words) h ∙ ap (λ k. x ∷ up_to_entry slots (cond b k (suc left)) words) (sym m)
+step_taken : (slots : List Sqe) (x : ℕ) (words : List ℕ) (left : ℕ) (b : Bool) → is_some (slice_get slots x) ≡ b → 0 < left → up_to_entry slots left (x ∷ words) ≡ x ∷ up_to_entry slots (cond b (left - 1) left) words
+step_taken slots x words zero b h l = absurd (omega (arith, l))
+step_taken slots x words (suc left) b h l = let m : suc left - 1 ≡ left = omega arith in ap (λ c. x ∷ up_to_entry slots (cond c left (suc left)) words) h ∙ ap (λ k. x ∷ up_to_entry slots (cond b k (suc left)) words) (sym m)
 
 -- One more word is read.
 pub reading_on : (slots : List Sqe) (words : List ℕ) (n count left x : ℕ) (b : Bool) → Reading slots words n count left → 0 < left → slice_get words count ≡ Some x → is_some (slice_get slots x) ≡ b → Reading slots words n (count + 1) (cond b (left - 1) left)
 reading_on slots words n count left x b r l h k = record {
-  told = r.told ∙ ap (λ ws. take count words ++ up_to_entry slots left ws) here ∙ ap (λ ws. take count words ++ ws) (step_told slots x (drop (count + 1) words) left b k l)
+  splits = r.splits ∙ ap (λ ws. take count words ++ up_to_entry slots left ws) here ∙ ap (λ ws. take count words ++ ws) (step_taken slots x (drop (count + 1) words) left b k l)
       ∙ pushed (take count words) x (up_to_entry slots (cond b (left - 1) left) (drop (count + 1) words)) ∙ ap (λ ws. ws ++ up_to_entry slots (cond b (left - 1) left) (drop (count + 1) words)) (sym (one_more words count x h));
   named = by b (let m = r.named in let e = ap (λ ws. length (entries_at slots ws)) here ∙ entries_more slots x (drop (count + 1) words) ∙ ap (λ c. cond c (suc (length rest)) (length rest)) k in rw (← e) m);
   enough = most b;

@@ -33,7 +33,7 @@ use Rattle.links_drains.specs.Endings.{Ending, ecanceled, result_in}
 use Rattle.links_drains.specs.Links.{has_flag, is_guard}
 use Rattle.links_drains.specs.Numbered.{map_numbered}
 use Rattle.links_drains.specs.Phases.{is_issued, is_queued}
-use Rattle.timeouts_cancel.specs.Falls.{counted_in, fall_of}
+use Rattle.timeouts_cancel.specs.Cascades.{counted_in, fall_of}
 use Rattle.timeouts_cancel.specs.Timers.{is_due}
 use Rattle.machine.specs.Cancels.{verdict_of, ending_with}
 use Rattle.machine.specs.Submission.{offered, taken_words, taken_entries, einval, ebusy, ebadf, etime}
@@ -233,8 +233,8 @@ all_ended m es = record (posted m (completions_of m.table es)) {
 }
 
 -- The machine after the direct completions and their cascade.
-unfoldable pub fallen : Machine → List Ending → Machine
-fallen m direct = all_ended m (fall_of m.table m.counted direct)
+unfoldable pub cascaded : Machine → List Ending → Machine
+cascaded m direct = all_ended m (fall_of m.table m.counted direct)
 
 -- The words that a submission consumes, and the entries that become requests.
 abbrev pub words_for : Machine → ℕ → List ℕ
@@ -257,15 +257,15 @@ taken m k = record m {
 -- The machine after a submission. Invalid entries, and the other requests of their chains, have
 -- completed.
 abbrev pub submitted : Machine → ℕ → Machine
-submitted m k = fallen (taken m k) (direct_of m.world (length m.table) (entries_for m k))
+submitted m k = cascaded (taken m k) (direct_of m.world (length m.table) (entries_for m k))
 
 -- The machine after a system call returned n to a thread.
 abbrev pub answered : Machine → ℕ → ℤ → Machine
 answered m t n = record m { threads = updated (λ x. record x { counter = x.counter + 1; last = n; stage = Ready }) m.threads t }
 
 -- The machine after a thread advanced to its next instruction.
-abbrev pub gone_on : Machine → ℕ → Machine
-gone_on m t = record m { threads = updated (λ x. record x { counter = x.counter + 1 }) m.threads t }
+abbrev pub advanced : Machine → ℕ → Machine
+advanced m t = record m { threads = updated (λ x. record x { counter = x.counter + 1 }) m.threads t }
 
 -- The machine with a thread that waits in its Enter, which submitted n entries, for w completions.
 abbrev pub held_back : Machine → ℕ → ℕ → ℕ → Machine
@@ -277,16 +277,16 @@ abbrev pub with_poller : Machine → Poller → Machine
 with_poller m p = record m { poller = Some p; submissions = record m.submissions { flags = with_flag m.submissions.flags NeedWakeup (not (is_awake p)) } }
 
 -- How many completions a thread waits for: at most the size of the ring.
-abbrev pub wanted : Machine → ℕ → ℕ
-wanted m min_complete = min min_complete (length m.completions.slots)
+abbrev pub needed : Machine → ℕ → ℕ
+needed m min_complete = min min_complete (length m.completions.slots)
 
 -- The machine after a thread's submission. The thread waits if it submitted all entries, waits for
 -- completions (IORING_ENTER_GETEVENTS), and too few are in the ring. Otherwise its Enter returns.
 abbrev pub awaited : Machine → ℕ → ℕ → ℕ → ℕ → ℕ → Machine
 awaited m t submitted to_submit min_complete flags =
     if gets_events flags
-    && ((submitted == to_submit) && nat_lt (ready_count m) (wanted m min_complete))
-    then held_back m t submitted (wanted m min_complete)
+    && ((submitted == to_submit) && nat_lt (ready_count m) (needed m min_complete))
+    then held_back m t submitted (needed m min_complete)
     else answered m t (pos submitted)
 
 -- The machine after the poller was woken, if the flags say so.
@@ -300,8 +300,8 @@ shown m flags = if gets_events flags then flushed m else m
 
 -- An Enter with a poller. It wakes the poller and moves overflowed completions into the ring, if
 -- the flags say so.
-abbrev pub entered_beside : Machine → ℕ → ℕ → ℕ → ℕ → Machine
-entered_beside m t to_submit min_complete flags =
+abbrev pub entered_with_poller : Machine → ℕ → ℕ → ℕ → ℕ → Machine
+entered_with_poller m t to_submit min_complete flags =
     awaited (shown (woken m flags) flags) t to_submit to_submit min_complete flags
 
 -- An Enter that submits entries. While completions overflow it submits none (EBUSY).
@@ -312,17 +312,17 @@ submitting m t to_submit min_complete flags =
     flags
 
 -- An Enter without a poller.
-abbrev pub entered_alone : Machine → ℕ → ℕ → ℕ → ℕ → Machine
-entered_alone m t to_submit min_complete flags =
+abbrev pub entered_without_poller : Machine → ℕ → ℕ → ℕ → ℕ → Machine
+entered_without_poller m t to_submit min_complete flags =
     submitting (before_submission m to_submit flags) t to_submit min_complete flags
 
 -- An Enter. Unknown flags return EINVAL.
 abbrev pub entered : Machine → Option Poller → ℕ → ℕ → ℕ → ℕ → Machine
 entered m None t to_submit min_complete flags =
-    if is_unknown flags then answered m t einval else entered_alone m t to_submit min_complete flags
+    if is_unknown flags then answered m t einval else entered_without_poller m t to_submit min_complete flags
 entered m (Some p) t to_submit min_complete flags =
     if is_unknown flags then answered m t einval
-    else entered_beside m t to_submit min_complete flags
+    else entered_with_poller m t to_submit min_complete flags
 
 -- Whether there is a descriptor, and it is open.
 abbrev pub is_open : Option DescriptorState → Bool
@@ -340,10 +340,10 @@ closed m t (pos fd) =
 -- The machine after an instruction.
 abbrev pub executed : Machine → ℕ → Option Instruction → Machine
 executed m t None = m
-executed m t (Some (Put slot entry)) = gone_on (record m { submissions = record m.submissions { slots = slice_set m.submissions.slots slot entry } }) t
-executed m t (Some (Push index)) = gone_on (record m { submissions = record m.submissions { tail = (m.submissions.tail + 1) % 2 ^ 32; array = slice_set m.submissions.array (m.submissions.tail % length m.submissions.array) index } }) t
+executed m t (Some (Put slot entry)) = advanced (record m { submissions = record m.submissions { slots = slice_set m.submissions.slots slot entry } }) t
+executed m t (Some (Push index)) = advanced (record m { submissions = record m.submissions { tail = (m.submissions.tail + 1) % 2 ^ 32; array = slice_set m.submissions.array (m.submissions.tail % length m.submissions.array) index } }) t
 executed m t (Some (Store address bytes)) =
-    gone_on (record m { world = world_stored address bytes m.world }) t
+    advanced (record m { world = world_stored address bytes m.world }) t
 executed m t (Some (Enter to_submit min_complete flags)) =
     entered m m.poller t to_submit min_complete flags
 executed m t (Some Reap) = record m {
@@ -361,7 +361,7 @@ next_of (Some x) = slice_get x.program x.counter
 -- one returns from Enter.
 abbrev pub resumed : Machine → ℕ → Stage → Option Instruction → Machine
 resumed m t Ready next = executed m t next
-resumed m t (Waiting submitted wanted) next = answered m t (pos submitted)
+resumed m t (Waiting submitted needed) next = answered m t (pos submitted)
 
 abbrev pub stepped : Machine → ℕ → Option ThreadState → Machine
 stepped m t None = m
@@ -418,7 +418,7 @@ all_started clock counted rows r = map_numbered (started_with clock counted r) r
 abbrev pub issued : Machine → ℕ → Option Row → Machine
 issued m r None = m
 issued m r (Some row) =
-    if lacks_descriptor m.world row then fallen m ((r, ebadf) ∷ [])
+    if lacks_descriptor m.world row then cascaded m ((r, ebadf) ∷ [])
     else record m { table = all_started m.clock m.counted m.table r }
 
 -- Whether request t is issued, and waits.
@@ -440,18 +440,18 @@ expiring r (Some t) = (t, ecanceled) ∷ (r, etime) ∷ []
 -- The machine after a timer expired, and the cascade.
 abbrev pub expired : Machine → ℕ → Option Row → Machine
 expired m r None = m
-expired m r (Some row) = fallen m (expiring r (waiting_target m.table m.world row row.target))
+expired m r (Some row) = cascaded m (expiring r (waiting_target m.table m.world row row.target))
 
 -- The machine after a request had its effect and completed, and the cascade.
 abbrev pub finished_as : Machine → ℕ → Row → Outcome → Machine
 finished_as m r row (Res res) =
-    fallen (record m { world = world_after row res m.world }) ((r, res) ∷ [])
+    cascaded (record m { world = world_after row res m.world }) ((r, res) ∷ [])
 finished_as m r row Waits = m
 finished_as m r row BadChoice = m
 
 -- The machine after a cancellation or a removal, and the requests that it canceled.
 abbrev pub cancelled : Machine → ℕ → Sqe → Machine
-cancelled m r entry = fallen m (ending_with r (verdict_of m.table m.world r entry))
+cancelled m r entry = cascaded m (ending_with r (verdict_of m.table m.world r entry))
 
 -- The machine after request r completed as chosen, and the cascade.
 abbrev pub finished : Machine → ℕ → Option Row → Choice → Machine

@@ -130,22 +130,22 @@ flag_word asleep keeps = (if asleep then 1 else 0) + (if keeps then 2 else 0)
 -- A waiting thread is at an Enter, and its numbers fit 32 bits.
 pub record Waits (x : ThreadState) (n w : ℕ) : Type 0 where
   pub submitted : n < 2 ^ 32
-  pub wanted : w < 2 ^ 32
+  pub needed : w < 2 ^ 32
   pub to_submit : ℕ
   pub min_complete : ℕ
   pub flags : ℕ
   pub enter : slice_get x.program x.counter ≡ Some (Enter to_submit min_complete flags)
 
 -- A thread is within its program or at its end, and the program is valid.
-pub record Stands (size : ℕ) (x : ThreadState) : Type 0 where
+pub record ThreadWellFormed (size : ℕ) (x : ThreadState) : Type 0 where
   pub within : x.counter ≤ length x.program
   pub program : IsProgram size x.program
   pub last : FitsSigned w64 x.last
   pub waits : (n w : ℕ) → x.stage ≡ Waiting n w → Waits x n w
 
 -- All threads are.
-abbrev pub AllStand : ℕ → List ThreadState → Type 0
-AllStand size threads = (t : ℕ) (x : ThreadState) → slice_get threads t ≡ Some x → Stands size x
+abbrev pub AllThreadsWellFormed : ℕ → List ThreadState → Type 0
+AllThreadsWellFormed size threads = (t : ℕ) (x : ThreadState) → slice_get threads t ≡ Some x → ThreadWellFormed size x
 
 -- The request holds the descriptor that its entry names. The setup has this descriptor, and its end
 -- of the object fits the request.
@@ -176,10 +176,10 @@ pub record RowFormed (w : WorldState) (x : Row) : Type 0 where
 
 -- A linked timeout comes directly after its target, in the same chain and the same phase. The
 -- target is no linked timeout.
-pub record GuardStands (rows : List Row) (r : ℕ) (x : Row) : Type 0 where
+pub record GuardIsLinked (rows : List Row) (r : ℕ) (x : Row) : Type 0 where
   pub target : ℕ
   pub is : x.target ≡ Some target
-  pub behind : target + 1 ≡ r
+  pub follows : target + 1 ≡ r
   pub row : Row
   pub there : slice_get rows target ≡ Some row
   pub other : is_guard row ≡ false
@@ -191,10 +191,10 @@ abbrev pub NoneMet : ℕ → List Row → Type 0
 NoneMet counted rows = (r : ℕ) (x : Row) → slice_get rows r ≡ Some x → is_met counted x ≡ false
 
 -- Each unfinished linked timeout has a target in this way.
-abbrev pub AllGuardsStand : List Row → Type 0
-AllGuardsStand rows =
+abbrev pub AllGuardsLinked : List Row → Type 0
+AllGuardsLinked rows =
     (r : ℕ) (x : Row) → slice_get rows r ≡ Some x → is_guard x ≡ true → is_unfinished x.phase ≡ true
-    → GuardStands rows r x
+    → GuardIsLinked rows r x
 
 -- The invariant of the rings: they hold at most as many items as they have room for, and the flags
 -- word is right.
@@ -226,14 +226,14 @@ pub record Mostly (m : Machine) : Type 0 where
   pub table : TableFormed m.table m.counted
   pub world : WorldFormed m.world
   pub clock : m.clock < 2 ^ 64
-  pub threads : AllStand (length m.submissions.slots) m.threads
+  pub threads : AllThreadsWellFormed (length m.submissions.slots) m.threads
 
 -- The invariant of a machine between steps. In addition to `Mostly`, each request is well formed,
 -- and the pipes received at most 65,536 bytes per completed request.
 pub record WellFormed (m : Machine) : Type 0 where
   pub mostly : Mostly m
   pub rows : (r : ℕ) (x : Row) → slice_get m.table r ≡ Some x → RowFormed m.world x
-  pub guards : AllGuardsStand m.table
+  pub guards : AllGuardsLinked m.table
   pub unmet : NoneMet m.counted m.table
   pub puts : PutsWithin (65536 * ended_of m.table) m.world
 
@@ -255,7 +255,7 @@ pub record Overwrites (s m : Machine) (cs : List Change) : Type 0 where
   pub setup : OneSetup s m
   pub rows : map fixed_of s.table ≡ map fixed_of m.table
   pub backlog : length s.backlog.items ≡ length m.backlog.items
-  pub stood : (p : Place) (x : Option Value) → named cs p ≡ Some x → x ≡ view s p
+  pub values : (p : Place) (x : Option Value) → named cs p ≡ Some x → x ≡ view s p
 
 -- The machine n is m with the changes undone, and has as many requests and overflowed completions.
 pub record Overwritten (m n : Machine) (cs : List Change) : Type 0 where

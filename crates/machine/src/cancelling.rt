@@ -41,7 +41,7 @@ impl Machine {
     {
         let verdict = self.verdict(r, entry)?;
         let direct = ending_with(self.table.allocator(), r, &verdict)?;
-        self.fall(&direct, notes)
+        self.cascade(&direct, notes)
     }
 
     // Determines the outcome, without a change of the state.
@@ -84,8 +84,8 @@ fn ending_with(alloc: Global, me: u32, verdict: &Verdict) -> Result<Vec<(u32, i3
 {
     let mut direct = canceled_before(alloc, &verdict.rows, me)?;
     direct.push((me, verdict.res))?;
-    let mut behind = canceled_behind(alloc, &verdict.rows, me)?;
-    direct.append(&mut behind)?;
+    let mut later = canceled_after(alloc, &verdict.rows, me)?;
+    direct.append(&mut later)?;
     Ok(direct)
 }
 
@@ -96,11 +96,11 @@ fn canceled_before(alloc: Global, rows: &[u32], me: u32) -> Result<Vec<(u32, i32
     before.map(|r| (*r, -ECANCELED)).collect(alloc)
 }
 
-fn canceled_behind(alloc: Global, rows: &[u32], me: u32) -> Result<Vec<(u32, i32)>, AllocError>
+fn canceled_after(alloc: Global, rows: &[u32], me: u32) -> Result<Vec<(u32, i32)>, AllocError>
     ensures { IfOk result (λ endings. endings.items ≡ canceled (λ r. nat_lt me r) rows.now) }
 {
-    let behind = rows.iter().filter(|r| me < **r);
-    behind.map(|r| (*r, -ECANCELED)).collect(alloc)
+    let later = rows.iter().filter(|r| me < **r);
+    later.map(|r| (*r, -ECANCELED)).collect(alloc)
 }
 
 /// Returns what the entry searches for.

@@ -2,9 +2,9 @@
 ghost use Rattle.std.specs.Prelude.{◌≡◌, ◌+◌, ◌<◌, ◌≤◌, ◌^◌, ℕ, ℤ, OnOk, Some, length, slice_get};
 ghost use Rattle.places.specs.View.{Keeps};
 ghost use Rattle.machine.specs.InTurn.{ended, ended_in_turn};
-ghost use Rattle.machine.specs.Steps.{delivery, fallen};
+ghost use Rattle.machine.specs.Steps.{delivery, cascaded};
 ghost use Rattle.links_drains.specs.Endings.{Direct};
-ghost use Rattle.timeouts_cancel.specs.Falls.{GuardsStand};
+ghost use Rattle.timeouts_cancel.specs.Cascades.{GuardsAreLinked};
 ghost use Rattle.overflow.specs.Backlogs.{DeliveryFormed};
 ghost use Rattle.machine.specs.Whole.{view, everywhere, Grows, Mostly};
 
@@ -51,16 +51,16 @@ impl Machine {
     }
 
     /// Completes the requests in `direct` and their cascade.
-    #[tactic(auto, unfolding(crate::specs::Steps::fallen))]
-    pub(crate) fn fall(
+    #[tactic(auto, unfolding(crate::specs::Steps::cascaded))]
+    pub(crate) fn cascade(
         &mut self,
         direct: &[(u32, i32)],
         notes: &mut Recorder,
     ) -> Result<(), AllocError>
         requires direct { Direct self.old.table direct.now }
-        requires guards { GuardsStand self.old.table }
+        requires guards { GuardsAreLinked self.old.table }
         requires mostly { Mostly self.old }
-        ensures ok { OnOk result (self.new ≡ fallen self.old direct.now) }
+        ensures ok { OnOk result (self.new ≡ cascaded self.old direct.now) }
         ensures grows { Grows self.old self.new }
         ensures keeps { Keeps everywhere (view self.old)
             (view self.new) notes.old.made notes.new.made }

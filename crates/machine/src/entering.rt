@@ -1,7 +1,7 @@
 //! The system call of a thread that submits and waits (io_uring_enter(2)).
 ghost use Rattle.std.specs.Prelude.{◌≡◌, ◌<◌, ◌+◌, ◌^◌, OnOk, None, Some, true, is_some, slice_get, length};
 ghost use Rattle.places.specs.View.{Keeps};
-ghost use Rattle.machine.specs.Steps.{executed, instruction_refusal, alone_refusal, next_of, flushed, before_submission, woken, shown, awaited, entered_beside, entered_alone, with_poller};
+ghost use Rattle.machine.specs.Steps.{executed, instruction_refusal, alone_refusal, next_of, flushed, before_submission, woken, shown, awaited, entered_with_poller, entered_without_poller, with_poller};
 ghost use Rattle.machine.specs.Threads.{ThreadState};
 ghost use Rattle.machine.specs.Whole.{view, everywhere, Grows, WellFormed};
 ghost use Rattle.scenario.specs.declared.setup.Instruction.TheVariants.{Enter};
@@ -38,15 +38,15 @@ impl Machine {
             return self.threads.answer(t, -i64::from(EINVAL), notes);
         }
         if self.poller.is_some() {
-            self.enter_beside(t, to_submit, min_complete, flags, notes)
+            self.enter_with_poller(t, to_submit, min_complete, flags, notes)
         } else {
-            self.enter_alone(t, to_submit, min_complete, flags, notes)
+            self.enter_without_poller(t, to_submit, min_complete, flags, notes)
         }
     }
 
     // Without a poller, the thread submits. It fails with -EBUSY while completions overflow the
     // ring.
-    fn enter_alone(
+    fn enter_without_poller(
         &mut self,
         t: u32,
         to_submit: u32,
@@ -59,7 +59,7 @@ impl Machine {
         requires accepted { alone_refusal self.old to_submit flags ≡ None }
         requires formed { WellFormed self.old }
         ensures ok { OnOk result (self.new
-            ≡ entered_alone self.old t to_submit min_complete flags) }
+            ≡ entered_without_poller self.old t to_submit min_complete flags) }
         ensures grows { Grows self.old self.new }
         ensures keeps { Keeps everywhere (view self.old)
             (view self.new) notes.old.made notes.new.made }
@@ -93,7 +93,7 @@ impl Machine {
     }
 
     // With a poller, the thread only wakes it and moves overflowed completions, as its flags say.
-    fn enter_beside(
+    fn enter_with_poller(
         &mut self,
         t: u32,
         to_submit: u32,
@@ -106,13 +106,13 @@ impl Machine {
         requires poller { is_some self.old.poller ≡ true }
         requires formed { WellFormed self.old }
         ensures ok { OnOk result (self.new
-            ≡ entered_beside self.old t to_submit min_complete flags) }
+            ≡ entered_with_poller self.old t to_submit min_complete flags) }
         ensures grows { Grows self.old self.new }
         ensures keeps { Keeps everywhere (view self.old)
             (view self.new) notes.old.made notes.new.made }
     {
         self.wake(flags, notes)?;
-        self.show_kept(flags, notes)?;
+        self.flush_on_getevents(flags, notes)?;
         self.answer_or_wait(t, to_submit, to_submit, min_complete, flags, notes)
     }
 
@@ -131,7 +131,7 @@ impl Machine {
     }
 
     // Moves overflowed completions into the ring, if the caller waits for completions.
-    fn show_kept(&mut self, flags: u32, notes: &mut Recorder) -> Result<(), AllocError>
+    fn flush_on_getevents(&mut self, flags: u32, notes: &mut Recorder) -> Result<(), AllocError>
         requires formed { WellFormed self.old }
         ensures ok { OnOk result (self.new ≡ shown self.old flags) }
         ensures grows { Grows self.old self.new }
@@ -156,7 +156,7 @@ impl Machine {
         notes: &mut Recorder,
     ) -> Result<(), AllocError>
         requires there { t < length self.old.threads }
-        requires goes_on { (x : ThreadState) → slice_get self.old.threads t ≡ Some x
+        requires can_advance { (x : ThreadState) → slice_get self.old.threads t ≡ Some x
             → x.counter + 1 < 2 ^ 32 }
         ensures ok { OnOk result (self.new
             ≡ awaited self.old t taken to_submit min_complete flags) }
@@ -164,14 +164,14 @@ impl Machine {
         ensures keeps { Keeps everywhere (view self.old)
             (view self.new) notes.old.made notes.new.made }
     {
-        let wanted = min_complete.min(self.completions.size());
+        let needed = min_complete.min(self.completions.size());
         if flags & IORING_ENTER_GETEVENTS != 0
             && taken == to_submit
-            && self.completions.waiting() < wanted
+            && self.completions.waiting() < needed
         {
             return self
                 .threads
-                .set_stage(t, Stage::Waiting(taken, wanted), notes);
+                .set_stage(t, Stage::Waiting(taken, needed), notes);
         }
         self.threads.answer(t, i64::from(taken), notes)
     }

@@ -25,8 +25,8 @@ impl Machine {
     {
         let row = self.table.row(r);
         match self.waiting_target(&row) {
-            Some(target) => self.fall(&[(target, -ECANCELED), (r, -ETIME)], notes),
-            None => self.fall(&[(r, -ETIME)], notes),
+            Some(target) => self.cascade(&[(target, -ECANCELED), (r, -ETIME)], notes),
+            None => self.cascade(&[(r, -ETIME)], notes),
         }
     }
 

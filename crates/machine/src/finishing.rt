@@ -32,7 +32,7 @@ impl Machine {
     {
         let row = self.table.row(r);
         if lacks_descriptor(&self.world, &row) {
-            return self.fall(&[(r, -EBADF)], notes);
+            return self.cascade(&[(r, -EBADF)], notes);
         }
         self.start(r, &row, notes)?;
         match self.guard_of(r) {
@@ -96,7 +96,7 @@ impl Machine {
             unreachable!()
         };
         carry_out(&mut self.world, &row, res, notes)?;
-        self.fall(&[(r, res)], notes)
+        self.cascade(&[(r, res)], notes)
     }
 
     /// Returns the outcome of an issued request for a choice.

@@ -6,10 +6,10 @@ ghost use Rattle.links_drains.specs.Phases.{is_issued, is_unfinished};
 ghost use Rattle.opcodes.specs.Opcodes.{is_timer};
 ghost use Rattle.places.specs.declared.place.Place.{Place};
 ghost use Rattle.machine.specs.Whole.{view, OneSetup, WellFormed};
-ghost use Rattle.timeouts_cancel.specs.Falls.{fall_of, IsWhole};
+ghost use Rattle.timeouts_cancel.specs.Cascades.{fall_of, IsWhole};
 ghost use Rattle.machine.specs.InTurn.{ended_in_turn};
 ghost use Rattle.machine.specs.Refusals.{has_cause, number_of};
-ghost use Rattle.machine.specs.Steps.{refusal, after, answered, before_submission, deadline_of, executed, fallen, taken};
+ghost use Rattle.machine.specs.Steps.{refusal, after, answered, before_submission, deadline_of, executed, cascaded, taken};
 ghost use Rattle.machine.specs.declared.whole.Machine.{Machine};
 ghost use Rattle.scenario.specs.declared.event.Event.{Event};
 ghost use Rattle.scenario.specs.declared.event.Event.TheVariants.{Take};
@@ -30,27 +30,27 @@ pub fn stays_formed()
 {}
 
 /// The cascade of any direct completions is complete: to apply its rules again adds no request.
-pub fn falls_whole()
+pub fn cascades_whole()
     ensures { (m : Machine) (direct : List Ending) → WellFormed m
         → IsWhole m.table m.counted direct (fall_of m.table m.counted direct) }
 {}
 
 /// The same after the entries of a submission became requests.
-pub fn submissions_fall_whole()
+pub fn submissions_cascade_whole()
     ensures { (m : Machine) (k : ℕ) (direct : List Ending) → WellFormed m
         → IsWhole (taken m k).table m.counted direct (fall_of (taken m k).table m.counted direct) }
 {}
 
 /// To complete a cascade at once is the same as to complete its requests one after the other.
-pub fn falls_in_turn()
+pub fn cascades_in_turn()
     ensures { (m : Machine) (direct : List Ending) → WellFormed m
-        → fallen m direct ≡ ended_in_turn m (fall_of m.table m.counted direct) }
+        → cascaded m direct ≡ ended_in_turn m (fall_of m.table m.counted direct) }
 {}
 
 /// The same after the entries of a submission became requests.
-pub fn submissions_fall_in_turn()
+pub fn submissions_cascade_in_turn()
     ensures { (m : Machine) (k : ℕ) (direct : List Ending) → WellFormed m
-        → fallen (taken m k) direct
+        → cascaded (taken m k) direct
         ≡ ended_in_turn (taken m k) (fall_of (taken m k).table m.counted direct) }
 {}
 
@@ -73,30 +73,30 @@ pub fn timers_alone_have_deadlines()
 
 /// A submission of nothing completes nothing. A Take of no entries changes no place. An Enter that
 /// submits nothing and has no flags returns 0, with or without a poller.
-pub fn nothing_falls_of_itself()
-    ensures falls { (m : Machine) → WellFormed m → fallen m [] ≡ m }
+pub fn nothing_cascades_alone()
+    ensures cascades { (m : Machine) → WellFormed m → cascaded m [] ≡ m }
     ensures take { (m : Machine) → WellFormed m → after m (Take 0) ≡ m }
     ensures enter { (m : Machine) (t min_complete : ℕ) → WellFormed m
         → executed m t (Some (Enter 0 min_complete 0)) ≡ answered m t (pos 0) }
 {}
 
 /// Returns the number of a refusal, which is that of its variant.
-pub fn number_told(refusal: Refusal) -> u32
+pub fn number_of_refusal(refusal: Refusal) -> u32
     ensures { result ≡ number_of refusal }
 {
     refusal as u32
 }
 
 /// If an event has several causes for a refusal, the one with the smallest number is reported.
-pub fn least_cause_told()
-    ensures told { (m : Machine) (e : Event) (n : Refusal) → refusal m e ≡ Some n
+pub fn least_cause_is_refusal()
+    ensures has_its_cause { (m : Machine) (e : Event) (n : Refusal) → refusal m e ≡ Some n
         → has_cause m e n ≡ true }
     ensures least { (m : Machine) (e : Event) (n k : Refusal) → refusal m e ≡ Some n
         → number_of k < number_of n → has_cause m e k ≡ false }
 {}
 
 /// If none is reported, the event has none.
-pub fn no_cause_untold()
+pub fn no_refusal_without_cause()
     ensures { (m : Machine) (e : Event) → refusal m e ≡ None → (n : Refusal)
         → has_cause m e n ≡ false }
 {}

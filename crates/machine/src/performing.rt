@@ -100,7 +100,7 @@ impl Machine {
             Instruction::Reap => self.reap(t, notes),
             Instruction::Store(address, bytes) => {
                 self.world.store(*address, bytes.as_slice(), notes)?;
-                self.threads.go_on(t, notes)
+                self.threads.advance(t, notes)
             }
             Instruction::Close(fd) => {
                 let fd = *fd;

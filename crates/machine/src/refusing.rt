@@ -50,8 +50,8 @@ impl Machine {
     {
         match stage {
             Stage::Ready => self.refuses_instruction(instruction),
-            Stage::Waiting(_, wanted) => {
-                if self.completions.waiting() < wanted {
+            Stage::Waiting(_, needed) => {
+                if self.completions.waiting() < needed {
                     Some(Refusal::StillWaiting)
                 } else {
                     None

@@ -26,7 +26,7 @@ impl Machine {
 
     // Restores the old values of places. Places that were absent have been removed before.
     fn overwrite(&mut self, rest: &mut Changes<'_>)
-        requires stood { (s : Machine) × Overwrites s self.old rest.old }
+        requires origin { (s : Machine) × Overwrites s self.old rest.old }
         requires once { NamesOnce rest.old }
         ensures { Overwritten self.old self.new rest.old }
     {
@@ -42,7 +42,7 @@ impl Machine {
 
     // Restores bytes, one contiguous range at a time.
     fn overwrite_bytes(&mut self, rest: &mut Stretches<'_>)
-        requires stood { (s : Machine) × Overwrites s self.old rest.old.left }
+        requires origin { (s : Machine) × Overwrites s self.old rest.old.left }
         requires once { NamesOnce rest.old.left }
         ensures { Overwritten self.old self.new rest.old.left }
     {

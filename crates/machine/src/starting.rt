@@ -81,7 +81,7 @@ fn start_threads(alloc: Global, programs: &[Items<Instruction>]) -> Result<Threa
     for program in programs {
         threads.push(start_thread(alloc, program.as_slice())?)?;
     }
-    Ok(Threads::of(threads))
+    Ok(Threads::new(threads))
 }
 
 fn start_thread(alloc: Global, program: &[Instruction]) -> Result<Thread, AllocError>
@@ -93,6 +93,6 @@ fn start_thread(alloc: Global, program: &[Instruction]) -> Result<Thread, AllocE
     for instruction in program {
         copies.push(instruction.copy(alloc)?)?;
     }
-    let thread = Thread::new(alloc, Items::of(copies))?;
+    let thread = Thread::new(alloc, Items::from_vec(copies))?;
     Ok(thread)
 }

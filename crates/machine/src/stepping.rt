@@ -29,7 +29,7 @@ impl Machine {
         let place = Place::Slot(slot);
         notes.note(place, self.submissions.at(place))?;
         self.submissions.put_entry(slot, entry);
-        self.threads.go_on(t, notes)
+        self.threads.advance(t, notes)
     }
 
     /// Writes the index of an entry at the submission tail, and advances the tail.
@@ -49,7 +49,7 @@ impl Machine {
     {
         notes.room_for_numbers(3)?;
         self.submissions.push(index, notes);
-        self.threads.go_on(t, notes)
+        self.threads.advance(t, notes)
     }
 
     /// Takes the oldest completion from the ring.

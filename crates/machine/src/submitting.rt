@@ -25,7 +25,7 @@ impl Machine {
             (view self.new) notes.old.made notes.new.made }
     {
         let batch = self.take(to_submit, notes)?;
-        self.fall(&batch.direct, notes)?;
+        self.cascade(&batch.direct, notes)?;
         Ok(batch.taken)
     }
 

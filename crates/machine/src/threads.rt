@@ -189,7 +189,7 @@ impl Threads {
     }
 
     /// Builds the list of threads.
-    pub fn of(threads: Vec<Thread>) -> Threads
+    pub fn new(threads: Vec<Thread>) -> Threads
         ensures { result ≡ threads.items }
     {
         Threads { threads }
@@ -214,9 +214,9 @@ impl Threads {
     }
 
     /// Advances a thread to its next instruction.
-    pub fn go_on(&mut self, t: u32, notes: &mut Recorder) -> Result<(), AllocError>
+    pub fn advance(&mut self, t: u32, notes: &mut Recorder) -> Result<(), AllocError>
         requires there { t < length self.old }
-        requires goes_on { (x : ThreadState) → slice_get self.old t ≡ Some x
+        requires can_advance { (x : ThreadState) → slice_get self.old t ≡ Some x
             → x.counter + 1 < 2 ^ 32 }
         ensures ok { OnOk result (self.new
             ≡ updated (λ x. record x { counter = x.counter + 1 }) self.old t) }
@@ -281,7 +281,7 @@ impl Threads {
     /// Returns from a system call: sets the result, and advances the thread.
     pub fn answer(&mut self, t: u32, n: i64, notes: &mut Recorder) -> Result<(), AllocError>
         requires there { t < length self.old }
-        requires goes_on { (x : ThreadState) → slice_get self.old t ≡ Some x
+        requires can_advance { (x : ThreadState) → slice_get self.old t ≡ Some x
             → x.counter + 1 < 2 ^ 32 }
         ensures ok { OnOk result (self.new
             ≡ updated
@@ -290,7 +290,7 @@ impl Threads {
         ensures keeps { Keeps threads_owns (threads_seen self.old)
             (threads_seen self.new) notes.old.made notes.new.made }
     {
-        self.go_on(t, notes)?;
+        self.advance(t, notes)?;
         self.set_last(t, n, notes)?;
         self.be_ready(t, notes)
     }
@@ -317,7 +317,7 @@ impl Threads {
         notes: &mut Recorder,
     ) -> Result<(), AllocError>
         requires there { t < length self.old }
-        requires goes_on { (x : ThreadState) → slice_get self.old t ≡ Some x
+        requires can_advance { (x : ThreadState) → slice_get self.old t ≡ Some x
             → x.counter + 1 < 2 ^ 32 }
         ensures ok { OnOk result (self.new
             ≡ updated (λ x. record x { counter = x.counter + 1; got = Some completion })
@@ -326,7 +326,7 @@ impl Threads {
         ensures keeps { Keeps threads_owns (threads_seen self.old)
             (threads_seen self.new) notes.old.made notes.new.made }
     {
-        self.go_on(t, notes)?;
+        self.advance(t, notes)?;
         self.set_got(t, completion, notes)
     }
 }

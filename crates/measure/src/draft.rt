@@ -52,7 +52,7 @@ impl Draft {
     /// Ends the program of the current thread.
     fn end_program(&mut self) -> Result<(), AllocError> {
         let program = replace(&mut self.program, Vec::new(self.alloc));
-        self.programs.push(Items::of(program))?;
+        self.programs.push(Items::from_vec(program))?;
         self.thread = self.thread.saturating_add(1);
         Ok(())
     }
@@ -60,7 +60,7 @@ impl Draft {
     /// Ends the last program, and stores all programs in the setup.
     pub fn end(&mut self) -> Result<(), AllocError> {
         self.end_program()?;
-        self.setup.threads = Items::of(replace(&mut self.programs, Vec::new(self.alloc)));
+        self.setup.threads = Items::from_vec(replace(&mut self.programs, Vec::new(self.alloc)));
         Ok(())
     }
 

@@ -23,7 +23,7 @@ pub struct Figures {
 impl Figures {
     /// Sums up the records from index `from` on, and compares their old values with the walker's
     /// state.
-    pub fn of(walker: &Walker, from: usize) -> Figures {
+    pub fn new(walker: &Walker, from: usize) -> Figures {
         let mut figures = Figures::default();
         for record in walker.records().iter().skip(from) {
             figures.add(record, walker.state());

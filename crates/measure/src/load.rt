@@ -9,7 +9,7 @@ use places::{Contents, Descriptor, End, Items, Object};
 use std::alloc::{AllocError, Global};
 
 /// IORING_ASYNC_CANCEL_ALL for a cancel, and POLLIN for a poll.
-const ASKED: u32 = IORING_ASYNC_CANCEL_ALL | POLLIN;
+const OPERATION_FLAGS: u32 = IORING_ASYNC_CANCEL_ALL | POLLIN;
 
 /// One request fewer than the maximum: the 16 programs have 65,536 instructions, one of which is a
 /// Put.
@@ -22,14 +22,14 @@ const FAR: u64 = 1048576;
 const ENDED: u32 = 100;
 
 /// The user_data of the only request that a cancel targets. All others have 0.
-const WANTED: u64 = 9;
+const CANCELLED_USER: u64 = 9;
 
 type Filled = Result<(), AllocError>;
 
 /// Fills a draft with the run of a plan.
 pub fn fill(draft: &mut Draft, Plan { word, size }: Plan) -> Result<(), AllocError> {
     let nop = entry(Op::Nop, 0, 0);
-    let cancel_all = asking(entry(Op::AsyncCancel, 0, 0));
+    let cancel_all = with_flags(entry(Op::AsyncCancel, 0, 0));
     match word {
         Word::Full => full(draft, size),
         Word::Nops => requests(draft, size, &[nop], [0; 4]),
@@ -39,10 +39,10 @@ pub fn fill(draft: &mut Draft, Plan { word, size }: Plan) -> Result<(), AllocErr
         Word::Links => turns(draft, flagged(nop, IOSQE_IO_LINK), size),
         Word::Drains => turns(draft, flagged(nop, IOSQE_IO_DRAIN), size),
         Word::Cancels => cancels(draft, size),
-        Word::Counts => beside(draft, &[nop, entry(Op::Timeout, 1, FAR)], ENDED, size, &[]),
+        Word::Counts => two_slots(draft, &[nop, entry(Op::Timeout, 1, FAR)], ENDED, size, &[]),
         Word::Meets => meets(draft, size),
-        Word::Cascade => beside(draft, &[cancel_all, entry(Op::Timeout, 1, 0)], 1, size, &[]),
-        Word::Met => beside(draft, &[nop, entry(Op::Timeout, 1, 1)], 1, size, &[]),
+        Word::Cascade => two_slots(draft, &[cancel_all, entry(Op::Timeout, 1, 0)], 1, size, &[]),
+        Word::Met => two_slots(draft, &[nop, entry(Op::Timeout, 1, 1)], 1, size, &[]),
         Word::Severed => severed(draft, size),
     }
 }
@@ -54,9 +54,9 @@ fn full(draft: &mut Draft, events: u32) -> Filled {
     for number in 0..32u8 {
         let bytes = vec![in draft.alloc; 1u8; 65536]?;
         let name = [b'a' + number / 16, b'a' + number % 16];
-        files.push(object(draft.alloc, &name, Contents::File(Items::of(bytes)))?)?;
+        files.push(object(draft.alloc, &name, Contents::File(Items::from_vec(bytes)))?)?;
     }
-    draft.setup.objects = Items::of(files);
+    draft.setup.objects = Items::from_vec(files);
     draft.put(&[entry(Op::Nop, 0, 0)])?;
     for _row in 0..FULL {
         draft.submit(&[0])?;
@@ -75,7 +75,7 @@ fn transfers(draft: &mut Draft, events: u32) -> Filled {
     let mut pages = vec![in draft.alloc; 1u8; 4096]?;
     pages.extend_from_slice(&[2; 4096])?;
     pages.extend_from_slice(&[0; 4096])?;
-    open(draft, Contents::File(Items::of(pages)), 1)?;
+    open(draft, Contents::File(Items::from_vec(pages)), 1)?;
     requests(draft, events, &entries, [0, 2, 1, 2])
 }
 
@@ -102,15 +102,15 @@ fn turns(draft: &mut Draft, entry: Sqe, rows: u32) -> Filled {
 
 fn polls(draft: &mut Draft, rows: u32) -> Filled {
     open(draft, Contents::EventFd(1), 64)?;
-    turns(draft, asking(entry(Op::PollAdd, 0, 0)), rows)
+    turns(draft, with_flags(entry(Op::PollAdd, 0, 0)), rows)
 }
 
 fn cancels(draft: &mut Draft, rows: u32) -> Filled {
-    let (mut cancel, mut wanted) = (entry(Op::AsyncCancel, 0, 0), entry(Op::Nop, 0, 0));
-    cancel.addr = WANTED;
-    wanted.user_data = WANTED;
-    let entries = [cancel, entry(Op::Timeout, 1, 0), wanted];
-    beside(draft, &entries, ENDED, rows.saturating_sub(1), &[2])
+    let (mut cancel, mut cancelled) = (entry(Op::AsyncCancel, 0, 0), entry(Op::Nop, 0, 0));
+    cancel.addr = CANCELLED_USER;
+    cancelled.user_data = CANCELLED_USER;
+    let entries = [cancel, entry(Op::Timeout, 1, 0), cancelled];
+    two_slots(draft, &entries, ENDED, rows.saturating_sub(1), &[2])
 }
 
 // Each NOP completes one TIMEOUT: one TIMEOUT waits for one completion, one for two, and so on.
@@ -124,12 +124,12 @@ fn meets(draft: &mut Draft, rows: u32) -> Filled {
         entries.push(entry(Op::Timeout, 1, u64::from(turn) + 1))?;
         met.push(turn + 2)?;
     }
-    beside(draft, &entries, ENDED, rows.saturating_sub(ENDED), &met)
+    two_slots(draft, &entries, ENDED, rows.saturating_sub(ENDED), &met)
 }
 
 // Submits `firsts` requests of slot 0, `others` of slot 1, and one of each slot in `last`. Issues
 // all of them, and then completes those of slot 0.
-fn beside(draft: &mut Draft, entries: &[Sqe], firsts: u32, others: u32, last: &[u32]) -> Filled {
+fn two_slots(draft: &mut Draft, entries: &[Sqe], firsts: u32, others: u32, last: &[u32]) -> Filled {
     let mut slots = vec![in draft.alloc; 0u32; firsts as usize]?;
     slots.resize(firsts as usize + others as usize, 1)?;
     slots.extend_from_slice(last)?;
@@ -146,7 +146,7 @@ fn severed(draft: &mut Draft, rows: u32) -> Filled {
     for row in 1..=rows {
         slots.push(if row == 1 || row % BATCH == 0 { 1 } else { 2 })?;
     }
-    let cancel_all = asking(entry(Op::AsyncCancel, 0, 0));
+    let cancel_all = with_flags(entry(Op::AsyncCancel, 0, 0));
     submit(draft, &[cancel_all, first, later], &slots)?;
     finish(draft, &slots, 2)
 }
@@ -181,13 +181,15 @@ fn open(draft: &mut Draft, contents: Contents, descriptors: usize) -> Filled {
         object: 0,
         end: End::Whole,
     };
-    draft.setup.fds = Items::of(vec![in draft.alloc; whole; descriptors]?);
-    draft.setup.objects = Items::of(vec![in draft.alloc; object(draft.alloc, b"o", contents)?]?);
+    draft.setup.fds = Items::from_vec(vec![in draft.alloc; whole; descriptors]?);
+    draft.setup.objects = Items::from_vec(vec![in draft.alloc;
+        object(draft.alloc, b"o", contents)?,
+    ]?);
     Ok(())
 }
 
 fn object(alloc: Global, name: &[u8], contents: Contents) -> Result<Object, AllocError> {
-    let name = Items::of(Vec::from_slice(alloc, name)?);
+    let name = Items::from_vec(Vec::from_slice(alloc, name)?);
     Ok(Object { name, contents })
 }
 
@@ -206,7 +208,7 @@ fn flagged(mut entry: Sqe, flags: u8) -> Sqe {
     entry
 }
 
-fn asking(mut entry: Sqe) -> Sqe {
-    entry.operation_flags = ASKED;
+fn with_flags(mut entry: Sqe) -> Sqe {
+    entry.operation_flags = OPERATION_FLAGS;
     entry
 }

@@ -103,10 +103,10 @@ fn print_figures(rt: &(impl Print + Eprint), walker: &mut Walker) -> io::Result<
     let from = end.saturating_sub(1);
     go(walker, end)?;
     walker.back();
-    let undone = Figures::of(walker, from).changed;
+    let undone = Figures::new(walker, from).changed;
     go(walker, end)?;
     print_sums(rt, walker)?;
-    let last = Figures::of(walker, from);
+    let last = Figures::new(walker, from);
     let (named, changed) = (last.places, last.changed);
     println!(rt; "the last step named {named}, and changed {changed}")?;
     println!(rt; "differ once undone {undone}")?;
@@ -117,7 +117,7 @@ fn print_figures(rt: &(impl Print + Eprint), walker: &mut Walker) -> io::Result<
 }
 
 fn print_sums(rt: &(impl Print + Eprint), walker: &Walker) -> io::Result<()> {
-    let (end, all) = (walker.len(), Figures::of(walker, 0));
+    let (end, all) = (walker.len(), Figures::new(walker, 0));
     let each = all.kept / end.max(1);
     eprintln!(rt; "records keep {} bytes, {each} an event", all.kept)?;
     println!(rt; "events {end}, walked {}", walker.walked())?;

@@ -10,7 +10,7 @@ use Rattle.places.specs.declared.notes.runs.Region.TheVariants.{Memory, File, Du
 use Rattle.places.specs.declared.value.Change.{Change}
 use Rattle.places.specs.declared.value.Value.{Value}
 use Rattle.places.specs.declared.value.Value.TheVariants.{Byte}
-use Rattle.places.specs.Notes.{Notes, HasAsMuch}
+use Rattle.places.specs.Notes.{Notes, HasSameRoom}
 use Rattle.places.specs.Runs.{place_in, is_in, offset_in, byte_from, byte_in, NotedBytes}
 use Rattle.places.specs.View.{View, named, undo, first_note, Keeps}
 use Rattle.model_files.specs.Differing.{Alike, IsFirst, IsSpanEnd, NotedAmong, NamesDiffering, Spares}
@@ -129,7 +129,7 @@ keeps_among owns v cs ds g s bs n there = record { back = λ q _. back q (n q); 
 
 -- ---- Span by span
 
-pub as_much : (a b c : Notes) → HasAsMuch a b → HasAsMuch b c → HasAsMuch a c
+pub as_much : (a b c : Notes) → HasSameRoom a b → HasSameRoom b c → HasSameRoom a c
 as_much a b c h k = record {
   numbers = let x = h.numbers in let y = k.numbers in omega arith;
   completions = let x = h.completions in let y = k.completions in omega arith;
@@ -144,14 +144,14 @@ pub record NotingSpans (g : Region) (s : ℕ) (old others : List ℕ) (before no
   pub noted : (i : ℕ) → i < done → named notes.made (place_in g (s + i)) ≡ None → slice_get old i ≡ slice_get others i
   pub fresh : (i : ℕ) → done ≤ i → i < length old → named notes.made (place_in g (s + i)) ≡ None
   pub spared : (i k : ℕ) → Alike old others i (i + 16) → i ≤ k → k < i + 16 → k < done → named notes.made (place_in g (s + k)) ≡ None
-  pub room : HasAsMuch before notes
+  pub room : HasSameRoom before notes
 
 -- No byte of the next span has a note yet.
 pub span_fresh : (g : Region) (s : ℕ) (old others : List ℕ) (before notes : Notes) (done from end : ℕ) (bs : List ℕ) → NotingSpans g s old others before notes done → IsFirst old others done from → IsSpanEnd old others from end → length bs ≤ end - from → (i : ℕ) → i < length bs → named notes.made (place_in g ((s + from) + i)) ≡ None
 span_fresh g s old others before notes done from end bs m first last size i h =
     ap (λ n. named notes.made (place_in g n)) (let e : (s + from) + i ≡ s + (from + i) = omega arith in e) ∙ m.fresh (from + i) (let a = first.from in omega arith) (let b = last.within in omega arith)
 
-pub spans_on : (g : Region) (s : ℕ) (old others : List ℕ) (before notes next : Notes) (done from end : ℕ) → NotingSpans g s old others before notes done → IsFirst old others done from → IsSpanEnd old others from end → NotedBytes notes.made next.made g (s + from) (part old from (end - from)) → HasAsMuch notes next
+pub spans_on : (g : Region) (s : ℕ) (old others : List ℕ) (before notes next : Notes) (done from end : ℕ) → NotingSpans g s old others before notes done → IsFirst old others done from → IsSpanEnd old others from end → NotedBytes notes.made next.made g (s + from) (part old from (end - from)) → HasSameRoom notes next
     → NotingSpans g s old others before next end
 spans_on g s old others before notes next done from end m first last n room = record {
   within = last.within;

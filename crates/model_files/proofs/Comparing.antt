@@ -33,8 +33,8 @@ alike_part old others from to e i lo hi =
     ∙ slice_get-part others from (to - from) (i - from) (omega arith) ∙ ap (slice_get others) (sym at)
 
 -- The parts are equal if and only if the lists agree in the range.
-pub parts_tell : (old others : List ℕ) (from to : ℕ) (r : Bool) → r ≡ pointwise nat_eq (part old from (to - from)) (part others from (to - from)) → IsTrue r ↔ Alike old others from to
-parts_tell old others from to r e =
+pub parts_decide : (old others : List ℕ) (from to : ℕ) (r : Bool) → r ≡ pointwise nat_eq (part old from (to - from)) (part others from (to - from)) → IsTrue r ↔ Alike old others from to
+parts_decide old others from to r e =
     let d = slice_eq-Decides Decides-eqb (part old from (to - from)) (part others from (to - from)) r e in
     (λ t. alike_part old others from to (d.0 t), λ a. d.1 (part_alike old others from to a))
 

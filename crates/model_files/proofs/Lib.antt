@@ -9,7 +9,7 @@ pub mod Piping
 pub mod Paging
 pub mod Lifting
 pub mod Remembering
-pub mod Bringing
+pub mod CopiedOut
 pub mod Describing
 pub mod Forming
 pub mod Fixing

@@ -10,7 +10,7 @@ use Rattle.places.specs.declared.value.Change.{Change}
 use Rattle.places.specs.declared.value.Value.{Value}
 use Rattle.places.specs.declared.value.Value.TheVariants.{Number, Byte}
 use Rattle.places.specs.declared.notes.runs.Region.TheVariants.{Durable}
-use Rattle.places.specs.Notes.{Notes, HasAsMuch}
+use Rattle.places.specs.Notes.{Notes, HasSameRoom}
 use Rattle.places.specs.Runs.{byte_from, byte_in}
 use Rattle.places.specs.View.{named, Keeps, Noted}
 use Rattle.places.proofs.Keeping.{keeps_then, keeps_unchanged, noted_keeps}
@@ -38,10 +38,10 @@ outside p i at count (inr l) lo hi = inr (omega arith)
 -- ---- Making pages durable
 
 -- The invariant of the loop: bytes before the page are durable, and those from it on are unchanged.
-pub record Bringing (bytes before durable : List ℕ) (page : ℕ) : Type 0 where
+pub record SyncedUpTo (bytes before durable : List ℕ) (page : ℕ) : Type 0 where
   pub len : length durable ≡ 65536
   pub there : (i : ℕ) → i < page * 4096 → slice_get durable i ≡ slice_get bytes i
-  pub behind : (i : ℕ) → page * 4096 ≤ i → slice_get durable i ≡ slice_get before i
+  pub after : (i : ℕ) → page * 4096 ≤ i → slice_get durable i ≡ slice_get before i
 
 -- ---- Recording pages
 
@@ -80,7 +80,7 @@ pub record NotingPages (o : ℕ) (f : FileState) (before notes : Notes) (page : 
   pub keeps : Keeps (object_owns o) (file_seen f) (file_seen f) before.made notes.made
   pub noted : NamesUpTo o f notes.made (page * 4096)
   pub named : (p : Place) → named notes.made p ≡ None → named before.made p ≡ None
-  pub room : HasAsMuch before notes
+  pub room : HasSameRoom before notes
 
 -- ---- The notes of an fsync
 
@@ -96,5 +96,5 @@ names_synced f o cs sized bytes len (DurableByte y j) own h = ap (option_map Byt
 names_synced f o cs sized bytes len (DurableLength y) own h = absurd (len (ap (λ z. named cs (DurableLength z)) (eqb-true o y own) ∙ h))
 names_synced f o cs sized bytes len _ own h = refl
 
-pub names_device : (f : FileState) (o : ℕ) (x : Option Value) (cs ds : List Change) → FileSized f → NamesUpTo o f cs 65536 → Noted cs ds (DurableLength o) x → NamesChanges (object_owns o) (file_seen f) (file_seen (synced f)) ds
-names_device f o x cs ds sized n m = names_synced f o ds sized (λ i l h. n i l (noted_keeps cs ds (DurableLength o) x m (DurableByte o i) h)) (λ h. noted_named cs ds (DurableLength o) x m h)
+pub names_durable : (f : FileState) (o : ℕ) (x : Option Value) (cs ds : List Change) → FileSized f → NamesUpTo o f cs 65536 → Noted cs ds (DurableLength o) x → NamesChanges (object_owns o) (file_seen f) (file_seen (synced f)) ds
+names_durable f o x cs ds sized n m = names_synced f o ds sized (λ i l h. n i l (noted_keeps cs ds (DurableLength o) x m (DurableByte o i) h)) (λ h. noted_named cs ds (DurableLength o) x m h)

@@ -11,7 +11,7 @@ use Rattle.places.specs.declared.notes.runs.Region.{Region}
 use Rattle.places.specs.declared.notes.runs.Region.TheVariants.{Memory, File, Durable, Pipe}
 use Rattle.places.specs.View.{View, named, undo}
 use Rattle.places.specs.Runs.{place_in, is_in, offset_in, old_bytes}
-use Rattle.places.specs.Masked.{PutOver, BytesStand}
+use Rattle.places.specs.Masked.{PutOver, BytesPresent}
 use Rattle.places.proofs.KeptAt.{undone_bytes, undone_nothing, place_of_in, named_outside}
 use Rattle.model_files.specs.declared.body.Body.{Body}
 use Rattle.model_files.specs.Files.{FileState, file_seen}
@@ -27,8 +27,8 @@ true_false e = cc
 -- ---- An object
 
 -- Restoring bytes of a file.
-pub put_file_bytes : (f : FileState) (x s : ℕ) (os : List (Option ℕ)) (ys : List ℕ) → PutOver f.bytes s os ys → BytesStand (file_seen f) (File x) s os → PutsBack (file_seen f) (file_seen (record f { bytes = ys })) (File x) s os
-put_file_bytes f x s os ys over stand o q p own = undone_bytes (file_seen f) (file_seen (record f { bytes = ys })) (File x) s os f.bytes ys q over stand (inside q) (outside q own)
+pub put_file_bytes : (f : FileState) (x s : ℕ) (os : List (Option ℕ)) (ys : List ℕ) → PutOver f.bytes s os ys → BytesPresent (file_seen f) (File x) s os → PutsBack (file_seen f) (file_seen (record f { bytes = ys })) (File x) s os
+put_file_bytes f x s os ys over present o q p own = undone_bytes (file_seen f) (file_seen (record f { bytes = ys })) (File x) s os f.bytes ys q over present (inside q) (outside q own)
   where
     inside : (q : Place) → is_in (File x) q ≡ true → (file_seen f q ≡ option_map Byte (slice_get f.bytes (offset_in (File x) q))) × (file_seen (record f { bytes = ys }) q ≡ option_map Byte (slice_get ys (offset_in (File x) q)))
     inside (FileByte y j) e = (refl, refl)
@@ -39,8 +39,8 @@ put_file_bytes f x s os ys over stand o q p own = undone_bytes (file_seen f) (fi
     outside _ k e = refl
 
 -- Restoring durable bytes of a file.
-pub put_durable_bytes : (f : FileState) (x s : ℕ) (os : List (Option ℕ)) (ys : List ℕ) → PutOver f.durable s os ys → BytesStand (file_seen f) (Durable x) s os → PutsBack (file_seen f) (file_seen (record f { durable = ys })) (Durable x) s os
-put_durable_bytes f x s os ys over stand o q p own = undone_bytes (file_seen f) (file_seen (record f { durable = ys })) (Durable x) s os f.durable ys q over stand (inside q) (outside q own)
+pub put_durable_bytes : (f : FileState) (x s : ℕ) (os : List (Option ℕ)) (ys : List ℕ) → PutOver f.durable s os ys → BytesPresent (file_seen f) (Durable x) s os → PutsBack (file_seen f) (file_seen (record f { durable = ys })) (Durable x) s os
+put_durable_bytes f x s os ys over present o q p own = undone_bytes (file_seen f) (file_seen (record f { durable = ys })) (Durable x) s os f.durable ys q over present (inside q) (outside q own)
   where
     inside : (q : Place) → is_in (Durable x) q ≡ true → (file_seen f q ≡ option_map Byte (slice_get f.durable (offset_in (Durable x) q))) × (file_seen (record f { durable = ys }) q ≡ option_map Byte (slice_get ys (offset_in (Durable x) q)))
     inside (DurableByte y j) e = (refl, refl)
@@ -51,8 +51,8 @@ put_durable_bytes f x s os ys over stand o q p own = undone_bytes (file_seen f) 
     outside _ k e = refl
 
 -- Restoring slots of a pipe.
-pub put_pipe_bytes : (d : PipeState) (x s : ℕ) (os : List (Option ℕ)) (ys : List ℕ) → PutOver d.slots s os ys → BytesStand (pipe_seen d) (Pipe x) s os → PutsBack (pipe_seen d) (pipe_seen (record d { slots = ys })) (Pipe x) s os
-put_pipe_bytes d x s os ys over stand o q p own = undone_bytes (pipe_seen d) (pipe_seen (record d { slots = ys })) (Pipe x) s os d.slots ys q over stand (inside q) (outside q own)
+pub put_pipe_bytes : (d : PipeState) (x s : ℕ) (os : List (Option ℕ)) (ys : List ℕ) → PutOver d.slots s os ys → BytesPresent (pipe_seen d) (Pipe x) s os → PutsBack (pipe_seen d) (pipe_seen (record d { slots = ys })) (Pipe x) s os
+put_pipe_bytes d x s os ys over present o q p own = undone_bytes (pipe_seen d) (pipe_seen (record d { slots = ys })) (Pipe x) s os d.slots ys q over present (inside q) (outside q own)
   where
     inside : (q : Place) → is_in (Pipe x) q ≡ true → (pipe_seen d q ≡ option_map Byte (slice_get d.slots (offset_in (Pipe x) q))) × (pipe_seen (record d { slots = ys }) q ≡ option_map Byte (slice_get ys (offset_in (Pipe x) q)))
     inside (PipeByte y j) e = (refl, refl)
@@ -63,26 +63,26 @@ put_pipe_bytes d x s os ys over stand o q p own = undone_bytes (pipe_seen d) (pi
     outside _ k e = refl
 
 -- Nothing is restored if the object doesn't have the region.
-put_nothing : (v : View) (g : Region) (s : ℕ) (os : List (Option ℕ)) → BytesStand v g s os → ((j : ℕ) → v (place_in g j) ≡ None) → PutsBack v v g s os
-put_nothing v g s os stand none o q p own = undone_nothing v g s os q stand none
+put_nothing : (v : View) (g : Region) (s : ℕ) (os : List (Option ℕ)) → BytesPresent v g s os → ((j : ℕ) → v (place_in g j) ≡ None) → PutsBack v v g s os
+put_nothing v g s os present none o q p own = undone_nothing v g s os q present none
 
-pub put_no_file_bytes : (f : FileState) (g : Region) (s : ℕ) (os : List (Option ℕ)) → (g ≡ Memory) ⊎ ((x : ℕ) × (g ≡ Pipe x)) → BytesStand (file_seen f) g s os → PutsBack (file_seen f) (file_seen f) g s os
-put_no_file_bytes f g s os other stand = put_nothing (file_seen f) g s os stand (λ j. none j other)
+pub put_no_file_bytes : (f : FileState) (g : Region) (s : ℕ) (os : List (Option ℕ)) → (g ≡ Memory) ⊎ ((x : ℕ) × (g ≡ Pipe x)) → BytesPresent (file_seen f) g s os → PutsBack (file_seen f) (file_seen f) g s os
+put_no_file_bytes f g s os other present = put_nothing (file_seen f) g s os present (λ j. none j other)
   where
     none : (j : ℕ) → (g ≡ Memory) ⊎ ((x : ℕ) × (g ≡ Pipe x)) → file_seen f (place_in g j) ≡ None
     none j (inl e) = ap (λ r. file_seen f (place_in r j)) e
     none j (inr e) = ap (λ r. file_seen f (place_in r j)) e.1
 
-pub put_no_pipe_bytes : (d : PipeState) (g : Region) (s : ℕ) (os : List (Option ℕ)) → (g ≡ Memory) ⊎ (((x : ℕ) × (g ≡ File x)) ⊎ ((x : ℕ) × (g ≡ Durable x))) → BytesStand (pipe_seen d) g s os → PutsBack (pipe_seen d) (pipe_seen d) g s os
-put_no_pipe_bytes d g s os other stand = put_nothing (pipe_seen d) g s os stand (λ j. none j other)
+pub put_no_pipe_bytes : (d : PipeState) (g : Region) (s : ℕ) (os : List (Option ℕ)) → (g ≡ Memory) ⊎ (((x : ℕ) × (g ≡ File x)) ⊎ ((x : ℕ) × (g ≡ Durable x))) → BytesPresent (pipe_seen d) g s os → PutsBack (pipe_seen d) (pipe_seen d) g s os
+put_no_pipe_bytes d g s os other present = put_nothing (pipe_seen d) g s os present (λ j. none j other)
   where
     none : (j : ℕ) → (g ≡ Memory) ⊎ (((x : ℕ) × (g ≡ File x)) ⊎ ((x : ℕ) × (g ≡ Durable x))) → pipe_seen d (place_in g j) ≡ None
     none j (inl e) = ap (λ r. pipe_seen d (place_in r j)) e
     none j (inr (inl e)) = ap (λ r. pipe_seen d (place_in r j)) e.1
     none j (inr (inr e)) = ap (λ r. pipe_seen d (place_in r j)) e.1
 
-pub put_no_counter_bytes : (n : ℕ) (g : Region) (s : ℕ) (os : List (Option ℕ)) → BytesStand (counter_seen n) g s os → PutsBack (counter_seen n) (counter_seen n) g s os
-put_no_counter_bytes n g s os stand = put_nothing (counter_seen n) g s os stand (λ j. none g j)
+pub put_no_counter_bytes : (n : ℕ) (g : Region) (s : ℕ) (os : List (Option ℕ)) → BytesPresent (counter_seen n) g s os → PutsBack (counter_seen n) (counter_seen n) g s os
+put_no_counter_bytes n g s os present = put_nothing (counter_seen n) g s os present (λ j. none g j)
   where
     none : (r : Region) (j : ℕ) → counter_seen n (place_in r j) ≡ None
     none Memory j = refl
@@ -93,8 +93,8 @@ put_no_counter_bytes n g s os stand = put_nothing (counter_seen n) g s os stand 
 -- ---- The world
 
 -- Restoring bytes of memory.
-pub put_memory_bytes : (w : WorldState) (s : ℕ) (os : List (Option ℕ)) (ys : List ℕ) → PutOver w.memory s os ys → BytesStand (world_seen w) Memory s os → (q : Place) → world_seen (record w { memory = ys }) q ≡ undo (world_seen w) (old_bytes Memory s os) q
-put_memory_bytes w s os ys over stand q = undone_bytes (world_seen w) (world_seen (record w { memory = ys })) Memory s os w.memory ys q over stand (inside q) (outside q)
+pub put_memory_bytes : (w : WorldState) (s : ℕ) (os : List (Option ℕ)) (ys : List ℕ) → PutOver w.memory s os ys → BytesPresent (world_seen w) Memory s os → (q : Place) → world_seen (record w { memory = ys }) q ≡ undo (world_seen w) (old_bytes Memory s os) q
+put_memory_bytes w s os ys over present q = undone_bytes (world_seen w) (world_seen (record w { memory = ys })) Memory s os w.memory ys q over present (inside q) (outside q)
   where
     inside : (q : Place) → is_in Memory q ≡ true → (world_seen w q ≡ option_map Byte (slice_get w.memory (offset_in Memory q))) × (world_seen (record w { memory = ys }) q ≡ option_map Byte (slice_get ys (offset_in Memory q)))
     inside (MemoryByte a) e = (refl, refl)
@@ -119,8 +119,8 @@ owns_alike (Durable x) o i j = refl
 owns_alike (Pipe x) o i j = refl
 
 -- A recorded byte that is present in the world is present in the object.
-pub stand_body : (w : WorldState) (o : ℕ) (b : Body) (g : Region) (s : ℕ) (os : List (Option ℕ)) → slice_get w.objects o ≡ Some b → object_owns o (place_in g s) ≡ true → BytesStand (world_seen w) g s os → BytesStand (body_seen b) g s os
-stand_body w o b g s os h own stand i c e = subst (λ (x : Option Value). IsSome x) (own_seen w o b (place_in g (s + i)) h (owns_alike g o (s + i) s ∙ own)) (stand i c e)
+pub present_body : (w : WorldState) (o : ℕ) (b : Body) (g : Region) (s : ℕ) (os : List (Option ℕ)) → slice_get w.objects o ≡ Some b → object_owns o (place_in g s) ≡ true → BytesPresent (world_seen w) g s os → BytesPresent (body_seen b) g s os
+present_body w o b g s os h own present i c e = subst (λ (x : Option Value). IsSome x) (own_seen w o b (place_in g (s + i)) h (owns_alike g o (s + i) s ∙ own)) (present i c e)
 
 -- Restoring bytes of an object.
 pub put_body_bytes : (w : WorldState) (o : ℕ) (b c : Body) (g : Region) (s : ℕ) (os : List (Option ℕ)) → slice_get w.objects o ≡ Some b → object_owns o (place_in g s) ≡ true → PutsBack (body_seen b) (body_seen c) g s os → (q : Place) → world_seen (with_body w o c) q ≡ undo (world_seen w) (old_bytes g s os) q
@@ -141,8 +141,8 @@ absent w o (File x) s j e l = let k : x ≡ o = cc in ap (option_and_then (λ (b
 absent w o (Durable x) s j e l = let k : x ≡ o = cc in ap (option_and_then (λ (b : Body). body_seen b (DurableByte x j))) (slice_get_past w.objects x (omega arith))
 absent w o (Pipe x) s j e l = let k : x ≡ o = cc in ap (option_and_then (λ (b : Body). body_seen b (PipeByte x j))) (slice_get_past w.objects x (omega arith))
 
-pub put_absent : (w : WorldState) (o : ℕ) (g : Region) (s : ℕ) (os : List (Option ℕ)) → object_in (place_in g s) ≡ Some o → length w.objects ≤ o → BytesStand (world_seen w) g s os → (q : Place) → world_seen w q ≡ undo (world_seen w) (old_bytes g s os) q
-put_absent w o g s os e l stand q = undone_nothing (world_seen w) g s os q stand (λ j. absent w o g s j e l)
+pub put_absent : (w : WorldState) (o : ℕ) (g : Region) (s : ℕ) (os : List (Option ℕ)) → object_in (place_in g s) ≡ Some o → length w.objects ≤ o → BytesPresent (world_seen w) g s os → (q : Place) → world_seen w q ≡ undo (world_seen w) (old_bytes g s os) q
+put_absent w o g s os e l present q = undone_nothing (world_seen w) g s os q present (λ j. absent w o g s j e l)
 
 -- Bytes of a region are places of the world.
 pub named_in_world : (g : Region) (s : ℕ) (os : List (Option ℕ)) (q : Place) → world_owns q ≡ false → named (old_bytes g s os) q ≡ None

@@ -133,8 +133,8 @@ put_in_parts slots bs at i n some most e h = same_list _ _ (λ j. by j (below_or
     inside : (d : ℕ) → d < n → slice_get (take n bs) d ≡ slice_get bs d
     inside d l = grind (arith, common_steps, gets)
 
-    behind : (d : ℕ) → slice_get (drop n bs) d ≡ slice_get bs (n + d)
-    behind d = grind (arith, common_steps, gets)
+    drop_at : (d : ℕ) → slice_get (drop n bs) d ≡ slice_get bs (n + d)
+    drop_at d = grind (arith, common_steps, gets)
 
     over : List ℕ
     over = overwritten slots i (take n bs)
@@ -151,7 +151,7 @@ put_in_parts slots bs at i n some most e h = same_list _ _ (λ j. by j (below_or
 
     down : (j d : ℕ) → d ≡ (j + length slots) - i → j < i → (j < length bs - n) ⊎ (length bs - n ≤ j) → slice_get (overwritten over 0 (drop n bs)) j ≡ slice_get (slots_with slots at bs) j
     down j d q l (inl b) =
-        ap (slice_get (overwritten over 0 (drop n bs))) (let z : j ≡ 0 + j = omega arith in z) ∙ get-overwritten over (drop n bs) 0 j (omega (arith, first, second, whole, small, e, h, most)) (omega (arith, first, second, whole, small, e, h, most)) ∙ behind j ∙ ap (slice_get bs) (omega (arith, first, second, whole, small, e, h, most))
+        ap (slice_get (overwritten over 0 (drop n bs))) (let z : j ≡ 0 + j = omega arith in z) ∙ get-overwritten over (drop n bs) 0 j (omega (arith, first, second, whole, small, e, h, most)) (omega (arith, first, second, whole, small, e, h, most)) ∙ drop_at j ∙ ap (slice_get bs) (omega (arith, first, second, whole, small, e, h, most))
         ∙ sym (get_in slots at bs d j (length slots) refl most (omega (arith, first, second, whole, small, e, h, most)) (sym (slot_far at d (length slots) i (omega (arith, first, second, whole, small, e, h, most)) small e (omega (arith, first, second, whole, small, e, h, most)) ∙ omega arith)))
     down j d q l (inr b) =
         get-overwritten_other over 0 (drop n bs) j (omega (arith, first, second, whole, small, e, h, most)) (inr (omega (arith, first, second, whole, small, e, h, most)))
@@ -196,8 +196,8 @@ content_put p bs f room = same_list _ _ (λ d. by d (below_or_not d (filled p)) 
     read : (d : ℕ) → d < now → slice_get (pipe_content (put_in bs p)) d ≡ Some (get_or (slots_with p.slots p.put bs) ((p.taken + d) % c) 0)
     read d l = get_bytes (slots_with p.slots p.put bs) p.taken now d l ∙ ap (λ n. Some (get_or (slots_with p.slots p.put bs) ((p.taken + d) % n) 0)) size
 
-    stands : (d : ℕ) → slice_get (slots_with p.slots p.put bs) ((p.taken + d) % c) ≡ Some (get_or (slots_with p.slots p.put bs) ((p.taken + d) % c) 0)
-    stands d = there (slots_with p.slots p.put bs) ((p.taken + d) % c) (let b = mod_below (p.taken + d) c some in omega (arith, size))
+    slot_there : (d : ℕ) → slice_get (slots_with p.slots p.put bs) ((p.taken + d) % c) ≡ Some (get_or (slots_with p.slots p.put bs) ((p.taken + d) % c) 0)
+    slot_there d = there (slots_with p.slots p.put bs) ((p.taken + d) % c) (let b = mod_below (p.taken + d) c some in omega (arith, size))
 
     front : (d : ℕ) → d < filled p → slice_get (pipe_content p ++ bs) d ≡ slice_get (pipe_content p) d
     front d l = let z = length-bytes_from p.slots p.taken (filled p) in grind (arith, common_steps, gets)
@@ -207,11 +207,11 @@ content_put p bs f room = same_list _ _ (λ d. by d (below_or_not d (filled p)) 
 
     by : (d : ℕ) → (d < filled p) ⊎ (filled p ≤ d) → (d < filled p + length bs) ⊎ (filled p + length bs ≤ d) → slice_get (pipe_content (put_in bs p)) d ≡ slice_get (pipe_content p ++ bs) d
     by d (inl l) b =
-        read d (omega (arith, order, within, some, size, had, room)) ∙ sym (stands d)
+        read d (omega (arith, order, within, some, size, had, room)) ∙ sym (slot_there d)
         ∙ get_out p.slots p.put bs ((p.taken + d + c) - p.put) ((p.taken + d) % c) c refl (omega (arith, order, within, some, size, had, room)) (omega (arith, order, within, some, size, had, room)) (sym (slot_around (p.taken + d) c) ∙ ap (λ n. n % c) (omega (arith, order, within, some, size, had, room)))
         ∙ there p.slots ((p.taken + d) % c) (mod_below (p.taken + d) c some) ∙ sym (get_bytes p.slots p.taken (filled p) d l) ∙ sym (front d l)
     by d (inr l) (inl b) =
-        read d (omega (arith, order, within, some, size, had, room)) ∙ sym (stands d)
+        read d (omega (arith, order, within, some, size, had, room)) ∙ sym (slot_there d)
         ∙ get_in p.slots p.put bs (d - filled p) ((p.taken + d) % c) c refl (omega (arith, order, within, some, size, had, room)) (omega (arith, order, within, some, size, had, room)) (ap (λ n. n % c) (omega (arith, order, within, some, size, had, room))) ∙ sym (back d l)
     by d (inr l) (inr b) =
         slice_get_past _ d (let z = length-bytes_from (slots_with p.slots p.put bs) p.taken now in omega (arith, order, within, some, size, had, room, z)) ∙ sym (back d l ∙ slice_get_past bs (d - filled p) (omega (arith, order, within, some, size, had, room)))

@@ -27,7 +27,7 @@ pub record IsSpanEnd (old others : List ℕ) (from end : ℕ) : Type 0 where
   pub some : from < end
   pub within : end ≤ length old
   pub last : DifferAt old others (end - 1)
-  pub behind : Alike old others end (end + 16)
+  pub rest_alike : Alike old others end (end + 16)
   pub inner : (i : ℕ) → from ≤ i → i + 16 ≤ end → ¬ Alike old others i (i + 16)
 
 -- Each place has the note that it had before, or the one that it would have if all bytes `bs` of

@@ -59,12 +59,12 @@ body_mask end writer reader (Some (Pipe p)) = pipe_mask p end writer reader
 body_mask end writer reader (Some (EventFd n)) = counter_mask n
 
 -- The mask of a descriptor.
-abbrev pub mask_behind : (ℕ → Bool) → WorldState → Option DescriptorState → ℕ
-mask_behind held w None = 0
-mask_behind held w (Some d) =
+abbrev pub mask_of_descriptor : (ℕ → Bool) → WorldState → Option DescriptorState → ℕ
+mask_of_descriptor held w None = 0
+mask_of_descriptor held w (Some d) =
     body_mask d.end (has_writer held w d.object) (has_reader held w d.object)
     (slice_get w.objects d.object)
 
 -- The mask of a descriptor, open or closed; 0 if there is none with this number.
 abbrev pub ready_mask_of : (ℕ → Bool) → WorldState → ℕ → ℕ
-ready_mask_of held w fd = mask_behind held w (descriptor_of w fd)
+ready_mask_of held w fd = mask_of_descriptor held w (descriptor_of w fd)

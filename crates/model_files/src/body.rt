@@ -4,7 +4,7 @@ ghost use Rattle.places.specs.View.{Keeps, named};
 ghost use Rattle.places.specs.declared.place.Place.{Place};
 ghost use Rattle.places.specs.declared.place.Place.TheVariants.{FileByte, DurableByte, PipeByte};
 ghost use Rattle.model_files.specs.Pipes.{put_in, taken_out, GivesOut, TakesIn};
-ghost use Rattle.places.specs.Masked.{BytesStand};
+ghost use Rattle.places.specs.Masked.{BytesPresent};
 ghost use Rattle.places.specs.Stretched.{kept_of, CanCount};
 ghost use Rattle.model_files.specs.Objects.{CanPut, PutsIn, PutsBack, object_owns};
 ghost use Rattle.model_files.specs.Files.{synced, written, FileFormed};
@@ -95,7 +95,7 @@ impl Body {
     /// Restores the recorded bytes of a stretch.
     pub(crate) fn put_back(&mut self, stretch: Stretch<'_>)
         requires count { CanCount stretch }
-        requires stand { BytesStand (body_seen self.old) stretch.region stretch.start
+        requires present { BytesPresent (body_seen self.old) stretch.region stretch.start
             (kept_of stretch) }
         ensures put { PutsBack (body_seen self.old)
             (body_seen self.new) stretch.entry.region stretch.entry.start
@@ -138,7 +138,7 @@ impl Body {
     }
 
     /// Writes bytes to a pipe. If an allocation fails, the pipe is unchanged.
-    pub(crate) fn put(
+    pub(crate) fn push_bytes(
         &mut self,
         object: u32,
         others: &[u8],

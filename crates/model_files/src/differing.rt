@@ -1,6 +1,6 @@
 //! Recording of the bytes that a write changes, in spans that skip longer unchanged parts.
 ghost use Rattle.std.specs.Prelude.{◌≡◌, ◌+◌, ◌-◌, ◌<◌, ◌≤◌, ◌↔◌, ℕ, IsTrue, MatchOption, OnOk, None, length};
-ghost use Rattle.places.specs.Notes.{HasAsMuch};
+ghost use Rattle.places.specs.Notes.{HasSameRoom};
 ghost use Rattle.places.specs.Runs.{place_in};
 ghost use Rattle.places.specs.View.{named};
 ghost use Rattle.model_files.specs.Differing.{Alike, DifferAt, IsFirst, IsSpanEnd, NotedAmong, NamesDiffering, Spares};
@@ -39,7 +39,7 @@ pub(crate) fn note_differing(
     ensures noted { OnOk result (NamesDiffering notes.new.made region start old.now others.now) }
     ensures spared { Spares notes.new.made region start old.now others.now }
     ensures among { NotedAmong notes.old.made notes.new.made region start old.now }
-    ensures room { HasAsMuch notes.old notes.new }
+    ensures room { HasSameRoom notes.old notes.new }
 {
     let mut done = 0;
     while let Some(span) = next_span(old, others, done) {
@@ -122,7 +122,7 @@ fn last_end(old: &[u8], others: &[u8], from: usize, to: usize) -> usize
     ensures from { from ≤ result }
     ensures within { result ≤ to }
     ensures last { from < result → DifferAt old.now others.now (result - 1) }
-    ensures behind { Alike old.now others.now result to }
+    ensures rest_alike { Alike old.now others.now result to }
 {
     let mut end = to;
     while from < end && old[end - 1] == others[end - 1] {

@@ -1,6 +1,6 @@
 //! Regular files.
 ghost use Rattle.std.specs.Prelude.{◌≡◌, ◌+◌, ◌*◌, ◌≤◌, ◌<◌, ℕ, false, slice_get, IfOk, length};
-ghost use Rattle.places.specs.Masked.{BytesStand};
+ghost use Rattle.places.specs.Masked.{BytesPresent};
 ghost use Rattle.places.specs.Stretched.{kept_of, CanCount};
 ghost use Rattle.model_files.specs.Objects.{CanPut, PutsIn, PutsBack};
 ghost use Rattle.model_files.specs.Files.{file_seen, file_start, synced, written, FileFormed, FileSized};
@@ -168,7 +168,7 @@ impl RegularFile {
     /// Restores the recorded bytes of a stretch.
     pub(crate) fn put_back(&mut self, stretch: Stretch<'_>)
         requires count { CanCount stretch }
-        requires stand { BytesStand (file_seen self.old) stretch.region stretch.start
+        requires present { BytesPresent (file_seen self.old) stretch.region stretch.start
             (kept_of stretch) }
         ensures put { PutsBack (file_seen self.old)
             (file_seen self.new) stretch.entry.region stretch.entry.start
@@ -210,7 +210,7 @@ impl RegularFile {
     pub(crate) fn sync(&mut self)
         ensures { self.new ≡ synced self.old }
     {
-        self.dirty.bring(&self.bytes, &mut self.durable);
+        self.dirty.sync_into(&self.bytes, &mut self.durable);
         self.durable_len = self.len;
         self.dirty = Pages::none();
     }

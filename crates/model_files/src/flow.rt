@@ -1,6 +1,6 @@
 //! Writing to pipes, with the old values recorded (pipe(7)).
 ghost use Rattle.std.specs.Prelude.{◌≡◌, ◌+◌, ◌<◌, ◌≤◌, ℕ, OnOk, OnErr, None, length, slice_get};
-ghost use Rattle.places.specs.Notes.{HasAsMuch};
+ghost use Rattle.places.specs.Notes.{HasSameRoom};
 ghost use Rattle.places.specs.View.{Keeps, named};
 ghost use Rattle.places.specs.declared.place.Place.{Place};
 ghost use Rattle.places.specs.declared.place.Place.TheVariants.{PipeByte};
@@ -55,7 +55,7 @@ impl PipeBuffer {
         ensures others { notes.old.others ≤ notes.new.others }
     {
         self.note_slots(object, others, notes)?;
-        notes.note_number(Place::PutCount(object), self.put())?;
+        notes.note_number(Place::PutCount(object), self.put_count())?;
         Ok(())
     }
 
@@ -71,10 +71,10 @@ impl PipeBuffer {
             ≡ slice_get self.now.slots i) }
         ensures named { (p : Place) → named notes.new.made p ≡ None
             → named notes.old.made p ≡ None }
-        ensures room { HasAsMuch notes.old notes.new }
+        ensures room { HasSameRoom notes.old notes.new }
     {
         let size = self.slots().len();
-        let at = (self.put() % size as u64) as usize;
+        let at = (self.put_count() % size as u64) as usize;
         let (first, second) = others.split_at(others.len().min(size - at));
         self.note_part(object, at, first, notes)?;
         self.note_part(object, 0, second, notes)
@@ -97,7 +97,7 @@ impl PipeBuffer {
             (part self.now.slots at (length others.now)) others.now) }
         ensures among { NotedAmong notes.old.made notes.new.made (Pipe object) at
             (part self.now.slots at (length others.now)) }
-        ensures room { HasAsMuch notes.old notes.new }
+        ensures room { HasSameRoom notes.old notes.new }
     {
         let old = &self.slots()[at..at + others.len()];
         note_differing(Region::Pipe(object), at as u32, old, others, notes)

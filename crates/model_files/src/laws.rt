@@ -76,7 +76,7 @@ pub fn cleared_formed()
 {}
 
 /// Writing to a pipe appends the bytes to its contents.
-pub fn puts_behind()
+pub fn put_bytes_come_last()
     ensures { (p : PipeState) (bytes : List ℕ) → PipeFormed p → length bytes ≤ room_in p
         → pipe_content (put_in bytes p) ≡ pipe_content p ++ bytes }
 {}

@@ -62,18 +62,18 @@ impl Pages {
     }
 
     /// Copies each marked page to the durable contents.
-    pub(crate) fn bring(&self, bytes: &[u8], durable: &mut Vec<u8>)
+    pub(crate) fn sync_into(&self, bytes: &[u8], durable: &mut Vec<u8>)
         requires bytes { length bytes.now ≡ 65536 }
         requires durable { length durable.old.items ≡ 65536 }
         requires clean { Agree self.now.marks bytes.now durable.old.items }
         ensures { durable.new.items ≡ bytes.now }
     {
         for page in 0..PAGES {
-            self.bring_page(page, bytes, durable);
+            self.sync_page(page, bytes, durable);
         }
     }
 
-    fn bring_page(&self, page: usize, bytes: &[u8], durable: &mut Vec<u8>)
+    fn sync_page(&self, page: usize, bytes: &[u8], durable: &mut Vec<u8>)
         requires page { page < 16 }
         requires bytes { length bytes.now ≡ 65536 }
         requires durable { length durable.old.items ≡ 65536 }
@@ -84,7 +84,7 @@ impl Pages {
             → slice_get durable.new.items i ≡ slice_get durable.old.items i }
         ensures there { (i : ℕ) → page * 4096 ≤ i → i < page * 4096 + 4096
             → slice_get durable.new.items i ≡ slice_get bytes.now i }
-        ensures behind { (i : ℕ) → page * 4096 + 4096 ≤ i
+        ensures after { (i : ℕ) → page * 4096 + 4096 ≤ i
             → slice_get durable.new.items i ≡ slice_get durable.old.items i }
     {
         if self.is_marked(page) {

@@ -1,6 +1,6 @@
 //! Pipes.
 ghost use Rattle.std.specs.Prelude.{◌≡◌, ◌+◌, ◌-◌, ◌%◌, ◌<◌, ◌≤◌, ◌^◌, ◌++◌, min, IfOk, Some, length, take};
-ghost use Rattle.places.specs.Masked.{BytesStand};
+ghost use Rattle.places.specs.Masked.{BytesPresent};
 ghost use Rattle.places.specs.Stretched.{kept_of, CanCount};
 ghost use Rattle.model_files.specs.Objects.{CanPut, PutsIn, PutsBack};
 ghost use Rattle.model_files.specs.Pipes.{pipe_seen, pipe_start, bytes_from, filled, put_in, taken_out, GivesOut};
@@ -91,7 +91,7 @@ impl PipeBuffer {
     }
 
     /// Returns how many bytes have been written.
-    pub(crate) fn put(&self) -> u64
+    pub(crate) fn put_count(&self) -> u64
         ensures { result ≡ self.now.put }
     {
         self.put
@@ -150,7 +150,7 @@ impl PipeBuffer {
     /// Restores the recorded bytes of a stretch.
     pub(crate) fn put_back(&mut self, stretch: Stretch<'_>)
         requires count { CanCount stretch }
-        requires stand { BytesStand (pipe_seen self.old) stretch.region stretch.start
+        requires present { BytesPresent (pipe_seen self.old) stretch.region stretch.start
             (kept_of stretch) }
         ensures put { PutsBack (pipe_seen self.old)
             (pipe_seen self.new) stretch.entry.region stretch.entry.start

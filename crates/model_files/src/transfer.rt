@@ -5,7 +5,7 @@ ghost use Rattle.places.specs.declared.place.Place.{Place};
 ghost use Rattle.places.specs.declared.place.Place.TheVariants.{FileByte, DurableByte};
 ghost use Rattle.model_files.specs.Objects.{object_owns, NamesChanges};
 ghost use Rattle.model_files.specs.Pages.{NamesUpTo};
-ghost use Rattle.places.specs.Notes.{HasAsMuch};
+ghost use Rattle.places.specs.Notes.{HasSameRoom};
 ghost use Rattle.model_files.specs.Files.{file_seen, synced, written, FileFormed};
 
 use crate::differing::note_differing;
@@ -123,7 +123,7 @@ impl RegularFile {
         ensures noted { OnOk result (NamesUpTo object self.now notes.new.made 65536) }
         ensures named { (p : Place) → named notes.new.made p ≡ None
             → named notes.old.made p ≡ None }
-        ensures room { HasAsMuch notes.old notes.new }
+        ensures room { HasSameRoom notes.old notes.new }
     {
         for page in 0..PAGES as u32 {
             self.note_page(object, page, notes)?;
@@ -143,7 +143,7 @@ impl RegularFile {
             → named notes.old.made p ≡ None }
         ensures fresh { (i : ℕ) → page * 4096 + 4096 ≤ i → i < 65536
             → named notes.new.made (DurableByte object i) ≡ None }
-        ensures room { HasAsMuch notes.old notes.new }
+        ensures room { HasSameRoom notes.old notes.new }
     {
         if !self.is_dirty(page) {
             return Ok(());

@@ -2,12 +2,12 @@
 ghost use Rattle.std.specs.Prelude.{◌≡◌, ◌+◌, ◌<◌, ◌≤◌, ◌^◌, ℕ, IsSome, IfOk, IfSome, IsSomeAnd, None, OnErr, OnOk, IsOk, Some, length, option_map, slice_get};
 ghost use Rattle.places.specs.View.{Keeps, named, put_at, undo};
 ghost use Rattle.places.specs.Runs.{place_in, old_bytes};
-ghost use Rattle.places.specs.Masked.{BytesStand};
+ghost use Rattle.places.specs.Masked.{BytesPresent};
 ghost use Rattle.places.specs.Stretched.{kept_of, CanCount};
 ghost use Rattle.places.specs.declared.place.Place.{Place};
 ghost use Rattle.places.specs.declared.place.Place.TheVariants.{MemoryByte, FileByte, DurableByte, PipeByte, Position};
 ghost use Rattle.places.specs.declared.notes.runs.Region.TheVariants.{Memory};
-ghost use Rattle.places.specs.Notes.{HasAsMuch};
+ghost use Rattle.places.specs.Notes.{HasSameRoom};
 ghost use Rattle.places.specs.declared.object.Object.{Object};
 ghost use Rattle.model_files.specs.Differing.{NotedAmong, NamesDiffering};
 ghost use Rattle.model_files.specs.Files.{part, FileFormed};
@@ -158,7 +158,7 @@ impl World {
     /// Restores the recorded bytes of a stretch. Allocates nothing.
     pub fn put_back(&mut self, stretch: Stretch<'_>)
         requires count { CanCount stretch }
-        requires stand { BytesStand (world_seen self.old) stretch.region stretch.start
+        requires present { BytesPresent (world_seen self.old) stretch.region stretch.start
             (kept_of stretch) }
         ensures put { (q : Place)
             → world_seen self.new q
@@ -178,7 +178,7 @@ impl World {
     fn put_object_back(&mut self, object: u32, stretch: Stretch<'_>)
         requires its { object_in (place_in stretch.region stretch.start) ≡ Some object }
         requires count { CanCount stretch }
-        requires stand { BytesStand (world_seen self.old) stretch.region stretch.start
+        requires present { BytesPresent (world_seen self.old) stretch.region stretch.start
             (kept_of stretch) }
         ensures put { (q : Place)
             → world_seen self.new q
@@ -389,13 +389,13 @@ impl World {
         ensures others { notes.old.others ≤ notes.new.others }
     {
         self.note_taken(object, count, address, notes)?;
-        self.bring_oldest(object, count, address);
+        self.copy_oldest(object, count, address);
         self.objects[object as usize].take(count);
         Ok(())
     }
 
     // Copies the oldest bytes of a pipe into memory.
-    fn bring_oldest(&mut self, object: u32, count: u32, address: u32)
+    fn copy_oldest(&mut self, object: u32, count: u32, address: u32)
         requires there { IsSomeAnd (pipe_of self.old object) (GivesOut count) }
         requires in_memory { address + count ≤ 65536 }
         ensures { self.new ≡ world_stored address
@@ -457,7 +457,7 @@ impl World {
             (part self.now.memory address (length others.now)) others.now) }
         ensures among { NotedAmong notes.old.made notes.new.made Memory address
             (part self.now.memory address (length others.now)) }
-        ensures room { HasAsMuch notes.old notes.new }
+        ensures room { HasSameRoom notes.old notes.new }
     {
         let at = address as usize;
         let old = &self.memory[at..at + others.len()];
@@ -488,7 +488,7 @@ impl World {
     {
         let start = address as usize;
         let bytes = &self.memory[start..start + count as usize];
-        self.objects[object as usize].put(object, bytes, notes)
+        self.objects[object as usize].push_bytes(object, bytes, notes)
     }
 
     /// Adds a number to the counter of an eventfd (eventfd(2)). If an allocation fails, the counter

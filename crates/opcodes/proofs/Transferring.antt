@@ -22,7 +22,7 @@ use Rattle.opcodes.specs.declared.op.Op.{Op}
 use Rattle.opcodes.specs.declared.op.Op.TheVariants.{Read, Write}
 use Rattle.opcodes.specs.declared.ending.Outcome.TheVariants.{Res, Waits, BadChoice}
 use Rattle.opcodes.specs.Check.{op_of}
-use Rattle.opcodes.specs.Outcomes.{fixed, transferred, passes_memory, is_bad_offset, offset_of, file_read, file_written, pipe_read, pipe_written, waits_for_room, event_read, event_written, read_outcome, write_outcome, outcome_on, outcome_of, held_descriptor, position_of, reader_behind, writer_behind}
+use Rattle.opcodes.specs.Outcomes.{fixed, transferred, passes_memory, is_bad_offset, offset_of, file_read, file_written, pipe_read, pipe_written, waits_for_room, event_read, event_written, read_outcome, write_outcome, outcome_on, outcome_of, held_descriptor, position_of, has_reader_at, has_writer_at}
 use Rattle.opcodes.specs.Effects.{moved_on, bytes_written}
 
 -- The fixed properties are the same, whether the transfer succeeds or an allocation fails.
@@ -190,18 +190,18 @@ counts_to w o n number h l = by (slice_get w.objects o) h
     by (Some (EventBody m)) g = let same : m ≡ n = cc in subst (λ z. z + number < 2 ^ 64 - 1) (sym same) l
 
 -- The outcome of a request, for its opcode and descriptor.
-told : (held : ℕ → Bool) (w : WorldState) (row : Row) (d : DescriptorState) (op : Op) (c : Choice) (res : ℤ) (k : ℕ) → op_of row.entry.opcode ≡ Some op → held_descriptor w row ≡ Some d → pos k ≡ res → outcome_of held w row c ≡ Res res → outcome_on held w row.entry (Some op) (Some d) c ≡ Res (pos k)
-told held w row d op c res k o h e g = sym (ap (λ x. outcome_on held w row.entry x (held_descriptor w row) c) o ∙ ap (λ x. outcome_on held w row.entry (Some op) x c) h) ∙ g ∙ ap Res (sym e)
+outcome_is : (held : ℕ → Bool) (w : WorldState) (row : Row) (d : DescriptorState) (op : Op) (c : Choice) (res : ℤ) (k : ℕ) → op_of row.entry.opcode ≡ Some op → held_descriptor w row ≡ Some d → pos k ≡ res → outcome_of held w row c ≡ Res res → outcome_on held w row.entry (Some op) (Some d) c ≡ Res (pos k)
+outcome_is held w row d op c res k o h e g = sym (ap (λ x. outcome_on held w row.entry x (held_descriptor w row) c) o ∙ ap (λ x. outcome_on held w row.entry (Some op) x c) h) ∙ g ∙ ap Res (sym e)
 
 pub row_read : (held : ℕ → Bool) (w : WorldState) (row : Row) (d : DescriptorState) (s : Stock) (c : Choice) (res : ℤ) (k : ℕ) → WorldFormed w → op_of row.entry.opcode ≡ Some Read → held_descriptor w row ≡ Some d → stock_of w d.object ≡ Some s → pos k ≡ res → outcome_of held w row c ≡ Res res → ReadKeeps row.entry (position_of (Some d)) k s
 row_read held w row d s c res k f o h i e g =
-    read_keeps row.entry (position_of (Some d)) k (writer_behind held w (Some d)) s c (stock_fits w f d.object s i)
-    (sym (ap (λ x. cond (passes_memory row.entry) (fixed (negsuc 13) c) (read_outcome row.entry (position_of (Some d)) (writer_behind held w (Some d)) x c)) i) ∙ told held w row d Read c res k o h e g)
+    read_keeps row.entry (position_of (Some d)) k (has_writer_at held w (Some d)) s c (stock_fits w f d.object s i)
+    (sym (ap (λ x. cond (passes_memory row.entry) (fixed (negsuc 13) c) (read_outcome row.entry (position_of (Some d)) (has_writer_at held w (Some d)) x c)) i) ∙ outcome_is held w row d Read c res k o h e g)
 
 pub row_written : (held : ℕ → Bool) (w : WorldState) (row : Row) (d : DescriptorState) (s : Stock) (c : Choice) (res : ℤ) (k : ℕ) → op_of row.entry.opcode ≡ Some Write → held_descriptor w row ≡ Some d → stock_of w d.object ≡ Some s → pos k ≡ res → outcome_of held w row c ≡ Res res → WriteKeeps row.entry (position_of (Some d)) (number_at w row.entry.addr) k s
 row_written held w row d s c res k o h i e g =
-    write_keeps row.entry (position_of (Some d)) (number_at w row.entry.addr) k (reader_behind held w (Some d)) s c
-    (sym (ap (λ x. cond (passes_memory row.entry) (fixed (negsuc 13) c) (write_outcome row.entry (position_of (Some d)) (reader_behind held w (Some d)) (number_at w row.entry.addr) x c)) i) ∙ told held w row d Write c res k o h e g)
+    write_keeps row.entry (position_of (Some d)) (number_at w row.entry.addr) k (has_reader_at held w (Some d)) s c
+    (sym (ap (λ x. cond (passes_memory row.entry) (fixed (negsuc 13) c) (write_outcome row.entry (position_of (Some d)) (has_reader_at held w (Some d)) (number_at w row.entry.addr) x c)) i) ∙ outcome_is held w row d Write c res k o h e g)
 
 -- Writing the bytes and then advancing the position is `bytes_written`.
 pub written_then : (entry : Sqe) (fd : ℕ) (d : DescriptorState) (k : ℕ) (w v x : WorldState) → v ≡ world_written d.object (offset_of entry (position_of (Some d))) k entry.addr w → x ≡ moved_on entry fd d.position k v → x ≡ bytes_written entry fd d k w

@@ -67,34 +67,34 @@ can_guard (Some opcode) = not (opcode == 15)
 -- of a POLL_ADD or POLL_REMOVE has command flags, none of which is supported. The supported flags
 -- of an ASYNC_CANCEL are IORING_ASYNC_CANCEL_ALL (1) and IORING_ASYNC_CANCEL_FD (2).
 abbrev pub tested : WorldState → Option ℕ → Sqe → Op → Result Op ℤ
-tested w behind entry Nop = Ok Nop
-tested w behind entry Fsync = if nat_le entry.operation_flags 1 then Ok Fsync else invalid
-tested w behind entry PollAdd = if entry.len == 0 then Ok PollAdd else invalid
-tested w behind entry PollRemove =
+tested w previous entry Nop = Ok Nop
+tested w previous entry Fsync = if nat_le entry.operation_flags 1 then Ok Fsync else invalid
+tested w previous entry PollAdd = if entry.len == 0 then Ok PollAdd else invalid
+tested w previous entry PollRemove =
     if (entry.len == 0) && (entry.operation_flags == 0) then Ok PollRemove else invalid
-tested w behind entry Timeout = timed w entry Timeout
-tested w behind entry TimeoutRemove =
+tested w previous entry Timeout = timed w entry Timeout
+tested w previous entry TimeoutRemove =
     if entry.operation_flags == 0 then Ok TimeoutRemove else invalid
-tested w behind entry AsyncCancel =
+tested w previous entry AsyncCancel =
     if nat_le entry.operation_flags 3 then Ok AsyncCancel else invalid
-tested w behind entry LinkTimeout =
-    if can_guard behind && (entry.off == 0) then timed w entry LinkTimeout else invalid
-tested w behind entry Read = if entry.operation_flags == 0 then Ok Read else invalid
-tested w behind entry Write = if entry.operation_flags == 0 then Ok Write else invalid
+tested w previous entry LinkTimeout =
+    if can_guard previous && (entry.off == 0) then timed w entry LinkTimeout else invalid
+tested w previous entry Read = if entry.operation_flags == 0 then Ok Read else invalid
+tested w previous entry Write = if entry.operation_flags == 0 then Ok Write else invalid
 
--- The result of the checks after the flags. `behind` is the opcode of the previous entry in the
+-- The result of the checks after the flags. `previous` is the opcode of the previous entry in the
 -- chain.
 abbrev pub row_of : WorldState → Option ℕ → Sqe → Option Op → Result Op ℤ
-row_of w behind entry None = invalid
-row_of w behind entry (Some op) = tested w behind entry op
+row_of w previous entry None = invalid
+row_of w previous entry (Some op) = tested w previous entry op
 
 -- The result of all checks: the opcode, or a negated error number.
 abbrev pub check_of : WorldState → Option ℕ → Sqe → Result Op ℤ
-check_of w behind entry =
-    if bit_and entry.flags refused_flags == 0 then row_of w behind entry (op_of entry.opcode)
+check_of w previous entry =
+    if bit_and entry.flags refused_flags == 0 then row_of w previous entry (op_of entry.opcode)
     else invalid
 
 -- The time of a TIMEOUT or LINK_TIMEOUT that passes the checks.
 abbrev pub time_of : WorldState → Option ℕ → Sqe → Option ℕ
-time_of w behind entry =
-    if is_timer entry.opcode && is_ok (check_of w behind entry) then time_at w entry.addr else None
+time_of w previous entry =
+    if is_timer entry.opcode && is_ok (check_of w previous entry) then time_at w entry.addr else None

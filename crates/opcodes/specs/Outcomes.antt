@@ -7,7 +7,7 @@ use Rattle.entries.specs.declared.row.Row.{Row}
 use Rattle.model_files.specs.declared.descriptor.DescriptorState.{DescriptorState}
 use Rattle.model_files.specs.declared.stock.Stock.{Stock}
 use Rattle.model_files.specs.declared.stock.Stock.TheVariants.{File, Pipe, EventFd}
-use Rattle.model_files.specs.Ends.{has_reader, has_writer, mask_behind}
+use Rattle.model_files.specs.Ends.{has_reader, has_writer, mask_of_descriptor}
 use Rattle.model_files.specs.Worlds.{WorldState, descriptor_of, number_at, stock_of}
 use Rattle.entries.specs.declared.choice.Choice.{Choice}
 use Rattle.entries.specs.declared.choice.Choice.TheVariants.{Full, Short, Eio}
@@ -24,9 +24,9 @@ abbrev pub held_descriptor : WorldState → Row → Option DescriptorState
 held_descriptor w row = option_and_then (descriptor_of w) row.held
 
 -- How much the descriptor's object holds.
-abbrev pub stock_behind : WorldState → Option DescriptorState → Option Stock
-stock_behind w None = None
-stock_behind w (Some d) = stock_of w d.object
+abbrev pub stock_at : WorldState → Option DescriptorState → Option Stock
+stock_at w None = None
+stock_at w (Some d) = stock_of w d.object
 
 abbrev pub position_of : Option DescriptorState → ℕ
 position_of None = 0
@@ -34,13 +34,13 @@ position_of (Some d) = unwrap_or d.position 0
 
 -- Whether the descriptor's pipe has a writer, or a reader. `held` says which descriptors are held
 -- by requests in flight.
-abbrev pub writer_behind : (ℕ → Bool) → WorldState → Option DescriptorState → Bool
-writer_behind held w None = false
-writer_behind held w (Some d) = has_writer held w d.object
+abbrev pub has_writer_at : (ℕ → Bool) → WorldState → Option DescriptorState → Bool
+has_writer_at held w None = false
+has_writer_at held w (Some d) = has_writer held w d.object
 
-abbrev pub reader_behind : (ℕ → Bool) → WorldState → Option DescriptorState → Bool
-reader_behind held w None = false
-reader_behind held w (Some d) = has_reader held w d.object
+abbrev pub has_reader_at : (ℕ → Bool) → WorldState → Option DescriptorState → Bool
+has_reader_at held w None = false
+has_reader_at held w (Some d) = has_reader held w d.object
 
 -- ---- Running requests
 
@@ -55,7 +55,7 @@ is_file (Some (EventFd counter)) = false
 abbrev pub is_running : WorldState → Row → Bool
 is_running w row =
     always_runs row.entry.opcode
-    || (runs_on_file row.entry.opcode && is_file (stock_behind w (held_descriptor w row)))
+    || (runs_on_file row.entry.opcode && is_file (stock_at w (held_descriptor w row)))
 
 -- ---- Results
 
@@ -190,15 +190,15 @@ write_outcome entry position reader number (Some (EventFd counter)) c =
 abbrev pub outcome_on : (ℕ → Bool) → WorldState → Sqe → Option Op → Option DescriptorState → Choice
     → Outcome
 outcome_on held w entry (Some Nop) d c = fixed (pos 0) c
-outcome_on held w entry (Some Fsync) d c = fsync_outcome (stock_behind w d) c
-outcome_on held w entry (Some PollAdd) d c = poll_outcome entry (mask_behind held w d) c
+outcome_on held w entry (Some Fsync) d c = fsync_outcome (stock_at w d) c
+outcome_on held w entry (Some PollAdd) d c = poll_outcome entry (mask_of_descriptor held w d) c
 outcome_on held w entry (Some Read) d c =
     if passes_memory entry then fixed (negsuc 13) c
-    else read_outcome entry (position_of d) (writer_behind held w d) (stock_behind w d) c
+    else read_outcome entry (position_of d) (has_writer_at held w d) (stock_at w d) c
 outcome_on held w entry (Some Write) d c =
     if passes_memory entry then fixed (negsuc 13) c
-    else write_outcome entry (position_of d) (reader_behind held w d) (number_at w entry.addr)
-    (stock_behind w d) c
+    else write_outcome entry (position_of d) (has_reader_at held w d) (number_at w entry.addr)
+    (stock_at w d) c
 outcome_on held w entry op d c = BadChoice
 
 -- The result of a request. `held` says which descriptors are held by requests in flight.

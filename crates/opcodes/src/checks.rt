@@ -17,7 +17,7 @@ const SECOND: u128 = 1_000_000_000;
 #[derive(Clone, Copy)]
 pub struct Context<'a> {
     /// The opcode of the previous entry in the chain; `None` for the first one.
-    pub behind: Option<u8>,
+    pub previous: Option<u8>,
     /// The memory that has the time of a timeout.
     pub world: &'a World,
 }
@@ -25,12 +25,12 @@ pub struct Context<'a> {
 /// Checks an entry and returns its opcode. The error is the result of its completion, a negated
 /// error number (io_uring_enter(2)).
 pub fn check(entry: &Sqe, context: Context) -> Result<Op, i32>
-    ensures { result ≡ check_of context.entry.world.now context.entry.behind entry.now }
+    ensures { result ≡ check_of context.entry.world.now context.entry.previous entry.now }
 {
     if entry.flags & !ALLOWED_FLAGS != 0 {
         return Err(-EINVAL);
     }
-    match Op::of(entry.opcode) {
+    match Op::from_opcode(entry.opcode) {
         Some(op) => test(entry, context, op),
         None => Err(-EINVAL),
     }
@@ -39,7 +39,7 @@ pub fn check(entry: &Sqe, context: Context) -> Result<Op, i32>
 /// Returns the time of a TIMEOUT or LINK_TIMEOUT in nanoseconds; `None` for another opcode, or if a
 /// check fails.
 pub fn time_of(entry: &Sqe, context: Context) -> Option<u128>
-    ensures { result ≡ time_of context.entry.world.now context.entry.behind entry.now }
+    ensures { result ≡ time_of context.entry.world.now context.entry.previous entry.now }
 {
     if !is_timer(entry.opcode) {
         return None;
@@ -52,7 +52,7 @@ pub fn time_of(entry: &Sqe, context: Context) -> Option<u128>
 
 // Checks what the opcode requires.
 fn test(entry: &Sqe, context: Context, op: Op) -> Result<Op, i32>
-    ensures { result ≡ tested context.entry.world.now context.entry.behind entry.now op }
+    ensures { result ≡ tested context.entry.world.now context.entry.previous entry.now op }
 {
     let passes = match op {
         Op::Nop => true,
@@ -62,7 +62,7 @@ fn test(entry: &Sqe, context: Context, op: Op) -> Result<Op, i32>
         Op::AsyncCancel => entry.operation_flags <= 3,
         Op::TimeoutRemove | Op::Read | Op::Write => entry.operation_flags == 0,
         Op::Timeout => return test_time(entry, context.world, op),
-        Op::LinkTimeout if can_guard(context.behind) && entry.off == 0 => {
+        Op::LinkTimeout if can_guard(context.previous) && entry.off == 0 => {
             return test_time(entry, context.world, op);
         }
         Op::LinkTimeout => false,
@@ -100,10 +100,10 @@ fn time_at(world: &World, address: u32) -> Option<u128>
 
 // Returns whether a LINK_TIMEOUT can follow an entry with this opcode in its chain. It can neither
 // follow another LINK_TIMEOUT nor be first.
-fn can_guard(behind: Option<u8>) -> bool
-    ensures { result ≡ can_guard behind }
+fn can_guard(previous: Option<u8>) -> bool
+    ensures { result ≡ can_guard previous }
 {
-    match behind {
+    match previous {
         Some(opcode) => opcode != Op::LinkTimeout as u8,
         None => false,
     }

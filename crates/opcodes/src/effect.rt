@@ -28,7 +28,7 @@ pub fn carry_out(
 ) -> Result<(), AllocError>
     requires formed { WorldFormed world.old }
     requires puts { PutsWithin (2 ^ 63) world.old }
-    requires came { (held : ℕ → Bool) × (c : Choice)
+    requires outcome_is_res { (held : ℕ → Bool) × (c : Choice)
         × (outcome_of held world.old row.now c ≡ Res res) }
     requires fresh { (p : Place) → named notes.old.made p ≡ None }
     ensures ok { OnOk result (world.new ≡ world_after row.now res world.old) }
@@ -44,7 +44,7 @@ pub fn carry_out(
         return Ok(());
     }
     let (entry, object, count) = (&row.entry, descriptor.object, count_of(res));
-    match Op::of(entry.opcode) {
+    match Op::from_opcode(entry.opcode) {
         Some(Op::Fsync) => match world.stock(object) {
             Some(Stock::File(_)) => world.sync(object, notes),
             _ => Ok(()),

@@ -40,7 +40,7 @@ const _: () = prove!(
 
 impl Op {
     /// Returns the opcode with a number, if it is supported.
-    pub fn of(opcode: u8) -> Option<Op>
+    pub fn from_opcode(opcode: u8) -> Option<Op>
         ensures { result ≡ op_of opcode }
     {
         match opcode {

@@ -1,9 +1,9 @@
 //! The results of issued requests (read(2), write(2), fsync(2), poll(2)).
 ghost use Rattle.std.specs.Prelude.{◌≡◌, ◌+◌, ◌<◌, ◌≤◌, IfSome, false};
-ghost use Rattle.model_files.specs.Ends.{mask_behind};
+ghost use Rattle.model_files.specs.Ends.{mask_of_descriptor};
 ghost use Rattle.model_files.specs.Holders.{is_held};
 ghost use Rattle.model_files.specs.Worlds.{StockFits, number_at};
-ghost use Rattle.opcodes.specs.Outcomes.{outcome_of, held_descriptor, stock_behind, position_of, writer_behind, reader_behind, fixed, transferred, passes_memory, is_at_position, is_bad_offset, offset_of, file_synced, file_read, file_written, fsync_outcome, poll_outcome, read_outcome, write_outcome};
+ghost use Rattle.opcodes.specs.Outcomes.{outcome_of, held_descriptor, stock_at, position_of, has_writer_at, has_reader_at, fixed, transferred, passes_memory, is_at_position, is_bad_offset, offset_of, file_synced, file_read, file_written, fsync_outcome, poll_outcome, read_outcome, write_outcome};
 
 use crate::ending::Outcome;
 use crate::op::Op;
@@ -17,10 +17,10 @@ pub fn outcome(world: &World, held: &Held, row: &Row, choice: Choice) -> Outcome
     ensures { result ≡ outcome_of (is_held held.now) world.now row.now choice }
 {
     let (entry, descriptor) = (&row.entry, held_descriptor(world, row));
-    match Op::of(entry.opcode) {
+    match Op::from_opcode(entry.opcode) {
         Some(Op::Nop) => fixed(0, choice),
-        Some(Op::Fsync) => fsync_outcome(stock_behind(world, descriptor), choice),
-        Some(Op::PollAdd) => poll_outcome(entry, mask_behind(world, held, row), choice),
+        Some(Op::Fsync) => fsync_outcome(stock_at(world, descriptor), choice),
+        Some(Op::PollAdd) => poll_outcome(entry, mask_of_descriptor(world, held, row), choice),
         Some(Op::Read) => {
             if passes_memory(entry) {
                 return fixed(-EFAULT, choice);
@@ -48,8 +48,8 @@ pub(crate) fn held_descriptor(world: &World, row: &Row) -> Option<DescriptorStat
 }
 
 /// Returns the poll(2) events for which the object of a request's descriptor is ready.
-fn mask_behind(world: &World, held: &Held, row: &Row) -> u32
-    ensures mask { result ≡ mask_behind (is_held held.now) world.now
+fn mask_of_descriptor(world: &World, held: &Held, row: &Row) -> u32
+    ensures mask { result ≡ mask_of_descriptor (is_held held.now) world.now
         (held_descriptor world.now row.now) }
     ensures few { result < 32 }
 {
@@ -70,8 +70,8 @@ pub(crate) fn position_of(descriptor: Option<DescriptorState>) -> u64
 }
 
 /// Returns how much the descriptor's object holds.
-pub(crate) fn stock_behind(world: &World, descriptor: Option<DescriptorState>) -> Option<Stock>
-    ensures value { result ≡ stock_behind world.now descriptor }
+pub(crate) fn stock_at(world: &World, descriptor: Option<DescriptorState>) -> Option<Stock>
+    ensures value { result ≡ stock_at world.now descriptor }
     ensures fits { IfSome result StockFits }
 {
     match descriptor {
@@ -80,8 +80,8 @@ pub(crate) fn stock_behind(world: &World, descriptor: Option<DescriptorState>) -
     }
 }
 
-fn writer_behind(world: &World, held: &Held, descriptor: Option<DescriptorState>) -> bool
-    ensures { result ≡ writer_behind (is_held held.now) world.now descriptor }
+fn has_writer_at(world: &World, held: &Held, descriptor: Option<DescriptorState>) -> bool
+    ensures { result ≡ has_writer_at (is_held held.now) world.now descriptor }
 {
     match descriptor {
         Some(descriptor) => world.has_writer(descriptor.object, held),
@@ -89,8 +89,8 @@ fn writer_behind(world: &World, held: &Held, descriptor: Option<DescriptorState>
     }
 }
 
-fn reader_behind(world: &World, held: &Held, descriptor: Option<DescriptorState>) -> bool
-    ensures { result ≡ reader_behind (is_held held.now) world.now descriptor }
+fn has_reader_at(world: &World, held: &Held, descriptor: Option<DescriptorState>) -> bool
+    ensures { result ≡ has_reader_at (is_held held.now) world.now descriptor }
 {
     match descriptor {
         Some(descriptor) => world.has_reader(descriptor.object, held),
@@ -193,15 +193,15 @@ fn read_outcome(
 ) -> Outcome
     requires { entry.now.len ≤ 65536 }
     ensures { result ≡ read_outcome entry.now (position_of descriptor)
-        (writer_behind (is_held held.now) world.now descriptor)
-        (stock_behind world.now descriptor) choice }
+        (has_writer_at (is_held held.now) world.now descriptor)
+        (stock_at world.now descriptor) choice }
 {
     let len = entry.len;
-    match stock_behind(world, descriptor) {
+    match stock_at(world, descriptor) {
         Some(Stock::File(size)) => file_read(entry, position_of(descriptor), size, choice),
         Some(Stock::Pipe(filled, _)) => pipe_read(
             len,
-            writer_behind(world, held, descriptor),
+            has_writer_at(world, held, descriptor),
             filled,
             choice,
         ),
@@ -219,15 +219,15 @@ fn write_outcome(
 ) -> Outcome
     requires within { entry.now.addr + entry.now.len ≤ 65536 }
     ensures { result ≡ write_outcome entry.now (position_of descriptor)
-        (reader_behind (is_held held.now) world.now descriptor) (number_at world.now entry.now.addr)
-        (stock_behind world.now descriptor) choice }
+        (has_reader_at (is_held held.now) world.now descriptor) (number_at world.now entry.now.addr)
+        (stock_at world.now descriptor) choice }
 {
     let len = entry.len;
-    match stock_behind(world, descriptor) {
+    match stock_at(world, descriptor) {
         Some(Stock::File(_)) => file_written(entry, position_of(descriptor), choice),
         Some(Stock::Pipe(filled, capacity)) => pipe_written(
             len,
-            reader_behind(world, held, descriptor),
+            has_reader_at(world, held, descriptor),
             filled,
             capacity,
             choice,

@@ -3,7 +3,7 @@ ghost use Rattle.std.specs.Prelude.{◌≡◌};
 ghost use Rattle.opcodes.specs.Opcodes.{always_runs, runs_on_file};
 ghost use Rattle.opcodes.specs.Outcomes.{is_file, is_running};
 
-use crate::results::{held_descriptor, stock_behind};
+use crate::results::{held_descriptor, stock_at};
 use entries::Row;
 use model_files::{Stock, World};
 
@@ -16,7 +16,7 @@ pub fn is_running(world: &World, row: &Row) -> bool
     if always_runs(opcode) {
         return true;
     }
-    runs_on_file(opcode) && is_file(stock_behind(world, held_descriptor(world, row)))
+    runs_on_file(opcode) && is_file(stock_at(world, held_descriptor(world, row)))
 }
 
 fn always_runs(opcode: u8) -> bool

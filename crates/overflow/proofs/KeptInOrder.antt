@@ -8,7 +8,7 @@ use Rattle.ring_words.specs.declared.flag.RingFlag.TheVariants.{CqOverflow}
 use Rattle.ring_words.specs.Rings.{ComWords, waiting, com_list, has_flag}
 use Rattle.ring_words.proofs.Laws.{com_length}
 use Rattle.ring_words.proofs.Flags.{flag_set}
-use Rattle.overflow.specs.Backlogs.{BacklogState, kept, is_clear, free_slots, Delivery, DeliveryFormed, fits, backlog_with, backlog_behind, all_posted, flushed}
+use Rattle.overflow.specs.Backlogs.{BacklogState, kept, is_clear, free_slots, Delivery, DeliveryFormed, fits, backlog_with, backlog_flushed, all_posted, flushed}
 use Rattle.overflow.proofs.Posting.{posted_slots, posted_well, posted_waits, posted_list}
 
 none_left : (xs : List Cqe) → (length xs == 0) ≡ true → xs ≡ []
@@ -27,8 +27,8 @@ drop_more : (n k : ℕ) (xs : List Cqe) → drop (n + k) xs ≡ drop k (drop n x
 drop_more n k xs = sym (drop-drop k n xs)
 
 -- The pending completions after k of them are flushed.
-pub kept_behind : (b : BacklogState) (k : ℕ) → kept (backlog_behind b k) ≡ drop k (kept b)
-kept_behind b k = drop_more b.front k b.items
+pub kept_flushed : (b : BacklogState) (k : ℕ) → kept (backlog_flushed b k) ≡ drop k (kept b)
+kept_flushed b k = drop_more b.front k b.items
 
 -- At most n completions go into the ring, and at most as many as it has room for.
 pub fits_least : (w : ComWords) (b : BacklogState) (n : ℕ) → fits w b n ≤ n
@@ -48,8 +48,8 @@ fits_room w b n = by (is_clear b)
 pub fits_clear : (w : ComWords) (b : BacklogState) (n : ℕ) → is_clear b ≡ true → fits w b n ≡ min n (free_slots w)
 fits_clear w b n h = rw h refl
 
-pub fits_behind : (w : ComWords) (b : BacklogState) (n : ℕ) → is_clear b ≡ false → fits w b n ≡ 0
-fits_behind w b n h = rw h refl
+pub none_fit : (w : ComWords) (b : BacklogState) (n : ℕ) → is_clear b ≡ false → fits w b n ≡ 0
+none_fit w b n h = rw h refl
 
 -- The completions that go into the ring fit.
 room_for : (d : Delivery) (cs : List Cqe) (i : ℕ) → DeliveryFormed d → i ≤ length cs → i ≤ free_slots d.completions → waiting d.completions.head d.completions.tail + length (take i cs) ≤ length d.completions.slots
@@ -70,8 +70,8 @@ posted_in_row d cs f =
     by false e = ap (λ xs. xs ++ (kept d.backlog ++ cs)) (append-nil (com_list d.completions)) ∙ sym (append_assoc (com_list d.completions) (kept d.backlog) cs)
 
 -- No posted completion overtakes a pending one.
-pub posted_behind_kept : (d : Delivery) (cs : List Cqe) → is_clear d.backlog ≡ false → com_list (all_posted d cs).completions ≡ com_list d.completions
-posted_behind_kept d cs h = rw (fits_behind d.completions d.backlog (length cs) h) refl
+pub posted_after_backlog : (d : Delivery) (cs : List Cqe) → is_clear d.backlog ≡ false → com_list (all_posted d cs).completions ≡ com_list d.completions
+posted_after_backlog d cs h = rw (none_fit d.completions d.backlog (length cs) h) refl
 
 -- If none is pending, as many completions go into the ring as fit.
 pub posted_into_ring : (d : Delivery) (cs : List Cqe) → DeliveryFormed d → is_clear d.backlog ≡ true → length (com_list (all_posted d cs).completions) ≡ min (length (com_list d.completions) + length cs) (length d.completions.slots)
@@ -124,8 +124,8 @@ moved_room d = omega arith
 pub flushed_in_row : (d : Delivery) → DeliveryFormed d → com_list (flushed d).completions ++ kept (flushed d).backlog ≡ com_list d.completions ++ kept d.backlog
 flushed_in_row d f =
     let k = moved d in
-    ap (λ xs. xs ++ kept (backlog_behind d.backlog k)) (posted_list d.completions (take k (kept d.backlog)) f.completions (room_for d (kept d.backlog) k f (moved_least d) (moved_room d)))
-    ∙ ap (λ xs. (com_list d.completions ++ take k (kept d.backlog)) ++ xs) (kept_behind d.backlog k)
+    ap (λ xs. xs ++ kept (backlog_flushed d.backlog k)) (posted_list d.completions (take k (kept d.backlog)) f.completions (room_for d (kept d.backlog) k f (moved_least d) (moved_room d)))
+    ∙ ap (λ xs. (com_list d.completions ++ take k (kept d.backlog)) ++ xs) (kept_flushed d.backlog k)
     ∙ append_assoc (com_list d.completions) (take k (kept d.backlog)) (drop k (kept d.backlog))
     ∙ ap (λ xs. com_list d.completions ++ xs) (take-append-drop k (kept d.backlog))
 

@@ -141,15 +141,15 @@ abbrev pub all_posted : Delivery → List Cqe → Delivery
 all_posted d cs = all_posted_at d cs (fits d.completions d.backlog (length cs))
 
 -- The backlog after k pending completions are flushed.
-abbrev pub backlog_behind : BacklogState → ℕ → BacklogState
-backlog_behind b k = record b { front = b.front + k }
+abbrev pub backlog_flushed : BacklogState → ℕ → BacklogState
+backlog_flushed b k = record b { front = b.front + k }
 
 -- The three parts after the first k pending completions move into the ring.
 abbrev pub flushed_at : Delivery → ℕ → Delivery
 flushed_at d k = record {
-  submissions = flagged d.submissions (backlog_behind d.backlog k);
+  submissions = flagged d.submissions (backlog_flushed d.backlog k);
   completions = posted_in_order d.completions (take k (kept d.backlog));
-  backlog = backlog_behind d.backlog k;
+  backlog = backlog_flushed d.backlog k;
 }
 
 -- The three parts after a flush: pending completions move into the ring, in order, while they fit.

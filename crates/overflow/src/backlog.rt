@@ -3,7 +3,7 @@ ghost use Rattle.std.specs.Prelude.{◌≡◌, ◌==◌, ◌+◌, ◌<◌, ◌�
 ghost use Rattle.places.specs.View.{Keeps, named, put_at};
 ghost use Rattle.places.specs.declared.place.Place.{Place};
 ghost use Rattle.entries.specs.declared.completion.Cqe.{Cqe};
-ghost use Rattle.overflow.specs.Backlogs.{kept, is_clear, backlog_start, backlog_owns, backlog_seen, backlog_can_put, backlog_with, backlog_behind};
+ghost use Rattle.overflow.specs.Backlogs.{kept, is_clear, backlog_start, backlog_owns, backlog_seen, backlog_can_put, backlog_with, backlog_flushed};
 
 use entries::Cqe;
 use places::{At, Part, Place, Recorder, Value};
@@ -163,7 +163,7 @@ impl Backlog {
     pub(crate) fn pass(&mut self, count: u32, notes: &mut Recorder)
         requires kept { self.old.front + count ≤ 65536 }
         requires numbers { 0 < notes.old.numbers }
-        ensures next { self.new ≡ backlog_behind self.old count }
+        ensures next { self.new ≡ backlog_flushed self.old count }
         ensures keeps { Keeps backlog_owns (backlog_seen self.old)
             (backlog_seen self.new) notes.old.made notes.new.made }
         ensures named { (p : Place) → named notes.new.made p ≡ None

@@ -33,7 +33,7 @@ pub fn post_all(
     // No completion is lost, and none overtakes a pending one.
     ensures in_order { OnOk result (com_list completions.new ++ kept backlog.new
         ≡ (com_list completions.old ++ kept backlog.old) ++ list.now) }
-    ensures behind_kept { OnOk result (is_clear backlog.old ≡ false
+    ensures after_backlog { OnOk result (is_clear backlog.old ≡ false
         → com_list completions.new ≡ com_list completions.old) }
     ensures into_ring { OnOk result (is_clear backlog.old ≡ true
         → length (com_list completions.new)

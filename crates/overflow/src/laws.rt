@@ -13,7 +13,7 @@ pub fn posted_in_row()
 {}
 
 /// While a completion is pending, posting leaves the ring unchanged.
-pub fn posted_behind_kept()
+pub fn posted_after_backlog()
     ensures { (d : Delivery) (cs : List Cqe) → is_clear d.backlog ≡ false
         → com_list (all_posted d cs).completions ≡ com_list d.completions }
 {}

@@ -17,17 +17,17 @@ use Rattle.places.specs.declared.value.Change.{Change}
 use Rattle.places.specs.Places.{kind_of}
 use Rattle.places.specs.PlaceNumbers.{place_of}
 use Rattle.places.specs.Slots.{number_places, number_place, other_places, other_place}
-use Rattle.places.specs.SlotLaws.{kind_small, AllOf, behind_of}
-use Rattle.numerals.specs.Reading.{read_all, Puts}
-use Rattle.numerals.specs.Numerals.{number_of, after, behind, word_of}
+use Rattle.places.specs.SlotLaws.{kind_small, AllOf, place_in_slot_of}
+use Rattle.compact_size.specs.Reading.{read_all, Puts}
+use Rattle.compact_size.specs.CompactSizes.{number_of, after, after_many, word_of}
 use Rattle.places.specs.Packed.{StageFits, stage_list, stage_of, reaped_of, completion_of, entry_of, row_of, size_of_shape, value_of_shape, kind_from, shape_from, change_of, after_change, packed}
-use Rattle.numerals.proofs.ReadingLemmas.{read_all_of}
+use Rattle.compact_size.proofs.ReadingLemmas.{read_all_of}
 
 same_word : {m n : ℕ} → m ≡ n → n < 2 ^ 32 → m % 2 ^ 32 ≡ n
 same_word e h = ap (λ i. i % 2 ^ 32) e ∙ mod-eq_of_lt h
 
 module _ (old new : List ℕ) where
-  pub stage_put : (s : Stage) → StageFits s → Puts number_of after old (stage_list s) new → Puts stage_of (behind 2) old (s ∷ []) new
+  pub stage_put : (s : Stage) → StageFits s → Puts number_of after old (stage_list s) new → Puts stage_of (after_many 2) old (s ∷ []) new
   stage_put Ready f g rest =
       let p = g rest in
       record { put = p.put; joined = p.joined; reads = (rw (p.reads.0) refl, p.reads.1.1) }
@@ -35,7 +35,7 @@ module _ (old new : List ℕ) where
       let p = g rest in
       let n : (number_of p.put == 0) ≡ false = rw (p.reads.0) (later a) in
       let i : (number_of p.put - 1) % 2 ^ 32 ≡ a = rw (p.reads.0) (before a f.0) in
-      let j : word_of (behind 1 p.put) ≡ b = same_word p.reads.1.0 f.1 in
+      let j : word_of (after_many 1 p.put) ≡ b = same_word p.reads.1.0 f.1 in
       record { put = p.put; joined = p.joined; reads = (rw (n, i, j) refl, p.reads.1.1) }
     where
       later : (a : ℕ) → (a + 1 == 0) ≡ false
@@ -44,54 +44,54 @@ module _ (old new : List ℕ) where
       before : (a : ℕ) → a < 2 ^ 32 → (a + 1 - 1) % 2 ^ 32 ≡ a
       before a h = omega arith
 
-  pub nothing_reaped : Puts number_of after old (0 ∷ 0 ∷ 0 ∷ 0 ∷ []) new → Puts reaped_of (behind 4) old (None ∷ []) new
+  pub nothing_reaped : Puts number_of after old (0 ∷ 0 ∷ 0 ∷ 0 ∷ []) new → Puts reaped_of (after_many 4) old (None ∷ []) new
   nothing_reaped g rest =
       let p = g rest in
       record { put = p.put; joined = p.joined; reads = (rw (p.reads.0) refl, p.reads.1.1.1.1) }
 
-  pub reaped_put : (mid : List ℕ) (x : Cqe) → Puts number_of after old (1 ∷ []) mid → Puts completion_of (behind 3) mid (x ∷ []) new → Puts reaped_of (behind 4) old (Some x ∷ []) new
+  pub reaped_put : (mid : List ℕ) (x : Cqe) → Puts number_of after old (1 ∷ []) mid → Puts completion_of (after_many 3) mid (x ∷ []) new → Puts reaped_of (after_many 4) old (Some x ∷ []) new
   reaped_put mid x g h rest =
       let q = h rest in
       let p = g q.put in
       let m : after p.put ≡ q.put = p.reads.1 in
       let e : completion_of (after p.put) ≡ x = ap completion_of m ∙ q.reads.0 in
-      record { put = p.put; joined = q.joined ∙ p.joined; reads = (rw (p.reads.0) (ap Some e), ap (behind 3) m ∙ q.reads.1) }
+      record { put = p.put; joined = q.joined ∙ p.joined; reads = (rw (p.reads.0) (ap Some e), ap (after_many 3) m ∙ q.reads.1) }
 
   -- ---- Old values, by their shapes
 
-  pub signed_put : (z : ℤ) → FitsSigned w64 z → Puts number_of after old (cast_unsigned w64 z ∷ []) new → Puts (value_of_shape 2) (behind 1) old (Some (Signed z) ∷ []) new
+  pub signed_put : (z : ℤ) → FitsSigned w64 z → Puts number_of after old (cast_unsigned w64 z ∷ []) new → Puts (value_of_shape 2) (after_many 1) old (Some (Signed z) ∷ []) new
   unfolding value_of_shape
   signed_put z f g rest =
       let p = g rest in
       record { put = p.put; joined = p.joined; reads = (ap (λ i. Some (Signed i)) (ap (cast_signed w64) p.reads.0 ∙ to_z-of_z w64 z f), p.reads.1) }
 
-  pub entry_value_put : (e : Sqe) → Puts entry_of (behind 14) old (e ∷ []) new → Puts (value_of_shape 3) (behind 14) old (Some (Entry e) ∷ []) new
+  pub entry_value_put : (e : Sqe) → Puts entry_of (after_many 14) old (e ∷ []) new → Puts (value_of_shape 3) (after_many 14) old (Some (Entry e) ∷ []) new
   unfolding value_of_shape
   entry_value_put e g rest = let p = g rest in record { put = p.put; joined = p.joined; reads = (ap (λ i. Some (Entry i)) p.reads.0, p.reads.1) }
 
-  pub completion_value_put : (e : Cqe) → Puts completion_of (behind 3) old (e ∷ []) new → Puts (value_of_shape 4) (behind 3) old (Some (Completed e) ∷ []) new
+  pub completion_value_put : (e : Cqe) → Puts completion_of (after_many 3) old (e ∷ []) new → Puts (value_of_shape 4) (after_many 3) old (Some (Completed e) ∷ []) new
   unfolding value_of_shape
   completion_value_put e g rest = let p = g rest in record { put = p.put; joined = p.joined; reads = (ap (λ i. Some (Completed i)) p.reads.0, p.reads.1) }
 
-  pub row_value_put : (e : Row) → Puts row_of (behind 21) old (e ∷ []) new → Puts (value_of_shape 5) (behind 21) old (Some (Requested e) ∷ []) new
+  pub row_value_put : (e : Row) → Puts row_of (after_many 21) old (e ∷ []) new → Puts (value_of_shape 5) (after_many 21) old (Some (Requested e) ∷ []) new
   unfolding value_of_shape
   row_value_put e g rest = let p = g rest in record { put = p.put; joined = p.joined; reads = (ap (λ i. Some (Requested i)) p.reads.0, p.reads.1) }
 
-  pub stage_value_put : (e : Stage) → Puts stage_of (behind 2) old (e ∷ []) new → Puts (value_of_shape 6) (behind 2) old (Some (Staged e) ∷ []) new
+  pub stage_value_put : (e : Stage) → Puts stage_of (after_many 2) old (e ∷ []) new → Puts (value_of_shape 6) (after_many 2) old (Some (Staged e) ∷ []) new
   unfolding value_of_shape
   stage_value_put e g rest = let p = g rest in record { put = p.put; joined = p.joined; reads = (ap (λ i. Some (Staged i)) p.reads.0, p.reads.1) }
 
-  pub reaped_value_put : (e : Option Cqe) → Puts reaped_of (behind 4) old (e ∷ []) new → Puts (value_of_shape 7) (behind 4) old (Some (Reaped e) ∷ []) new
+  pub reaped_value_put : (e : Option Cqe) → Puts reaped_of (after_many 4) old (e ∷ []) new → Puts (value_of_shape 7) (after_many 4) old (Some (Reaped e) ∷ []) new
   unfolding value_of_shape
   reaped_value_put e g rest = let p = g rest in record { put = p.put; joined = p.joined; reads = (ap (λ i. Some (Reaped i)) p.reads.0, p.reads.1) }
 
-  pub awake_put : (n : ℕ) (a : Bool) → (n == 1) ≡ a → Puts number_of after old (n ∷ []) new → Puts (value_of_shape 8) (behind 1) old (Some (Awake a) ∷ []) new
+  pub awake_put : (n : ℕ) (a : Bool) → (n == 1) ≡ a → Puts number_of after old (n ∷ []) new → Puts (value_of_shape 8) (after_many 1) old (Some (Awake a) ∷ []) new
   unfolding value_of_shape
   awake_put n a e g rest =
       let p = g rest in
       record { put = p.put; joined = p.joined; reads = (ap (λ i. Some (Awake i)) (ap (λ i. i == 1) p.reads.0 ∙ e), p.reads.1) }
 
-pub none_put : (old : List ℕ) → Puts (value_of_shape 0) (behind 0) old (None ∷ []) old
+pub none_put : (old : List ℕ) → Puts (value_of_shape 0) (after_many 0) old (None ∷ []) old
 unfolding value_of_shape
 none_put old rest = record { put = rest; joined = refl; reads = (refl, refl) }
 
@@ -114,33 +114,33 @@ module _ (bs : List ℕ) (p : Place) (x : Option Value) (s i : ℕ) (again : pla
   first_shape : shape_from (number_of bs) ≡ s
   first_shape = ap shape_from head ∙ shape_again (kind_of p) s (kind_small p)
 
-  first_change : value_of_shape s (behind 2 bs) ≡ x → change_of bs ≡ change_at p x
+  first_change : value_of_shape s (after_many 2 bs) ≡ x → change_of bs ≡ change_at p x
   unfolding change_of
   first_change e =
       let k : kind_from (number_of bs) ≡ kind_of p = ap kind_from head ∙ kind_again (kind_of p) s (kind_small p) in
-      let n : word_of (behind 1 bs) ≡ i = same_word index fits in
+      let n : word_of (after_many 1 bs) ≡ i = same_word index fits in
       made (rw (k, n) again) (rw (first_shape) e)
 
-  first_behind : after_change bs ≡ behind (size_of_shape s) (behind 2 bs)
+  first_rest : after_change bs ≡ after_many (size_of_shape s) (after_many 2 bs)
   unfolding after_change
-  first_behind = rw (first_shape) refl
+  first_rest = rw (first_shape) refl
 
 module _ (p : Place) (x : Option Value) (s i : ℕ) (old new : List ℕ) (again : place_of (kind_of p) i 0 ≡ p) (fits : i < 2 ^ 32) where
-  pub change_put : (mid : List ℕ) → Puts number_of after old ((kind_of p + 30 * s) ∷ i ∷ []) mid → Puts (value_of_shape s) (behind (size_of_shape s)) mid (x ∷ []) new → Puts change_of after_change old (change_at p x ∷ []) new
+  pub change_put : (mid : List ℕ) → Puts number_of after old ((kind_of p + 30 * s) ∷ i ∷ []) mid → Puts (value_of_shape s) (after_many (size_of_shape s)) mid (x ∷ []) new → Puts change_of after_change old (change_at p x ∷ []) new
   change_put mid g h rest =
       let q = h rest in
       let b = g q.put in
-      let m : behind 2 b.put ≡ q.put = b.reads.1.1 in
+      let m : after_many 2 b.put ≡ q.put = b.reads.1.1 in
       let e = first_change b.put p x s i again fits b.reads.0 b.reads.1.0 (ap (value_of_shape s) m ∙ q.reads.0) in
-      let f = first_behind b.put p x s i again fits b.reads.0 b.reads.1.0 in
-      record { put = b.put; joined = q.joined ∙ b.joined; reads = (e, f ∙ ap (behind (size_of_shape s)) m ∙ q.reads.1) }
+      let f = first_rest b.put p x s i again fits b.reads.0 b.reads.1.0 in
+      record { put = b.put; joined = q.joined ∙ b.joined; reads = (e, f ∙ ap (after_many (size_of_shape s)) m ∙ q.reads.1) }
 
 pub number_change_put : (p : Place) (i n : ℕ) (old new : List ℕ) → place_of (kind_of p) i 0 ≡ p → i < 2 ^ 32 → Puts number_of after old ((kind_of p + 30) ∷ i ∷ n ∷ []) new → Puts change_of after_change old (change_at p (Some (Number n)) ∷ []) new
 unfolding value_of_shape
 number_change_put p i n old new again fits g rest =
     let q = g rest in
     let e = first_change q.put p (Some (Number n)) 1 i again fits q.reads.0 q.reads.1.0 (ap (λ m. Some (Number m)) q.reads.1.1.0) in
-    let f = first_behind q.put p (Some (Number n)) 1 i again fits q.reads.0 q.reads.1.0 in
+    let f = first_rest q.put p (Some (Number n)) 1 i again fits q.reads.0 q.reads.1.0 in
     record { put = q.put; joined = q.joined; reads = (e, f ∙ q.reads.1.1.1) }
 
 -- ---- The places of notes, by their kinds
@@ -155,7 +155,7 @@ all_numbers_at i = (refl, (refl, (refl, (refl, (refl, (refl, (refl, (refl, (refl
 
 pub number_at : (k i : ℕ) → IsAt i (number_place k i)
 unfolding number_place place_of
-number_at k i = behind_of (IsAt i) k (number_places i) (ProgramCounter i) (all_numbers_at i) refl
+number_at k i = place_in_slot_of (IsAt i) k (number_places i) (ProgramCounter i) (all_numbers_at i) refl
 
 all_others_at : (i : ℕ) → AllOf (IsAt i) (other_places i)
 unfolding AllOf place_of
@@ -163,7 +163,7 @@ all_others_at i = (refl, (refl, (refl, (refl, (refl, tt)))))
 
 pub other_at : (k i : ℕ) → IsAt i (other_place k i)
 unfolding other_place place_of
-other_at k i = behind_of (IsAt i) k (other_places i) (Got i) (all_others_at i) refl
+other_at k i = place_in_slot_of (IsAt i) k (other_places i) (Got i) (all_others_at i) refl
 
 -- ---- Packed changes
 

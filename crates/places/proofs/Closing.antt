@@ -42,17 +42,17 @@ goes v c cs ds m r n p = at (same_place c.place p) refl
     at false e = r p
 
 pub exact_rest : (old v : View) (cs ds : List Change) → LeadsBack old v cs → ((p : Place) → RestAt (v p) (named cs p) (named ds p)) → Exact old v ds
-exact_rest old v cs ds b r = record { differs = λ p x e. told p x (named cs p) (r p) (b p) e; same = λ p e. untold p (named cs p) (r p) (b p) e }
+exact_rest old v cs ds b r = record { differs = λ p x e. named_differs p x (named cs p) (r p) (b p) e; same = λ p e. unnamed_same p (named cs p) (r p) (b p) e }
   where
-    told : (p : Place) (x : Option Value) (n : Option (Option Value)) → RestAt (v p) n (named ds p) → unwrap_or n (v p) ≡ old p → named ds p ≡ Some x → (x ≡ old p) × (old p ≢ v p)
-    told p x None r b e = absurd cc
-    told p x (Some y) (inl k) b e = let i : x ≡ y = cc in (i ∙ b, λ d. k.1 (b ∙ d))
-    told p x (Some y) (inr k) b e = absurd cc
+    named_differs : (p : Place) (x : Option Value) (n : Option (Option Value)) → RestAt (v p) n (named ds p) → unwrap_or n (v p) ≡ old p → named ds p ≡ Some x → (x ≡ old p) × (old p ≢ v p)
+    named_differs p x None r b e = absurd cc
+    named_differs p x (Some y) (inl k) b e = let i : x ≡ y = cc in (i ∙ b, λ d. k.1 (b ∙ d))
+    named_differs p x (Some y) (inr k) b e = absurd cc
 
-    untold : (p : Place) (n : Option (Option Value)) → RestAt (v p) n (named ds p) → unwrap_or n (v p) ≡ old p → named ds p ≡ None → old p ≡ v p
-    untold p None r b e = sym b
-    untold p (Some y) (inl k) b e = absurd cc
-    untold p (Some y) (inr k) b e = sym b ∙ k.1
+    unnamed_same : (p : Place) (n : Option (Option Value)) → RestAt (v p) n (named ds p) → unwrap_or n (v p) ≡ old p → named ds p ≡ None → old p ≡ v p
+    unnamed_same p None r b e = sym b
+    unnamed_same p (Some y) (inl k) b e = absurd cc
+    unnamed_same p (Some y) (inr k) b e = sym b ∙ k.1
 
 -- If undoing the notes leads back to `old`, the record that closing leaves is exact for `old`.
 pub exact_led : (old v : View) (cs ds : List Change) → LeadsBack old v cs → Exact (undo v cs) v ds → Exact old v ds

@@ -11,7 +11,7 @@ use Rattle.places.specs.Places.{kind_of, same_place}
 use Rattle.places.specs.PlaceNumbers.{place_of}
 use Rattle.places.specs.View.{named}
 use Rattle.places.specs.Notes.{left, after_change}
-use Rattle.numerals.specs.Numerals.{number_of, after, behind, word_of}
+use Rattle.compact_size.specs.CompactSizes.{number_of, after, after_many, word_of}
 use Rattle.places.specs.Packed.{value_of_shape, change_of, after_change as after_packed}
 use Rattle.places.specs.Heads.{IsHead, IsFirst, number_was}
 use Rattle.places.proofs.Left.{after_some}
@@ -32,16 +32,16 @@ unfolding value_of_shape
 some_by_shape s bytes =
     none_or_some (s == 0) _ (either_some (s == 1) _ _ refl (either_some (s == 2) _ _ refl (either_some (s == 3) _ _ refl (either_some (s == 4) _ _ refl (either_some (s == 5) _ _ refl (either_some (s == 6) _ _ refl (either_some (s == 7) _ _ refl refl)))))))
 
-pub head_read : (bytes : List ℕ) (n i : ℕ) → n ≡ number_of bytes → i ≡ word_of (behind 1 bytes) → IsHead (record { kind = n % 30; index = i; stood = not (n / 30 == 0) }) (change_of bytes)
+pub head_read : (bytes : List ℕ) (n i : ℕ) → n ≡ number_of bytes → i ≡ word_of (after_many 1 bytes) → IsHead (record { kind = n % 30; index = i; was_there = not (n / 30 == 0) }) (change_of bytes)
 unfolding change_of
 head_read bytes n i e f = record {
   kind = omega arith;
   place = rw (e, f) refl;
-  stood = rw e (some_by_shape (number_of bytes / 30) (behind 2 bytes));
+  was_there = rw e (some_by_shape (number_of bytes / 30) (after_many 2 bytes));
 }
 
 -- The change whose shape is 1: its old value is a number.
-number_first : (bytes : List ℕ) → number_of bytes / 30 ≡ 1 → (change_of bytes ≡ number_was (place_of (number_of bytes % 30) (word_of (behind 1 bytes)) 0) (number_of (behind 2 bytes))) × (after_packed bytes ≡ behind 3 bytes)
+number_first : (bytes : List ℕ) → number_of bytes / 30 ≡ 1 → (change_of bytes ≡ number_was (place_of (number_of bytes % 30) (word_of (after_many 1 bytes)) 0) (number_of (after_many 2 bytes))) × (after_packed bytes ≡ after_many 3 bytes)
 unfolding change_of after_packed value_of_shape
 number_first bytes e = (rw e refl, rw e refl)
 
@@ -110,16 +110,16 @@ module _ (h : Head) (cs ds : List Change) (f : IsFirst h cs ds) where
   names_later p e = rw (f.first, f.head.place, e) refl
 
   -- If its place was absent, undoing it removes that element and all after it.
-  pub left_absent : (l : Listed) (m n : ℕ) → not h.stood ≡ true → m ≡ after_change l (place_of h.kind h.index 0) None n → left l ds m ≡ left l cs n
-  left_absent l m n s e = rw f.first (ap (left l ds) (by f.change.old (ap not f.head.stood ∙ s)))
+  pub left_absent : (l : Listed) (m n : ℕ) → not h.was_there ≡ true → m ≡ after_change l (place_of h.kind h.index 0) None n → left l ds m ≡ left l cs n
+  left_absent l m n s e = rw f.first (ap (left l ds) (by f.change.old (ap not f.head.was_there ∙ s)))
     where
       by : (x : Option Value) → not (is_some x) ≡ true → m ≡ after_change l f.change.place x n
       by None k = e ∙ ap (λ p. after_change l p None n) (sym f.head.place)
       by (Some v) k = absurd cc
 
   -- If its place was present, undoing it removes no element.
-  pub left_stood : (l : Listed) (n : ℕ) → not h.stood ≡ false → left l ds n ≡ left l cs n
-  left_stood l n s = rw f.first (ap (left l ds) (by f.change.old (ap not f.head.stood ∙ s)))
+  pub left_was_there : (l : Listed) (n : ℕ) → not h.was_there ≡ false → left l ds n ≡ left l cs n
+  left_was_there l n s = rw f.first (ap (left l ds) (by f.change.old (ap not f.head.was_there ∙ s)))
     where
       by : (x : Option Value) → not (is_some x) ≡ false → n ≡ after_change l f.change.place x n
       by None k = absurd cc

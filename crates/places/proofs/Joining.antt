@@ -30,8 +30,8 @@ noted_before_others cs ds es p x h none q =
     by (Some y) = refl
 
 -- A note added after other notes.
-pub noted_behind_others : (cs ds es : List Change) (p : Place) (x : Option Value) → Noted ds es p x → Noted (cs ++ ds) (cs ++ es) p x
-noted_behind_others cs ds es p x h q =
+pub noted_after_others : (cs ds es : List Change) (p : Place) (x : Option Value) → Noted ds es p x → Noted (cs ++ ds) (cs ++ es) p x
+noted_after_others cs ds es p x h q =
     named-append cs es q ∙ ap (first_note (named cs q)) (h q) ∙ by (named cs q) ∙ ap (λ n. first_note n (cond (same_place p q) (Some x) None)) (sym (named-append cs ds q))
   where
     by : (n : Option (Option Value)) → first_note n (first_note (named ds q) (cond (same_place p q) (Some x) None)) ≡ first_note (first_note n (named ds q)) (cond (same_place p q) (Some x) None)
@@ -39,8 +39,8 @@ noted_behind_others cs ds es p x h q =
     by (Some y) = refl
 
 -- Notes of bytes added after other notes.
-pub bytes_behind : (cs ds es : List Change) (g : Region) (s : ℕ) (bs : List ℕ) → NotedBytes ds es g s bs → NotedBytes (cs ++ ds) (cs ++ es) g s bs
-bytes_behind cs ds es g s bs h q =
+pub bytes_after : (cs ds es : List Change) (g : Region) (s : ℕ) (bs : List ℕ) → NotedBytes ds es g s bs → NotedBytes (cs ++ ds) (cs ++ es) g s bs
+bytes_after cs ds es g s bs h q =
     named-append cs es q ∙ ap (first_note (named cs q)) (h q) ∙ by (named cs q) ∙ ap (λ n. first_note n (byte_in g s bs q)) (sym (named-append cs ds q))
   where
     by : (n : Option (Option Value)) → first_note n (first_note (named ds q) (byte_in g s bs q)) ≡ first_note (first_note n (named ds q)) (byte_in g s bs q)

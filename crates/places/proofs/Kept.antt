@@ -56,19 +56,19 @@ runs_closed v rs os ps o l k = record { fits = o.fits ∙ sym l; within = o.with
 -- What `Vec::retain` leaves of notes of one kind, if its test compares the old
 -- value with the current one.
 module _ {X F : Type 0} (change : X → Change) (R : F → X → Bool → F → Type 0) (v : View) (f : F) (h : (x : X) (b : Bool) (f' : F) → R f x b f' → MatchBool b ((change x).old ≢ v (change x).place) ((change x).old ≡ v (change x).place) × (f' ≡ f)) where
-  kept_told : (bs : List Bool) (xs : List X) (g q : F) → g ≡ f → length bs ≡ length xs → ReturnsInTurn R g bs xs q → KeptOf v (map change xs) (map change (items_where_true bs xs))
-  kept_told [] [] g q e l t = refl
-  kept_told [] (x ∷ xs) g q e l t = absurd cc
-  kept_told (b ∷ bs) [] g q e l t = absurd t
-  kept_told (true ∷ bs) (x ∷ xs) g q e l t =
+  kept_is_kept_of : (bs : List Bool) (xs : List X) (g q : F) → g ≡ f → length bs ≡ length xs → ReturnsInTurn R g bs xs q → KeptOf v (map change xs) (map change (items_where_true bs xs))
+  kept_is_kept_of [] [] g q e l t = refl
+  kept_is_kept_of [] (x ∷ xs) g q e l t = absurd cc
+  kept_is_kept_of (b ∷ bs) [] g q e l t = absurd t
+  kept_is_kept_of (true ∷ bs) (x ∷ xs) g q e l t =
       let one = h x true t.0 (subst (λ (y : F). R y x true t.0) e t.1) in
-      inl (one.0, map change (items_where_true bs xs), refl, kept_told bs xs t.0 q one.1 (let k : length bs ≡ length xs = omega arith in k) t.2)
-  kept_told (false ∷ bs) (x ∷ xs) g q e l t =
+      inl (one.0, map change (items_where_true bs xs), refl, kept_is_kept_of bs xs t.0 q one.1 (let k : length bs ≡ length xs = omega arith in k) t.2)
+  kept_is_kept_of (false ∷ bs) (x ∷ xs) g q e l t =
       let one = h x false t.0 (subst (λ (y : F). R y x false t.0) e t.1) in
-      inr (one.0, kept_told bs xs t.0 q one.1 (let k : length bs ≡ length xs = omega arith in k) t.2)
+      inr (one.0, kept_is_kept_of bs xs t.0 q one.1 (let k : length bs ≡ length xs = omega arith in k) t.2)
 
   pub kept_filtered : (xs ys : List X) → IsFiltered R f xs ys → KeptOf v (map change xs) (map change ys)
-  kept_filtered xs ys k = subst (λ zs. KeptOf v (map change xs) (map change zs)) (sym k.4) (kept_told k.0 xs f k.1 refl k.2 k.3)
+  kept_filtered xs ys k = subst (λ zs. KeptOf v (map change xs) (map change zs)) (sym k.4) (kept_is_kept_of k.0 xs f k.1 refl k.2 k.3)
 
 map_self : (cs : List Change) → map (λ c. c) cs ≡ cs
 map_self [] = refl

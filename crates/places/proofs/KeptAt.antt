@@ -11,7 +11,7 @@ use Rattle.places.specs.declared.notes.runs.Region.{Region}
 use Rattle.places.specs.declared.notes.runs.Region.TheVariants.{Memory, File, Durable, Pipe}
 use Rattle.places.specs.View.{View, named, undo}
 use Rattle.places.specs.Runs.{place_in, is_in, offset_in, old_bytes}
-use Rattle.places.specs.Masked.{masked, kept_at, mark_at, PutOver, BytesStand}
+use Rattle.places.specs.Masked.{masked, kept_at, mark_at, PutOver, BytesPresent}
 use Rattle.places.proofs.SamePlace.{same_place_is}
 use Rattle.places.proofs.ByteLemmas.{same_in, offset_again, tests}
 
@@ -67,9 +67,9 @@ none_at_all true true = refl
 none_at_all true false = refl
 none_at_all false b = refl
 
-told_cond : (t : Bool) (x y : Option ℕ) → cond t (option_map (λ (z : ℕ). Some (Byte z)) x) (option_map (λ (z : ℕ). Some (Byte z)) y) ≡ option_map (λ (z : ℕ). Some (Byte z)) (cond t x y)
-told_cond true x y = refl
-told_cond false x y = refl
+cond_mapped : (t : Bool) (x y : Option ℕ) → cond t (option_map (λ (z : ℕ). Some (Byte z)) x) (option_map (λ (z : ℕ). Some (Byte z)) y) ≡ option_map (λ (z : ℕ). Some (Byte z)) (cond t x y)
+cond_mapped true x y = refl
+cond_mapped false x y = refl
 
 -- The note of a place, in terms of its region and index.
 pub named_kept : (g : Region) (s : ℕ) (os : List (Option ℕ)) (q : Place) → named (old_bytes g s os) q ≡ cond (is_in g q) (option_map (λ (x : ℕ). Some (Byte x)) (kept_at s os (offset_in g q))) None
@@ -80,7 +80,7 @@ named_kept g s (Some b ∷ os) q =
     ap (λ t. cond t (Some (Some (Byte b))) (named (old_bytes g (s + 1) os) q)) (same_in g s q)
     ∙ ap (λ n. cond (is_in g q && (s == offset_in g q)) (Some (Some (Byte b))) n) (named_kept g (s + 1) os q)
     ∙ tests (is_in g q) (s == offset_in g q) (Some (Some (Byte b))) (option_map (λ (x : ℕ). Some (Byte x)) (kept_at (s + 1) os (offset_in g q)))
-    ∙ ap (λ n. cond (is_in g q) n None) (told_cond (s == offset_in g q) (Some b) (kept_at (s + 1) os (offset_in g q)) ∙ ap (option_map (λ (x : ℕ). Some (Byte x))) (sym (kept_first s (Some b) os (offset_in g q))))
+    ∙ ap (λ n. cond (is_in g q) n None) (cond_mapped (s == offset_in g q) (Some b) (kept_at (s + 1) os (offset_in g q)) ∙ ap (option_map (λ (x : ℕ). Some (Byte x))) (sym (kept_first s (Some b) os (offset_in g q))))
 
 pub in_place : (g : Region) (i : ℕ) → is_in g (place_in g i) ≡ true
 in_place Memory i = refl
@@ -136,16 +136,16 @@ over_some None b h = absurd cc
 over_some (Some y) b h = refl
 
 -- Writing the recorded bytes over those of the region undoes their changes.
-pub undone_bytes : (u w : View) (g : Region) (s : ℕ) (os : List (Option ℕ)) (xs ys : List ℕ) (q : Place) → PutOver xs s os ys → BytesStand u g s os
+pub undone_bytes : (u w : View) (g : Region) (s : ℕ) (os : List (Option ℕ)) (xs ys : List ℕ) (q : Place) → PutOver xs s os ys → BytesPresent u g s os
     → (is_in g q ≡ true → (u q ≡ option_map Byte (slice_get xs (offset_in g q))) × (w q ≡ option_map Byte (slice_get ys (offset_in g q)))) → (is_in g q ≡ false → w q ≡ u q) → w q ≡ undo u (old_bytes g s os) q
-undone_bytes u w g s os xs ys q over stand inside outside = by (is_in g q) refl ∙ ap (λ n. unwrap_or n (u q)) (sym (named_kept g s os q))
+undone_bytes u w g s os xs ys q over present inside outside = by (is_in g q) refl ∙ ap (λ n. unwrap_or n (u q)) (sym (named_kept g s os q))
   where
     at : is_in g q ≡ true → (k : Option ℕ) → kept_at s os (offset_in g q) ≡ k → option_map Byte (option_map (unwrap_or k) (slice_get xs (offset_in g q))) ≡ unwrap_or (option_map (λ (x : ℕ). Some (Byte x)) k) (u q)
     at e None f = over_none (slice_get xs (offset_in g q)) ∙ sym (inside e).0
     at e (Some b) f =
         let t = kept_there s os (offset_in g q) b f in
         let p : place_in g (s + t.0) ≡ q = ap (place_in g) (sym t.1) ∙ place_of_in g q e in
-        let here : is_some (u (place_in g (s + t.0))) ≡ true = stand t.0 b t.2 in
+        let here : is_some (u (place_in g (s + t.0))) ≡ true = present t.0 b t.2 in
         over_some (slice_get xs (offset_in g q)) b (ap is_some (sym (inside e).0) ∙ ap (λ r. is_some (u r)) (sym p) ∙ here)
 
     by : (t : Bool) → is_in g q ≡ t → w q ≡ unwrap_or (cond t (option_map (λ (x : ℕ). Some (Byte x)) (kept_at s os (offset_in g q))) None) (u q)
@@ -153,14 +153,14 @@ undone_bytes u w g s os xs ys q over stand inside outside = by (is_in g q) refl 
     by false e = outside e
 
 -- If all places of the region are absent, no byte of it is recorded.
-pub undone_nothing : (u : View) (g : Region) (s : ℕ) (os : List (Option ℕ)) (q : Place) → BytesStand u g s os → ((j : ℕ) → u (place_in g j) ≡ None) → u q ≡ undo u (old_bytes g s os) q
-undone_nothing u g s os q stand none = sym (ap (λ n. unwrap_or n (u q)) (named_kept g s os q ∙ by (is_in g q) (kept_at s os (offset_in g q)) refl))
+pub undone_nothing : (u : View) (g : Region) (s : ℕ) (os : List (Option ℕ)) (q : Place) → BytesPresent u g s os → ((j : ℕ) → u (place_in g j) ≡ None) → u q ≡ undo u (old_bytes g s os) q
+undone_nothing u g s os q present none = sym (ap (λ n. unwrap_or n (u q)) (named_kept g s os q ∙ by (is_in g q) (kept_at s os (offset_in g q)) refl))
   where
     by : (t : Bool) (k : Option ℕ) → kept_at s os (offset_in g q) ≡ k → cond t (option_map (λ (x : ℕ). Some (Byte x)) k) None ≡ None
     by false k e = refl
     by true None e = refl
     by true (Some b) e =
         let t = kept_there s os (offset_in g q) b e in
-        let here : is_some (u (place_in g (s + t.0))) ≡ true = stand t.0 b t.2 in
+        let here : is_some (u (place_in g (s + t.0))) ≡ true = present t.0 b t.2 in
         let gone : is_some (u (place_in g (s + t.0))) ≡ false = ap is_some (none (s + t.0)) in
         absurd (let c : true ≡ false = sym here ∙ gone in cc)

@@ -12,7 +12,7 @@ use Rattle.places.specs.View.{View, named}
 use Rattle.places.specs.Closed.{KeptOf, LeftOf}
 use Rattle.places.specs.Runs.{place_in, old_bytes, run_changes, run_total, RunsOnce}
 use Rattle.places.specs.Masked.{is_kept, marks_from, SameOutside, masked, kept_byte, LeftMark, MaskedOnce}
-use Rattle.number_sets.proofs.Bits.{has_past}
+use Rattle.bit_sets.proofs.Bits.{has_past}
 use Rattle.places.proofs.MarkLemmas.{length_marks, mark_is, marks_front, marks_back, marks_more, same_marks, all_marks}
 use Rattle.places.proofs.Kept.{kept_bytes, kept_runs, runs_closed}
 

@@ -13,10 +13,10 @@ use Rattle.places.specs.Slots.{number_change, completion_change, row_change}
 use Rattle.places.specs.Runs.{run_changes}
 use Rattle.places.specs.RestList.{RestList}
 use Rattle.places.specs.WideList.{WideList}
-use Rattle.numerals.specs.Reading.{Puts}
-use Rattle.numerals.specs.Numerals.{number_of, after}
+use Rattle.compact_size.specs.Reading.{Puts}
+use Rattle.compact_size.specs.CompactSizes.{number_of, after}
 use Rattle.places.specs.Packed.{change_of, after_change, packed}
-use Rattle.numerals.proofs.ReadingLemmas.{puts_more}
+use Rattle.compact_size.proofs.ReadingLemmas.{puts_more}
 use Rattle.places.proofs.ChangeLemmas.{packed_put}
 use Rattle.places.specs.All.{all_changes, record_changes, NothingNoted, IsReady}
 

@@ -26,7 +26,7 @@ use Rattle.places.proofs.SamePlace.{same_place_is}
 use Rattle.places.proofs.Marking.{named_nowhere}
 use Rattle.places.proofs.ByteLemmas.{once_append}
 use Rattle.places.proofs.Kept.{kept_append}
-use Rattle.places.proofs.Joining.{noted_before_others, noted_behind_others, bytes_behind, none_append, sorts_apart}
+use Rattle.places.proofs.Joining.{noted_before_others, noted_after_others, bytes_after, none_append, sorts_apart}
 
 -- The kinds of notes: numbers 0, completions 1, requests and other places 2, bytes 3.
 pub sort_of : Place → ℕ
@@ -179,36 +179,36 @@ other {m} {n} {k} e f g = absurd (let h : n ≡ k = sym e ∙ g in let t : (n ==
 
 module _ (ns : List NumberNote) (cs : List CompletionNote) (rs : List RowNote) (xs : List Run) (os : List (Option ℕ)) where
   -- The notes after those of numbers, of completions, and of requests name no place of that kind.
-  behind_numbers : (p : Place) → sort_of p ≡ 0 → named (map completion_change cs ++ (map row_change rs ++ run_changes xs os)) p ≡ None
-  behind_numbers p e = none_append (map completion_change cs) (map row_change rs ++ run_changes xs os) p (completions_elsewhere cs p (other e refl)) (none_append (map row_change rs) (run_changes xs os) p (rows_elsewhere rs p (other e refl)) (bytes_elsewhere xs os p (other e refl)))
+  after_numbers : (p : Place) → sort_of p ≡ 0 → named (map completion_change cs ++ (map row_change rs ++ run_changes xs os)) p ≡ None
+  after_numbers p e = none_append (map completion_change cs) (map row_change rs ++ run_changes xs os) p (completions_elsewhere cs p (other e refl)) (none_append (map row_change rs) (run_changes xs os) p (rows_elsewhere rs p (other e refl)) (bytes_elsewhere xs os p (other e refl)))
 
-  behind_completions : (p : Place) → sort_of p ≡ 1 → named (map row_change rs ++ run_changes xs os) p ≡ None
-  behind_completions p e = none_append (map row_change rs) (run_changes xs os) p (rows_elsewhere rs p (other e refl)) (bytes_elsewhere xs os p (other e refl))
+  after_completions : (p : Place) → sort_of p ≡ 1 → named (map row_change rs ++ run_changes xs os) p ≡ None
+  after_completions p e = none_append (map row_change rs) (run_changes xs os) p (rows_elsewhere rs p (other e refl)) (bytes_elsewhere xs os p (other e refl))
 
-  behind_rows : (p : Place) → sort_of p ≡ 2 → named (run_changes xs os) p ≡ None
-  behind_rows p e = bytes_elsewhere xs os p (other e refl)
+  after_rows : (p : Place) → sort_of p ≡ 2 → named (run_changes xs os) p ≡ None
+  after_rows p e = bytes_elsewhere xs os p (other e refl)
 
   -- Adding a note to one kind adds it to the joined list.
   pub number_of_kinds : (ms : List NumberNote) (p : Place) (x : Option Value) → is_number p ≡ true → Noted (map number_change ns) (map number_change ms) p x → Noted (kind_changes ns cs rs (run_changes xs os)) (kind_changes ms cs rs (run_changes xs os)) p x
-  number_of_kinds ms p x i h = noted_before_others (map number_change ns) (map number_change ms) (map completion_change cs ++ (map row_change rs ++ run_changes xs os)) p x h (behind_numbers p (number_sort p i))
+  number_of_kinds ms p x i h = noted_before_others (map number_change ns) (map number_change ms) (map completion_change cs ++ (map row_change rs ++ run_changes xs os)) p x h (after_numbers p (number_sort p i))
 
   pub completion_of_kinds : (ms : List CompletionNote) (i : ℕ) (x : Option Value) → Noted (map completion_change cs) (map completion_change ms) (Completion i) x → Noted (kind_changes ns cs rs (run_changes xs os)) (kind_changes ns ms rs (run_changes xs os)) (Completion i) x
-  completion_of_kinds ms i x h = noted_behind_others (map number_change ns) _ (map completion_change ms ++ (map row_change rs ++ run_changes xs os)) (Completion i) x (noted_before_others (map completion_change cs) (map completion_change ms) (map row_change rs ++ run_changes xs os) (Completion i) x h (behind_completions (Completion i) (completion_sort i)))
+  completion_of_kinds ms i x h = noted_after_others (map number_change ns) _ (map completion_change ms ++ (map row_change rs ++ run_changes xs os)) (Completion i) x (noted_before_others (map completion_change cs) (map completion_change ms) (map row_change rs ++ run_changes xs os) (Completion i) x h (after_completions (Completion i) (completion_sort i)))
 
   pub row_of_kinds : (ms : List RowNote) (p : Place) (x : Option Value) → sort_of p ≡ 2 → Noted (map row_change rs) (map row_change ms) p x → Noted (kind_changes ns cs rs (run_changes xs os)) (kind_changes ns cs ms (run_changes xs os)) p x
-  row_of_kinds ms p x i h = noted_behind_others (map number_change ns) _ (map completion_change cs ++ (map row_change ms ++ run_changes xs os)) p x (noted_behind_others (map completion_change cs) _ (map row_change ms ++ run_changes xs os) p x (noted_before_others (map row_change rs) (map row_change ms) (run_changes xs os) p x h (behind_rows p i)))
+  row_of_kinds ms p x i h = noted_after_others (map number_change ns) _ (map completion_change cs ++ (map row_change ms ++ run_changes xs os)) p x (noted_after_others (map completion_change cs) _ (map row_change ms ++ run_changes xs os) p x (noted_before_others (map row_change rs) (map row_change ms) (run_changes xs os) p x h (after_rows p i)))
 
   pub bytes_of_kinds : (ys : List Run) (ps : List (Option ℕ)) (g : Region) (s : ℕ) (bs : List ℕ) → NotedBytes (run_changes xs os) (run_changes ys ps) g s bs → NotedBytes (kind_changes ns cs rs (run_changes xs os)) (kind_changes ns cs rs (run_changes ys ps)) g s bs
-  bytes_of_kinds ys ps g s bs h = bytes_behind (map number_change ns) _ (map completion_change cs ++ (map row_change rs ++ run_changes ys ps)) g s bs (bytes_behind (map completion_change cs) _ (map row_change rs ++ run_changes ys ps) g s bs (bytes_behind (map row_change rs) (run_changes xs os) (run_changes ys ps) g s bs h))
+  bytes_of_kinds ys ps g s bs h = bytes_after (map number_change ns) _ (map completion_change cs ++ (map row_change rs ++ run_changes ys ps)) g s bs (bytes_after (map completion_change cs) _ (map row_change rs ++ run_changes ys ps) g s bs (bytes_after (map row_change rs) (run_changes xs os) (run_changes ys ps) g s bs h))
 
   -- The joined list has at most one note for each place.
   pub kinds_once : NamesOnce (map number_change ns) → NamesOnce (map completion_change cs) → NamesOnce (map row_change rs) → NamesOnce (run_changes xs os) → NamesOnce (kind_changes ns cs rs (run_changes xs os))
   kinds_once a b c d =
       once_append (map number_change ns) (map completion_change cs ++ (map row_change rs ++ run_changes xs os)) a
       (once_append (map completion_change cs) (map row_change rs ++ run_changes xs os) b
-      (once_append (map row_change rs) (run_changes xs os) c d (sorts_apart sort_of 2 (map row_change rs) (run_changes xs os) (rows_elsewhere rs) behind_rows))
-      (sorts_apart sort_of 1 (map completion_change cs) (map row_change rs ++ run_changes xs os) (completions_elsewhere cs) behind_completions))
-      (sorts_apart sort_of 0 (map number_change ns) (map completion_change cs ++ (map row_change rs ++ run_changes xs os)) (numbers_elsewhere ns) behind_numbers)
+      (once_append (map row_change rs) (run_changes xs os) c d (sorts_apart sort_of 2 (map row_change rs) (run_changes xs os) (rows_elsewhere rs) after_rows))
+      (sorts_apart sort_of 1 (map completion_change cs) (map row_change rs ++ run_changes xs os) (completions_elsewhere cs) after_completions))
+      (sorts_apart sort_of 0 (map number_change ns) (map completion_change cs ++ (map row_change rs ++ run_changes xs os)) (numbers_elsewhere ns) after_numbers)
 
 -- What remains of the joined list when a recorder is closed.
 pub all_kept : (v : View) (ns ns' : List NumberNote) (cs cs' : List CompletionNote) (rs rs' : List RowNote) (x x' : RestList) → KeptOf v (map number_change ns) (map number_change ns') → KeptOf v (map completion_change cs) (map completion_change cs') → KeptOf v (map row_change rs) (map row_change rs') → KeptOf v (run_changes x.runs x.olds) (run_changes x'.runs x'.olds) → KeptOf v x.odd x'.odd → KeptOf v (all_changes ns cs rs x) (all_changes ns' cs' rs' x')

@@ -19,7 +19,7 @@ use Rattle.places.specs.All.{kind_changes, all_changes, HasRoom, IsSound}
 use Rattle.places.proofs.Naming.{named-append, noted_at_end}
 use Rattle.places.proofs.Marking.{noted_again}
 use Rattle.places.proofs.ByteLemmas.{once_append, byte_in_there}
-use Rattle.places.proofs.Joining.{noted_before_others, noted_behind_others, bytes_before, none_parts, apart_noted, apart_bytes, apart_more}
+use Rattle.places.proofs.Joining.{noted_before_others, noted_after_others, bytes_before, none_parts, apart_noted, apart_bytes, apart_more}
 use Rattle.places.proofs.Sorts.{sort_of, number_of_kinds, completion_of_kinds, row_of_kinds, bytes_of_kinds, kinds_once}
 
 -- A recorder without notes satisfies the invariant.
@@ -135,7 +135,7 @@ module _ (ns : List NumberNote) (cs : List CompletionNote) (rs : List RowNote) (
   bytes_noted y g s bs n e none = rw (e) (bytes_before (kind_changes ns cs rs (run_changes x.runs x.olds)) (kind_changes ns cs rs (run_changes y.runs y.olds)) x.odd g s bs (bytes_of_kinds ns cs rs x.runs x.olds y.runs y.olds g s bs n) none)
 
   pub other_noted : (y : RestList) (p : Place) (v : Option Value) → y.odd ≡ x.odd ++ record { place = p; old = v } ∷ [] → y.runs ≡ x.runs → y.olds ≡ x.olds → Noted (all_changes ns cs rs x) (all_changes ns cs rs y) p v
-  other_noted y p v e f g = rw (e, f, g) (noted_behind_others (kind_changes ns cs rs (run_changes x.runs x.olds)) x.odd (x.odd ++ record { place = p; old = v } ∷ []) p v (noted_at_end x.odd p v))
+  other_noted y p v e f g = rw (e, f, g) (noted_after_others (kind_changes ns cs rs (run_changes x.runs x.olds)) x.odd (x.odd ++ record { place = p; old = v } ∷ []) p v (noted_at_end x.odd p v))
 
   -- A place with a single note needs no other.
   pub odd_noted : (p : Place) (v : Option Value) → is_some (named x.odd p) ≡ true → Noted (all_changes ns cs rs x) (all_changes ns cs rs x) p v

@@ -10,8 +10,8 @@ use Rattle.entries.specs.declared.completion.Cqe.{Cqe}
 use Rattle.entries.specs.declared.entry.Sqe.{Sqe}
 use Rattle.entries.specs.declared.row.Row.{Row}
 use Rattle.entries.specs.Layout.{EntryFits, CompletionFits}
-use Rattle.numerals.specs.Reading.{Puts}
-use Rattle.numerals.specs.Numerals.{number_of, after, behind}
+use Rattle.compact_size.specs.Reading.{Puts}
+use Rattle.compact_size.specs.CompactSizes.{number_of, after, after_many}
 use Rattle.places.specs.Packed.{option_number, option_from, word_from, phase_from, completion_list, entry_list, row_list, completion_of, entry_of, row_of, RowAgain}
 
 same_part : {m n : ℕ} (k : ℕ) → m ≡ n → n < k → m % k ≡ n
@@ -48,7 +48,7 @@ bytes_back (suc n) i xs l h =
 
 -- ---- Values
 
-pub completion_put : (x : Cqe) (old new : List ℕ) → CompletionFits x → Puts number_of after old (completion_list x) new → Puts completion_of (behind 3) old (x ∷ []) new
+pub completion_put : (x : Cqe) (old new : List ℕ) → CompletionFits x → Puts number_of after old (completion_list x) new → Puts completion_of (after_many 3) old (x ∷ []) new
 completion_put x old new f g rest =
     let p = g rest in
     let h = p.reads in
@@ -68,7 +68,7 @@ later xs l r = bytes_back 8 0 (drop 8 xs) (omega (arith, length-drop 8 xs)) (λ 
 halves : (xs : List ℕ) → length xs ≡ 16 → take 8 xs ++ take 8 (drop 8 xs) ≡ xs
 halves xs l = ap (λ (ys : List ℕ). take 8 xs ++ ys) (take_all 8 (drop 8 xs) (omega (arith, length-drop 8 xs))) ∙ take-append-drop 8 xs
 
-pub entry_put : (e : Sqe) (old new : List ℕ) → EntryFits e → length e.rest ≡ 16 → ((k : ℕ) → slice_index e.rest k < 256) → Puts number_of after old (entry_list e) new → Puts entry_of (behind 14) old (e ∷ []) new
+pub entry_put : (e : Sqe) (old new : List ℕ) → EntryFits e → length e.rest ≡ 16 → ((k : ℕ) → slice_index e.rest k < 256) → Puts number_of after old (entry_list e) new → Puts entry_of (after_many 14) old (e ∷ []) new
 unfolding entry_of
 entry_put e old new f l r g rest =
     let p = g rest in
@@ -85,9 +85,9 @@ entry_put e old new f l r g rest =
     let p9 = same_part (2 ^ 16) h.1.1.1.1.1.1.1.1.1.0 f.buf_index in
     let p10 = same_part (2 ^ 16) h.1.1.1.1.1.1.1.1.1.1.0 f.personality in
     let p11 = same_signed e.splice_fd_in h.1.1.1.1.1.1.1.1.1.1.1.0 f.splice_fd_in in
-    let a : little_bytes 8 (number_of (behind 12 p.put)) ≡ take 8 e.rest = ap (little_bytes 8) h.1.1.1.1.1.1.1.1.1.1.1.1.0 ∙ bytes_back 8 0 e.rest (omega arith) r in
-    let b : little_bytes 8 (number_of (behind 13 p.put)) ≡ take 8 (drop 8 e.rest) = ap (little_bytes 8) h.1.1.1.1.1.1.1.1.1.1.1.1.1.0 ∙ later e.rest l r in
-    let c : little_bytes 8 (number_of (behind 12 p.put)) ++ little_bytes 8 (number_of (behind 13 p.put)) ≡ e.rest = ap (λ (xs : List ℕ). xs ++ little_bytes 8 (number_of (behind 13 p.put))) a ∙ ap (λ (xs : List ℕ). take 8 e.rest ++ xs) b ∙ halves e.rest l in
+    let a : little_bytes 8 (number_of (after_many 12 p.put)) ≡ take 8 e.rest = ap (little_bytes 8) h.1.1.1.1.1.1.1.1.1.1.1.1.0 ∙ bytes_back 8 0 e.rest (omega arith) r in
+    let b : little_bytes 8 (number_of (after_many 13 p.put)) ≡ take 8 (drop 8 e.rest) = ap (little_bytes 8) h.1.1.1.1.1.1.1.1.1.1.1.1.1.0 ∙ later e.rest l r in
+    let c : little_bytes 8 (number_of (after_many 12 p.put)) ++ little_bytes 8 (number_of (after_many 13 p.put)) ≡ e.rest = ap (λ (xs : List ℕ). xs ++ little_bytes 8 (number_of (after_many 13 p.put))) a ∙ ap (λ (xs : List ℕ). take 8 e.rest ++ xs) b ∙ halves e.rest l in
     record { put = p.put; joined = p.joined; reads = (same_fields p0 p1 p2 p3 p4 p5 p6 p7 p8 p9 p10 p11 c, h.1.1.1.1.1.1.1.1.1.1.1.1.1.1) }
 
 times : (t : Option ℕ) {n : ℕ} → n ≡ option_number t → option_from n ≡ t
@@ -97,7 +97,7 @@ times (Some t) e = ap option_from e ∙ once t
     once : (t : ℕ) → option_from (t + 1) ≡ Some t
     once t = grind arith
 
-pub row_put : (r : Row) (old mid new : List ℕ) → RowAgain r → Puts number_of after old (row_list r) mid → Puts entry_of (behind 14) mid (r.entry ∷ []) new → Puts row_of (behind 21) old (r ∷ []) new
+pub row_put : (r : Row) (old mid new : List ℕ) → RowAgain r → Puts number_of after old (row_list r) mid → Puts entry_of (after_many 14) mid (r.entry ∷ []) new → Puts row_of (after_many 21) old (r ∷ []) new
 unfolding row_of
 row_put r old mid new f g k rest =
     let q = k rest in
@@ -110,6 +110,6 @@ row_put r old mid new f g k rest =
     let t = ap word_from h.1.1.1.1.0 ∙ f.target in
     let i = ap word_from h.1.1.1.1.1.0 ∙ f.held in
     let j = ap phase_from h.1.1.1.1.1.1.0 ∙ f.phase in
-    let m : behind 7 p.put ≡ q.put = h.1.1.1.1.1.1.1 in
-    let e : entry_of (behind 7 p.put) ≡ r.entry = ap entry_of m ∙ q.reads.0 in
-    record { put = p.put; joined = q.joined ∙ p.joined; reads = (rw (a, b, c, d, t, i, j, e) refl, ap (behind 14) m ∙ q.reads.1) }
+    let m : after_many 7 p.put ≡ q.put = h.1.1.1.1.1.1.1 in
+    let e : entry_of (after_many 7 p.put) ≡ r.entry = ap entry_of m ∙ q.reads.0 in
+    record { put = p.put; joined = q.joined ∙ p.joined; reads = (rw (a, b, c, d, t, i, j, e) refl, ap (after_many 14) m ∙ q.reads.1) }

@@ -10,7 +10,7 @@ use Rattle.places.specs.PlaceNumbers.{place_of}
 pub record IsHead (h : Head) (c : Change) : Type 0 where
   pub kind : h.kind < 30
   pub place : c.place ≡ place_of h.kind h.index 0
-  pub stood : is_some c.old ≡ h.stood
+  pub was_there : is_some c.old ≡ h.was_there
 
 -- `h` is the head of the first of the changes `cs`, and `ds` are the others.
 pub record IsFirst (h : Head) (cs ds : List Change) : Type 0 where

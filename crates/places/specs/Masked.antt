@@ -3,7 +3,7 @@ use Rattle.std.specs.Prelude.{◌≡◌, ◌≢◌, ℕ, zero, suc, ◌+◌, ◌
 use Rattle.std.specs.Option.{option_flatten}
 use Rattle.places.specs.declared.notes.runs.Region.{Region}
 use Rattle.places.specs.declared.notes.runs.Run.{Run}
-use Rattle.number_sets.specs.Sets.{has}
+use Rattle.bit_sets.specs.Sets.{has}
 use Rattle.places.specs.Runs.{place_in, RunsOnce}
 use Rattle.places.specs.View.{View}
 
@@ -58,5 +58,5 @@ abbrev pub PutOver : List ℕ → ℕ → List (Option ℕ) → List ℕ → Typ
 PutOver before s os after = (i : ℕ) → slice_get after i ≡ option_map (unwrap_or (kept_at s os i)) (slice_get before i)
 
 -- Each recorded byte of the region has a place that is present in the view.
-abbrev pub BytesStand : View → Region → ℕ → List (Option ℕ) → Type 0
-BytesStand v g s os = (i b : ℕ) → slice_get os i ≡ Some (Some b) → IsSome (v (place_in g (s + i)))
+abbrev pub BytesPresent : View → Region → ℕ → List (Option ℕ) → Type 0
+BytesPresent v g s os = (i b : ℕ) → slice_get os i ≡ Some (Some b) → IsSome (v (place_in g (s + i)))

@@ -35,7 +35,7 @@ pub record Spends (old new : Notes) (p : Place) : Type 0 where
   pub others : old.others ≤ new.others + neither (is_number p) (is_completion p)
 
 -- At least as much memory is reserved as before.
-pub record HasAsMuch (old new : Notes) : Type 0 where
+pub record HasSameRoom (old new : Notes) : Type 0 where
   pub numbers : old.numbers ≤ new.numbers
   pub completions : old.completions ≤ new.completions
   pub others : old.others ≤ new.others

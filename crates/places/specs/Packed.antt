@@ -14,8 +14,8 @@ use Rattle.places.specs.declared.value.Value.{Value}
 use Rattle.places.specs.declared.value.Value.TheVariants.{Number, Signed, Entry, Completed, Requested, Staged, Reaped, Awake}
 use Rattle.places.specs.declared.value.Change.{Change}
 use Rattle.places.specs.PlaceNumbers.{place_of}
-use Rattle.numerals.specs.Reading.{read_all}
-use Rattle.numerals.specs.Numerals.{number_of, after, behind, byte_of, half_of, word_of, signed_of, long_of}
+use Rattle.compact_size.specs.Reading.{read_all}
+use Rattle.compact_size.specs.CompactSizes.{number_of, after, after_many, byte_of, half_of, word_of, signed_of, long_of}
 
 -- ---- Small values as numbers, and back
 
@@ -39,18 +39,18 @@ abbrev pub phase_from : ℕ → Phase
 phase_from n = if n == 0 then Queued else (if n == 1 then Issued else Ended (cast_signed w32 ((n - 2) % 2 ^ 32)))
 
 abbrev pub stage_from : ℕ → ℕ → Stage
-stage_from n wanted = if n == 0 then Ready else Waiting ((n - 1) % 2 ^ 32) wanted
+stage_from n needed = if n == 0 then Ready else Waiting ((n - 1) % 2 ^ 32) needed
 
 -- The numbers of a stage fit into 32 bits.
 abbrev pub StageFits : Stage → Type 0
 StageFits Ready = Unit {0}
-StageFits (Waiting submitted wanted) = (submitted < 2 ^ 32) × (wanted < 2 ^ 32)
+StageFits (Waiting submitted needed) = (submitted < 2 ^ 32) × (needed < 2 ^ 32)
 
 -- ---- Values as lists of numbers
 
 abbrev pub stage_list : Stage → List ℕ
 stage_list Ready = 0 ∷ 0 ∷ []
-stage_list (Waiting submitted wanted) = (submitted + 1) ∷ wanted ∷ []
+stage_list (Waiting submitted needed) = (submitted + 1) ∷ needed ∷ []
 
 abbrev pub completion_list : Cqe → List ℕ
 completion_list c = c.user_data ∷ cast_unsigned w32 c.res ∷ c.flags ∷ []
@@ -71,44 +71,44 @@ row_list r =
 abbrev pub completion_of : List ℕ → Cqe
 completion_of bytes = record {
   user_data = number_of bytes;
-  res = signed_of (behind 1 bytes);
-  flags = word_of (behind 2 bytes);
+  res = signed_of (after_many 1 bytes);
+  flags = word_of (after_many 2 bytes);
 }
 
 unfoldable pub entry_of : List ℕ → Sqe
 entry_of bytes = record {
   opcode = byte_of bytes;
-  flags = byte_of (behind 1 bytes);
-  ioprio = half_of (behind 2 bytes);
-  fd = signed_of (behind 3 bytes);
-  off = number_of (behind 4 bytes);
-  addr = number_of (behind 5 bytes);
-  len = word_of (behind 6 bytes);
-  operation_flags = word_of (behind 7 bytes);
-  user_data = number_of (behind 8 bytes);
-  buf_index = half_of (behind 9 bytes);
-  personality = half_of (behind 10 bytes);
-  splice_fd_in = signed_of (behind 11 bytes);
-  rest = little_bytes 8 (number_of (behind 12 bytes)) ++ little_bytes 8 (number_of (behind 13 bytes));
+  flags = byte_of (after_many 1 bytes);
+  ioprio = half_of (after_many 2 bytes);
+  fd = signed_of (after_many 3 bytes);
+  off = number_of (after_many 4 bytes);
+  addr = number_of (after_many 5 bytes);
+  len = word_of (after_many 6 bytes);
+  operation_flags = word_of (after_many 7 bytes);
+  user_data = number_of (after_many 8 bytes);
+  buf_index = half_of (after_many 9 bytes);
+  personality = half_of (after_many 10 bytes);
+  splice_fd_in = signed_of (after_many 11 bytes);
+  rest = little_bytes 8 (number_of (after_many 12 bytes)) ++ little_bytes 8 (number_of (after_many 13 bytes));
 }
 
 unfoldable pub row_of : List ℕ → Row
 row_of bytes = record {
   deadline = option_from (number_of bytes);
-  time = option_from (number_of (behind 1 bytes));
-  base = word_of (behind 2 bytes);
-  unit = word_of (behind 3 bytes);
-  target = word_from (number_of (behind 4 bytes));
-  held = word_from (number_of (behind 5 bytes));
-  phase = phase_from (number_of (behind 6 bytes));
-  entry = entry_of (behind 7 bytes);
+  time = option_from (number_of (after_many 1 bytes));
+  base = word_of (after_many 2 bytes);
+  unit = word_of (after_many 3 bytes);
+  target = word_from (number_of (after_many 4 bytes));
+  held = word_from (number_of (after_many 5 bytes));
+  phase = phase_from (number_of (after_many 6 bytes));
+  entry = entry_of (after_many 7 bytes);
 }
 
 abbrev pub stage_of : List ℕ → Stage
-stage_of bytes = stage_from (number_of bytes) (word_of (behind 1 bytes))
+stage_of bytes = stage_from (number_of bytes) (word_of (after_many 1 bytes))
 
 abbrev pub reaped_of : List ℕ → Option Cqe
-reaped_of bytes = if number_of bytes == 0 then None else Some (completion_of (behind 1 bytes))
+reaped_of bytes = if number_of bytes == 0 then None else Some (completion_of (after_many 1 bytes))
 
 -- ---- Changes
 
@@ -147,13 +147,13 @@ shape_from head = head / 30
 -- The change at the start of the bytes.
 unfoldable pub change_of : List ℕ → Change
 change_of bytes = record {
-  place = place_of (kind_from (number_of bytes)) (word_of (behind 1 bytes)) 0;
-  old = value_of_shape (shape_from (number_of bytes)) (behind 2 bytes);
+  place = place_of (kind_from (number_of bytes)) (word_of (after_many 1 bytes)) 0;
+  old = value_of_shape (shape_from (number_of bytes)) (after_many 2 bytes);
 }
 
 -- The bytes after that change.
 unfoldable pub after_change : List ℕ → List ℕ
-after_change bytes = behind (size_of_shape (shape_from (number_of bytes))) (behind 2 bytes)
+after_change bytes = after_many (size_of_shape (shape_from (number_of bytes))) (after_many 2 bytes)
 
 -- The changes in bytes that begin with their number.
 abbrev pub packed : List ℕ → List Change

@@ -9,7 +9,7 @@ use Rattle.places.specs.declared.notes.completions.CompletionNote.{CompletionNot
 use Rattle.places.specs.declared.notes.rows.RowNote.{RowNote}
 use Rattle.places.specs.declared.notes.rows.RowNote.TheVariants.{Absent, Was, Other}
 use Rattle.places.specs.Places.{kind_of, index_of, second_of, is_number, InLimits, is_other}
-use Rattle.places.specs.Slots.{number_places, place_behind, number_place, number_slot, number_slot_of, number_change, completion_slot_of, completion_change, row_slot_of, row_change, other_places, other_place, slot_at}
+use Rattle.places.specs.Slots.{number_places, place_in_slot, number_place, number_slot, number_slot_of, number_change, completion_slot_of, completion_change, row_slot_of, row_change, other_places, other_place, slot_at}
 use Rattle.places.specs.PlaceNumbers.{same_numbers}
 
 -- There are 30 kinds of places.
@@ -66,10 +66,10 @@ either P true p q h k = h
 either P false p q h k = k
 
 -- What holds for each place of a table, and for the default, holds for the place looked up.
-pub behind_of : (P : Place → Type 0) (k : ℕ) (cs : List (ℕ × Place)) (p : Place) → AllOf P cs → P p → P (place_behind k cs p)
+pub place_in_slot_of : (P : Place → Type 0) (k : ℕ) (cs : List (ℕ × Place)) (p : Place) → AllOf P cs → P p → P (place_in_slot k cs p)
 unfolding AllOf
-behind_of P k [] p a h = h
-behind_of P k (c ∷ cs) p a h = either P (k == c.0) c.1 (place_behind k cs p) a.0 (behind_of P k cs p a.1 h)
+place_in_slot_of P k [] p a h = h
+place_in_slot_of P k (c ∷ cs) p a h = either P (k == c.0) c.1 (place_in_slot k cs p) a.0 (place_in_slot_of P k cs p a.1 h)
 
 -- The place holds a number and has no second index.
 pub record IsPlain (p : Place) : Type 0 where
@@ -85,7 +85,7 @@ all_plain i = (plain refl refl, (plain refl refl, (plain refl refl, (plain refl 
 
 pub number_plain : (k i : ℕ) → IsPlain (number_place k i)
 unfolding number_place
-number_plain k i = behind_of IsPlain k (number_places i) (ProgramCounter i) (all_plain i) (plain refl refl)
+number_plain k i = place_in_slot_of IsPlain k (number_places i) (ProgramCounter i) (all_plain i) (plain refl refl)
 
 pub one_number : (x y : NumberNote) → number_slot_of x ≡ number_slot_of y → (number_change x).place ≡ (number_change y).place
 one_number x y e =
@@ -115,7 +115,7 @@ all_lone i = (lone refl refl, (lone refl refl, (lone refl refl, (lone refl refl,
 
 pub other_lone : (k i : ℕ) → IsLone (other_place k i)
 unfolding other_place
-other_lone k i = behind_of IsLone k (other_places i) (Got i) (all_lone i) (lone refl refl)
+other_lone k i = place_in_slot_of IsLone k (other_places i) (Got i) (all_lone i) (lone refl refl)
 
 same_slot_at : (p q : Place) → slot_at p ≡ slot_at q → (kind_of p ≡ kind_of q) × (index_of p ≡ index_of q)
 unfolding slot_at

@@ -18,13 +18,13 @@ abbrev pub number_places : ℕ → List (ℕ × Place)
 number_places i = (0, SubmissionHead) ∷ (1, SubmissionTail) ∷ (2, SubmissionFlags) ∷ (3, SubmissionDropped) ∷ (4, CompletionHead) ∷ (5, CompletionTail) ∷ (6, Array i) ∷ (12, FileLength i) ∷ (13, DurableLength i) ∷ (14, Position i) ∷ (15, OpenMark i) ∷ (17, PutCount i) ∷ (18, TakenCount i) ∷ (19, EventCount i) ∷ (22, BacklogFront) ∷ (23, Clock) ∷ (24, Counted) ∷ []
 
 -- Looks up kind k in a table. The place p is the default.
-abbrev pub place_behind : ℕ → List (ℕ × Place) → Place → Place
-place_behind k [] p = p
-place_behind k (c ∷ cs) p = if k == c.0 then c.1 else place_behind k cs p
+abbrev pub place_in_slot : ℕ → List (ℕ × Place) → Place → Place
+place_in_slot k [] p = p
+place_in_slot k (c ∷ cs) p = if k == c.0 then c.1 else place_in_slot k cs p
 
 -- The place of a number with kind k and index i.
 unfoldable pub number_place : ℕ → ℕ → Place
-number_place k i = place_behind k (number_places i) (ProgramCounter i)
+number_place k i = place_in_slot k (number_places i) (ProgramCounter i)
 
 -- The slot of the place of a number: odd for the words of the submission array, even for others.
 unfoldable pub number_slot : Place → ℕ
@@ -59,7 +59,7 @@ other_places i = (7, Slot i) ∷ (21, Backlog i) ∷ (25, PollerStage) ∷ (27, 
 
 -- The other place with kind k and index i.
 unfoldable pub other_place : ℕ → ℕ → Place
-other_place k i = place_behind k (other_places i) (Got i)
+other_place k i = place_in_slot k (other_places i) (Got i)
 
 -- The slot of a request or another place. The slots modulo 4 are: requests 0, overflowed
 -- completions 1, entry slots 2, all others 3.

@@ -1,6 +1,6 @@
 -- A run of recorded bytes as an iterator returns it.
 use Rattle.std.specs.Prelude.{ℕ, ◌+◌, ◌<◌, ◌^◌, List, Option, length}
-use Rattle.places.specs.declared.notes.telling.Stretch.{Stretch}
+use Rattle.places.specs.declared.notes.byte_changes.Stretch.{Stretch}
 use Rattle.places.specs.Masked.{marks_from, masked}
 
 -- The old bytes of the run, with `None` for dropped ones.

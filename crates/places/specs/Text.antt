@@ -27,7 +27,7 @@ row_text r =
 -- completions it waits for.
 abbrev pub stage_text : Stage → List ℕ
 stage_text Ready = codes "ready"
-stage_text (Waiting submitted wanted) = codes "waiting " ++ (decimal submitted ++ (codes " " ++ decimal wanted))
+stage_text (Waiting submitted needed) = codes "waiting " ++ (decimal submitted ++ (codes " " ++ decimal needed))
 
 -- The bytes of the completion in hex.
 abbrev pub completion_text : Cqe → List ℕ

@@ -1,8 +1,8 @@
 -- The meaning of one step of the iterator over recorded bytes.
 use Rattle.std.specs.Prelude.{◌≡◌, List, [], ◌∷◌}
 use Rattle.places.specs.declared.value.Change.{Change}
-use Rattle.places.specs.declared.notes.telling.Turn.{Turn}
-use Rattle.places.specs.declared.notes.telling.Turn.TheVariants.{End, Nothing, Found}
+use Rattle.places.specs.declared.notes.byte_changes.Turn.{Turn}
+use Rattle.places.specs.declared.notes.byte_changes.Turn.TheVariants.{End, Nothing, Found}
 
 abbrev pub MatchTurn : Turn → List Change → List Change → Type 0
 MatchTurn End before after = (before ≡ []) × (after ≡ [])

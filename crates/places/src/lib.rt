@@ -17,8 +17,8 @@ pub mod value;
 
 pub use items::Items;
 pub use listed::Listed;
+pub use notes::byte_changes::{Stretch, Stretches};
 pub use notes::runs::Region;
-pub use notes::telling::{Stretch, Stretches};
 pub use object::{Contents, Descriptor, End, Object};
 pub use part::{At, Part};
 pub use place::Place;

@@ -1,6 +1,7 @@
 //! Notes: places with their old values. Each kind of place has a compact form, and a
 //! place has at most one note.
 
+pub mod byte_changes;
 pub mod clearing;
 pub mod completions;
 pub mod kept;
@@ -14,5 +15,4 @@ pub mod room;
 pub mod rows;
 pub mod runs;
 pub mod slots;
-pub mod telling;
 pub mod wide;

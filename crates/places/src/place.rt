@@ -62,7 +62,7 @@ pub enum Place {
 impl Place {
     /// Returns whether two places are equal.
     #[tactic(auto, unfolding(crate::specs::Places::same_place))]
-    pub fn is(&self, other: &Place) -> bool
+    pub fn equals(&self, other: &Place) -> bool
         ensures { result ≡ same_place self.now other.now }
     {
         self.kind() == other.kind()

@@ -8,6 +8,7 @@ ghost use Rattle.places.specs.Slots.{row_change};
 ghost use Rattle.places.specs.All.{all_changes, record_changes};
 
 use crate::listed::Listed;
+use crate::notes::byte_changes::{ByteChanges, Stretches};
 use crate::notes::completions::CompletionNote;
 use crate::notes::kept::Kept;
 use crate::notes::leaving::left_after;
@@ -15,7 +16,6 @@ use crate::notes::more::More;
 use crate::notes::numbers::NumberNote;
 use crate::notes::rows::RowNote;
 use crate::notes::slots::{Slotted, either, names_place};
-use crate::notes::telling::{ByteChanges, Stretches};
 use crate::notes::wide::Wide;
 use crate::packing::changes::PackedChanges;
 use crate::packing::packed::Packed;
@@ -69,7 +69,7 @@ impl<'a> Model for Changes<'a> {
 impl<'a> Changes<'a> {
     /// Returns the next change.
     pub fn next(&mut self) -> Option<Change>
-        ensures told { MatchOption result (self.old ≡ []) (λ c. self.old ≡ c ∷ self.new) }
+        ensures yields { MatchOption result (self.old ≡ []) (λ c. self.old ≡ c ∷ self.new) }
         ensures none { result ≡ None → self.new ≡ [] }
     {
         if let Some(change) = self.packed.next() {
@@ -110,13 +110,13 @@ impl<'a> Changes<'a> {
 }
 
 impl Record {
-    pub(crate) fn of(packed: Packed, wide: Wide, rest: Kept) -> Record
+    pub(crate) fn from_parts(packed: Packed, wide: Wide, rest: Kept) -> Record
         requires { NamesOnce (record_changes packed wide rest) }
         ensures { result ≡ record_changes packed wide rest }
     {
         Record {
             packed,
-            more: More::of(wide, rest),
+            more: More::new(wide, rest),
         }
     }
 

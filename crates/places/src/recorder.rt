@@ -3,7 +3,7 @@ ghost use Rattle.std.specs.Prelude.{◌≡◌, ◌+◌, ◌<◌, ◌≤◌, ◌^
 ghost use Rattle.places.specs.Places.{is_number, is_other, InLimits};
 ghost use Rattle.places.specs.Slots.{value_of};
 ghost use Rattle.places.specs.View.{Noted, Exact, named, undo};
-ghost use Rattle.places.specs.Notes.{Notes, room_for, Spends, HasAsMuch};
+ghost use Rattle.places.specs.Notes.{Notes, room_for, Spends, HasSameRoom};
 ghost use Rattle.places.specs.Runs.{place_in, NotedBytes};
 ghost use Rattle.places.specs.declared.value.Value.TheVariants.{Number, Completed, Requested};
 ghost use Rattle.places.specs.declared.place.Place.TheVariants.{Completion, Request};
@@ -111,7 +111,7 @@ impl Recorder {
         ensures numbers { OnOk result (n ≤ self.new.numbers) }
         ensures completions { OnOk result (n ≤ self.new.completions) }
         ensures others { OnOk result (n ≤ self.new.others) }
-        ensures kept { HasAsMuch self.old self.new }
+        ensures kept { HasSameRoom self.old self.new }
         ensures there { n ≤ self.old.numbers → n ≤ self.old.completions → n ≤ self.old.others
             → IsOk result }
     {
@@ -125,7 +125,7 @@ impl Recorder {
     pub fn room_for_others(&mut self, n: usize) -> Result<(), AllocError>
         ensures made { self.new.made ≡ self.old.made }
         ensures room { OnOk result (n ≤ self.new.others) }
-        ensures kept { HasAsMuch self.old self.new }
+        ensures kept { HasSameRoom self.old self.new }
         ensures there { n ≤ self.old.others → IsOk result }
     {
         if n > self.room.others {
@@ -145,7 +145,7 @@ impl Recorder {
     /// `room_for_others` it guarantees nothing.
     pub fn expect_rows(&mut self, n: usize) -> Result<(), AllocError>
         ensures made { self.new.made ≡ self.old.made }
-        ensures kept { HasAsMuch self.old self.new }
+        ensures kept { HasSameRoom self.old self.new }
     {
         self.rows.room(n, 0)
     }
@@ -154,7 +154,7 @@ impl Recorder {
     pub fn room_for_numbers(&mut self, n: usize) -> Result<(), AllocError>
         ensures made { self.new.made ≡ self.old.made }
         ensures room { OnOk result (n ≤ self.new.numbers) }
-        ensures kept { HasAsMuch self.old self.new }
+        ensures kept { HasSameRoom self.old self.new }
         ensures there { n ≤ self.old.numbers → IsOk result }
     {
         if n > self.room.numbers {
@@ -174,7 +174,7 @@ impl Recorder {
     pub fn room_for_completions(&mut self, n: usize) -> Result<(), AllocError>
         ensures made { self.new.made ≡ self.old.made }
         ensures room { OnOk result (n ≤ self.new.completions) }
-        ensures kept { HasAsMuch self.old self.new }
+        ensures kept { HasSameRoom self.old self.new }
         ensures there { n ≤ self.old.completions → IsOk result }
     {
         if n > self.room.completions {
@@ -200,7 +200,7 @@ impl Recorder {
         ensures err { OnErr result (self.new.made ≡ self.old.made) }
         ensures there { 0 < room_for self.old place → InLimits place → IsOk result }
         ensures spends { OnOk result (Spends self.old self.new place) }
-        ensures kept { OnErr result (HasAsMuch self.old self.new) }
+        ensures kept { OnErr result (HasSameRoom self.old self.new) }
     {
         if let Some(Value::Number(number)) = old {
             if place.is_number() {
@@ -225,14 +225,14 @@ impl Recorder {
         ensures err { OnErr result (self.new.made ≡ self.old.made) }
         ensures there { 0 < room_for self.old place → InLimits place → IsOk result }
         ensures spends { OnOk result (Spends self.old self.new place) }
-        ensures kept { OnErr result (HasAsMuch self.old self.new) }
+        ensures kept { OnErr result (HasSameRoom self.old self.new) }
     {
         if !place.is_other() {
             return self.note_other(place, old);
         }
         match old {
             None => self.note_small(place, None),
-            Some(value) => match Small::of(value) {
+            Some(value) => match Small::from_value(value) {
                 Some(small) => self.note_small(place, Some(small)),
                 None => self.note_other(place, old),
             },
@@ -247,7 +247,7 @@ impl Recorder {
         ensures err { OnErr result (self.new.made ≡ self.old.made) }
         ensures there { 0 < self.old.others → InLimits place → IsOk result }
         ensures spends { OnOk result (Spends self.old self.new place) }
-        ensures kept { OnErr result (HasAsMuch self.old self.new) }
+        ensures kept { OnErr result (HasSameRoom self.old self.new) }
     {
         if self.rest.names(place) {
             return Ok(());
@@ -265,13 +265,13 @@ impl Recorder {
         ensures err { OnErr result (self.new.made ≡ self.old.made) }
         ensures there { 0 < self.old.numbers → InLimits place → IsOk result }
         ensures spends { OnOk result (Spends self.old self.new place) }
-        ensures kept { OnErr result (HasAsMuch self.old self.new) }
+        ensures kept { OnErr result (HasSameRoom self.old self.new) }
     {
         if self.rest.names(place) {
             return Ok(());
         }
         self.spare.ready(self.alloc)?;
-        self.numbers.note(NumberNote::of(place, old))?;
+        self.numbers.note(NumberNote::new(place, old))?;
         self.room.spend_number();
         Ok(())
     }
@@ -283,7 +283,7 @@ impl Recorder {
         ensures err { OnErr result (self.new.made ≡ self.old.made) }
         ensures there { 0 < self.old.completions → slot < 8192 → IsOk result }
         ensures spends { OnOk result (Spends self.old self.new (Completion slot)) }
-        ensures kept { OnErr result (HasAsMuch self.old self.new) }
+        ensures kept { OnErr result (HasSameRoom self.old self.new) }
     {
         if self.rest.names(Place::Completion(slot)) {
             return Ok(());
@@ -301,13 +301,13 @@ impl Recorder {
         ensures err { OnErr result (self.new.made ≡ self.old.made) }
         ensures there { 0 < self.old.others → row < 65536 → IsOk result }
         ensures spends { OnOk result (Spends self.old self.new (Request row)) }
-        ensures kept { OnErr result (HasAsMuch self.old self.new) }
+        ensures kept { OnErr result (HasSameRoom self.old self.new) }
     {
         if self.rest.names(Place::Request(row)) {
             return Ok(());
         }
         self.spare.ready(self.alloc)?;
-        self.rows.note(RowNote::of(row, old))?;
+        self.rows.note(RowNote::new(row, old))?;
         self.room.spend_other();
         Ok(())
     }
@@ -319,7 +319,7 @@ impl Recorder {
         requires within { start + length old.now ≤ 2 ^ 32 }
         ensures ok { OnOk result (NotedBytes self.old.made self.new.made region start old.now) }
         ensures err { OnErr result (self.new.made ≡ self.old.made) }
-        ensures room { HasAsMuch self.old self.new }
+        ensures room { HasSameRoom self.old self.new }
     {
         self.rest.note_bytes(self.alloc, region, start, old)?;
         Ok(())
@@ -331,7 +331,7 @@ impl Recorder {
         ensures err { OnErr result (self.new.made ≡ self.old.made) }
         ensures there { 0 < room_for self.old place → IsOk result }
         ensures spends { OnOk result (Spends self.old self.new place) }
-        ensures kept { OnErr result (HasAsMuch self.old self.new) }
+        ensures kept { OnErr result (HasSameRoom self.old self.new) }
     {
         if self.is_noted(place) {
             return Ok(());
@@ -379,17 +379,17 @@ impl Recorder {
         let rows = self.rows.close(whole);
         let rest = self.rest.close(whole);
         self.room = Room::new();
-        match Packed::of(&numbers, &completions, &rows, &mut self.scratch) {
+        match Packed::from_parts(&numbers, &completions, &rows, &mut self.scratch) {
             Ok(packed) => {
                 self.numbers.reuse(numbers);
                 self.completions.reuse(completions);
                 self.rows.reuse(rows);
-                Record::of(packed, Wide::new(), rest)
+                Record::from_parts(packed, Wide::new(), rest)
             }
             Err(_) => {
                 let spare = mem::replace(&mut self.spare, Wide::new());
                 let wide = spare.with(numbers, completions, rows);
-                Record::of(Packed::new(self.alloc), wide, rest)
+                Record::from_parts(Packed::new(self.alloc), wide, rest)
             }
         }
     }

@@ -28,7 +28,7 @@ impl Value {
             Value::Awake(true) => format!(in alloc; "awake")?,
             Value::Awake(false) => format!(in alloc; "asleep")?,
         };
-        Ok(Items::of(text.into_bytes()))
+        Ok(Items::from_vec(text.into_bytes()))
     }
 }
 
@@ -69,6 +69,6 @@ fn stage_of(alloc: Global, stage: &Stage) -> Result<String, AllocError>
 {
     match stage {
         Stage::Ready => format!(in alloc; "ready"),
-        Stage::Waiting(submitted, wanted) => format!(in alloc; "waiting {submitted} {wanted}"),
+        Stage::Waiting(submitted, needed) => format!(in alloc; "waiting {submitted} {needed}"),
     }
 }

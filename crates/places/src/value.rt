@@ -41,7 +41,7 @@ pub struct Change {
 
 impl Stage {
     /// Returns whether two stages are equal.
-    pub fn is(&self, other: &Stage) -> bool
+    pub fn equals(&self, other: &Stage) -> bool
         ensures { IsTrue result ↔ (self.now ≡ other.now) }
     {
         self == other
@@ -50,17 +50,17 @@ impl Stage {
 
 impl Value {
     /// Returns whether two values are equal.
-    pub fn is(&self, other: &Value) -> bool
+    pub fn equals(&self, other: &Value) -> bool
         ensures { IsTrue result ↔ (self.now ≡ other.now) }
     {
         match (self, other) {
             (Value::Number(a), Value::Number(b)) => a == b,
             (Value::Signed(a), Value::Signed(b)) => a == b,
             (Value::Byte(a), Value::Byte(b)) => a == b,
-            (Value::Entry(a), Value::Entry(b)) => a.is(b),
-            (Value::Completed(a), Value::Completed(b)) => a.is(b),
-            (Value::Requested(a), Value::Requested(b)) => a.is(b),
-            (Value::Staged(a), Value::Staged(b)) => a.is(b),
+            (Value::Entry(a), Value::Entry(b)) => a.equals(b),
+            (Value::Completed(a), Value::Completed(b)) => a.equals(b),
+            (Value::Requested(a), Value::Requested(b)) => a.equals(b),
+            (Value::Staged(a), Value::Staged(b)) => a.equals(b),
             (Value::Reaped(a), Value::Reaped(b)) => is_same_completion(*a, *b),
             (Value::Awake(a), Value::Awake(b)) => a == b,
             _ => false,
@@ -73,7 +73,7 @@ fn is_same_completion(a: Option<Cqe>, b: Option<Cqe>) -> bool
 {
     match (a, b) {
         (None, None) => true,
-        (Some(x), Some(y)) => x.is(&y),
+        (Some(x), Some(y)) => x.equals(&y),
         _ => false,
     }
 }
@@ -84,7 +84,7 @@ pub fn is_same(a: Option<Value>, b: Option<Value>) -> bool
 {
     match (a, b) {
         (None, None) => true,
-        (Some(x), Some(y)) => x.is(&y),
+        (Some(x), Some(y)) => x.equals(&y),
         _ => false,
     }
 }

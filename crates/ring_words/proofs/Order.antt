@@ -19,8 +19,8 @@ pub waiting_more : (h t n : ℕ) → h < 2 ^ 32 → t < 2 ^ 32 → n ≤ 8192 �
 waiting_more h t n a b c d = omega arith
 
 -- Taking k elements leaves k fewer pending.
-pub waiting_behind : (h t k : ℕ) → h < 2 ^ 32 → t < 2 ^ 32 → k ≤ waiting h t → waiting ((h + k) % 2 ^ 32) t + k ≡ waiting h t
-waiting_behind h t k a b c = omega arith
+pub waiting_after : (h t k : ℕ) → h < 2 ^ 32 → t < 2 ^ 32 → k ≤ waiting h t → waiting ((h + k) % 2 ^ 32) t + k ≡ waiting h t
+waiting_after h t k a b c = omega arith
 
 -- Nothing is pending if head and tail are equal.
 pub waiting_none : (h : ℕ) → h < 2 ^ 32 → waiting h h ≡ 0
@@ -71,10 +71,10 @@ items_drop xs h (suc n) (suc k) s l =
     ∙ ap (λ o. drop (suc k) (option_to_list o ++ items_from xs (h + 1) n)) (sym here.1)
 
 -- Taking k elements drops the first k of the list.
-pub list_behind : {X : Type 0} (xs : List X) (h t k : ℕ) → 0 < length xs → length xs ∣ 2 ^ 32 → h < 2 ^ 32 → t < 2 ^ 32 → k ≤ waiting h t
+pub list_after : {X : Type 0} (xs : List X) (h t k : ℕ) → 0 < length xs → length xs ∣ 2 ^ 32 → h < 2 ^ 32 → t < 2 ^ 32 → k ≤ waiting h t
     → items_from xs ((h + k) % 2 ^ 32) (waiting ((h + k) % 2 ^ 32) t) ≡ drop k (items_from xs h (waiting h t))
-list_behind xs h t k s d a b c =
-    let w = waiting_behind h t k a b c in
+list_after xs h t k s d a b c =
+    let w = waiting_after h t k a b c in
     let e : waiting ((h + k) % 2 ^ 32) t ≡ waiting h t - k = omega arith in
     ap (items_from xs ((h + k) % 2 ^ 32)) e ∙ sym (items_wrapped xs (h + k) _ d) ∙ items_drop xs h (waiting h t) k s c
 

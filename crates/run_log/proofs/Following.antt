@@ -18,7 +18,7 @@ use Rattle.script.specs.declared.log_fault.LogFault.{LogFault}
 use Rattle.script.specs.declared.log_fault.LogFault.TheVariants.{Script, Trace, Schedule, Write, Memory}
 use Rattle.run_log.specs.declared.range.EventRange.{EventRange}
 use Rattle.run_log.specs.Ranges.{has}
-use Rattle.run_log.specs.Logs.{Shows, Reports, Tells, Reported, Halts, Logs, Written, Stopped}
+use Rattle.run_log.specs.Logs.{Shows, Reports, ReportsIf, Reported, Halts, Logs, Written, Stopped}
 
 -- ---- one event
 
@@ -29,18 +29,18 @@ reports_of s i m n e past text next exact shows = record {
   shows = subst (λ x. Shows s i e (view x) past text) next.changed shows;
 }
 
-pub reported_lines : (told : Bool) (s : Setup) (i : ℕ) (m n : Machine) (e : Event) (past : List Change) (text : List ℕ) (a b : Option (List ℕ)) → told ≡ true → Next m e n → Exact (view m) (view n) past
-    → Shows s i e (view n) past text → Appends a b text → Reported told s i m e a b
-reported_lines told s i m n e past text a b t next exact shows w =
-    record { text = text; tells = subst (λ x. Tells x s i m e text) (sym t) (reports_of s i m n e past text next exact shows); appended = w }
+pub reported_lines : (reported : Bool) (s : Setup) (i : ℕ) (m n : Machine) (e : Event) (past : List Change) (text : List ℕ) (a b : Option (List ℕ)) → reported ≡ true → Next m e n → Exact (view m) (view n) past
+    → Shows s i e (view n) past text → Appends a b text → Reported reported s i m e a b
+reported_lines reported s i m n e past text a b t next exact shows w =
+    record { text = text; report = subst (λ x. ReportsIf x s i m e text) (sym t) (reports_of s i m n e past text next exact shows); appended = w }
 
-pub halted_write : (told : Bool) (s : Setup) (i : ℕ) (m n : Machine) (e : Event) (past : List Change) (f : LogFault) (a b : Option (List ℕ)) → told ≡ true → Next m e n → Exact (view m) (view n) past
-    → ((f ≡ Memory) × Keeps a b) ⊎ ((f ≡ Write) × (text : List ℕ) × Shows s i e (view n) past text × WritesFront a b text) → Halts told s i m e f a b
-halted_write told s i m n e past f a b t next exact (inl h) = subst (λ x. Halts told s i m e x a b) (sym h.0) h.1
-halted_write told s i m n e past f a b t next exact (inr h) =
-    let tells : Tells told s i m e h.1 = subst (λ x. Tells x s i m e h.1) (sym t) (reports_of s i m n e past h.1 next exact h.2) in
-    let all : Halts told s i m e Write a b = (next.accepted, h.1, tells, h.3) in
-    subst (λ x. Halts told s i m e x a b) (sym h.0) all
+pub halted_write : (reported : Bool) (s : Setup) (i : ℕ) (m n : Machine) (e : Event) (past : List Change) (f : LogFault) (a b : Option (List ℕ)) → reported ≡ true → Next m e n → Exact (view m) (view n) past
+    → ((f ≡ Memory) × Keeps a b) ⊎ ((f ≡ Write) × (text : List ℕ) × Shows s i e (view n) past text × WritesFront a b text) → Halts reported s i m e f a b
+halted_write reported s i m n e past f a b t next exact (inl h) = subst (λ x. Halts reported s i m e x a b) (sym h.0) h.1
+halted_write reported s i m n e past f a b t next exact (inr h) =
+    let report : ReportsIf reported s i m e h.1 = subst (λ x. ReportsIf x s i m e h.1) (sym t) (reports_of s i m n e past h.1 next exact h.2) in
+    let all : Halts reported s i m e Write a b = (next.accepted, h.1, report, h.3) in
+    subst (λ x. Halts reported s i m e x a b) (sym h.0) all
 
 -- ---- events in a row
 
@@ -51,20 +51,20 @@ pub record Logging (s : Setup) (es : List Event) (r : EventRange) (i : ℕ) (m :
 
 pub logging_more : (s : Setup) (es : List Event) (r : EventRange) (i : ℕ) (m n : Machine) (e d : Event) (a b c : Option (List ℕ)) → i < length es → Logging s es r i m a b → e ≡ get_or es i d
     → Next m e n → Reported (has r i) s i m e b c → Logging s es r (i + 1) n a c
-logging_more s es r i m n e d a b c h l g next told =
+logging_more s es r i m n e d a b c h l g next reported =
     let up : suc i ≡ i + 1 = omega arith in
     let there : slice_get es i ≡ Some e = slice_get-get_or es i d h ∙ ap Some (sym g) in
-    let tells : Tells (has r i) s i (moment s es i) e told.text = subst (λ x. Tells (has r i) s i x e told.text) l.here told.tells in
+    let report : ReportsIf (has r i) s i (moment s es i) e reported.text = subst (λ x. ReportsIf (has r i) s i x e reported.text) l.here reported.report in
     let accepted : refusal (moment s es i) e ≡ None = ap (λ x. refusal x e) (sym l.here) ∙ next.accepted in
-    let log : Logs s es r (suc i) (l.done.text ++ told.text) = (l.done.text, told.text, e, refl, there, tells, l.done.log) in
+    let log : Logs s es r (suc i) (l.done.text ++ reported.text) = (l.done.text, reported.text, e, refl, there, report, l.done.log) in
     record {
       here = next.changed ∙ ap (λ x. after x e) l.here ∙ sym (moment_more s es i e d h g);
       done = record {
         within = omega arith;
         runs = accepts_more (start s) es i e d h g l.done.runs accepted;
-        text = l.done.text ++ told.text;
-        log = subst (λ k. Logs s es r k (l.done.text ++ told.text)) up log;
-        appended = Appends-trans a b c _ _ l.done.appended told.appended;
+        text = l.done.text ++ reported.text;
+        log = subst (λ k. Logs s es r k (l.done.text ++ reported.text)) up log;
+        appended = Appends-trans a b c _ _ l.done.appended reported.appended;
       };
     }
 
@@ -80,11 +80,11 @@ logging_stops s es r i m e d a b c (Schedule j n) h l g stop =
 logging_stops s es r i m e d a b c Write h l g stop =
     let up : suc i ≡ i + 1 = omega arith in
     let there : slice_get es i ≡ Some e = slice_get-get_or es i d h ∙ ap Some (sym g) in
-    let tells : Tells (has r i) s i (moment s es i) e stop.1 = subst (λ x. Tells (has r i) s i x e stop.1) l.here stop.2 in
+    let report : ReportsIf (has r i) s i (moment s es i) e stop.1 = subst (λ x. ReportsIf (has r i) s i x e stop.1) l.here stop.2 in
     let accepted : refusal (moment s es i) e ≡ None = ap (λ x. refusal x e) (sym l.here) ∙ stop.0 in
     let w = stop.3 in
     let whole : (l.done.text ++ w.front) ++ w.rest ≡ l.done.text ++ stop.1 = append_assoc l.done.text w.front w.rest ∙ ap (λ x. l.done.text ++ x) (sym w.whole) in
-    let log : Logs s es r (suc i) ((l.done.text ++ w.front) ++ w.rest) = (l.done.text, stop.1, e, whole, there, tells, l.done.log) in (
+    let log : Logs s es r (suc i) ((l.done.text ++ w.front) ++ w.rest) = (l.done.text, stop.1, e, whole, there, report, l.done.log) in (
       i + 1,
       record {
         within = omega arith;
@@ -101,12 +101,12 @@ logging_stops s es r i m e d a b c (Trace f) h l g stop = absurd stop
 
 -- ---- from the results of calls
 
-pub told_ok : (r : Result ⊤ LogFault) (told : Bool) (s : Setup) (i : ℕ) (m n : Machine) (e : Event) (past : List Change) (a b : Option (List ℕ)) → told ≡ true → Next m e n → Exact (view m) (view n) past
-    → OnOk r ((text : List ℕ) × Shows s i e (view n) past text × Appends a b text) → OnOk r (Reported told s i m e a b)
-told_ok (Ok x) told s i m n e past a b t next exact h = reported_lines told s i m n e past h.0 a b t next exact h.1 h.2
-told_ok (Err f) told s i m n e past a b t next exact h = tt
+pub reported_ok : (r : Result ⊤ LogFault) (reported : Bool) (s : Setup) (i : ℕ) (m n : Machine) (e : Event) (past : List Change) (a b : Option (List ℕ)) → reported ≡ true → Next m e n → Exact (view m) (view n) past
+    → OnOk r ((text : List ℕ) × Shows s i e (view n) past text × Appends a b text) → OnOk r (Reported reported s i m e a b)
+reported_ok (Ok x) reported s i m n e past a b t next exact h = reported_lines reported s i m n e past h.0 a b t next exact h.1 h.2
+reported_ok (Err f) reported s i m n e past a b t next exact h = tt
 
-pub told_err : (r : Result ⊤ LogFault) (told : Bool) (s : Setup) (i : ℕ) (m n : Machine) (e : Event) (past : List Change) (a b : Option (List ℕ)) → told ≡ true → Next m e n → Exact (view m) (view n) past
-    → IfErr r (λ f. ((f ≡ Memory) × Keeps a b) ⊎ ((f ≡ Write) × (text : List ℕ) × Shows s i e (view n) past text × WritesFront a b text)) → IfErr r (λ f. Halts told s i m e f a b)
-told_err (Ok x) told s i m n e past a b t next exact h = tt
-told_err (Err f) told s i m n e past a b t next exact h = halted_write told s i m n e past f a b t next exact h
+pub reported_err : (r : Result ⊤ LogFault) (reported : Bool) (s : Setup) (i : ℕ) (m n : Machine) (e : Event) (past : List Change) (a b : Option (List ℕ)) → reported ≡ true → Next m e n → Exact (view m) (view n) past
+    → IfErr r (λ f. ((f ≡ Memory) × Keeps a b) ⊎ ((f ≡ Write) × (text : List ℕ) × Shows s i e (view n) past text × WritesFront a b text)) → IfErr r (λ f. Halts reported s i m e f a b)
+reported_err (Ok x) reported s i m n e past a b t next exact h = tt
+reported_err (Err f) reported s i m n e past a b t next exact h = halted_write reported s i m n e past f a b t next exact h

@@ -19,15 +19,15 @@ pub hold_all : (ds : List Changed) → flat_map (λ row. row) (rows ds) ≡ ds
 hold_all [] = refl
 hold_all (d ∷ ds) = onto_holds d (rows ds) ∙ ap (λ xs. d ∷ xs) (hold_all ds)
 
-onto_goes_on : (d : Changed) (rs : List (List Changed)) → All IsRow rs → All IsRow (onto d rs)
-onto_goes_on d [] a = All-cons IsRow (d ∷ []) [] tt (All-nil IsRow)
-onto_goes_on d ([] ∷ rs) a = All-cons IsRow (d ∷ []) rs tt (All-tail IsRow [] rs a)
-onto_goes_on d ((e ∷ es) ∷ rs) a = by (is_next d.place e.place) refl
+onto_continues : (d : Changed) (rs : List (List Changed)) → All IsRow rs → All IsRow (onto d rs)
+onto_continues d [] a = All-cons IsRow (d ∷ []) [] tt (All-nil IsRow)
+onto_continues d ([] ∷ rs) a = All-cons IsRow (d ∷ []) rs tt (All-tail IsRow [] rs a)
+onto_continues d ((e ∷ es) ∷ rs) a = by (is_next d.place e.place) refl
   where
     by : (b : Bool) → is_next d.place e.place ≡ b → All IsRow (cond b ((d ∷ e ∷ es) ∷ rs) ((d ∷ []) ∷ (e ∷ es) ∷ rs))
     by true h = All-cons IsRow (d ∷ e ∷ es) rs (h, All-head IsRow (e ∷ es) rs a) (All-tail IsRow (e ∷ es) rs a)
     by false h = All-cons IsRow (d ∷ []) ((e ∷ es) ∷ rs) tt a
 
-pub go_on : (ds : List Changed) → All IsRow (rows ds)
-go_on [] = All-nil IsRow
-go_on (d ∷ ds) = onto_goes_on d (rows ds) (go_on ds)
+pub continues : (ds : List Changed) → All IsRow (rows ds)
+continues [] = All-nil IsRow
+continues (d ∷ ds) = onto_continues d (rows ds) (continues ds)

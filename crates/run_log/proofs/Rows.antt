@@ -49,9 +49,9 @@ parted_whole d ds i count last h all =
 -- ---- text
 
 -- The line of a row, after the earlier lines.
-pub line_more : (f : List Changed → List ℕ) (start out written : List ℕ) (all rest row behind : List Changed) (n : ℕ) → rows rest ≡ take n rest ∷ rows (drop n rest) → row ≡ take n rest → behind ≡ drop n rest → written ≡ out ++ f row
-    → out ++ flat_map f (rows rest) ≡ start ++ flat_map f (rows all) → written ++ flat_map f (rows behind) ≡ start ++ flat_map f (rows all)
-line_more f start out written all rest row behind n parts e g w before =
+pub line_more : (f : List Changed → List ℕ) (start out written : List ℕ) (all rest row others : List Changed) (n : ℕ) → rows rest ≡ take n rest ∷ rows (drop n rest) → row ≡ take n rest → others ≡ drop n rest → written ≡ out ++ f row
+    → out ++ flat_map f (rows rest) ≡ start ++ flat_map f (rows all) → written ++ flat_map f (rows others) ≡ start ++ flat_map f (rows all)
+line_more f start out written all rest row others n parts e g w before =
     let line : written ≡ out ++ f (take n rest) = w ∙ ap (λ x. out ++ f x) e in
     ap (λ ds. written ++ flat_map f (rows ds)) g
     ∙ ap (λ o. o ++ flat_map f (rows (drop n rest))) line

@@ -25,10 +25,10 @@ use Rattle.run_log.specs.Lines.{event_lines}
 
 -- The lines of an event, from its undo record and the values after it. They list each place of the
 -- record once.
-pub record Shows (s : Setup) (i : ℕ) (e : Event) (behind : View) (past : List Change) (text : List ℕ) : Type 0 where
+pub record Shows (s : Setup) (i : ℕ) (e : Event) (next_view : View) (past : List Change) (text : List ℕ) : Type 0 where
   pub once : NamesOnce past
   pub listed : List Changed
-  pub listing : IsListing behind past listed
+  pub listing : IsListing next_view past listed
   pub lines : text ≡ event_lines s i e listed
 
 -- The lines of an event in a state. The record names exactly the places whose values change, with
@@ -39,25 +39,25 @@ pub record Reports (s : Setup) (i : ℕ) (m : Machine) (e : Event) (text : List 
   pub shows : Shows s i e (view (after m e)) past text
 
 -- The lines of an event, or nothing if it isn't in the range.
-abbrev pub Tells : Bool → Setup → ℕ → Machine → Event → List ℕ → Type 0
-Tells true s i m e text = Reports s i m e text
-Tells false s i m e text = text ≡ []
+abbrev pub ReportsIf : Bool → Setup → ℕ → Machine → Event → List ℕ → Type 0
+ReportsIf true s i m e text = Reports s i m e text
+ReportsIf false s i m e text = text ≡ []
 
 -- The text of an event was written.
-pub record Reported (told : Bool) (s : Setup) (i : ℕ) (m : Machine) (e : Event) (held held' : Option (List ℕ)) : Type 0 where
+pub record Reported (reported : Bool) (s : Setup) (i : ℕ) (m : Machine) (e : Event) (held held' : Option (List ℕ)) : Type 0 where
   pub text : List ℕ
-  pub tells : Tells told s i m e text
+  pub report : ReportsIf reported s i m e text
   pub appended : Appends held held' text
 
 -- Why a log ends at an event: the event is refused, a write fails, or an allocation fails.
 abbrev pub Halts : Bool → Setup → ℕ → Machine → Event → LogFault → Option (List ℕ) → Option (List ℕ)
     → Type 0
-Halts told s i m e (Schedule j n) held held' = (j ≡ i) × (refusal m e ≡ Some n) × Keeps held held'
-Halts told s i m e Write held held' =
-    (refusal m e ≡ None) × (text : List ℕ) × Tells told s i m e text × WritesFront held held' text
-Halts told s i m e Memory held held' = Keeps held held'
-Halts told s i m e (Script f) held held' = ⊥
-Halts told s i m e (Trace f) held held' = ⊥
+Halts reported s i m e (Schedule j n) held held' = (j ≡ i) × (refusal m e ≡ Some n) × Keeps held held'
+Halts reported s i m e Write held held' =
+    (refusal m e ≡ None) × (text : List ℕ) × ReportsIf reported s i m e text × WritesFront held held' text
+Halts reported s i m e Memory held held' = Keeps held held'
+Halts reported s i m e (Script f) held held' = ⊥
+Halts reported s i m e (Trace f) held held' = ⊥
 
 -- ---- a run
 
@@ -66,7 +66,7 @@ abbrev pub Logs : Setup → List Event → EventRange → ℕ → List ℕ → T
 Logs s es r zero text = text ≡ []
 Logs s es r (suc n) text =
     (before : List ℕ) × (last : List ℕ) × (e : Event) × (text ≡ before ++ last)
-    × (slice_get es n ≡ Some e) × Tells (has r n) s n (moment s es n) e last × Logs s es r n before
+    × (slice_get es n ≡ Some e) × ReportsIf (has r n) s n (moment s es n) e last × Logs s es r n before
 
 -- The first n events ran, and their log was written.
 pub record Written (s : Setup) (es : List Event) (r : EventRange) (n : ℕ) (held held' : Option (List ℕ)) : Type 0 where

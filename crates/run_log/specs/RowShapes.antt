@@ -5,11 +5,11 @@ use Rattle.run_log.specs.declared.changed.Changed.{Changed}
 use Rattle.run_log.specs.Lines.{is_next}
 
 -- Consecutive bytes, the first of which comes after place `p`.
-abbrev pub GoesOn : Place → List Changed → Type 0
-GoesOn p [] = Unit {0}
-GoesOn p (d ∷ ds) = (is_next p d.place ≡ true) × GoesOn d.place ds
+abbrev pub RowContinues : Place → List Changed → Type 0
+RowContinues p [] = Unit {0}
+RowContinues p (d ∷ ds) = (is_next p d.place ≡ true) × RowContinues d.place ds
 
 -- A single change, or consecutive bytes.
 abbrev pub IsRow : List Changed → Type 0
 IsRow [] = ⊥
-IsRow (d ∷ ds) = GoesOn d.place ds
+IsRow (d ∷ ds) = RowContinues d.place ds

@@ -2,7 +2,7 @@
 ghost use Rattle.std.specs.Prelude.{◌≡◌, map, IfOk, OnOk};
 ghost use Rattle.places.specs.View.{NamesOnce};
 ghost use Rattle.machine.specs.Whole.{view};
-ghost use Rattle.run_log.specs.Listings.{rank, told, IsListing};
+ghost use Rattle.run_log.specs.Listings.{rank, changed_to, IsListing};
 
 use machine::State;
 use places::{Change, Place, Record, Value};
@@ -28,8 +28,8 @@ fn rank(place: Place) -> u128
         + u128::from(place.second())
 }
 
-fn told(change: Change, state: &State) -> Changed
-    ensures { result ≡ told (view state.now) change }
+fn changed_to(change: Change, state: &State) -> Changed
+    ensures { result ≡ changed_to (view state.now) change }
 {
     Changed {
         place: change.place,
@@ -40,13 +40,13 @@ fn told(change: Change, state: &State) -> Changed
 
 // Returns the changes of an undo record, together with the current values.
 fn gathered(alloc: Global, past: &Record, state: &State) -> Result<Vec<Changed>, AllocError>
-    ensures listed { IfOk result (λ list. list.items ≡ map (told (view state.now)) past.now) }
+    ensures listed { IfOk result (λ list. list.items ≡ map (changed_to (view state.now)) past.now) }
     ensures once { OnOk result (NamesOnce past.now) }
 {
     let mut list = Vec::new(alloc);
     let mut rest = past.changes();
     while let Some(change) = rest.next() {
-        list.push(told(change, state))?;
+        list.push(changed_to(change, state))?;
     }
     Ok(list)
 }

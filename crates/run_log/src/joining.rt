@@ -25,7 +25,7 @@ fn is_next(first: Place, second: Place) -> bool
     ensures { result ≡ is_next first second }
 {
     match next_byte(first) {
-        Some(next) => next.is(&second),
+        Some(next) => next.equals(&second),
         None => false,
     }
 }

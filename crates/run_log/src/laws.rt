@@ -11,6 +11,6 @@ pub fn rows_hold_all()
 {}
 
 /// A line has a single change, or consecutive bytes.
-pub fn rows_go_on()
+pub fn rows_continue()
     ensures { (ds : List Changed) → All IsRow (rows ds) }
 {}

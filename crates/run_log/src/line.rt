@@ -101,9 +101,9 @@ fn put_lines(
 {
     let mut rest = changes;
     while !rest.is_empty() {
-        let (row, behind) = rest.split_at(first_row(rest));
+        let (row, after) = rest.split_at(first_row(rest));
         put_line(alloc, out, setup, row)?;
-        rest = behind;
+        rest = after;
     }
     Ok(())
 }

@@ -129,7 +129,7 @@ pub(crate) fn object_place(setup: &Setup, place: ObjectPlace, name: &[u8]) -> Op
     ensures { result ≡ object_place setup.now (Some place) name.now }
 {
     let object = object_named(setup, place.owner(), name)?;
-    Some(place.of(object))
+    Some(place.in_object(object))
 }
 
 /// Returns the byte with the index in `word`, of the object with this name. If there is no such
@@ -155,7 +155,7 @@ fn byte_of(setup: &Setup, place: BytePlace, object: u32, word: &[u8]) -> Result<
         return Err(PlaceFault::Number);
     };
     if index < bytes_of(setup, object) {
-        Ok(place.of(object, index))
+        Ok(place.in_object(object, index))
     } else {
         Err(PlaceFault::Place)
     }
@@ -175,7 +175,7 @@ impl ObjectPlace {
         }
     }
 
-    fn of(self, object: u32) -> Place
+    fn in_object(self, object: u32) -> Place
         ensures { result ≡ place_of_object self object }
     {
         match self {
@@ -201,7 +201,7 @@ impl BytePlace {
         }
     }
 
-    fn of(self, object: u32, index: u32) -> Place
+    fn in_object(self, object: u32, index: u32) -> Place
         ensures { result ≡ place_of_byte self object index }
     {
         match self {

@@ -6,7 +6,7 @@ use places::{Contents, Descriptor, Items, Object};
 
 impl Setup {
     /// Returns whether two setups are equal. Allocates nothing.
-    pub fn is(&self, other: &Setup) -> bool
+    pub fn equals(&self, other: &Setup) -> bool
         ensures { IsTrue result ↔ (self.now ≡ other.now) }
     {
         if !self.has_numbers_of(other) || self.memory.as_slice() != other.memory.as_slice() {
@@ -40,12 +40,12 @@ impl Setup {
 
 impl Instruction {
     /// Returns whether two instructions are equal.
-    pub fn is(&self, other: &Instruction) -> bool
+    pub fn equals(&self, other: &Instruction) -> bool
         ensures { IsTrue result ↔ (self.now ≡ other.now) }
     {
         match (self, other) {
             (Instruction::Put(slot, entry), Instruction::Put(place, data)) => {
-                slot == place && entry.is(data)
+                slot == place && entry.equals(data)
             }
             (Instruction::Push(index), Instruction::Push(number)) => index == number,
             (Instruction::Store(address, bytes), Instruction::Store(place, data)) => {
@@ -91,7 +91,7 @@ fn are_same_programs(xs: &[Instruction], ys: &[Instruction]) -> bool
         return false;
     }
     for i in 0..xs.len() {
-        if !xs[i].is(&ys[i]) {
+        if !xs[i].equals(&ys[i]) {
             return false;
         }
     }

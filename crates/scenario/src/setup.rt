@@ -121,7 +121,7 @@ fn copy_threads(
     for program in threads {
         copies.push(copy_program(alloc, program.as_slice())?)?;
     }
-    Ok(Items::of(copies))
+    Ok(Items::from_vec(copies))
 }
 
 fn copy_program(alloc: Global, program: &[Instruction]) -> Result<Items<Instruction>, AllocError>
@@ -131,7 +131,7 @@ fn copy_program(alloc: Global, program: &[Instruction]) -> Result<Items<Instruct
     for instruction in program {
         copies.push(instruction.copy(alloc)?)?;
     }
-    Ok(Items::of(copies))
+    Ok(Items::from_vec(copies))
 }
 
 fn copy_objects(alloc: Global, objects: &[Object]) -> Result<Items<Object>, AllocError>
@@ -141,7 +141,7 @@ fn copy_objects(alloc: Global, objects: &[Object]) -> Result<Items<Object>, Allo
     for object in objects {
         copies.push(copy_object(alloc, object)?)?;
     }
-    Ok(Items::of(copies))
+    Ok(Items::from_vec(copies))
 }
 
 fn copy_object(alloc: Global, object: &Object) -> Result<Object, AllocError>

@@ -4,10 +4,10 @@ use Rattle.std.specs.Prelude.{MatchResult}
 use Rattle.std.specs.Result.{result_ok}
 
 -- A call that returned Ok wrote the decoded bytes.
-pub decoded : {A E : Type 0} → (r : Result A E) (told : Result (Unit {0}) E) (new : A) → MatchResult r (λ x. (told ≡ Ok tt) × (new ≡ x)) (λ e. told ≡ Err e) → told ≡ Ok tt → result_ok r ≡ Some new
-decoded (Ok x) told new h k = ap Some (sym h.1)
-decoded (Err e) told new h k = absurd (cc)
+pub decoded : {A E : Type 0} → (r : Result A E) (answer : Result (Unit {0}) E) (new : A) → MatchResult r (λ x. (answer ≡ Ok tt) × (new ≡ x)) (λ e. answer ≡ Err e) → answer ≡ Ok tt → result_ok r ≡ Some new
+decoded (Ok x) answer new h k = ap Some (sym h.1)
+decoded (Err e) answer new h k = absurd (cc)
 
-pub not_decoded : {A E : Type 0} → (r : Result A E) (told : Result (Unit {0}) E) (new : A) (e : E) → MatchResult r (λ x. (told ≡ Ok tt) × (new ≡ x)) (λ d. told ≡ Err d) → told ≡ Err e → result_ok r ≡ None
-not_decoded (Ok x) told new e h k = let j = h.0 in absurd (cc)
-not_decoded (Err d) told new e h k = refl
+pub not_decoded : {A E : Type 0} → (r : Result A E) (answer : Result (Unit {0}) E) (new : A) (e : E) → MatchResult r (λ x. (answer ≡ Ok tt) × (new ≡ x)) (λ d. answer ≡ Err d) → answer ≡ Err e → result_ok r ≡ None
+not_decoded (Ok x) answer new e h k = let j = h.0 in absurd (cc)
+not_decoded (Err d) answer new e h k = refl

@@ -154,7 +154,7 @@ pub script_is_json : (d : Data) → script_of d ≢ Err NotJson
 script_is_json d = clean_is (script_of d) (script_clean d)
 
 -- The result for a value that was read isn't NotJson.
-pub answered : (text : List ℕ) (told : Result Scenario ScriptFault) (d : Data) → Gives (λ s. s) told (script_of d) → told ≡ Err NotJson → IsNoJson text
+pub answered : (text : List ℕ) (answer : Result Scenario ScriptFault) (d : Data) → Gives (λ s. s) answer (script_of d) → answer ≡ Err NotJson → IsNoJson text
 answered text (Ok s) d g e = absurd (cc)
 answered text (Err NotJson) d g e = absurd (script_is_json d g)
 answered text (Err (Shape p)) d g e = absurd (cc)

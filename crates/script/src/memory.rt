@@ -30,7 +30,7 @@ pub fn read_bytes(alloc: Global, path: Path, value: &Value) -> Result<Items<u8>,
         return Err(ScriptFault::Shape(path));
     };
     match hex::decode(alloc, text) {
-        Ok(bytes) => Ok(Items::of(bytes)),
+        Ok(bytes) => Ok(Items::from_vec(bytes)),
         Err(FromHexError::OutOfMemory) => Err(ScriptFault::Memory),
         Err(_) => Err(ScriptFault::Shape(path)),
     }
@@ -132,5 +132,5 @@ pub fn read_pieces(alloc: Global, items: &[Value]) -> Result<Items<u8>, ScriptFa
     for (i, item) in items.iter().enumerate() {
         write_piece(alloc, &mut memory, i, item)?;
     }
-    Ok(Items::of(memory))
+    Ok(Items::from_vec(memory))
 }

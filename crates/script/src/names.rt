@@ -90,6 +90,6 @@ impl<'a> NamedObjects<'a> {
         ensures { result ≡ self.entry }
     {
         let NamedObjects { objects, names: _ } = self;
-        Items::of(objects)
+        Items::from_vec(objects)
     }
 }

@@ -151,7 +151,7 @@ pub fn with_object<'a>(
         return Err(ScriptFault::Memory);
     };
     let object = Object {
-        name: Items::of(name),
+        name: Items::from_vec(name),
         contents,
     };
     before.with(found.name, object)

@@ -33,7 +33,7 @@ impl Model for Script {
 }
 
 impl Script {
-    pub(crate) fn of(setup: Setup, schedule: Items<Event>) -> Script
+    pub(crate) fn new(setup: Setup, schedule: Items<Event>) -> Script
         requires { Startable (record { setup = setup; schedule = schedule }) }
         ensures { result ≡ record { setup = setup; schedule = schedule } }
     {

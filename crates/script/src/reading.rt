@@ -88,7 +88,7 @@ fn read_threads(
         return Err(ScriptFault::Limit(path));
     }
     let threads = read_thread_list(alloc, size, items)?;
-    Ok(Items::of(threads))
+    Ok(Items::from_vec(threads))
 }
 
 fn read_schedule(alloc: Global, found: Option<&Value>) -> Result<Items<Event>, ScriptFault>
@@ -103,7 +103,7 @@ fn read_schedule(alloc: Global, found: Option<&Value>) -> Result<Items<Event>, S
         return Err(ScriptFault::Limit(path));
     }
     let events = read_events(alloc, items)?;
-    Ok(Items::of(events))
+    Ok(Items::from_vec(events))
 }
 
 fn read_memory(alloc: Global, found: Option<&Value>) -> Result<Items<u8>, ScriptFault>
@@ -139,7 +139,7 @@ fn read_fds(
         return Err(ScriptFault::Limit(key_path(Key::Fds)));
     }
     let descriptors = read_descriptors(alloc, objects, items)?;
-    Ok(Items::of(descriptors))
+    Ok(Items::from_vec(descriptors))
 }
 
 // Reads a script from a JSON value.
@@ -168,7 +168,7 @@ fn script_from(alloc: Global, value: &Value) -> Result<Script, ScriptFault>
         fds,
         threads,
     };
-    Ok(Script::of(setup, schedule))
+    Ok(Script::new(setup, schedule))
 }
 
 /// Reads a script from a text of at most 8,388,608 bytes, or returns its first fault.

@@ -47,7 +47,7 @@ fn read_thread(
         return Err(ScriptFault::Limit(path));
     }
     let instructions = read_instructions(alloc, size, index, items)?;
-    Ok(Items::of(instructions))
+    Ok(Items::from_vec(instructions))
 }
 
 /// Reads the programs of a list, up to the first fault.

@@ -1,2 +1,2 @@
 pub mod Ran
-pub mod Telling
+pub mod VerdictLemmas

@@ -40,6 +40,6 @@ IsOfOutput f = ⊥
 
 -- Why there is no verdict: a fault of the script is answered where the text is longer than a script
 -- may be, and nowhere else; a fault of the output is answered of a text that isn't.
-abbrev pub IsUntold : List ℕ → LogFault → Type 0
-IsUntold text (Script f) = (limit < length text) × (f ≡ Limit (at_key Document))
-IsUntold text f = (length text ≤ limit) × IsOfOutput f
+abbrev pub IsUnreported : List ℕ → LogFault → Type 0
+IsUnreported text (Script f) = (limit < length text) × (f ≡ Limit (at_key Document))
+IsUnreported text f = (length text ≤ limit) × IsOfOutput f

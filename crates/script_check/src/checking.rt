@@ -1,7 +1,7 @@
 //! Checking a script.
 ghost use Rattle.std.specs.Prelude.{◌≡◌, ◌≤◌, None, length, IfOk, IfErr};
 ghost use Rattle.scenario.specs.Setups.{setup_refusal};
-ghost use Rattle.script_check.specs.Verdicts.{Ends, IsVerdict, IsOfOutput, IsUntold};
+ghost use Rattle.script_check.specs.Verdicts.{Ends, IsVerdict, IsOfOutput, IsUnreported};
 
 use crate::refusals::sentence;
 use crate::report::{Source, event_text, faults_text};
@@ -18,10 +18,10 @@ use whole_files::write_out;
 const MOST_BYTES: usize = 8388608;
 
 // Writes the report.
-fn tell<W: Write>(told: Result<String, AllocError>, writer: &mut W) -> Result<(), LogFault>
+fn write_text<W: Write>(message: Result<String, AllocError>, writer: &mut W) -> Result<(), LogFault>
     ensures { IfErr result IsOfOutput }
 {
-    let Ok(text) = told else {
+    let Ok(text) = message else {
         return Err(LogFault::Memory);
     };
     match write_out(writer, text.as_str().as_bytes()) {
@@ -42,8 +42,8 @@ fn refusal_text(
     let Some(event) = events.get(stop.index as usize) else {
         return Ok(String::new(alloc));
     };
-    let told = sentence(alloc, state, setup, *event, stop.refusal)?;
-    event_text(alloc, source, stop.index, told.as_str())
+    let message = sentence(alloc, state, setup, *event, stop.refusal)?;
+    event_text(alloc, source, stop.index, message.as_str())
 }
 
 // Runs some events from a setup, and returns how that ends.
@@ -64,14 +64,14 @@ fn check_events<W: Write>(
     };
     match run_all(&mut state, setup, events) {
         Ok(()) => {
-            tell(String::from_str(alloc, "ok\n"), writer)?;
+            write_text(String::from_str(alloc, "ok\n"), writer)?;
             Ok(Verdict::Fine)
         }
         Err(stop) => {
             if let Refusal::Memory = stop.refusal {
                 return Err(LogFault::Memory);
             }
-            tell(
+            write_text(
                 refusal_text(alloc, source, &state, setup, events, stop),
                 writer,
             )?;
@@ -97,7 +97,7 @@ fn check_plan<W: Write>(
 /// after it, or of one that is read the first event of its schedule that is refused; or `ok`. The
 /// lines begin with the name. A text that is longer than a script may be gets no verdict: nothing
 /// of it is read, and nothing is written.
-#[tactic(auto, using(crate::proofs::Telling::told_of_plan, crate::proofs::Telling::untold))]
+#[tactic(auto, using(crate::proofs::VerdictLemmas::verdict_of_plan, crate::proofs::VerdictLemmas::unreported))]
 pub fn check_script<W: Write>(
     alloc: Global,
     name: &str,
@@ -105,7 +105,7 @@ pub fn check_script<W: Write>(
     writer: &mut W,
 ) -> Result<Verdict, LogFault>
     ensures ok { IfOk result (IsVerdict text.now) }
-    ensures err { IfErr result (IsUntold text.now) }
+    ensures err { IfErr result (IsUnreported text.now) }
 {
     if text.len() > MOST_BYTES {
         return Err(LogFault::Script(ScriptFault::Limit(key_path(Key::Document))));
@@ -115,7 +115,7 @@ pub fn check_script<W: Write>(
         Ok(script) => check_plan(alloc, source, &script, writer),
         Err(ScriptFault::Memory) => Err(LogFault::Memory),
         Err(fault) => {
-            tell(faults_text(alloc, source, fault), writer)?;
+            write_text(faults_text(alloc, source, fault), writer)?;
             Ok(Verdict::Faulty(fault))
         }
     }

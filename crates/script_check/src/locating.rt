@@ -132,18 +132,18 @@ impl Member {
 pub(crate) fn members_of(alloc: Global, text: &[u8]) -> Result<Vec<Member>, AllocError> {
     let mut members: Vec<Member> = Vec::new(alloc);
     let mut walk = Walk::new();
-    let mut behind_key = false;
+    let mut is_value_next = false;
     for at in document_at(text).saturating_add(1)..text.len() {
         match walk.read(text[at]) {
             Begins::Nothing => {}
             Begins::Part => {
-                if behind_key {
+                if is_value_next {
                     set_value(&mut members, at);
                 } else {
                     let key = key_at(alloc, text, at)?;
                     members.push(Member { key, at, value: at })?;
                 }
-                behind_key = !behind_key;
+                is_value_next = !is_value_next;
             }
             Begins::End => return Ok(members),
         }

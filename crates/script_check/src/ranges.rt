@@ -46,17 +46,17 @@ fn entries_of(document: &Value) -> Option<u32> {
 }
 
 fn completion_ring(alloc: Global, document: &Value, cq: &Value) -> Result<String, AllocError> {
-    let stands = shown(alloc, cq)?;
+    let value_text = shown(alloc, cq)?;
     match (number_within(Some(cq), 1, 8192), entries_of(document)) {
         (Some(_), Some(entries)) => {
             let size = ring_size(entries);
             format!(in alloc;
-                "{stands}, but the completion ring can't be smaller than the submission ring, whose size is {size} (entries {entries})"
+                "{value_text}, but the completion ring can't be smaller than the submission ring, whose size is {size} (entries {entries})"
             )
         }
         _ => {
             let form = form_of_key(Key::Cq);
-            format!(in alloc; "{stands}, but {form}")
+            format!(in alloc; "{value_text}, but {form}")
         }
     }
 }
@@ -66,11 +66,13 @@ fn name(alloc: Global, object: &Value) -> Result<String, AllocError> {
     let Some(name) = object.get("name") else {
         return String::from_str(alloc, "it has no name");
     };
-    let stands = shown(alloc, name)?;
+    let value_text = shown(alloc, name)?;
     if is_name(name.as_str().unwrap_or("").as_bytes()) {
-        format!(in alloc; "name {stands}, but an earlier object has that name")
+        format!(in alloc; "name {value_text}, but an earlier object has that name")
     } else {
-        format!(in alloc; "name {stands}, but a name is 1 to 16 characters of a to z, 0 to 9 and _")
+        format!(in alloc;
+            "name {value_text}, but a name is 1 to 16 characters of a to z, 0 to 9 and _"
+        )
     }
 }
 
@@ -78,15 +80,15 @@ fn name(alloc: Global, object: &Value) -> Result<String, AllocError> {
 fn object(alloc: Global, object: &Value) -> Result<String, AllocError> {
     if let Some(capacity) = object.get("pipe") {
         if number_within(Some(capacity), 1, 65536).is_none() {
-            let stands = shown(alloc, capacity)?;
-            return format!(in alloc; "pipe {stands}, but a pipe's capacity is 1 to 65536");
+            let value_text = shown(alloc, capacity)?;
+            return format!(in alloc; "pipe {value_text}, but a pipe's capacity is 1 to 65536");
         }
     }
     if let Some(number) = object.get("eventfd") {
         if number_within(Some(number), 0, LARGEST_COUNTER).is_none() {
-            let stands = shown(alloc, number)?;
+            let value_text = shown(alloc, number)?;
             return format!(in alloc;
-                "eventfd {stands}, but an eventfd's counter is 0 to {LARGEST_COUNTER}"
+                "eventfd {value_text}, but an eventfd's counter is 0 to {LARGEST_COUNTER}"
             );
         }
     }
@@ -98,15 +100,15 @@ fn entry(alloc: Global, entry: &Value) -> Result<String, AllocError> {
     for (key, most) in ENTRY_KEYS {
         if let Some(number) = entry.get(key) {
             if number_within(Some(number), 0, most).is_none() {
-                let stands = shown(alloc, number)?;
-                return format!(in alloc; "{key} {stands}, but an entry's {key} is 0 to {most}");
+                let value_text = shown(alloc, number)?;
+                return format!(in alloc; "{key} {value_text}, but an entry's {key} is 0 to {most}");
             }
         }
     }
     match entry.get("fd") {
         Some(fd) => {
-            let stands = shown(alloc, fd)?;
-            format!(in alloc; "fd {stands}, but an entry's fd is {DESCRIPTORS}")
+            let value_text = shown(alloc, fd)?;
+            format!(in alloc; "fd {value_text}, but an entry's fd is {DESCRIPTORS}")
         }
         None => String::from_str(alloc, "a number of the entry is out of its range"),
     }
@@ -124,13 +126,13 @@ fn put(
     if slot.as_u64().unwrap_or(u64::MAX) < u64::from(size) {
         return entry(alloc, written);
     }
-    let stands = shown(alloc, slot)?;
+    let value_text = shown(alloc, slot)?;
     let slots = Counted::slots(u64::from(size));
     match entries {
         Some(entries) => format!(in alloc;
-            "slot {stands}, but the ring has {slots} (entries {entries})"
+            "slot {value_text}, but the ring has {slots} (entries {entries})"
         ),
-        None => format!(in alloc; "slot {stands}, but a ring has at most {slots}"),
+        None => format!(in alloc; "slot {value_text}, but a ring has at most {slots}"),
     }
 }
 
@@ -153,27 +155,27 @@ fn words(alloc: Global, document: &Value, value: &Value) -> Result<String, Alloc
             return put(alloc, document, slot, written);
         }
     }
-    let stands = shown(alloc, value)?;
-    let wanted = range_of_word(word);
-    format!(in alloc; "{stands}, but {wanted}")
+    let value_text = shown(alloc, value)?;
+    let needed = range_of_word(word);
+    format!(in alloc; "{value_text}, but {needed}")
 }
 
 // Returns the sentence of a key with a number.
 fn number(alloc: Global, key: Key, value: &Value) -> Result<String, AllocError> {
-    let stands = shown(alloc, value)?;
+    let value_text = shown(alloc, value)?;
     let form = form_of_key(key);
-    format!(in alloc; "{stands}, but {form}")
+    format!(in alloc; "{value_text}, but {form}")
 }
 
 fn piece(alloc: Global, value: &Value) -> Result<String, AllocError> {
-    let stands = shown(alloc, value)?;
-    format!(in alloc; "{stands}, but its bytes must be within addresses 0 to 65535")
+    let value_text = shown(alloc, value)?;
+    format!(in alloc; "{value_text}, but its bytes must be within addresses 0 to 65535")
 }
 
 fn descriptor(alloc: Global, value: &Value) -> Result<String, AllocError> {
-    let stands = shown(alloc, value)?;
+    let value_text = shown(alloc, value)?;
     format!(in alloc;
-        "{stands}, but there is no such object or end: write the name of a file or an eventfd, and p:r or p:w for an end of a pipe p"
+        "{value_text}, but there is no such object or end: write the name of a file or an eventfd, and p:r or p:w for an end of a pipe p"
     )
 }
 

@@ -15,7 +15,7 @@ const MOST_ROWS: u32 = 65536;
 /// The bits of a ring's word.
 const WORD: u64 = 0xffff_ffff;
 
-type Told = Result<String, AllocError>;
+type Wording = Result<String, AllocError>;
 
 // Returns a row, if it exists.
 fn row_at(state: &State, number: u32) -> Option<Row> {
@@ -61,14 +61,14 @@ fn remedy_for_completions(state: &State) -> &'static str {
     }
 }
 
-fn no_such_thread(alloc: Global, setup: &Setup) -> Told {
+fn no_such_thread(alloc: Global, setup: &Setup) -> Wording {
     let count = setup.threads.len();
     format!(in alloc;
         "there is no such thread: threads are numbered from 0, and the script has {count}"
     )
 }
 
-fn full_ring(alloc: Global, setup: &Setup) -> Told {
+fn full_ring(alloc: Global, setup: &Setup) -> Wording {
     let entries = Counted::entries(u64::from(ring_size(setup.entries)));
     let taker = if setup.sqpoll {
         "a take of the poller"
@@ -78,26 +78,26 @@ fn full_ring(alloc: Global, setup: &Setup) -> Told {
     format!(in alloc; "the submission ring is full, with {entries}: {taker} must come first")
 }
 
-fn still_waiting(alloc: Global, state: &State, thread: u32) -> Told {
-    let wanted = match state.value(Place::ThreadStage(thread)) {
-        Some(Value::Staged(Stage::Waiting(_, wanted))) => wanted,
+fn still_waiting(alloc: Global, state: &State, thread: u32) -> Wording {
+    let needed = match state.value(Place::ThreadStage(thread)) {
+        Some(Value::Staged(Stage::Waiting(_, needed))) => needed,
         _ => 0,
     };
-    let wanted = Counted::completions(u64::from(wanted));
+    let needed = Counted::completions(u64::from(needed));
     let ready = completions_waiting(state);
     let remedy = remedy_for_completions(state);
     format!(in alloc;
-        "the thread waits in its enter for {wanted}, and the ring has {ready}: {remedy}"
+        "the thread waits in its enter for {needed}, and the ring has {ready}: {remedy}"
     )
 }
 
-fn empty_ring(alloc: Global, state: &State) -> Told {
+fn empty_ring(alloc: Global, state: &State) -> Wording {
     let remedy = remedy_for_completions(state);
     format!(in alloc; "the thread would reap, and the completion ring is empty: {remedy}")
 }
 
 // Returns why a step is refused.
-fn step(alloc: Global, state: &State, setup: &Setup, thread: u32, refusal: Refusal) -> Told {
+fn step(alloc: Global, state: &State, setup: &Setup, thread: u32, refusal: Refusal) -> Wording {
     match refusal {
         Refusal::NoSuchThread => no_such_thread(alloc, setup),
         Refusal::ThreadDone => {
@@ -110,11 +110,11 @@ fn step(alloc: Global, state: &State, setup: &Setup, thread: u32, refusal: Refus
     }
 }
 
-fn too_many(alloc: Global) -> Told {
+fn too_many(alloc: Global) -> Wording {
     format!(in alloc; "a run has at most {MOST_ROWS} rows, and it would have more")
 }
 
-fn no_such_row(alloc: Global, state: &State) -> Told {
+fn no_such_row(alloc: Global, state: &State) -> Wording {
     let rows = Counted::rows(u64::from(row_count(state)));
     format!(in alloc;
         "there is no such row: rows are numbered from 0 as entries are submitted, and so far there are {rows}"
@@ -122,7 +122,7 @@ fn no_such_row(alloc: Global, state: &State) -> Told {
 }
 
 // Returns why an event doesn't fit a row's phase, or its opcode.
-fn wrong_phase(alloc: Global, name: RowName, row: &Row, event: Event) -> Told {
+fn wrong_phase(alloc: Global, name: RowName, row: &Row, event: Event) -> Wording {
     match (event, row.phase) {
         (Event::Finish(_, _), _) if is_timer(row.entry.opcode) => {
             format!(in alloc; "row {name} completes by expire")
@@ -140,7 +140,7 @@ fn wrong_phase(alloc: Global, name: RowName, row: &Row, event: Event) -> Told {
 }
 
 // Returns that a row has completed, with its result; of an opcode that isn't modelled, also that.
-fn completed(alloc: Global, name: RowName, row: &Row, res: i32) -> Told {
+fn completed(alloc: Global, name: RowName, row: &Row, res: i32) -> Wording {
     let result = ResultName(res);
     let opcode = row.entry.opcode;
     if res == -EINVAL && !is_modelled(opcode) {
@@ -150,8 +150,8 @@ fn completed(alloc: Global, name: RowName, row: &Row, res: i32) -> Told {
     format!(in alloc; "row {name} has completed with {result}")
 }
 
-fn not_eligible(alloc: Global, state: &State, setup: &Setup, number: u32, row: &Row) -> Told {
-    let name = RowName::of(number, row);
+fn not_eligible(alloc: Global, state: &State, setup: &Setup, number: u32, row: &Row) -> Wording {
+    let name = RowName::new(number, row);
     let reason = why_unfinished(alloc, setup, state, number)?;
     let remedy = if is_guard(row) {
         "Issue that row."
@@ -161,13 +161,13 @@ fn not_eligible(alloc: Global, state: &State, setup: &Setup, number: u32, row: &
     format!(in alloc; "row {name} can't be issued. {reason} {remedy}")
 }
 
-fn not_ready(alloc: Global, state: &State, setup: &Setup, number: u32, row: &Row) -> Told {
-    let name = RowName::of(number, row);
+fn not_ready(alloc: Global, state: &State, setup: &Setup, number: u32, row: &Row) -> Wording {
+    let name = RowName::new(number, row);
     let reason = why_unfinished(alloc, setup, state, number)?;
     format!(in alloc; "row {name} can't complete. {reason} That must come first.")
 }
 
-fn not_due(alloc: Global, state: &State, name: RowName, row: &Row) -> Told {
+fn not_due(alloc: Global, state: &State, name: RowName, row: &Row) -> Wording {
     let clock = number_at(state, Place::Clock);
     match row.deadline {
         Some(deadline) if deadline > u128::from(u64::MAX) => format!(in alloc;
@@ -183,7 +183,7 @@ fn not_due(alloc: Global, state: &State, name: RowName, row: &Row) -> Told {
     }
 }
 
-fn bad_choice(alloc: Global, name: RowName, choice: Choice) -> Told {
+fn bad_choice(alloc: Global, name: RowName, choice: Choice) -> Wording {
     match choice {
         Choice::Full => format!(in alloc; "row {name} can't complete"),
         Choice::Short(bytes) => {
@@ -206,11 +206,11 @@ fn of_row(
     number: u32,
     event: Event,
     refusal: Refusal,
-) -> Told {
+) -> Wording {
     let Some(row) = row_at(state, number) else {
         return no_such_row(alloc, state);
     };
-    let name = RowName::of(number, &row);
+    let name = RowName::new(number, &row);
     match (refusal, event) {
         (Refusal::NotEligible, _) => not_eligible(alloc, state, setup, number, &row),
         (Refusal::NotReady, _) => not_ready(alloc, state, setup, number, &row),
@@ -221,7 +221,7 @@ fn of_row(
 }
 
 // Returns why a take or a sleep is refused.
-fn of_poller(alloc: Global, state: &State, refusal: Refusal) -> Told {
+fn of_poller(alloc: Global, state: &State, refusal: Refusal) -> Wording {
     match refusal {
         Refusal::NoPoller => {
             String::from_str(alloc, "there is no poller: set \"sqpoll\": true for one")
@@ -239,13 +239,13 @@ fn of_poller(alloc: Global, state: &State, refusal: Refusal) -> Told {
     }
 }
 
-fn late_tick(alloc: Global, state: &State) -> Told {
+fn late_tick(alloc: Global, state: &State) -> Wording {
     let clock = number_at(state, Place::Clock);
     let end = u64::MAX;
     format!(in alloc; "the clock is at {clock}, and can't pass {end}")
 }
 
-fn reason(alloc: Global, state: &State, setup: &Setup, event: Event, refusal: Refusal) -> Told {
+fn reason(alloc: Global, state: &State, setup: &Setup, event: Event, refusal: Refusal) -> Wording {
     match event {
         Event::Step(thread) => step(alloc, state, setup, thread, refusal),
         Event::Take(_) | Event::Sleep => of_poller(alloc, state, refusal),

@@ -60,8 +60,8 @@ impl Lines {
         let line = position.line;
         let column = position.column;
         let path = path_text(self.alloc, path)?;
-        let told = format!(in self.alloc; "{name}:{line}:{column}: {path}: {sentence}\n")?;
-        self.out.push_str(told.as_str())
+        let message = format!(in self.alloc; "{name}:{line}:{column}: {path}: {sentence}\n")?;
+        self.out.push_str(message.as_str())
     }
 
     // Adds a line for each key of the document that a script may not have.
@@ -72,8 +72,8 @@ impl Lines {
     ) -> Result<(), AllocError> {
         for member in members {
             if is_unknown(&member.key) {
-                let told = unknown_key(self.alloc, &member.key)?;
-                self.add(source, member.at, key_path(Key::Document), told.as_str())?;
+                let message = unknown_key(self.alloc, &member.key)?;
+                self.add(source, member.at, key_path(Key::Document), message.as_str())?;
             }
         }
         Ok(())
@@ -90,9 +90,9 @@ impl Lines {
         if document.is_object() && matches!(path.key, Key::Document) {
             return self.add_unknown_keys(source, members);
         }
-        let told = sentence(self.alloc, document, fault)?;
+        let message = sentence(self.alloc, document, fault)?;
         let offset = offset_of(source.text, members, path);
-        self.add(source, offset, path, told.as_str())
+        self.add(source, offset, path, message.as_str())
     }
 }
 

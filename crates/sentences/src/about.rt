@@ -16,7 +16,7 @@ pub(crate) struct About {
 
 impl About {
     pub fn name(&self) -> RowName {
-        RowName::of(self.number, &self.row)
+        RowName::new(self.number, &self.row)
     }
 
     /// The result with which the row ended; every row of a finding has one.

@@ -4,7 +4,7 @@ use crate::about::About;
 use crate::counted::Counted;
 use crate::rules::{LINK_TIMEOUT_RULE, TIMEOUT_RULE};
 use crate::run::Run;
-use crate::uses::Standing;
+use crate::uses::UserPhase;
 use crate::{cancels, chains, conflicts, durable, errors, left, matches, rings, uses};
 use finding_kinds::{Finding, Kind};
 use std::alloc::{AllocError, Global};
@@ -63,12 +63,12 @@ fn row_sentence(
         Kind::Several => matches::several(alloc, run, about),
         Kind::LeftRunning => matches::left_running(alloc, run, about),
         Kind::SameUserData => matches::same_user_data(alloc, run, about),
-        _ => beside_sentence(alloc, run, kind, about),
+        _ => conflict_sentence(alloc, run, kind, about),
     }
 }
 
 // Of a finding about a row that hadn't ended.
-fn beside_sentence(
+fn conflict_sentence(
     alloc: Global,
     run: &Run<'_>,
     kind: Kind,
@@ -114,12 +114,12 @@ pub fn sentence(alloc: Global, run: &Run<'_>, index: usize) -> Result<String, Al
         Kind::NoSuchSlot => rings::no_such_slot(alloc, run, finding.subject, finding.moment),
         Kind::SlotInUse => uses::slot_in_use(alloc, run, finding.subject, finding.moment),
         Kind::ClosedEarly => {
-            let stood = Standing::Queued;
-            uses::closed(alloc, run, finding.subject, finding.moment, stood)
+            let user_phase = UserPhase::Queued;
+            uses::closed(alloc, run, finding.subject, finding.moment, user_phase)
         }
         Kind::ClosedWhileHeld => {
-            let stood = Standing::Issued;
-            uses::closed(alloc, run, finding.subject, finding.moment, stood)
+            let user_phase = UserPhase::Issued;
+            uses::closed(alloc, run, finding.subject, finding.moment, user_phase)
         }
         Kind::RefusedFlags => rings::refused_flags(alloc, run, finding.subject, finding.moment),
         Kind::Waits => rings::waits(alloc, run, finding.subject, finding.moment),

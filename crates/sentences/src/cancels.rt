@@ -59,11 +59,11 @@ fn names_descriptor(entry: &Sqe, row: &Row) -> bool {
 
 // Whether a row that had come by a moment has the user_data that an entry looks for.
 fn is_candidate(run: &Run<'_>, about: &About, number: u32, row: &Row) -> bool {
-    let came = match run.times_of(number) {
-        Some(times) => times.came < about.moment,
+    let was_queued = match run.times_of(number) {
+        Some(times) => times.was_queued < about.moment,
         None => false,
     };
-    came && number != about.number && row.entry.user_data == about.row.entry.addr
+    was_queued && number != about.number && row.entry.user_data == about.row.entry.addr
 }
 
 fn is_queued(run: &Run<'_>, number: u32, moment: u32) -> bool {
@@ -110,7 +110,7 @@ fn reason_of(
     number: u32,
     row: &Row,
 ) -> Result<String, AllocError> {
-    let name = RowName::of(number, row);
+    let name = RowName::new(number, row);
     if !fits_opcode(&about.row.entry, row) {
         let finds = what_it_finds(&about.row.entry);
         return format!(in alloc; "row {name} does not match, as {finds}");
@@ -187,14 +187,14 @@ fn what_counts(res: i32) -> &'static str {
 pub(crate) fn not_found(alloc: Global, run: &Run<'_>, about: &About) -> Result<String, AllocError> {
     let name = about.name();
     let rule = rule_of(&about.row.entry);
-    let told = ResultName(about.result(run));
+    let result_name = ResultName(about.result(run));
     let count = what_counts(about.result(run));
     let reason = if is_by_descriptor(&about.row.entry) {
         reason_by_descriptor(alloc, run, about)?
     } else {
         reason_by_user_data(alloc, run, about)?
     };
-    format!(in alloc; "Row {name} completed with {told}{count}: {reason} {rule}.")
+    format!(in alloc; "Row {name} completed with {result_name}{count}: {reason} {rule}.")
 }
 
 /// The first row from a number on that a cancel found as it ended, by its user_data or descriptor.
@@ -230,8 +230,8 @@ fn became(alloc: Global, run: &Run<'_>, number: u32) -> Result<String, AllocErro
     };
     match (ended, run.result(number)) {
         (Some(moment), Some(res)) => {
-            let told = ResultName(res);
-            format!(in alloc; "it completed at event {moment} with {told}")
+            let result_name = ResultName(res);
+            format!(in alloc; "it completed at event {moment} with {result_name}")
         }
         _ => String::from_str(alloc, "it has not completed"),
     }

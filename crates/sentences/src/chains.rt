@@ -40,15 +40,15 @@ fn cut_rows(alloc: Global, run: &Run<'_>, about: &About) -> Result<String, Alloc
 /// A soft link that broke, and the rows that ended with it.
 pub(crate) fn severed(alloc: Global, run: &Run<'_>, about: &About) -> Result<String, AllocError> {
     let name = about.name();
-    let told = ResultName(about.result(run));
+    let result_name = ResultName(about.result(run));
     let rows = cut_rows(alloc, run, about)?;
     if rows.is_empty() {
         return format!(in alloc;
-            "Row {name} completed with {told}, which broke its soft link; no later row of its chain was left to cancel {LINK_RULE}."
+            "Row {name} completed with {result_name}, which broke its soft link; no later row of its chain was left to cancel {LINK_RULE}."
         );
     }
     format!(in alloc;
-        "Row {name} completed with {told}, which broke its soft link. It canceled {rows}, with -125 (ECANCELED) {LINK_RULE}."
+        "Row {name} completed with {result_name}, which broke its soft link. It canceled {rows}, with -125 (ECANCELED) {LINK_RULE}."
     )
 }
 
@@ -79,7 +79,7 @@ fn cause_in_event(run: &Run<'_>, about: &About) -> Cause {
 
 // The row that failed as its chain was submitted.
 fn failing(run: &Run<'_>, about: &About) -> Option<u32> {
-    if run.times_of(about.number)?.came != about.moment {
+    if run.times_of(about.number)?.queued != about.moment {
         return None;
     }
     run.failing(about.index, about.number, about.moment)
@@ -111,7 +111,7 @@ fn row_of(cause: Cause) -> Option<u32> {
 }
 
 // What it did.
-fn deed_of(cause: Cause) -> &'static str {
+fn cause_text(cause: Cause) -> &'static str {
     match cause {
         Cause::Chain(_) => " broke its chain",
         Cause::Target(_) => ", its target, completed first",
@@ -141,7 +141,7 @@ fn rule_of_cause(run: &Run<'_>, cause: Cause, number: u32) -> &'static str {
 pub(crate) fn canceled(alloc: Global, run: &Run<'_>, about: &About) -> Result<String, AllocError> {
     let name = about.name();
     let cause = cause_of(run, about);
-    let deed = deed_of(cause);
+    let what_it_did = cause_text(cause);
     let rule = rule_of_cause(run, cause, about.number);
     let by = match row_of(cause) {
         Some(number) => run.name(number),
@@ -149,20 +149,22 @@ pub(crate) fn canceled(alloc: Global, run: &Run<'_>, about: &About) -> Result<St
     };
     match by {
         Some(by) => format!(in alloc;
-            "Row {name} completed with -125 (ECANCELED): row {by}{deed} {rule}."
+            "Row {name} completed with -125 (ECANCELED): row {by}{what_it_did} {rule}."
         ),
-        None => format!(in alloc; "Row {name} completed with -125 (ECANCELED): {deed} {rule}."),
+        None => format!(in alloc;
+            "Row {name} completed with -125 (ECANCELED): {what_it_did} {rule}."
+        ),
     }
 }
 
 /// Returns the sentence of a hard link that held after a failure.
 pub(crate) fn went_on(alloc: Global, run: &Run<'_>, about: &About) -> Result<String, AllocError> {
     let name = about.name();
-    let told = ResultName(about.result(run));
+    let result_name = ResultName(about.result(run));
     let distance = distance_to_next(run.state, about.number);
     match run.name(about.number.saturating_add(distance)) {
         Some(next) => format!(in alloc;
-            "Row {name} completed with {told}, and its chain continued with row {next}: its link is a hard one {HARD_RULE}."
+            "Row {name} completed with {result_name}, and its chain continued with row {next}: its link is a hard one {HARD_RULE}."
         ),
         None => Ok(String::new(alloc)),
     }

@@ -137,7 +137,7 @@ fn is_unknown_priority(ioprio: u16) -> bool {
 // Returns whether a kernel answers EINVAL for a field that has no effect here: `ioprio`, or `addr`
 // of a request that has no address.
 fn is_invalid_to_kernel(entry: &Sqe) -> bool {
-    match Op::of(entry.opcode) {
+    match Op::from_opcode(entry.opcode) {
         Some(Op::Nop | Op::AsyncCancel | Op::Timeout | Op::LinkTimeout) => entry.ioprio != 0,
         Some(Op::Read | Op::Write) => is_unknown_priority(entry.ioprio),
         Some(Op::Fsync | Op::PollAdd) => entry.addr != 0,

@@ -127,16 +127,16 @@ fn queued(alloc: Global, run: &Run<'_>, number: u32, row: &Row) -> Result<String
 
 // Returns how many completions an issued TIMEOUT counts to, and how many are missing.
 fn lacking(alloc: Global, run: &Run<'_>, row: &Row) -> Result<String, AllocError> {
-    let wanted = row.entry.off;
-    if is_guard(row) || wanted == 0 {
+    let needed = row.entry.off;
+    if is_guard(row) || needed == 0 {
         return Ok(String::new(alloc));
     }
     let counted = run
         .number(Place::Counted)
         .saturating_sub(u64::from(row.base));
-    let missing = wanted.saturating_sub(counted);
-    let wanted = Counted::completions(wanted);
-    format!(in alloc; "; it would also complete after {wanted} ({missing} still missing)")
+    let missing = needed.saturating_sub(counted);
+    let needed = Counted::completions(needed);
+    format!(in alloc; "; it would also complete after {needed} ({missing} still missing)")
 }
 
 fn timer(alloc: Global, run: &Run<'_>, number: u32, row: &Row) -> Result<String, AllocError> {
@@ -181,7 +181,7 @@ pub(crate) fn unfinished(alloc: Global, run: &Run<'_>, number: u32) -> Result<St
     let Some(row) = run.row(number) else {
         return Ok(String::new(alloc));
     };
-    let name = RowName::of(number, &row);
+    let name = RowName::new(number, &row);
     let reason = reason(alloc, run, number, &row)?;
     format!(in alloc; "Row {name} has not completed. {reason}")
 }

@@ -38,7 +38,7 @@ fn advice(opcode: u8) -> &'static str {
 /// A cancel or a removal of one request that matched more.
 pub(crate) fn several(alloc: Global, run: &Run<'_>, about: &About) -> Result<String, AllocError> {
     let name = about.name();
-    let told = ResultName(about.result(run));
+    let result_name = ResultName(about.result(run));
     let count = count_found(run, about);
     let least = match next_found(run, about, 0) {
         Some(number) => run.name(number),
@@ -50,7 +50,7 @@ pub(crate) fn several(alloc: Global, run: &Run<'_>, about: &About) -> Result<Str
     let advice = advice(about.row.entry.opcode);
     let rule = rule_of(&about.row.entry);
     format!(in alloc;
-        "Row {name} completed with {told}: it matched {count} issued requests, and acts only on the one with the lowest row number, row {least}. {advice} {rule}."
+        "Row {name} completed with {result_name}: it matched {count} issued requests, and acts only on the one with the lowest row number, row {least}. {advice} {rule}."
     )
 }
 

@@ -14,7 +14,7 @@ pub struct RowName {
 
 impl RowName {
     /// The name of a row of a number.
-    pub fn of(number: u32, row: &Row) -> RowName {
+    pub fn new(number: u32, row: &Row) -> RowName {
         RowName {
             number,
             opcode: row.entry.opcode,

@@ -103,7 +103,7 @@ impl fmt::Display for OpcodeName {
 
 /// Returns whether requests of an opcode are modelled. Others fail with EINVAL as submitted.
 pub fn is_modelled(opcode: u8) -> bool {
-    Op::of(opcode).is_some()
+    Op::from_opcode(opcode).is_some()
 }
 
 /// The clause that says what becomes of an opcode that isn't modelled.

@@ -40,7 +40,7 @@ fn is_overflowing(run: &Run<'_>) -> bool {
 
 /// Returns the sentence of a completion ring that overflowed.
 pub(crate) fn overflow(alloc: Global, run: &Run<'_>, moment: u32) -> Result<String, AllocError> {
-    let outlook = match run.emptied_behind(moment) {
+    let outlook = match run.emptied_after(moment) {
         Some(emptied) => format!(in alloc; "The backlog was empty again at moment {emptied}")?,
         None => String::from_str(alloc, "The backlog is not empty at the end of the run")?,
     };
@@ -84,16 +84,16 @@ pub(crate) fn refused_flags(
 }
 
 // Returns how many rows the event at a moment submitted, and whether one of them failed by it.
-fn came_at(run: &Run<'_>, moment: u32) -> (usize, bool) {
-    let came = run
+fn queued_at(run: &Run<'_>, moment: u32) -> (usize, bool) {
+    let queued = run
         .history
         .rows
         .iter()
-        .filter(|times| times.came == moment)
+        .filter(|times| times.queued == moment)
         .count();
-    let failed = run.history.rows.iter().any(|times| times.came == moment
+    let failed = run.history.rows.iter().any(|times| times.queued == moment
         && times.ended == Some(moment));
-    (came, failed)
+    (queued, failed)
 }
 
 // Adds to a reason, which may be empty, how many indexes were dropped.
@@ -117,14 +117,14 @@ pub(crate) fn taken_short(
     thread: u32,
     moment: u32,
 ) -> Result<String, AllocError> {
-    let wanted = match run.instruction(moment) {
+    let requested = match run.instruction(moment) {
         Some(Instruction::Enter { to_submit, .. }) => *to_submit,
         _ => 0,
     };
     let counter = run.counter(moment).unwrap_or(0);
-    let (came, failed) = came_at(run, moment);
+    let (queued, failed) = queued_at(run, moment);
     let dropped = run.dropped_at(moment);
-    let reason = if came.saturating_add(dropped as usize) >= wanted as usize {
+    let reason = if queued.saturating_add(dropped as usize) >= requested as usize {
         ""
     } else if failed && !run.setup.submit_all {
         "an entry failed, and the submission stops at one that fails"
@@ -132,9 +132,9 @@ pub(crate) fn taken_short(
         "the ring had no more"
     };
     let reason = with_dropped(alloc, reason, dropped)?;
-    let wanted = Counted::entries(u64::from(wanted));
+    let requested = Counted::entries(u64::from(requested));
     format!(in alloc;
-        "The enter of thread {thread}, instruction {counter}, was to submit {wanted}, and submitted {came}: {reason} {SUBMIT_RULE}."
+        "The enter of thread {thread}, instruction {counter}, was to submit {requested}, and submitted {queued}: {reason} {SUBMIT_RULE}."
     )
 }
 
@@ -161,11 +161,11 @@ fn beyond_ring(
     run: &Run<'_>,
     thread: u32,
     counter: u64,
-    wanted: u32,
+    requested: u32,
 ) -> Result<String, AllocError> {
     match instruction_at(run.setup, Event::Step(thread), Some(counter)) {
-        Some(Instruction::Enter { min_complete, .. }) if *min_complete > wanted => {
-            format!(in alloc; " (min_complete is {min_complete}, and the ring holds {wanted})")
+        Some(Instruction::Enter { min_complete, .. }) if *min_complete > requested => {
+            format!(in alloc; " (min_complete is {min_complete}, and the ring holds {requested})")
         }
         _ => Ok(String::new(alloc)),
     }
@@ -203,11 +203,11 @@ pub(crate) fn waits(
 ) -> Result<String, AllocError> {
     let counter = run.number(Place::ProgramCounter(thread));
     let ready = completions(run);
-    let wanted = match run.state.value(Place::ThreadStage(thread)) {
-        Some(Value::Staged(Stage::Waiting(_, wanted))) => wanted,
+    let requested = match run.state.value(Place::ThreadStage(thread)) {
+        Some(Value::Staged(Stage::Waiting(_, requested))) => requested,
         _ => 0,
     };
-    let beyond = beyond_ring(alloc, run, thread, counter, wanted)?;
+    let beyond = beyond_ring(alloc, run, thread, counter, requested)?;
     let outlook = match run.state.refuses(Event::Step(thread)) {
         Some(_) => "",
         None => ". It could continue: the schedule ends before that",
@@ -217,9 +217,9 @@ pub(crate) fn waits(
     } else {
         ""
     };
-    let wanted = Counted::completions(u64::from(wanted));
+    let requested = Counted::completions(u64::from(requested));
     format!(in alloc;
-        "Thread {thread} waits in its enter, instruction {counter}, to the end of the run. It waits for {wanted}{beyond}, and the ring has {ready}{outlook} {WAIT_RULE}.{returns}"
+        "Thread {thread} waits in its enter, instruction {counter}, to the end of the run. It waits for {requested}{beyond}, and the ring has {ready}{outlook} {WAIT_RULE}.{returns}"
     )
 }
 

@@ -33,7 +33,7 @@ impl Run<'_> {
 
     pub(crate) fn name(&self, number: u32) -> Option<RowName> {
         let row = self.row(number)?;
-        Some(RowName::of(number, &row))
+        Some(RowName::new(number, &row))
     }
 
     /// Returns the result of a row that has completed.
@@ -75,10 +75,10 @@ impl Run<'_> {
     }
 
     /// Returns the first moment after one at which the backlog was empty again.
-    pub(crate) fn emptied_behind(&self, moment: u32) -> Option<u32> {
+    pub(crate) fn emptied_after(&self, moment: u32) -> Option<u32> {
         let emptied = &self.history.emptied;
-        let behind = emptied.partition_point(|emptied| *emptied <= moment);
-        emptied.get(behind).copied()
+        let passed = emptied.partition_point(|emptied| *emptied <= moment);
+        emptied.get(passed).copied()
     }
 
     /// How many indexes the event at a moment dropped.
@@ -155,7 +155,7 @@ impl Run<'_> {
 
     /// Returns the row of another's chain, below a number, with the last finding of a kind at a
     /// moment, before an index of the list.
-    fn told_before(
+    fn reported_before(
         &self,
         index: usize,
         kind: Kind,
@@ -179,11 +179,11 @@ impl Run<'_> {
 
     /// Returns the row before another that broke its chain at a moment. The list has it first.
     pub(crate) fn severing(&self, index: usize, number: u32, moment: u32) -> Option<u32> {
-        self.told_before(index, Kind::Severed, number, moment, number)
+        self.reported_before(index, Kind::Severed, number, moment, number)
     }
 
     /// The row that failed at a moment, and with it the chain of another.
     pub(crate) fn failing(&self, index: usize, number: u32, moment: u32) -> Option<u32> {
-        self.told_before(index, Kind::Failed, number, moment, u32::MAX)
+        self.reported_before(index, Kind::Failed, number, moment, u32::MAX)
     }
 }

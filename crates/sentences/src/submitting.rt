@@ -164,7 +164,7 @@ pub(super) fn reason_of_entry(
             "its flags include {flag}{name}, which isn't modelled: IOSQE_IO_DRAIN (2), IOSQE_IO_LINK (4), IOSQE_IO_HARDLINK (8) and IOSQE_ASYNC (16) are"
         );
     }
-    match Op::of(about.row.entry.opcode) {
+    match Op::from_opcode(about.row.entry.opcode) {
         Some(op) => reason_of_op(alloc, run, about, op, res),
         None => format!(in alloc; "{}", Unmodelled(about.row.entry.opcode)),
     }

@@ -29,27 +29,27 @@ pub(crate) fn slot_in_use(
 
 /// The phase of a row as its descriptor was closed.
 #[derive(Clone, Copy)]
-pub(crate) enum Standing {
+pub(crate) enum UserPhase {
     Queued,
     Issued,
 }
 
-impl Standing {
+impl UserPhase {
     // What such a row does with its descriptor.
     fn verb(self) -> &'static str {
         match self {
-            Standing::Queued => "named",
-            Standing::Issued => "held",
+            UserPhase::Queued => "named",
+            UserPhase::Issued => "held",
         }
     }
 
     // Returns the consequence.
     fn outcome(self) -> &'static str {
         match self {
-            Standing::Queued => {
+            UserPhase::Queued => {
                 "A request whose descriptor is not open completes with -9 (EBADF) as it is issued"
             }
-            Standing::Issued => {
+            UserPhase::Issued => {
                 "An issued request continues, and keeps the object until it completes"
             }
         }
@@ -57,13 +57,20 @@ impl Standing {
 }
 
 // Returns whether a row was in this phase before the event at a moment, and uses a descriptor.
-fn is_user(run: &Run<'_>, number: u32, row: &Row, fd: i32, moment: u32, stood: Standing) -> bool {
-    let stands = match (run.times_of(number), stood) {
-        (Some(times), Standing::Queued) => times.is_queued_at(moment),
-        (Some(times), Standing::Issued) => times.is_issued_at(moment),
+fn is_user(
+    run: &Run<'_>,
+    number: u32,
+    row: &Row,
+    fd: i32,
+    moment: u32,
+    user_phase: UserPhase,
+) -> bool {
+    let is_in_phase = match (run.times_of(number), user_phase) {
+        (Some(times), UserPhase::Queued) => times.is_queued_at(moment),
+        (Some(times), UserPhase::Issued) => times.is_issued_at(moment),
         (None, _) => false,
     };
-    stands && uses_descriptor(row.entry.opcode) && row.entry.fd == fd
+    is_in_phase && uses_descriptor(row.entry.opcode) && row.entry.fd == fd
 }
 
 // Names those rows.
@@ -72,12 +79,12 @@ fn users(
     run: &Run<'_>,
     fd: i32,
     moment: u32,
-    stood: Standing,
+    user_phase: UserPhase,
 ) -> Result<String, AllocError> {
     let mut rows = Listing::new(alloc);
     for number in 0..run.history.rows.len().min(MOST_ROWS as usize) as u32 {
         if let Some(row) = run.row(number) {
-            if is_user(run, number, &row, fd, moment, stood) {
+            if is_user(run, number, &row, fd, moment, user_phase) {
                 rows.add(alloc, run, number)?;
             }
         }
@@ -115,17 +122,17 @@ pub(crate) fn closed(
     run: &Run<'_>,
     thread: u32,
     moment: u32,
-    stood: Standing,
+    user_phase: UserPhase,
 ) -> Result<String, AllocError> {
     let fd = closed_at(run, moment);
     let counter = run.counter(moment).unwrap_or(0);
-    let used = stood.verb();
-    let rows = users(alloc, run, fd, moment, stood)?;
-    let users = match stood {
-        Standing::Queued => with_slot(alloc, rows, run.slot(moment))?,
-        Standing::Issued => rows,
+    let used = user_phase.verb();
+    let rows = users(alloc, run, fd, moment, user_phase)?;
+    let users = match user_phase {
+        UserPhase::Queued => with_slot(alloc, rows, run.slot(moment))?,
+        UserPhase::Issued => rows,
     };
-    let outcome = stood.outcome();
+    let outcome = user_phase.outcome();
     format!(in alloc;
         "The close of thread {thread}, instruction {counter}, closed descriptor {fd}, which is {used} by {users}. {outcome} {RULE}."
     )

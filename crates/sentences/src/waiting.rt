@@ -60,7 +60,7 @@ impl Awaited {
     }
 
     // A file is always ready for a READ and a WRITE.
-    fn of(entry: &Sqe, end: End, object: &Object) -> Awaited {
+    fn from_entry(entry: &Sqe, end: End, object: &Object) -> Awaited {
         match &object.contents {
             Contents::Pipe(_) => Awaited::of_pipe(entry, end),
             Contents::EventFd(_) => Awaited::of_eventfd(entry),
@@ -82,7 +82,7 @@ impl Awaited {
     }
 
     // Returns what causes it, before the number of a descriptor.
-    fn deed(self) -> &'static str {
+    fn source_text(self) -> &'static str {
         match self {
             Awaited::Bytes | Awaited::Counter => "a WRITE to descriptor ",
             Awaited::Room | Awaited::CounterRoom => "a READ from descriptor ",
@@ -99,7 +99,7 @@ impl Awaited {
     }
 
     // Returns whether an operation on descriptors of an end can cause it.
-    fn comes_by(self, end: End) -> bool {
+    fn passes_through(self, end: End) -> bool {
         match end {
             End::Whole => matches!(self, Awaited::Counter | Awaited::CounterRoom),
             End::Read => matches!(self, Awaited::Room | Awaited::Error),
@@ -127,7 +127,7 @@ fn is_open(run: &Run<'_>, number: u32) -> bool {
 }
 
 // Returns the operations on open descriptors of an object that could cause it.
-fn bringers(
+fn providers(
     alloc: Global,
     run: &Run<'_>,
     object: u32,
@@ -138,9 +138,12 @@ fn bringers(
     for index in 0..descriptors.len().min(MOST_DESCRIPTORS) {
         let descriptor = descriptors[index];
         let number = FIRST_DESCRIPTOR + index as u32;
-        if descriptor.object == object && awaited.comes_by(descriptor.end) && is_open(run, number) {
+        if descriptor.object == object
+            && awaited.passes_through(descriptor.end)
+            && is_open(run, number)
+        {
             let before = if text.is_empty() {
-                awaited.deed()
+                awaited.source_text()
             } else {
                 " or "
             };
@@ -161,15 +164,15 @@ fn waits_at(
     descriptor: Descriptor,
     object: &Object,
 ) -> Result<String, AllocError> {
-    let awaited = Awaited::of(entry, descriptor.end, object);
+    let awaited = Awaited::from_entry(entry, descriptor.end, object);
     let fd = entry.fd;
     let words = awaited.words();
     let name = String::from_utf8_lossy(alloc, object.name.as_slice())?;
-    let bringers = bringers(alloc, run, descriptor.object, awaited)?;
+    let providers = providers(alloc, run, descriptor.object, awaited)?;
     let verb = awaited.verb();
     let rule = awaited.rule(entry);
     format!(in alloc;
-        "It is issued, and waits on descriptor {fd} for {words} {name}, which {bringers} could {verb} {rule}."
+        "It is issued, and waits on descriptor {fd} for {words} {name}, which {providers} could {verb} {rule}."
     )
 }
 

@@ -3,7 +3,7 @@ use Rattle.std.specs.Prelude.{Bool, true, false, Option, Some, None}
 use Rattle.places.specs.declared.place.Place.{Place}
 use Rattle.places.specs.declared.place.Place.TheVariants.{SubmissionHead, SubmissionTail, SubmissionFlags, SubmissionDropped, Array, Slot, PollerStage}
 use Rattle.places.specs.declared.value.Value.{Value}
-use Rattle.places.specs.declared.value.Value.TheVariants.{Awake as StandsAwake}
+use Rattle.places.specs.declared.value.Value.TheVariants.{Awake as AwakeValue}
 use Rattle.places.specs.View.{View}
 use Rattle.ring_words.specs.Rings.{SubWords, with_flag, sub_seen}
 use Rattle.ring_words.specs.declared.flag.RingFlag.TheVariants.{NeedWakeup}
@@ -22,12 +22,12 @@ poller_owns _ = false
 
 -- Its value.
 abbrev pub poller_seen : Poller → View
-poller_seen p PollerStage = Some (StandsAwake (is_awake p))
+poller_seen p PollerStage = Some (AwakeValue (is_awake p))
 poller_seen p _ = None
 
 -- Whether a value can be assigned to it.
 abbrev pub poller_can_put : Poller → Place → Option Value → Type 0
-poller_can_put p PollerStage (Some (StandsAwake b)) = Unit {0}
+poller_can_put p PollerStage (Some (AwakeValue b)) = Unit {0}
 poller_can_put p place value = ⊥
 
 -- The poller and the submission ring that has its flag.

@@ -43,7 +43,7 @@ impl Part for Poller {
             → poller_seen self.new q ≡ put_at (poller_seen self.old) place value q }
     {
         match (place, value) {
-            (Place::PollerStage, Some(Value::Awake(awake))) => *self = Poller::of(awake),
+            (Place::PollerStage, Some(Value::Awake(awake))) => *self = Poller::from_awake(awake),
             _ => unreachable!(),
         }
     }
@@ -52,7 +52,7 @@ impl Part for Poller {
 impl Poller {
     ghost use Rattle.sqpoll.specs.Pollers.{is_awake, polling_of, polling_owns, polling_seen, sleeping, woken};
 
-    fn of(awake: bool) -> Poller
+    fn from_awake(awake: bool) -> Poller
         ensures { is_awake result ≡ awake }
     {
         if awake { Poller::Awake } else { Poller::Asleep }

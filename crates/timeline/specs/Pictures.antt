@@ -4,8 +4,8 @@ use Rattle.std.specs.List.{ends_with}
 use Rattle.scenario.specs.declared.event.Event.{Event}
 use Rattle.scenario.specs.declared.setup.Setup.{Setup}
 use Rattle.machine.specs.Runs.{start, Accepts, IsRefused}
-use Rattle.courses.specs.declared.following.Stop.{Stop}
-use Rattle.courses.specs.declared.following.Stop.TheVariants.{Refused, Memory as OutOfMemory}
+use Rattle.occupancy.specs.declared.following.Stop.{Stop}
+use Rattle.occupancy.specs.declared.following.Stop.TheVariants.{Refused, Memory as OutOfMemory}
 use Rattle.script.specs.Scripts.{Scenario, Reads}
 use Rattle.traces.specs.Reading.{IsFault2}
 use Rattle.traces.specs.Setups.{IsTrace2}

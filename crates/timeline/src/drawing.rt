@@ -8,9 +8,9 @@ ghost use Rattle.timeline.specs.Pictures.{is_long, fault_by, picture_of, DrawsSc
 use crate::drawn::Drawn;
 use crate::fault::TimelineFault;
 use crate::writing::{page_bytes, trace_bytes};
-use courses::{Stop, follow};
-use explanations::{Told, told_of};
+use explanations::{Report, report_of};
 use machine::{Event, Setup};
+use occupancy::{Stop, follow};
 use run_log::{EventRange, log_events};
 use script::{Script, ScriptFault, read_script};
 use std::alloc::Global;
@@ -103,13 +103,13 @@ fn log_of(
 }
 
 // What events show that ran before, so that nothing but memory can be wanting.
-fn shown(alloc: Global, setup: &Setup, events: &[Event]) -> Result<Vec<Told>, TimelineFault>
+fn shown(alloc: Global, setup: &Setup, events: &[Event]) -> Result<Vec<Report>, TimelineFault>
     requires starts { setup_refusal setup.now ≡ None }
     requires most { length events.now ≤ 1048576 }
     ensures { IfErr result (λ f. f ≡ TimelineFault.Memory) }
 {
-    match told_of(alloc, setup, events) {
-        Ok(told) => Ok(told),
+    match report_of(alloc, setup, events) {
+        Ok(reports) => Ok(reports),
         Err(_) => Err(TimelineFault::Memory),
     }
 }

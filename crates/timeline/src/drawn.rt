@@ -1,8 +1,8 @@
 //! What is drawn.
 
-use courses::Followed;
-use explanations::Told;
+use explanations::Report;
 use machine::Setup;
+use occupancy::Followed;
 use run_log::EventRange;
 
 /// A run, the part of it that is drawn, and what is known of it.
@@ -14,5 +14,5 @@ pub(crate) struct Drawn<'a> {
     pub followed: &'a Followed,
     /// What `log` prints of the part.
     pub log: &'a [u8],
-    pub findings: &'a [Told],
+    pub findings: &'a [Report],
 }

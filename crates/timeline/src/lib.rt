@@ -10,7 +10,7 @@ mod page;
 mod parts;
 mod picture_parts;
 mod row_parts;
-mod telling;
+mod step_lines;
 mod trace_events;
 mod writing;
 

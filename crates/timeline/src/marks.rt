@@ -1,7 +1,7 @@
 //! Findings, as a picture marks them.
 
 use crate::parts::FindingPart;
-use explanations::Told;
+use explanations::Report;
 use std::alloc::{AllocError, Global};
 
 // Returns whether a finding is in a part of a run: at one of its events, or at the end if the part
@@ -10,28 +10,28 @@ fn is_within(moment: u32, from: u32, to: u32, count: u32) -> bool {
     from <= moment && (moment < to || moment == to && to == count)
 }
 
-fn finding_part(told: &Told) -> Result<FindingPart, AllocError> {
-    let kind = told.finding.kind;
+fn finding_part(report: &Report) -> Result<FindingPart, AllocError> {
+    let kind = report.finding.kind;
     Ok(FindingPart {
-        moment: told.finding.moment,
+        moment: report.finding.moment,
         kind: kind.word(),
         fault: kind.is_fault(),
-        text: told.text.clone()?,
+        text: report.text.clone()?,
     })
 }
 
 /// Returns the findings in a part of a run of `count` events.
 pub(crate) fn finding_parts(
     alloc: Global,
-    findings: &[Told],
+    findings: &[Report],
     from: u32,
     to: u32,
     count: u32,
 ) -> Result<Vec<FindingPart>, AllocError> {
     let mut parts = Vec::new(alloc);
-    for told in findings {
-        if is_within(told.finding.moment, from, to, count) {
-            parts.push(finding_part(told)?)?;
+    for report in findings {
+        if is_within(report.finding.moment, from, to, count) {
+            parts.push(finding_part(report)?)?;
         }
     }
     Ok(parts)

@@ -1,7 +1,7 @@
 //! The data of a page, as JSON. Numbers that may pass 2^53 are texts, since a browser reads numbers
 //! as floats.
 
-use courses::Filling;
+use occupancy::Filling;
 use serde::Serialize;
 use std::alloc::{AllocError, Global};
 

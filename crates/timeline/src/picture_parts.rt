@@ -4,21 +4,21 @@ use crate::drawn::Drawn;
 use crate::marks::finding_parts;
 use crate::parts::{FillingPart, FindingPart, PagePart, RowPart, StepPart, filling_part};
 use crate::row_parts::{program_part, row_part};
-use crate::telling::steps_of;
+use crate::step_lines::steps_of;
 use crate::trace_events::{
     Slice, add_filling, add_finding, add_link, add_row, add_slice, begin, end,
 };
-use courses::{Course, Filling, Standing};
 use entries::Row;
 use machine::{Setup, ring_size};
+use occupancy::{Filling, Occupancy, ThreadStages};
 use places::Value;
 use run_log::EventRange;
 use scenario::completion_entries;
 use std::alloc::{AllocError, Global};
 
 // How many events a run has.
-fn event_count(course: &Course) -> u32 {
-    course
+fn event_count(occupancy: &Occupancy) -> u32 {
+    occupancy
         .fillings
         .len()
         .saturating_sub(1)
@@ -43,12 +43,12 @@ fn is_within(part: &RowPart, from: u32, to: u32) -> bool {
 fn row_parts(
     alloc: Global,
     rows: &[Row],
-    course: &Course,
+    occupancy: &Occupancy,
     from: u32,
     to: u32,
 ) -> Result<Vec<RowPart>, AllocError> {
     let mut parts = Vec::new(alloc);
-    for (number, (row, stamps)) in rows.iter().zip(course.stamps.iter()).enumerate() {
+    for (number, (row, stamps)) in rows.iter().zip(occupancy.stamps.iter()).enumerate() {
         let part = row_part(alloc, number.min(65535) as u32, row, *stamps)?;
         if is_within(&part, from, to) {
             parts.push(part)?;
@@ -58,8 +58,8 @@ fn row_parts(
 }
 
 // How full it is at the moments of a range.
-fn fillings_in(course: &Course, from: u32, to: u32) -> &[Filling] {
-    let fillings = course.fillings.as_slice();
+fn fillings_in(occupancy: &Occupancy, from: u32, to: u32) -> &[Filling] {
+    let fillings = occupancy.fillings.as_slice();
     let end = fillings.len().min(to as usize + 1);
     let begin = end.min(from as usize);
     &fillings[begin..end]
@@ -82,9 +82,9 @@ fn programs(alloc: Global, setup: &Setup) -> Result<Vec<Vec<String>>, AllocError
 }
 
 // Returns what each thread does next, as `show` prints it.
-fn stage_texts(alloc: Global, standing: &Standing) -> Result<Vec<String>, AllocError> {
+fn stage_texts(alloc: Global, thread_stages: &ThreadStages) -> Result<Vec<String>, AllocError> {
     let mut texts = Vec::new(alloc);
-    for stage in &standing.stages {
+    for stage in &thread_stages.stages {
         let text = Value::Staged(*stage).text(alloc)?;
         texts.push(String::from_utf8_lossy(alloc, text.as_slice())?)?;
     }
@@ -92,8 +92,8 @@ fn stage_texts(alloc: Global, standing: &Standing) -> Result<Vec<String>, AllocE
 }
 
 // Whether the poller is awake, if there is one.
-fn poller_text(alloc: Global, standing: &Standing) -> Result<Option<String>, AllocError> {
-    match standing.awake {
+fn poller_text(alloc: Global, thread_stages: &ThreadStages) -> Result<Option<String>, AllocError> {
+    match thread_stages.awake {
         Some(awake) => {
             let text = Value::Awake(awake).text(alloc)?;
             Ok(Some(String::from_utf8_lossy(alloc, text.as_slice())?))
@@ -105,11 +105,11 @@ fn poller_text(alloc: Global, standing: &Standing) -> Result<Option<String>, All
 /// Returns the data of the page of a run.
 pub(crate) fn page_part<'a>(alloc: Global, drawn: Drawn<'a>) -> Result<PagePart<'a>, AllocError> {
     let setup = drawn.setup;
-    let course = &drawn.followed.course;
-    let count = event_count(course);
+    let occupancy = &drawn.followed.occupancy;
+    let count = event_count(occupancy);
     let from = drawn.range.from;
     let to = end_of(drawn.range, count);
-    let standing = &drawn.followed.standing;
+    let thread_stages = &drawn.followed.thread_stages;
     Ok(PagePart {
         run: drawn.name,
         from,
@@ -117,12 +117,12 @@ pub(crate) fn page_part<'a>(alloc: Global, drawn: Drawn<'a>) -> Result<PagePart<
         events: count,
         entries: ring_size(setup.entries),
         completions: ring_size(completion_entries(setup.entries, setup.cq)),
-        stages: stage_texts(alloc, standing)?,
-        poller: poller_text(alloc, standing)?,
+        stages: stage_texts(alloc, thread_stages)?,
+        poller: poller_text(alloc, thread_stages)?,
         programs: programs(alloc, setup)?,
         steps: steps_of(alloc, drawn.log)?,
-        fillings: filling_parts(alloc, fillings_in(course, from, to))?,
-        rows: row_parts(alloc, &drawn.followed.rows, course, from, to)?,
+        fillings: filling_parts(alloc, fillings_in(occupancy, from, to))?,
+        rows: row_parts(alloc, &drawn.followed.rows, occupancy, from, to)?,
         findings: finding_parts(alloc, drawn.findings, from, to, count)?,
     })
 }
@@ -253,16 +253,16 @@ fn add_rows(
 
 /// The trace events of a run.
 pub(crate) fn trace_file(alloc: Global, drawn: Drawn<'_>) -> Result<Vec<u8>, AllocError> {
-    let course = &drawn.followed.course;
-    let count = event_count(course);
+    let occupancy = &drawn.followed.occupancy;
+    let count = event_count(occupancy);
     let from = drawn.range.from;
     let to = end_of(drawn.range, count);
-    let fillings = fillings_in(course, from, to);
+    let fillings = fillings_in(occupancy, from, to);
     let steps = steps_of(alloc, drawn.log)?;
-    let parts = row_parts(alloc, &drawn.followed.rows, course, from, to)?;
+    let parts = row_parts(alloc, &drawn.followed.rows, occupancy, from, to)?;
     let findings = finding_parts(alloc, drawn.findings, from, to, count)?;
     let mut out = Vec::new(alloc);
-    let has_poller = drawn.followed.standing.awake.is_some();
+    let has_poller = drawn.followed.thread_stages.awake.is_some();
     let threads = drawn.setup.threads.len();
     begin(alloc, &mut out, drawn.name, threads, has_poller)?;
     let tracks = add_slices(alloc, &mut out, &steps, fillings, from)?;

@@ -1,9 +1,9 @@
 //! Rows and programs in the data of a page.
 
 use crate::parts::RowPart;
-use courses::Stamps;
 use entries::{Phase, Row, Sqe};
 use machine::Instruction;
+use occupancy::Stamps;
 use sentences::{Counted, opcode_name};
 use std::alloc::{AllocError, Global};
 

@@ -1,7 +1,7 @@
 //! The trace event format, which Perfetto and chrome://tracing open. A moment is a microsecond.
 
 use crate::parts::{FindingPart, RowPart, StepPart};
-use courses::Filling;
+use occupancy::Filling;
 use serde::Serialize;
 use std::alloc::{AllocError, Global};
 
@@ -193,7 +193,7 @@ fn add_phase(
 }
 
 // What a row asks for.
-fn asked(alloc: Global, part: &RowPart) -> Result<String, AllocError> {
+fn request_text(alloc: Global, part: &RowPart) -> Result<String, AllocError> {
     let user = part.user.as_str();
     let chain = part.unit;
     let fd = part.fd;
@@ -227,7 +227,7 @@ pub(crate) fn add_row(alloc: Global, out: &mut Vec<u8>, part: &RowPart, last: u3
     let row = part.row;
     let operation = part.name;
     let name = format!(in alloc; "row {row} {operation}")?;
-    let arguments = asked(alloc, part)?;
+    let arguments = request_text(alloc, part)?;
     let issued = up_to(last, part.issued);
     let ended = up_to(last, part.ended);
     add_end(

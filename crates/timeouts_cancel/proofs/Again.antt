@@ -7,7 +7,7 @@ use Rattle.std.proofs.lemmas.Bool.{eqb-true}
 use Rattle.entries.specs.declared.row.Row.{Row}
 use Rattle.links_drains.specs.Phases.{is_unfinished}
 use Rattle.links_drains.specs.Endings.{Ending, result_in, endings, or_else, given}
-use Rattle.timeouts_cancel.specs.Falls.{joined}
+use Rattle.timeouts_cancel.specs.Cascades.{joined}
 use Rattle.links_drains.proofs.Listing.{result_of, listed_at, alike}
 
 -- ---- Some item passes a test

@@ -2,7 +2,7 @@
 use Rattle.std.proofs.Common.{◌≡◌, ℕ, sym, ◌∙◌, ap, subst, List, length, ◌+◌, ◌≤◌, arith}
 use Rattle.entries.specs.declared.row.Row.{Row}
 use Rattle.links_drains.specs.Endings.{Ending, result_in, Direct}
-use Rattle.timeouts_cancel.specs.Falls.{joined, with_met, counted_in, fall_of}
+use Rattle.timeouts_cancel.specs.Cascades.{joined, with_met, counted_in, fall_of}
 use Rattle.timeouts_cancel.specs.Guarding.{guarding}
 use Rattle.timeouts_cancel.specs.Timers.{met_rows}
 use Rattle.timeouts_cancel.specs.Walks.{severed_endings, result_by}
@@ -40,8 +40,8 @@ met_so rows c total direct severed met all a t m h =
     ∙ ap (λ n. joined rows (met_result n) severed) t
     ∙ ap (with_met rows c) a
 
-pub fall_so : (rows : List Row) (c : ℕ) (direct ended guards : List Ending) → ended ≡ ms rows c direct → guards ≡ guarding rows ended → joined rows (λ r row. result_in guards r) ended ≡ fall_of rows c direct
-fall_so rows c direct ended guards e g =
+pub cascade_so : (rows : List Row) (c : ℕ) (direct ended guards : List Ending) → ended ≡ ms rows c direct → guards ≡ guarding rows ended → joined rows (λ r row. result_in guards r) ended ≡ fall_of rows c direct
+cascade_so rows c direct ended guards e g =
     ap (λ xs. joined rows (λ r row. result_in xs r) ended) g
     ∙ joined_listed (guard_result ended) rows ended
     ∙ ap (λ xs. joined rows (guard_result xs) xs) e

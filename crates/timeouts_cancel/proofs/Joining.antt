@@ -5,7 +5,7 @@ use Rattle.entries.specs.declared.row.Row.{Row}
 use Rattle.links_drains.specs.Phases.{is_unfinished}
 use Rattle.links_drains.specs.Endings.{Ending, result_in, paired, or_else, Direct}
 use Rattle.links_drains.proofs.Listing.{result_of}
-use Rattle.timeouts_cancel.specs.Falls.{joined}
+use Rattle.timeouts_cancel.specs.Cascades.{joined}
 use Rattle.timeouts_cancel.specs.Merges.{Splits, IsLeast, Merged}
 use Rattle.timeouts_cancel.specs.Walks.{upto}
 use Rattle.timeouts_cancel.proofs.Listed.{splits_to, splits_out, splits_past, upto_all}
@@ -56,8 +56,8 @@ there_is rows first second k i j es e d f m least = by least.from
     by (inr g) =
         let w = f.each j e g.0 in
         let low = least_on rows first second k i j es e m least in
-        let behind = splits_to first k i (e.0 + 1) d.rising m.firsts (omega (arith, low)) (λ x h. let l = g.1 x h in omega (arith, l)) in
-        let out = splits_out first k (e.0 + 1) i e.0 m.firsts behind low (omega arith) in
+        let beyond = splits_to first k i (e.0 + 1) d.rising m.firsts (omega (arith, low)) (λ x h. let l = g.1 x h in omega (arith, l)) in
+        let out = splits_out first k (e.0 + 1) i e.0 m.firsts beyond low (omega arith) in
         (w.0, w.1, gives w.0 w.2 (ap (λ o. or_else o (result_in second e.0)) out ∙ result_at second j e f.rising g.0))
 
 pub merged_next : (rows : List Row) (first second : List Ending) (k i j p q : ℕ) (es fs : List Ending) (e : Ending) → Direct rows first → Direct rows second → Merged rows first second k i j es → IsLeast first second i j e

@@ -10,7 +10,7 @@ use Rattle.links_drains.specs.Phases.{is_unfinished}
 use Rattle.links_drains.specs.Endings.{Ending, result_in, paired, endings, endings_from, or_else, Direct}
 use Rattle.links_drains.proofs.Listing.{endings_step, result_of, alike}
 use Rattle.links_drains.proofs.Rising.{ends_at, rising}
-use Rattle.timeouts_cancel.specs.Falls.{joined}
+use Rattle.timeouts_cancel.specs.Cascades.{joined}
 use Rattle.timeouts_cancel.specs.Merges.{Rises, Splits}
 use Rattle.timeouts_cancel.specs.Walks.{upto}
 use Rattle.timeouts_cancel.proofs.Again.{listed_row}

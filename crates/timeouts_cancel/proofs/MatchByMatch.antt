@@ -12,7 +12,7 @@ use Rattle.links_drains.specs.Units.{IsNextIssued, NoneIssuedFrom}
 use Rattle.links_drains.proofs.Batching.{take_more}
 use Rattle.links_drains.proofs.Chains.{enumerated}
 use Rattle.links_drains.proofs.Filters.{filter_skip, first_numbered, none_numbered}
-use Rattle.links_drains.proofs.RestOfUnit.{none_behind, numbered}
+use Rattle.links_drains.proofs.RestOfUnit.{none_after, numbered}
 use Rattle.timeouts_cancel.specs.declared.matching.Key.{Key}
 use Rattle.timeouts_cancel.specs.declared.matching.Found.TheVariants.{Absent}
 use Rattle.timeouts_cancel.specs.Matches.{is_match, is_waiting_match, matches_of, found_by, found_first, waiting_by, IsNextMatch, NoMatchFrom, Passed}
@@ -85,7 +85,7 @@ count_more rows key me from r n row m e =
     ∙ ap (λ ps. length (filter (matches key me) ps)) (sym (take_more (enumerate_from 0 rows) r (r, row) (enumerated rows r ∙ ap (option_map (λ (y : Row). (r, y))) m.there)))
 
 pub count_past : (rows : List Row) (key : Key) (me from n : ℕ) → NoMatchFrom rows key me from → n ≡ length (matches_to rows key me from) → n ≡ length (matches_of rows key me)
-count_past rows key me from n none e = e ∙ ap length (none_behind (matches key me) from (enumerate_from 0 rows) (λ i p low g. numbered (matches key me) rows i p (λ x h. none i x low h) g))
+count_past rows key me from n none e = e ∙ ap length (none_after (matches key me) from (enumerate_from 0 rows) (λ i p low g. numbered (matches key me) rows i p (λ x h. none i x low h) g))
 
 -- ---- The matches among the first rows that wait
 
@@ -113,4 +113,4 @@ waiting_on rows w key me from r row b m e =
     by false = refl
 
 pub waiting_past : (rows : List Row) (w : WorldState) (key : Key) (me from : ℕ) → NoMatchFrom rows key me from → waiting_to rows w key me from ≡ waiting_by rows w key me
-waiting_past rows w key me from none = ap (map (λ (p : ℕ × Row). p.0)) (none_behind (waits_in w key me) from (enumerate_from 0 rows) (λ i p low g. numbered (waits_in w key me) rows i p (λ x h. not_waiting w key me (i, x) (none i x low h)) g))
+waiting_past rows w key me from none = ap (map (λ (p : ℕ × Row). p.0)) (none_after (waits_in w key me) from (enumerate_from 0 rows) (λ i p low g. numbered (waits_in w key me) rows i p (λ x h. not_waiting w key me (i, x) (none i x low h)) g))

@@ -7,7 +7,7 @@ use Rattle.entries.specs.declared.row.Row.{Row}
 use Rattle.links_drains.specs.Endings.{Ending, paired, given}
 use Rattle.links_drains.specs.Phases.{is_unfinished, is_issued}
 use Rattle.links_drains.proofs.Listing.{result_of}
-use Rattle.timeouts_cancel.specs.Falls.{is_met, is_count_timeout}
+use Rattle.timeouts_cancel.specs.Cascades.{is_met, is_count_timeout}
 use Rattle.links_drains.specs.Counts.{IsNextMet, NoneMetFrom}
 use Rattle.timeouts_cancel.specs.Timers.{met_rows}
 use Rattle.timeouts_cancel.specs.Walks.{upto}

@@ -7,7 +7,7 @@ use Rattle.entries.specs.declared.row.Row.{Row}
 use Rattle.links_drains.specs.Phases.{is_issued}
 use Rattle.links_drains.specs.Links.{is_soft_linked, is_guard}
 use Rattle.links_drains.specs.Endings.{Ending}
-use Rattle.timeouts_cancel.specs.Falls.{is_severed, severs_by, is_bad, is_count_timeout}
+use Rattle.timeouts_cancel.specs.Cascades.{is_severed, severs_by, is_bad, is_count_timeout}
 use Rattle.timeouts_cancel.specs.Walks.{Severs}
 use Rattle.timeouts_cancel.proofs.Again.{any_at}
 

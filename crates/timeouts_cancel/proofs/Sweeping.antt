@@ -7,7 +7,7 @@ use Rattle.entries.specs.declared.row.Row.{Row}
 use Rattle.links_drains.specs.Links.{is_soft_linked, Chained}
 use Rattle.links_drains.specs.Phases.{is_unfinished}
 use Rattle.links_drains.specs.Endings.{Ending, paired, endings, given, ecanceled, Direct}
-use Rattle.timeouts_cancel.specs.Falls.{is_severed, is_bad}
+use Rattle.timeouts_cancel.specs.Cascades.{is_severed, is_bad}
 use Rattle.timeouts_cancel.specs.Walks.{Severs, Walked, Sweeping, own_endings, severed_endings, result_by, upto}
 use Rattle.timeouts_cancel.proofs.Walking.{of_one, upto_more, upto_gap, test_direct, test_other, severed_if, NotDirect, split, between, listed_direct, below_next, above_next}
 

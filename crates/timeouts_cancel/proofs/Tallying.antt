@@ -8,7 +8,7 @@ use Rattle.entries.specs.declared.row.Row.{Row}
 use Rattle.links_drains.specs.Phases.{is_unfinished, is_issued, counts}
 use Rattle.links_drains.specs.Endings.{Ending, result_in, paired, endings, or_else, given, endings_from}
 use Rattle.links_drains.specs.Links.{is_guard}
-use Rattle.timeouts_cancel.specs.Falls.{is_count_timeout, is_met, counted_in}
+use Rattle.timeouts_cancel.specs.Cascades.{is_count_timeout, is_met, counted_in}
 use Rattle.links_drains.proofs.Listing.{endings_step, result_of}
 use Rattle.timeouts_cancel.proofs.Again.{listed_row}
 use Rattle.timeouts_cancel.proofs.Severing.{both}

@@ -10,13 +10,13 @@ use Rattle.links_drains.specs.Endings.{Ending, endings, paired, given, ecanceled
 use Rattle.links_drains.specs.Links.{is_guard}
 use Rattle.links_drains.specs.Phases.{is_unfinished}
 use Rattle.links_drains.proofs.Listing.{result_of}
-use Rattle.timeouts_cancel.specs.Falls.{guards_listed, GuardsStand}
+use Rattle.timeouts_cancel.specs.Cascades.{guards_listed, GuardsAreLinked}
 use Rattle.timeouts_cancel.specs.Guarding.{guarding, guards_row, Guarded}
 use Rattle.timeouts_cancel.specs.Walks.{upto}
 use Rattle.timeouts_cancel.proofs.Again.{any_at, any_found}
 use Rattle.timeouts_cancel.proofs.Listed.{upto_all}
 use Rattle.timeouts_cancel.proofs.Sweeping.{same_ending}
-use Rattle.timeouts_cancel.proofs.Walking.{of_one, split, take_behind, upto_more, upto_gap}
+use Rattle.timeouts_cancel.proofs.Walking.{of_one, split, take_past, upto_more, upto_gap}
 
 -- The result of a linked timeout.
 abbrev pub guard_result : List Ending → ℕ → Row → Option ℤ
@@ -43,18 +43,18 @@ guards_so rows listed row h = by (is_guard row) (row.target) refl refl h
         record { index = f.0; ending = f.1; there = f.2; guards = g; target = t ∙ ap Some (sym (eqb-true f.1.0 x f.3)) }
 
 -- A row that doesn't come directly after a listed one is no linked timeout of one.
-no_guard : (rows : List Row) (listed : List Ending) (r : ℕ) (row : Row) → GuardsStand rows → slice_get rows r ≡ Some row → ((j : ℕ) (e : Ending) → slice_get listed j ≡ Some e → e.0 + 1 ≡ r → ⊥) → result_of (guard_result listed) r row ≡ None
-no_guard rows listed r row stand h none = by (is_unfinished row.phase) (guards_listed listed row) refl refl
+no_guard : (rows : List Row) (listed : List Ending) (r : ℕ) (row : Row) → GuardsAreLinked rows → slice_get rows r ≡ Some row → ((j : ℕ) (e : Ending) → slice_get listed j ≡ Some e → e.0 + 1 ≡ r → ⊥) → result_of (guard_result listed) r row ≡ None
+no_guard rows listed r row linked h none = by (is_unfinished row.phase) (guards_listed listed row) refl refl
   where
     by : (u b : Bool) → is_unfinished row.phase ≡ u → guards_listed listed row ≡ b → cond u (given b ecanceled) None ≡ None
     by false b u g = refl
     by true false u g = refl
-    by true true u g = absurd (let w = guards_so rows listed row g in none w.index w.ending w.there (stand r w.ending.0 row h w.guards u w.target))
+    by true true u g = absurd (let w = guards_so rows listed row g in none w.index w.ending w.there (linked r w.ending.0 row h w.guards u w.target))
 
 -- ---- The row after a listed one
 
-its_guard : (rows : List Row) (listed : List Ending) (i : ℕ) (e : Ending) (row : Row) → GuardsStand rows → slice_get listed i ≡ Some e → slice_get rows (e.0 + 1) ≡ Some row → result_of (guard_result listed) (e.0 + 1) row ≡ cond (guards_row e.0 row) (Some ecanceled) None
-its_guard rows listed i e row stand h t = by (is_unfinished row.phase) (is_guard row) row.target refl refl refl
+its_guard : (rows : List Row) (listed : List Ending) (i : ℕ) (e : Ending) (row : Row) → GuardsAreLinked rows → slice_get listed i ≡ Some e → slice_get rows (e.0 + 1) ≡ Some row → result_of (guard_result listed) (e.0 + 1) row ≡ cond (guards_row e.0 row) (Some ecanceled) None
+its_guard rows listed i e row linked h t = by (is_unfinished row.phase) (is_guard row) row.target refl refl refl
   where
     by : (u g : Bool) (o : Option ℕ) → is_unfinished row.phase ≡ u → is_guard row ≡ g → row.target ≡ o
         → cond u (given (g && option_map_or (is_listed listed) o false) ecanceled) None ≡ cond (u && (g && option_map_or (λ target. target == e.0) o false)) (Some ecanceled) None
@@ -62,15 +62,15 @@ its_guard rows listed i e row stand h t = by (is_unfinished row.phase) (is_guard
     by true false o a b c = refl
     by true true None a b c = refl
     by true true (Some x) a b c =
-        let n : x ≡ e.0 = let k = stand (e.0 + 1) x row t b a c in omega (arith, k) in
+        let n : x ≡ e.0 = let k = linked (e.0 + 1) x row t b a c in omega (arith, k) in
         let l : is_listed listed x ≡ true = any_at (λ (y : Ending). y.0 == x) listed i e h (eq-eqb e.0 x (sym n)) in
         ap (λ z. given z ecanceled) l ∙ ap (λ z. cond z (Some ecanceled) None) (sym (eq-eqb x e.0 n))
 
-pub guarded_next : (rows : List Row) (listed : List Ending) (i : ℕ) (es fs : List Ending) (e : Ending) (b : Bool) → GuardsStand rows → Direct rows listed → Guarded rows listed i es → slice_get listed i ≡ Some e
+pub guarded_next : (rows : List Row) (listed : List Ending) (i : ℕ) (es fs : List Ending) (e : Ending) (b : Bool) → GuardsAreLinked rows → Direct rows listed → Guarded rows listed i es → slice_get listed i ≡ Some e
     → b ≡ option_map_or (guards_row e.0) (slice_get rows (e.0 + 1)) false → fs ≡ es ++ of_one (paired (e.0 + 1) (cond b (Some ecanceled) None)) → Guarded rows listed (i + 1) fs
-guarded_next rows listed i es fs e b stand d w h g k = record {
+guarded_next rows listed i es fs e b linked d w h g k = record {
   to = e.0 + 1 + 1;
-  found = k ∙ ap (λ xs. xs ++ of_one (paired (e.0 + 1) (cond b (Some ecanceled) None))) before ∙ ap (λ z. upto f rows (e.0 + 1) ++ of_one (paired (e.0 + 1) (cond z (Some ecanceled) None))) g ∙ behind (slice_get rows (e.0 + 1)) refl;
+  found = k ∙ ap (λ xs. xs ++ of_one (paired (e.0 + 1) (cond b (Some ecanceled) None))) before ∙ ap (λ z. upto f rows (e.0 + 1) ++ of_one (paired (e.0 + 1) (cond z (Some ecanceled) None))) g ∙ beyond (slice_get rows (e.0 + 1)) refl;
   below = λ j p q l. low j p q l (split j i);
   above = λ j p q l. let x = d.rising i j e p h q (omega (arith, l)) in omega (arith, x);
 }
@@ -83,7 +83,7 @@ guarded_next rows listed i es fs e b stand d w h g k = record {
     low j p q l (inr a) = let n : j ≡ i = omega (arith, a, l) in let x = ap (λ (y : Ending). y.0) (same_ending p e (sym q ∙ ap (slice_get listed) n ∙ h)) in omega (arith, x)
 
     none : (r : ℕ) (row : Row) → w.to ≤ r → r < e.0 + 1 → slice_get rows r ≡ Some row → result_of f r row ≡ None
-    none r row l m t = no_guard rows listed r row stand t (λ j p q same. by j p q same (split j i))
+    none r row l m t = no_guard rows listed r row linked t (λ j p q same. by j p q same (split j i))
       where
         by : (j : ℕ) (p : Ending) → slice_get listed j ≡ Some p → p.0 + 1 ≡ r → (j < i) ⊎ (i ≤ j) → ⊥
         by j p q same (inl a) = let x = w.below j p q a in omega (arith, x, same, l)
@@ -99,16 +99,16 @@ guarded_next rows listed i es fs e b stand d w h g k = record {
         let n : w.to + (e.0 + 1 - w.to) ≡ e.0 + 1 = omega (arith, high) in
         w.found ∙ sym (upto_gap f rows w.to (e.0 + 1 - w.to) (λ r row l m t. none r row l (omega (arith, m, high)) t)) ∙ ap (upto f rows) n
 
-    behind : (o : Option Row) → slice_get rows (e.0 + 1) ≡ o → upto f rows (e.0 + 1) ++ of_one (paired (e.0 + 1) (cond (option_map_or (guards_row e.0) (slice_get rows (e.0 + 1)) false) (Some ecanceled) None)) ≡ upto f rows (e.0 + 1 + 1)
-    behind None t =
+    beyond : (o : Option Row) → slice_get rows (e.0 + 1) ≡ o → upto f rows (e.0 + 1) ++ of_one (paired (e.0 + 1) (cond (option_map_or (guards_row e.0) (slice_get rows (e.0 + 1)) false) (Some ecanceled) None)) ≡ upto f rows (e.0 + 1 + 1)
+    beyond None t =
         ap (λ (o : Option Row). upto f rows (e.0 + 1) ++ of_one (paired (e.0 + 1) (cond (option_map_or (guards_row e.0) o false) (Some ecanceled) None))) t
         ∙ append-nil (upto f rows (e.0 + 1))
-        ∙ ap (endings f) (sym (take_behind rows (e.0 + 1) t))
-    behind (Some row) t =
+        ∙ ap (endings f) (sym (take_past rows (e.0 + 1) t))
+    beyond (Some row) t =
         ap (λ (o : Option Row). upto f rows (e.0 + 1) ++ of_one (paired (e.0 + 1) (cond (option_map_or (guards_row e.0) o false) (Some ecanceled) None))) t
-        ∙ ap (λ o. upto f rows (e.0 + 1) ++ of_one (paired (e.0 + 1) o)) (sym (its_guard rows listed i e row stand h t))
+        ∙ ap (λ o. upto f rows (e.0 + 1) ++ of_one (paired (e.0 + 1) o)) (sym (its_guard rows listed i e row linked h t))
         ∙ sym (upto_more f rows (e.0 + 1) row t)
 
-pub guarded_all : (rows : List Row) (listed : List Ending) (i : ℕ) (es : List Ending) → GuardsStand rows → Guarded rows listed i es → length listed ≤ i → es ≡ guarding rows listed
-guarded_all rows listed i es stand w l =
-    w.found ∙ upto_all (guard_result listed) rows w.to (λ r row low t. no_guard rows listed r row stand t (λ j p q same. let n = slice_get_within listed j p q in let x = w.below j p q (omega (arith, n, l)) in omega (arith, x, same, low)))
+pub guarded_all : (rows : List Row) (listed : List Ending) (i : ℕ) (es : List Ending) → GuardsAreLinked rows → Guarded rows listed i es → length listed ≤ i → es ≡ guarding rows listed
+guarded_all rows listed i es linked w l =
+    w.found ∙ upto_all (guard_result listed) rows w.to (λ r row low t. no_guard rows listed r row linked t (λ j p q same. let n = slice_get_within listed j p q in let x = w.below j p q (omega (arith, n, l)) in omega (arith, x, same, low)))

@@ -9,7 +9,7 @@ use Rattle.entries.specs.declared.row.Row.{Row}
 use Rattle.links_drains.specs.Links.{is_soft_linked}
 use Rattle.links_drains.specs.Phases.{is_unfinished}
 use Rattle.links_drains.specs.Endings.{Ending, result_in, paired, endings, or_else, given, ecanceled, Direct, endings_from}
-use Rattle.timeouts_cancel.specs.Falls.{is_severed, is_bad, severs_by}
+use Rattle.timeouts_cancel.specs.Cascades.{is_severed, is_bad, severs_by}
 use Rattle.links_drains.proofs.Listing.{endings_step, result_of}
 use Rattle.links_drains.proofs.Rising.{ends_at}
 use Rattle.timeouts_cancel.proofs.Again.{any_found, result_there, listed_row}
@@ -53,11 +53,11 @@ more_from f n (x ∷ rows) (suc k) row h =
 pub upto_more : (f : ℕ → Row → Option ℤ) (rows : List Row) (k : ℕ) (row : Row) → slice_get rows k ≡ Some row → upto f rows (k + 1) ≡ upto f rows k ++ of_one (paired k (result_of f k row))
 upto_more f rows k row h = let m : 0 + k ≡ k = omega arith in subst (λ j. upto f rows (k + 1) ≡ upto f rows k ++ of_one (paired j (result_of f j row))) m (more_from f 0 rows k row h)
 
-pub take_behind : (rows : List Row) (k : ℕ) → slice_get rows k ≡ None → take (k + 1) rows ≡ take k rows
-take_behind [] zero h = refl
-take_behind [] (suc k) h = let m : suc k + 1 ≡ suc (k + 1) = omega arith in let none : List Row = [] in ap (λ n. take n none) m
-take_behind (x ∷ rows) zero h = absurd cc
-take_behind (x ∷ rows) (suc k) h = let m : suc k + 1 ≡ suc (k + 1) = omega arith in ap (λ n. take n (x ∷ rows)) m ∙ ap (λ zs. x ∷ zs) (take_behind rows k h)
+pub take_past : (rows : List Row) (k : ℕ) → slice_get rows k ≡ None → take (k + 1) rows ≡ take k rows
+take_past [] zero h = refl
+take_past [] (suc k) h = let m : suc k + 1 ≡ suc (k + 1) = omega arith in let none : List Row = [] in ap (λ n. take n none) m
+take_past (x ∷ rows) zero h = absurd cc
+take_past (x ∷ rows) (suc k) h = let m : suc k + 1 ≡ suc (k + 1) = omega arith in ap (λ n. take n (x ∷ rows)) m ∙ ap (λ zs. x ∷ zs) (take_past rows k h)
 
 -- Rows without a result add nothing.
 pub upto_gap : (f : ℕ → Row → Option ℤ) (rows : List Row) (k d : ℕ) → ((r : ℕ) (row : Row) → k ≤ r → r < k + d → slice_get rows r ≡ Some row → result_of f r row ≡ None) → upto f rows (k + d) ≡ upto f rows k
@@ -67,7 +67,7 @@ upto_gap f rows k (suc d) h =
     ap (upto f rows) m ∙ by (slice_get rows (k + d)) refl ∙ upto_gap f rows k d (λ r row a b e. h r row a (omega (arith, b)) e)
   where
     by : (o : Option Row) → slice_get rows (k + d) ≡ o → upto f rows (k + d + 1) ≡ upto f rows (k + d)
-    by None e = ap (endings f) (take_behind rows (k + d) e)
+    by None e = ap (endings f) (take_past rows (k + d) e)
     by (Some row) e =
         upto_more f rows (k + d) row e
         ∙ ap (λ o. upto f rows (k + d) ++ of_one (paired (k + d) o)) (h (k + d) row (omega arith) (omega arith) e)

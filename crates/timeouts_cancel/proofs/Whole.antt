@@ -7,7 +7,7 @@ use Rattle.entries.specs.declared.row.Row.{Row}
 use Rattle.links_drains.specs.Phases.{is_unfinished}
 use Rattle.links_drains.specs.Endings.{Ending, result_in, given, or_else, is_listed, ecanceled}
 use Rattle.links_drains.specs.Links.{is_guard}
-use Rattle.timeouts_cancel.specs.Falls.{joined, with_severed, with_met, with_guards, is_severed, is_bad, is_count_timeout, guards_listed, is_met, counted_in, fall_of, severs_by, GuardsFormed, IsWhole}
+use Rattle.timeouts_cancel.specs.Cascades.{joined, with_severed, with_met, with_guards, is_severed, is_bad, is_count_timeout, guards_listed, is_met, counted_in, fall_of, severs_by, GuardsFormed, IsWhole}
 use Rattle.timeouts_cancel.specs.Walks.{Severs, own_endings, severed_endings}
 use Rattle.links_drains.proofs.Rising.{ends_at, rising}
 use Rattle.timeouts_cancel.proofs.Again.{any_at, any_found, result_there, listed_row, or_else_none, given_none, given_is, joined_nothing}
@@ -31,9 +31,9 @@ in_ms : (rows : List Row) (c : ℕ) (direct : List Ending) (r : ℕ) (row : Row)
     → result_in (ms rows c direct) r ≡ or_else (result_in (severed_endings rows direct) r) (given (is_met (c + counted_in rows (severed_endings rows direct)) row) (pos 0))
 in_ms rows c direct r row h u = listed_row (λ r row. or_else (result_in (severed_endings rows direct) r) (given (is_met (c + counted_in rows (severed_endings rows direct)) row) (pos 0))) rows r row h u
 
-in_fall : (rows : List Row) (c : ℕ) (direct : List Ending) (r : ℕ) (row : Row) → slice_get rows r ≡ Some row → is_unfinished row.phase ≡ true
+in_cascade : (rows : List Row) (c : ℕ) (direct : List Ending) (r : ℕ) (row : Row) → slice_get rows r ≡ Some row → is_unfinished row.phase ≡ true
     → result_in (fall_of rows c direct) r ≡ or_else (result_in (ms rows c direct) r) (given (guards_listed (ms rows c direct) row) ecanceled)
-in_fall rows c direct r row h u = listed_row (λ r row. or_else (result_in (ms rows c direct) r) (given (guards_listed (ms rows c direct) row) ecanceled)) rows r row h u
+in_cascade rows c direct r row h u = listed_row (λ r row. or_else (result_in (ms rows c direct) r) (given (guards_listed (ms rows c direct) row) ecanceled)) rows r row h u
 
 -- No rule of the cascade has a result for the row.
 pub record Unlisted (rows : List Row) (c : ℕ) (direct : List Ending) (r : ℕ) (row : Row) : Type 0 where
@@ -44,7 +44,7 @@ pub record Unlisted (rows : List Row) (c : ℕ) (direct : List Ending) (r : ℕ)
 
 pub unlisted : (rows : List Row) (c : ℕ) (direct : List Ending) (r : ℕ) (row : Row) → slice_get rows r ≡ Some row → is_unfinished row.phase ≡ true → result_in (fall_of rows c direct) r ≡ None → Unlisted rows c direct r row
 unlisted rows c direct r row h u n =
-    let a = or_else_none (result_in (ms rows c direct) r) _ (sym (in_fall rows c direct r row h u) ∙ n) in
+    let a = or_else_none (result_in (ms rows c direct) r) _ (sym (in_cascade rows c direct r row h u) ∙ n) in
     let b = or_else_none (result_in (severed_endings rows direct) r) _ (sym (in_ms rows c direct r row h u) ∙ a.0) in
     let d = or_else_none (result_in (own_endings rows direct) r) _ (sym (in_ss rows direct r row h u) ∙ b.0) in
     record {
@@ -69,7 +69,7 @@ unlisted_none (e ∷ es) r h = by (e.0 == r) (is_listed es r) refl h (unlisted_n
 pub target_stays : (rows : List Row) (c : ℕ) (direct : List Ending) (r t : ℕ) (row target : Row) → slice_get rows r ≡ Some row → is_unfinished row.phase ≡ true → is_guard row ≡ true → row.target ≡ Some t
     → slice_get rows t ≡ Some target → is_unfinished target.phase ≡ true → is_guard target ≡ false → result_in (fall_of rows c direct) r ≡ None → result_in (fall_of rows c direct) t ≡ None
 target_stays rows c direct r t row target h u g k there v other n =
-    in_fall rows c direct t target there v ∙ ap (λ o. or_else o (given (guards_listed (ms rows c direct) target) ecanceled)) none
+    in_cascade rows c direct t target there v ∙ ap (λ o. or_else o (given (guards_listed (ms rows c direct) target) ecanceled)) none
     ∙ ap (λ b. given (b && option_map_or (is_listed (ms rows c direct)) target.target false) ecanceled) other
   where
     out : is_listed (ms rows c direct) t ≡ false
@@ -126,7 +126,7 @@ from_direct rows c direct r row e i h s =
 pub severed_again : (rows : List Row) (c : ℕ) (direct : List Ending) → with_severed rows (fall_of rows c direct) ≡ fall_of rows c direct
 severed_again rows c direct =
     joined_nothing (λ r row. given (is_severed rows (fall_of rows c direct) r row) ecanceled) (λ r row. or_else (result_in (ms rows c direct) r) (given (guards_listed (ms rows c direct) row) ecanceled)) rows
-    (λ r row h u n. none r row h u (in_fall rows c direct r row h u ∙ n))
+    (λ r row h u n. none r row h u (in_cascade rows c direct r row h u ∙ n))
   where
     none : (r : ℕ) (row : Row) → slice_get rows r ≡ Some row → is_unfinished row.phase ≡ true → result_in (fall_of rows c direct) r ≡ None → given (is_severed rows (fall_of rows c direct) r row) ecanceled ≡ None
     none r row h u n = by (is_severed rows (fall_of rows c direct) r row) refl
@@ -141,13 +141,13 @@ severed_again rows c direct =
 pub direct_again : (rows : List Row) (c : ℕ) (direct : List Ending) → joined rows (λ r row. result_in direct r) (fall_of rows c direct) ≡ fall_of rows c direct
 direct_again rows c direct =
     joined_nothing (λ r row. result_in direct r) (λ r row. or_else (result_in (ms rows c direct) r) (given (guards_listed (ms rows c direct) row) ecanceled)) rows
-    (λ r row h u n. (unlisted rows c direct r row h u (in_fall rows c direct r row h u ∙ n)).undirected)
+    (λ r row h u n. (unlisted rows c direct r row h u (in_cascade rows c direct r row h u ∙ n)).undirected)
 
 -- ---- What is counted
 
 -- The TIMEOUTs and linked timeouts that complete in the cascade don't count.
-pub counted_fall : (rows : List Row) (c : ℕ) (direct : List Ending) → counted_in rows (fall_of rows c direct) ≡ counted_in rows (severed_endings rows direct)
-counted_fall rows c direct =
+pub counted_cascade : (rows : List Row) (c : ℕ) (direct : List Ending) → counted_in rows (fall_of rows c direct) ≡ counted_in rows (severed_endings rows direct)
+counted_cascade rows c direct =
     joined_counts rows (λ r row. or_else (result_in (severed_endings rows direct) r) (given (is_met (c + counted_in rows (severed_endings rows direct)) row) (pos 0))) (λ r row. guards_listed (ms rows c direct) row) ecanceled
     (λ r row h. guard_counts row (both (is_guard row) (option_map_or (is_listed (ms rows c direct)) row.target false) h).0)
     ∙ joined_counts rows (λ r row. or_else (result_in (own_endings rows direct) r) (given (is_severed rows (own_endings rows direct) r row) ecanceled)) (λ r row. is_met (c + counted_in rows (severed_endings rows direct)) row) (pos 0)
@@ -156,7 +156,7 @@ counted_fall rows c direct =
 pub met_again : (rows : List Row) (c : ℕ) (direct : List Ending) → with_met rows c (fall_of rows c direct) ≡ fall_of rows c direct
 met_again rows c direct =
     joined_nothing (λ r row. given (is_met (c + counted_in rows (fall_of rows c direct)) row) (pos 0)) (λ r row. or_else (result_in (ms rows c direct) r) (given (guards_listed (ms rows c direct) row) ecanceled)) rows
-    (λ r row h u n. ap (λ k. given (is_met (c + k) row) (pos 0)) (counted_fall rows c direct) ∙ ap (λ b. given b (pos 0)) (unlisted rows c direct r row h u (in_fall rows c direct r row h u ∙ n)).met)
+    (λ r row h u n. ap (λ k. given (is_met (c + k) row) (pos 0)) (counted_cascade rows c direct) ∙ ap (λ b. given b (pos 0)) (unlisted rows c direct r row h u (in_cascade rows c direct r row h u ∙ n)).met)
 
 -- ---- Linked timeouts
 
@@ -180,21 +180,21 @@ listed_before rows c direct t g h =
 pub guards_again : (rows : List Row) (c : ℕ) (direct : List Ending) → GuardsFormed rows → with_guards rows (fall_of rows c direct) ≡ fall_of rows c direct
 guards_again rows c direct formed =
     joined_nothing (λ r row. given (guards_listed (fall_of rows c direct) row) ecanceled) (λ r row. or_else (result_in (ms rows c direct) r) (given (guards_listed (ms rows c direct) row) ecanceled)) rows
-    (λ r row h u n. none r row h u (unlisted rows c direct r row h u (in_fall rows c direct r row h u ∙ n)).guards (is_guard row) refl row.target refl)
+    (λ r row h u n. none r row h u (unlisted rows c direct r row h u (in_cascade rows c direct r row h u ∙ n)).guards (is_guard row) refl row.target refl)
   where
     none : (r : ℕ) (row : Row) → slice_get rows r ≡ Some row → is_unfinished row.phase ≡ true → guards_listed (ms rows c direct) row ≡ false → (b : Bool) → is_guard row ≡ b → (o : Option ℕ) → row.target ≡ o → given (guards_listed (fall_of rows c direct) row) ecanceled ≡ None
     none r row h u k false g o t = ap (λ b. given (b && option_map_or (is_listed (fall_of rows c direct)) row.target false) ecanceled) g
     none r row h u k true g None t = ap (λ (o : Option ℕ). given (is_guard row && option_map_or (is_listed (fall_of rows c direct)) o false) ecanceled) t ∙ ap (λ b. given (b && false) ecanceled) g
     none r row h u k true g (Some x) t = by (is_listed (fall_of rows c direct) x) refl
       where
-        as_told : guards_listed (fall_of rows c direct) row ≡ is_listed (fall_of rows c direct) x
-        as_told = ap (λ (o : Option ℕ). is_guard row && option_map_or (is_listed (fall_of rows c direct)) o false) t ∙ ap (λ b. b && is_listed (fall_of rows c direct) x) g
+        as_listed : guards_listed (fall_of rows c direct) row ≡ is_listed (fall_of rows c direct) x
+        as_listed = ap (λ (o : Option ℕ). is_guard row && option_map_or (is_listed (fall_of rows c direct)) o false) t ∙ ap (λ b. b && is_listed (fall_of rows c direct) x) g
 
         before : guards_listed (ms rows c direct) row ≡ is_listed (ms rows c direct) x
         before = ap (λ (o : Option ℕ). is_guard row && option_map_or (is_listed (ms rows c direct)) o false) t ∙ ap (λ b. b && is_listed (ms rows c direct) x) g
 
         by : (b : Bool) → is_listed (fall_of rows c direct) x ≡ b → given (guards_listed (fall_of rows c direct) row) ecanceled ≡ None
-        by false e = ap (λ b. given b ecanceled) (as_told ∙ e)
+        by false e = ap (λ b. given b ecanceled) (as_listed ∙ e)
         by true e = absurd (true_false (is_listed (ms rows c direct) x) (listed_before rows c direct x (λ target there. formed r x row target h g u t there) e) (sym before ∙ k))
 
 pub whole : (rows : List Row) (c : ℕ) (direct : List Ending) → GuardsFormed rows → IsWhole rows c direct (fall_of rows c direct)
@@ -205,8 +205,8 @@ whole rows c direct formed = record { listed = direct_again rows c direct; sever
 abbrev pub last_test : List Row → ℕ → List Ending → ℕ → Row → Option ℤ
 last_test rows c direct r row = or_else (result_in (ms rows c direct) r) (given (guards_listed (ms rows c direct) row) ecanceled)
 
-pub fall_unfinished : (rows : List Row) (c : ℕ) (direct : List Ending) (i : ℕ) (e : Ending) → slice_get (fall_of rows c direct) i ≡ Some e → (row : Row) × (slice_get rows e.0 ≡ Some row) × (is_unfinished row.phase ≡ true)
-fall_unfinished rows c direct i e h = let w = ends_at (last_test rows c direct) rows i e h in (w.0, w.1, w.2)
+pub cascade_unfinished : (rows : List Row) (c : ℕ) (direct : List Ending) (i : ℕ) (e : Ending) → slice_get (fall_of rows c direct) i ≡ Some e → (row : Row) × (slice_get rows e.0 ≡ Some row) × (is_unfinished row.phase ≡ true)
+cascade_unfinished rows c direct i e h = let w = ends_at (last_test rows c direct) rows i e h in (w.0, w.1, w.2)
 
-pub fall_rising : (rows : List Row) (c : ℕ) (direct : List Ending) (i j : ℕ) (p q : Ending) → slice_get (fall_of rows c direct) i ≡ Some p → slice_get (fall_of rows c direct) j ≡ Some q → i < j → p.0 < q.0
-fall_rising rows c direct = rising (last_test rows c direct) rows
+pub cascade_rising : (rows : List Row) (c : ℕ) (direct : List Ending) (i j : ℕ) (p q : Ending) → slice_get (fall_of rows c direct) i ≡ Some p → slice_get (fall_of rows c direct) j ≡ Some q → i < j → p.0 < q.0
+cascade_rising rows c direct = rising (last_test rows c direct) rows

@@ -5,7 +5,7 @@ use Rattle.entries.specs.declared.row.Row.{Row}
 use Rattle.links_drains.specs.Endings.{Ending, endings, given, ecanceled}
 use Rattle.links_drains.specs.Links.{is_guard}
 use Rattle.links_drains.specs.Phases.{is_unfinished}
-use Rattle.timeouts_cancel.specs.Falls.{guards_listed}
+use Rattle.timeouts_cancel.specs.Cascades.{guards_listed}
 use Rattle.timeouts_cancel.specs.Walks.{upto}
 
 -- The unfinished linked timeouts whose target is listed.

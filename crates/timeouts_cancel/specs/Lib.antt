@@ -1,4 +1,4 @@
-pub mod Falls
+pub mod Cascades
 pub mod Guarding
 pub mod Matches
 pub mod Merges

@@ -7,7 +7,7 @@ use Rattle.opcodes.specs.Outcomes.{is_running}
 use Rattle.links_drains.specs.Links.{is_guard}
 use Rattle.links_drains.specs.Numbered.{numbered_where, numbers_where}
 use Rattle.links_drains.specs.Phases.{is_issued}
-use Rattle.timeouts_cancel.specs.Falls.{is_number}
+use Rattle.timeouts_cancel.specs.Cascades.{is_number}
 use Rattle.timeouts_cancel.specs.declared.matching.Key.{Key}
 use Rattle.timeouts_cancel.specs.declared.matching.Key.TheVariants.{User, Fd, Poll, Timeout}
 use Rattle.timeouts_cancel.specs.declared.matching.Found.{Found}

@@ -4,7 +4,7 @@ use Rattle.std.specs.Prelude.{ℕ, pos, Bool, false, nat_le, List}
 use Rattle.std.specs.Option.{option_map_or}
 use Rattle.entries.specs.declared.row.Row.{Row}
 use Rattle.links_drains.specs.Endings.{Ending, endings, given}
-use Rattle.timeouts_cancel.specs.Falls.{is_met}
+use Rattle.timeouts_cancel.specs.Cascades.{is_met}
 
 -- Whether the request has a deadline that has passed at time `now`.
 abbrev pub is_due : ℕ → Row → Bool

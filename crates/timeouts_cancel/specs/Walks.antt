@@ -4,7 +4,7 @@ use Rattle.std.specs.Prelude.{◌≡◌, ℕ, ℤ, ◌<◌, ◌≤◌, true, Opt
 use Rattle.entries.specs.declared.row.Row.{Row}
 use Rattle.links_drains.specs.Links.{is_soft_linked}
 use Rattle.links_drains.specs.Endings.{Ending, result_in, endings, or_else, given, ecanceled}
-use Rattle.timeouts_cancel.specs.Falls.{first_listed, with_severed, is_severed, is_bad}
+use Rattle.timeouts_cancel.specs.Cascades.{first_listed, with_severed, is_severed, is_bad}
 
 -- A listed request severs r: it comes earlier in r's chain, is soft-linked, and failed.
 pub record Severs (rows : List Row) (r : ℕ) (row : Row) (e : Ending) : Type 0 where

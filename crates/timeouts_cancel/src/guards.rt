@@ -2,7 +2,7 @@
 ghost use Rattle.std.specs.Prelude.{◌≡◌, ◌<◌, ◌≤◌, ◌+◌, IfOk, false, length, slice_get};
 ghost use Rattle.std.specs.Option.{option_map_or};
 ghost use Rattle.links_drains.specs.Endings.{Direct};
-ghost use Rattle.timeouts_cancel.specs.Falls.{GuardsStand};
+ghost use Rattle.timeouts_cancel.specs.Cascades.{GuardsAreLinked};
 ghost use Rattle.timeouts_cancel.specs.Guarding.{guarding, guards_row};
 
 use entries::{ECANCELED, Row};
@@ -13,7 +13,7 @@ use std::alloc::AllocError;
 /// request after each listed one is examined.
 pub(crate) fn guards(table: &Table, listed: &[(u32, i32)]) -> Result<Vec<(u32, i32)>, AllocError>
     requires listed { Direct table.now listed.now }
-    requires guards { GuardsStand table.now }
+    requires guards { GuardsAreLinked table.now }
     requires few { length table.now ≤ 65536 }
     ensures { IfOk result (λ guards. guards.items ≡ guarding table.now listed.now) }
 {

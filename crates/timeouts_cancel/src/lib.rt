@@ -2,13 +2,13 @@
 //! requests a cancellation matches.
 #![tactic(auto)]
 
-mod falling;
+mod cascading;
 mod guards;
 pub mod laws;
 mod matching;
 mod merging;
 mod timers;
 
-pub use falling::fall;
+pub use cascading::fall;
 pub use matching::{Found, Key, all_by, count_by, find, find_by};
 pub use timers::due;

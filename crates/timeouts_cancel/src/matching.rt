@@ -48,7 +48,7 @@ pub fn find_by(table: &Table, world: &World, key: Key, me: u32) -> Found
     ensures { result ≡ found_by table.now world.now key me }
 {
     match next_match(table, key, me, 0) {
-        Some((r, row)) => told(world, r, &row),
+        Some((r, row)) => found_as(world, r, &row),
         None => Found::Absent,
     }
 }
@@ -84,7 +84,7 @@ pub fn count_by(table: &Table, key: Key, me: u32) -> u32
 }
 
 // A match, as running or waiting.
-fn told(world: &World, r: u32, row: &Row) -> Found
+fn found_as(world: &World, r: u32, row: &Row) -> Found
     ensures { result ≡ found_first world.now (Some (r, row.now)) }
 {
     if is_running(world, row) {
@@ -125,10 +125,10 @@ fn fits_key(key: Key, row: &Row) -> bool
 {
     let (opcode, user_data) = (row.entry.opcode, row.entry.user_data);
     match key {
-        Key::User(wanted) => user_data == wanted,
+        Key::User(sought) => user_data == sought,
         Key::Fd(number) => holds_number(row.held, number),
-        Key::Poll(wanted) => opcode == Op::PollAdd as u8 && user_data == wanted,
-        Key::Timeout(wanted) => opcode == Op::Timeout as u8 && user_data == wanted,
+        Key::Poll(sought) => opcode == Op::PollAdd as u8 && user_data == sought,
+        Key::Timeout(sought) => opcode == Op::Timeout as u8 && user_data == sought,
     }
 }
 

@@ -2,7 +2,7 @@
 ghost use Rattle.std.specs.Prelude.{◌≡◌, ◌+◌, ◌≤◌, ℕ, ℤ, Option, IfOk, IfSome, IfNone, length};
 ghost use Rattle.entries.specs.declared.row.Row.{Row};
 ghost use Rattle.links_drains.specs.Endings.{Direct, endings, result_in};
-ghost use Rattle.timeouts_cancel.specs.Falls.{joined};
+ghost use Rattle.timeouts_cancel.specs.Cascades.{joined};
 ghost use Rattle.timeouts_cancel.specs.Merges.{IsLeast, Rises, Splits};
 
 use links_drains::Table;

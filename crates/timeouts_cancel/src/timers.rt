@@ -3,7 +3,7 @@
 ghost use Rattle.std.specs.Prelude.{◌≡◌, ◌-◌, ◌<◌, ◌^◌, IfOk, false, length, slice_get};
 ghost use Rattle.std.specs.Option.{option_map_or};
 ghost use Rattle.links_drains.specs.Phases.{counts};
-ghost use Rattle.timeouts_cancel.specs.Falls.{counted_in};
+ghost use Rattle.timeouts_cancel.specs.Cascades.{counted_in};
 ghost use Rattle.timeouts_cancel.specs.Timers.{is_due, met_rows};
 
 use entries::Row;

@@ -9,7 +9,7 @@ use Rattle.traces.specs.declared.fault.TraceFault.TheVariants.{Magic, Truncated,
 use Rattle.traces.specs.Cursors.{Cursor}
 use Rattle.traces.specs.Spelling.{magic, most_events, IsTrace}
 use Rattle.traces.specs.Faults.{event_fault, AreClean, IsEventsFault, HasCount, IsCountedFault, BeginsAs, IsFault}
-use Rattle.traces.specs.Reading.{setup_at, behind_magic, IsBodyFault, IsFault2}
+use Rattle.traces.specs.Reading.{setup_at, after_magic, IsBodyFault, IsFault2}
 use Rattle.traces.proofs.Traces.{no_trace_fault}
 
 -- The first event with a fault.
@@ -108,7 +108,7 @@ pub faults2_alike : (bytes : List ℕ) (f g : TraceFault) → IsFault2 bytes f �
 faults2_alike bytes f g (inl x) (inl y) = x.1 ∙ sym y.1
 faults2_alike bytes f g (inl x) (inr y) = absurd (x.0 y.0)
 faults2_alike bytes f g (inr x) (inl y) = absurd (y.0 x.0)
-faults2_alike bytes f g (inr x) (inr y) = body_alike (setup_at (behind_magic bytes)) f g x.1 y.1
+faults2_alike bytes f g (inr x) (inr y) = body_alike (setup_at (after_magic bytes)) f g x.1 y.1
 
 -- A trace of a list of events has no fault.
 pub no_fault : (events : List Event) (bytes : List ℕ) (fault : TraceFault) → IsTrace events bytes → IsFault bytes fault → ⊥

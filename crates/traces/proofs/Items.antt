@@ -5,11 +5,11 @@ use Rattle.traces.specs.declared.fault.TraceFault.TheVariants.{Magic, Truncated,
 use Rattle.traces.specs.Cursors.{Cursor}
 use Rattle.traces.specs.Reading.{Fails, items_at}
 
-pub goes_on : {A : Type 0} (item : List A → Cursor → Result (A × Cursor) TraceFault) (count i : ℕ) (before : List A) (s : Cursor) (x : A) (after : Cursor) (total : Result (List A × Cursor) TraceFault)
+pub items_continue : {A : Type 0} (item : List A → Cursor → Result (A × Cursor) TraceFault) (count i : ℕ) (before : List A) (s : Cursor) (x : A) (after : Cursor) (total : Result (List A × Cursor) TraceFault)
     → i < count → item before s ≡ Ok (x, after)
     → items_at item (count - i) before s ≡ total → items_at item (count - (i + 1)) (before ++ x ∷ []) after ≡ total
 unfolding items_at
-goes_on {A} item count i before s x after total lt h so_far =
+items_continue {A} item count i before s x after total lt h so_far =
     let k : count - i ≡ suc (count - (i + 1)) = omega arith in
     let one : items_at item (count - i) before s ≡ items_at item (count - (i + 1)) (before ++ x ∷ []) after = rw (k, h) refl in
     sym one ∙ so_far

@@ -11,7 +11,7 @@ use Rattle.traces.specs.Limits.{is_within, keeps_completions}
 use Rattle.traces.specs.Setups.{trimmed, completion_size, canonical}
 use Rattle.traces.proofs.ObjectLaws.{within_most}
 use Rattle.traces.proofs.Startable.{startable, starting}
-use Rattle.traces.proofs.Trimming.{asked, canonical_kept, completion_again, entries_again, only_zeros, rings_kept}
+use Rattle.traces.proofs.Trimming.{required, canonical_kept, completion_again, entries_again, only_zeros, rings_kept}
 
 -- ---- a run can start from it
 
@@ -21,10 +21,10 @@ canonical_starts s h = starting (canonical s) (canonical_kept s (startable s h))
 -- ---- its rings have the same sizes
 
 pub submission_size_kept : (s : Setup) → setup_refusal s ≡ None → rounded (canonical s).entries ≡ rounded s.entries
-submission_size_kept s h = entries_again s.entries (rings_kept s (asked s (startable s h)).rings).0
+submission_size_kept s h = entries_again s.entries (rings_kept s (required s (startable s h)).rings).0
 
 pub completion_size_kept : (s : Setup) → setup_refusal s ≡ None → rounded (completion_entries (canonical s).entries (canonical s).cq) ≡ rounded (completion_entries s.entries s.cq)
-completion_size_kept s h = by s.cq (rings_kept s (asked s (startable s h)).rings).1
+completion_size_kept s h = by s.cq (rings_kept s (required s (startable s h)).rings).1
   where
     by : (cq : Option ℕ) → keeps_completions s.entries cq ≡ true → rounded (completion_size s.entries cq) ≡ rounded (completion_entries s.entries cq)
     by None k = refl
@@ -45,4 +45,4 @@ trimmed_filled size bytes le =
     ∙ ap (λ (n : ℕ). trimmed bytes ++ replicate n 0) left)
 
 pub memory_few : (s : Setup) → setup_refusal s ≡ None → length s.memory ≤ 65536
-memory_few s h = (asked s (startable s h)).memory
+memory_few s h = (required s (startable s h)).memory

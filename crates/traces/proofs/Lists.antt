@@ -8,7 +8,7 @@ use Rattle.std.proofs.lemmas.List.Concat.{flat_map-cons}
 use Rattle.byteorder.specs.Endian.{little_bytes}
 use Rattle.traces.specs.declared.fault.TraceFault.{TraceFault}
 use Rattle.traces.specs.Cursors.{Cursor}
-use Rattle.traces.specs.Limits.{all_behind}
+use Rattle.traces.specs.Limits.{all_with_prefix}
 use Rattle.traces.specs.Setups.{list_bytes}
 use Rattle.traces.specs.Reading.{count_at, items_at, list_at}
 use Rattle.traces.proofs.Taking.{IsBytes, bind_ok, ok_is, cursor_at, Takes, Takes-then, Again, width4, number_in_takes, number_in_again}
@@ -18,9 +18,9 @@ pub record Reads (A : Type 0) (item : List A → Cursor → Result (A × Cursor)
   pub takes : (before : List A) (s : Cursor) (x : A) (t : Cursor) → IsBytes s.rest → item before s ≡ Ok (x, t) → Takes s (bytes x) t × Fits before x
   pub again : (before : List A) (offset : ℕ) (x : A) (rest : List ℕ) → Fits before x → Again (item before) offset (bytes x ++ rest) x rest
 
-abbrev pub FitBehind : {A : Type 0} → (List A → A → Type 0) → List A → List A → Type 0
-FitBehind Fits before [] = Unit {0}
-FitBehind Fits before (x ∷ xs) = Fits before x × FitBehind Fits (before ++ x ∷ []) xs
+abbrev pub FitWithPrefix : {A : Type 0} → (List A → A → Type 0) → List A → List A → Type 0
+FitWithPrefix Fits before [] = Unit {0}
+FitWithPrefix Fits before (x ∷ xs) = Fits before x × FitWithPrefix Fits (before ++ x ∷ []) xs
 
 -- The items that were read, after the earlier ones.
 pub record Took (A : Type 0) (bytes : A → List ℕ) (Fits : List A → A → Type 0) (n : ℕ) (before : List A) (s : Cursor) (all : List A) (t : Cursor) : Type 0 where
@@ -28,7 +28,7 @@ pub record Took (A : Type 0) (bytes : A → List ℕ) (Fits : List A → A → T
   pub all-is : all ≡ before ++ xs
   pub count : length xs ≡ n
   pub taken : Takes s (flat_map bytes xs) t
-  pub fit : FitBehind Fits before xs
+  pub fit : FitWithPrefix Fits before xs
 
 items_take : (A : Type 0) (item : List A → Cursor → Result (A × Cursor) TraceFault) (bytes : A → List ℕ) (Fits : List A → A → Type 0) → Reads A item bytes Fits
     → (n : ℕ) (before : List A) (s : Cursor) (all : List A) (t : Cursor) → IsBytes s.rest → items_at item n before s ≡ Ok (all, t) → Took A bytes Fits n before s all t
@@ -50,7 +50,7 @@ items_take A item bytes Fits r (suc n) before s all t fits e =
     }
 
 items_again : (A : Type 0) (item : List A → Cursor → Result (A × Cursor) TraceFault) (bytes : A → List ℕ) (Fits : List A → A → Type 0) → Reads A item bytes Fits
-    → (xs before : List A) (offset : ℕ) (rest : List ℕ) → FitBehind Fits before xs
+    → (xs before : List A) (offset : ℕ) (rest : List ℕ) → FitWithPrefix Fits before xs
     → (o : ℕ) × (items_at item (length xs) before (cursor_at offset (flat_map bytes xs ++ rest)) ≡ Ok (before ++ xs, cursor_at o rest))
 unfolding items_at
 items_again A item bytes Fits r [] before offset rest fit = (offset, ap (λ (l : List A). Ok (l, cursor_at offset rest)) (sym (append-nil before)))
@@ -66,18 +66,18 @@ items_again A item bytes Fits r (x ∷ xs) before offset rest fit =
 
 pub list_takes : (A : Type 0) (item : List A → Cursor → Result (A × Cursor) TraceFault) (bytes : A → List ℕ) (Fits : List A → A → Type 0) → Reads A item bytes Fits
     → (most : ℕ) (s : Cursor) (xs : List A) (t : Cursor) → IsBytes s.rest → list_at most item s ≡ Ok (xs, t)
-    → Takes s (list_bytes bytes xs) t × (nat_le (length xs) most ≡ true) × FitBehind Fits [] xs
+    → Takes s (list_bytes bytes xs) t × (nat_le (length xs) most ≡ true) × FitWithPrefix Fits [] xs
 unfolding list_at
 list_takes A item bytes Fits r most s xs t fits e =
     let a = bind_ok (count_at most s) (λ n. items_at item n.0 [] n.1) (xs, t) e in
     let count = number_in_takes 4 width4 (λ n. nat_le n most) s a.0.0 a.0.1 fits a.1 in
     let items = items_take A item bytes Fits r a.0.0 [] a.0.1 xs t count.0.fits a.2 in
     let both = Takes-then s (little_bytes 4 a.0.0) a.0.1 (flat_map bytes items.xs) t count.0 items.taken in
-    let counted = subst (λ (n : ℕ). Takes s (little_bytes 4 n ++ flat_map bytes items.xs) t × (nat_le n most ≡ true) × FitBehind Fits [] items.xs) (sym items.count) (both, count.2, items.fit) in
-    subst (λ (ys : List A). Takes s (list_bytes bytes ys) t × (nat_le (length ys) most ≡ true) × FitBehind Fits [] ys) (sym items.all-is) counted
+    let counted = subst (λ (n : ℕ). Takes s (little_bytes 4 n ++ flat_map bytes items.xs) t × (nat_le n most ≡ true) × FitWithPrefix Fits [] items.xs) (sym items.count) (both, count.2, items.fit) in
+    subst (λ (ys : List A). Takes s (list_bytes bytes ys) t × (nat_le (length ys) most ≡ true) × FitWithPrefix Fits [] ys) (sym items.all-is) counted
 
 pub list_again : (A : Type 0) (item : List A → Cursor → Result (A × Cursor) TraceFault) (bytes : A → List ℕ) (Fits : List A → A → Type 0) → Reads A item bytes Fits
-    → (most offset : ℕ) (xs : List A) (rest : List ℕ) → most < 2 ^ 32 → nat_le (length xs) most ≡ true → FitBehind Fits [] xs
+    → (most offset : ℕ) (xs : List A) (rest : List ℕ) → most < 2 ^ 32 → nat_le (length xs) most ≡ true → FitWithPrefix Fits [] xs
     → Again (list_at most item) offset (list_bytes bytes xs ++ rest) xs rest
 unfolding list_at
 list_again A item bytes Fits r most offset xs rest small le fit =
@@ -88,25 +88,25 @@ list_again A item bytes Fits r most offset xs rest small le fit =
     (b.0, ap (λ (input : List ℕ). list_at most item (cursor_at offset input)) regrouped ∙ rw (a.1, b.1) refl)
 
 -- A test of each item that may depend on the earlier ones.
-pub behind_fit : {A : Type 0} (keeps : List A → A → Bool) (before xs : List A) → all_behind keeps before xs ≡ true → FitBehind (λ b x. keeps b x ≡ true) before xs
-behind_fit keeps before [] h = tt
-behind_fit keeps before (x ∷ xs) h =
+pub prefix_fits : {A : Type 0} (keeps : List A → A → Bool) (before xs : List A) → all_with_prefix keeps before xs ≡ true → FitWithPrefix (λ b x. keeps b x ≡ true) before xs
+prefix_fits keeps before [] h = tt
+prefix_fits keeps before (x ∷ xs) h =
     let p = and_parts _ _ h in
-    (p.0, behind_fit keeps (before ++ x ∷ []) xs p.1)
+    (p.0, prefix_fits keeps (before ++ x ∷ []) xs p.1)
 
-pub fit_behind : {A : Type 0} (keeps : List A → A → Bool) (before xs : List A) → FitBehind (λ b x. keeps b x ≡ true) before xs → all_behind keeps before xs ≡ true
-fit_behind keeps before [] h = refl
-fit_behind keeps before (x ∷ xs) h = and_from _ _ h.0 (fit_behind keeps (before ++ x ∷ []) xs h.1)
+pub fits_with_prefix : {A : Type 0} (keeps : List A → A → Bool) (before xs : List A) → FitWithPrefix (λ b x. keeps b x ≡ true) before xs → all_with_prefix keeps before xs ≡ true
+fits_with_prefix keeps before [] h = refl
+fits_with_prefix keeps before (x ∷ xs) h = and_from _ _ h.0 (fits_with_prefix keeps (before ++ x ∷ []) xs h.1)
 
 -- A test of each item, together with a property of each item.
 pub all_fit : {A : Type 0} (keeps : A → Bool) (Wide : A → Type 0) (before xs : List A) → list_all keeps xs ≡ true → AllByRecursion Wide xs
-    → FitBehind (λ b x. (keeps x ≡ true) × Wide x) before xs
+    → FitWithPrefix (λ b x. (keeps x ≡ true) × Wide x) before xs
 all_fit keeps Wide before [] h w = tt
 all_fit keeps Wide before (x ∷ xs) h w =
     let p = and_parts _ _ h in
     ((p.0, w.0), all_fit keeps Wide (before ++ x ∷ []) xs p.1 w.1)
 
-pub fit_all : {A : Type 0} (keeps : A → Bool) (Wide : A → Type 0) (before xs : List A) → FitBehind (λ b x. (keeps x ≡ true) × Wide x) before xs
+pub fit_all : {A : Type 0} (keeps : A → Bool) (Wide : A → Type 0) (before xs : List A) → FitWithPrefix (λ b x. (keeps x ≡ true) × Wide x) before xs
     → (list_all keeps xs ≡ true) × AllByRecursion Wide xs
 fit_all keeps Wide before [] h = (refl, tt)
 fit_all keeps Wide before (x ∷ xs) h =

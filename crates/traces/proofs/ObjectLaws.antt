@@ -241,10 +241,10 @@ pub descriptor_reads : (objects : List Object) → length objects ≤ 32
 descriptor_reads objects few = record { takes = descriptor_takes objects; again = descriptor_again objects few }
 
 -- A descriptor is read if its object is in the list and has its end.
-pub descriptor_is : (objects : List Object) (s : Cursor) (i : ℕ) (behind : Cursor) (o : Object) (e : End) (t : Cursor) → i < length objects
-    → number_in 1 (λ n. nat_lt n (length objects)) s ≡ Ok (i, behind) → o ≡ get_or objects i o → end_at (Some o) behind ≡ Ok (e, t)
+pub descriptor_is : (objects : List Object) (s : Cursor) (i : ℕ) (mid : Cursor) (o : Object) (e : End) (t : Cursor) → i < length objects
+    → number_in 1 (λ n. nat_lt n (length objects)) s ≡ Ok (i, mid) → o ≡ get_or objects i o → end_at (Some o) mid ≡ Ok (e, t)
     → descriptor_at objects s ≡ Ok (record { object = i; end = e }, t)
 unfolding descriptor_at
-descriptor_is objects s i behind o e t lt number there end =
+descriptor_is objects s i mid o e t lt number there end =
     let found : slice_get objects i ≡ Some o = slice_get_read objects (length objects) i o refl lt there in
     rw (number, found, end) refl

@@ -18,7 +18,7 @@ use Rattle.traces.specs.Faults.{BeginsAs, IsCountedFault, IsFault}
 use Rattle.scenario.specs.Setups.{setup_refusal}
 use Rattle.traces.specs.Limits.{Widths}
 use Rattle.traces.specs.Setups.{setup_bytes, magic2, trace2_bytes, canonical, IsTrace2}
-use Rattle.traces.specs.Reading.{number_in, setup_at, behind_magic, IsBodyFault, IsFault2}
+use Rattle.traces.specs.Reading.{number_in, setup_at, after_magic, IsBodyFault, IsFault2}
 use Rattle.traces.proofs.Taking.{IsBytes, IsBytes-drop, ok_is, cursor_at}
 use Rattle.traces.proofs.Traces.{same_trace, no_counted_fault, begins}
 use Rattle.traces.proofs.SetupLaws.{Spelled, setup_takes, setup_again}
@@ -39,10 +39,10 @@ unfolding setup_at number_in
 nothing_read = refl
 
 -- Bytes that end before the setup.
-pub short_fault : (bytes : List ℕ) → length bytes < 8 → IsBodyFault (setup_at (behind_magic bytes)) Truncated
+pub short_fault : (bytes : List ℕ) → length bytes < 8 → IsBodyFault (setup_at (after_magic bytes)) Truncated
 short_fault bytes lt =
     let none : drop 8 bytes ≡ [] = drop_all 8 bytes (omega arith) in
-    let e : setup_at (behind_magic bytes) ≡ Err Truncated = ap (λ (xs : List ℕ). setup_at (cursor_at 8 xs)) none ∙ nothing_read in
+    let e : setup_at (after_magic bytes) ≡ Err Truncated = ap (λ (xs : List ℕ). setup_at (cursor_at 8 xs)) none ∙ nothing_read in
     subst (λ (x : Result (Setup × Cursor) TraceFault). IsBodyFault x Truncated) (sym e) refl
 
 -- The bytes after the magic.
@@ -53,12 +53,12 @@ begun bytes le h =
     sym (take-append-drop 8 bytes) ∙ ap (λ (xs : List ℕ). xs ++ drop 8 bytes) front
 
 abbrev pub Body : List ℕ → Setup → List Event → Type 0
-Body bytes setup events = (s : Cursor) × (setup_at (behind_magic bytes) ≡ Ok (setup, s)) × (s.rest ≡ counted_bytes events) × AreEvents events
+Body bytes setup events = (s : Cursor) × (setup_at (after_magic bytes) ≡ Ok (setup, s)) × (s.rest ≡ counted_bytes events) × AreEvents events
 
 -- The setup and events that were read have this trace.
 body_spelled : (bytes : List ℕ) (setup : Setup) (events : List Event) → IsBytes bytes → 8 ≤ length bytes → BeginsAs magic2 bytes → Body bytes setup events → IsTrace2 setup events bytes
 body_spelled bytes setup events fits le h body =
-    let t = setup_takes (behind_magic bytes) setup body.0 (IsBytes-drop 8 bytes fits) body.1 in
+    let t = setup_takes (after_magic bytes) setup body.0 (IsBytes-drop 8 bytes fits) body.1 in
     record {
       canonical = t.1.canonical;
       starts = starting setup t.1.ranges;
@@ -73,16 +73,16 @@ is_found bytes (Ok v) fits le h body = body_spelled bytes v.0 v.1.items fits le 
 is_found bytes (Err e) fits le h body = tt
 
 pub is_fault : (bytes : List ℕ) (r : Result (Setup × Vec Event) TraceFault) → BeginsAs magic2 bytes
-    → IfErr r (λ fault. (fault ≡ Memory) ⊎ IsBodyFault (setup_at (behind_magic bytes)) fault) → IfErr r (λ fault. (fault ≡ Memory) ⊎ IsFault2 bytes fault)
+    → IfErr r (λ fault. (fault ≡ Memory) ⊎ IsBodyFault (setup_at (after_magic bytes)) fault) → IfErr r (λ fault. (fault ≡ Memory) ⊎ IsFault2 bytes fault)
 is_fault bytes (Ok v) h f = tt
 is_fault bytes (Err fault) h f = elim f [ inl e ↦ inl e | inr g ↦ inr (inr (h, g)) ]
 
 -- The trace of a setup and events is read.
-again2 : (setup : Setup) (events : List Event) (bytes : List ℕ) → IsTrace2 setup events bytes → (o : ℕ) × (setup_at (behind_magic bytes) ≡ Ok (setup, cursor_at o (counted_bytes events)))
+again2 : (setup : Setup) (events : List Event) (bytes : List ℕ) → IsTrace2 setup events bytes → (o : ℕ) × (setup_at (after_magic bytes) ≡ Ok (setup, cursor_at o (counted_bytes events)))
 again2 setup events bytes h =
     let spelled : Spelled setup = record { canonical = h.canonical; ranges = startable setup h.starts; widths = h.widths } in
     let a = setup_again 8 setup (counted_bytes events) spelled in
-    (a.0, ap (λ (xs : List ℕ). setup_at (behind_magic xs)) h.spelled ∙ a.1)
+    (a.0, ap (λ (xs : List ℕ). setup_at (after_magic xs)) h.spelled ∙ a.1)
 
 same_events : (d e : List Event) → AreEvents d → AreEvents e → counted_bytes d ≡ counted_bytes e → d ≡ e
 same_events d e f g h = same_trace d e (trace_bytes d) (f, refl) (g, ap (λ (xs : List ℕ). magic ++ xs) h)

@@ -11,11 +11,11 @@ use Rattle.scenario.specs.declared.setup.Instruction.{Instruction}
 use Rattle.scenario.specs.declared.setup.Setup.{Setup}
 use Rattle.traces.specs.declared.fault.TraceFault.{TraceFault}
 use Rattle.traces.specs.Cursors.{Cursor}
-use Rattle.traces.specs.Limits.{is_within, is_size, is_completion_size, all_behind, keeps_object, keeps_descriptor, keeps_program, keeps_completions, keeps_rings, keeps_objects, keeps_threads, keeps_ranges, HasWidths, Widths}
+use Rattle.traces.specs.Limits.{is_within, is_size, is_completion_size, all_with_prefix, keeps_object, keeps_descriptor, keeps_program, keeps_completions, keeps_rings, keeps_objects, keeps_threads, keeps_ranges, HasWidths, Widths}
 use Rattle.traces.specs.Setups.{list_bytes, long_bytes, object_bytes, descriptor_bytes, program_bytes, options_number, setup_bytes, is_trimmed, IsCanonical}
 use Rattle.traces.specs.Reading.{◌>>=◌, kept, number_at, number_in, long_at, list_at, object_at, descriptor_at, program_at, memory_at, setup_at}
 use Rattle.traces.proofs.Taking.{IsBytes, bind_ok, kept_ok, ok_is, cursor_at, Takes, Takes-then, Again, width1, width2, width4, number_takes, number_again, number_in_takes, number_in_again, long_takes, long_again}
-use Rattle.traces.proofs.Lists.{list_takes, list_again, behind_fit, fit_behind, all_fit, fit_all, no_more}
+use Rattle.traces.proofs.Lists.{list_takes, list_again, prefix_fits, fits_with_prefix, all_fit, fit_all, no_more}
 use Rattle.traces.proofs.ObjectLaws.{object_reads, descriptor_reads}
 use Rattle.traces.proofs.ProgramLaws.{program_reads}
 
@@ -114,7 +114,7 @@ pub record Parts (entries completions options base : ℕ) (memory : List ℕ) (o
   pub memory_few : nat_le (length memory) 65536 ≡ true
   pub memory_trim : is_trimmed memory ≡ true
   pub objects_few : nat_le (length objects) 32 ≡ true
-  pub objects_ok : all_behind keeps_object [] objects ≡ true
+  pub objects_ok : all_with_prefix keeps_object [] objects ≡ true
   pub fds_few : nat_le (length fds) 64 ≡ true
   pub fds_ok : list_all (keeps_descriptor objects) fds ≡ true
   pub threads_few : nat_le (length threads) 16 ≡ true
@@ -145,7 +145,7 @@ record Things (entries completions options base : ℕ) (s : Cursor) (x : Setup) 
   memory_few : nat_le (length memory) 65536 ≡ true
   memory_trim : is_trimmed memory ≡ true
   objects_few : nat_le (length objects) 32 ≡ true
-  objects_ok : all_behind keeps_object [] objects ≡ true
+  objects_ok : all_with_prefix keeps_object [] objects ≡ true
   fds_few : nat_le (length fds) 64 ≡ true
   fds_ok : list_all (keeps_descriptor objects) fds ≡ true
   threads_few : nat_le (length threads) 16 ≡ true
@@ -158,7 +158,7 @@ finish x t = Ok (x, t)
 
 threads_take : (entries completions options base : ℕ) (s : Cursor) (memory : List ℕ) (s1 : Cursor) (objects : List Object) (s2 : Cursor) (fds : List Descriptor) (s3 : Cursor) (x : Setup) (t : Cursor) → entries ≤ 4096
     → Takes s (long_bytes memory) s1 → nat_le (length memory) 65536 ≡ true → is_trimmed memory ≡ true
-    → Takes s1 (list_bytes object_bytes objects) s2 → nat_le (length objects) 32 ≡ true → all_behind keeps_object [] objects ≡ true
+    → Takes s1 (list_bytes object_bytes objects) s2 → nat_le (length objects) 32 ≡ true → all_with_prefix keeps_object [] objects ≡ true
     → Takes s2 (list_bytes descriptor_bytes fds) s3 → nat_le (length fds) 64 ≡ true → list_all (keeps_descriptor objects) fds ≡ true
     → (list_at 16 (λ before. program_at entries) s3 >>= λ threads. finish (setup_of entries completions options base memory objects fds threads.0) threads.1) ≡ Ok (x, t)
     → Things entries completions options base s x t
@@ -191,7 +191,7 @@ threads_take entries completions options base s memory s1 objects s2 fds s3 x t 
 
 fds_take : (entries completions options base : ℕ) (s : Cursor) (memory : List ℕ) (s1 : Cursor) (objects : List Object) (s2 : Cursor) (x : Setup) (t : Cursor) → entries ≤ 4096
     → Takes s (long_bytes memory) s1 → nat_le (length memory) 65536 ≡ true → is_trimmed memory ≡ true
-    → Takes s1 (list_bytes object_bytes objects) s2 → nat_le (length objects) 32 ≡ true → all_behind keeps_object [] objects ≡ true
+    → Takes s1 (list_bytes object_bytes objects) s2 → nat_le (length objects) 32 ≡ true → all_with_prefix keeps_object [] objects ≡ true
     → (list_at 64 (λ before. descriptor_at objects) s2 >>= λ fds. list_at 16 (λ before. program_at entries) fds.1 >>= λ threads. finish (setup_of entries completions options base memory objects fds.0 threads.0) threads.1) ≡ Ok (x, t)
     → Things entries completions options base s x t
 fds_take entries completions options base s memory s1 objects s2 x t slots m m1 m2 o o1 o2 e =
@@ -208,7 +208,7 @@ objects_take : (entries completions options base : ℕ) (s : Cursor) (memory : L
 objects_take entries completions options base s memory s1 x t slots m m1 m2 e =
     let a = bind_ok (list_at 32 object_at s1) (λ objects. list_at 64 (λ before. descriptor_at objects.0) objects.1 >>= λ fds. list_at 16 (λ before. program_at entries) fds.1 >>= λ threads. finish (setup_of entries completions options base memory objects.0 fds.0 threads.0) threads.1) (x, t) e in
     let objects = list_takes Object object_at object_bytes (λ before o. keeps_object before o ≡ true) object_reads 32 s1 a.0.0 a.0.1 m.fits a.1 in
-    fds_take entries completions options base s memory s1 a.0.0 a.0.1 x t slots m m1 m2 objects.0 objects.1 (fit_behind keeps_object [] a.0.0 objects.2) a.2
+    fds_take entries completions options base s memory s1 a.0.0 a.0.1 x t slots m m1 m2 objects.0 objects.1 (fits_with_prefix keeps_object [] a.0.0 objects.2) a.2
 
 things_take : (entries completions options base : ℕ) (s : Cursor) (x : Setup) (t : Cursor) → entries ≤ 4096 → IsBytes s.rest
     → (memory_at s >>= λ memory. list_at 32 object_at memory.1 >>= λ objects. list_at 64 (λ before. descriptor_at objects.0) objects.1 >>= λ fds. list_at 16 (λ before. program_at entries) fds.1 >>= λ threads. finish (setup_of entries completions options base memory.0 objects.0 fds.0 threads.0) threads.1) ≡ Ok (x, t)
@@ -297,7 +297,7 @@ parts_again offset entries completions options base memory objects fds threads r
     let c = number_in_again 1 (λ n. nat_lt n 4) b.0 options r3 (omega arith) p.options_ok in
     let d = number_again 4 c.0 base r4 (omega arith) in
     let f = memory_again d.0 memory r5 p.memory_few p.memory_trim in
-    let g = list_again Object object_at object_bytes (λ before o. keeps_object before o ≡ true) object_reads 32 f.0 objects r6 (omega arith) p.objects_few (behind_fit keeps_object [] objects p.objects_ok) in
+    let g = list_again Object object_at object_bytes (λ before o. keeps_object before o ≡ true) object_reads 32 f.0 objects r6 (omega arith) p.objects_few (prefix_fits keeps_object [] objects p.objects_ok) in
     let h = list_again Descriptor (λ before. descriptor_at objects) descriptor_bytes (λ before d. (keeps_descriptor objects d ≡ true) × Unit {0}) (descriptor_reads objects few) 64 g.0 fds r7 (omega arith) p.fds_few
     (all_fit (keeps_descriptor objects) (λ d. Unit {0}) [] fds p.fds_ok (no_more fds)) in
     let i = list_again (List Instruction) (λ before. program_at entries) program_bytes (λ before p. (keeps_program entries p ≡ true) × AllByRecursion HasWidths p) (program_reads entries slots) 16 h.0 threads rest (omega arith) p.threads_few
@@ -348,14 +348,14 @@ to_parts x completions cq s =
     let q = and_parts (keeps_rings x && keeps_objects x) (keeps_threads x) s.ranges in
     let r = and_parts (keeps_rings x) (keeps_objects x) q.0 in
     let rings = and_parts (is_within 1 4096 x.entries) (keeps_completions x.entries x.cq) r.0 in
-    let beside : keeps_completions x.entries (Some completions) ≡ true = subst (λ (o : Option ℕ). keeps_completions x.entries o ≡ true) cq rings.1 in
-    let order = and_parts (is_within 1 8192 completions) (nat_le (rounded x.entries) (rounded completions)) beside in
+    let completions_kept : keeps_completions x.entries (Some completions) ≡ true = subst (λ (o : Option ℕ). keeps_completions x.entries o ≡ true) cq rings.1 in
+    let order = and_parts (is_within 1 8192 completions) (nat_le (rounded x.entries) (rounded completions)) completions_kept in
     let same : rounded x.entries ≡ x.entries = size_rounded 4096 x.entries entries_ok in
     let also : rounded completions ≡ completions = size_rounded 8192 completions size in
     let above : nat_le x.entries completions ≡ true = subst (λ (n : ℕ). nat_le n completions ≡ true) same (subst (λ (n : ℕ). nat_le (rounded x.entries) n ≡ true) also order.1) in
-    let o5 = and_parts (nat_le (length x.memory) 65536 && nat_le (length x.objects) 32 && all_behind keeps_object [] x.objects && nat_le (length x.fds) 64) (list_all (keeps_descriptor x.objects) x.fds) r.1 in
-    let o4 = and_parts (nat_le (length x.memory) 65536 && nat_le (length x.objects) 32 && all_behind keeps_object [] x.objects) (nat_le (length x.fds) 64) o5.0 in
-    let o3 = and_parts (nat_le (length x.memory) 65536 && nat_le (length x.objects) 32) (all_behind keeps_object [] x.objects) o4.0 in
+    let o5 = and_parts (nat_le (length x.memory) 65536 && nat_le (length x.objects) 32 && all_with_prefix keeps_object [] x.objects && nat_le (length x.fds) 64) (list_all (keeps_descriptor x.objects) x.fds) r.1 in
+    let o4 = and_parts (nat_le (length x.memory) 65536 && nat_le (length x.objects) 32 && all_with_prefix keeps_object [] x.objects) (nat_le (length x.fds) 64) o5.0 in
+    let o3 = and_parts (nat_le (length x.memory) 65536 && nat_le (length x.objects) 32) (all_with_prefix keeps_object [] x.objects) o4.0 in
     let o2 = and_parts (nat_le (length x.memory) 65536) (nat_le (length x.objects) 32) o3.0 in
     let th = and_parts (nat_le (length x.threads) 16) (list_all (keeps_program (rounded x.entries)) x.threads) q.1 in
     record {

@@ -19,7 +19,7 @@ use Rattle.scenario.specs.declared.setup.Instruction.TheVariants.{Put, Push, Sto
 use Rattle.scenario.specs.declared.setup.Setup.{Setup}
 use Rattle.scenario.specs.declared.setup.SetupRefusal.TheVariants.{RingSize, Limit}
 use Rattle.scenario.specs.Setups.{is_completion_size, has_ring_sizes, is_instruction, is_program, has_programs, has_memory, is_name, is_contents, is_object, is_named, names_once, has_objects, is_end, is_descriptor, has_descriptors, keeps_limits, setup_refusal}
-use Rattle.traces.specs.Limits.{is_within, is_name_byte, is_new_name, is_same, has_name, keeps_objects, keeps_threads, keeps_contents, keeps_object, all_behind, end_number, is_end_of, is_end as is_end_number, keeps_descriptor, keeps_instruction, keeps_program, keeps_completions, keeps_rings, keeps_ranges}
+use Rattle.traces.specs.Limits.{is_within, is_name_byte, is_new_name, is_same, has_name, keeps_objects, keeps_threads, keeps_contents, keeps_object, all_with_prefix, end_number, is_end_of, is_end as is_end_number, keeps_descriptor, keeps_instruction, keeps_program, keeps_completions, keeps_rings, keeps_ranges}
 
 -- ---- the items of a list
 
@@ -39,15 +39,15 @@ no_no : (a : Bool) → not a ≡ true → a ≡ false
 no_no false h = refl
 no_no true h = absurd cc
 
-none_in : (name : List ℕ) (before behind : List Object) (o : Object) → list_any (is_named name) (before ++ o ∷ behind) ≡ false → bytes_eq name o.name ≡ false
-none_in name [] behind o h = (or_parts _ _ h).0
-none_in name (p ∷ before) behind o h = none_in name before behind o (or_parts _ _ h).1
+none_in : (name : List ℕ) (before rest : List Object) (o : Object) → list_any (is_named name) (before ++ o ∷ rest) ≡ false → bytes_eq name o.name ≡ false
+none_in name [] rest o h = (or_parts _ _ h).0
+none_in name (p ∷ before) rest o h = none_in name before rest o (or_parts _ _ h).1
 
-new_name : (before behind : List Object) (o : Object) → names_once (before ++ o ∷ behind) ≡ true → has_name before o.name ≡ false
-new_name [] behind o h = refl
-new_name (p ∷ before) behind o h =
-    let b = and_parts (not (list_any (is_named p.name) (before ++ o ∷ behind))) (names_once (before ++ o ∷ behind)) h in
-    ap (λ x. x || has_name before o.name) (agree p.name o.name ∙ none_in p.name before behind o (no_no _ b.0)) ∙ new_name before behind o b.1
+new_name : (before rest : List Object) (o : Object) → names_once (before ++ o ∷ rest) ≡ true → has_name before o.name ≡ false
+new_name [] rest o h = refl
+new_name (p ∷ before) rest o h =
+    let b = and_parts (not (list_any (is_named p.name) (before ++ o ∷ rest))) (names_once (before ++ o ∷ rest)) h in
+    ap (λ x. x || has_name before o.name) (agree p.name o.name ∙ none_in p.name before rest o (no_no _ b.0)) ∙ new_name before rest o b.1
 
 -- ---- objects
 
@@ -62,7 +62,7 @@ object_kept before o h fresh =
     let n = and_parts _ _ b.0 in
     and_from _ _ (and_from _ _ n.0 (and_from _ _ n.1 (ap not fresh))) (contents_kept o.contents b.1)
 
-objects_kept : (before objects : List Object) → names_once (before ++ objects) ≡ true → list_all is_object objects ≡ true → all_behind keeps_object before objects ≡ true
+objects_kept : (before objects : List Object) → names_once (before ++ objects) ≡ true → list_all is_object objects ≡ true → all_with_prefix keeps_object before objects ≡ true
 objects_kept before [] once h = refl
 objects_kept before (o ∷ os) once h =
     let b = and_parts (is_object o) (list_all is_object os) h in
@@ -75,20 +75,20 @@ objects_kept before (o ∷ os) once h =
 descriptor_kept : (objects : List Object) (d : Descriptor) → is_descriptor objects d ≡ true → keeps_descriptor objects d ≡ true
 descriptor_kept objects d h = at (slice_get objects d.object) d.end h
   where
-    of : (c : Contents) (e : End) → is_end c e ≡ true → is_end_of c (end_number e) ≡ true
-    of (Pipe capacity) Whole t = absurd cc
-    of (Pipe capacity) Read t = refl
-    of (Pipe capacity) Write t = refl
-    of (File bytes) Whole t = refl
-    of (File bytes) Read t = absurd cc
-    of (File bytes) Write t = absurd cc
-    of (EventFd counter) Whole t = refl
-    of (EventFd counter) Read t = absurd cc
-    of (EventFd counter) Write t = absurd cc
+    end_of_contents : (c : Contents) (e : End) → is_end c e ≡ true → is_end_of c (end_number e) ≡ true
+    end_of_contents (Pipe capacity) Whole t = absurd cc
+    end_of_contents (Pipe capacity) Read t = refl
+    end_of_contents (Pipe capacity) Write t = refl
+    end_of_contents (File bytes) Whole t = refl
+    end_of_contents (File bytes) Read t = absurd cc
+    end_of_contents (File bytes) Write t = absurd cc
+    end_of_contents (EventFd counter) Whole t = refl
+    end_of_contents (EventFd counter) Read t = absurd cc
+    end_of_contents (EventFd counter) Write t = absurd cc
 
     at : (o : Option Object) (e : End) → option_map_or (λ (x : Object). is_end x.contents e) o false ≡ true → is_end_number o (end_number e) ≡ true
     at None e t = absurd cc
-    at (Some o) e t = of o.contents e t
+    at (Some o) e t = end_of_contents o.contents e t
 
 instruction_kept : (slots : ℕ) (x : Instruction) → is_instruction slots x ≡ true → keeps_instruction slots x ≡ true
 instruction_kept slots (Put slot entry) h = h
@@ -119,7 +119,7 @@ parts_kept s sizes limits =
     let f = and_parts _ _ d.0 in
     let t = and_parts _ _ d.1 in
     let rings : keeps_rings s ≡ true = and_from _ _ r.0 (completions_kept s.entries s.cq r.1) in
-    let objects : all_behind keeps_object [] s.objects ≡ true = objects_kept [] s.objects o2.1 o3.1 in
+    let objects : all_with_prefix keeps_object [] s.objects ≡ true = objects_kept [] s.objects o2.1 o3.1 in
     let fds : list_all (keeps_descriptor s.objects) s.fds ≡ true = each (is_descriptor s.objects) (keeps_descriptor s.objects) s.fds (descriptor_kept s.objects) f.1 in
     let programs : list_all (keeps_program (rounded s.entries)) s.threads ≡ true = each (is_program (rounded s.entries)) (keeps_program (rounded s.entries)) s.threads (program_kept (rounded s.entries)) t.1 in
     and_from _ _ (and_from _ _ rings (and_from _ _ (and_from _ _ (and_from _ _ (and_from _ _ m.0 o3.0) objects) f.0) fds)) (and_from _ _ t.0 programs)
@@ -160,10 +160,10 @@ name_kept before o h =
     contents_back (Pipe capacity) t = t
     contents_back (EventFd counter) t = let l = ltb-true counter (2 ^ 64 - 1) t in le-leb counter (2 ^ 64 - 2) (omega (arith, l))
 
-objects_back : (before objects : List Object) → names_once before ≡ true → all_behind keeps_object before objects ≡ true → (names_once (before ++ objects) ≡ true) × (list_all is_object objects ≡ true)
+objects_back : (before objects : List Object) → names_once before ≡ true → all_with_prefix keeps_object before objects ≡ true → (names_once (before ++ objects) ≡ true) × (list_all is_object objects ≡ true)
 objects_back before [] once h = (let same : before ++ [] ≡ before = simp append-nil in ap names_once same ∙ once, refl)
 objects_back before (o ∷ os) once h =
-    let b = and_parts (keeps_object before o) (all_behind keeps_object (before ++ o ∷ []) os) h in
+    let b = and_parts (keeps_object before o) (all_with_prefix keeps_object (before ++ o ∷ []) os) h in
     let k = name_kept before o b.0 in
     let more = objects_back (before ++ o ∷ []) os (once_more before o once k.1) b.1 in
     let same : (before ++ o ∷ []) ++ os ≡ before ++ o ∷ os = simp append_assoc in
@@ -172,20 +172,20 @@ objects_back before (o ∷ os) once h =
 descriptor_back : (objects : List Object) (d : Descriptor) → keeps_descriptor objects d ≡ true → is_descriptor objects d ≡ true
 descriptor_back objects d h = at (slice_get objects d.object) d.end h
   where
-    of : (c : Contents) (e : End) → is_end_of c (end_number e) ≡ true → is_end c e ≡ true
-    of (Pipe capacity) Whole t = absurd cc
-    of (Pipe capacity) Read t = refl
-    of (Pipe capacity) Write t = refl
-    of (File bytes) Whole t = refl
-    of (File bytes) Read t = absurd cc
-    of (File bytes) Write t = absurd cc
-    of (EventFd counter) Whole t = refl
-    of (EventFd counter) Read t = absurd cc
-    of (EventFd counter) Write t = absurd cc
+    end_of_contents : (c : Contents) (e : End) → is_end_of c (end_number e) ≡ true → is_end c e ≡ true
+    end_of_contents (Pipe capacity) Whole t = absurd cc
+    end_of_contents (Pipe capacity) Read t = refl
+    end_of_contents (Pipe capacity) Write t = refl
+    end_of_contents (File bytes) Whole t = refl
+    end_of_contents (File bytes) Read t = absurd cc
+    end_of_contents (File bytes) Write t = absurd cc
+    end_of_contents (EventFd counter) Whole t = refl
+    end_of_contents (EventFd counter) Read t = absurd cc
+    end_of_contents (EventFd counter) Write t = absurd cc
 
     at : (o : Option Object) (e : End) → is_end_number o (end_number e) ≡ true → option_map_or (λ (x : Object). is_end x.contents e) o false ≡ true
     at None e t = absurd cc
-    at (Some o) e t = of o.contents e t
+    at (Some o) e t = end_of_contents o.contents e t
 
 instruction_back : (slots : ℕ) (x : Instruction) → keeps_instruction slots x ≡ true → is_instruction slots x ≡ true
 instruction_back slots (Put slot entry) h = h
@@ -211,9 +211,9 @@ starting s h =
     let t = and_parts (keeps_rings s && keeps_objects s) (keeps_threads s) h in
     let r = and_parts (keeps_rings s) (keeps_objects s) t.0 in
     let rings = and_parts (is_within 1 4096 s.entries) (keeps_completions s.entries s.cq) r.0 in
-    let d = and_parts (nat_le (length s.memory) 65536 && nat_le (length s.objects) 32 && all_behind keeps_object [] s.objects && nat_le (length s.fds) 64) (list_all (keeps_descriptor s.objects) s.fds) r.1 in
-    let f = and_parts (nat_le (length s.memory) 65536 && nat_le (length s.objects) 32 && all_behind keeps_object [] s.objects) (nat_le (length s.fds) 64) d.0 in
-    let o = and_parts (nat_le (length s.memory) 65536 && nat_le (length s.objects) 32) (all_behind keeps_object [] s.objects) f.0 in
+    let d = and_parts (nat_le (length s.memory) 65536 && nat_le (length s.objects) 32 && all_with_prefix keeps_object [] s.objects && nat_le (length s.fds) 64) (list_all (keeps_descriptor s.objects) s.fds) r.1 in
+    let f = and_parts (nat_le (length s.memory) 65536 && nat_le (length s.objects) 32 && all_with_prefix keeps_object [] s.objects) (nat_le (length s.fds) 64) d.0 in
+    let o = and_parts (nat_le (length s.memory) 65536 && nat_le (length s.objects) 32) (all_with_prefix keeps_object [] s.objects) f.0 in
     let m = and_parts (nat_le (length s.memory) 65536) (nat_le (length s.objects) 32) o.0 in
     let p = and_parts (nat_le (length s.threads) 16) (list_all (keeps_program (rounded s.entries)) s.threads) t.1 in
     let named = objects_back [] s.objects refl o.1 in

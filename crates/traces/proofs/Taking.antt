@@ -100,8 +100,8 @@ number_again n offset x rest lt =
     let len : length (little_bytes n x) ≡ n = length-bytes_low_first 0 n x in
     let long : ltb (length (little_bytes n x ++ rest)) n ≡ false = le-ltb _ _ (omega (arith, length-append (little_bytes n x) rest)) in
     let value : little_number n (little_bytes n x ++ rest) ≡ x = little_number-reads_back n x rest lt in
-    let behind : drop n (little_bytes n x ++ rest) ≡ rest = drop_at (little_bytes n x) rest n len in
-    (offset + n, rw (long, value, behind) refl)
+    let after : drop n (little_bytes n x ++ rest) ≡ rest = drop_at (little_bytes n x) rest n len in
+    (offset + n, rw (long, value, after) refl)
 
 pub number_in_takes : (n : ℕ) → IsWidth n → (test : ℕ → Bool) (s : Cursor) (x : ℕ) (t : Cursor) → IsBytes s.rest → number_in n test s ≡ Ok (x, t)
     → Takes s (little_bytes n x) t × (x < 256 ^ n) × (test x ≡ true)

@@ -96,8 +96,8 @@ no_events_fault es (Setup offset) h g = no_later_fault es _ g.0 h g.1 g.3
 count_is : (es : List Event) → AreEvents es → little_number 4 (counted_bytes es) ≡ length es
 count_is es h = little_number-reads_back 4 (length es) (flat_map event_bytes es) (omega (arith, h.0))
 
-no_fault_behind : (es : List Event) (fault : TraceFault) → AreEvents es → IsEventsFault (little_number 4 (counted_bytes es)) (drop 4 (counted_bytes es)) fault → ⊥
-no_fault_behind es fault h g =
+no_fault_after : (es : List Event) (fault : TraceFault) → AreEvents es → IsEventsFault (little_number 4 (counted_bytes es)) (drop 4 (counted_bytes es)) fault → ⊥
+no_fault_after es fault h g =
     no_events_fault es fault h.1 (subst (λ (n : ℕ). IsEventsFault n (flat_map event_bytes es) fault) (count_is es h) g)
 
 -- Encoded events with their count have no fault.
@@ -105,15 +105,15 @@ pub no_counted_fault : (es : List Event) (fault : TraceFault) → AreEvents es �
 no_counted_fault es Truncated h g =
     elim g [
       | inl short ↦ omega (arith, length-append (little_bytes 4 (length es)) (flat_map event_bytes es), short)
-      | inr behind ↦ no_fault_behind es Truncated h behind.1
+      | inr in_events ↦ no_fault_after es Truncated h in_events.1
     ]
 no_counted_fault es Count h g = omega (arith, count_is es h, h.0, g.1)
-no_counted_fault es Magic h g = no_fault_behind es Magic h g.1
-no_counted_fault es Kind h g = no_fault_behind es Kind h g.1
-no_counted_fault es Padding h g = no_fault_behind es Padding h g.1
-no_counted_fault es Trailing h g = no_fault_behind es Trailing h g.1
-no_counted_fault es Memory h g = no_fault_behind es Memory h g.1
-no_counted_fault es (Setup offset) h g = no_fault_behind es (Setup offset) h g.1
+no_counted_fault es Magic h g = no_fault_after es Magic h g.1
+no_counted_fault es Kind h g = no_fault_after es Kind h g.1
+no_counted_fault es Padding h g = no_fault_after es Padding h g.1
+no_counted_fault es Trailing h g = no_fault_after es Trailing h g.1
+no_counted_fault es Memory h g = no_fault_after es Memory h g.1
+no_counted_fault es (Setup offset) h g = no_fault_after es (Setup offset) h g.1
 
 pub begins : (text rest : List ℕ) → length text ≡ 8 → BeginsAs text (text ++ rest)
 begins text rest n =

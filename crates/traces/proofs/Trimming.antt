@@ -8,8 +8,8 @@ use Rattle.std.proofs.Math.ListN.{replicate}
 use Rattle.std.proofs.lemmas.List.{append_assoc, take_more}
 use Rattle.ring_words.specs.Rings.{rounded, first_not_below}
 use Rattle.scenario.specs.declared.setup.Setup.{Setup}
-use Rattle.traces.specs.Limits.{is_within, is_size, all_behind, keeps_object, keeps_descriptor, keeps_program, keeps_completions, keeps_rings, keeps_objects, keeps_threads, keeps_ranges, Widths}
-use Rattle.traces.specs.Setups.{cut_behind, trimmed, is_trimmed, completion_size, canonical, IsCanonical}
+use Rattle.traces.specs.Limits.{is_within, is_size, all_with_prefix, keeps_object, keeps_descriptor, keeps_program, keeps_completions, keeps_rings, keeps_objects, keeps_threads, keeps_ranges, Widths}
+use Rattle.traces.specs.Setups.{cons_trimmed, trimmed, is_trimmed, completion_size, canonical, IsCanonical}
 use Rattle.traces.proofs.ObjectLaws.{within_most}
 use Rattle.traces.proofs.SetupLaws.{size_rounded, size_most, size_within, Spelled}
 
@@ -17,15 +17,15 @@ use Rattle.traces.proofs.SetupLaws.{size_rounded, size_most, size_within, Spelle
 
 pub trimmed_zero : (xs : List ℕ) → trimmed (xs ++ 0 ∷ []) ≡ trimmed xs
 trimmed_zero [] = refl
-trimmed_zero (x ∷ xs) = ap (cut_behind x) (trimmed_zero xs)
+trimmed_zero (x ∷ xs) = ap (cons_trimmed x) (trimmed_zero xs)
 
-cut_front : (x b : ℕ) (xs : List ℕ) → cut_behind x (xs ++ b ∷ []) ≡ x ∷ (xs ++ b ∷ [])
+cut_front : (x b : ℕ) (xs : List ℕ) → cons_trimmed x (xs ++ b ∷ []) ≡ x ∷ (xs ++ b ∷ [])
 cut_front x b [] = refl
 cut_front x b (y ∷ ys) = refl
 
 pub trimmed_last : (xs : List ℕ) (b : ℕ) → eqb b 0 ≡ false → trimmed (xs ++ b ∷ []) ≡ xs ++ b ∷ []
 trimmed_last [] b some = rw some refl
-trimmed_last (x ∷ xs) b some = ap (cut_behind x) (trimmed_last xs b some) ∙ cut_front x b xs
+trimmed_last (x ∷ xs) b some = ap (cons_trimmed x) (trimmed_last xs b some) ∙ cut_front x b xs
 
 -- one byte less, if it is 0
 pub trimmed_less : (bytes : List ℕ) (n : ℕ) → suc n ≤ length bytes → get_or bytes n 0 ≡ 0 → trimmed (take (suc n) bytes) ≡ trimmed bytes → trimmed (take n bytes) ≡ trimmed bytes
@@ -65,7 +65,7 @@ cut_none : (b : ℕ) (z : Bool) → length (cond z [] (b ∷ [])) ≤ 1
 cut_none b true = omega arith
 cut_none b false = omega arith
 
-cut_length : (b : ℕ) (t : List ℕ) → length (cut_behind b t) ≤ suc (length t)
+cut_length : (b : ℕ) (t : List ℕ) → length (cons_trimmed b t) ≤ suc (length t)
 cut_length b [] = cut_none b (eqb b 0)
 cut_length b (c ∷ cs) = omega arith
 
@@ -87,7 +87,7 @@ one_trimmed : (b : ℕ) (z : Bool) → eqb b 0 ≡ z → is_trimmed (cond z [] (
 one_trimmed b true e = refl
 one_trimmed b false e = ap not e
 
-cut_trimmed : (b : ℕ) (t : List ℕ) → is_trimmed t ≡ true → is_trimmed (cut_behind b t) ≡ true
+cut_trimmed : (b : ℕ) (t : List ℕ) → is_trimmed t ≡ true → is_trimmed (cons_trimmed b t) ≡ true
 cut_trimmed b [] h = one_trimmed b (eqb b 0) refl
 cut_trimmed b (c ∷ cs) h = is_trimmed-more b c cs ∙ h
 
@@ -109,7 +109,7 @@ only_zeros (b ∷ bs) = by (trimmed bs) (only_zeros bs)
     one true e k h = let zero_byte : b ≡ 0 = eqb-true b 0 e in record { count = suc k; are = ap (λ (x : ℕ). x ∷ bs) zero_byte ∙ ap (λ (xs : List ℕ). 0 ∷ xs) h }
     one false e k h = record { count = k; are = ap (λ (xs : List ℕ). b ∷ xs) h }
 
-    by : (t : List ℕ) → ZerosAfter bs t → ZerosAfter (b ∷ bs) (cut_behind b t)
+    by : (t : List ℕ) → ZerosAfter bs t → ZerosAfter (b ∷ bs) (cons_trimmed b t)
     by [] z = one (eqb b 0) refl z.count z.are
     by (c ∷ cs) z = record { count = z.count; are = ap (λ (xs : List ℕ). b ∷ xs) z.are }
 
@@ -209,9 +209,9 @@ canonical_kept s ranges =
     ap (λ (n : ℕ). nat_le n (rounded completions)) same ∙ ap (λ (n : ℕ). nat_le entries n) also ∙ le-leb _ _ above in
     let new_rings = and_from (is_within 1 4096 entries) (is_within 1 8192 completions && nat_le (rounded entries) (rounded completions)) (size_within 4096 entries size)
     (and_from (is_within 1 8192 completions) (nat_le (rounded entries) (rounded completions)) (size_within 8192 completions other) order) in
-    let o5 = and_parts (nat_le (length s.memory) 65536 && nat_le (length s.objects) 32 && all_behind keeps_object [] s.objects && nat_le (length s.fds) 64) (list_all (keeps_descriptor s.objects) s.fds) r.1 in
-    let o4 = and_parts (nat_le (length s.memory) 65536 && nat_le (length s.objects) 32 && all_behind keeps_object [] s.objects) (nat_le (length s.fds) 64) o5.0 in
-    let o3 = and_parts (nat_le (length s.memory) 65536 && nat_le (length s.objects) 32) (all_behind keeps_object [] s.objects) o4.0 in
+    let o5 = and_parts (nat_le (length s.memory) 65536 && nat_le (length s.objects) 32 && all_with_prefix keeps_object [] s.objects && nat_le (length s.fds) 64) (list_all (keeps_descriptor s.objects) s.fds) r.1 in
+    let o4 = and_parts (nat_le (length s.memory) 65536 && nat_le (length s.objects) 32 && all_with_prefix keeps_object [] s.objects) (nat_le (length s.fds) 64) o5.0 in
+    let o3 = and_parts (nat_le (length s.memory) 65536 && nat_le (length s.objects) 32) (all_with_prefix keeps_object [] s.objects) o4.0 in
     let o2 = and_parts (nat_le (length s.memory) 65536) (nat_le (length s.objects) 32) o3.0 in
     let long : length s.memory ≤ 65536 = leb-true _ _ o2.0 in
     let memory : nat_le (length (trimmed s.memory)) 65536 ≡ true = le-leb _ _ (omega (arith, trimmed_length s.memory)) in
@@ -226,24 +226,24 @@ canonical_spelled s ranges widths =
     record { canonical = k.0; ranges = k.1; widths = record { base = widths.base; threads = widths.threads } }
 
 -- what is asked of each part of a setup
-pub record Asked (s : Setup) : Type 0 where
+pub record Required (s : Setup) : Type 0 where
   pub rings : keeps_rings s ≡ true
   pub memory : length s.memory ≤ 65536
   pub few_objects : length s.objects ≤ 32
-  pub objects : all_behind keeps_object [] s.objects ≡ true
+  pub objects : all_with_prefix keeps_object [] s.objects ≡ true
   pub few_fds : length s.fds ≤ 64
   pub fds : list_all (keeps_descriptor s.objects) s.fds ≡ true
   pub few_threads : length s.threads ≤ 16
   pub threads : list_all (keeps_program (rounded s.entries)) s.threads ≡ true
 
-pub asked : (s : Setup) → keeps_ranges s ≡ true → Asked s
+pub required : (s : Setup) → keeps_ranges s ≡ true → Required s
 unfolding keeps_ranges
-asked s ranges =
+required s ranges =
     let q = and_parts (keeps_rings s && keeps_objects s) (keeps_threads s) ranges in
     let r = and_parts (keeps_rings s) (keeps_objects s) q.0 in
-    let o5 = and_parts (nat_le (length s.memory) 65536 && nat_le (length s.objects) 32 && all_behind keeps_object [] s.objects && nat_le (length s.fds) 64) (list_all (keeps_descriptor s.objects) s.fds) r.1 in
-    let o4 = and_parts (nat_le (length s.memory) 65536 && nat_le (length s.objects) 32 && all_behind keeps_object [] s.objects) (nat_le (length s.fds) 64) o5.0 in
-    let o3 = and_parts (nat_le (length s.memory) 65536 && nat_le (length s.objects) 32) (all_behind keeps_object [] s.objects) o4.0 in
+    let o5 = and_parts (nat_le (length s.memory) 65536 && nat_le (length s.objects) 32 && all_with_prefix keeps_object [] s.objects && nat_le (length s.fds) 64) (list_all (keeps_descriptor s.objects) s.fds) r.1 in
+    let o4 = and_parts (nat_le (length s.memory) 65536 && nat_le (length s.objects) 32 && all_with_prefix keeps_object [] s.objects) (nat_le (length s.fds) 64) o5.0 in
+    let o3 = and_parts (nat_le (length s.memory) 65536 && nat_le (length s.objects) 32) (all_with_prefix keeps_object [] s.objects) o4.0 in
     let o2 = and_parts (nat_le (length s.memory) 65536) (nat_le (length s.objects) 32) o3.0 in
     let th = and_parts (nat_le (length s.threads) 16) (list_all (keeps_program (rounded s.entries)) s.threads) q.1 in
     record {

@@ -11,7 +11,7 @@ use Rattle.scenario.specs.declared.setup.Instruction.TheVariants.{Put}
 use Rattle.traces.specs.Setups.{instruction_bytes}
 use Rattle.places.specs.declared.object.Object.{Object}
 use Rattle.places.specs.declared.object.Descriptor.{Descriptor}
-use Rattle.traces.specs.Limits.{is_within, is_new_name, all_behind, keeps_contents, keeps_object, end_number, keeps_descriptor}
+use Rattle.traces.specs.Limits.{is_within, is_new_name, all_with_prefix, keeps_contents, keeps_object, end_number, keeps_descriptor}
 use Rattle.traces.proofs.ObjectLaws.{within_most, end_there}
 
 pushed : {A : Type 0} (W : A → Type 0) (xs : List A) (x : A) → AllByRecursion W xs → W x → AllByRecursion W (xs ++ x ∷ [])
@@ -19,11 +19,11 @@ pushed W [] x h w = (w, tt)
 pushed W (y ∷ ys) x h w = (h.0, pushed W ys x h.1 w)
 
 -- Each item passes the test after the items before it.
-pub behind_kept : (keeps : List Object → Object → Bool) (xs before : List Object) (i : ℕ) (x : Object) → i < length xs → x ≡ get_or xs i x → all_behind keeps before xs ≡ true
+pub kept_with_prefix : (keeps : List Object → Object → Bool) (xs before : List Object) (i : ℕ) (x : Object) → i < length xs → x ≡ get_or xs i x → all_with_prefix keeps before xs ≡ true
     → (front : List Object) × (keeps front x ≡ true)
-behind_kept keeps [] before i x lt there all = absurd (omega arith)
-behind_kept keeps (y ∷ ys) before zero x lt there all = (before, subst (λ (z : Object). keeps before z ≡ true) (sym there) (and_parts _ _ all).0)
-behind_kept keeps (y ∷ ys) before (suc i) x lt there all = behind_kept keeps ys (before ++ y ∷ []) i x (omega arith) there (and_parts _ _ all).1
+kept_with_prefix keeps [] before i x lt there all = absurd (omega arith)
+kept_with_prefix keeps (y ∷ ys) before zero x lt there all = (before, subst (λ (z : Object). keeps before z ≡ true) (sym there) (and_parts _ _ all).0)
+kept_with_prefix keeps (y ∷ ys) before (suc i) x lt there all = kept_with_prefix keeps ys (before ++ y ∷ []) i x (omega arith) there (and_parts _ _ all).1
 
 -- Object numbers of valid descriptors are small.
 pub numbers_small : (objects : List Object) (ds : List Descriptor) → length objects ≤ 32 → list_all (keeps_descriptor objects) ds ≡ true → list_all (λ d. nat_lt d.object 256) ds ≡ true

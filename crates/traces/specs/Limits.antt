@@ -57,9 +57,9 @@ abbrev pub keeps_object : List Object → Object → Bool
 keeps_object before o = is_within 1 16 (length o.name) && is_new_name before o.name && keeps_contents o.contents
 
 -- Each item passes a test that may depend on the items before it.
-abbrev pub all_behind : {A : Type 0} → (List A → A → Bool) → List A → List A → Bool
-all_behind keeps before [] = true
-all_behind keeps before (x ∷ xs) = keeps before x && all_behind keeps (before ++ x ∷ []) xs
+abbrev pub all_with_prefix : {A : Type 0} → (List A → A → Bool) → List A → List A → Bool
+all_with_prefix keeps before [] = true
+all_with_prefix keeps before (x ∷ xs) = keeps before x && all_with_prefix keeps (before ++ x ∷ []) xs
 
 -- The number of a descriptor's end.
 abbrev pub end_number : End → ℕ
@@ -104,7 +104,7 @@ keeps_rings s = is_within 1 4096 s.entries && keeps_completions s.entries s.cq
 -- Memory has at most 65,536 bytes, and there are at most 32 valid objects and 64 valid descriptors.
 abbrev pub keeps_objects : Setup → Bool
 keeps_objects s =
-    nat_le (length s.memory) 65536 && nat_le (length s.objects) 32 && all_behind keeps_object [] s.objects
+    nat_le (length s.memory) 65536 && nat_le (length s.objects) 32 && all_with_prefix keeps_object [] s.objects
     && nat_le (length s.fds) 64 && list_all (keeps_descriptor s.objects) s.fds
 
 -- At most 16 threads with valid programs.

@@ -222,8 +222,8 @@ setup_at s = do
   )
 
 -- The cursor after the magic.
-abbrev pub behind_magic : List ℕ → Cursor
-behind_magic bytes = record { offset = 8; rest = drop 8 bytes }
+abbrev pub after_magic : List ℕ → Cursor
+after_magic bytes = record { offset = 8; rest = drop 8 bytes }
 
 -- The first fault of a setup and its events.
 abbrev pub IsBodyFault : Result (Setup × Cursor) TraceFault → TraceFault → Type 0
@@ -233,4 +233,4 @@ IsBodyFault (Err first) fault = fault ≡ first
 -- The first fault of a trace of the second form.
 abbrev pub IsFault2 : List ℕ → TraceFault → Type 0
 IsFault2 bytes fault =
-    ((BeginsAs magic2 bytes → ⊥) × (fault ≡ Magic)) ⊎ (BeginsAs magic2 bytes × IsBodyFault (setup_at (behind_magic bytes)) fault)
+    ((BeginsAs magic2 bytes → ⊥) × (fault ≡ Magic)) ⊎ (BeginsAs magic2 bytes × IsBodyFault (setup_at (after_magic bytes)) fault)

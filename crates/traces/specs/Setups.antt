@@ -80,14 +80,14 @@ abbrev pub trace2_bytes : Setup → List Event → List ℕ
 trace2_bytes setup events = magic2 ++ (setup_bytes setup ++ counted_bytes events)
 
 -- A byte in front of trimmed bytes. If there are none, a 0 is dropped.
-abbrev pub cut_behind : ℕ → List ℕ → List ℕ
-cut_behind b [] = if b == 0 then [] else b ∷ []
-cut_behind b (c ∷ cs) = b ∷ c ∷ cs
+abbrev pub cons_trimmed : ℕ → List ℕ → List ℕ
+cons_trimmed b [] = if b == 0 then [] else b ∷ []
+cons_trimmed b (c ∷ cs) = b ∷ c ∷ cs
 
 -- The bytes without zeros at the end.
 abbrev pub trimmed : List ℕ → List ℕ
 trimmed [] = []
-trimmed (b ∷ bs) = cut_behind b (trimmed bs)
+trimmed (b ∷ bs) = cons_trimmed b (trimmed bs)
 
 -- Whether bytes don't end with a 0.
 abbrev pub is_trimmed : List ℕ → Bool

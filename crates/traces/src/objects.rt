@@ -22,7 +22,7 @@ pub(crate) fn read_long(
     let (count, after) = count_at(cursor, most)?;
     let (bytes, after) = bytes_at(after, count as usize)?;
     let bytes = Vec::from_slice(alloc, bytes)?;
-    Ok((Items::of(bytes), after))
+    Ok((Items::from_vec(bytes), after))
 }
 
 fn is_name_byte(byte: u8) -> bool
@@ -72,7 +72,7 @@ fn read_name<'a>(
         return Err(TraceFault::Setup(at));
     }
     let name = Vec::from_slice(alloc, name)?;
-    Ok((Items::of(name), after))
+    Ok((Items::from_vec(name), after))
 }
 
 #[tactic(auto, unfolding(crate::specs::Reading::number_in))]
@@ -160,7 +160,7 @@ pub(crate) fn read_objects(
 {
     let (count, after) = count_at(cursor, 32)?;
     let (objects, after) = read_objects_counted(alloc, count, after)?;
-    Ok((Items::of(objects), after))
+    Ok((Items::from_vec(objects), after))
 }
 
 fn is_end_of(contents: &Contents, number: u8) -> bool
@@ -238,5 +238,5 @@ pub(crate) fn read_descriptors<'a>(
 {
     let (count, after) = count_at(cursor, 64)?;
     let (descriptors, after) = read_descriptors_counted(alloc, count, objects.as_slice(), after)?;
-    Ok((Items::of(descriptors), after))
+    Ok((Items::from_vec(descriptors), after))
 }

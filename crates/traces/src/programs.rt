@@ -49,7 +49,7 @@ fn read_store(alloc: Global, cursor: Cursor<'_>) -> Result<(Instruction, Cursor<
     }
     let (bytes, after) = bytes_at(after, count as usize)?;
     let bytes = Vec::from_slice(alloc, bytes)?;
-    Ok((Instruction::Store(address, Items::of(bytes)), after))
+    Ok((Instruction::Store(address, Items::from_vec(bytes)), after))
 }
 
 #[tactic(auto, unfolding(crate::specs::Reading::enter_at))]
@@ -135,7 +135,7 @@ fn read_program(
 {
     let (count, after) = count_at(cursor, 4096)?;
     let (program, after) = read_instructions(alloc, count, slots, after)?;
-    Ok((Items::of(program), after))
+    Ok((Items::from_vec(program), after))
 }
 
 fn read_programs(
@@ -169,5 +169,5 @@ pub(crate) fn read_threads(
 {
     let (count, after) = count_at(cursor, 16)?;
     let (programs, after) = read_programs(alloc, count, slots, after)?;
-    Ok((Items::of(programs), after))
+    Ok((Items::from_vec(programs), after))
 }

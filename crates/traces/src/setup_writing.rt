@@ -8,7 +8,7 @@ ghost use Rattle.places.specs.declared.object.Object.{Object};
 ghost use Rattle.scenario.specs.declared.setup.Instruction.{Instruction};
 ghost use Rattle.scenario.specs.declared.setup.Instruction.TheVariants.{Put};
 ghost use Rattle.scenario.specs.declared.setup.Setup.{Setup};
-ghost use Rattle.traces.specs.Limits.{is_within, all_behind, keeps_contents, keeps_object, end_number, keeps_instruction, keeps_program, keeps_completions, keeps_rings, keeps_ranges, HasWidths, Widths};
+ghost use Rattle.traces.specs.Limits.{is_within, all_with_prefix, keeps_contents, keeps_object, end_number, keeps_instruction, keeps_program, keeps_completions, keeps_rings, keeps_ranges, HasWidths, Widths};
 ghost use Rattle.traces.specs.Setups.{list_bytes, long_bytes, name_bytes, contents_bytes, object_bytes, descriptor_bytes, instruction_bytes, program_bytes, options_number, rings_bytes, setup_bytes, trimmed, completion_size, canonical};
 
 use byteorder::{ByteOrder, LittleEndian};
@@ -96,7 +96,7 @@ fn push_object(out: &mut Vec<u8>, object: &Object) -> Result<(), AllocError>
 
 fn push_objects(out: &mut Vec<u8>, objects: &[Object]) -> Result<(), AllocError>
     requires few { length objects.now ≤ 32 }
-    requires kept { IsTrue (all_behind keeps_object [] objects.now) }
+    requires kept { IsTrue (all_with_prefix keeps_object [] objects.now) }
     ensures { OnOk result (out.new.items ≡ out.old.items ++ list_bytes object_bytes objects.now) }
 {
     push_u32(out, objects.len() as u32)?;

@@ -70,7 +70,7 @@ fn has_poller(options: u8) -> bool
 }
 
 // Whether IORING_SETUP_SUBMIT_ALL is set.
-fn goes_on(options: u8) -> bool
+fn submits_all(options: u8) -> bool
     ensures { result ≡ ((options == 2) || (options == 3)) }
 {
     options == 2 || options == 3
@@ -96,7 +96,7 @@ pub(crate) fn read_setup(
         entries,
         cq: Some(completions),
         sqpoll: has_poller(options),
-        submit_all: goes_on(options),
+        submit_all: submits_all(options),
         base,
         memory,
         objects,

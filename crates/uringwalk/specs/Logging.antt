@@ -7,9 +7,9 @@ use Rattle.script.specs.declared.log_fault.LogFault.{LogFault}
 use Rattle.script.specs.declared.log_fault.LogFault.TheVariants.{Script, Trace, Schedule, Write, Memory}
 
 -- the fault that is reported for a log that ended early
-abbrev pub told_as : LogFault → Fault
-told_as (Script fault) = Run (run.Script fault)
-told_as (Trace fault) = Run (run.Trace fault)
-told_as (Schedule index refusal) = Run (run.Schedule index refusal)
-told_as Write = Run (run.Serve serve.Write)
-told_as Memory = Run run.Memory
+abbrev pub fault_as : LogFault → Fault
+fault_as (Script fault) = Run (run.Script fault)
+fault_as (Trace fault) = Run (run.Trace fault)
+fault_as (Schedule index refusal) = Run (run.Schedule index refusal)
+fault_as Write = Run (run.Serve serve.Write)
+fault_as Memory = Run run.Memory

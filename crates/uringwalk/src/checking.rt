@@ -1,7 +1,7 @@
 //! What is wrong with the script that a file holds.
 
 use crate::logging::fault_of_log;
-use crate::{SCRIPT_AND_ONE, told};
+use crate::{SCRIPT_AND_ONE, file_fault};
 use debug_server::Fault;
 use script_check::{Verdict, check_script};
 use std::io;
@@ -12,7 +12,7 @@ use whole_files::read_file;
 /// Writes what is wrong with the script in a file to standard output, or `ok`. The status is 1
 /// where something is, and else 0.
 pub fn check_file(rt: &(impl Files + Print + AllocGlobal), path: &str) -> Result<ExitCode, Fault> {
-    let text = read_file(rt, path, SCRIPT_AND_ONE).map_err(told)?;
+    let text = read_file(rt, path, SCRIPT_AND_ONE).map_err(file_fault)?;
     match check_script(rt.alloc(), path, &text, &mut io::writer(rt)) {
         Ok(Verdict::Fine) => Ok(ExitCode::SUCCESS),
         Ok(Verdict::Faulty(_)) | Ok(Verdict::Refused(_, _)) => Ok(ExitCode::FAILURE),

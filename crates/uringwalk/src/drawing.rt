@@ -1,8 +1,8 @@
 //! A picture of the run that a file holds, in a file.
 ghost use Rattle.std.specs.Prelude.{◌≡◌};
-ghost use Rattle.uringwalk.specs.Drawing.{told_as};
+ghost use Rattle.uringwalk.specs.Drawing.{fault_as};
 
-use crate::{WHOLE_TRACE_AND_ONE, fail, told};
+use crate::{WHOLE_TRACE_AND_ONE, fail, file_fault};
 use debug_server::{Fault, RunFault};
 use std::process::ExitCode;
 use std::rt::Files;
@@ -20,7 +20,7 @@ const NO_PICTURE: &str = "error: OUT must end in .html or .json";
 /// Returns the fault that is reported for a run that isn't drawn. A run with too many events has a
 /// message of its own instead, since other words can draw it.
 pub fn fault_of_drawing(fault: TimelineFault) -> Fault
-    ensures { result ≡ told_as fault }
+    ensures { result ≡ fault_as fault }
 {
     Fault::Run(match fault {
         TimelineFault::Script(fault) => RunFault::Script(fault),
@@ -43,7 +43,7 @@ fn refuse_long(rt: &impl Eprint, events: u32) -> ExitCode {
 fn keep_page(rt: &(impl Files + AllocGlobal), out: &str, page: &[u8]) -> Result<ExitCode, Fault> {
     match write_file(rt, out, page) {
         Ok(()) => Ok(ExitCode::SUCCESS),
-        Err(fault) => Err(told(fault)),
+        Err(fault) => Err(file_fault(fault)),
     }
 }
 
@@ -58,10 +58,10 @@ pub fn draw_file(
     let Some(picture) = picture_of(out) else {
         return Ok(fail(rt, WORDS, &NO_PICTURE));
     };
-    if lead_to_one_file(rt, run, out).map_err(told)? {
+    if lead_to_one_file(rt, run, out).map_err(file_fault)? {
         return Ok(fail(rt, WORDS, &ONTO_RUN));
     }
-    let bytes = read_file(rt, run, WHOLE_TRACE_AND_ONE).map_err(told)?;
+    let bytes = read_file(rt, run, WHOLE_TRACE_AND_ONE).map_err(file_fault)?;
     match draw_run(rt.alloc(), run, &bytes, window, picture) {
         Ok(page) => keep_page(rt, out, &page),
         Err(TimelineFault::Long(events)) => Ok(refuse_long(rt, events)),

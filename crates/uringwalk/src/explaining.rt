@@ -1,9 +1,9 @@
 //! What the run shows that a file holds.
 
 use crate::logging::fault_of_log;
-use crate::{WHOLE_TRACE_AND_ONE, told};
+use crate::{WHOLE_TRACE_AND_ONE, file_fault};
 use debug_server::Fault;
-use explanations::{Asked, explain_run};
+use explanations::{Request, explain_run};
 use finding_kinds::Kind;
 use std::io;
 use std::process::ExitCode;
@@ -21,7 +21,7 @@ pub fn explain_file(
     kind: Option<&str>,
     json: bool,
 ) -> Result<ExitCode, Fault> {
-    let bytes = read_file(rt, path, WHOLE_TRACE_AND_ONE).map_err(told)?;
+    let bytes = read_file(rt, path, WHOLE_TRACE_AND_ONE).map_err(file_fault)?;
     let kind = match kind {
         Some(word) => Kind::of_word(word),
         None => None,
@@ -29,7 +29,7 @@ pub fn explain_file(
     match explain_run(
         rt.alloc(),
         &bytes,
-        Asked { kind, json },
+        Request { kind, json },
         &mut io::writer(rt),
     ) {
         Ok(true) => Ok(ExitCode::from(SOME_FAULTS)),

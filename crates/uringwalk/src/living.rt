@@ -1,7 +1,7 @@
 //! Runs that threads make together.
 ghost use Rattle.std.specs.Prelude.{◌≤◌};
 
-use crate::{SCRIPT_AND_ONE, told};
+use crate::{SCRIPT_AND_ONE, file_fault};
 use debug_server::{Fault, RunFault, ServeFault, answer_closed, live_script, trace_closed};
 use live_runner::Closed;
 use std::io;
@@ -21,13 +21,13 @@ fn keep_run(
         return Ok(());
     };
     match trace_closed(rt.alloc(), closed) {
-        Ok(trace) => write_file(rt, out, &trace.bytes).map_err(told),
+        Ok(trace) => write_file(rt, out, &trace.bytes).map_err(file_fault),
         Err(_) => Err(Fault::Run(RunFault::Memory)),
     }
 }
 
 // Prints how many events a run has.
-fn tell_run(rt: &impl Print, closed: &Closed) -> Result<(), Fault> {
+fn print_run(rt: &impl Print, closed: &Closed) -> Result<(), Fault> {
     match println!(rt; "closed {}", closed.events().len()) {
         Ok(()) => Ok(()),
         Err(_) => Err(Fault::Run(RunFault::Serve(ServeFault::Write))),
@@ -42,7 +42,7 @@ fn answer_run(
     closed: &Closed,
 ) -> Result<(), Fault> {
     keep_run(rt, out, closed)?;
-    tell_run(rt, closed)?;
+    print_run(rt, closed)?;
     answer_closed(rt.alloc(), closed, &mut rt.reader(), &mut io::writer(rt))?;
     Ok(())
 }
@@ -58,7 +58,7 @@ pub fn live_file<R: Files + Input + Print + AllocGlobal + Threads + Wait + Clock
 ) -> Result<(), Fault>
     requires { kernel ≤ 8 }
 {
-    let text = read_file(rt, script, SCRIPT_AND_ONE).map_err(told)?;
+    let text = read_file(rt, script, SCRIPT_AND_ONE).map_err(file_fault)?;
     match live_script(rt, rt.alloc(), &text, turns, kernel) {
         Ok(closed) => answer_run(rt, out, &closed),
         Err(fault) => Err(fault),

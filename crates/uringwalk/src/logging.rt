@@ -1,8 +1,8 @@
 //! The log of a run that a file holds.
 ghost use Rattle.std.specs.Prelude.{◌≡◌};
-ghost use Rattle.uringwalk.specs.Logging.{told_as};
+ghost use Rattle.uringwalk.specs.Logging.{fault_as};
 
-use crate::{WHOLE_TRACE_AND_ONE, told};
+use crate::{WHOLE_TRACE_AND_ONE, file_fault};
 use debug_server::{Fault, RunFault, ServeFault};
 use run_log::{EventRange, log_run};
 use script::LogFault;
@@ -12,7 +12,7 @@ use whole_files::read_file;
 
 /// Returns the fault that is reported for a log that ended early.
 pub fn fault_of_log(fault: LogFault) -> Fault
-    ensures { result ≡ told_as fault }
+    ensures { result ≡ fault_as fault }
 {
     Fault::Run(match fault {
         LogFault::Script(fault) => RunFault::Script(fault),
@@ -30,7 +30,7 @@ pub fn log_file(
     path: &str,
     range: EventRange,
 ) -> Result<(), Fault> {
-    let bytes = read_file(rt, path, WHOLE_TRACE_AND_ONE).map_err(told)?;
+    let bytes = read_file(rt, path, WHOLE_TRACE_AND_ONE).map_err(file_fault)?;
     match log_run(rt.alloc(), &bytes, range, &mut io::writer(rt)) {
         Ok(()) => Ok(()),
         Err(fault) => Err(fault_of_log(fault)),

@@ -3,7 +3,7 @@
 
 ghost use Rattle.std.specs.Prelude.{◌≡◌};
 ghost use Rattle.debug_server.specs.Jobs.{IsInRange};
-ghost use Rattle.uringwalk.specs.Files.{told_as};
+ghost use Rattle.uringwalk.specs.Files.{fault_as};
 
 mod checking;
 mod drawing;
@@ -55,8 +55,8 @@ enum Over {
 }
 
 // Returns the fault that is reported for a file.
-fn told(fault: FileFault) -> Fault
-    ensures { result ≡ told_as fault }
+fn file_fault(fault: FileFault) -> Fault
+    ensures { result ≡ fault_as fault }
 {
     match fault {
         FileFault::Memory => Fault::Run(RunFault::Memory),
@@ -74,7 +74,7 @@ fn answer_over(
         Over::Script => SCRIPT_AND_ONE,
         Over::Trace => WHOLE_TRACE_AND_ONE,
     };
-    let bytes = read_file(rt, path, most).map_err(told)?;
+    let bytes = read_file(rt, path, most).map_err(file_fault)?;
     let mut input = rt.reader();
     let mut output = io::writer(rt);
     match over {
@@ -86,7 +86,7 @@ fn answer_over(
 
 // Writes a trace to its file, and prints how many events it has.
 fn keep(rt: &(impl Files + Print + AllocGlobal), out: &str, trace: &Traced) -> Result<(), Fault> {
-    write_file(rt, out, &trace.bytes).map_err(told)?;
+    write_file(rt, out, &trace.bytes).map_err(file_fault)?;
     match println!(rt; "events {}", trace.events) {
         Ok(()) => Ok(()),
         Err(_) => Err(Fault::Run(RunFault::Serve(ServeFault::Write))),
@@ -100,7 +100,7 @@ fn trace_file(
     out: &str,
     form: Form,
 ) -> Result<(), Fault> {
-    let text = read_file(rt, script, SCRIPT_AND_ONE).map_err(told)?;
+    let text = read_file(rt, script, SCRIPT_AND_ONE).map_err(file_fault)?;
     keep(rt, out, &trace_script(rt.alloc(), &text, form)?)
 }
 
@@ -111,8 +111,8 @@ fn migrate_file(
     trace: &str,
     out: &str,
 ) -> Result<(), Fault> {
-    let text = read_file(rt, script, SCRIPT_AND_ONE).map_err(told)?;
-    let bytes = read_file(rt, trace, TRACE_AND_ONE).map_err(told)?;
+    let text = read_file(rt, script, SCRIPT_AND_ONE).map_err(file_fault)?;
+    let bytes = read_file(rt, trace, TRACE_AND_ONE).map_err(file_fault)?;
     keep(rt, out, &migrate_trace(rt.alloc(), &text, &bytes)?)
 }
 
@@ -168,13 +168,13 @@ fn run<
 fn loses_script(rt: &(impl Files + AllocGlobal), job: Job<'_>) -> Result<bool, Fault> {
     match job {
         Job::Trace { script, out, .. } | Job::Migrate { script, out, .. } => {
-            lead_to_one_file(rt, script, out).map_err(told)
+            lead_to_one_file(rt, script, out).map_err(file_fault)
         }
         Job::Live {
             script,
             out: Some(out),
             ..
-        } => lead_to_one_file(rt, script, out).map_err(told),
+        } => lead_to_one_file(rt, script, out).map_err(file_fault),
         Job::Walk(_)
         | Job::Replay(_)
         | Job::Log { .. }

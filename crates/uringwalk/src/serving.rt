@@ -1,7 +1,7 @@
 //! Serving clients of a run while threads make it.
 ghost use Rattle.std.specs.Prelude.{◌≤◌};
 
-use crate::{SCRIPT_AND_ONE, told};
+use crate::{SCRIPT_AND_ONE, file_fault};
 use clients::serve_live;
 use debug_server::{Fault, RunFault, ServeFault, script_of};
 use script::Script;
@@ -24,7 +24,7 @@ fn listen(
 }
 
 // Prints the port. Standard output has no buffer, so that it is there once this returns.
-fn tell_port(rt: &impl Print, port: u16) -> Result<(), Fault> {
+fn print_port(rt: &impl Print, port: u16) -> Result<(), Fault> {
     match println!(rt; "port {port}") {
         Ok(()) => Ok(()),
         Err(_) => Err(Fault::Run(RunFault::Serve(ServeFault::Write))),
@@ -51,7 +51,7 @@ fn serve_script<
     requires { kernel ≤ 8 }
 {
     let listener = listen(rt, port)?;
-    tell_port(rt, port)?;
+    print_port(rt, port)?;
     match serve_live(rt, rt.alloc(), script, &listener, turns, kernel, clients) {
         Ok(_closed) => Ok(()),
         Err(fault) => Err(fault),
@@ -79,7 +79,7 @@ pub fn serve_file<
 ) -> Result<(), Fault>
     requires { kernel ≤ 8 }
 {
-    let text = read_file(rt, script, SCRIPT_AND_ONE).map_err(told)?;
+    let text = read_file(rt, script, SCRIPT_AND_ONE).map_err(file_fault)?;
     match script_of(rt.alloc(), &text) {
         Ok(script) => serve_script(rt, &script, port, turns, kernel, clients),
         Err(fault) => Err(Fault::Run(fault)),

@@ -10,7 +10,7 @@ use Rattle.watches.specs.declared.watched.Break.{Break}
 use Rattle.watches.specs.declared.stopping.Stop.{Stop}
 use Rattle.watches.specs.declared.stopping.Stop.TheVariants.{Change, Met, Start, End}
 use Rattle.watches.specs.Watchpoints.{Stops}
-use Rattle.watches.specs.Stops.{seen, changes, meets, stop_before, stop_behind, first_stop, moments_before, reverse_stop, forward_stop, Stays, NoneMet, Unchanged, Unmet, Quiet, IsEarlier, IsLater}
+use Rattle.watches.specs.Stops.{seen, changes, meets, stop_before, stop_after, first_stop, moments_before, reverse_stop, forward_stop, Stays, NoneMet, Unchanged, Unmet, Quiet, IsEarlier, IsLater}
 use Rattle.places.specs.Sameness.{is_same}
 use Rattle.places.proofs.SameValue.{same_decides}
 
@@ -100,8 +100,8 @@ none_among f otherwise a (suc n) q = passed f otherwise a (range_with_len (a + 1
 
 -- ---- Backwards
 
-goes_past : (w : Walk) (ps : List Place) (k : ℕ) → Unchanged w ps k → stop_before w ps k ≡ None
-goes_past w ps k h = rw (unchanged (seen w k) (seen w (k + 1)) ps h) refl
+passes_by : (w : Walk) (ps : List Place) (k : ℕ) → Unchanged w ps k → stop_before w ps k ≡ None
+passes_by w ps k h = rw (unchanged (seen w k) (seen w (k + 1)) ps h) refl
 
 stops_before : (w : Walk) (ps : List Place) (m : ℕ) → (Unchanged w ps m → ⊥) → stop_before w ps m ≡ Some (Change m)
 stops_before w ps m h = rw (changed (seen w m) (seen w (m + 1)) ps h) refl
@@ -109,29 +109,29 @@ stops_before w ps m h = rw (changed (seen w m) (seen w (m + 1)) ps h) refl
 -- A stop that satisfies `IsEarlier` is `reverse_stop`.
 pub the_earlier : (w : Walk) (ps : List Place) (s : Stop) → IsEarlier w ps s → s ≡ reverse_stop w ps
 unfolding reverse_stop
-the_earlier w ps (Change m) h = sym (latest (stop_before w ps) Start (Change m) w.at m h.0 (stops_before w ps m h.1) (λ k x y. goes_past w ps k (h.2 k x y)))
-the_earlier w ps Start h = sym (none_before (stop_before w ps) Start w.at (λ k x. goes_past w ps k (h k x)))
+the_earlier w ps (Change m) h = sym (latest (stop_before w ps) Start (Change m) w.at m h.0 (stops_before w ps m h.1) (λ k x y. passes_by w ps k (h.2 k x y)))
+the_earlier w ps Start h = sym (none_before (stop_before w ps) Start w.at (λ k x. passes_by w ps k (h k x)))
 the_earlier w ps (Met m) h = absurd h
 the_earlier w ps End h = absurd h
 
 -- ---- Forwards
 
-goes_on : (w : Walk) (v : Stops) (from to k : ℕ) → Quiet w v from to → from < k → k ≤ to → stop_behind w v k ≡ None
-goes_on w v from to k q a b =
+quiet_within : (w : Walk) (v : Stops) (from to k : ℕ) → Quiet w v from to → from < k → k ≤ to → stop_after w v k ≡ None
+quiet_within w v from to k q a b =
     let e : k - 1 + 1 ≡ k = omega arith in
     let h = q (k - 1) (omega arith) (omega arith) in
     let still : changes (seen w (k - 1)) (seen w k) v.watchpoints ≡ false = unchanged (seen w (k - 1)) (seen w k) v.watchpoints (subst (λ (i : ℕ). Stays (seen w (k - 1)) (seen w i) v.watchpoints) e h.0) in
     let none : meets (seen w (k - 1)) (seen w k) v.breakpoints ≡ false = unmet (seen w (k - 1)) (seen w k) v.breakpoints (subst (λ (i : ℕ). NoneMet (seen w (k - 1)) (seen w i) v.breakpoints) e h.1) in
     rw (still, none) refl
 
-changes_behind : (w : Walk) (v : Stops) (m : ℕ) → 0 < m → (Unchanged w v.watchpoints (m - 1) → ⊥) → stop_behind w v m ≡ Some (Change m)
-changes_behind w v m some h =
+changes_after : (w : Walk) (v : Stops) (m : ℕ) → 0 < m → (Unchanged w v.watchpoints (m - 1) → ⊥) → stop_after w v m ≡ Some (Change m)
+changes_after w v m some h =
     let e : m - 1 + 1 ≡ m = omega arith in
     let there : changes (seen w (m - 1)) (seen w m) v.watchpoints ≡ true = changed (seen w (m - 1)) (seen w m) v.watchpoints (λ s. h (subst (λ (i : ℕ). Stays (seen w (m - 1)) (seen w i) v.watchpoints) (sym e) s)) in
     rw there refl
 
-meets_behind : (w : Walk) (v : Stops) (m : ℕ) → 0 < m → Unchanged w v.watchpoints (m - 1) → (Unmet w v.breakpoints (m - 1) → ⊥) → stop_behind w v m ≡ Some (Met m)
-meets_behind w v m some s h =
+meets_after : (w : Walk) (v : Stops) (m : ℕ) → 0 < m → Unchanged w v.watchpoints (m - 1) → (Unmet w v.breakpoints (m - 1) → ⊥) → stop_after w v m ≡ Some (Met m)
+meets_after w v m some s h =
     let e : m - 1 + 1 ≡ m = omega arith in
     let still : changes (seen w (m - 1)) (seen w m) v.watchpoints ≡ false = unchanged (seen w (m - 1)) (seen w m) v.watchpoints (subst (λ (i : ℕ). Stays (seen w (m - 1)) (seen w i) v.watchpoints) e s) in
     let there : meets (seen w (m - 1)) (seen w m) v.breakpoints ≡ true = met (seen w (m - 1)) (seen w m) v.breakpoints (λ n. h (subst (λ (i : ℕ). NoneMet (seen w (m - 1)) (seen w i) v.breakpoints) (sym e) n)) in
@@ -140,7 +140,7 @@ meets_behind w v m some s h =
 -- A stop that satisfies `IsLater` is `forward_stop`.
 pub the_later : (w : Walk) (v : Stops) (s : Stop) → IsLater w v s → s ≡ forward_stop w v
 unfolding forward_stop
-the_later w v (Change m) h = sym (soonest (stop_behind w v) End (Change m) (w.at + 1) (length w.events - w.at) m (omega arith) (omega (arith, h.0, h.1)) (changes_behind w v m (omega (arith, h.0)) h.2) (λ k x y. goes_on w v w.at (m - 1) k h.3 (omega arith) (omega arith)))
-the_later w v (Met m) h = sym (soonest (stop_behind w v) End (Met m) (w.at + 1) (length w.events - w.at) m (omega arith) (omega (arith, h.0, h.1)) (meets_behind w v m (omega (arith, h.0)) h.2 h.3) (λ k x y. goes_on w v w.at (m - 1) k h.4 (omega arith) (omega arith)))
-the_later w v End h = sym (none_among (stop_behind w v) End (w.at + 1) (length w.events - w.at) (λ k x y. goes_on w v w.at (length w.events) k h (omega arith) (omega arith)))
+the_later w v (Change m) h = sym (soonest (stop_after w v) End (Change m) (w.at + 1) (length w.events - w.at) m (omega arith) (omega (arith, h.0, h.1)) (changes_after w v m (omega (arith, h.0)) h.2) (λ k x y. quiet_within w v w.at (m - 1) k h.3 (omega arith) (omega arith)))
+the_later w v (Met m) h = sym (soonest (stop_after w v) End (Met m) (w.at + 1) (length w.events - w.at) m (omega arith) (omega (arith, h.0, h.1)) (meets_after w v m (omega (arith, h.0)) h.2 h.3) (λ k x y. quiet_within w v w.at (m - 1) k h.4 (omega arith) (omega arith)))
+the_later w v End h = sym (none_among (stop_after w v) End (w.at + 1) (length w.events - w.at) (λ k x y. quiet_within w v w.at (length w.events) k h (omega arith) (omega arith)))
 the_later w v Start h = absurd h

@@ -39,8 +39,8 @@ stop_before w ps m = if changes (seen w m) (seen w (m + 1)) ps then Some (Change
 
 -- The stop of a walk forward at moment m: the event before m changes a watched
 -- place, or else meets a break.
-abbrev pub stop_behind : Walk → Stops → ℕ → Option Stop
-stop_behind w v m =
+abbrev pub stop_after : Walk → Stops → ℕ → Option Stop
+stop_after w v m =
     if changes (seen w (m - 1)) (seen w m) v.watchpoints then Some (Change m)
     else if meets (seen w (m - 1)) (seen w m) v.breakpoints then Some (Met m)
     else None
@@ -62,7 +62,7 @@ reverse_stop w ps = first_stop (stop_before w ps) Start (moments_before w.at)
 -- Where `cont` stops.
 unfoldable pub forward_stop : Walk → Stops → Stop
 forward_stop w v =
-    first_stop (stop_behind w v) End (range_with_len (w.at + 1) (length w.events - w.at))
+    first_stop (stop_after w v) End (range_with_len (w.at + 1) (length w.events - w.at))
 
 -- ---- What the stop means
 

@@ -181,7 +181,7 @@ fn has_value(state: &State, stop: &Break) -> bool
     ensures { IsTrue result ↔ (view state.now stop.now.place ≡ Some stop.now.value) }
 {
     match state.value(stop.place) {
-        Some(value) => value.is(&stop.value),
+        Some(value) => value.equals(&stop.value),
         None => false,
     }
 }

@@ -112,5 +112,5 @@ impl Watches {
 fn has_place(places: &[Place], place: Place) -> bool
     ensures { result ≡ is_watched places.now place }
 {
-    places.iter().any(|watched| watched.is(&place))
+    places.iter().any(|watched| watched.equals(&place))
 }

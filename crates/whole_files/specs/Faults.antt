@@ -5,6 +5,6 @@ use Rattle.whole_files.specs.declared.fault.FileFault.{FileFault}
 use Rattle.whole_files.specs.declared.fault.FileFault.TheVariants.{Memory, File}
 
 -- The fault that an I/O error is reported as.
-abbrev pub told_as : ErrorKind → FileFault
-told_as OutOfMemory = Memory
-told_as kind = File
+abbrev pub fault_as : ErrorKind → FileFault
+fault_as OutOfMemory = Memory
+fault_as kind = File

@@ -1,7 +1,7 @@
 //! Why a file couldn't be read or written.
 ghost use Rattle.std.specs.Prelude.{◌≡◌};
 ghost use Rattle.std.specs.IoError.{error_kind};
-ghost use Rattle.whole_files.specs.Faults.{told_as};
+ghost use Rattle.whole_files.specs.Faults.{fault_as};
 
 use std::io;
 use std::io::ErrorKind;
@@ -17,7 +17,7 @@ pub enum FileFault {
 
 /// Returns the fault that an I/O error is reported as.
 pub fn fault_of(error: &io::Error) -> FileFault
-    ensures { result ≡ told_as (error_kind error.now) }
+    ensures { result ≡ fault_as (error_kind error.now) }
 {
     match error.kind() {
         ErrorKind::OutOfMemory => FileFault::Memory,

@@ -4,7 +4,7 @@ ghost use Rattle.scenario.specs.Setups.{setup_refusal};
 ghost use Rattle.live_runner.specs.Actors.{actors};
 ghost use Rattle.live_runner.specs.History.{InOrder};
 
-use crate::tests::sessions::is_told;
+use crate::tests::sessions::answers;
 use crate::tests::starting::REQUEST_AND_STEP;
 use crate::tests::{ONE_NOP, check};
 use debug_server::Session;
@@ -126,7 +126,7 @@ fn ends_at_six(alloc: Global, setup: &Setup, events: &[Event]) -> bool
     requires most { length events.now ≤ 1048576 }
 {
     match Session::of(alloc, setup, events) {
-        Ok(mut session) => is_told(&mut session, "where", "at 6 of 6\n"),
+        Ok(mut session) => answers(&mut session, "where", "at 6 of 6\n"),
         Err(_) => false,
     }
 }
@@ -136,7 +136,8 @@ fn ends_at_six(alloc: Global, setup: &Setup, events: &[Event]) -> bool
 fn has_events<L: Ledger>(alloc: Global, live: &Live<L>) -> bool {
     match live.events() {
         Ok(events) => {
-            events.as_slice() == REQUEST_AND_STEP.as_slice() && ends_at_six(alloc, live.setup(), &events)
+            events.as_slice() == REQUEST_AND_STEP.as_slice()
+                && ends_at_six(alloc, live.setup(), &events)
         }
         Err(_) => false,
     }
@@ -176,7 +177,7 @@ fn receipt(actor: u32, moment: u32, event: Event) -> Receipt {
 }
 
 // Returns whether an actor received exactly these receipts, and each can be redeemed.
-fn was_told(closed: &Closed, actor: u32, receipts: &[Receipt]) -> bool
+fn has_received(closed: &Closed, actor: u32, receipts: &[Receipt]) -> bool
     requires { actor < closed.now.actors }
 {
     closed.receipts(actor) == receipts
@@ -200,7 +201,7 @@ fn has_receipts(closed: &Closed) -> bool
         receipt(1, 3, Event::Issue(0)),
         receipt(1, 4, Event::Finish(0, Choice::Full)),
     ];
-    was_told(closed, 0, &submitted) && was_told(closed, 1, &ended)
+    has_received(closed, 0, &submitted) && has_received(closed, 1, &ended)
 }
 
 // Returns whether receipts with another event or another actor are refused.

@@ -62,7 +62,7 @@ fn written_before(call: usize) -> usize {
 // Returns whether the failed call is reported, and the right prefix was written. Before a failed
 // read, that is the replies to the lines read; before a failed write or flush, the bytes of the
 // earlier calls.
-fn is_told(fault: Option<ServeFault>, written: &[u8], reading: Plan, writing: Plan) -> bool {
+fn is_reported(fault: Option<ServeFault>, written: &[u8], reading: Plan, writing: Plan) -> bool {
     let cut = match fault {
         Some(ServeFault::Read) => reading.call > 0 && lines(written) == lines_before(reading.call),
         Some(ServeFault::Write) => {
@@ -83,7 +83,7 @@ fn closes(alloc: Global, session: &mut Session, plans: (Plan, Plan)) -> bool {
     let input = INPUT.as_bytes();
     let served = serve_slowly(alloc, session, input, plans, &mut NoSource);
     let again = serve_slowly(alloc, session, input, (SOUND, SOUND), &mut NoSource);
-    is_told(served.fault, served.written.as_slice(), plans.0, plans.1) & is_refused(&again)
+    is_reported(served.fault, served.written.as_slice(), plans.0, plans.1) & is_refused(&again)
 }
 
 fn closes_anew(alloc: Global, plans: (Plan, Plan)) -> bool {
@@ -94,13 +94,13 @@ fn closes_anew(alloc: Global, plans: (Plan, Plan)) -> bool {
 }
 
 // Checks the same for `walk`, whose fault is a serving fault.
-fn walk_tells(alloc: Global, plans: (Plan, Plan)) -> bool {
+fn walk_reports(alloc: Global, plans: (Plan, Plan)) -> bool {
     let walked = walk_slowly(alloc, ONE_NOP, INPUT, plans);
     let fault = match walked.fault {
         Some(RunFault::Serve(fault)) => Some(fault),
         _ => None,
     };
-    is_told(fault, walked.written.as_slice(), plans.0, plans.1)
+    is_reported(fault, walked.written.as_slice(), plans.0, plans.1)
 }
 
 fn read_at(call: usize, kind: ErrorKind) -> (Plan, Plan) {
@@ -151,7 +151,7 @@ fn wrong_other_write(alloc: Global) -> Option<usize> {
 
 fn wrong_read_of_a_walk(alloc: Global) -> Option<usize> {
     for call in 1..READS + 1 {
-        if !walk_tells(alloc, read_at(call, ErrorKind::Interrupted)) {
+        if !walk_reports(alloc, read_at(call, ErrorKind::Interrupted)) {
             return Some(call);
         }
     }
@@ -160,7 +160,7 @@ fn wrong_read_of_a_walk(alloc: Global) -> Option<usize> {
 
 fn wrong_write_of_a_walk(alloc: Global) -> Option<usize> {
     for call in 1..WRITES + 1 {
-        if !walk_tells(alloc, write_at(call, INTERRUPTED)) {
+        if !walk_reports(alloc, write_at(call, INTERRUPTED)) {
             return Some(call);
         }
     }

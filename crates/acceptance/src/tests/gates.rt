@@ -29,7 +29,9 @@ impl<'s, L: Ledger + Send + Sync> Gate for ShutAtTwo<'s, L> {
 
     fn arrive<R: Wait + Clock>(&self, _rt: &R, actor: u32, turn: u32) -> bool {
         let before = self.arrivals.load(Ordering::SeqCst);
-        let arrival = u64::from(actor).wrapping_mul(10).wrapping_add(u64::from(turn));
+        let arrival = u64::from(actor)
+            .wrapping_mul(10)
+            .wrapping_add(u64::from(turn));
         let after = before.wrapping_mul(100).wrapping_add(arrival);
         self.arrivals.store(after, Ordering::SeqCst);
         if self.lock.try_lock().is_some() {

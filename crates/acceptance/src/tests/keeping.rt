@@ -14,7 +14,7 @@ const END_OF_A_NOP: usize = 128;
 
 /// The maximum size of the record of a completion or a thread's step, without the bytes that it
 /// names.
-const BESIDE: usize = 288;
+const OVERHEAD: usize = 288;
 
 /// A page with one nonzero byte is written over zeros, and read over zeros.
 const PAGE_WRITTEN_AND_READ: &str =
@@ -89,13 +89,13 @@ fn kept_of_sync(alloc: Global, bytes: &str) -> Result<usize, Fail> {
 fn is_store_little(alloc: Global, stored: (&str, &str, usize, usize)) -> Result<bool, Fail> {
     let (first, next, times, most) = stored;
     let bytes = digits(alloc, first, next, times)?;
-    Ok(kept_of_store(alloc, bytes.as_str())? <= BESIDE.saturating_add(most))
+    Ok(kept_of_store(alloc, bytes.as_str())? <= OVERHEAD.saturating_add(most))
 }
 
 fn is_sync_little(alloc: Global, synced: (&str, &str, usize, usize)) -> Result<bool, Fail> {
     let (first, next, times, most) = synced;
     let bytes = digits(alloc, first, next, times)?;
-    Ok(kept_of_sync(alloc, bytes.as_str())? <= BESIDE.saturating_add(most))
+    Ok(kept_of_sync(alloc, bytes.as_str())? <= OVERHEAD.saturating_add(most))
 }
 
 fn are_bytes_little(alloc: Global) -> Result<bool, Fail> {

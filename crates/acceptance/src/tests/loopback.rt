@@ -24,8 +24,8 @@ const TWO_STORES: &str =
 const WORKERS: u32 = 1;
 
 // Returns whether the next bytes of the stream are these.
-fn is_next(mut stream: &TcpStream, wanted: &[u8]) -> bool {
-    for byte in wanted {
+fn is_next(mut stream: &TcpStream, expected: &[u8]) -> bool {
+    for byte in expected {
         let mut next = [0u8];
         if stream.read_exact(&mut next).is_err() || next[0] != *byte {
             return false;
@@ -35,7 +35,7 @@ fn is_next(mut stream: &TcpStream, wanted: &[u8]) -> bool {
 }
 
 // Sends lines, and returns whether the replies are these.
-fn is_told(mut stream: &TcpStream, lines: &str, replies: &str) -> bool {
+fn answers(mut stream: &TcpStream, lines: &str, replies: &str) -> bool {
     stream.write_all(lines.as_bytes()).is_ok() && is_next(stream, replies.as_bytes())
 }
 
@@ -49,23 +49,23 @@ fn steps<L: Ledger, R: Wait>(rt: &R, lock: &Mutex<Live<L>>, seats: &mut Vec<Seat
 
 // Two clients inspect one run at once, which makes an event meanwhile. The first client's second
 // `sync` adds it; the second client doesn't sync again, and doesn't see it.
-fn are_told<L: Ledger, R: Wait>(
+fn are_answered<L: Ledger, R: Wait>(
     rt: &R,
     first: &TcpStream,
     second: &TcpStream,
     lock: &Mutex<Live<L>>,
     seats: &mut Vec<Seat<L>>,
 ) -> bool {
-    is_told(first, "sync\n", "synced 0\n")
-        && is_told(second, "sync\nwhere\n", "synced 0\nat 0 of 0\n")
+    answers(first, "sync\n", "synced 0\n")
+        && answers(second, "sync\nwhere\n", "synced 0\nat 0 of 0\n")
         && steps(rt, lock, seats)
-        && is_told(
+        && answers(
             first,
             "sync\ngoto 1\nshow mem 0\n",
             "synced 1\nat 1 of 1\naa\n",
         )
-        && is_told(second, "where\nquit\n", "at 0 of 0\nbye\n")
-        && is_told(first, "quit\n", "bye\n")
+        && answers(second, "where\nquit\n", "at 0 of 0\nbye\n")
+        && answers(first, "quit\n", "bye\n")
 }
 
 // Connects both clients.
@@ -79,7 +79,7 @@ fn connect_two<L: Ledger, R: Net<Listener = TcpListener, Stream = TcpStream> + W
         TcpStream::connect(rt, address),
         TcpStream::connect(rt, address),
     ) {
-        (Ok(first), Ok(second)) => are_told(rt, &first, &second, lock, &mut seats),
+        (Ok(first), Ok(second)) => are_answered(rt, &first, &second, lock, &mut seats),
         _ => false,
     }
 }
@@ -104,13 +104,13 @@ fn serve_two<
         return None;
     };
     let lock = Mutex::new(live);
-    let (served, told) = thread::join(
+    let (served, written) = thread::join(
         rt,
         || serve_clients(rt, alloc, script, listener, &lock, Some(2)),
         || connect_two(rt, address, &lock, seats),
     );
     match served {
-        Ok(count) => Some((count, told)),
+        Ok(count) => Some((count, written)),
         Err(_) => None,
     }
 }

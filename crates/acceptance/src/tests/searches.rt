@@ -21,7 +21,7 @@ fn counter_watched(alloc: Global) -> Result<Watches, AllocError> {
 }
 
 // Runs the two requests and forty ticks, and moves to moment 49.
-fn walk_behind_ticks(walker: &mut Walker) -> Result<(), Fail> {
+fn walk_after_ticks(walker: &mut Walker) -> Result<(), Fail> {
     walker.extend(&TWO_REQUESTS)?;
     walker.extend(&[Event::Tick(1); 40])?;
     walker.goto(49)?;
@@ -37,7 +37,7 @@ fn is_found(walker: &mut Walker, watches: &Watches, stop: Stop, steps: u64) -> R
 
 // The events 6 and 8 change the counter. A search makes only the steps of its jump.
 fn are_found(walker: &mut Walker, watches: &Watches) -> Result<bool, Fail> {
-    walk_behind_ticks(walker)?;
+    walk_after_ticks(walker)?;
     Ok(
         is_found(walker, watches, Stop::Change(8), 41)?
             && is_found(walker, watches, Stop::Change(6), 2)?

@@ -99,7 +99,7 @@ pub fn session_of(alloc: Global, text: &str) -> Result<Session, RunFault> {
 }
 
 /// Returns whether a session gives this reply to a line.
-pub fn is_told(session: &mut Session, line: &str, text: &str) -> bool {
+pub fn answers(session: &mut Session, line: &str, text: &str) -> bool {
     match session.line(line.as_bytes(), None) {
         Ok(reply) => reply.as_slice() == text.as_bytes(),
         Err(_) => false,
@@ -114,26 +114,26 @@ fn is_synced(session: &mut Session, events: &[Event], text: &str) -> bool {
     }
 }
 
-fn is_told_twice(session: &mut Session) -> bool {
-    is_told(session, "back 2", "at 4 of 6\n") && is_told(session, "where", "at 4 of 6\n")
+fn answers_twice(session: &mut Session) -> bool {
+    answers(session, "back 2", "at 4 of 6\n") && answers(session, "where", "at 4 of 6\n")
 }
 
 // The source has one event more than a trace may have, or exactly the maximum. In the second case,
 // its first event differs.
-fn is_told_full(session: &mut Session, ticks: &[Event]) -> bool
+fn answers_in_full(session: &mut Session, ticks: &[Event]) -> bool
     requires { length ticks.now ≡ 1048577 }
 {
     is_synced(session, ticks, "refused 5 full\n")
         && is_synced(session, &ticks[1..], "refused 3 torn 0\n")
-        && is_told(session, "where", "at 4 of 6\n")
+        && answers(session, "where", "at 4 of 6\n")
 }
 
 #[test]
 fn lines_one_by_one(rt: HostRuntime) -> Result<(), Fail> {
     let mut session = session_of(rt.alloc(), ONE_NOP)?;
-    check(&rt, is_told_twice(&mut session));
+    check(&rt, answers_twice(&mut session));
     let ticks = vec![in rt.alloc(); Event::Tick(1); 1048577]?;
-    check(&rt, is_told_full(&mut session, &ticks));
+    check(&rt, answers_in_full(&mut session, &ticks));
     Ok(())
 }
 

@@ -12,11 +12,11 @@ fn storing(alloc: Global, address: u32) -> Result<Setup, AllocError> {
     let mut bytes = Vec::new(alloc);
     bytes.extend_from_slice(&[1, 2])?;
     let mut program = Vec::new(alloc);
-    program.push(Instruction::Store(address, Items::of(bytes)))?;
+    program.push(Instruction::Store(address, Items::from_vec(bytes)))?;
     let mut threads = Vec::new(alloc);
-    threads.push(Items::of(program))?;
+    threads.push(Items::from_vec(program))?;
     let mut setup = quiet(alloc);
-    setup.threads = Items::of(threads);
+    setup.threads = Items::from_vec(threads);
     Ok(setup)
 }
 

@@ -68,7 +68,7 @@ fn are_read_again(alloc: Global, setup: &Setup) -> Result<bool, Fail>
     Ok(
         alone.as_slice() == REQUEST_AND_STEP.as_slice()
             && events.as_slice() == REQUEST_AND_STEP.as_slice()
-            && again.is(setup),
+            && again.equals(setup),
     )
 }
 

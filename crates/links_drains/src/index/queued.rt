@@ -1,6 +1,6 @@
 //! Finds queued requests: those that are unfinished and not issued.
 ghost use Rattle.std.specs.Prelude.{IfSome, IfNone};
-ghost use Rattle.number_sets.specs.Beside.{IsNextBeside, NoneBeside};
+ghost use Rattle.bit_sets.specs.Difference.{IsNextInDifference, NoneInDifference};
 
 use super::Index;
 
@@ -8,9 +8,9 @@ impl Index {
     /// Returns the first queued request from a number on.
     pub(crate) fn next_queued(&self, from: usize) -> Option<usize>
         ensures some { IfSome result
-            (λ r. IsNextBeside self.now.unfinished self.now.issued from r) }
-        ensures none { IfNone result (NoneBeside self.now.unfinished self.now.issued from) }
+            (λ r. IsNextInDifference self.now.unfinished self.now.issued from r) }
+        ensures none { IfNone result (NoneInDifference self.now.unfinished self.now.issued from) }
     {
-        self.unfinished.next_beside(&self.issued, from)
+        self.unfinished.next_in_difference(&self.issued, from)
     }
 }

@@ -9,7 +9,7 @@ ghost use Rattle.places.specs.Closed.{KeptOf};
 ghost use Rattle.places.specs.Masked.{is_kept, marks_from, SameOutside, masked, LeftMark};
 ghost use Rattle.places.specs.Runs.{old_bytes, run_changes, run_total, RunsFit};
 
-use crate::notes::marks::let_go;
+use crate::notes::marks::drop_mark;
 use crate::notes::runs::{Region, Run};
 use crate::part::At;
 use crate::value::Value;
@@ -67,7 +67,7 @@ fn clear_between(olds: &[u8], there: &[u8], gone: &mut [u64], mark: usize, at: u
     }
     for i in at..end {
         if olds[i] == there[i] {
-            let_go(gone, mark + i);
+            drop_mark(gone, mark + i);
         }
     }
 }
@@ -108,7 +108,7 @@ fn clear_each<A: At>(
 {
     for i in 0..olds.len() {
         if is_byte(whole.at(region.place(start + i as u32)), olds[i]) {
-            let_go(gone, mark + i);
+            drop_mark(gone, mark + i);
         }
     }
 }

@@ -43,7 +43,7 @@ impl Slotted for CompletionNote {
         }
     }
 
-    fn put(&self, out: &mut Vec<u8>) -> Result<(), AllocError> {
+    fn pack(&self, out: &mut Vec<u8>) -> Result<(), AllocError> {
         put_place(out, self.place(), self.slot, COMPLETION)?;
         put_completion(out, &self.old)?;
         Ok(())
@@ -51,7 +51,7 @@ impl Slotted for CompletionNote {
 
     fn differs<A: At>(&self, whole: &A) -> bool {
         match whole.completion_at(self.slot) {
-            Some(now) => !now.is(&self.old),
+            Some(now) => !now.equals(&self.old),
             None => differs(self.change(), whole),
         }
     }

@@ -4,9 +4,9 @@ ghost use Rattle.places.specs.View.{named};
 ghost use Rattle.places.specs.Runs.{run_changes};
 ghost use Rattle.places.specs.RestOf.{rest_of};
 
+use crate::notes::byte_changes::{ByteChanges, Stretches};
 use crate::notes::odd::Odd;
 use crate::notes::runs::ByteNotes;
-use crate::notes::telling::{ByteChanges, Stretches};
 use crate::place::Place;
 use crate::value::Change;
 use std::marker::Model;
@@ -54,7 +54,7 @@ impl Kept {
     }
 
     /// Wraps closed notes, and frees the memory that they do not use.
-    pub fn of(mut inner: Option<Box<Inner>>) -> Kept
+    pub fn from_inner(mut inner: Option<Box<Inner>>) -> Kept
         ensures runs { result.runs ≡ (rest_of inner).runs }
         ensures olds { result.olds ≡ (rest_of inner).olds }
         ensures odd { result.odd ≡ (rest_of inner).odd }

@@ -32,7 +32,7 @@ pub fn is_any_kept(gone: &[u64], len: usize) -> bool
 }
 
 /// Drops byte i, for which there must be a word.
-pub fn let_go(gone: &mut [u64], i: usize)
+pub fn drop_mark(gone: &mut [u64], i: usize)
     requires { i < 64 * length gone.old }
     ensures len { length gone.new ≡ length gone.old }
     ensures kept { (q : ℕ) → is_kept gone.new q ≡ (if q == i then false else is_kept gone.old q) }

@@ -3,11 +3,11 @@ ghost use Rattle.std.specs.Prelude.{◌≡◌, is_some};
 ghost use Rattle.places.specs.View.{named};
 ghost use Rattle.places.specs.Runs.{run_changes};
 
+use crate::notes::byte_changes::{ByteChanges, Stretches};
 use crate::notes::completions::CompletionNote;
 use crate::notes::kept::{Inner, Kept};
 use crate::notes::numbers::NumberNote;
 use crate::notes::rows::RowNote;
-use crate::notes::telling::{ByteChanges, Stretches};
 use crate::notes::wide::{Kinds, Wide};
 use crate::place::Place;
 use crate::value::Change;
@@ -41,7 +41,7 @@ impl Model for More {
 impl More {
     /// Joins unpacked notes of numbers, completions and rows with those of the rarer
     /// kinds. Allocates nothing.
-    pub fn of(wide: Wide, rest: Kept) -> More
+    pub fn new(wide: Wide, rest: Kept) -> More
         ensures wide { result.wide ≡ wide }
         ensures rest { result.rest ≡ rest }
     {

@@ -21,7 +21,7 @@ pub struct NumberNote {
 
 impl NumberNote {
     /// Builds the note of a place.
-    pub fn of(place: Place, old: u64) -> NumberNote
+    pub fn new(place: Place, old: u64) -> NumberNote
         requires { is_number place ≡ true }
         ensures { number_change result ≡ record { place = place; old = Some (Number old) } }
     {
@@ -102,7 +102,7 @@ impl Slotted for NumberNote {
         }
     }
 
-    fn put(&self, out: &mut Vec<u8>) -> Result<(), AllocError> {
+    fn pack(&self, out: &mut Vec<u8>) -> Result<(), AllocError> {
         put_number_change(out, self.place(), self.index, self.old)
     }
 

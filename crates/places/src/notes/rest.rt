@@ -153,6 +153,6 @@ impl Rest {
                 return Kept::new();
             }
         }
-        Kept::of(mem::replace(&mut self.inner, None))
+        Kept::from_inner(mem::replace(&mut self.inner, None))
     }
 }

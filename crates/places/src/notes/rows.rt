@@ -9,7 +9,7 @@ ghost use Rattle.places.specs.Slots.{row_change, value_of, other_place, slot_at}
 ghost use Rattle.places.specs.Places.{is_other, kind_of};
 ghost use Rattle.places.specs.PlaceNumbers.{place_of};
 ghost use Rattle.places.specs.Notes.{after_change};
-ghost use Rattle.numerals.specs.Reading.{Puts};
+ghost use Rattle.compact_size.specs.Reading.{Puts};
 ghost use Rattle.places.specs.Packed.{change_of, after_change as after_packed};
 
 use crate::listed::Listed;
@@ -21,8 +21,8 @@ use crate::packing::values::{put_completion, put_entry, put_reaped, put_row, put
 use crate::part::At;
 use crate::place::Place;
 use crate::value::{Change, Stage, Value};
+use compact_size::put_numbers;
 use entries::{Cqe, Row, Sqe};
-use numerals::put_numbers;
 use std::alloc::AllocError;
 
 /// Any value other than a row.
@@ -49,7 +49,7 @@ pub enum RowNote {
 
 impl Small {
     /// Converts a value; returns `None` for a row.
-    pub fn of(value: Value) -> Option<Small>
+    pub fn from_value(value: Value) -> Option<Small>
         ensures { MatchOption result ((row : Row)
             × (value ≡ Requested row)) (λ s. value_of s ≡ value) }
     {
@@ -84,7 +84,7 @@ impl Small {
 
 impl RowNote {
     /// Builds the note of a request.
-    pub fn of(row: u32, old: Option<Row>) -> RowNote
+    pub fn new(row: u32, old: Option<Row>) -> RowNote
         ensures { row_change result
             ≡ record { place = Request row; old = option_map Requested old } }
     {
@@ -274,7 +274,7 @@ impl Slotted for RowNote {
         }
     }
 
-    fn put(&self, out: &mut Vec<u8>) -> Result<(), AllocError> {
+    fn pack(&self, out: &mut Vec<u8>) -> Result<(), AllocError> {
         match self {
             RowNote::Absent(row) => {
                 put_place(out, Place::Request(*row), *row, NOTHING)?;
@@ -296,7 +296,7 @@ impl Slotted for RowNote {
         match self {
             RowNote::Absent(row) => whole.row_at(*row).is_some() || differs(self.change(), whole),
             RowNote::Was(row, old) => match whole.row_at(*row) {
-                Some(now) => !now.is(old),
+                Some(now) => !now.equals(old),
                 None => differs(self.change(), whole),
             },
             RowNote::Other(_, _, _) => differs(self.change(), whole),

@@ -6,9 +6,9 @@ ghost use Rattle.places.specs.Closed.{KeptOf};
 ghost use Rattle.places.specs.Runs.{place_in, is_in, offset_in, covers, run_changes, run_total, RunsFit, NotedBytes, AllKept};
 ghost use Rattle.places.specs.Masked.{is_kept, marks_from, masked, MaskedOnce};
 
+use crate::notes::byte_changes::{ByteChanges, Stretches};
 use crate::notes::clearing::clear_runs;
 use crate::notes::marks::{is_any_kept, make_room, trim};
-use crate::notes::telling::{ByteChanges, Stretches};
 use crate::part::At;
 use crate::place::Place;
 use std::alloc::{AllocError, Global};
@@ -181,14 +181,14 @@ impl ByteNotes {
         ensures value { result.left ≡ run_changes self.now.runs self.now.olds }
         ensures once { NamesOnce (run_changes self.now.runs self.now.olds) }
     {
-        ByteChanges::of(&self.runs, &self.olds, &self.gone)
+        ByteChanges::new(&self.runs, &self.olds, &self.gone)
     }
 
     /// Returns an iterator over the runs.
     pub fn stretches(&self) -> Stretches<'_>
         ensures { result.left ≡ run_changes self.now.runs self.now.olds }
     {
-        Stretches::of(&self.runs, &self.olds, &self.gone)
+        Stretches::new(&self.runs, &self.olds, &self.gone)
     }
 
     /// Returns how many bytes of memory the notes take, besides this struct.

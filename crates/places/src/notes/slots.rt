@@ -7,7 +7,7 @@ ghost use Rattle.places.specs.Places.{same_place};
 ghost use Rattle.places.specs.View.{Noted, NamesOnce, named};
 ghost use Rattle.places.specs.Closed.{KeptOf};
 ghost use Rattle.places.specs.Marks.{IsMarked};
-ghost use Rattle.numerals.specs.Reading.{Puts};
+ghost use Rattle.compact_size.specs.Reading.{Puts};
 ghost use Rattle.places.specs.Packed.{change_of, after_change};
 
 use crate::part::At;
@@ -42,7 +42,7 @@ pub trait Slotted {
 
     /// Appends the note to packed bytes. Fails if an allocation fails, or if the old
     /// value has no packed form.
-    fn put(&self, out: &mut Vec<u8>) -> Result<(), AllocError>
+    fn pack(&self, out: &mut Vec<u8>) -> Result<(), AllocError>
         ensures { OnOk result
             (Puts change_of after_change out.old.items (change self.now ∷ []) out.new.items) };
 
@@ -187,7 +187,7 @@ pub fn either(a: bool, b: bool) -> bool
 pub fn is_same_place(a: Place, b: Place) -> bool
     ensures { result ≡ same_place a b }
 {
-    a.is(&b)
+    a.equals(&b)
 }
 
 fn drop_same_notes<N: Slotted + Copy, A: At>(notes: &mut Vec<N>, whole: &A)

@@ -8,8 +8,8 @@ ghost use Rattle.places.specs.View.{named};
 ghost use Rattle.places.specs.Notes.{left};
 ghost use Rattle.places.specs.PlaceNumbers.{place_of};
 ghost use Rattle.places.specs.Heads.{IsHead, IsFirst, number_was};
-ghost use Rattle.numerals.specs.Reading.{read_all, Puts};
-ghost use Rattle.numerals.specs.Numerals.{number_of, after, behind};
+ghost use Rattle.compact_size.specs.Reading.{read_all, Puts};
+ghost use Rattle.compact_size.specs.CompactSizes.{number_of, after, after_many};
 ghost use Rattle.places.specs.Packed.{size_of_shape, value_of_shape, change_of, after_change, packed};
 
 use crate::listed::Listed;
@@ -18,7 +18,7 @@ use crate::notes::slots::is_same_place;
 use crate::packing::values::{read_completion, read_entry, read_reaped, read_row, read_stage};
 use crate::place::Place;
 use crate::value::{Change, Value};
-use numerals::{Numerals, put_numbers};
+use compact_size::{CompactSizes, put_numbers};
 use std::alloc::AllocError;
 use std::marker::Model;
 
@@ -79,9 +79,9 @@ pub fn put_number_change(
 
 /// Reads an old value by its shape.
 #[tactic(auto, unfolding(crate::specs::Packed::value_of_shape))]
-fn read_value(bytes: &mut Numerals<'_>, shape: u64) -> Option<Value>
+fn read_value(bytes: &mut CompactSizes<'_>, shape: u64) -> Option<Value>
     ensures value { result ≡ value_of_shape shape bytes.old }
-    ensures left { bytes.new ≡ behind (size_of_shape shape) bytes.old }
+    ensures left { bytes.new ≡ after_many (size_of_shape shape) bytes.old }
 {
     match shape {
         NOTHING => None,
@@ -137,7 +137,7 @@ fn place_of(kind: u8, index: u32) -> Place
 
 /// Reads a change.
 #[tactic(auto, unfolding(crate::specs::Packed::change_of, crate::specs::Packed::after_change))]
-fn read_change(bytes: &mut Numerals<'_>) -> Change
+fn read_change(bytes: &mut CompactSizes<'_>) -> Change
     ensures value { result ≡ change_of bytes.old }
     ensures left { bytes.new ≡ after_change bytes.old }
 {
@@ -155,7 +155,7 @@ fn read_change(bytes: &mut Numerals<'_>) -> Change
 pub struct Head {
     kind: u8,
     index: u32,
-    stood: bool,
+    was_there: bool,
 }
 
 /// Returns how many numbers encode an old value of this shape.
@@ -176,7 +176,7 @@ fn size_of_shape(shape: u64) -> u64
 
 /// Reads the head and index of a change, and skips the numbers of its old value.
 #[tactic(auto, unfolding(crate::specs::Packed::change_of, crate::specs::Packed::after_change))]
-fn read_head(bytes: &mut Numerals<'_>) -> Head
+fn read_head(bytes: &mut CompactSizes<'_>) -> Head
     ensures value { IsHead result (change_of bytes.old) }
     ensures left { bytes.new ≡ after_change bytes.old }
 {
@@ -187,12 +187,12 @@ fn read_head(bytes: &mut Numerals<'_>) -> Head
     Head {
         kind: (head % KINDS) as u8,
         index,
-        stood: shape != NOTHING,
+        was_there: shape != NOTHING,
     }
 }
 
 /// Reads a change if its old value is a number. Otherwise it reads nothing.
-fn read_number(bytes: &mut Numerals<'_>) -> Option<(Place, u64)>
+fn read_number(bytes: &mut CompactSizes<'_>) -> Option<(Place, u64)>
     ensures { MatchOption result (bytes.new ≡ bytes.old)
         (λ n. (change_of bytes.old ≡ number_was n.0 n.1) × (after_change bytes.old ≡ bytes.new)) }
 {
@@ -218,13 +218,13 @@ fn is_of(head: Head, place: Place) -> bool
 #[derive(Drop)]
 pub struct PackedChanges<'a> {
     left: u64,
-    bytes: Numerals<'a>,
+    bytes: CompactSizes<'a>,
 }
 
 impl<'a> Model for PackedChanges<'a> {
     ghost use Rattle.std.specs.Prelude.{List};
     ghost use Rattle.places.specs.declared.value.Change.{Change};
-    ghost use Rattle.numerals.specs.Reading.{read_all};
+    ghost use Rattle.compact_size.specs.Reading.{read_all};
     ghost use Rattle.places.specs.Packed.{change_of, after_change};
 
     ghost Value = { List Change };
@@ -234,31 +234,31 @@ impl<'a> Model for PackedChanges<'a> {
 
 impl<'a> PackedChanges<'a> {
     /// Returns an iterator over bytes that begin with the number of changes.
-    pub fn of(bytes: &'a [u8]) -> PackedChanges<'a>
+    pub fn new(bytes: &'a [u8]) -> PackedChanges<'a>
         ensures { result ≡ packed bytes.now }
     {
-        let mut numerals = Numerals::of(bytes);
-        let left = numerals.number();
+        let mut numbers = CompactSizes::new(bytes);
+        let left = numbers.number();
         PackedChanges {
             left,
-            bytes: numerals,
+            bytes: numbers,
         }
     }
 
     /// Returns an iterator over no changes.
-    #[tactic(auto, unfolding(numerals::specs::Numerals::number_of))]
+    #[tactic(auto, unfolding(compact_size::specs::CompactSizes::number_of))]
     pub fn none() -> PackedChanges<'a>
         ensures { result ≡ [] }
     {
         PackedChanges {
             left: 0,
-            bytes: Numerals::of(&[]),
+            bytes: CompactSizes::new(&[]),
         }
     }
 
     /// Returns the next change.
     pub fn next(&mut self) -> Option<Change>
-        ensures told { MatchOption result (self.old ≡ []) (λ c. self.old ≡ c ∷ self.new) }
+        ensures yields { MatchOption result (self.old ≡ []) (λ c. self.old ≡ c ∷ self.new) }
         ensures none { result ≡ None → self.new ≡ [] }
     {
         if self.left == 0 {
@@ -310,7 +310,7 @@ impl<'a> PackedChanges<'a> {
         let mut rows_left = rows;
         let mut backlog_left = backlog;
         while let Some(head) = self.next_head() {
-            if !head.stood {
+            if !head.was_there {
                 let place = place_of(head.kind, head.index);
                 rows_left = left_without(Listed::Requests, place, rows_left);
                 backlog_left = left_without(Listed::Overflowed, place, backlog_left);

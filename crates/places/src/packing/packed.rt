@@ -1,7 +1,7 @@
 //! Packs notes into one string of bytes.
 ghost use Rattle.std.specs.Prelude.{◌≡◌, ◌+◌, ◌++◌, [], map, OnOk, IfOk, IfSome};
 ghost use Rattle.places.specs.Slots.{number_change, completion_change, row_change};
-ghost use Rattle.numerals.specs.Reading.{Puts};
+ghost use Rattle.compact_size.specs.Reading.{Puts};
 ghost use Rattle.places.specs.Packed.{change_of, after_change};
 
 use crate::notes::completions::CompletionNote;
@@ -9,7 +9,7 @@ use crate::notes::numbers::NumberNote;
 use crate::notes::rows::RowNote;
 use crate::notes::slots::Slotted;
 use crate::packing::changes::PackedChanges;
-use numerals::put_number;
+use compact_size::put_number;
 use std::alloc::{AllocError, Global};
 use std::marker::Model;
 
@@ -31,7 +31,7 @@ impl Model for Packed {
 
 impl Packed {
     /// Returns no changes. Allocates nothing.
-    #[tactic(auto, unfolding(numerals::specs::Numerals::number_of))]
+    #[tactic(auto, unfolding(compact_size::specs::CompactSizes::number_of))]
     pub fn new(alloc: Global) -> Packed
         ensures { result ≡ [] }
     {
@@ -42,7 +42,7 @@ impl Packed {
 
     /// Packs notes. It builds the bytes in `scratch`, whose memory is reused, and copies them to
     /// their exact size. Fails if an allocation fails, or if an old value has no packed form.
-    pub fn of(
+    pub fn from_parts(
         numbers: &[NumberNote],
         completions: &[CompletionNote],
         rows: &[RowNote],
@@ -70,7 +70,7 @@ impl Packed {
     pub fn changes(&self) -> PackedChanges<'_>
         ensures { result ≡ self.now }
     {
-        PackedChanges::of(&self.bytes)
+        PackedChanges::new(&self.bytes)
     }
 
     /// Returns how many bytes of memory the changes take.
@@ -90,7 +90,7 @@ fn put_notes<N: Slotted>(out: &mut Vec<u8>, notes: &[N]) -> Result<(), AllocErro
         (Puts change_of after_change out.old.items (map N.change notes.now) out.new.items) }
 {
     for note in notes {
-        note.put(out)?;
+        note.pack(out)?;
     }
     Ok(())
 }

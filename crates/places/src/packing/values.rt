@@ -3,14 +3,14 @@
 ghost use Rattle.std.specs.Prelude.{◌≡◌, ◌<◌, ◌%◌, ◌∷◌, ◌++◌, [], ℕ, length, drop, slice_index, IfSome, OnOk};
 ghost use Rattle.byteorder.specs.Endian.{little_bytes, little_number};
 ghost use Rattle.entries.specs.Layout.{EntryFits, CompletionFits};
-ghost use Rattle.numerals.specs.Reading.{Puts};
-ghost use Rattle.numerals.specs.Numerals.{number_of, after, behind};
+ghost use Rattle.compact_size.specs.Reading.{Puts};
+ghost use Rattle.compact_size.specs.CompactSizes.{number_of, after, after_many};
 ghost use Rattle.places.specs.Packed.{option_number, option_from, word_from, phase_number, phase_from, completion_list, entry_list, row_list, stage_list, StageFits, completion_of, entry_of, row_of, stage_of, reaped_of, RowAgain};
 
 use crate::value::Stage;
 use byteorder::{ByteOrder, LittleEndian};
+use compact_size::{CompactSizes, put_numbers};
 use entries::{Cqe, Phase, Row, Sqe};
-use numerals::{Numerals, put_numbers};
 use std::alloc::AllocError;
 
 // Encodes a time in nanoseconds; returns `None` if it is 2^64 - 1 or more.
@@ -143,7 +143,7 @@ fn row_numbers(row: Row) -> Option<[u64; 7]>
 /// Appends a completion.
 pub fn put_completion(out: &mut Vec<u8>, completion: &Cqe) -> Result<(), AllocError>
     ensures { OnOk result
-        (Puts completion_of (behind 3) out.old.items (completion.now ∷ []) out.new.items) }
+        (Puts completion_of (after_many 3) out.old.items (completion.now ∷ []) out.new.items) }
 {
     put_numbers(out, &completion_numbers(*completion))?;
     Ok(())
@@ -152,7 +152,7 @@ pub fn put_completion(out: &mut Vec<u8>, completion: &Cqe) -> Result<(), AllocEr
 /// Appends an entry.
 pub fn put_entry(out: &mut Vec<u8>, entry: &Sqe) -> Result<(), AllocError>
     ensures { OnOk result
-        (Puts entry_of (behind 14) out.old.items (entry.now ∷ []) out.new.items) }
+        (Puts entry_of (after_many 14) out.old.items (entry.now ∷ []) out.new.items) }
 {
     put_numbers(out, &entry_numbers(*entry))?;
     Ok(())
@@ -160,7 +160,7 @@ pub fn put_entry(out: &mut Vec<u8>, entry: &Sqe) -> Result<(), AllocError>
 
 /// Appends a row. A time of 2^64 - 1 nanoseconds or more is refused as if an allocation failed.
 pub fn put_row(out: &mut Vec<u8>, row: &Row) -> Result<(), AllocError>
-    ensures { OnOk result (Puts row_of (behind 21) out.old.items (row.now ∷ []) out.new.items) }
+    ensures { OnOk result (Puts row_of (after_many 21) out.old.items (row.now ∷ []) out.new.items) }
 {
     let Some(numbers) = row_numbers(*row) else {
         return Err(AllocError);
@@ -176,14 +176,14 @@ fn stage_numbers(stage: Stage) -> [u64; 2]
 {
     match stage {
         Stage::Ready => [0, 0],
-        Stage::Waiting(submitted, wanted) => [submitted as u64 + 1, wanted as u64],
+        Stage::Waiting(submitted, needed) => [submitted as u64 + 1, needed as u64],
     }
 }
 
 /// Appends a stage.
 pub fn put_stage(out: &mut Vec<u8>, stage: &Stage) -> Result<(), AllocError>
     ensures { OnOk result
-        (Puts stage_of (behind 2) out.old.items (stage.now ∷ []) out.new.items) }
+        (Puts stage_of (after_many 2) out.old.items (stage.now ∷ []) out.new.items) }
 {
     put_numbers(out, &stage_numbers(*stage))?;
     Ok(())
@@ -192,7 +192,7 @@ pub fn put_stage(out: &mut Vec<u8>, stage: &Stage) -> Result<(), AllocError>
 /// Appends the last reaped completion, if any.
 pub fn put_reaped(out: &mut Vec<u8>, reaped: &Option<Cqe>) -> Result<(), AllocError>
     ensures { OnOk result
-        (Puts reaped_of (behind 4) out.old.items (reaped.now ∷ []) out.new.items) }
+        (Puts reaped_of (after_many 4) out.old.items (reaped.now ∷ []) out.new.items) }
 {
     match reaped {
         None => {
@@ -208,9 +208,9 @@ pub fn put_reaped(out: &mut Vec<u8>, reaped: &Option<Cqe>) -> Result<(), AllocEr
 }
 
 /// Reads a completion.
-pub fn read_completion(bytes: &mut Numerals<'_>) -> Cqe
+pub fn read_completion(bytes: &mut CompactSizes<'_>) -> Cqe
     ensures value { result ≡ completion_of bytes.old }
-    ensures left { bytes.new ≡ behind 3 bytes.old }
+    ensures left { bytes.new ≡ after_many 3 bytes.old }
 {
     Cqe {
         user_data: bytes.number(),
@@ -221,9 +221,9 @@ pub fn read_completion(bytes: &mut Numerals<'_>) -> Cqe
 
 /// Reads an entry.
 #[tactic(auto, unfolding(crate::specs::Packed::entry_of))]
-pub fn read_entry(bytes: &mut Numerals<'_>) -> Sqe
+pub fn read_entry(bytes: &mut CompactSizes<'_>) -> Sqe
     ensures value { result ≡ entry_of bytes.old }
-    ensures left { bytes.new ≡ behind 14 bytes.old }
+    ensures left { bytes.new ≡ after_many 14 bytes.old }
 {
     Sqe {
         opcode: bytes.byte(),
@@ -242,10 +242,10 @@ pub fn read_entry(bytes: &mut Numerals<'_>) -> Sqe
     }
 }
 
-fn read_rest(bytes: &mut Numerals<'_>) -> [u8; 16]
+fn read_rest(bytes: &mut CompactSizes<'_>) -> [u8; 16]
     ensures value { result ≡ little_bytes 8 (number_of bytes.old)
         ++ little_bytes 8 (number_of (after bytes.old)) }
-    ensures left { bytes.new ≡ behind 2 bytes.old }
+    ensures left { bytes.new ≡ after_many 2 bytes.old }
 {
     let first = bytes.number();
     let second = bytes.number();
@@ -257,9 +257,9 @@ fn read_rest(bytes: &mut Numerals<'_>) -> [u8; 16]
 
 /// Reads a row.
 #[tactic(auto, unfolding(crate::specs::Packed::row_of))]
-pub fn read_row(bytes: &mut Numerals<'_>) -> Row
+pub fn read_row(bytes: &mut CompactSizes<'_>) -> Row
     ensures value { result ≡ row_of bytes.old }
-    ensures left { bytes.new ≡ behind 21 bytes.old }
+    ensures left { bytes.new ≡ after_many 21 bytes.old }
 {
     Row {
         deadline: time_from(bytes.number()),
@@ -274,22 +274,22 @@ pub fn read_row(bytes: &mut Numerals<'_>) -> Row
 }
 
 /// Reads a stage.
-pub fn read_stage(bytes: &mut Numerals<'_>) -> Stage
+pub fn read_stage(bytes: &mut CompactSizes<'_>) -> Stage
     ensures value { result ≡ stage_of bytes.old }
-    ensures left { bytes.new ≡ behind 2 bytes.old }
+    ensures left { bytes.new ≡ after_many 2 bytes.old }
 {
     let submitted = index_from(bytes.number());
-    let wanted = bytes.word();
+    let needed = bytes.word();
     match submitted {
         None => Stage::Ready,
-        Some(submitted) => Stage::Waiting(submitted, wanted),
+        Some(submitted) => Stage::Waiting(submitted, needed),
     }
 }
 
 /// Reads the last reaped completion, if any.
-pub fn read_reaped(bytes: &mut Numerals<'_>) -> Option<Cqe>
+pub fn read_reaped(bytes: &mut CompactSizes<'_>) -> Option<Cqe>
     ensures value { result ≡ reaped_of bytes.old }
-    ensures left { bytes.new ≡ behind 4 bytes.old }
+    ensures left { bytes.new ≡ after_many 4 bytes.old }
 {
     let there = bytes.number() != 0;
     let completion = read_completion(bytes);

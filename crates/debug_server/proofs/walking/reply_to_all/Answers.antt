@@ -10,4 +10,4 @@ returns-in-Ok-clause-ok g c =
 pub returns-in-Err-clause-err : goal.returns-in-Err-clause-err
 returns-in-Err-clause-err g c =
     let s = c.in-Err.ensures.begins c.requires in
-    record { fault = c.in-Err.fault; told = refl; answers = s.answers; unanswered = none_asked _ _ s.answers s.gave.asked; broke = s.broke }
+    record { fault = c.in-Err.fault; is_serve = refl; answers = s.answers; unanswered = none_asked _ _ s.answers s.gave.asked; broke = s.broke }

@@ -1,11 +1,11 @@
 use Rattle.std.proofs.Common.{◌≤◌, length, sym, ◌∙◌, arith}
 use Rattle.findings.proofs.Draining.{drains_found, drains_end, drains_other}
-use Rattle.findings.proofs.Members.{none_behind}
+use Rattle.findings.proofs.Members.{none_after}
 use Rattle.findings.proofs.conflicts.drains.Goals as goal
 
-pub returns-then-asks_to_drain : goal.returns-then-asks_to_drain
-returns-then-asks_to_drain c =
-    sym (drains_found _ c.loop-number.number c.args.unit c.in-Some.row (sym c.in-Some.ensures.row) c.if-row-unit.true (sym c.asks_to_drain.ensures ∙ c.if-asks_to_drain.true))
+pub returns-then-has_drain_flag : goal.returns-then-has_drain_flag
+returns-then-has_drain_flag c =
+    sym (drains_found _ c.loop-number.number c.args.unit c.in-Some.row (sym c.in-Some.ensures.row) c.if-row-unit.true (sym c.has_drain_flag.ensures ∙ c.if-has_drain_flag.true))
 
 pub returns-in_default : goal.returns-in_default
 returns-in_default c =
@@ -13,7 +13,7 @@ returns-in_default c =
 
 pub returns-in_default-2 : goal.returns-in_default-2
 returns-in_default-2 c =
-    sym (drains_end _ c.args.unit c.loop-number.number c.row_at-first.ensures.formed.mostly.table.chained c.loop-number.invariant (none_behind _ c.loop-number.number (sym c.in_default.ensures.row)))
+    sym (drains_end _ c.args.unit c.loop-number.number c.row_at-first.ensures.formed.mostly.table.chained c.loop-number.invariant (none_after _ c.loop-number.number (sym c.in_default.ensures.row)))
 
 pub returns : goal.returns
 returns c =

@@ -1,5 +1,5 @@
 use Rattle.std.proofs.Common.{sym}
-use Rattle.findings.proofs.OnDevice.{is_file, no_length, no_durable_length, few_bytes, lengths_differ, bytes_tell}
+use Rattle.findings.proofs.Durability.{is_file, no_length, no_durable_length, few_bytes, lengths_differ, bytes_decide}
 use Rattle.findings.proofs.unsynced.has_unsynced.Goals as goal
 
 pub returns-in_default : goal.returns-in_default
@@ -18,4 +18,4 @@ differs_below-requires c =
 
 pub returns : goal.returns
 returns c =
-    sym (bytes_tell c.args.state.now c.args.object _ _ c.differs_below.result c.number_at.ensures.formed (is_file c.args.state.now c.args.object _ _ c.in-Some.ensures.value c.in-Some-number_at.ensures.value) c.if-len-durable.false c.differs_below.ensures)
+    sym (bytes_decide c.args.state.now c.args.object _ _ c.differs_below.result c.number_at.ensures.formed (is_file c.args.state.now c.args.object _ _ c.in-Some.ensures.value c.in-Some-number_at.ensures.value) c.if-len-durable.false c.differs_below.ensures)

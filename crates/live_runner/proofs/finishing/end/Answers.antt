@@ -1,7 +1,7 @@
 use Rattle.std.proofs.Common.{◌≡◌, length, arith, ap, subst, ◌∙◌}
 use Rattle.std.proofs.lemmas.List.{length-map}
-use Rattle.live_runner.specs.History.{History, Replays, told_to}
-use Rattle.live_runner.proofs.Going.{own_pairs, wholes}
+use Rattle.live_runner.specs.History.{History, Replays, all_receipts}
+use Rattle.live_runner.proofs.AppendingLemmas.{own_pairs, wholes}
 use Rattle.live_runner.proofs.finishing.end.Goals as goal
 
 pub returns-clause-count : goal.returns-clause-count
@@ -20,7 +20,7 @@ returns-clause-pairs g c =
     own_pairs live.setup live.actors live.owners live.events replays.own
 
 pub returns-clause-whole : goal.returns-clause-whole
-returns-clause-whole g c = λ told.
+returns-clause-whole g c = λ received.
     let replays = subst (λ (h : History). Replays h c.live.inside.records.items) c.live.view_is c.live.invariant.0 in
     let each = length-map c.args.workers.items (λ w. w.seat.receipts) ∙ c.requires in
-    wholes c.args.live c.live.inside.records.items (told_to c.args.workers.items) replays each told
+    wholes c.args.live c.live.inside.records.items (all_receipts c.args.workers.items) replays each received

@@ -2,10 +2,10 @@ use Rattle.std.proofs.Common.{rules, ◌≡◌, ◌∙◌, length, true, slice_g
 use Rattle.std.proofs.lemmas.Option.{slice_get_read, slice_get_past, none-some, same_Some}
 use Rattle.live_runner.proofs.finishing.is_at.Goals as goal
 
-equal : (c : goal.After-eq) → c.in-Some.receipt.now ≡ c.args.wanted → c.eq.result ≡ true
+equal : (c : goal.After-eq) → c.in-Some.receipt.now ≡ c.args.expected → c.eq.result ≡ true
 equal c h = search rules
 
-same : (c : goal.After-eq) → c.eq.result ≡ true → c.in-Some.receipt.now ≡ c.args.wanted
+same : (c : goal.After-eq) → c.eq.result ≡ true → c.in-Some.receipt.now ≡ c.args.expected
 same c h = search rules
 
 there : (c : goal.After-eq) → slice_get c.args.receipts.now c.args.place ≡ Some c.in-Some.receipt.now
@@ -18,4 +18,4 @@ pub returns-in-None : goal.returns-in-None
 returns-in-None c =
     let a = c.in-None.ensures.lookup in
     let past = slice_get_past c.args.receipts.now c.args.place a.3 in
-    (λ h. absurd (cc), λ h. absurd (none-some c.args.wanted (sym past ∙ h)))
+    (λ h. absurd (cc), λ h. absurd (none-some c.args.expected (sym past ∙ h)))

@@ -1,11 +1,11 @@
 use Rattle.std.proofs.Common.{rules, ◌≡◌, Option, Some, None, Bool, true, false, ap, ◌∙◌, sym, arith, length, ℕ, if◌then◌else◌}
 use Rattle.machine.specs.Deadlines.{deadline_at}
-use Rattle.live_runner.specs.declared.offering.Deed.TheVariants.{Finishing, Expiring}
-use Rattle.live_runner.specs.Least.{lesser, least_value, least, or_else}
+use Rattle.live_runner.specs.declared.offering.Action.TheVariants.{Finishing, Expiring}
+use Rattle.live_runner.specs.Least.{smaller_of, least_value, least, or_else}
 use Rattle.live_runner.specs.Offers.{may_do, on_row, ticks_to}
-use Rattle.live_runner.specs.Passing.{has_come}
+use Rattle.live_runner.specs.Passing.{is_reached}
 use Rattle.live_runner.proofs.EndedRows.{below_within, none_finishing, none_due_yet, no_deadline_yet}
-use Rattle.live_runner.proofs.Ends.{expires_come, finish_ends, rest_ends}
+use Rattle.live_runner.proofs.Ends.{expires_reached, finish_ends, rest_ends}
 use Rattle.live_runner.proofs.Leasts.{least_some, least_none, least_same, least_next, before_next, none_left, past_next, least_value_same, least_value_next}
 use Rattle.live_runner.proofs.Rows.{next_to_finish, next_to_expire, none_to_finish, none_to_expire, none_due, none_due_before}
 use Rattle.live_runner.proofs.offering.ends.Goals as goal
@@ -35,15 +35,15 @@ rows-preserved c =
     let next = next_to_finish m c.rows.from c.in-Some.r some in
     let expires = next_to_expire m c.rows.from c.in-Some.r some in
     let here : may_do m Finishing c.in-Some.r ≡ false = search rules in
-    let come : has_come c.clock-clock.result c.deadline-deadline.result ≡ may_do m Expiring c.in-Some.r =
-    ap (λ (n : ℕ). has_come n c.deadline-deadline.result) c.clock-clock.ensures.value ∙ ap (λ (o : Option ℕ). has_come m.clock o) c.deadline-deadline.ensures ∙ sym (expires_come m c.in-Some.r c.clock-clock.ensures.formed) in
+    let reached : is_reached c.clock-clock.result c.deadline-deadline.result ≡ may_do m Expiring c.in-Some.r =
+    ap (λ (n : ℕ). is_reached n c.deadline-deadline.result) c.clock-clock.ensures.value ∙ ap (λ (o : Option ℕ). is_reached m.clock o) c.deadline-deadline.ensures ∙ sym (expires_reached m c.in-Some.r c.clock-clock.ensures.formed) in
     record {
       within = omega (arith, next.within);
       none = past_next (may_do m Finishing) (length m.table) c.rows.from c.in-Some.r c.rows.invariant.none next here;
-      due = c.first_due-due.ensures ∙ ap (λ (o : Option ℕ). or_else o (if has_come c.clock-clock.result c.deadline-deadline.result then Some c.in-Some.r else None)) c.rows.invariant.due
-          ∙ ap (λ (b : Bool). or_else (least (may_do m Expiring) c.rows.from) (if b then Some c.in-Some.r else None)) come
+      due = c.first_due-due.ensures ∙ ap (λ (o : Option ℕ). or_else o (if is_reached c.clock-clock.result c.deadline-deadline.result then Some c.in-Some.r else None)) c.rows.invariant.due
+          ∙ ap (λ (b : Bool). or_else (least (may_do m Expiring) c.rows.from) (if b then Some c.in-Some.r else None)) reached
           ∙ sym (least_next (may_do m Expiring) c.rows.from c.in-Some.r expires.after expires.least);
-      so_far = c.lesser-least.ensures ∙ ap (λ o. lesser o c.deadline-deadline.result) c.rows.invariant.so_far ∙ ap (λ o. lesser (least_value (deadline_at m.table) c.rows.from) o) c.deadline-deadline.ensures
+      so_far = c.smaller_of-least.ensures ∙ ap (λ o. smaller_of o c.deadline-deadline.result) c.rows.invariant.so_far ∙ ap (λ o. smaller_of (least_value (deadline_at m.table) c.rows.from) o) c.deadline-deadline.ensures
           ∙ sym (least_value_next (deadline_at m.table) c.rows.from c.in-Some.r next.after (none_due_before m.table c.rows.from c.in-Some.r some));
     }
 

@@ -1,6 +1,6 @@
 use Rattle.std.proofs.Common.{◌≡◌, ℕ, ◌-◌, ◌<◌, ◌≤◌, false, length}
 use Rattle.machine.specs.Deadlines.{deadline_at}
-use Rattle.live_runner.specs.declared.offering.Deed.TheVariants.{Finishing, Expiring}
+use Rattle.live_runner.specs.declared.offering.Action.TheVariants.{Finishing, Expiring}
 use Rattle.live_runner.specs.Least.{least, least_value}
 use Rattle.live_runner.specs.Offers.{may_do}
 use Rattle.live_runner.proofs.offering.ends.Given as goal

@@ -1,5 +1,5 @@
 use Rattle.std.proofs.Common.{rules, ◌≡◌, true, false, length, sym, arith}
-use Rattle.live_runner.specs.declared.offering.Deed.TheVariants.{Issuing}
+use Rattle.live_runner.specs.declared.offering.Action.TheVariants.{Issuing}
 use Rattle.live_runner.specs.Offers.{may_do}
 use Rattle.live_runner.proofs.EndedRows.{below_within, none_issuing}
 use Rattle.live_runner.proofs.Leasts.{least_some, least_none, before_next, none_left, past_next}

@@ -1,5 +1,5 @@
 use Rattle.std.proofs.Common.{◌≡◌, ℕ, ◌-◌, ◌<◌, ◌≤◌, false, length}
-use Rattle.live_runner.specs.declared.offering.Deed.TheVariants.{Issuing}
+use Rattle.live_runner.specs.declared.offering.Action.TheVariants.{Issuing}
 use Rattle.live_runner.specs.Offers.{may_do}
 use Rattle.live_runner.proofs.offering.least_to_issue.Given as goal
 

@@ -6,7 +6,7 @@ abbrev pub invariant-loop-end : goal.invariant-loop-end
 invariant-loop-end l = record {
   from : l.from ≤ l.end;
   within : l.end ≤ l.to;
-  behind : Alike l.old l.others l.end l.to;
+  rest_alike : Alike l.old l.others l.end l.to;
 }
 
 abbrev pub decreases-loop-end : goal.decreases-loop-end

@@ -1,10 +1,10 @@
 use Rattle.std.proofs.Common.{◌≡◌, ◌++◌, length, map}
 use Rattle.machine.specs.Whole.{view}
-use Rattle.run_log.specs.Listings.{told}
+use Rattle.run_log.specs.Listings.{changed_to}
 use Rattle.run_log.proofs.changed.gathered.Given as goal
 
 abbrev pub invariant-loop-change : goal.invariant-loop-change
-invariant-loop-change l = l.list.items ++ map (told (view l.state)) l.rest ≡ map (told (view l.state)) l.past
+invariant-loop-change l = l.list.items ++ map (changed_to (view l.state)) l.rest ≡ map (changed_to (view l.state)) l.past
 
 abbrev pub decreases-loop-change : goal.decreases-loop-change
 decreases-loop-change l = length l.rest

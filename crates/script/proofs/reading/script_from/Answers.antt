@@ -11,8 +11,8 @@ use Rattle.script.proofs.Chain.{scenario_with, scripted}
 use Rattle.script.proofs.Starts.{startable}
 use Rattle.script.proofs.reading.script_from.Goals as goal
 
-pub of-requires : goal.of-requires
-of-requires c =
+pub new-requires : goal.new-requires
+new-requires c =
     rw c.into_items.ensures (startable
     (option_map (λ v. view v.now) c.get.result) (option_map (λ v. view v.now) c.get-2.result) (option_map (λ v. view v.now) c.get-6.result) (option_map (λ v. view v.now) c.get-7.result) (option_map (λ v. view v.now) c.get-8.result) (option_map (λ v. view v.now) c.get-9.result) (option_map (λ v. view v.now) c.get-10.result)
     c.in_ok-entries.entries c.ring_size.result c.in_ok-cq.cq c.in_ok-sqpoll.sqpoll c.in_ok-submit_all.submit_all c.in_ok-base.base c.in_ok-memory.memory c.in_ok-objects.objects c.in_ok-fds.fds c.in_ok-threads.threads c.in_ok-schedule.schedule
@@ -43,4 +43,4 @@ returns c =
     (ap (λ n. threads_of n (get (codes "threads") d)) (sym c.ring_size.ensures) ∙ ap (threads_of c.ring_size.result) (sym c.get-9.ensures) ∙ c.in_ok-threads.ensures)
     (ap schedule_of (sym c.get-10.ensures) ∙ c.in_ok-schedule.ensures)
     ∙ ap (λ objects. Ok (scenario_with entries cq sqpoll submit_all base memory objects fds threads schedule)) (sym c.into_items.ensures)
-    ∙ ap Ok (sym c.of.ensures)
+    ∙ ap Ok (sym c.new.ensures)

@@ -1,6 +1,6 @@
 use Rattle.std.proofs.Common.{◌∙◌, sym, ap, subst, List, []}
 use Rattle.links_drains.specs.Endings.{Direct, Ending, result_in}
-use Rattle.timeouts_cancel.specs.Falls.{joined}
+use Rattle.timeouts_cancel.specs.Cascades.{joined}
 use Rattle.timeouts_cancel.proofs.Listed.{direct_endings, joined_none, nothing_in}
 use Rattle.timeouts_cancel.proofs.merging.add.Goals as goal
 

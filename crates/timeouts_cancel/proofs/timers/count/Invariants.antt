@@ -1,5 +1,5 @@
 use Rattle.std.proofs.Common.{◌≡◌, ◌≤◌, take}
-use Rattle.timeouts_cancel.specs.Falls.{counted_in}
+use Rattle.timeouts_cancel.specs.Cascades.{counted_in}
 use Rattle.timeouts_cancel.proofs.timers.count.Given as goal
 
 abbrev pub invariant-loop-r : goal.invariant-loop-r

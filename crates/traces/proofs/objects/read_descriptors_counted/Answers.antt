@@ -1,12 +1,12 @@
 use Rattle.std.proofs.lemmas.Result.{err_from_is_err_and}
 use Rattle.traces.specs.Reading.{descriptor_at}
-use Rattle.traces.proofs.Items.{goes_on, ends, is_done}
+use Rattle.traces.proofs.Items.{items_continue, ends, is_done}
 use Rattle.traces.proofs.objects.read_descriptors_counted.Goals as goal
 
 pub loop-preserved : goal.loop-preserved
 loop-preserved c =
     rw c.in_ok-push.ensures.items
-    (goes_on (λ before. descriptor_at c.args.objects.now) c.args.count c.loop.counter c.loop.descriptors.items c.loop.rest c.in_ok-descriptor.descriptor c.in_ok-descriptor.after _ c.loop-test.true c.in_ok-descriptor.ensures c.loop.invariant)
+    (items_continue (λ before. descriptor_at c.args.objects.now) c.args.count c.loop.counter c.loop.descriptors.items c.loop.rest c.in_ok-descriptor.descriptor c.in_ok-descriptor.after _ c.loop-test.true c.in_ok-descriptor.ensures c.loop.invariant)
 
 pub returns-in_err-descriptor : goal.returns-in_err-descriptor
 returns-in_err-descriptor c =

@@ -1,13 +1,13 @@
 use Rattle.std.proofs.lemmas.Result.{err_from_is_err_and}
 use Rattle.traces.specs.Reading.{object_at}
-use Rattle.traces.proofs.Items.{goes_on, ends, is_done}
+use Rattle.traces.proofs.Items.{items_continue, ends, is_done}
 use Rattle.traces.proofs.objects.read_objects_counted.Goals as goal
 
 pub loop-preserved : goal.loop-preserved
 loop-preserved c =
     let read = rw c.deref.ensures.value at c.in_ok-object.ensures in
     rw c.in_ok-push.ensures.items
-    (goes_on object_at c.args.count c.loop.counter c.loop.objects.items c.loop.rest c.in_ok-object.object c.in_ok-object.after _ c.loop-test.true read c.loop.invariant)
+    (items_continue object_at c.args.count c.loop.counter c.loop.objects.items c.loop.rest c.in_ok-object.object c.in_ok-object.after _ c.loop-test.true read c.loop.invariant)
 
 pub returns-in_err-object : goal.returns-in_err-object
 returns-in_err-object c =

@@ -1,12 +1,12 @@
 use Rattle.std.proofs.lemmas.Result.{err_from_is_err_and}
 use Rattle.traces.specs.Reading.{instruction_at}
-use Rattle.traces.proofs.Items.{goes_on, ends, is_done}
+use Rattle.traces.proofs.Items.{items_continue, ends, is_done}
 use Rattle.traces.proofs.programs.read_instructions.Goals as goal
 
 pub loop-preserved : goal.loop-preserved
 loop-preserved c =
     rw c.in_ok-push.ensures.items
-    (goes_on (λ before. instruction_at c.args.slots) c.args.count c.loop.counter c.loop.program.items c.loop.rest c.in_ok-instruction.instruction c.in_ok-instruction.after _ c.loop-test.true c.in_ok-instruction.ensures c.loop.invariant)
+    (items_continue (λ before. instruction_at c.args.slots) c.args.count c.loop.counter c.loop.program.items c.loop.rest c.in_ok-instruction.instruction c.in_ok-instruction.after _ c.loop-test.true c.in_ok-instruction.ensures c.loop.invariant)
 
 pub returns-in_err-instruction : goal.returns-in_err-instruction
 returns-in_err-instruction c =

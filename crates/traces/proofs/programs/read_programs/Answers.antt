@@ -1,12 +1,12 @@
 use Rattle.std.proofs.lemmas.Result.{err_from_is_err_and}
 use Rattle.traces.specs.Reading.{program_at}
-use Rattle.traces.proofs.Items.{goes_on, ends, is_done}
+use Rattle.traces.proofs.Items.{items_continue, ends, is_done}
 use Rattle.traces.proofs.programs.read_programs.Goals as goal
 
 pub loop-preserved : goal.loop-preserved
 loop-preserved c =
     rw c.in_ok-push.ensures.items
-    (goes_on (λ before. program_at c.args.slots) c.args.count c.loop.counter c.loop.programs.items c.loop.rest c.in_ok-program.program c.in_ok-program.after _ c.loop-test.true c.in_ok-program.ensures c.loop.invariant)
+    (items_continue (λ before. program_at c.args.slots) c.args.count c.loop.counter c.loop.programs.items c.loop.rest c.in_ok-program.program c.in_ok-program.after _ c.loop-test.true c.in_ok-program.ensures c.loop.invariant)
 
 pub returns-in_err-program : goal.returns-in_err-program
 returns-in_err-program c =

@@ -1,34 +1,34 @@
 use Rattle.traces.specs.Setups.{long_bytes, list_bytes, object_bytes, descriptor_bytes, program_bytes, rings_bytes, trimmed, canonical}
 use Rattle.traces.proofs.Written.{numbers_small}
-use Rattle.traces.proofs.Trimming.{asked, chained}
+use Rattle.traces.proofs.Trimming.{required, chained}
 use Rattle.traces.proofs.setup_writing.push_setup.Goals as goal
 
 pub push_rings-requires : goal.push_rings-requires
-push_rings-requires c = (asked c.args.setup.now c.requires).rings
+push_rings-requires c = (required c.args.setup.now c.requires).rings
 
 pub push_memory-requires : goal.push_memory-requires
-push_memory-requires c = rw c.as_slice.ensures (asked c.args.setup.now c.requires).memory
+push_memory-requires c = rw c.as_slice.ensures (required c.args.setup.now c.requires).memory
 
 pub push_objects-requires-clause-few : goal.push_objects-requires-clause-few
-push_objects-requires-clause-few c = rw c.as_slice-2.ensures (asked c.args.setup.now c.requires).few_objects
+push_objects-requires-clause-few c = rw c.as_slice-2.ensures (required c.args.setup.now c.requires).few_objects
 
 pub push_objects-requires-clause-kept : goal.push_objects-requires-clause-kept
-push_objects-requires-clause-kept c = rw c.as_slice-2.ensures (asked c.args.setup.now c.requires).objects
+push_objects-requires-clause-kept c = rw c.as_slice-2.ensures (required c.args.setup.now c.requires).objects
 
 pub push_descriptors-requires-clause-few : goal.push_descriptors-requires-clause-few
-push_descriptors-requires-clause-few c = rw c.as_slice-3.ensures (asked c.args.setup.now c.requires).few_fds
+push_descriptors-requires-clause-few c = rw c.as_slice-3.ensures (required c.args.setup.now c.requires).few_fds
 
 pub push_descriptors-requires-clause-small : goal.push_descriptors-requires-clause-small
 push_descriptors-requires-clause-small c =
     let s = c.args.setup.now in
-    let a = asked s c.requires in
+    let a = required s c.requires in
     rw c.as_slice-3.ensures (numbers_small s.objects s.fds a.few_objects a.fds)
 
 pub push_threads-requires-clause-few : goal.push_threads-requires-clause-few
-push_threads-requires-clause-few c = rw c.as_slice-4.ensures (asked c.args.setup.now c.requires).few_threads
+push_threads-requires-clause-few c = rw c.as_slice-4.ensures (required c.args.setup.now c.requires).few_threads
 
 pub push_threads-requires-clause-kept : goal.push_threads-requires-clause-kept
-push_threads-requires-clause-kept c = rw (c.as_slice-4.ensures, c.ring_size.ensures) (asked c.args.setup.now c.requires).threads
+push_threads-requires-clause-kept c = rw (c.as_slice-4.ensures, c.ring_size.ensures) (required c.args.setup.now c.requires).threads
 
 pub returns-clause-spelled : goal.returns-clause-spelled
 returns-clause-spelled c =

@@ -1,7 +1,7 @@
 use Rattle.std.proofs.Common.{◌≡◌, ◌∙◌, ◌++◌, ◌∷◌, [], length, ◌<◌, ap, sym, rules}
 use Rattle.std.proofs.lemmas.Result.{err_from_is_err_and}
 use Rattle.machine.specs.Steps.{refusal}
-use Rattle.inverse_log.specs.Tracks.{stands}
+use Rattle.inverse_log.specs.Tracks.{current}
 use Rattle.inverse_log.proofs.Runs.{why_refused}
 use Rattle.machine.specs.Runs.{Link}
 use Rattle.inverse_log.proofs.Keeping.{keeps_push}
@@ -19,5 +19,5 @@ invariant_of-self-2 c =
 pub returns-in_err-past-clause-refuses : goal.returns-in_err-past-clause-refuses
 returns-in_err-past-clause-refuses c =
     let p = err_from_is_err_and c.from_residual.result c.from_residual.ensures.1 in
-    let same : stands c.args.self.now ≡ c.self.inside.state = ap stands (sym c.self.view_is) ∙ sym c.self.invariant.here in
+    let same : current c.args.self.now ≡ c.self.inside.state = ap current (sym c.self.view_is) ∙ sym c.self.invariant.here in
     rw (p.1, p.2) (rw same (why_refused (refusal c.self.inside.state c.args.event) _ (λ k e. let q = c.in_err-past.ensures.refused k e in cc) (λ e. c.in_err-past.ensures.only_memory e)))

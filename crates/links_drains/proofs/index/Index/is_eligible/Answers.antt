@@ -1,7 +1,7 @@
 use Rattle.std.proofs.Common.{sym, inl}
 use Rattle.std.proofs.Common.{refl}
 use Rattle.std.proofs.lemmas.Option.{slice_get-get_or}
-use Rattle.links_drains.proofs.Eligibility.{eligible_in_drain, eligible_behind, waits_for_least}
+use Rattle.links_drains.proofs.Eligibility.{eligible_in_drain, eligible_in_turn, waits_for_least}
 use Rattle.links_drains.proofs.index.Index.is_eligible.Goals as goal
 
 pub returns-then-contains : goal.returns-then-contains
@@ -11,7 +11,7 @@ returns-then-contains c =
 
 pub returns-then-is_next : goal.returns-then-is_next
 returns-then-is_next c =
-    eligible_behind c.args.rows.now c.args.self.now c.requires.indexed c.requires.guards c.args.r _ (slice_get-get_or c.args.rows.now c.args.r _ c.if-r-rows.false) (sym c.if-not-is_queued.ensures) (sym c.if-is_guard.ensures)
+    eligible_in_turn c.args.rows.now c.args.self.now c.requires.indexed c.requires.guards c.args.r _ (slice_get-get_or c.args.rows.now c.args.r _ c.if-r-rows.false) (sym c.if-not-is_queued.ensures) (sym c.if-is_guard.ensures)
     c.has_none_below.result (sym c.if-contains.ensures) c.if-is_next.ensures c.has_none_below.ensures
 
 pub returns-else-is_next : goal.returns-else-is_next

@@ -1,18 +1,18 @@
 use Rattle.std.proofs.Common.{◌≡◌, ◌∙◌, ◌≤◌, ◌+◌, sym, ap, length, cond, arith}
 use Rattle.std.proofs.lemmas.Option.{slice_get-get_or}
-use Rattle.links_drains.proofs.Batching.{all_added, element_there, next_goes_on, adding_on}
+use Rattle.links_drains.proofs.Batching.{all_added, element_there, next_continues, adding_on}
 use Rattle.links_drains.proofs.table.Table.add_rows.Goals as goal
 use Rattle.links_drains.proofs.table.Table.add_rows.Goals.{then-begins, else-begins}
 
-pub push-requires-clause-goes_on : goal.push-requires-clause-goes_on
-push-requires-clause-goes_on c =
+pub push-requires-clause-continues : goal.push-requires-clause-continues
+push-requires-clause-continues c =
     let e = element_there c.args.entries.now c.loop-i.i c.loop-i-test.true in
     let within : c.loop-i.i ≤ length c.args.entries.now = omega (arith, c.loop-i-test.true) in
     let unit : c.if-begins.unit ≡ cond c.loop-i.begins (length c.args.self.now + c.loop-i.i) c.loop-i.unit = elim c.if-begins.branch [
       | then-begins w ↦ w.unit-is ∙ ap (λ n. n + c.loop-i.i) c.len-first.ensures.len ∙ sym (ap (λ b. cond b (length c.args.self.now + c.loop-i.i) c.loop-i.unit) w.if-begins.true)
       | else-begins w ↦ w.unit-is ∙ sym (ap (λ b. cond b (length c.args.self.now + c.loop-i.i) c.loop-i.unit) w.if-begins.false)
     ] in
-    next_goes_on c.args.world.now c.args.self.now c.loop-i.self c.args.notes.now c.loop-i.notes c.args.entries.now c.loop-i.i c.loop-i.unit c.if-begins.unit c.loop-i.begins c.row_at.result
+    next_continues c.args.world.now c.args.self.now c.loop-i.self c.args.notes.now c.loop-i.notes c.args.entries.now c.loop-i.i c.loop-i.unit c.if-begins.unit c.loop-i.begins c.row_at.result
     c.loop-i.invariant within unit (ap (λ row. row.unit) (c.row_at.ensures e.0 e.1))
 
 pub loop-i-preserved : goal.loop-i-preserved

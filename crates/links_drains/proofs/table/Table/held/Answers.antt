@@ -1,5 +1,5 @@
-use Rattle.links_drains.proofs.Tallying.{tells}
+use Rattle.links_drains.proofs.Tallying.{is_held_tallied}
 use Rattle.links_drains.proofs.table.Table.held.Goals as goal
 
 pub returns : goal.returns
-returns c = rw (← c.self.view_is) (tells c.self.inside.rows.items c.self.inside.held c.self.invariant.tallied)
+returns c = rw (← c.self.view_is) (is_held_tallied c.self.inside.rows.items c.self.inside.held c.self.invariant.tallied)

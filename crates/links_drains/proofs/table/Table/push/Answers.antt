@@ -19,7 +19,7 @@ update-requires c =
     let count : c.len-r.result ≡ length c.self.inside.rows.items = c.len-r.ensures ∙ c.self.inside.rows.ok.0 in
     let made = rw before at c.in_ok-make_room.ensures.ok in
     let indexed = rw before at c.in_ok-make_room.ensures.indexed in
-    let on = rw (← c.self.view_is) at c.requires.goes_on in
+    let on = rw (← c.self.view_is) at c.requires.continues in
     rw (after, count) (c.args.row, get-pushed c.self.inside.rows.items c.args.row, indexed_push c.self.inside.rows.items c.make_room.new.self c.args.row indexed made on)
 
 pub invariant_of-self-2 : goal.invariant_of-self-2

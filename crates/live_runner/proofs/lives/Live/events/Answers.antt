@@ -1,5 +1,5 @@
 use Rattle.std.proofs.Common.{rules, ◌≡◌}
-use Rattle.live_runner.proofs.Going.{runs_on}
+use Rattle.live_runner.proofs.AppendingLemmas.{runs_on}
 use Rattle.live_runner.proofs.lives.Live.events.Goals as goal
 
 pub returns-clause-runs : goal.returns-clause-runs

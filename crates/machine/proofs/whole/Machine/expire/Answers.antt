@@ -3,19 +3,19 @@ use Rattle.entries.specs.declared.row.Row.{Row}
 use Rattle.entries.specs.declared.row.Phase.TheVariants.{Issued}
 use Rattle.machine.proofs.EnterLemmas.{expired_row}
 use Rattle.machine.proofs.ExpiryLemmas.{direct_pair}
-use Rattle.machine.proofs.GuardLemmas.{same_row, stand_behind}
+use Rattle.machine.proofs.GuardLemmas.{same_row, guards_linked}
 use Rattle.machine.proofs.whole.Machine.expire.Goals as goal
 
-pub fall-requires-clause-direct : goal.fall-requires-clause-direct
-fall-requires-clause-direct c =
+pub cascade-requires-clause-direct : goal.cascade-requires-clause-direct
+cascade-requires-clause-direct c =
     let m = c.args.self.now in
     let x = expired_row m c.args.r c.requires.accepted in
     let same = same_row x.0 c.row-row.result (sym x.1 ∙ c.row-row.ensures) in
     let issued : c.row-row.result.phase ≡ Issued = ap (λ (y : Row). y.phase) (sym same) ∙ x.2 in
     direct_pair m c.args.r c.in-Some.target c.row-row.result c.requires.formed c.row-row.ensures issued (sym c.waiting_target.ensures ∙ c.in-Some.is)
 
-pub fall-requires-clause-guards : goal.fall-requires-clause-guards
-fall-requires-clause-guards c = stand_behind c.args.self.now.table c.requires.formed.guards
+pub cascade-requires-clause-guards : goal.cascade-requires-clause-guards
+cascade-requires-clause-guards c = guards_linked c.args.self.now.table c.requires.formed.guards
 
-pub fall-requires-in-None-clause-guards : goal.fall-requires-in-None-clause-guards
-fall-requires-in-None-clause-guards c = stand_behind c.args.self.now.table c.requires.formed.guards
+pub cascade-requires-in-None-clause-guards : goal.cascade-requires-in-None-clause-guards
+cascade-requires-in-None-clause-guards c = guards_linked c.args.self.now.table c.requires.formed.guards

@@ -8,7 +8,7 @@ loop-place-init c = restored_from _ _ c.requires.once
 pub put_number-requires : goal.put_number-requires
 put_number-requires c =
     let at = subst (Restored c.args.self.now c.args.rest.now c.loop-place.self) c.in-Some.ensures c.loop-place.invariant in
-    next_can_put c.requires.stood.0 _ _ _ _ _ _ refl c.requires.stood.1 at
+    next_can_put c.requires.origin.0 _ _ _ _ _ _ refl c.requires.origin.1 at
 
 pub loop-place-preserved : goal.loop-place-preserved
 loop-place-preserved c =
@@ -20,13 +20,13 @@ loop-change-init c = subst (Restored c.args.self.now c.args.rest.now c.loop-plac
 
 pub put-requires : goal.put-requires
 put-requires c =
-    let at = subst (Restored c.args.self.now c.args.rest.now c.loop-change.self) c.in-Some-next.ensures.told c.loop-change.invariant in
+    let at = subst (Restored c.args.self.now c.args.rest.now c.loop-change.self) c.in-Some-next.ensures.yields c.loop-change.invariant in
     let k = some_of _ (sym c.is_some.ensures ∙ c.if-is_some.true) in
-    next_can_put c.requires.stood.0 _ _ _ _ _ k.0 k.1 c.requires.stood.1 at
+    next_can_put c.requires.origin.0 _ _ _ _ _ k.0 k.1 c.requires.origin.1 at
 
 pub loop-change-preserved-then-is_some : goal.loop-change-preserved-then-is_some
 loop-change-preserved-then-is_some c =
-    let at = subst (Restored c.args.self.now c.args.rest.now c.loop-change.self) c.in-Some-next.ensures.told c.loop-change.invariant in
+    let at = subst (Restored c.args.self.now c.args.rest.now c.loop-change.self) c.in-Some-next.ensures.yields c.loop-change.invariant in
     let k = some_of _ (sym c.is_some.ensures ∙ c.if-is_some.true) in
     let rows = rw k.1 at c.put.ensures.rows in
     let items = rw k.1 at c.put.ensures.backlog in
@@ -34,8 +34,8 @@ loop-change-preserved-then-is_some c =
 
 pub loop-change-preserved : goal.loop-change-preserved
 loop-change-preserved c =
-    let at = subst (Restored c.args.self.now c.args.rest.now c.loop-change.self) c.in-Some-next.ensures.told c.loop-change.invariant in
-    restored_skip c.requires.stood.0 _ _ _ _ _ (none_of _ (sym c.is_some.ensures ∙ c.if-is_some.false)) c.requires.stood.1 at
+    let at = subst (Restored c.args.self.now c.args.rest.now c.loop-change.self) c.in-Some-next.ensures.yields c.loop-change.invariant in
+    restored_skip c.requires.origin.0 _ _ _ _ _ (none_of _ (sym c.is_some.ensures ∙ c.if-is_some.false)) c.requires.origin.1 at
 
 pub returns : goal.returns
 returns c = restored_all _ _ _ _ (search rules) c.loop-change.invariant

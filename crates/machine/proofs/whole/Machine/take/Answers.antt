@@ -8,7 +8,7 @@ use Rattle.machine.specs.Whole.{Grows}
 use Rattle.machine.specs.declared.whole.Machine.{Machine}
 use Rattle.machine.proofs.FormedRows.{length-entries_at}
 use Rattle.machine.proofs.Growing.{grows_taken, grows_more}
-use Rattle.machine.proofs.SubmissionLemmas.{take_told, words_least}
+use Rattle.machine.proofs.SubmissionLemmas.{take_is_taken, words_least}
 use Rattle.machine.proofs.whole.Machine.take.Goals as goal
 
 pub take_batch-requires : goal.take_batch-requires
@@ -36,8 +36,8 @@ returns-clause-grows c =
     ∙ ap (λ (n : ℕ). if halts m.submit_all m.world (offered_entries w c.args.to_submit) then up_to_entry w.slots n (offered w c.args.to_submit) else offered w c.args.to_submit) (c.in_ok-batch.ensures.taken ∙ ap (λ (es : List Sqe). length (taken_of m.submit_all m.world es)) listed) in
     let least = c.offered-offered.ensures.least in
     let within = c.word_count-count.ensures.within in
-    let told : record m { submissions = c.take_first.new.self; table = c.take_batch.new.self } ≡ taken m c.args.to_submit =
-    take_told m c.args.to_submit c.word_count-count.result c.in_ok-batch.batch.taken c.take_first.new.self c.take_batch.new.self words (omega (arith, least, within))
+    let same_machine : record m { submissions = c.take_first.new.self; table = c.take_batch.new.self } ≡ taken m c.args.to_submit =
+    take_is_taken m c.args.to_submit c.word_count-count.result c.in_ok-batch.batch.taken c.take_first.new.self c.take_batch.new.self words (omega (arith, least, within))
     (c.in_ok-batch.ensures.ok ∙ ap (λ (es : List Sqe). m.table ++ rows_of m.world (length m.table) (taken_of m.submit_all m.world es)) listed)
     (c.in_ok-batch.ensures.taken ∙ ap (λ (es : List Sqe). length (taken_of m.submit_all m.world es)) listed) c.take_first.ensures.next in
-    subst (Grows m) (sym told) (grows_taken m c.args.to_submit)
+    subst (Grows m) (sym same_machine) (grows_taken m c.args.to_submit)

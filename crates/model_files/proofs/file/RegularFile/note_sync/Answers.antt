@@ -1,4 +1,4 @@
-use Rattle.model_files.proofs.Paging.{keeps_synced, names_device}
+use Rattle.model_files.proofs.Paging.{keeps_synced, names_durable}
 use Rattle.model_files.proofs.file.RegularFile.note_sync.Goals as goal
 
 pub returns-clause-keeps : goal.returns-clause-keeps
@@ -7,4 +7,4 @@ returns-clause-keeps c =
 
 pub returns-clause-noted : goal.returns-clause-noted
 returns-clause-noted c =
-    names_device c.args.self.now _ _ _ _ c.durable_len.ensures.sized c.in_ok-note_pages.ensures.noted c.in_ok-note_number.ensures.ok
+    names_durable c.args.self.now _ _ _ _ c.durable_len.ensures.sized c.in_ok-note_pages.ensures.noted c.in_ok-note_number.ensures.ok

@@ -17,13 +17,13 @@ invariant_of-self-in-Durable c =
 
 pub returns-in-File-clause-put : goal.returns-in-File-clause-put
 returns-in-File-clause-put c =
-    let stand = rw (← c.self.view_is, c.in-File.is) at c.requires.stand in
-    rw (← c.self.view_is, c.in-File.is) (put_file_bytes _ _ _ _ _ c.put_over.ensures.over stand)
+    let present = rw (← c.self.view_is, c.in-File.is) at c.requires.present in
+    rw (← c.self.view_is, c.in-File.is) (put_file_bytes _ _ _ _ _ c.put_over.ensures.over present)
 
 pub returns-in-Durable-clause-put : goal.returns-in-Durable-clause-put
 returns-in-Durable-clause-put c =
-    let stand = rw (← c.self.view_is, c.in-Durable.is) at c.requires.stand in
-    rw (← c.self.view_is, c.in-Durable.is) (put_durable_bytes _ _ _ _ _ c.put_over-in-Durable.ensures.over stand)
+    let present = rw (← c.self.view_is, c.in-Durable.is) at c.requires.present in
+    rw (← c.self.view_is, c.in-Durable.is) (put_durable_bytes _ _ _ _ _ c.put_over-in-Durable.ensures.over present)
 
 pub returns-in-Memory-clause-put : goal.returns-in-Memory-clause-put
-returns-in-Memory-clause-put c = put_no_file_bytes _ _ _ _ c.in-Memory.is c.requires.stand
+returns-in-Memory-clause-put c = put_no_file_bytes _ _ _ _ c.in-Memory.is c.requires.present

@@ -3,7 +3,7 @@ use Rattle.std.specs.Prelude.{Some, IsSome, slice_get}
 use Rattle.std.proofs.lemmas.Option.{slice_get_within}
 use Rattle.model_files.specs.Worlds.{WorldState, counter_in, counter_of}
 use Rattle.model_files.proofs.Lifting.{found_body}
-use Rattle.model_files.proofs.Bringing.{cleared_is, counter_there, keeps_cleared, keeps_clearing}
+use Rattle.model_files.proofs.CopiedOut.{cleared_is, counter_there, keeps_cleared, keeps_clearing}
 use Rattle.model_files.proofs.Remembering.{keeps_memory_bytes}
 use Rattle.model_files.proofs.world.World.clear_event.Goals as goal
 

@@ -6,7 +6,7 @@ use Rattle.model_files.specs.Worlds.{WorldState, pipe_in, pipe_of}
 use Rattle.model_files.proofs.Lifting.{found_body, some_and}
 use Rattle.places.proofs.Keeping.{keeps_then}
 use Rattle.model_files.specs.Worlds.{world_owns, world_seen}
-use Rattle.model_files.proofs.Bringing.{keeps_count, keeps_two, names_taken, second_part_fresh}
+use Rattle.model_files.proofs.CopiedOut.{keeps_count, keeps_two, names_taken, second_part_fresh}
 use Rattle.model_files.proofs.Remembering.{keeps_memory_bytes}
 use Rattle.model_files.proofs.world.World.note_taken.Goals as goal
 

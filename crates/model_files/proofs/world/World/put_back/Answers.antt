@@ -13,5 +13,5 @@ returns-clause-put c =
     let w : WorldState = record { memory = c.self.inside.memory.items; objects = c.self.inside.objects.items; descriptors = c.self.inside.descriptors.items } in
     let none : object_in (place_in c.args.stretch.region c.args.stretch.start) ≡ None = ap object_in (sym c.place.ensures) ∙ sym c.object_in.ensures ∙ c.in_default.is in
     let m : c.args.stretch.region ≡ Memory = is_memory c.args.stretch.region c.args.stretch.start none in
-    let stand = rw (← c.self.view_is, m) at c.requires.stand in
-    rw (← c.self.view_is, m) (put_memory_bytes w c.args.stretch.start (kept_of c.args.stretch) _ c.put_over.ensures.over stand)
+    let present = rw (← c.self.view_is, m) at c.requires.present in
+    rw (← c.self.view_is, m) (put_memory_bytes w c.args.stretch.start (kept_of c.args.stretch) _ c.put_over.ensures.over present)

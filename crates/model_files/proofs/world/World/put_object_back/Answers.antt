@@ -5,17 +5,17 @@ use Rattle.places.specs.Stretched.{kept_of}
 use Rattle.places.specs.Runs.{place_in}
 use Rattle.model_files.specs.Worlds.{WorldState}
 use Rattle.model_files.proofs.Lifting.{owns_own, one_setup_body}
-use Rattle.model_files.proofs.PuttingBack.{stand_body, put_body_bytes, put_absent}
+use Rattle.model_files.proofs.PuttingBack.{present_body, put_body_bytes, put_absent}
 use Rattle.model_files.proofs.world.World.put_object_back.Goals as goal
 
-pub put_back-requires-clause-stand : goal.put_back-requires-clause-stand
-put_back-requires-clause-stand c =
+pub put_back-requires-clause-present : goal.put_back-requires-clause-present
+put_back-requires-clause-present c =
     let w : WorldState = record { memory = c.self.inside.memory.items; objects = c.self.inside.objects.items; descriptors = c.self.inside.descriptors.items } in
     let own = owns_own (place_in c.args.stretch.region c.args.stretch.start) c.args.object c.requires.its in
     let within : c.args.object < length w.objects = omega arith in
     let found : slice_get w.objects c.args.object ≡ Some c.index_mut.result.now = slice_get_read w.objects (length w.objects) c.args.object c.index_mut.result.now refl within c.index_mut.ensures.value in
-    let stand = rw (← c.self.view_is) at c.requires.stand in
-    stand_body w c.args.object c.index_mut.result.now c.args.stretch.region c.args.stretch.start (kept_of c.args.stretch) found own stand
+    let present = rw (← c.self.view_is) at c.requires.present in
+    present_body w c.args.object c.index_mut.result.now c.args.stretch.region c.args.stretch.start (kept_of c.args.stretch) found own present
 
 pub returns-then-index-len-clause-put : goal.returns-then-index-len-clause-put
 returns-then-index-len-clause-put c =
@@ -35,5 +35,5 @@ returns-then-index-len-clause-setup c =
 pub returns-else-index-len-clause-put : goal.returns-else-index-len-clause-put
 returns-else-index-len-clause-put c =
     let w : WorldState = record { memory = c.self.inside.memory.items; objects = c.self.inside.objects.items; descriptors = c.self.inside.descriptors.items } in
-    let stand = rw (← c.self.view_is) at c.requires.stand in
-    rw (← c.self.view_is) (put_absent w c.args.object c.args.stretch.region c.args.stretch.start (kept_of c.args.stretch) c.requires.its (omega arith) stand)
+    let present = rw (← c.self.view_is) at c.requires.present in
+    rw (← c.self.view_is) (put_absent w c.args.object c.args.stretch.region c.args.stretch.start (kept_of c.args.stretch) c.requires.its (omega arith) present)

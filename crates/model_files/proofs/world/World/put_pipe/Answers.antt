@@ -11,12 +11,12 @@ returns-clause-ok c =
     let w : WorldState = record { memory = c.self.inside.memory.items; objects = c.self.inside.objects.items; descriptors = c.self.inside.descriptors.items } in
     let there : IsSomeAnd (pipe_of w c.args.object) (TakesIn c.args.count) = rw (← c.self.view_is) at c.requires.room in
     let found = found_body pipe_in w c.args.object c.index_mut.result.now (some_and (TakesIn c.args.count) (pipe_of w c.args.object) there) c.index_mut.ensures.value in
-    let done = rw (c.deref.ensures.value, range_is w.memory c.args.address c.args.count) at c.put.ensures.ok in
-    rw (← c.self.view_is) (on_ok_weaker c.put.result (changed_body (on_pipe (put_in (part w.memory c.args.address c.args.count))) w c.args.object c.index_mut.result.now c.put.new.self found) done)
+    let done = rw (c.deref.ensures.value, range_is w.memory c.args.address c.args.count) at c.push_bytes.ensures.ok in
+    rw (← c.self.view_is) (on_ok_weaker c.push_bytes.result (changed_body (on_pipe (put_in (part w.memory c.args.address c.args.count))) w c.args.object c.index_mut.result.now c.push_bytes.new.self found) done)
 
 pub returns-clause-keeps : goal.returns-clause-keeps
 returns-clause-keeps c =
     let w : WorldState = record { memory = c.self.inside.memory.items; objects = c.self.inside.objects.items; descriptors = c.self.inside.descriptors.items } in
     let there : IsSomeAnd (pipe_of w c.args.object) (TakesIn c.args.count) = rw (← c.self.view_is) at c.requires.room in
     let found = found_body pipe_in w c.args.object c.index_mut.result.now (some_and (TakesIn c.args.count) (pipe_of w c.args.object) there) c.index_mut.ensures.value in
-    rw (← c.self.view_is) (keeps_object w c.args.object c.index_mut.result.now c.put.new.self _ _ found c.put.ensures.keeps)
+    rw (← c.self.view_is) (keeps_object w c.args.object c.index_mut.result.now c.push_bytes.new.self _ _ found c.push_bytes.ensures.keeps)

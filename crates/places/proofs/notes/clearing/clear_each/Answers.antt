@@ -12,10 +12,10 @@ use Rattle.places.proofs.notes.clearing.clear_each.Goals as goal
 pub loop-i-preserved : goal.loop-i-preserved
 loop-i-preserved g c = elim c.if-is_byte.branch [
   | then-is_byte w ↦ rw (w.gone-is) (record {
-    len = w.let_go.ensures.len ∙ c.loop-i.invariant.len;
-    others = outside_one c.args.gone.now c.loop-i.gone w.let_go.new.gone c.args.mark c.loop-i.i false c.loop-i.invariant.others w.let_go.ensures.kept;
-    done = settled (λ j b k m. LeftOf (g.A.At.seen c.args.whole.now (place_in c.args.region (c.args.start + j))) (kept_byte k b) (kept_byte m b)) c.args.olds.now c.args.gone.now c.loop-i.gone w.let_go.new.gone c.args.mark c.loop-i.i (slice_index_or c.args.olds.now c.loop-i.i 0) false
-        (slice_get-get_or c.args.olds.now c.loop-i.i 0 c.loop-i-test.true) w.let_go.ensures.kept (left_gone _ _ _ (sym (rw (c.place.ensures) at c.at.ensures) ∙ (rw (w.if-is_byte.true) at c.is_byte.ensures))) c.loop-i.invariant.done;
+    len = w.drop_mark.ensures.len ∙ c.loop-i.invariant.len;
+    others = outside_one c.args.gone.now c.loop-i.gone w.drop_mark.new.gone c.args.mark c.loop-i.i false c.loop-i.invariant.others w.drop_mark.ensures.kept;
+    done = settled (λ j b k m. LeftOf (g.A.At.seen c.args.whole.now (place_in c.args.region (c.args.start + j))) (kept_byte k b) (kept_byte m b)) c.args.olds.now c.args.gone.now c.loop-i.gone w.drop_mark.new.gone c.args.mark c.loop-i.i (slice_index_or c.args.olds.now c.loop-i.i 0) false
+        (slice_get-get_or c.args.olds.now c.loop-i.i 0 c.loop-i-test.true) w.drop_mark.ensures.kept (left_gone _ _ _ (sym (rw (c.place.ensures) at c.at.ensures) ∙ (rw (w.if-is_byte.true) at c.is_byte.ensures))) c.loop-i.invariant.done;
   })
   | else-is_byte w ↦ rw (w.gone-is) (record {
     len = c.loop-i.invariant.len;

@@ -1,7 +1,7 @@
 use Rattle.std.proofs.Common.{◌≡◌, ◌/◌, ap, not, get_or, sym, arith}
 use Rattle.std.proofs.lemmas.Bool.{ltb-true}
 use Rattle.std.proofs.lemmas.List.{get_or_read}
-use Rattle.number_sets.proofs.Bits.{lacks_bit, has_past}
+use Rattle.bit_sets.proofs.Bits.{lacks_bit, has_past}
 use Rattle.places.proofs.notes.marks.is_kept.Goals as goal
 
 pub returns-in-Some : goal.returns-in-Some

@@ -1,5 +1,5 @@
 use Rattle.std.proofs.Common.{ap, not, refl}
-use Rattle.number_sets.proofs.Bits.{has_grown, no_bits}
+use Rattle.bit_sets.proofs.Bits.{has_grown, no_bits}
 use Rattle.places.proofs.notes.marks.make_room.Goals as goal
 
 pub returns-in_ok-lengthen-clause-kept : goal.returns-in_ok-lengthen-clause-kept

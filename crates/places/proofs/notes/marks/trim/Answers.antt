@@ -1,5 +1,5 @@
 use Rattle.std.proofs.Common.{◌∙◌, ap, not, sym, refl, arith, []}
-use Rattle.number_sets.proofs.Bits.{has_past, no_words}
+use Rattle.bit_sets.proofs.Bits.{has_past, no_words}
 use Rattle.places.proofs.notes.marks.trim.Goals.{then-not-is_any_set, else-not-is_any_set}
 use Rattle.places.proofs.notes.marks.trim.Goals as goal
 

@@ -1,5 +1,5 @@
 use Rattle.std.proofs.Common.{◌∙◌, ap}
-use Rattle.numerals.specs.Numerals.{word_of}
+use Rattle.compact_size.specs.CompactSizes.{word_of}
 use Rattle.places.proofs.HeadLemmas.{head_read}
 use Rattle.places.proofs.packing.changes.read_head.Goals as goal
 

@@ -1,6 +1,6 @@
 use Rattle.std.proofs.Common.{take}
 use Rattle.std.specs.Prelude.{map}
-use Rattle.numerals.specs.Reading.{Puts}
+use Rattle.compact_size.specs.Reading.{Puts}
 use Rattle.places.specs.Packed.{change_of, after_change}
 use Rattle.places.proofs.packing.packed.put_notes.Given as goal
 

@@ -8,8 +8,8 @@ use Rattle.places.proofs.Sound.{all_once, sound_empty}
 use Rattle.places.proofs.Recording.{kept_nothing, nothing_there, packed_changes, wide_changes}
 use Rattle.places.proofs.recorder.Recorder.finish.Goals as goal
 
-pub of-requires-in-Ok : goal.of-requires-in-Ok
-of-requires-in-Ok g c =
+pub from_parts-requires-in-Ok : goal.from_parts-requires-in-Ok
+from_parts-requires-in-Ok g c =
     let e : record_changes c.in-Ok.packed c.new.result c.close-rest.result ≡ all_changes c.close-numbers.result.items c.close-completions.result.items c.close-rows.result.items c.close-rest.result =
     packed_changes c.close-numbers.result.items c.close-completions.result.items c.close-rows.result.items c.close-rest.result c.in-Ok.packed c.new.result (rw (c.deref.ensures.value, c.deref-2.ensures.value, c.deref-3.ensures.value) at c.in-Ok.ensures) c.new.ensures.numbers c.new.ensures.completions c.new.ensures.rows in
     subst NamesOnce (sym e)
@@ -17,8 +17,8 @@ of-requires-in-Ok g c =
     (all_once c.self.inside.numbers c.self.inside.completions c.self.inside.rows c.self.inside.rest c.self.inside.room c.self.invariant.0 c.close-numbers.ensures.once c.close-completions.ensures.once c.close-rows.ensures.once c.close-rest.ensures.bytes_once c.close-rest.ensures.odd_once)
     (all_kept (g.A.At.seen c.args.whole.now) c.self.inside.numbers.notes c.close-numbers.result.items c.self.inside.completions.notes c.close-completions.result.items c.self.inside.rows.notes c.close-rows.result.items c.self.inside.rest c.close-rest.result c.close-numbers.ensures.kept c.close-completions.ensures.kept c.close-rows.ensures.kept c.close-rest.ensures.bytes c.close-rest.ensures.odd)).1
 
-pub of-requires-in-Err : goal.of-requires-in-Err
-of-requires-in-Err g c =
+pub from_parts-requires-in-Err : goal.from_parts-requires-in-Err
+from_parts-requires-in-Err g c =
     let gone : c.replace-spare.result.is_ready ≡ false → NothingNoted c.self.inside.numbers.notes c.self.inside.completions.notes c.self.inside.rows.notes c.self.inside.room =
     λ f. nothing_there c.self.inside.numbers.notes c.self.inside.completions.notes c.self.inside.rows.notes c.self.inside.room c.self.inside.spare c.self.invariant.1 (sym (ap (λ w. w.is_ready) c.replace-spare.ensures.value) ∙ f) in
     let e : record_changes c.new-in-Err-2.result c.with-wide.result c.close-rest.result ≡ all_changes c.close-numbers.result.items c.close-completions.result.items c.close-rows.result.items c.close-rest.result =
@@ -35,7 +35,7 @@ pub returns-in-Ok-clause-exact : goal.returns-in-Ok-clause-exact
 returns-in-Ok-clause-exact g c =
     let e : record_changes c.in-Ok.packed c.new.result c.close-rest.result ≡ all_changes c.close-numbers.result.items c.close-completions.result.items c.close-rows.result.items c.close-rest.result =
     packed_changes c.close-numbers.result.items c.close-completions.result.items c.close-rows.result.items c.close-rest.result c.in-Ok.packed c.new.result (rw (c.deref.ensures.value, c.deref-2.ensures.value, c.deref-3.ensures.value) at c.in-Ok.ensures) c.new.ensures.numbers c.new.ensures.completions c.new.ensures.rows in
-    rw (c.of-in-Ok.ensures, e, ← c.self.view_is)
+    rw (c.from_parts-in-Ok.ensures, e, ← c.self.view_is)
     (kept_exact (undo (g.A.At.seen c.args.whole.now) (all_changes c.self.inside.numbers.notes c.self.inside.completions.notes c.self.inside.rows.notes c.self.inside.rest)) (g.A.At.seen c.args.whole.now) (all_changes c.self.inside.numbers.notes c.self.inside.completions.notes c.self.inside.rows.notes c.self.inside.rest) (all_changes c.close-numbers.result.items c.close-completions.result.items c.close-rows.result.items c.close-rest.result)
     (all_once c.self.inside.numbers c.self.inside.completions c.self.inside.rows c.self.inside.rest c.self.inside.room c.self.invariant.0 c.close-numbers.ensures.once c.close-completions.ensures.once c.close-rows.ensures.once c.close-rest.ensures.bytes_once c.close-rest.ensures.odd_once)
     (all_kept (g.A.At.seen c.args.whole.now) c.self.inside.numbers.notes c.close-numbers.result.items c.self.inside.completions.notes c.close-completions.result.items c.self.inside.rows.notes c.close-rows.result.items c.self.inside.rest c.close-rest.result c.close-numbers.ensures.kept c.close-completions.ensures.kept c.close-rows.ensures.kept c.close-rest.ensures.bytes c.close-rest.ensures.odd) (λ p. refl))
@@ -49,7 +49,7 @@ returns-in-Err-clause-exact g c =
     (c.with-wide.ensures.numbers (λ f. kept_nothing number_change (g.A.At.seen c.args.whole.now) _ _ (gone f).numbers c.close-numbers.ensures.kept))
     (c.with-wide.ensures.completions (λ f. kept_nothing completion_change (g.A.At.seen c.args.whole.now) _ _ (gone f).completions c.close-completions.ensures.kept))
     (c.with-wide.ensures.rows (λ f. kept_nothing row_change (g.A.At.seen c.args.whole.now) _ _ (gone f).rows c.close-rows.ensures.kept)) in
-    rw (c.of-in-Err.ensures, e, ← c.self.view_is)
+    rw (c.from_parts-in-Err.ensures, e, ← c.self.view_is)
     (kept_exact (undo (g.A.At.seen c.args.whole.now) (all_changes c.self.inside.numbers.notes c.self.inside.completions.notes c.self.inside.rows.notes c.self.inside.rest)) (g.A.At.seen c.args.whole.now) (all_changes c.self.inside.numbers.notes c.self.inside.completions.notes c.self.inside.rows.notes c.self.inside.rest) (all_changes c.close-numbers.result.items c.close-completions.result.items c.close-rows.result.items c.close-rest.result)
     (all_once c.self.inside.numbers c.self.inside.completions c.self.inside.rows c.self.inside.rest c.self.inside.room c.self.invariant.0 c.close-numbers.ensures.once c.close-completions.ensures.once c.close-rows.ensures.once c.close-rest.ensures.bytes_once c.close-rest.ensures.odd_once)
     (all_kept (g.A.At.seen c.args.whole.now) c.self.inside.numbers.notes c.close-numbers.result.items c.self.inside.completions.notes c.close-completions.result.items c.self.inside.rows.notes c.close-rows.result.items c.self.inside.rest c.close-rest.result c.close-numbers.ensures.kept c.close-completions.ensures.kept c.close-rows.ensures.kept c.close-rest.ensures.bytes c.close-rest.ensures.odd) (λ p. refl))

@@ -20,7 +20,7 @@ returns-then-names-clause-ok c = rw (← c.self.view_is) (odd_noted c.self.insid
 pub invariant_of-self-2 : goal.invariant_of-self-2
 invariant_of-self-2 c =
     let none : named c.self.inside.rest.odd (Request c.args.row) ≡ None = not_some _ (sym c.names.ensures ∙ c.if-names.false) in
-    let noted : Noted (map row_change c.self.inside.rows.notes) (map row_change c.note.new.self.notes) (Request c.args.row) (option_map Requested c.args.old) = subst (λ k. Noted (map row_change c.self.inside.rows.notes) (map row_change c.note.new.self.notes) k.place k.old) c.of.ensures c.in_ok-note.ensures.ok in (
+    let noted : Noted (map row_change c.self.inside.rows.notes) (map row_change c.note.new.self.notes) (Request c.args.row) (option_map Requested c.args.old) = subst (λ k. Noted (map row_change c.self.inside.rows.notes) (map row_change c.note.new.self.notes) k.place k.old) c.new.ensures c.in_ok-note.ensures.ok in (
       row_sound c.self.inside.numbers c.self.inside.completions c.self.inside.rows c.self.inside.rest c.self.inside.room c.spend_other.new.self c.note.new.self c.self.invariant.0
           (row_apart c.self.inside.numbers c.self.inside.completions c.self.inside.rows c.self.inside.rest c.self.inside.room c.self.invariant.0 c.note.new.self (Request c.args.row) (option_map Requested c.args.old) (row_sort c.args.row) noted none)
           c.note.ensures.spare c.note.ensures.reached c.spend_other.ensures.numbers c.spend_other.ensures.completions c.spend_other.ensures.others c.spend_other.ensures.held,
@@ -30,14 +30,14 @@ invariant_of-self-2 c =
 pub returns-clause-ok : goal.returns-clause-ok
 returns-clause-ok c =
     let none : named c.self.inside.rest.odd (Request c.args.row) ≡ None = not_some _ (sym c.names.ensures ∙ c.if-names.false) in
-    let noted : Noted (map row_change c.self.inside.rows.notes) (map row_change c.note.new.self.notes) (Request c.args.row) (option_map Requested c.args.old) = subst (λ k. Noted (map row_change c.self.inside.rows.notes) (map row_change c.note.new.self.notes) k.place k.old) c.of.ensures c.in_ok-note.ensures.ok in
+    let noted : Noted (map row_change c.self.inside.rows.notes) (map row_change c.note.new.self.notes) (Request c.args.row) (option_map Requested c.args.old) = subst (λ k. Noted (map row_change c.self.inside.rows.notes) (map row_change c.note.new.self.notes) k.place k.old) c.new.ensures c.in_ok-note.ensures.ok in
     rw (← c.self.view_is) (row_noted c.self.inside.numbers.notes c.self.inside.completions.notes c.self.inside.rows.notes c.self.inside.rest c.note.new.self.notes (Request c.args.row) (option_map Requested c.args.old) (row_sort c.args.row) noted none)
 
 pub returns-in_err-note-clause-there : goal.returns-in_err-note-clause-there
 returns-in_err-note-clause-there c h l =
     let e : c.self.inside.room.others ≡ c.args.self.now.others = ap (λ n. n.others) c.self.view_is in
     let some : 0 < c.self.inside.room.others = omega arith in
-    let at : row_slot_of c.of.result ≡ slot_at (Request c.args.row) = ap (λ k. slot_at k.place) c.of.ensures in
+    let at : row_slot_of c.new.result ≡ slot_at (Request c.args.row) = ap (λ k. slot_at k.place) c.new.ensures in
     let below = row_below c.args.row l in
     let m = c.self.invariant.0.rows.spare in
     let k = c.self.invariant.0.rows.reached some in

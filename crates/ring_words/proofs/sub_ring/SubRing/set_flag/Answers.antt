@@ -15,6 +15,6 @@ returns-else-on-clause-keeps c = rw (← c.self.view_is) (keeps_noted _ _ _ _ _ 
 pub returns-then-has_flag-on-clause-next : goal.returns-then-has_flag-on-clause-next
 returns-then-has_flag-on-clause-next c =
     let formed : SubFormed c.args.self.now = search rules in
-    let stands : has_flag c.args.self.now.flags c.args.flag ≡ c.args.on = search rules in
-    let same = with_flag_same c.args.self.now.flags c.args.flag c.args.on formed.flags stands in
+    let already : has_flag c.args.self.now.flags c.args.flag ≡ c.args.on = search rules in
+    let same = with_flag_same c.args.self.now.flags c.args.flag c.args.on formed.flags already in
     ap (λ n. record c.args.self.now { flags = n }) (sym same)

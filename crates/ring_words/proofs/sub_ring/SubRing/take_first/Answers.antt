@@ -1,6 +1,6 @@
 use Rattle.std.proofs.Common.{refl, ◌≤◌, arith}
 use Rattle.places.proofs.Keeping.{keeps_noted, keeps_then}
-use Rattle.ring_words.proofs.Order.{list_behind}
+use Rattle.ring_words.proofs.Order.{list_after}
 use Rattle.ring_words.proofs.Sizes.{size_divides, size_some}
 use Rattle.ring_words.proofs.Seen.{sub_seen_head, sub_seen_dropped}
 use Rattle.ring_words.proofs.Laws.{sub_length}
@@ -19,4 +19,4 @@ unfolding sub_list
 returns-clause-list c =
     let listed = rw (← c.self.view_is) at c.requires.some in
     let some : c.args.count ≤ waiting c.self.inside.head c.self.inside.tail = omega (arith, listed, sub_length _ c.self.invariant) in
-    rw (← c.self.view_is) (list_behind _ _ _ _ (size_some c.self.invariant.size) (size_divides 4096 _ c.self.invariant.size) (omega arith) (omega arith) some)
+    rw (← c.self.view_is) (list_after _ _ _ _ (size_some c.self.invariant.size) (size_divides 4096 _ c.self.invariant.size) (omega arith) (omega arith) some)

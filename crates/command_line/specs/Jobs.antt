@@ -1,0 +1,33 @@
+-- What the words ask for.
+use Rattle.std.specs.Prelude.{◌≡◌, ◌≤◌, ℕ, Option, Some, None}
+use Rattle.command_line.specs.declared.task.Job.{Job}
+use Rattle.command_line.specs.declared.task.Job.TheVariants.{Walk, Replay, Log, Check, Explain, Timeline, Live, Serve, Trace, Migrate}
+
+-- a trace is asked for under its script's name
+abbrev pub LosesScript : Job → Type 0
+LosesScript (Walk script) = ⊥
+LosesScript (Replay trace) = ⊥
+LosesScript (Log run from to) = ⊥
+LosesScript (Check script) = ⊥
+LosesScript (Explain run kind json) = ⊥
+LosesScript (Timeline run out from to) = ⊥
+LosesScript (Live script turns kernel None) = ⊥
+LosesScript (Live script turns kernel (Some out)) = out.now ≡ script.now
+LosesScript (Serve script port turns kernel clients) = ⊥
+LosesScript (Trace script out form) = out.now ≡ script.now
+LosesScript (Migrate script trace out) = out.now ≡ script.now
+
+-- the ranges of a live run's numbers: turns, and kernel workers
+abbrev pub AreInRange : ℕ → ℕ → Type 0
+AreInRange turns kernel = ((1 ≤ turns) × (turns ≤ 1000000)) × ((1 ≤ kernel) × (kernel ≤ 8))
+
+-- a port, and after how many sessions a server ends, if it does
+abbrev pub AreClients : ℕ → Option ℕ → Type 0
+AreClients port None = (1 ≤ port) × (port ≤ 65535)
+AreClients port (Some clients) = ((1 ≤ port) × (port ≤ 65535)) × ((1 ≤ clients) × (clients ≤ 1000000))
+
+-- the numbers of a live run and of its clients keep their ranges
+abbrev pub IsInRange : Job → Type 0
+IsInRange (Live script turns kernel out) = AreInRange turns kernel
+IsInRange (Serve script port turns kernel clients) = AreInRange turns kernel × AreClients port clients
+IsInRange job = Unit {0}

@@ -1,0 +1,2 @@
+pub mod CompactSizes
+pub mod Reading

@@ -1,4 +1,0 @@
-pub mod Counting
-pub mod Noting
-pub mod Moments
-pub mod GoingOn

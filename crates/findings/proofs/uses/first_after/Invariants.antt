@@ -1,0 +1,8 @@
+use Rattle.std.proofs.Common.{drop}
+use Rattle.ring_words.specs.Rings.{sub_list}
+use Rattle.findings.specs.Uses.{is_sought}
+use Rattle.findings.proofs.Looking.{NonePasses}
+use Rattle.findings.proofs.uses.first_after.Given as goal
+
+abbrev pub invariant-loop-place : goal.invariant-loop-place
+invariant-loop-place l = NonePasses (is_sought l.ring.slots l.sought) (drop l.passed (sub_list l.ring)) l.place

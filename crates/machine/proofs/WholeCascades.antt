@@ -1,0 +1,31 @@
+-- Cascades are complete, because the target of an unfinished linked timeout is no linked timeout.
+use Rattle.std.proofs.Common.{◌≡◌, ℕ, false, sym, ◌∙◌, ap, List, ◌++◌, length, ◌+◌, ◌⊎◌, inl, inr}
+use Rattle.std.specs.Prelude.{Some, slice_get}
+use Rattle.entries.specs.declared.row.Row.{Row}
+use Rattle.links_drains.specs.Batches.{rows_of}
+use Rattle.links_drains.specs.Links.{is_guard}
+use Rattle.timeouts_cancel.specs.Cascades.{GuardsFormed}
+use Rattle.machine.specs.Steps.{entries_for, taken}
+use Rattle.machine.specs.Whole.{GuardIsLinked, WellFormed}
+use Rattle.machine.specs.declared.whole.Machine.{Machine}
+use Rattle.machine.proofs.FormedSubmissions.{old_or_new}
+use Rattle.machine.proofs.GuardLemmas.{batch_target, guard_before, same_row}
+
+-- The target of a linked timeout is no linked timeout.
+target_is_no_guard : (rows : List Row) (r t : ℕ) (x target : Row) → GuardIsLinked rows r x → x.target ≡ Some t → slice_get rows t ≡ Some target → is_guard target ≡ false
+target_is_no_guard rows r t x target s k g =
+    let same : s.target ≡ t = let o = sym s.is ∙ k in cc in
+    ap is_guard (sym (same_row s.row target (sym s.there ∙ ap (slice_get rows) same ∙ g))) ∙ s.other
+
+pub guards_formed : (m : Machine) → WellFormed m → GuardsFormed m.table
+guards_formed m f r t x target e g u k h = target_is_no_guard m.table r t x target (f.guards r x e g u) k h
+
+pub taken_formed : (m : Machine) (k : ℕ) → WellFormed m → GuardsFormed (taken m k).table
+taken_formed m k f r t x target e g u o h = by (old_or_new m.table batch r x e)
+  where
+    batch : List Row
+    batch = rows_of m.world (length m.table) (entries_for m k)
+
+    by : (slice_get m.table r ≡ Some x) ⊎ ((i : ℕ) × (r ≡ length m.table + i) × (slice_get batch i ≡ Some x)) → is_guard target ≡ false
+    by (inl a) = target_is_no_guard (m.table ++ batch) r t x target (guard_before m.table batch r x (f.guards r x a g u)) o h
+    by (inr a) = target_is_no_guard (m.table ++ batch) (length m.table + a.0) t x target (batch_target m.world m.table (entries_for m k) a.0 t x a.2 g o) o h

@@ -1,6 +1,0 @@
-use Rattle.timeouts_cancel.proofs.Whole.{whole}
-use Rattle.machine.proofs.WholeFalls.{guards_formed}
-use Rattle.machine.proofs.laws.falls_whole.Goals as goal
-
-pub returns : goal.returns
-returns c = λ m direct f. whole m.table m.counted direct (guards_formed m f)

@@ -1,7 +1,0 @@
-use Rattle.timeouts_cancel.proofs.Whole.{whole}
-use Rattle.machine.specs.Steps.{taken}
-use Rattle.machine.proofs.WholeFalls.{taken_formed}
-use Rattle.machine.proofs.laws.submissions_fall_whole.Goals as goal
-
-pub returns : goal.returns
-returns c = λ m k direct f. whole (taken m k).table m.counted direct (taken_formed m k f)

@@ -1,0 +1,31 @@
+use Rattle.std.proofs.Common.{sym, refl, arith}
+use Rattle.std.proofs.lemmas.Option.{slice_get_read}
+use Rattle.places.proofs.ListLemmas.{map_same, updated_set}
+use Rattle.places.proofs.Keeping.{keeps_noted}
+use Rattle.machine.proofs.ThreadLemmas.{seen_counter}
+use Rattle.machine.proofs.threads.Threads.advance.Goals as goal
+
+pub overflow_add-thread : goal.overflow_add-thread
+overflow_add-thread c =
+    let r = rw (← c.self.view_is) at c.requires.there in
+    let at = rw (← c.thread.view_is) at (slice_get_read c.self.inside.threads.items _ c.args.t _ refl r c.index_mut-thread.ensures.value) in
+    let f = rw (← c.self.view_is) at c.requires.can_advance in
+    omega (arith, f _ at)
+
+pub returns-clause-ok : goal.returns-clause-ok
+returns-clause-ok c =
+    let r = rw (← c.self.view_is) at c.requires.there in
+    let at = rw (← c.thread.view_is) at (slice_get_read c.self.inside.threads.items _ c.args.t _ refl r c.index_mut-thread.ensures.value) in
+    rw (← c.self.view_is) (sym (updated_set _ _ _ _ at))
+
+pub returns-clause-programs : goal.returns-clause-programs
+returns-clause-programs c =
+    let r = rw (← c.self.view_is) at c.requires.there in
+    let at = rw (← c.thread.view_is) at (slice_get_read c.self.inside.threads.items _ c.args.t _ refl r c.index_mut-thread.ensures.value) in
+    rw (← c.self.view_is) (map_same _ _ _ _ _ at refl)
+
+pub returns-clause-keeps : goal.returns-clause-keeps
+returns-clause-keeps c =
+    let r = rw (← c.self.view_is) at c.requires.there in
+    let at = rw (← c.thread.view_is) at (slice_get_read c.self.inside.threads.items _ c.args.t _ refl r c.index_mut-thread.ensures.value) in
+    rw (← c.self.view_is) (keeps_noted _ _ _ _ _ _ _ refl (rw at c.in_ok-note_number.ensures.ok) (seen_counter _ _ _ _ at))

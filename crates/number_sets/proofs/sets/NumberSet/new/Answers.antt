@@ -1,6 +1,0 @@
-use Rattle.std.proofs.Common.{refl}
-use Rattle.number_sets.proofs.Numbers.{summed_none}
-use Rattle.number_sets.proofs.sets.NumberSet.new.Goals as goal
-
-pub invariant_of-result : goal.invariant_of-result
-invariant_of-result c = rw c.new.ensures.items (summed_none 0 refl)

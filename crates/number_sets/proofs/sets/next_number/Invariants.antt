@@ -1,6 +1,0 @@
-use Rattle.std.proofs.Common.{◌≡◌, ℕ, ◌*◌, ◌<◌, ◌≤◌, false}
-use Rattle.number_sets.specs.Sets.{has}
-use Rattle.number_sets.proofs.sets.next_number.Given as goal
-
-abbrev pub invariant-words : goal.invariant-words
-invariant-words l = (i : ℕ) → l.from ≤ i → i < l.at * 64 → has l.words i ≡ false

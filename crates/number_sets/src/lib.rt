@@ -1,9 +1,0 @@
-//! Bit sets of small numbers, and a search for the least number whose threshold a total reaches.
-//! The request table uses both as indexes over its rows.
-#![tactic(auto)]
-
-pub mod sets;
-pub mod thresholds;
-
-pub use sets::NumberSet;
-pub use thresholds::Thresholds;

@@ -1,0 +1,60 @@
+-- Counting the requests and the overflowed completions of a machine.
+use Rattle.std.proofs.Common.{◌≡◌, ℕ, ◌+◌, ◌∙◌, sym, ◌<◌, ◌≤◌, zero, suc, true, false, ap, List, [], ◌∷◌, ◌++◌, length, map, take, get_or, refl, arith}
+use Rattle.std.specs.Prelude.{Option, Some, None, is_some, option_map, slice_get}
+use Rattle.std.proofs.lemmas.List.{take_more}
+use Rattle.std.proofs.lemmas.Option.{slice_get_within, slice_get-get_or}
+use Rattle.std.proofs.lemmas.List.Sums.{length-filter, count_by-le-length}
+use Rattle.entries.specs.declared.row.Row.{Row}
+use Rattle.links_drains.specs.Phases.{is_ended}
+use Rattle.places.specs.declared.value.Value.{Value}
+use Rattle.places.specs.declared.value.Value.TheVariants.{Requested}
+use Rattle.machine.specs.declared.whole.Machine.{Machine}
+use Rattle.machine.specs.Whole.{WellFormed}
+
+-- An index with a value is within the list.
+pub within_list : {X : Type 0} (f : X → Value) (xs : List X) (i : ℕ) (o : Option Value) → o ≡ option_map f (slice_get xs i) → is_some o ≡ true → i < length xs
+within_list f [] i o e h = let k = ap is_some e in absurd cc
+within_list f (x ∷ xs) zero o e h = omega arith
+within_list f (x ∷ xs) (suc i) o e h = let l = within_list f xs i o e h in omega (arith, l)
+
+-- An index without a value is past the end.
+pub beyond_list : {X : Type 0} (f : X → Value) (xs : List X) (i : ℕ) (o : Option Value) → o ≡ option_map f (slice_get xs i) → is_some o ≡ false → length xs ≤ i
+beyond_list f [] i o e h = omega arith
+beyond_list f (x ∷ xs) zero o e h = let k = ap is_some e in absurd cc
+beyond_list f (x ∷ xs) (suc i) o e h = let l = beyond_list f xs i o e h in omega (arith, l)
+
+-- A run has at most 65,536 requests, each of which overflows at most once.
+pub few_kept : (m : Machine) → WellFormed m → length m.backlog.items ≤ 65536
+few_kept m f =
+    let kept = f.mostly.kept.overflowed in
+    let rows = f.mostly.table.few in
+    let some = length-filter (λ (row : Row). is_ended row.phase) m.table in
+    let most = count_by-le-length (λ (row : Row). is_ended row.phase) m.table in
+    omega (arith, kept, rows, some, most)
+
+pub requested_is : (o : Option Row) (row : Row) → option_map Requested o ≡ Some (Requested row) → o ≡ Some row
+requested_is None row h = absurd cc
+requested_is (Some x) row h = let e : x ≡ row = cc in ap Some e
+
+some_is : {X : Type 0} (y z : X) → Some y ≡ Some z → y ≡ z
+some_is y z e = cc
+
+-- The elements up to and including an index.
+pub take_next : {X : Type 0} (xs : List X) (i : ℕ) (x : X) → slice_get xs i ≡ Some x → take (i + 1) xs ≡ take i xs ++ x ∷ []
+take_next xs i x h =
+    let l = slice_get_within xs i x h in
+    let e : get_or xs i x ≡ x = some_is _ _ (sym (slice_get-get_or xs i x l) ∙ h) in
+    take_more xs i x l ∙ ap (λ y. take i xs ++ y ∷ []) e
+
+-- Mapping one more element, where there is one.
+pub map_next : {X Y : Type 0} (f : X → Y) (xs : List X) (i : ℕ) (y : Y) → option_map f (slice_get xs i) ≡ Some y → take (suc i) (map f xs) ≡ take i (map f xs) ++ y ∷ []
+map_next f [] i y e = absurd cc
+map_next f (x ∷ xs) zero y e = let k : f x ≡ y = cc in ap (λ z. z ∷ []) k
+map_next f (x ∷ xs) (suc i) y e = ap (λ ys. f x ∷ ys) (map_next f xs i y e)
+
+-- At the end of the list there is no further element.
+pub map_ended : {X Y : Type 0} (f : X → Y) (xs : List X) (i : ℕ) → option_map f (slice_get xs i) ≡ None → take (suc i) (map f xs) ≡ take i (map f xs)
+map_ended f [] zero e = refl
+map_ended f [] (suc i) e = refl
+map_ended f (x ∷ xs) zero e = absurd cc
+map_ended f (x ∷ xs) (suc i) e = ap (λ ys. f x ∷ ys) (map_ended f xs i e)

@@ -1,0 +1,3 @@
+pub mod Fillings
+pub mod Stamping
+pub mod Occupancies

@@ -1,0 +1,101 @@
+-- Queue occupancy and request lifetimes of a run, by its moments.
+use Rattle.std.specs.Prelude.{◌≡◌, ℕ, ◌+◌, ◌<◌, ◌≤◌, min, List, length, slice_get, take, map, Bool, true, false, Option, Some, None, option_map}
+use Rattle.std.specs.Option.{option_map_or}
+use Rattle.entries.specs.declared.row.Phase.{Phase}
+use Rattle.links_drains.specs.Phases.{is_issued, is_ended}
+use Rattle.scenario.specs.declared.event.Event.{Event}
+use Rattle.scenario.specs.declared.event.Refusal.{Refusal}
+use Rattle.scenario.specs.declared.event.Refusal.TheVariants as out
+use Rattle.scenario.specs.declared.setup.Setup.{Setup}
+use Rattle.sqpoll.specs.Pollers.{is_awake}
+use Rattle.machine.specs.declared.whole.Machine.{Machine}
+use Rattle.machine.specs.Steps.{refusal}
+use Rattle.machine.specs.Runs.{start, moment, Accepts, IsRefused}
+use Rattle.occupancy.specs.declared.occupancy.Occupancy.{Occupancy}
+use Rattle.occupancy.specs.declared.filling.Filling.{Filling}
+use Rattle.occupancy.specs.declared.following.Followed.{Followed}
+use Rattle.occupancy.specs.declared.following.Stop.{Stop}
+use Rattle.occupancy.specs.declared.following.Stop.TheVariants.{Refused, Memory}
+use Rattle.occupancy.specs.declared.stamps.Stamps.{Stamps}
+use Rattle.occupancy.specs.declared.thread_stages.ThreadStages.{ThreadStages}
+use Rattle.occupancy.specs.Fillings.{filling_of}
+
+-- ---- requests
+
+-- Whether a machine has request r, in a phase that passes the test.
+abbrev pub has_row : (Phase → Bool) → ℕ → Machine → Bool
+has_row test r m = option_map_or (λ row. test row.phase) (slice_get m.table r) false
+
+-- Passes every phase.
+abbrev pub any_phase : Phase → Bool
+any_phase phase = true
+
+-- The first of the moments 0 to n at which something holds, or None if it holds at none.
+abbrev pub IsFirst : (ℕ → Bool) → ℕ → Option ℕ → Type 0
+IsFirst holds n None = (i : ℕ) → i ≤ n → holds i ≡ false
+IsFirst holds n (Some k) = (k ≤ n) × (holds k ≡ true) × ((i : ℕ) → i < k → holds i ≡ false)
+
+-- The first of the moments 0 to n at which request r existed, was issued, and was complete.
+pub record IsStamped (s : Setup) (es : List Event) (n r : ℕ) (x : Stamps) : Type 0 where
+  pub queued : IsFirst (λ i. has_row any_phase r (moment s es i)) n (Some x.queued)
+  pub issued : IsFirst (λ i. has_row is_issued r (moment s es i)) n x.issued
+  pub ended : IsFirst (λ i. has_row is_ended r (moment s es i)) n x.ended
+
+-- Each request of moment n has its lifetime, and there are no others.
+pub record AreStamped (s : Setup) (es : List Event) (n : ℕ) (xs : List Stamps) : Type 0 where
+  pub rows : length xs ≡ length (moment s es n).table
+  pub each : (r : ℕ) (x : Stamps) → slice_get xs r ≡ Some x → IsStamped s es n r x
+
+-- ---- moments
+
+-- The occupancy at each of the moments 0 to n.
+pub record AreFilled (s : Setup) (es : List Event) (n : ℕ) (fs : List Filling) : Type 0 where
+  pub count : length fs ≡ n + 1
+  pub each : (i : ℕ) → i ≤ n → slice_get fs i ≡ Some (filling_of (moment s es i))
+
+-- ---- runs
+
+-- The occupancy and the lifetimes after the first n events, none of which is refused.
+pub record IsOccupancy (s : Setup) (es : List Event) (n : ℕ) (c : Occupancy) : Type 0 where
+  pub runs : Accepts (start s) (take n es)
+  pub fillings : AreFilled s es n c.fillings.items
+  pub stamps : AreStamped s es n c.stamps.items
+  pub overflowed : c.overflowed ≡ length (moment s es n).backlog.items
+
+-- The loop invariant after n events: the machine, and the record up to it. No earlier moment has
+-- more requests, and the threads are at most 16.
+pub record Follows (s : Setup) (es : List Event) (n : ℕ) (m : Machine) (c : Occupancy) : Type 0 where
+  pub here : m ≡ moment s es n
+  pub occupancy : IsOccupancy s es n c
+  pub growing : (i : ℕ) → i ≤ n
+      → length (moment s es i).table ≤ length (moment s es n).table
+  pub threads : length m.threads ≤ 16
+
+-- The stages of the threads, and whether the poller is awake, if there is one.
+pub record AreThreadStages (m : Machine) (x : ThreadStages) : Type 0 where
+  pub stages : x.stages.items ≡ map (λ t. t.stage) m.threads
+  pub awake : x.awake ≡ option_map is_awake m.poller
+
+-- The result of a whole run: its record, its requests at the end, and the threads and the poller at
+-- moment `at`, or at the end if that comes first.
+pub record IsFollowed (s : Setup) (es : List Event) (at : ℕ) (f : Followed) : Type 0 where
+  pub occupancy : IsOccupancy s es (length es) f.occupancy
+  pub rows : f.rows.items ≡ (moment s es (length es)).table
+  pub thread_stages : AreThreadStages (moment s es (min at (length es))) f.thread_stages
+
+-- ---- runs that stop early
+
+-- Why a run stops at event i, which was refused or for which an allocation failed.
+abbrev pub stop_at : ℕ → Refusal → Stop
+stop_at i out.Memory = Memory
+stop_at i n = Refused i n
+
+-- Event i is refused, or an allocation fails.
+abbrev pub Halts : ℕ → Machine → Event → Stop → Type 0
+Halts i m e (Refused k n) = (k ≡ i) × (refusal m e ≡ Some n)
+Halts i m e Memory = Unit {0}
+
+-- The first refused event of a run, or an allocation failure.
+abbrev pub Stops : Setup → List Event → Stop → Type 0
+Stops s es (Refused i n) = IsRefused s es i n
+Stops s es Memory = Unit {0}

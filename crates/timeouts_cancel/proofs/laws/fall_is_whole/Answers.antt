@@ -1,5 +1,0 @@
-use Rattle.timeouts_cancel.proofs.Whole.{whole}
-use Rattle.timeouts_cancel.proofs.laws.fall_is_whole.Goals as goal
-
-pub returns : goal.returns
-returns c = whole
