@@ -59,11 +59,11 @@ fn names_descriptor(entry: &Sqe, row: &Row) -> bool {
 
 // Whether a row that had come by a moment has the user_data that an entry looks for.
 fn is_candidate(run: &Run<'_>, about: &About, number: u32, row: &Row) -> bool {
-    let was_queued = match run.times_of(number) {
-        Some(times) => times.was_queued < about.moment,
+    let queued = match run.times_of(number) {
+        Some(times) => times.queued < about.moment,
         None => false,
     };
-    was_queued && number != about.number && row.entry.user_data == about.row.entry.addr
+    queued && number != about.number && row.entry.user_data == about.row.entry.addr
 }
 
 fn is_queued(run: &Run<'_>, number: u32, moment: u32) -> bool {
