@@ -122,7 +122,7 @@ impl<L: Ledger> Situation for Living<'_, L> {
 fn answer_of(attempted: Option<Result<Receipt, LiveRefusal>>) -> Answer {
     match attempted {
         Some(Ok(receipt)) => Ok(u64::from(receipt.moment)),
-        Some(Err(refusal)) => Err((u64::from(refusal.number()), cause_of(refusal))),
+        Some(Err(refusal)) => Err((refusal.number(), cause_of(refusal))),
         None => Err((100, 0)),
     }
 }

@@ -1,9 +1,8 @@
 //! A live run in threads, and clients that inspect it meanwhile.
-ghost use Rattle.std.specs.Prelude.{◌≡◌, ◌≤◌, ◌∷◌, [], length, All, IfOk, IfErr, vec_len, vec_capacity};
+ghost use Rattle.std.specs.Prelude.{◌≡◌, ◌≤◌, ◌∷◌, [], length, IfOk, IfErr, vec_len, vec_capacity};
 ghost use Rattle.live_runner.specs.Actors.{actors};
 ghost use Rattle.live_runner.specs.History.{InOrder, WorkInOrder, Whole};
 ghost use Rattle.live_runner.specs.Running.{HandlesInOrder, AllOfTurns};
-ghost use Rattle.live_runner.specs.Turns.{HasWorked};
 ghost use Rattle.debug_server.specs.Kinds.{IsOf, OfMemory, OfListening};
 ghost use Rattle.clients.specs.Serving.{IsOfServing};
 
@@ -113,7 +112,6 @@ fn run_with_clients<L: Ledger + Send + Sync, R: Threads + Wait + Clock + Sync>(
     requires { InOrder seats.items }
     ensures count { IfOk result (λ workers. length workers.items ≡ length seats.items) }
     ensures order { IfOk result (λ workers. WorkInOrder workers.items) }
-    ensures worked { IfOk result (λ workers. All (HasWorked (record {}) turns) workers.items) }
     ensures other { IfErr result (IsOf (OfMemory ∷ OfListening ∷ [])) }
 {
     let count = seats.len();
