@@ -22,10 +22,10 @@ attempt() {
 # Reads the version, and the line of the kit, from the one place where they are written.
 read_version() {
   local line
-  line=$(sed -n 's/^pub const VERSION: &str = "\(.*\)";$/\1/p' "${top:?}/crates/jobs/src/version.rt" 2>/dev/null)
+  line=$(sed -n 's/^pub const VERSION: &str = "\(.*\)";$/\1/p' "${top:?}/crates/command_line/src/version.rt" 2>/dev/null)
   version=${line%%\\n*}
   kit=${line#*\\n}
-  why="crates/jobs/src/version.rt has no version"
+  why="crates/command_line/src/version.rt has no version"
   [[ $line == *\\n* ]]
 }
 
