@@ -1,4 +1,5 @@
--- Lemmas for `next_in_difference`: the numbers in one set and not in another, by the bits of their words.
+-- Lemmas for `next_in_difference`: the numbers in one set and not in another, by the bits of
+-- their words.
 use Rattle.std.proofs.Common.{◌≡◌, ℕ, ◌+◌, ◌*◌, ◌/◌, ◌%◌, ◌^◌, ◌<◌, ◌≤◌, true, false, not, ◌==◌, List, length, get_or, refl, sym, ap, ◌∙◌, subst, inl, inr, arith, bit_and, w64}
 use Rattle.std.specs.Prelude.{◌&&◌, ◌-◌, min}
 use Rattle.std.specs.Int.{bit_at, bit_not}

@@ -257,7 +257,7 @@ required s ranges =
       threads = th.1;
     }
 
--- parts that are written one behind the other
+-- Parts that are written one after the other make up the whole.
 pub chained : (old r m o f t a b c d new : List ℕ) → a ≡ old ++ r → b ≡ a ++ m → c ≡ b ++ o → d ≡ c ++ f → new ≡ d ++ t
     → new ≡ old ++ (r ++ (m ++ (o ++ (f ++ t))))
 chained old r m o f t a b c d new e1 e2 e3 e4 e5 =
