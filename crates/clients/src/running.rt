@@ -1,5 +1,5 @@
 //! A live run in threads, and clients that inspect it meanwhile.
-ghost use Rattle.std.specs.Prelude.{◌≡◌, ◌≤◌, ◌∷◌, [], length, IfOk, IfErr, vec_len, vec_capacity};
+ghost use Rattle.std.specs.Prelude.{◌≡◌, ◌≤◌, ◌∷◌, [], All, length, IfOk, IfErr, vec_len, vec_capacity};
 ghost use Rattle.live_runner.specs.Actors.{actors};
 ghost use Rattle.live_runner.specs.History.{InOrder, WorkInOrder, Whole};
 ghost use Rattle.live_runner.specs.Running.{HandlesInOrder, AllOfTurns};
@@ -109,7 +109,8 @@ fn run_with_clients<L: Ledger + Send + Sync, R: Threads + Wait + Clock + Sync>(
     turns: u32,
     sessions: Option<u32>,
 ) -> Result<Vec<Worker<'static, L, AlwaysOpen>>, RunFault>
-    requires { InOrder seats.items }
+    requires order { InOrder seats.items }
+    requires no_receipts { All (λ s. s.receipts ≡ []) seats.items }
     ensures count { IfOk result (λ workers. length workers.items ≡ length seats.items) }
     ensures order { IfOk result (λ workers. WorkInOrder workers.items) }
     ensures other { IfErr result (IsOf (OfMemory ∷ OfListening ∷ [])) }
@@ -124,10 +125,10 @@ fn run_with_clients<L: Ledger + Send + Sync, R: Threads + Wait + Clock + Sync>(
     let (handles, served) = thread::scope(
         thread::scope_env(),
         rt,
-        |scope| -> (Vec<Running<L>>, Result<u32, RunFault>)
-            requires { InOrder seats.items × (vec_len handles ≡ 0)
-                × (vec_len seats ≤ vec_capacity handles) }
-            ensures { HandlesInOrder result.0.items × AllOfTurns turns result.0.items
+        |scope| -> (Vec<Running<L, AlwaysOpen>>, Result<u32, RunFault>)
+            requires { InOrder seats.items × All (λ s. s.receipts ≡ []) seats.items
+                × (vec_len handles ≡ 0) × (vec_len seats ≤ vec_capacity handles) }
+            ensures { HandlesInOrder result.0.items × AllOfTurns AlwaysOpen turns result.0.items
                 × IfErr result.1 (IsOf (OfMemory ∷ OfListening ∷ [])) }
         {
             start_with_clients(
@@ -156,13 +157,14 @@ fn start_with_clients<'s, E, L: Ledger + Send + Sync + 's, R: Threads + Wait + C
     seats: Vec<Seat<L>>,
     turns: u32,
     sessions: Option<u32>,
-    handles: Vec<Running<L>>,
-) -> (Vec<Running<L>>, Result<u32, RunFault>)
+    handles: Vec<Running<L, AlwaysOpen>>,
+) -> (Vec<Running<L, AlwaysOpen>>, Result<u32, RunFault>)
     requires order { InOrder seats.items }
+    requires no_receipts { All (λ s. s.receipts ≡ []) seats.items }
     requires none { vec_len handles ≡ 0 }
     requires room { vec_len seats ≤ vec_capacity handles }
     ensures order { HandlesInOrder result.0.items }
-    ensures turns { AllOfTurns turns result.0.items }
+    ensures turns { AllOfTurns AlwaysOpen turns result.0.items }
     ensures other { IfErr result.1 (IsOf (OfMemory ∷ OfListening ∷ [])) }
 {
     let count = seats.len();

@@ -2,6 +2,7 @@ pub mod AppendingLemmas
 pub mod ReceiptLemmas
 pub mod Numbering
 pub mod Working
+pub mod Passing
 pub mod Leasts
 pub mod Rows
 pub mod Rising

@@ -5,8 +5,7 @@ use Rattle.std.specs.declared.thread.PromisedHandle.{PromisedHandle}
 use Rattle.std.proofs.lemmas.List.Elements.{All-head, All-push, All-rest, All-same}
 use Rattle.live_runner.specs.declared.running.ForActor.{ForActor}
 use Rattle.live_runner.specs.History.{Held, WorkerState, fresh}
-use Rattle.live_runner.specs.Running.{AllOfTurns}
-use Rattle.live_runner.specs.Turns.{HasWorked}
+use Rattle.live_runner.specs.Running.{IsOfTurns, AllOfTurns}
 
 module _ {G : Type 0} (g : G) where
   -- The workers created so far, and those of the remaining seats, before and after the next one.
@@ -16,8 +15,8 @@ module _ {G : Type 0} (g : G) where
       ∙ ap (λ l. ws ++ map (fresh g) l) (sym next) ∙ was
 
   -- The remaining handles, and the workers returned so far, after the next one.
-  pub worked_next : {T : Type 0} (n : ℕ) (ws ws' : List (WorkerState G)) (w : WorkerState G) (h : PromisedHandle T ForActor) (rest rest' : List (PromisedHandle T ForActor)) → AllOfTurns n rest × All (HasWorked g n) ws → rest ≡ h ∷ rest' → (h.promise.turns ≡ n → HasWorked g n w) → ws' ≡ ws ++ w ∷ [] → AllOfTurns n rest' × All (HasWorked g n) ws'
-  worked_next {T} n ws ws' w h rest rest' was next has pushed =
-      let P : PromisedHandle T ForActor → Type 0 = λ x. x.promise.turns ≡ n in
+  pub worked_next : {T : Type 0} (Has : WorkerState G → Type 0) (n : ℕ) (ws ws' : List (WorkerState G)) (w : WorkerState G) (h : PromisedHandle T (ForActor G)) (rest rest' : List (PromisedHandle T (ForActor G))) → AllOfTurns g n rest × All Has ws → rest ≡ h ∷ rest' → (IsOfTurns g n h → Has w) → ws' ≡ ws ++ w ∷ [] → AllOfTurns g n rest' × All Has ws'
+  worked_next {T} Has n ws ws' w h rest rest' was next has pushed =
+      let P : PromisedHandle T (ForActor G) → Type 0 = IsOfTurns g n in
       let all : All P (h ∷ rest') = All-same P (h ∷ rest') rest (sym next) was.0 in
-      (All-rest P h rest' rest next was.0, All-same (HasWorked g n) ws' (ws ++ w ∷ []) pushed (All-push (HasWorked g n) ws w was.1 (has (All-head P h rest' all))))
+      (All-rest P h rest' rest next was.0, All-same Has ws' (ws ++ w ∷ []) pushed (All-push Has ws w was.1 (has (All-head P h rest' all))))

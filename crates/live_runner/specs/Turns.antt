@@ -1,8 +1,9 @@
--- The effect of one turn, and of all turns of a worker.
-use Rattle.std.specs.Prelude.{◌≡◌, ℕ, false}
+-- The effect of one turn, and of all turns of a worker, of an actor and of a closed run.
+use Rattle.std.specs.Prelude.{◌≡◌, ◌<◌, ◌≤◌, ◌+◌, ℕ, Bool, true, false, List, length, slice_get, Some}
 use Rattle.live_runner.specs.declared.worker.Turn.{Turn}
 use Rattle.live_runner.specs.declared.worker.Turn.TheVariants.{Did, Idle, Refused, Stuck}
-use Rattle.live_runner.specs.History.{Held, WorkerState, seat_with}
+use Rattle.live_runner.specs.declared.receipt.Receipt.{Receipt}
+use Rattle.live_runner.specs.History.{Held, WorkerState, Past, seat_with}
 
 -- The seat after a turn.
 abbrev pub seat_after : Held → Turn → Held
@@ -11,7 +12,27 @@ seat_after s Idle = s
 seat_after s (Refused x) = s
 seat_after s Stuck = s
 
--- A worker of gate g that has taken n turns, unless the gate stopped it earlier.
-pub record HasWorked {G : Type 0} (g : G) (n : ℕ) (w : WorkerState G) : Type 0 where
-  pub gate : w.gate ≡ g
-  pub turns : w.is_stuck ≡ false → w.turns ≡ n
+-- An actor was to take n turns at gate g, `taken` of which it began, and made some events. It
+-- arrived before each turn. The gate opened for the first `turns` ones, and each made at most one
+-- event. If the gate stayed shut for the next one, the actor is stuck; else it took all n.
+pub record HasPassed {G : Type 0} (opens shuts : G → ℕ → ℕ → Type 0) (g : G) (actor n taken events : ℕ) (is_stuck : Bool) : Type 0 where
+  pub turns : ℕ
+  pub most : turns ≤ n
+  pub opened : (k : ℕ) → 0 < k → k ≤ turns → opens g actor k
+  pub made : events ≤ turns
+  pub whole : is_stuck ≡ false → (turns ≡ n) × (taken ≡ n)
+  pub shut : is_stuck ≡ true → shuts g actor (turns + 1) × (taken ≡ turns + 1)
+
+-- The same of a worker, each of whose events has a receipt.
+abbrev pub HasWorked : {G : Type 0} → (G → ℕ → ℕ → Type 0) → (G → ℕ → ℕ → Type 0) → G → ℕ
+    → WorkerState G → Type 0
+HasWorked {G} opens shuts g n w =
+    HasPassed opens shuts g w.seat.actor n w.turns (length w.seat.receipts) w.is_stuck
+
+-- Each actor of a closed run made at most one event in each of its first turns, at most n, and gate
+-- g opened for each of these.
+abbrev pub AllPassed : {G : Type 0} → (G → ℕ → ℕ → Type 0) → G → ℕ → Past → Type 0
+AllPassed {G} opens g n c =
+    (a : ℕ) (rs : List Receipt) → slice_get c.receipts a ≡ Some rs
+    → (turns : ℕ) × (turns ≤ n) × (length rs ≤ turns)
+    × ((k : ℕ) → 0 < k → k ≤ turns → opens g a k)

@@ -1,12 +1,12 @@
 //! Live runs with one thread per actor.
-ghost use Rattle.std.specs.Prelude.{◌≡◌, ◌≢◌, ◌≤◌, ℕ, false, Some, None, length, All, IfOk, IfSome, vec_len, vec_capacity};
+ghost use Rattle.std.specs.Prelude.{◌≡◌, ◌≢◌, ◌≤◌, ℕ, Some, None, length, All, [], IfOk, IfSome, vec_len, vec_capacity};
 ghost use Rattle.scenario.specs.Setups.{setup_refusal};
 ghost use Rattle.scenario.specs.declared.setup.Setup.{Setup};
 ghost use Rattle.scenario.specs.declared.setup.SetupRefusal.{SetupRefusal};
 ghost use Rattle.live_runner.specs.Actors.{actors};
 ghost use Rattle.live_runner.specs.History.{InOrder, WorkInOrder, Whole, closed_of, all_receipts};
 ghost use Rattle.live_runner.specs.Received.{LeastTorn};
-ghost use Rattle.live_runner.specs.Turns.{HasWorked};
+ghost use Rattle.live_runner.specs.Turns.{HasPassed, HasWorked, AllPassed};
 ghost use Rattle.live_runner.specs.Running.{HandlesInOrder, AllOfTurns};
 
 use crate::closed::Closed;
@@ -18,6 +18,7 @@ use crate::worker::{Gate, Rested, Worker};
 use scenario::{Setup, SetupRefusal};
 use std::alloc::Global;
 use std::marker::Brand;
+use std::snapshot::Snapshot;
 use std::sync::ledger::{Blank, Ledger};
 use std::sync::{Mutex, Wait};
 use std::thread;
@@ -64,6 +65,7 @@ pub fn run_live<G: Gate, R: Threads + Wait + Clock + Sync>(
     requires { kernel ≤ 8 }
     ensures whole { IfOk result Whole }
     ensures same { IfOk result (λ c. (c.setup ≡ setup.now) × (c.actors ≡ actors setup.now kernel)) }
+    ensures passed { IfOk result (AllPassed G.opens gate.now turns) }
     ensures refused { (n : SetupRefusal) → setup_refusal setup.now ≡ Some n
         → result ≡ Err (LiveFault.Setup n) }
     ensures only_memory { (n : SetupRefusal) → result ≡ Err (LiveFault.Setup n)
@@ -91,6 +93,7 @@ fn run_over<L: Ledger + Send + Sync, G: Gate, R: Threads + Wait + Clock + Sync>(
     requires all { blank.parts ≡ actors setup.now kernel }
     ensures whole { IfOk result Whole }
     ensures same { IfOk result (λ c. (c.setup ≡ setup.now) × (c.actors ≡ actors setup.now kernel)) }
+    ensures passed { IfOk result (AllPassed G.opens gate.now turns) }
     ensures refused { (n : SetupRefusal) → setup_refusal setup.now ≡ Some n
         → result ≡ Err (LiveFault.Setup n) }
     ensures only_memory { (n : SetupRefusal) → result ≡ Err (LiveFault.Setup n)
@@ -138,19 +141,25 @@ pub fn close<'g, L: Ledger, G: Gate>(
     }
 }
 
-/// The promise of a thread: the actor whose worker it returns, and the number of turns.
+/// The promise of a thread: the actor whose worker it returns, the number of turns, and the gate at
+/// which the worker arrived before each of them.
 #[derive(Drop)]
-pub struct ForActor {
+pub struct ForActor<G> {
     actor: u32,
     turns: u32,
+    gate: Snapshot<G>,
 }
 
-impl<L: Ledger> Promise<Rested<L>> for ForActor {
-    ghost kept_by = { λ p w. (w.seat.actor ≡ p.actor) × (w.is_stuck ≡ false → w.turns ≡ p.turns) };
+impl<L: Ledger, G: Gate> Promise<Rested<L>> for ForActor<G> {
+    ghost use Rattle.live_runner.specs.Turns.{HasPassed};
+
+    ghost kept_by = { λ p w. (w.seat.actor ≡ p.actor)
+        × HasPassed G.opens G.shuts p.gate.value p.actor p.turns w.turns
+        (length w.seat.receipts) w.is_stuck };
 }
 
 /// A running thread, which returns its worker when it is joined.
-pub type Running<L> = PromisedHandle<Rested<L>, ForActor>;
+pub type Running<L, G> = PromisedHandle<Rested<L>, ForActor<G>>;
 
 // Takes the turns of a worker, each with its own hold of the lock.
 fn work<L: Ledger, G: Gate, R: Wait + Clock>(
@@ -160,8 +169,10 @@ fn work<L: Ledger, G: Gate, R: Wait + Clock>(
     turns: u32,
     gate: &G,
 ) -> Rested<L>
+    requires { seat.receipts ≡ [] }
     ensures actor { result.seat.actor ≡ seat.actor }
-    ensures turns { result.is_stuck ≡ false → result.turns ≡ turns }
+    ensures passed { HasPassed G.opens G.shuts gate.now seat.actor turns result.turns
+        (length result.seat.receipts) result.is_stuck }
 {
     let mut worker = Worker::new(seat, gate);
     for _turn in 0..turns {
@@ -179,20 +190,25 @@ pub fn start_all<'s, E, L: Ledger + Send + Sync + 's, G: Gate + 's, R: Wait + Cl
     seats: Vec<Seat<L>>,
     turns: u32,
     gate: &'s G,
-    mut handles: Vec<Running<L>>,
-) -> Vec<Running<L>>
+    mut handles: Vec<Running<L, G>>,
+) -> Vec<Running<L, G>>
     requires order { InOrder seats.items }
+    requires no_receipts { All (λ s. s.receipts ≡ []) seats.items }
     requires none { vec_len handles ≡ 0 }
     requires room { vec_len seats ≤ vec_capacity handles }
     ensures order { HandlesInOrder result.items }
-    ensures turns { AllOfTurns turns result.items }
+    ensures turns { AllOfTurns gate.now turns result.items }
 {
     for seat in seats {
         let promise = ForActor {
             actor: seat.actor(),
             turns,
+            gate: Snapshot::of(gate),
         };
-        match scope.spawn_with(promise, move || work(rt, lock, seat, turns, gate)) {
+        match scope.spawn_with(
+            promise,
+            move || requires { seat.receipts ≡ [] } { work(rt, lock, seat, turns, gate) },
+        ) {
             Ok(handle) => handles.push_reserved(handle),
             Err(_) => break,
         }
@@ -204,7 +220,7 @@ pub fn start_all<'s, E, L: Ledger + Send + Sync + 's, G: Gate + 's, R: Wait + Cl
 /// number isn't `count`, or if an allocation fails.
 pub fn join_all<'g, L: Ledger, G: Gate, R: Threads>(
     rt: &R,
-    handles: Vec<Running<L>>,
+    handles: Vec<Running<L, G>>,
     gate: &'g G,
     mut workers: Vec<Worker<'g, L, G>>,
     count: usize,
@@ -213,8 +229,8 @@ pub fn join_all<'g, L: Ledger, G: Gate, R: Threads>(
     requires none { vec_len workers ≡ 0 }
     ensures count { IfSome result (λ workers. length workers.items ≡ count) }
     ensures order { IfSome result (λ workers. WorkInOrder workers.items) }
-    ensures worked { (n : ℕ) → AllOfTurns n handles.items
-        → IfSome result (λ workers. All (HasWorked gate.now n) workers.items) }
+    ensures worked { (n : ℕ) → AllOfTurns gate.now n handles.items
+        → IfSome result (λ workers. All (HasWorked G.opens G.shuts gate.now n) workers.items) }
 {
     for handle in handles {
         let Ok(()) = workers.push(handle.join(rt).back(gate)) else {
@@ -238,10 +254,12 @@ fn take_turns<'g, L: Ledger + Send + Sync, G: Gate, R: Threads + Wait + Clock + 
     turns: u32,
     gate: &'g G,
 ) -> Option<Vec<Worker<'g, L, G>>>
-    requires { InOrder seats.items }
+    requires order { InOrder seats.items }
+    requires no_receipts { All (λ s. s.receipts ≡ []) seats.items }
     ensures count { IfSome result (λ workers. length workers.items ≡ length seats.items) }
     ensures order { IfSome result (λ workers. WorkInOrder workers.items) }
-    ensures worked { IfSome result (λ workers. All (HasWorked gate.now turns) workers.items) }
+    ensures worked { IfSome result
+        (λ workers. All (HasWorked G.opens G.shuts gate.now turns) workers.items) }
 {
     let count = seats.len();
     let workers = Vec::with_capacity(alloc, count).ok()?;
@@ -249,10 +267,10 @@ fn take_turns<'g, L: Ledger + Send + Sync, G: Gate, R: Threads + Wait + Clock + 
     let handles = thread::scope(
         thread::scope_env(),
         rt,
-        |scope| -> Vec<Running<L>>
-            requires { InOrder seats.items × (vec_len handles ≡ 0)
-                × (vec_len seats ≤ vec_capacity handles) }
-            ensures { HandlesInOrder result.items × AllOfTurns turns result.items }
+        |scope| -> Vec<Running<L, G>>
+            requires { InOrder seats.items × All (λ s. s.receipts ≡ []) seats.items
+                × (vec_len handles ≡ 0) × (vec_len seats ≤ vec_capacity handles) }
+            ensures { HandlesInOrder result.items × AllOfTurns gate.entry.now turns result.items }
         { start_all(scope, rt, lock, seats, turns, gate, handles) },
     );
     join_all(rt, handles, gate, workers, count)

@@ -1,5 +1,7 @@
-use Rattle.std.proofs.Common.{rules, ◌≡◌, ◌+◌, ◌++◌, ◌∷◌, [], length, vec_len, sym, ◌∙◌}
+use Rattle.std.proofs.Common.{rules, ◌≡◌, ◌+◌, ◌++◌, ◌∷◌, [], length, vec_len}
+use Rattle.live_runner.specs.Turns.{HasWorked}
 use Rattle.live_runner.proofs.Numbering.{numbered_push}
+use Rattle.live_runner.proofs.Passing.{passed_same}
 use Rattle.live_runner.proofs.Working.{worked_next}
 use Rattle.live_runner.proofs.running.join_all.Goals as goal
 
@@ -11,5 +13,6 @@ loop-handle-preserved g c =
     let items : c.push.new.self.items ≡ c.loop-handle.workers.items ++ c.back.result ∷ [] = search rules in (
       (λ k d h. let t = was.0 (k + 1) d in grind rules),
       numbered_push (λ x. x.seat.actor) c.loop-handle.workers.items c.push.new.self.items c.back.result items was.1 actor,
-      λ n h. worked_next c.args.gate.now n c.loop-handle.workers.items c.push.new.self.items c.back.result c.in-Some.handle _ _ (was.2 n h) (search rules) (λ e. record { gate = c.back.ensures.gate; turns = λ free. c.back.ensures.turns ∙ (c.join.ensures.1 (sym c.back.ensures.stuck ∙ free) ∙ e) }) items,
+      λ n h. worked_next c.args.gate.now (HasWorked g.G.Gate.opens g.G.Gate.shuts c.args.gate.now n) n c.loop-handle.workers.items c.push.new.self.items c.back.result c.in-Some.handle _ _ (was.2 n h) (search rules)
+          (λ e. passed_same _ _ _ _ _ _ _ _ _ _ _ _ _ _ e.gate (search rules) e.turns c.back.ensures.turns (search rules) c.back.ensures.stuck c.join.ensures.1) items,
     )
