@@ -96,15 +96,15 @@ module _ {G : Type 0} (opens shuts : G → ℕ → ℕ → Type 0) where
       let mapped : option_map f (slice_get ws a) ≡ Some rs = sym (slice_get-map f ws a) ∙ there in
       elim (slice_get_cases ws a).1 [
         | inl found ↦
-          let w = found.0 in
-          let same : f w ≡ rs = same_Some _ _ (sym (ap (option_map f) found.2) ∙ mapped) in
-          let worked : HasWorked opens shuts g n w = subst (HasWorked opens shuts g n) found.3 (All-get_or (HasWorked opens shuts g n) ws a w found.1 all) in
-          let actor : w.seat.actor ≡ a = ap (λ (x : WorkerState G). x.seat.actor) (sym found.3) ∙ order a w found.1 in (
-            worked.turns,
-            worked.most,
-            subst (λ x. length x ≤ worked.turns) same worked.made,
-            λ k low high. subst (λ x. opens g x k) actor (worked.opened k low high),
-          )
+            let w = found.0 in
+            let same : f w ≡ rs = same_Some _ _ (sym (ap (option_map f) found.2) ∙ mapped) in
+            let worked : HasWorked opens shuts g n w = subst (HasWorked opens shuts g n) found.3 (All-get_or (HasWorked opens shuts g n) ws a w found.1 all) in
+            let actor : w.seat.actor ≡ a = ap (λ (x : WorkerState G). x.seat.actor) (sym found.3) ∙ order a w found.1 in (
+              worked.turns,
+              worked.most,
+              subst (λ x. length x ≤ worked.turns) same worked.made,
+              λ k low high. subst (λ x. opens g x k) actor (worked.opened k low high),
+            )
         | inr none ↦ absurd (none-some _ (sym (ap (option_map f) none.1) ∙ mapped))
       ]
 

@@ -207,7 +207,9 @@ pub fn start_all<'s, E, L: Ledger + Send + Sync + 's, G: Gate + 's, R: Wait + Cl
         };
         match scope.spawn_with(
             promise,
-            move || requires { seat.receipts ≡ [] } { work(rt, lock, seat, turns, gate) },
+            move ||
+                requires { seat.receipts ≡ [] }
+            { work(rt, lock, seat, turns, gate) },
         ) {
             Ok(handle) => handles.push_reserved(handle),
             Err(_) => break,

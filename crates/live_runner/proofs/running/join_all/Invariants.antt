@@ -12,4 +12,4 @@ invariant-loop-handle g l =
     ((k : ℕ) (d : _) → k < length rest → (slice_index_or rest k d).promise.actor ≡ vec_len l.workers + k)
     × WorkInOrder l.workers.items
     × ((n : ℕ) → AllOfTurns l.gate n l.fn.handles.items
-        → AllOfTurns l.gate n rest × All (HasWorked g.G.Gate.opens g.G.Gate.shuts l.gate n) l.workers.items)
+    → AllOfTurns l.gate n rest × All (HasWorked g.G.Gate.opens g.G.Gate.shuts l.gate n) l.workers.items)

@@ -12,4 +12,4 @@ returns-in-Some-clause-strange g c = λ s k strange same count. (c.close.ensures
 pub returns-in-Some-clause-passed : goal.returns-in-Some-clause-passed
 returns-in-Some-clause-passed g c =
     passed_closed g.G.Gate.opens g.G.Gate.shuts c.close.result c.args.gate.now c.args.turns _ c.close.ensures.closed
-        (passed_all g.G.Gate.opens g.G.Gate.shuts c.args.gate.now c.args.turns c.in-Some.workers.items c.into_inner.result (search rules) (search rules))
+    (passed_all g.G.Gate.opens g.G.Gate.shuts c.args.gate.now c.args.turns c.in-Some.workers.items c.into_inner.result (search rules) (search rules))

@@ -18,18 +18,18 @@ loop-turn-preserved g c =
       passed_next g.G.Gate.opens g.G.Gate.shuts _ _ _ _ _ _ _ _ _ was.2
           (λ b. let same = turn.stays b in (ap (λ x. x.turns) same, ap (λ x. length x.seat.receipts) same, ap (λ x. x.is_stuck) same ∙ b))
           (λ b e.
-              let stuck : c.turn.result ≡ Stuck = turn.stuck.1 e in
-              let taken = (was.2.whole b).1 in
-              let some : before.turns ≢ 4294967295 = λ all. absurd (omega arith) in
-              let shut = turn.shuts stuck b some in (
-                here g.G.Gate.shuts next.turns shut.0,
-                shut.1,
-                ap (λ (x : Held). length x.receipts) (turn.seat ∙ ap (seat_after before.seat) stuck),
-              ))
+          let stuck : c.turn.result ≡ Stuck = turn.stuck.1 e in
+          let taken = (was.2.whole b).1 in
+          let some : before.turns ≢ 4294967295 = λ all. absurd (omega arith) in
+          let shut = turn.shuts stuck b some in (
+            here g.G.Gate.shuts next.turns shut.0,
+            shut.1,
+            ap (λ (x : Held). length x.receipts) (turn.seat ∙ ap (seat_after before.seat) stuck),
+          ))
           (λ e.
-              let opens = turn.opens (λ stuck. true≢false (sym (turn.stuck.0 stuck) ∙ e)) in (
-                here g.G.Gate.opens next.turns opens.0,
-                opens.1,
-                subst (λ (x : Held). length x.receipts ≤ length before.seat.receipts + 1) (sym turn.seat) (one_more before.seat c.turn.result),
-              )),
+          let opens = turn.opens (λ stuck. true≢false (sym (turn.stuck.0 stuck) ∙ e)) in (
+            here g.G.Gate.opens next.turns opens.0,
+            opens.1,
+            subst (λ (x : Held). length x.receipts ≤ length before.seat.receipts + 1) (sym turn.seat) (one_more before.seat c.turn.result),
+          )),
     )
