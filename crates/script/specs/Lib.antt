@@ -9,4 +9,3 @@ pub mod Instructions
 pub mod Events
 pub mod Scripts
 pub mod EventTexts
-pub mod Logs

@@ -1,5 +1,5 @@
 //! Reads scripts: JSON texts with a setup and a schedule of events. It re-exports the functions for
-//! traces, and defines what readers of both share: event texts and faults.
+//! traces, and defines the texts of events.
 #![tactic(auto)]
 
 mod descriptor;
@@ -11,7 +11,6 @@ mod instruction;
 pub mod items;
 mod keys;
 pub mod laws;
-mod log_fault;
 mod memory;
 mod names;
 mod number;
@@ -22,7 +21,6 @@ mod threads;
 
 pub use event_text::EventText;
 pub use fault::{Key, Path, ScriptFault};
-pub use log_fault::{LogFault, fault_by};
 pub use parts::Script;
 pub use reading::read_script;
 pub use traces::{TraceFault, migrate, read_trace, read_trace2, write_trace, write_trace2};

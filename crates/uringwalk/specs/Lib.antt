@@ -1,3 +1,2 @@
 pub mod Files
-pub mod Logging
-pub mod Drawing
+pub mod Reporting

@@ -1,6 +1,6 @@
 //! What is wrong with the script that a file holds.
 
-use crate::logging::fault_of_log;
+use crate::reporting::fault_of_report;
 use crate::{SCRIPT_AND_ONE, file_fault};
 use debug_server::Fault;
 use script_check::{Verdict, check_script};
@@ -16,6 +16,6 @@ pub fn check_file(rt: &(impl Files + Print + AllocGlobal), path: &str) -> Result
     match check_script(rt.alloc(), path, &text, &mut io::writer(rt)) {
         Ok(Verdict::Fine) => Ok(ExitCode::SUCCESS),
         Ok(Verdict::Faulty(_)) | Ok(Verdict::Refused(_, _)) => Ok(ExitCode::FAILURE),
-        Err(fault) => Err(fault_of_log(fault)),
+        Err(fault) => Err(fault_of_report(fault)),
     }
 }

@@ -1,12 +1,11 @@
 //! A picture of the run that a file holds, in a file.
-ghost use Rattle.std.specs.Prelude.{◌≡◌};
-ghost use Rattle.uringwalk.specs.Drawing.{fault_as};
 
+use crate::reporting::fault_of_report;
 use crate::{WHOLE_TRACE_AND_ONE, fail, file_fault};
-use debug_server::{Fault, RunFault};
+use debug_server::Fault;
 use std::process::ExitCode;
 use std::rt::Files;
-use timeline::{TimelineFault, Window, draw_run, picture_of};
+use timeline::{Drawing, Window, draw_run, picture_of};
 use whole_files::{lead_to_one_file, read_file, write_file};
 
 /// The status of words that can't be followed.
@@ -16,19 +15,6 @@ const WORDS: u8 = 2;
 const ONTO_RUN: &str = "error: OUT leads to RUN's own file: the picture would overwrite the run";
 
 const NO_PICTURE: &str = "error: OUT must end in .html or .json";
-
-/// Returns the fault that is reported for a run that isn't drawn. A run with too many events has a
-/// message of its own instead, since other words can draw it.
-pub fn fault_of_drawing(fault: TimelineFault) -> Fault
-    ensures { result ≡ fault_as fault }
-{
-    Fault::Run(match fault {
-        TimelineFault::Script(fault) => RunFault::Script(fault),
-        TimelineFault::Trace(fault) => RunFault::Trace(fault),
-        TimelineFault::Schedule(index, refusal) => RunFault::Schedule(index, refusal),
-        TimelineFault::Long(_) | TimelineFault::Memory => RunFault::Memory,
-    })
-}
 
 // Reports that a run has too many events.
 fn refuse_long(rt: &impl Eprint, events: u32) -> ExitCode {
@@ -63,8 +49,8 @@ pub fn draw_file(
     }
     let bytes = read_file(rt, run, WHOLE_TRACE_AND_ONE).map_err(file_fault)?;
     match draw_run(rt.alloc(), run, &bytes, window, picture) {
-        Ok(page) => keep_page(rt, out, &page),
-        Err(TimelineFault::Long(events)) => Ok(refuse_long(rt, events)),
-        Err(fault) => Err(fault_of_drawing(fault)),
+        Ok(Drawing::Bytes(page)) => keep_page(rt, out, &page),
+        Ok(Drawing::TooLong(events)) => Ok(refuse_long(rt, events)),
+        Err(fault) => Err(fault_of_report(fault)),
     }
 }

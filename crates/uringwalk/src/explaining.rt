@@ -1,6 +1,6 @@
 //! What the run shows that a file holds.
 
-use crate::logging::fault_of_log;
+use crate::reporting::fault_of_report;
 use crate::{WHOLE_TRACE_AND_ONE, file_fault};
 use debug_server::Fault;
 use explanations::{Request, explain_run};
@@ -34,6 +34,6 @@ pub fn explain_file(
     ) {
         Ok(true) => Ok(ExitCode::from(SOME_FAULTS)),
         Ok(false) => Ok(ExitCode::SUCCESS),
-        Err(fault) => Err(fault_of_log(fault)),
+        Err(fault) => Err(fault_of_report(fault)),
     }
 }

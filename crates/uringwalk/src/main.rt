@@ -10,6 +10,7 @@ mod drawing;
 mod explaining;
 mod living;
 mod logging;
+mod reporting;
 mod serving;
 
 use checking::check_file;
