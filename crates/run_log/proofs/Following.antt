@@ -1,11 +1,11 @@
 -- A log after one more event, and a log that stops.
 use Rattle.std.proofs.Common.{◌≡◌, ◌⊎◌, inl, inr, ℕ, ◌+◌, ◌<◌, suc, List, [], ◌++◌, length, slice_get, Bool, true, false, Option, Some, refl, sym, ap, ◌∙◌, subst, arith, append_assoc}
-use Rattle.std.specs.Prelude.{⊤, Result, Ok, Err, OnOk, IfErr}
+use Rattle.std.specs.Prelude.{⊤, Result, Ok, Err, OnOk, IfOk, IfErr}
 use Rattle.std.proofs.KnownBytes.{Appends-nil, Appends-trans, Appends-kept}
 use Rattle.std.proofs.lemmas.Option.{slice_get_within}
 use Rattle.std.specs.Io.KnownBytes.{Appends, Keeps}
 use Rattle.places.specs.declared.value.Change.{Change}
-use Rattle.places.specs.View.{Exact}
+use Rattle.places.specs.View.{View, Exact, NamesOnce}
 use Rattle.scenario.specs.declared.event.Event.{Event}
 use Rattle.scenario.specs.declared.setup.Setup.{Setup}
 use Rattle.machine.specs.declared.whole.Machine.{Machine}
@@ -19,10 +19,19 @@ use Rattle.runs.specs.declared.driving.Ended.TheVariants as ended
 use Rattle.runs.specs.declared.fault.ReportFault.{ReportFault}
 use Rattle.runs.specs.declared.fault.ReportFault.TheVariants.{Write, Memory}
 use Rattle.run_log.specs.declared.range.EventRange.{EventRange}
+use Rattle.run_log.specs.declared.changed.Changed.{Changed}
+use Rattle.run_log.specs.Lines.{event_lines}
+use Rattle.run_log.specs.Listings.{IsListing}
 use Rattle.run_log.specs.Ranges.{has}
 use Rattle.run_log.specs.Logs.{Shows, Reports, ReportsIf, Logs, Written, Stopped}
 
 -- ---- the lines of an event
+
+-- The lines of an event, from the result of a call.
+pub shows_of : {T E : Type 0} (x : Result T E) (items : T → List ℕ) (s : Setup) (i : ℕ) (e : Event) (v : View) (past : List Change) (listed ds : List Changed) → NamesOnce past → IsListing v past listed → ds ≡ listed
+    → IfOk x (λ t. items t ≡ event_lines s i e ds) → IfOk x (λ t. Shows s i e v past (items t))
+shows_of (Ok t) items s i e v past listed ds once listing same h = record { once = once; listed = listed; listing = listing; lines = h ∙ ap (event_lines s i e) same }
+shows_of (Err f) items s i e v past listed ds once listing same h = tt
 
 reports_of : (s : Setup) (es : List Event) (i : ℕ) (e : Event) (past : List Change) (m : Machine) (text : List ℕ) → IsAfter s es i e past m → Shows s i e (view m) past text → Reports s i (moment s es i) e text
 reports_of s es i e past m text a shows = record {
@@ -56,15 +65,15 @@ written_with s es r i e past m last a b c at report w more =
 -- An event that isn't in the range.
 pub written_silent : (s : Setup) (es : List Event) (r : EventRange) (i : ℕ) (e : Event) (past : List Change) (m : Machine) (a b : Option (List ℕ)) → IsAfter s es i e past m → has r i ≡ false
     → Written s es r i a b → Written s es r (i + 1) a b
-written_silent s es r i e past m a b at no w =
-    let report : ReportsIf (has r i) s i (moment s es i) e [] = subst (λ x. ReportsIf x s i (moment s es i) e []) (sym no) refl in
+written_silent s es r i e past m a b at off w =
+    let report : ReportsIf (has r i) s i (moment s es i) e [] = subst (λ x. ReportsIf x s i (moment s es i) e []) (sym off) refl in
     written_with s es r i e past m [] a b b at report w (Appends-nil b)
 
 -- An event in the range, whose lines were written.
 pub written_more : (s : Setup) (es : List Event) (r : EventRange) (i : ℕ) (e : Event) (past : List Change) (m : Machine) (a b c : Option (List ℕ)) → IsAfter s es i e past m → has r i ≡ true
     → Written s es r i a b → (text : List ℕ) × Shows s i e (view m) past text × Appends b c text → Written s es r (i + 1) a c
-written_more s es r i e past m a b c at yes w h =
-    let report : ReportsIf (has r i) s i (moment s es i) e h.0 = subst (λ x. ReportsIf x s i (moment s es i) e h.0) (sym yes) (reports_of s es i e past m h.0 at h.1) in
+written_more s es r i e past m a b c at on w h =
+    let report : ReportsIf (has r i) s i (moment s es i) e h.0 = subst (λ x. ReportsIf x s i (moment s es i) e h.0) (sym on) (reports_of s es i e past m h.0 at h.1) in
     written_with s es r i e past m h.0 a b c at report w h.2
 
 -- ---- an end
@@ -76,12 +85,12 @@ written_kept s es r i a b c w k = record { within = w.within; runs = w.runs; tex
 -- A write of the lines of an event failed, or an allocation did.
 pub stopped_at : (s : Setup) (es : List Event) (r : EventRange) (i : ℕ) (e : Event) (past : List Change) (m : Machine) (f : ReportFault) (a b c : Option (List ℕ)) → IsAfter s es i e past m → has r i ≡ true → Written s es r i a b
     → ((f ≡ Memory) × Keeps b c) ⊎ ((f ≡ Write) × (text : List ℕ) × Shows s i e (view m) past text × WritesFront b c text) → Stopped s es r f a c
-stopped_at s es r i e past m f a b c at yes w (inl h) = subst (λ x. Stopped s es r x a c) (sym h.0) (i, written_kept s es r i a b c w h.1)
-stopped_at s es r i e past m f a b c at yes w (inr h) =
+stopped_at s es r i e past m f a b c at on w (inl h) = subst (λ x. Stopped s es r x a c) (sym h.0) (i, written_kept s es r i a b c w h.1)
+stopped_at s es r i e past m f a b c at on w (inr h) =
     let inside : i < length es = slice_get_within es i e at.there in
     let front = h.3.front in
     let rest = h.3.rest in
-    let report : ReportsIf (has r i) s i (moment s es i) e h.1 = subst (λ x. ReportsIf x s i (moment s es i) e h.1) (sym yes) (reports_of s es i e past m h.1 at h.2) in
+    let report : ReportsIf (has r i) s i (moment s es i) e h.1 = subst (λ x. ReportsIf x s i (moment s es i) e h.1) (sym on) (reports_of s es i e past m h.1 at h.2) in
     let whole : w.text ++ h.1 ≡ (w.text ++ front) ++ rest = ap (λ x. w.text ++ x) h.3.whole ∙ sym (append_assoc w.text front rest) in
     let log : Logs s es r (i + 1) (w.text ++ h.1) = logs_more s es r i e past m w.text h.1 at report w.log in
     let stopped : Stopped s es r Write a c = (
@@ -96,6 +105,20 @@ stopped_at s es r i e past m f a b c at yes w (inr h) =
       },
     ) in
     subst (λ x. Stopped s es r x a c) (sym h.0) stopped
+
+-- ---- from the result of a write
+
+pub seen_ok : {X Y : Type 0} (x : Result ⊤ ReportFault) (s : Setup) (es : List Event) (r : EventRange) (i : ℕ) (e : Event) (past : List Change) (m : Machine) (a b c : Option (List ℕ)) → IsAfter s es i e past m → has r i ≡ true → Written s es r i a b
+    → X → Y → OnOk x ((text : List ℕ) × Shows s i e (view m) past text × Appends b c text) → OnOk x (Written s es r (i + 1) a c × X × Y)
+seen_ok (Ok u) s es r i e past m a b c at on w p q h = (written_more s es r i e past m a b c at on w h, p, q)
+seen_ok (Err f) s es r i e past m a b c at on w p q h = tt
+
+pub stopped_err : {Y : Type 0} (x : Result ⊤ ReportFault) (s : Setup) (es : List Event) (r : EventRange) (i : ℕ) (e : Event) (past : List Change) (m : Machine) (a b c : Option (List ℕ)) → IsAfter s es i e past m → has r i ≡ true → Written s es r i a b
+    → Y → IfErr x (λ f. ((f ≡ Memory) × Keeps b c) ⊎ ((f ≡ Write) × (text : List ℕ) × Shows s i e (view m) past text × WritesFront b c text)) → IfErr x (λ f. Stopped s es r f a c × Y)
+stopped_err (Ok u) s es r i e past m a b c at on w q h = tt
+stopped_err (Err f) s es r i e past m a b c at on w q h = (stopped_at s es r i e past m f a b c at on w h, q)
+
+-- ---- the end of a run
 
 -- A run that ended early, with what its observer saw and why it stops.
 pub stopped_by : {O : Type 0} (seen : O → Setup → List Event → ℕ → Type 0) (stops : O → Setup → List Event → ℕ → ReportFault → Type 0) (s : Setup) (es : List Event) (r : EventRange) (m : Machine) (o : O) (a b : Option (List ℕ))

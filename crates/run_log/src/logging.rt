@@ -47,37 +47,48 @@ struct Logger<'a, W, S> {
     start: PhantomData<S>,
 }
 
-// Returns the lines of an event, from its undo record and the state after it.
-fn report(alloc: Global, at: Observed<'_>, past: &Record) -> Result<Vec<u8>, AllocError>
+// Returns the lines of the event that led to `state`, from its undo record.
+fn report(
+    alloc: Global,
+    setup: &Setup,
+    index: usize,
+    event: Event,
+    past: &Record,
+    state: &State,
+) -> Result<Vec<u8>, AllocError>
     ensures { IfOk result
-        (λ text. Shows at.entry.setup.now at.entry.index at.entry.event (view at.entry.state.now)
-        past.now text.items) }
+        (λ text. Shows setup.now index event (view state.now) past.now text.items) }
 {
-    let changes = changes_of(alloc, past, at.state)?;
-    event_lines(alloc, at.setup, at.index, at.event, &changes)
+    let changes = changes_of(alloc, past, state)?;
+    event_lines(alloc, setup, index, event, &changes)
 }
 
-// Writes the lines of an event.
+// Writes the lines of the event that led to `state`.
 fn write_report<W: Write>(
     alloc: Global,
-    at: Observed<'_>,
+    setup: &Setup,
+    index: usize,
+    event: Event,
     past: &Record,
+    state: &State,
     writer: &mut W,
 ) -> Result<(), ReportFault>
     ensures ok { OnOk result ((text : List ℕ)
-        × Shows at.entry.setup.now at.entry.index at.entry.event (view at.entry.state.now) past.now
-        text
+        × Shows setup.now index event (view state.now) past.now text
         × Appends (W.contents writer.old) (W.contents writer.new) text) }
     ensures err { IfErr result (λ f. ((f ≡ ReportFault.Memory)
         × Keeps (W.contents writer.old) (W.contents writer.new))
         ⊎ ((f ≡ ReportFault.Write) × (text : List ℕ)
-        × Shows at.entry.setup.now at.entry.index at.entry.event (view at.entry.state.now) past.now
-        text
+        × Shows setup.now index event (view state.now) past.now text
         × WritesFront (W.contents writer.old) (W.contents writer.new) text)) }
 {
-    let text = report(alloc, at, past)?;
-    write_out(writer, &text)?;
-    Ok(())
+    match report(alloc, setup, index, event, past, state) {
+        Ok(text) => match write_out(writer, &text) {
+            Ok(()) => Ok(()),
+            Err(_) => Err(ReportFault::Write),
+        },
+        Err(_) => Err(ReportFault::Memory),
+    }
 }
 
 impl<'a, W: Write, S: LogStart> Observer for Logger<'a, W, S> {
@@ -101,7 +112,15 @@ impl<'a, W: Write, S: LogStart> Observer for Logger<'a, W, S> {
         if !self.range.has(at.index) {
             return Ok(());
         }
-        write_report(self.alloc, at, past, self.writer)
+        write_report(
+            self.alloc,
+            at.setup,
+            at.index,
+            at.event,
+            past,
+            at.state,
+            self.writer,
+        )
     }
 }
 
