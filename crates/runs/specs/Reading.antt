@@ -1,0 +1,41 @@
+-- The run that bytes describe, or why they describe none.
+use Rattle.std.specs.Prelude.{◌≡◌, ℕ, ◌≤◌, List, length, Bool, true, false, Ok, Err, None}
+use Rattle.scenario.specs.Setups.{setup_refusal}
+use Rattle.script.specs.Logs.{is_trace}
+use Rattle.script.specs.Scripts.{Scenario, Reads as ReadsScript}
+use Rattle.traces.specs.Reading.{IsFault2}
+use Rattle.traces.specs.Setups.{IsTrace2}
+use Rattle.runs.specs.declared.reading.RunFault.{RunFault}
+use Rattle.runs.specs.declared.reading.RunFault.TheVariants.{Script, Trace, Memory}
+use Rattle.runs.specs.declared.reading.Source.{Source}
+use Rattle.runs.specs.declared.reading.Source.TheVariants as from
+
+-- The run that was read from a script or a trace.
+abbrev pub scenario_of : Source → Scenario
+scenario_of (from.Script p) = p
+scenario_of (from.Trace s es) = record { setup = s; schedule = es }
+
+-- What holds of each run: it can start from its setup, and has at most 1,048,576 events.
+pub record Startable (p : Scenario) : Type 0 where
+  pub starts : setup_refusal p.setup ≡ None
+  pub most : length p.schedule ≤ 1048576
+
+-- The bytes are a trace of the second form if `trace`, and otherwise a script, of this run.
+abbrev pub ReadsAs : Bool → List ℕ → Scenario → Type 0
+ReadsAs true bytes p = IsTrace2 p.setup p.schedule bytes
+ReadsAs false bytes p = ReadsScript bytes (Ok p)
+
+-- The bytes describe this run.
+abbrev pub Reads : List ℕ → Scenario → Type 0
+Reads bytes p = ReadsAs (is_trace bytes) bytes p
+
+-- Why the bytes of a trace, or else of a script, describe no run.
+abbrev pub IsUnreadAs : Bool → List ℕ → RunFault → Type 0
+IsUnreadAs true bytes (Trace f) = IsFault2 bytes f
+IsUnreadAs false bytes (Script f) = ReadsScript bytes (Err f)
+IsUnreadAs trace bytes Memory = Unit {0}
+IsUnreadAs trace bytes f = ⊥
+
+-- Why the bytes describe no run, or an allocation failure.
+abbrev pub IsUnread : List ℕ → RunFault → Type 0
+IsUnread bytes f = IsUnreadAs (is_trace bytes) bytes f
