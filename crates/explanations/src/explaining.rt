@@ -8,7 +8,7 @@ ghost use Rattle.explanations.specs.Explained.{is_requested, counts, Explains, E
 
 use crate::json::add_object;
 use finding_kinds::{Finding, Kind};
-use findings::search;
+use findings::search_run;
 use machine::{Event, Setup, State};
 use runs::{Ended, ReportFault, RunFault, read_run};
 use sentences::{Run, sentence};
@@ -169,7 +169,7 @@ fn explain_events<W: Write>(
     let Ok(mut state) = State::new(alloc, setup) else {
         return Err(ReportFault::Memory);
     };
-    let found = match search(alloc, &mut state, setup, events) {
+    let found = match search_run(alloc, &mut state, setup, events) {
         Ok(found) => found,
         Err(Ended::Refused(index, refusal)) => return Err(ReportFault::Schedule(index, refusal)),
         Err(_) => return Err(ReportFault::Memory),

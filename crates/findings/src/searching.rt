@@ -208,7 +208,7 @@ impl Observer for Search {
 
 /// Steps the events of a run from its start, and returns their findings. Fails if an event is
 /// refused or an allocation fails.
-pub fn search(
+pub fn search_run(
     alloc: Global,
     state: &mut State,
     setup: &Setup,
