@@ -100,6 +100,7 @@ fn look(
     ensures once { OnOk result (NamesOnce past.now) }
     ensures further { OnOk result (search.new.numbers.items
         ≡ after_notes (view at.entry.state.now) search.old.numbers.items past.now) }
+    ensures watches { search.new.watches ≡ search.old.watches }
 {
     note(at, &mut search.history)?;
     let rows = &mut search.history.rows;
