@@ -2,8 +2,8 @@
 use Rattle.std.proofs.Common.{◌≡◌, inl, inr, ℕ, zero, suc, ◌+◌, ◌<◌, ◌≤◌, List, [], ◌++◌, length, map, get_or, slice_get, Bool, true, false, Option, Some, None, sym, ap, ◌∙◌, subst, arith}
 use Rattle.std.proofs.lemmas.Bool.{cases_lt, cases_order, or_cases}
 use Rattle.std.proofs.lemmas.List.Elements.{All-nil, All-append, All-weaker, All-contains, Contains-append_left, Contains-append_right, Contains-get_or}
-use Rattle.std.proofs.lemmas.Option.{slice_get_within, slice_get_past}
-use Rattle.std.specs.Prelude.{Result, Ok, Err, IfOk, option_map}
+use Rattle.std.proofs.lemmas.Option.{slice_get_past}
+use Rattle.std.specs.Prelude.{option_map}
 use Rattle.std.specs.Option.{option_map_or}
 use Rattle.std.specs.List.{All, Contains, flat_map}
 use Rattle.places.specs.declared.value.Change.{Change}
@@ -14,9 +14,7 @@ use Rattle.machine.specs.declared.whole.Machine.{Machine}
 use Rattle.machine.specs.Steps.{after}
 use Rattle.machine.specs.Runs.{start, moment as machine_at}
 use Rattle.machine.specs.Whole.{view}
-use Rattle.runs.specs.declared.driving.Ended.{Ended}
-use Rattle.runs.specs.declared.driving.Ended.TheVariants.{Refused, Memory, Stopped}
-use Rattle.runs.specs.Moments.{IsAt, IsBefore, IsAfter, Ends}
+use Rattle.runs.specs.Moments.{IsAt, IsAfter}
 use Rattle.finding_kinds.specs.declared.finding.Finding.{Finding}
 use Rattle.finding_kinds.specs.declared.kind.Kind.{Kind}
 use Rattle.finding_kinds.specs.Programs.{instruction_at}
@@ -26,7 +24,7 @@ use Rattle.findings.specs.Conditions.{Began, overflows}
 use Rattle.findings.specs.Conflicts.{done_as, done_at}
 use Rattle.findings.specs.Findings.{occurs, occurs_at, condition_holds_at, IsLeft, IsFinding, IsReportOf, Rises}
 use Rattle.findings.specs.Records.{of_change, of_overflow, of_step, of_cancel, of_event, of_effect, after_notes, Covers, Adds, FoundBefore, IsLasting, AreLeft, IsAll, all_left, all_unsynced, SameFindings}
-use Rattle.findings.specs.Searching.{facts_before, NotesFacts, watch_at, HasSearched, Halted}
+use Rattle.findings.specs.Searching.{facts_before, NotesFacts, HasSearched}
 use Rattle.findings.specs.Watched.{advanced, watched, of_lasting}
 use Rattle.findings.proofs.Lasting.{watched_first, advanced_more, lasting_reported}
 use Rattle.findings.proofs.Left.{all_at_end}
