@@ -1,5 +1,7 @@
 -- Conditions that last, and the moment since when each holds.
 use Rattle.std.proofs.Common.{◌≡◌, inl, inr, ℕ, zero, suc, ◌+◌, ◌-◌, ◌<◌, ◌≤◌, Bool, true, false, List, [], ◌∷◌, ◌++◌, length, take, drop, get_or, set, map, refl, sym, ap, ◌∙◌, subst, arith}
+use Rattle.std.proofs.Math.Seq.{take-append_seam}
+use Rattle.std.proofs.lemmas.List.{length-map}
 use Rattle.std.proofs.lemmas.Bool.{cases_lt, cases_order, and_parts, ltb-true, eqb-true}
 use Rattle.std.proofs.lemmas.List.Elements.{All-nil, All-cons, All-append}
 use Rattle.std.specs.Prelude.{Option, Some, None}
@@ -15,6 +17,7 @@ use Rattle.findings.specs.declared.watching.Watch.{Watch}
 use Rattle.findings.specs.Conditions.{condition_holds, Began}
 use Rattle.findings.specs.Findings.{condition_holds_at}
 use Rattle.findings.specs.Records.{IsLasting}
+use Rattle.findings.specs.Searching.{since_of, watch_at}
 use Rattle.findings.specs.Watched.{continued, advanced, fresh, numbers_below, watched, of_watch, of_lasting}
 use Rattle.findings.proofs.Members.{Has, has_left, has_right, has_flat_map, has_contains}
 
@@ -22,10 +25,6 @@ false_true : false ≡ true → ⊥
 false_true e = cc
 
 -- ---- since when a condition holds
-
-unfoldable pub since_of : (ℕ → Bool) → ℕ → Option ℕ
-since_of holds zero = continued (holds zero) None zero
-since_of holds (suc n) = continued (holds (suc n)) (since_of holds n) (suc n)
 
 -- The condition doesn't hold at moment n, or has held since a moment.
 abbrev IsSince : (ℕ → Bool) → ℕ → Option ℕ → Type 0
@@ -98,10 +97,6 @@ begins_since holds n i b = by (since_of holds n) (since_is holds n)
 
 -- ---- watched conditions
 
--- A watched condition at moment n of a run.
-abbrev pub watch_at : Setup → List Event → ℕ → Watch → Watch
-watch_at s es n w = record w { since = since_of (condition_holds_at s es w.kind w.subject) n }
-
 threads_first : (s : Setup) (es : List Event) (ns : List ℕ) → map (advanced s (start s) zero) (map (fresh Waits) ns) ≡ map (watch_at s es zero) (map (fresh Waits) ns)
 unfolding since_of
 threads_first s es [] = refl
@@ -143,6 +138,11 @@ mapped_step f xs ys i d r l h e =
     let up : suc i ≡ i + 1 = omega arith in
     let read : r ≡ f (get_or xs i d) = e ∙ ap (λ zs. f (get_or zs i d)) h ∙ ap f (mapped_read f xs i d l) in
     ap (λ zs. set zs i r) h ∙ ap (λ z. set (map f (take i xs) ++ drop i xs) i z) read ∙ mapped_more f xs i d l ∙ ap (λ (k : ℕ). map f (take k xs) ++ drop k xs) up
+
+-- A slice that was mapped in place, written back to its vector.
+pub mapped_back : {X : Type 0} (f : X → X) (xs old new rest : List X) (n : ℕ) → old ≡ xs → new ≡ map f old → n ≡ length old → take n (new ++ rest) ≡ map f xs
+mapped_back f xs old new rest n v e l =
+    ap (λ (k : ℕ). take k (new ++ rest)) (l ∙ sym (length-map old f) ∙ ap length (sym e)) ∙ take-append_seam new rest ∙ e ∙ ap (map f) v
 
 -- ---- their findings
 
