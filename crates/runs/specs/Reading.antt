@@ -1,5 +1,5 @@
 -- The run that bytes describe, or why they describe none.
-use Rattle.std.specs.Prelude.{◌≡◌, ℕ, ◌≤◌, List, length, Bool, true, false, Ok, Err, None, ⊤}
+use Rattle.std.specs.Prelude.{◌≡◌, ℕ, ◌≤◌, List, length, Bool, true, false, Ok, Err, None}
 use Rattle.scenario.specs.Setups.{setup_refusal}
 use Rattle.script.specs.Logs.{is_trace}
 use Rattle.script.specs.Scripts.{Scenario, Reads as ReadsScript}
@@ -7,6 +7,13 @@ use Rattle.traces.specs.Reading.{IsFault2}
 use Rattle.traces.specs.Setups.{IsTrace2}
 use Rattle.runs.specs.declared.reading.RunFault.{RunFault}
 use Rattle.runs.specs.declared.reading.RunFault.TheVariants.{Script, Trace, Memory}
+use Rattle.runs.specs.declared.reading.Source.{Source}
+use Rattle.runs.specs.declared.reading.Source.TheVariants as from
+
+-- The run that was read from a script or a trace.
+abbrev pub scenario_of : Source → Scenario
+scenario_of (from.Script p) = p
+scenario_of (from.Trace s es) = record { setup = s; schedule = es }
 
 -- What holds of each run: it can start from its setup, and has at most 1,048,576 events.
 pub record Startable (p : Scenario) : Type 0 where

@@ -1,7 +1,11 @@
 //! Why a report of a run ends early.
+ghost use Rattle.std.specs.Prelude.{◌≡◌};
 
+use crate::driving::Ended;
+use crate::reading::RunFault;
 use machine::Refusal;
 use script::ScriptFault;
+use std::alloc::AllocError;
 use traces::TraceFault;
 
 /// Why a report of a run ended early.
@@ -15,5 +19,44 @@ pub enum ReportFault {
     Schedule(u32, Refusal),
     /// A write or a flush failed, or a write accepted no bytes.
     Write,
+    /// An allocation failed.
     Memory,
+}
+
+impl From<AllocError> for ReportFault {
+    ghost use Rattle.runs.specs.declared.fault.ReportFault.TheVariants.{Memory};
+
+    ghost from_gives = { λ _ e. e ≡ Memory };
+
+    fn from(_e: AllocError) -> ReportFault {
+        ReportFault::Memory
+    }
+}
+
+impl From<RunFault> for ReportFault {
+    ghost use Rattle.runs.specs.Faults.{of_reading};
+
+    ghost from_gives = { λ fault e. e ≡ of_reading fault };
+
+    fn from(fault: RunFault) -> ReportFault {
+        match fault {
+            RunFault::Script(fault) => ReportFault::Script(fault),
+            RunFault::Trace(fault) => ReportFault::Trace(fault),
+            RunFault::Memory => ReportFault::Memory,
+        }
+    }
+}
+
+impl From<Ended<ReportFault>> for ReportFault {
+    ghost use Rattle.runs.specs.Faults.{of_driving};
+
+    ghost from_gives = { λ ended e. e ≡ of_driving ended };
+
+    fn from(ended: Ended<ReportFault>) -> ReportFault {
+        match ended {
+            Ended::Refused(index, refusal) => ReportFault::Schedule(index, refusal),
+            Ended::Memory => ReportFault::Memory,
+            Ended::Stopped(fault) => fault,
+        }
+    }
 }

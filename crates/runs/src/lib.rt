@@ -4,6 +4,7 @@
 
 mod driving;
 mod fault;
+mod idle;
 mod observer;
 mod pair;
 mod reading;

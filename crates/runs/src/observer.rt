@@ -43,12 +43,7 @@ pub trait Observer {
             (stops self.now at.entry.setup.now at.entry.events.now at.entry.index) };
 
     /// Looks at an event that was stepped, with its undo record and the note from before it.
-    fn after(
-        &mut self,
-        at: Observed<'_>,
-        past: &Record,
-        note: Self::Note,
-    ) -> Result<(), Self::Stop>
+    fn after(&mut self, at: Observed<'_>, past: &Record, note: Self::Note) -> Result<(), Self::Stop>
         requires at { IsAfter at.setup.now at.events.now at.index at.event past.now at.state.now }
         requires seen { has_seen self.old at.setup.now at.events.now at.index }
         requires note { notes at.setup.now at.events.now at.index note }
