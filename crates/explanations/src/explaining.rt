@@ -1,23 +1,20 @@
 //! The `explain` subcommand: runs a script or a trace and prints its findings.
-ghost use Rattle.std.specs.Prelude.{◌≡◌, ◌⊎◌, ◌≤◌, true, false, None, IfOk, IfErr, length};
+ghost use Rattle.std.specs.Prelude.{◌≡◌, ◌⊎◌, ◌≤◌, None, IfOk, IfErr, length};
 ghost use Rattle.std.specs.List.{list_any};
 ghost use Rattle.scenario.specs.Setups.{setup_refusal};
-ghost use Rattle.script.specs.Logs.{is_trace};
+ghost use Rattle.machine.specs.Runs.{start, Accepts};
+ghost use Rattle.findings.specs.Findings.{IsReportOf};
 ghost use Rattle.explanations.specs.Explained.{is_requested, counts, Explains, ExplainsRun, Unexplained, UnexplainedRun};
 
 use crate::json::add_object;
-use finding_kinds::{Finding, History, Kind};
-use findings::search;
+use finding_kinds::{Finding, Kind};
+use findings::search_run;
 use machine::{Event, Setup, State};
-use script::{LogFault, Script, ScriptFault, read_script};
+use runs::{Ended, ReportFault, RunFault, read_run};
 use sentences::{Run, sentence};
 use std::alloc::{AllocError, Global};
 use std::io::Write;
-use traces::{TraceFault, read_trace2};
 use whole_files::write_out;
-
-/// The first byte of a trace. No script begins with it.
-const TRACE_MARK: u8 = b'U';
 
 /// The options of `explain`.
 #[derive(Clone, Copy)]
@@ -142,117 +139,70 @@ fn write_reports<W: Write>(
     run: &Run<'_>,
     request: Request,
     writer: &mut W,
-) -> Result<(), LogFault>
-    ensures { IfErr result (λ f. (f ≡ LogFault.Memory) ⊎ (f ≡ LogFault.Write)) }
+) -> Result<(), ReportFault>
+    ensures { IfErr result (λ f. (f ≡ ReportFault.Memory) ⊎ (f ≡ ReportFault.Write)) }
 {
     let Ok(text) = text_of(alloc, run, request) else {
-        return Err(LogFault::Memory);
+        return Err(ReportFault::Memory);
     };
     match write_out(writer, text.as_str().as_bytes()) {
         Ok(()) => Ok(()),
-        Err(_) => Err(LogFault::Write),
+        Err(_) => Err(ReportFault::Write),
     }
 }
 
 // Runs the events and prints their findings. Returns whether some finding of a requested kind is a
 // fault.
-#[tactic(auto, using(crate::proofs::Unexplained::unexplained_halted, crate::proofs::Unexplained::unexplained_by_output))]
+#[tactic(auto, using(crate::proofs::Unexplained::unexplained_by_output))]
 fn explain_events<W: Write>(
     alloc: Global,
     setup: &Setup,
     events: &[Event],
     request: Request,
     writer: &mut W,
-) -> Result<bool, LogFault>
+) -> Result<bool, ReportFault>
     requires starts { setup_refusal setup.now ≡ None }
     requires most { length events.now ≤ 1048576 }
     ensures ok { IfOk result (Explains setup.now events.now request.kind) }
     ensures err { IfErr result (Unexplained setup.now events.now) }
 {
     let Ok(mut state) = State::new(alloc, setup) else {
-        return Err(LogFault::Memory);
+        return Err(ReportFault::Memory);
     };
-    let mut history = History::new(alloc);
-    let found = match search(alloc, &mut state, setup, events, &mut history) {
+    let found = match search_run(alloc, &mut state, setup, events) {
         Ok(found) => found,
-        Err(fault) => return Err(fault),
+        Err(Ended::Refused(index, refusal)) => return Err(ReportFault::Schedule(index, refusal)),
+        Err(_) => return Err(ReportFault::Memory),
     };
     let run = Run {
         setup,
         state: &state,
         events,
-        history: &history,
-        found: &found,
+        history: &found.history,
+        found: &found.findings,
     };
     match write_reports(alloc, &run, request, writer) {
-        Ok(()) => Ok(has_fault(request.kind, &found)),
+        Ok(()) => Ok(has_fault(request.kind, &found.findings)),
         Err(fault) => Err(fault),
     }
-}
-
-// Explains the schedule of a script in the same way.
-fn explain_plan<W: Write>(
-    alloc: Global,
-    script: &Script,
-    request: Request,
-    writer: &mut W,
-) -> Result<bool, LogFault>
-    ensures ok { IfOk result (Explains script.now.setup script.now.schedule request.kind) }
-    ensures err { IfErr result (Unexplained script.now.setup script.now.schedule) }
-{
-    explain_events(alloc, script.setup(), script.schedule(), request, writer)
-}
-
-#[tactic(auto, using(crate::proofs::Unexplained::explained_script, crate::proofs::Unexplained::unexplained_script))]
-fn explain_script<W: Write>(
-    alloc: Global,
-    text: &[u8],
-    request: Request,
-    writer: &mut W,
-) -> Result<bool, LogFault>
-    ensures ok { IfOk result (ExplainsRun false text.now request.kind) }
-    ensures err { IfErr result (UnexplainedRun false text.now) }
-{
-    let script = match read_script(alloc, text) {
-        Ok(script) => script,
-        Err(ScriptFault::Memory) => return Err(LogFault::Memory),
-        Err(fault) => return Err(LogFault::Script(fault)),
-    };
-    explain_plan(alloc, &script, request, writer)
-}
-
-#[tactic(auto, using(crate::proofs::Unexplained::unexplained_trace))]
-fn explain_trace<W: Write>(
-    alloc: Global,
-    trace: &[u8],
-    request: Request,
-    writer: &mut W,
-) -> Result<bool, LogFault>
-    ensures ok { IfOk result (ExplainsRun true trace.now request.kind) }
-    ensures err { IfErr result (UnexplainedRun true trace.now) }
-{
-    let (setup, events) = match read_trace2(alloc, trace) {
-        Ok(found) => found,
-        Err(TraceFault::Memory) => return Err(LogFault::Memory),
-        Err(fault) => return Err(LogFault::Trace(fault)),
-    };
-    explain_events(alloc, &setup, &events, request, writer)
 }
 
 /// Runs a trace, if the first byte is `U`, or else a script, and prints the findings of the
 /// requested kinds in order. Returns whether some of them is a fault. Errors: the input is
 /// malformed, an event is refused, an allocation or a write fails.
+#[tactic(auto, using(crate::proofs::Unexplained::unexplained_unread, crate::proofs::Unexplained::unexplained_run))]
 pub fn explain_run<W: Write>(
     alloc: Global,
     bytes: &[u8],
     request: Request,
     writer: &mut W,
-) -> Result<bool, LogFault>
-    ensures ok { IfOk result (ExplainsRun (is_trace bytes.now) bytes.now request.kind) }
-    ensures err { IfErr result (UnexplainedRun (is_trace bytes.now) bytes.now) }
+) -> Result<bool, ReportFault>
+    ensures ok { IfOk result (ExplainsRun bytes.now request.kind) }
+    ensures err { IfErr result (UnexplainedRun bytes.now) }
 {
-    match bytes {
-        [TRACE_MARK, ..] => explain_trace(alloc, bytes, request, writer),
-        _ => explain_script(alloc, bytes, request, writer),
-    }
+    let run = match read_run(alloc, bytes) {
+        Ok(run) => run,
+        Err(fault) => return Err(ReportFault::from(fault)),
+    };
+    explain_events(alloc, run.setup(), run.events(), request, writer)
 }

@@ -2,26 +2,27 @@
 
 use finding_kinds::Finding;
 use sentences::{Run, sentence};
-use serde_json::Value;
+use serde::Serialize;
 use std::alloc::{AllocError, Global};
-use std::fmt;
 
-// The contents of a JSON list: the number, or nothing.
-#[derive(Clone, Copy)]
-struct Listed(bool, u32);
-
-impl fmt::Display for Listed {
-    fn fmt<W: fmt::Write>(&self, f: &mut fmt::Formatter<W>) -> fmt::Result {
-        match self {
-            Listed(true, number) => write!(f, "{number}"),
-            Listed(false, _) => Ok(()),
-        }
-    }
+/// A finding as `explain --json` prints it.
+#[derive(Drop, Serialize)]
+struct FindingObject<'a> {
+    moment: u32,
+    kind: &'static str,
+    fault: bool,
+    /// The request in question, if it is about one.
+    rows: &'a [u32],
+    /// The thread in question, if it is about one.
+    threads: &'a [u32],
+    text: String,
 }
 
-// Returns the text as a JSON string.
-fn quoted(alloc: Global, text: String) -> Result<String, AllocError> {
-    Value::String(text).to_string(alloc)
+fn json_of(alloc: Global, object: &FindingObject<'_>) -> Result<String, AllocError> {
+    match serde_json::to_string(alloc, object) {
+        Ok(json) => Ok(json),
+        Err(_) => Err(AllocError),
+    }
 }
 
 /// Appends a finding as a JSON object on its own line, after a comma unless it is the first.
@@ -32,16 +33,17 @@ pub(crate) fn add_object(
     index: usize,
     finding: Finding,
 ) -> Result<(), AllocError> {
-    let text = quoted(alloc, sentence(alloc, run, index)?)?;
-    let moment = finding.moment;
-    let kind = finding.kind.word();
-    let fault = finding.kind.is_fault();
-    let rows = Listed(finding.kind.is_of_row(), finding.subject);
-    let threads = Listed(finding.kind.is_of_thread(), finding.subject);
+    let kind = finding.kind;
+    let subject = [finding.subject];
+    let object = FindingObject {
+        moment: finding.moment,
+        kind: kind.word(),
+        fault: kind.is_fault(),
+        rows: if kind.is_of_row() { &subject } else { &[] },
+        threads: if kind.is_of_thread() { &subject } else { &[] },
+        text: sentence(alloc, run, index)?,
+    };
     let comma = if out.len() == 2 { "" } else { ",\n" };
     out.push_str(comma)?;
-    let object = format!(in alloc;
-        "{{\"moment\":{moment},\"kind\":\"{kind}\",\"fault\":{fault},\"rows\":[{rows}],\"threads\":[{threads}],\"text\":{text}}}"
-    )?;
-    out.push_str(object.as_str())
+    out.push_str(json_of(alloc, &object)?.as_str())
 }

@@ -6,4 +6,4 @@ mod json;
 mod reporting;
 
 pub use explaining::{Request, explain_run};
-pub use reporting::{Report, report_of};
+pub use reporting::{Report, reports_of};

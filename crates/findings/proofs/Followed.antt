@@ -1,44 +1,40 @@
--- The invariant of the search, and what follows from it at the end or when an event fails.
-use Rattle.std.proofs.Common.{◌≡◌, inl, inr, ℕ, zero, suc, ◌+◌, ◌<◌, List, [], ◌++◌, length, take, map, get_or, slice_get, Bool, true, false, Option, Some, None, sym, ap, ◌∙◌, subst, arith}
+-- What a search has seen, after one more event and at the end.
+use Rattle.std.proofs.Common.{◌≡◌, inl, inr, ℕ, zero, suc, ◌+◌, ◌<◌, ◌≤◌, List, [], ◌++◌, length, map, get_or, slice_get, Bool, true, false, Option, Some, None, sym, ap, ◌∙◌, subst, arith}
+use Rattle.std.proofs.Math.Option.{some-injective}
 use Rattle.std.proofs.lemmas.Bool.{cases_lt, cases_order, or_cases}
-use Rattle.std.proofs.lemmas.List.{take_all}
 use Rattle.std.proofs.lemmas.List.Elements.{All-nil, All-append, All-weaker, All-contains, Contains-append_left, Contains-append_right, Contains-get_or}
-use Rattle.std.proofs.lemmas.Option.{slice_get-get_or, slice_get_past}
-use Rattle.std.specs.Prelude.{Result, Ok, Err, IfOk}
+use Rattle.std.proofs.lemmas.Option.{slice_get_within, slice_get_past}
+use Rattle.std.specs.Prelude.{Result, Ok, Err, IfOk, option_map}
 use Rattle.std.specs.Option.{option_map_or}
 use Rattle.std.specs.List.{All, Contains, flat_map}
+use Rattle.places.specs.declared.value.Change.{Change}
+use Rattle.places.specs.View.{NamesOnce}
 use Rattle.scenario.specs.declared.event.Event.{Event}
 use Rattle.scenario.specs.declared.setup.Setup.{Setup}
-use Rattle.places.specs.declared.value.Change.{Change}
 use Rattle.machine.specs.declared.whole.Machine.{Machine}
-use Rattle.machine.specs.Steps.{after, refusal, Next}
-use Rattle.machine.specs.Runs.{start, moment as machine_at, Accepts, IsRefused}
-use Rattle.script.specs.declared.log_fault.LogFault.{LogFault}
-use Rattle.script.specs.declared.log_fault.LogFault.TheVariants.{Script, Trace, Schedule, Write, Memory}
-use Rattle.machine.proofs.Longer.{accepts_more, moment_more}
+use Rattle.machine.specs.Steps.{after}
+use Rattle.machine.specs.Runs.{start, moment as machine_at}
+use Rattle.machine.specs.Whole.{view}
+use Rattle.runs.specs.declared.driving.Ended.{Ended}
+use Rattle.runs.specs.declared.driving.Ended.TheVariants.{Refused, Memory, Stopped}
+use Rattle.runs.specs.Moments.{IsAt, IsBefore, IsAfter, Ends}
 use Rattle.finding_kinds.specs.declared.finding.Finding.{Finding}
 use Rattle.finding_kinds.specs.declared.kind.Kind.{Kind}
-use Rattle.findings.specs.Conflicts.{done_at}
-use Rattle.findings.specs.Findings.{occurs, occurs_at, condition_holds_at, IsLeft, IsFinding, IsReportOf, Rises}
-use Rattle.findings.specs.Records.{of_change, of_event, of_effect, Covers, Adds, FoundBefore, IsLasting, AreLeft, IsAll, all_left, all_unsynced, SameFindings, HaltsAt, Halted}
-use Rattle.findings.specs.Conditions.{Began}
+use Rattle.finding_kinds.specs.Programs.{instruction_at}
+use Rattle.findings.specs.declared.conditions.Before.{Before}
 use Rattle.findings.specs.declared.watching.Watch.{Watch}
+use Rattle.findings.specs.Conditions.{Began, overflows}
+use Rattle.findings.specs.Conflicts.{done_as, done_at}
+use Rattle.findings.specs.Findings.{occurs, occurs_at, condition_holds_at, IsLeft, IsFinding, IsReportOf, Rises}
+use Rattle.findings.specs.Records.{of_change, of_overflow, of_step, of_cancel, of_event, of_effect, after_notes, Covers, Adds, FoundBefore, IsLasting, AreLeft, IsAll, all_left, all_unsynced, SameFindings}
+use Rattle.findings.specs.Searching.{facts_before, NotesFacts, watch_at, HasSearched, Halted}
 use Rattle.findings.specs.Watched.{advanced, watched, of_lasting}
-use Rattle.findings.proofs.Lasting.{watch_at, watched_first, advanced_more, lasting_reported}
+use Rattle.findings.proofs.Lasting.{watched_first, advanced_more, lasting_reported}
 use Rattle.findings.proofs.Left.{all_at_end}
 use Rattle.findings.proofs.WouldConflict.{IsDone, effect_done, effect_there}
 use Rattle.findings.proofs.Candidates.{covers_more, covers_none}
 use Rattle.findings.proofs.Members.{Has, has_left, has_right, has_contains}
 use Rattle.findings.proofs.Shown.{IsShown, IsRung, or_first, or_second, record_shown, shown_there, event_rung, rung_there}
-
--- The loop invariant: the findings before moment i, the followed numbers and the watched conditions
--- are exact, and the machine is that of moment i.
-pub record Finds (s : Setup) (es : List Event) (i : ℕ) (m : Machine) (fs : List Finding) (numbers : List ℕ) (ws : List Watch) : Type 0 where
-  pub here : m ≡ machine_at s es i
-  pub runs : Accepts (start s) (take i es)
-  pub found : FoundBefore s es i fs
-  pub covered : Covers m.table numbers
-  pub watching : ws ≡ map (watch_at s es i) (watched s)
 
 -- A finding whose event is before moment n.
 abbrev IsEarly : Setup → List Event → ℕ → Finding → Type 0
@@ -47,12 +43,12 @@ IsEarly s es n f = (f.moment < n) × (occurs_at s es f.moment f.kind f.subject �
 found_none : (s : Setup) (es : List Event) → FoundBefore s es zero []
 found_none s es = record { only = All-nil (IsEarly s es zero); whole = λ f l h. absurd (omega arith) }
 
-pub finds_none : (s : Setup) (es : List Event) (m : Machine) (fs : List Finding) (numbers : List ℕ) (ws : List Watch) → m ≡ start s → fs ≡ [] → ws ≡ map (advanced s m zero) (watched s) → Finds s es zero m fs numbers ws
-finds_none s es m fs numbers ws e h w = record {
-  here = e;
-  runs = tt;
-  found = subst (FoundBefore s es zero) (sym h) (found_none s es);
-  covered = subst (λ (x : Machine). Covers x.table numbers) (sym e) (covers_none numbers);
+-- At the start of a run.
+pub seen_none : (s : Setup) (es : List Event) (m : Machine) (ws : List Watch) → m ≡ start s → ws ≡ map (advanced s m zero) (watched s) → length es ≤ 1048576 → HasSearched s es zero [] [] ws
+seen_none s es m ws e w l = record {
+  most = l;
+  found = found_none s es;
+  covered = covers_none [];
   watching = w ∙ ap (λ (x : Machine). map (advanced s x zero) (watched s)) e ∙ watched_first s es;
 }
 
@@ -136,37 +132,52 @@ found_more s es i e fs gs numbers now there h covered adds = record {
           | inr (inr past) ↦ absurd (omega arith)
         ]
 
-pub finds_more : (s : Setup) (es : List Event) (i k : ℕ) (m n : Machine) (e d : Event) (fs gs : List Finding) (numbers now : List ℕ) (ws xs : List Watch) → i < length es → k ≡ i + 1 → Finds s es i m fs numbers ws → e ≡ get_or es i d → Next m e n
-    → Adds s i m e n fs gs numbers now → xs ≡ map (advanced s n k) ws → Finds s es (i + 1) n gs now xs
-finds_more s es i k m n e d fs gs numbers now ws xs l up h g next adds w =
-    let there : slice_get es i ≡ Some e = slice_get-get_or es i d l ∙ ap Some (sym g) in
-    let accepted : refusal (machine_at s es i) e ≡ None = ap (λ (x : Machine). refusal x e) (sym h.here) ∙ next.accepted in
-    let next_state : n ≡ after (machine_at s es i) e = next.changed ∙ ap (λ (x : Machine). after x e) h.here in
-    let reported : Adds s i (machine_at s es i) e (after (machine_at s es i) e) fs gs numbers now =
-    subst (λ (x : Machine). Adds s i x e (after (machine_at s es i) e) fs gs numbers now) h.here (subst (λ (x : Machine). Adds s i m e x fs gs numbers now) next_state adds)
-    in
-    let covered : Covers n.table now = covers_more m n adds.past numbers now h.covered adds.exact adds.further in
-    let here : n ≡ machine_at s es (i + 1) = next_state ∙ sym (moment_more s es i e d l g) in
-    let one : k ≡ suc i = omega arith in
-    let here_too : n ≡ machine_at s es k = here ∙ ap (machine_at s es) (sym up) in
-    record {
-      here = here;
-      runs = accepts_more (start s) es i e d l g h.runs accepted;
-      found = found_more s es i e fs gs numbers now there h.found (subst (λ (x : Machine). Covers x.table now) next_state covered) reported;
-      covered = covered;
-      watching =
-          w ∙ ap (λ (ys : List Watch). map (advanced s n k) ys) h.watching ∙ advanced_more s es i k n (watched s) one here_too ∙ ap (λ (j : ℕ). map (watch_at s es j) (watched s)) up;
-    }
+-- The index of an event fits into 32 bits.
+pub index_small : (s : Setup) (es : List Event) (i : ℕ) (fs : List Finding) (numbers : List ℕ) (ws : List Watch) (e : Event) → HasSearched s es i fs numbers ws → slice_get es i ≡ Some e → i < 1048576
+index_small s es i fs numbers ws e h there =
+    let l : length es ≤ 1048576 = h.most in
+    let below : i < length es = slice_get_within es i e there in
+    omega arith
 
-pub finds_stops : (s : Setup) (es : List Event) (i : ℕ) (m : Machine) (e d : Event) (fs : List Finding) (numbers : List ℕ) (ws : List Watch) (f : LogFault) → i < length es → Finds s es i m fs numbers ws → e ≡ get_or es i d → HaltsAt i m e f → Halted s es f
-finds_stops s es i m e d fs numbers ws (Schedule j n) l h g stop =
-    let there : slice_get es i ≡ Some e = slice_get-get_or es i d l ∙ ap Some (sym g) in
-    let refused : IsRefused s es i n = record { runs = h.runs; event = e; there = there; refused = ap (λ (x : Machine). refusal x e) (sym h.here) ∙ stop.1 } in
-    subst (λ (k : ℕ). IsRefused s es k n) (sym stop.0) refused
-finds_stops s es i m e d fs numbers ws Memory l h g stop = tt
-finds_stops s es i m e d fs numbers ws Write l h g stop = absurd stop
-finds_stops s es i m e d fs numbers ws (Script x) l h g stop = absurd stop
-finds_stops s es i m e d fs numbers ws (Trace x) l h g stop = absurd stop
+-- The facts that are noted before an event.
+pub facts_noted : (s : Setup) (es : List Event) (i : ℕ) (m : Machine) (e : Event) (b : Before) → IsBefore s es i e m → b ≡ facts_before s m e → NotesFacts s es i b
+facts_noted s es i m e b at h = ap (option_map (facts_before s (machine_at s es i))) at.there ∙ ap Some (ap (λ (x : Machine). facts_before s x e) (sym at.at.here) ∙ sym h)
+
+facts_are : (s : Setup) (es : List Event) (i : ℕ) (e : Event) (b : Before) → slice_get es i ≡ Some e → NotesFacts s es i b → facts_before s (machine_at s es i) e ≡ b
+facts_are s es i e b there h = some-injective _ _ (sym (ap (option_map (facts_before s (machine_at s es i))) there) ∙ h)
+
+-- What an event adds to the findings, by the facts that were noted before it.
+abbrev added_by : Setup → ℕ → Before → Event → Machine → List Change → List Finding → List ℕ → List Finding
+added_by s i b e n past fs now =
+    ((fs ++ flat_map (of_change i n.table) past)
+    ++ (of_overflow i b.overflows (overflows n) ++ (of_step i b.changes (instruction_at s e b.counter) e n ++ of_cancel i b.cancel n.table)))
+    ++ of_effect i s n (done_as e (instruction_at s e b.counter) n) now
+
+-- After one more event.
+pub seen_more : (s : Setup) (es : List Event) (i : ℕ) (n : Machine) (e : Event) (b : Before) (past : List Change) (fs gs : List Finding) (numbers now : List ℕ) (ws xs : List Watch)
+    → HasSearched s es i fs numbers ws → NotesFacts s es i b → IsAfter s es i e past n → gs ≡ added_by s i b e n past fs now → NamesOnce past → now ≡ after_notes (view n) numbers past
+    → xs ≡ map (advanced s n (i + 1)) ws → HasSearched s es (i + 1) gs now xs
+seen_more s es i n e b past fs gs numbers now ws xs h noted at added once further w = record {
+  most = h.most;
+  found = found_more s es i e fs gs numbers now at.there h.found (subst (λ (x : Machine). Covers x.table now) next_state covered) (subst (λ (x : Machine). Adds s i (machine_at s es i) e x fs gs numbers now) next_state adds);
+  covered = subst (λ (x : Machine). Covers x.table now) at.at.here covered;
+  watching = w ∙ ap (λ (ys : List Watch). map (advanced s n (i + 1)) ys) h.watching ∙ advanced_more s es i (i + 1) n (watched s) (omega arith) at.at.here;
+}
+  where
+    next_state : n ≡ after (machine_at s es i) e
+    next_state = at.link.next.changed
+
+    covered : Covers n.table now
+    covered = covers_more (machine_at s es i) n past numbers now h.covered at.exact further
+
+    adds : Adds s i (machine_at s es i) e n fs gs numbers now
+    adds = record {
+      past = past;
+      exact = at.exact;
+      once = once;
+      added = added ∙ ap (λ (x : Before). added_by s i x e n past fs now) (sym (facts_are s es i e b at.there noted));
+      further = further;
+    }
 
 false_true : false ≡ true → ⊥
 false_true e = cc
@@ -199,15 +210,16 @@ all_found s es fs ls us gs h lasting left e = subst (IsAll s es) (sym e) (record
   ];
 })
 
--- What the invariant gives at the end of the events.
-pub finds_run : (s : Setup) (es : List Event) (i : ℕ) (m : Machine) (fs : List Finding) (numbers : List ℕ) (ws : List Watch) → i ≡ length es → Finds s es i m fs numbers ws → Accepts (start s) es
-finds_run s es i m fs numbers ws e h = subst (Accepts (start s)) (take_all i es (omega arith)) h.runs
+-- At the end of a run, with the findings of what lasts or is left.
+pub seen_all : (s : Setup) (es : List Event) (m : Machine) (fs gs : List Finding) (numbers : List ℕ) (ws : List Watch) → HasSearched s es (length es) fs numbers ws → IsAt s es (length es) m
+    → gs ≡ (fs ++ flat_map of_lasting ws) ++ (all_left (length es) m.table ++ all_unsynced s (length es) m.world) → IsAll s es gs
+seen_all s es m fs gs numbers ws h at e = all_found s es fs _ _ gs h.found (lasting_reported s es ws h.watching) (all_at_end s es m at.here) e
 
-pub finds_lasting : (s : Setup) (es : List Event) (i : ℕ) (m : Machine) (fs : List Finding) (numbers : List ℕ) (ws : List Watch) → i ≡ length es → Finds s es i m fs numbers ws → IsLasting s es (flat_map of_lasting ws)
-finds_lasting s es i m fs numbers ws e h = lasting_reported s es ws (h.watching ∙ ap (λ (n : ℕ). map (watch_at s es n) (watched s)) e)
-
-pub finds_left : (s : Setup) (es : List Event) (i : ℕ) (m : Machine) (fs : List Finding) (numbers : List ℕ) (ws : List Watch) → i ≡ length es → Finds s es i m fs numbers ws → AreLeft s es (all_left (length es) m.table ++ all_unsynced s (length es) m.world)
-finds_left s es i m fs numbers ws e h = all_at_end s es m (h.here ∙ ap (machine_at s es) e)
+-- Why a search ends early.
+pub halted : {O E : Type 0} (seen : O → Setup → List Event → ℕ → Type 0) (stops : O → Setup → List Event → ℕ → E → Type 0) (s : Setup) (es : List Event) (m : Machine) (o : O) (x : Ended E) → Ends seen stops s es m o x → Halted s es x
+halted seen stops s es m o (Refused i r) h = h.0
+halted seen stops s es m o Memory h = tt
+halted seen stops s es m o (Stopped x) h = tt
 
 -- All findings, sorted, are the report.
 pub report_of : (s : Setup) (es : List Event) (fs gs : List Finding) → IsAll s es fs → SameFindings fs gs → Rises zero gs → IsReportOf s es gs

@@ -15,6 +15,7 @@ use Rattle.findings.specs.declared.watching.Watch.{Watch}
 use Rattle.findings.specs.Conditions.{condition_holds, Began}
 use Rattle.findings.specs.Findings.{condition_holds_at}
 use Rattle.findings.specs.Records.{IsLasting}
+use Rattle.findings.specs.Searching.{since_of, watch_at}
 use Rattle.findings.specs.Watched.{continued, advanced, fresh, numbers_below, watched, of_watch, of_lasting}
 use Rattle.findings.proofs.Members.{Has, has_left, has_right, has_flat_map, has_contains}
 
@@ -22,10 +23,6 @@ false_true : false ≡ true → ⊥
 false_true e = cc
 
 -- ---- since when a condition holds
-
-unfoldable pub since_of : (ℕ → Bool) → ℕ → Option ℕ
-since_of holds zero = continued (holds zero) None zero
-since_of holds (suc n) = continued (holds (suc n)) (since_of holds n) (suc n)
 
 -- The condition doesn't hold at moment n, or has held since a moment.
 abbrev IsSince : (ℕ → Bool) → ℕ → Option ℕ → Type 0
@@ -97,10 +94,6 @@ begins_since holds n i b = by (since_of holds n) (since_is holds n)
         ]
 
 -- ---- watched conditions
-
--- A watched condition at moment n of a run.
-abbrev pub watch_at : Setup → List Event → ℕ → Watch → Watch
-watch_at s es n w = record w { since = since_of (condition_holds_at s es w.kind w.subject) n }
 
 threads_first : (s : Setup) (es : List Event) (ns : List ℕ) → map (advanced s (start s) zero) (map (fresh Waits) ns) ≡ map (watch_at s es zero) (map (fresh Waits) ns)
 unfolding since_of

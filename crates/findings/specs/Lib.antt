@@ -6,3 +6,4 @@ pub mod Canceling
 pub mod Watched
 pub mod Findings
 pub mod Records
+pub mod Searching

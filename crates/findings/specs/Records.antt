@@ -16,11 +16,7 @@ use Rattle.scenario.specs.declared.event.Event.TheVariants.{Step}
 use Rattle.scenario.specs.declared.setup.Instruction.{Instruction}
 use Rattle.scenario.specs.declared.setup.Setup.{Setup}
 use Rattle.machine.specs.declared.whole.Machine.{Machine}
-use Rattle.machine.specs.Runs.{IsRefused}
-use Rattle.machine.specs.Steps.{refusal}
 use Rattle.machine.specs.Whole.{view}
-use Rattle.script.specs.declared.log_fault.LogFault.{LogFault}
-use Rattle.script.specs.declared.log_fault.LogFault.TheVariants.{Script, Trace, Schedule, Write, Memory}
 use Rattle.finding_kinds.specs.declared.kind.Kind.{Kind}
 use Rattle.finding_kinds.specs.declared.kind.Kind.TheVariants.{Failed, Short, Severed, Canceled, TimedOut, Expired, NotFound, TooLate, Overflow, Busy, Unfinished, BufferInUse, Unordered, SharedPosition, FsyncEarly, TakenShort, NoSuchSlot, CutOff, WentOn, NoEffect, SlotInUse, ClosedEarly, ClosedWhileHeld, Several, LeftRunning, SameUserData, NotDurable, RefusedFlags}
 use Rattle.findings.specs.declared.canceling.Cancel.{Cancel}
@@ -220,21 +216,3 @@ distinct_from least (f ∷ fs) = if nat_le least (rank f) then f ∷ distinct_fr
 pub record SameFindings (fs gs : List Finding) : Type 0 where
   pub there : (f : Finding) → Contains fs f → Contains gs f
   pub back : (f : Finding) → Contains gs f → Contains fs f
-
--- ---- why a search stops early
-
--- Event i is refused, or an allocation fails.
-abbrev pub HaltsAt : ℕ → Machine → Event → LogFault → Type 0
-HaltsAt i m e (Schedule j n) = (j ≡ i) × (refusal m e ≡ Some n)
-HaltsAt i m e Memory = Unit {0}
-HaltsAt i m e Write = ⊥
-HaltsAt i m e (Script f) = ⊥
-HaltsAt i m e (Trace f) = ⊥
-
--- The first refused event of a run, or an allocation failure.
-abbrev pub Halted : Setup → List Event → LogFault → Type 0
-Halted s es (Schedule i n) = IsRefused s es i n
-Halted s es Memory = Unit {0}
-Halted s es Write = ⊥
-Halted s es (Script f) = ⊥
-Halted s es (Trace f) = ⊥

@@ -2,10 +2,9 @@
 ghost use Rattle.std.specs.Prelude.{◌≡◌, false};
 ghost use Rattle.std.specs.Option.{option_map_or};
 ghost use Rattle.links_drains.specs.Links.{has_flag};
-ghost use Rattle.findings.specs.Conditions.{needs_wake_up, overflows, has_entries, has_completions, counter_of, done_by, answer_of, is_of_enter, is_of_push, has_closed, is_of_close, is_of_step, waits, condition_holds};
-ghost use Rattle.findings.specs.Canceling.{cancel_before};
+ghost use Rattle.findings.specs.Conditions.{needs_wake_up, overflows, has_entries, has_completions, counter_of, answer_of, is_of_enter, is_of_push, has_closed, is_of_close, is_of_step, waits, condition_holds};
 ghost use Rattle.findings.specs.Endings.{is_error, is_less};
-ghost use Rattle.findings.specs.Uses.{changes_at};
+ghost use Rattle.findings.specs.Searching.{facts_before};
 
 use crate::canceling::{Cancel, cancel_before};
 use crate::uses::{Sought, changes_at, first_pushed, is_of_number, is_of_put};
@@ -16,7 +15,7 @@ use places::{Place, Stage, Value};
 
 /// Facts about the state before an event, saved because the event changes them.
 #[derive(Clone, Copy)]
-pub(crate) struct Before {
+pub struct Before {
     /// The backlog holds completions (IORING_SQ_CQ_OVERFLOW).
     pub overflows: bool,
     /// The program counter of the thread that does the event, if a thread does it.
@@ -29,11 +28,7 @@ pub(crate) struct Before {
 
 impl Before {
     pub fn new(setup: &Setup, state: &State, event: Event) -> Before
-        ensures overflows { result.overflows ≡ overflows state.now }
-        ensures counter { result.counter ≡ counter_of state.now event }
-        ensures changes { result.changes ≡ changes_at state.now
-            (done_by setup.now state.now event) }
-        ensures cancel { result.cancel ≡ cancel_before state.now event }
+        ensures { result ≡ facts_before setup.now state.now event }
     {
         let counter = counter_of(state, event);
         Before {

@@ -21,4 +21,4 @@ mod unsynced;
 mod uses;
 mod watching;
 
-pub use searching::search;
+pub use searching::{Found, Search, search_run};

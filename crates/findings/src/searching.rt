@@ -1,16 +1,18 @@
 //! The search for findings, event by event.
-ghost use Rattle.std.specs.Prelude.{◌≡◌, ◌≤◌, ◌++◌, [], Err, length, map, IfOk, OnOk, IfErr, OnErr};
+ghost use Rattle.std.specs.Prelude.{◌≡◌, ◌≤◌, ◌++◌, List, length, IfOk, OnOk, IfErr};
 ghost use Rattle.std.specs.List.{flat_map};
 ghost use Rattle.places.specs.View.{NamesOnce};
-ghost use Rattle.machine.specs.Steps.{Next};
+ghost use Rattle.scenario.specs.declared.event.Event.{Event};
 ghost use Rattle.machine.specs.Runs.{start, Accepts};
 ghost use Rattle.machine.specs.Whole.{view};
-ghost use Rattle.findings.specs.Findings.{IsReportOf, Rises};
-ghost use Rattle.findings.specs.Conditions.{overflows};
+ghost use Rattle.runs.specs.Moments.{IsAt};
 ghost use Rattle.finding_kinds.specs.Programs.{instruction_at};
+ghost use Rattle.findings.specs.Findings.{IsReportOf};
+ghost use Rattle.findings.specs.Conditions.{overflows};
 ghost use Rattle.findings.specs.Conflicts.{done_as};
-ghost use Rattle.findings.specs.Records.{of_change, of_overflow, of_step, of_cancel, of_effect, after_notes, Adds, FoundBefore, IsLasting, AreLeft, all_left, all_unsynced, IsAll, SameFindings, HaltsAt, Halted};
-ghost use Rattle.findings.specs.Watched.{advanced, watched, of_lasting};
+ghost use Rattle.findings.specs.Records.{of_change, of_overflow, of_step, of_cancel, of_effect, after_notes, all_left, all_unsynced};
+ghost use Rattle.findings.specs.Watched.{of_lasting};
+ghost use Rattle.findings.specs.Searching.{NotesFacts, HasSearched, Halted};
 
 use crate::changes::look_at_record;
 use crate::conditions::{Before, overflows, slot_met};
@@ -25,15 +27,25 @@ use crate::watching::{Watch, add_all_lasting, advance, watches_of};
 use finding_kinds::{Finding, History};
 use machine::{Event, Setup, State};
 use places::Record;
-use script::{LogFault, fault_by};
+use runs::{Ended, Observed, Observer, drive};
 use std::alloc::{AllocError, Global};
 
-/// What the search has collected so far.
+/// A search for the findings of a run. It observes the run from its start.
 #[derive(Drop)]
-struct Gathered {
+pub struct Search {
     found: Vec<Finding>,
     /// The numbers of the incomplete READs and WRITEs.
     numbers: Vec<u32>,
+    /// The conditions that are findings if they last to the end.
+    watches: Vec<Watch>,
+    history: History,
+}
+
+/// The findings of a run, in order, and the history that their sentences need.
+#[derive(Drop)]
+pub struct Found {
+    pub findings: Vec<Finding>,
+    pub history: History,
 }
 
 // Adds the conflicts of an event with the incomplete READs and WRITEs.
@@ -71,11 +83,10 @@ fn note(at: Transition<'_>, history: &mut History) -> Result<(), AllocError> {
 fn look(
     at: Transition<'_>,
     past: &Record,
-    gathered: &mut Gathered,
-    history: &mut History,
+    search: &mut Search,
 ) -> Result<(), AllocError>
-    ensures added { OnOk result (gathered.new.found.items
-        ≡ ((gathered.old.found.items
+    ensures added { OnOk result (search.new.found.items
+        ≡ ((search.old.found.items
         ++ flat_map (of_change at.entry.moment at.entry.state.now.table) past.now)
         ++ (of_overflow at.entry.moment at.entry.before.overflows (overflows at.entry.state.now)
         ++ (of_step at.entry.moment at.entry.before.changes
@@ -85,92 +96,16 @@ fn look(
         ++ of_effect at.entry.moment at.entry.setup.now at.entry.state.now
         (done_as at.entry.event
         (instruction_at at.entry.setup.now at.entry.event at.entry.before.counter)
-        at.entry.state.now) gathered.new.numbers.items) }
+        at.entry.state.now) search.new.numbers.items) }
     ensures once { OnOk result (NamesOnce past.now) }
-    ensures further { OnOk result (gathered.new.numbers.items
-        ≡ after_notes (view at.entry.state.now) gathered.old.numbers.items past.now) }
+    ensures further { OnOk result (search.new.numbers.items
+        ≡ after_notes (view at.entry.state.now) search.old.numbers.items past.now) }
 {
-    note(at, history)?;
-    let rows = &mut history.rows;
-    look_at_record(&mut gathered.found, &mut gathered.numbers, rows, at, past)?;
-    add_of_event(&mut gathered.found, at)?;
-    add_effects(at, &mut gathered.found, &gathered.numbers)
-}
-
-// Does an event, and adds its findings.
-fn find_at(
-    state: &mut State,
-    setup: &Setup,
-    moment: u32,
-    event: Event,
-    gathered: &mut Gathered,
-    history: &mut History,
-) -> Result<(), LogFault>
-    ensures next { OnOk result (Next state.old event state.new) }
-    ensures added { OnOk result (Adds setup.now moment state.old event state.new
-        gathered.old.found.items gathered.new.found.items gathered.old.numbers.items
-        gathered.new.numbers.items) }
-    ensures err { IfErr result (HaltsAt moment state.old event) }
-{
-    let before = Before::new(setup, state, event);
-    let past = match state.step(event) {
-        Ok(past) => past,
-        Err(refusal) => return Err(fault_by(moment, refusal)),
-    };
-    let at = Transition {
-        setup,
-        moment,
-        event,
-        before,
-        state,
-    };
-    match look(at, &past, gathered, history) {
-        Ok(()) => Ok(()),
-        Err(_) => Err(LogFault::Memory),
-    }
-}
-
-// Does the events from the start, adds their findings, and updates the watched conditions after
-// each.
-fn find_all(
-    state: &mut State,
-    setup: &Setup,
-    events: &[Event],
-    gathered: &mut Gathered,
-    watches: &mut [Watch],
-    history: &mut History,
-) -> Result<(), LogFault>
-    requires starts { state.old ≡ start setup.now }
-    requires most { length events.now ≤ 1048576 }
-    requires none { gathered.old.found.items ≡ [] }
-    requires watched { watches.old ≡ map (advanced setup.now state.old 0) (watched setup.now) }
-    ensures runs { OnOk result (Accepts (start setup.now) events.now) }
-    ensures found { OnOk result
-        (FoundBefore setup.now events.now (length events.now) gathered.new.found.items) }
-    ensures lasting { OnOk result
-        (IsLasting setup.now events.now (flat_map of_lasting watches.new)) }
-    ensures left { OnOk result
-        (AreLeft setup.now events.now (all_left (length events.now) state.new.table
-        ++ all_unsynced setup.now (length events.now) state.new.world)) }
-    ensures err { IfErr result (Halted setup.now events.now) }
-{
-    for i in 0..events.len() {
-        find_at(state, setup, i as u32, events[i], gathered, history)?;
-        advance(setup, state, i as u32 + 1, watches);
-    }
-    Ok(())
-}
-
-// Sorts findings and removes duplicates. Err(Memory) if an allocation fails.
-fn ordered(alloc: Global, found: Vec<Finding>) -> Result<Vec<Finding>, LogFault>
-    ensures rises { IfOk result (λ list. Rises 0 list.items) }
-    ensures same { IfOk result (λ list. SameFindings found.items list.items) }
-    ensures err { OnErr result (result ≡ Err LogFault.Memory) }
-{
-    match in_order(alloc, found) {
-        Ok(list) => Ok(list),
-        Err(_) => Err(LogFault::Memory),
-    }
+    note(at, &mut search.history)?;
+    let rows = &mut search.history.rows;
+    look_at_record(&mut search.found, &mut search.numbers, rows, at, past)?;
+    add_of_event(&mut search.found, at)?;
+    add_effects(at, &mut search.found, &search.numbers)
 }
 
 // Adds the findings at the end: conditions that still hold, incomplete requests, and files that are
@@ -191,53 +126,106 @@ fn add_end(
     add_all_unsynced(found, setup, moment, state)
 }
 
-// Does the events from the start, and returns all findings, unsorted.
-fn find(
-    alloc: Global,
-    state: &mut State,
-    setup: &Setup,
-    events: &[Event],
-    watches: &mut [Watch],
-    history: &mut History,
-) -> Result<Vec<Finding>, LogFault>
-    requires starts { state.old ≡ start setup.now }
-    requires most { length events.now ≤ 1048576 }
-    requires watched { watches.old ≡ watched setup.now }
-    ensures runs { OnOk result (Accepts (start setup.now) events.now) }
-    ensures ok { IfOk result (λ list. IsAll setup.now events.now list.items) }
-    ensures err { IfErr result (Halted setup.now events.now) }
-{
-    advance(setup, state, 0, watches);
-    let mut gathered = Gathered {
-        found: Vec::new(alloc),
-        numbers: Vec::new(alloc),
-    };
-    find_all(state, setup, events, &mut gathered, watches, history)?;
-    let Gathered { mut found, .. } = gathered;
-    match add_end(&mut found, watches, setup, events.len() as u32, state) {
-        Ok(()) => Ok(found),
-        Err(_) => Err(LogFault::Memory),
+impl Search {
+    /// Returns a search that has seen no event of a run, from the state at the run's start.
+    pub fn new(alloc: Global, setup: &Setup, state: &State) -> Result<Search, AllocError>
+        requires starts { state.now ≡ start setup.now }
+        ensures { IfOk result (λ search. (es : List Event) → length es ≤ 1048576 →
+            HasSearched setup.now es 0 search.found.items search.numbers.items
+            search.watches.items) }
+    {
+        let mut watches = watches_of(alloc, setup)?;
+        advance(setup, state, 0, &mut watches);
+        Ok(Search {
+            found: Vec::new(alloc),
+            numbers: Vec::new(alloc),
+            watches,
+            history: History::new(alloc),
+        })
+    }
+
+    /// Returns the findings of a run of which the search has seen all events, given the state at
+    /// the run's end.
+    pub fn finish(
+        self,
+        alloc: Global,
+        setup: &Setup,
+        events: &[Event],
+        state: &State,
+    ) -> Result<Found, AllocError>
+        requires at { IsAt setup.now events.now (length events.now) state.now }
+        requires seen { HasSearched setup.now events.now (length events.now) self.found.items
+            self.numbers.items self.watches.items }
+        ensures { IfOk result
+            (λ found. IsReportOf setup.now events.now found.findings.items) }
+    {
+        let Search {
+            mut found,
+            watches,
+            history,
+            ..
+        } = self;
+        add_end(&mut found, &watches, setup, events.len() as u32, state)?;
+        let findings = in_order(alloc, found)?;
+        Ok(Found { findings, history })
     }
 }
 
-/// Does the events from the start, and returns their findings in order. Fills `history` with what
-/// the sentences need. Fails if an event is refused or an allocation fails.
-pub fn search(
+impl Observer for Search {
+    type Note = Before;
+
+    type Stop = AllocError;
+
+    ghost has_seen = { λ o s es i. HasSearched s es i o.found.items o.numbers.items o.watches.items };
+
+    ghost notes = { λ s es i n. NotesFacts s es i n };
+
+    ghost stops = { λ o s es i x. Unit {0} };
+
+    fn before(&self, at: Observed<'_>) -> Result<Before, AllocError> {
+        Ok(Before::new(at.setup, at.state, at.event))
+    }
+
+    fn after(
+        &mut self,
+        at: Observed<'_>,
+        past: &Record,
+        note: Before,
+    ) -> Result<(), AllocError> {
+        let moment = at.index as u32;
+        let done = Transition {
+            setup: at.setup,
+            moment,
+            event: at.event,
+            before: note,
+            state: at.state,
+        };
+        look(done, past, self)?;
+        advance(at.setup, at.state, moment + 1, &mut self.watches);
+        Ok(())
+    }
+}
+
+/// Steps the events of a run from its start, and returns their findings. Fails if an event is
+/// refused or an allocation fails.
+pub fn search_run(
     alloc: Global,
     state: &mut State,
     setup: &Setup,
     events: &[Event],
-    history: &mut History,
-) -> Result<Vec<Finding>, LogFault>
+) -> Result<Found, Ended<AllocError>>
     requires starts { state.old ≡ start setup.now }
     requires most { length events.now ≤ 1048576 }
     ensures runs { OnOk result (Accepts (start setup.now) events.now) }
-    ensures ok { IfOk result (λ list. IsReportOf setup.now events.now list.items) }
+    ensures ok { IfOk result (λ found. IsReportOf setup.now events.now found.findings.items) }
     ensures err { IfErr result (Halted setup.now events.now) }
 {
-    let Ok(mut watches) = watches_of(alloc, setup) else {
-        return Err(LogFault::Memory);
+    let Ok(mut search) = Search::new(alloc, setup, state) else {
+        return Err(Ended::Memory);
     };
-    let found = find(alloc, state, setup, events, &mut watches, history)?;
-    ordered(alloc, found)
+    drive(state, setup, events, &mut search)?;
+    match search.finish(alloc, setup, events, state) {
+        Ok(found) => Ok(found),
+        Err(_) => Err(Ended::Memory),
+    }
 }

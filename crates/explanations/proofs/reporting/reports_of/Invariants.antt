@@ -1,6 +1,6 @@
 use Rattle.std.proofs.Common.{◌≡◌, take}
 use Rattle.explanations.specs.ReportLists.{findings_in}
-use Rattle.explanations.proofs.reporting.all_reports.Given as goal
+use Rattle.explanations.proofs.reporting.reports_of.Given as goal
 
 abbrev pub invariant-loop-index : goal.invariant-loop-index
-invariant-loop-index l = findings_in l.reports.items ≡ take l.index l.found
+invariant-loop-index l = findings_in l.reports.items ≡ take l.index l.run.now.found.now

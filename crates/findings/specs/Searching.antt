@@ -1,0 +1,53 @@
+-- What a search for findings has seen of a run.
+use Rattle.std.specs.Prelude.{◌≡◌, ℕ, zero, suc, ◌≤◌, Bool, Option, Some, None, option_map, List, length, map, slice_get}
+use Rattle.scenario.specs.declared.event.Event.{Event}
+use Rattle.scenario.specs.declared.setup.Setup.{Setup}
+use Rattle.machine.specs.declared.whole.Machine.{Machine}
+use Rattle.machine.specs.Runs.{moment as machine_at, IsRefused}
+use Rattle.runs.specs.declared.driving.Ended.{Ended}
+use Rattle.runs.specs.declared.driving.Ended.TheVariants.{Refused, Memory, Stopped}
+use Rattle.finding_kinds.specs.declared.finding.Finding.{Finding}
+use Rattle.findings.specs.declared.conditions.Before.{Before}
+use Rattle.findings.specs.declared.watching.Watch.{Watch}
+use Rattle.findings.specs.Canceling.{cancel_before}
+use Rattle.findings.specs.Conditions.{overflows, counter_of, done_by}
+use Rattle.findings.specs.Findings.{condition_holds_at}
+use Rattle.findings.specs.Records.{Covers, FoundBefore}
+use Rattle.findings.specs.Uses.{changes_at}
+use Rattle.findings.specs.Watched.{continued, watched}
+
+-- The facts about the machine before an event that the event may change.
+abbrev pub facts_before : Setup → Machine → Event → Before
+facts_before s m e = record {
+  overflows = overflows m;
+  counter = counter_of m e;
+  changes = changes_at m (done_by s m e);
+  cancel = cancel_before m e;
+}
+
+-- The facts before event i of a run.
+abbrev pub NotesFacts : Setup → List Event → ℕ → Before → Type 0
+NotesFacts s es i b = option_map (facts_before s (machine_at s es i)) (slice_get es i) ≡ Some b
+
+-- Since when a condition has held at each moment up to this one; None if it doesn't hold now.
+unfoldable pub since_of : (ℕ → Bool) → ℕ → Option ℕ
+since_of holds zero = continued (holds zero) None zero
+since_of holds (suc n) = continued (holds (suc n)) (since_of holds n) (suc n)
+
+-- A watched condition at moment n of a run.
+abbrev pub watch_at : Setup → List Event → ℕ → Watch → Watch
+watch_at s es n w = record w { since = since_of (condition_holds_at s es w.kind w.subject) n }
+
+-- The search has seen the first n events of a run: it has their findings, follows each incomplete
+-- READ and WRITE, and knows since when each watched condition holds.
+pub record HasSearched (s : Setup) (es : List Event) (n : ℕ) (fs : List Finding) (numbers : List ℕ) (ws : List Watch) : Type 0 where
+  pub most : length es ≤ 1048576
+  pub found : FoundBefore s es n fs
+  pub covered : Covers (machine_at s es n).table numbers
+  pub watching : ws ≡ map (watch_at s es n) (watched s)
+
+-- Why a search ends early: the first refused event of the run, or an allocation failure.
+abbrev pub Halted : {E : Type 0} → Setup → List Event → Ended E → Type 0
+Halted s es (Refused i r) = IsRefused s es i r
+Halted s es Memory = Unit {0}
+Halted s es (Stopped x) = Unit {0}
