@@ -1,5 +1,5 @@
 //! Follows a run: an observer that records its queue occupancy and request lifetimes.
-ghost use Rattle.std.specs.Prelude.{◌≡◌, ◌≤◌, None, List, length, slice_get, IfOk};
+ghost use Rattle.std.specs.Prelude.{◌≡◌, ◌≤◌, ℕ, None, List, length, slice_get, IfOk};
 ghost use Rattle.scenario.specs.declared.event.Event.{Event};
 ghost use Rattle.scenario.specs.declared.setup.Setup.{Setup};
 ghost use Rattle.scenario.specs.Setups.{setup_refusal};
@@ -14,6 +14,16 @@ use machine::{Setup, State};
 use places::{Place, Record, Value};
 use runs::{Observed, Observer};
 use std::alloc::{AllocError, Global};
+use std::marker::{Brand, PhantomData};
+
+/// The moment of which a follower reads the threads and the poller, for proofs.
+pub trait StagesMoment {
+    ghost at: { ℕ };
+}
+
+impl StagesMoment for Brand {
+    ghost at = { 0 };
+}
 
 /// The result of a whole run.
 #[derive(Drop)]
@@ -28,13 +38,14 @@ pub struct Followed {
 /// An observer that records the occupancy at each moment of a run, the lifetimes of its requests,
 /// and the threads and the poller at one moment.
 #[derive(Drop)]
-pub struct Follower {
+pub struct Follower<K> {
     alloc: Global,
     // The moment of the threads and the poller.
     at: u32,
     occupancy: Occupancy,
     // Those of moment 0 until that moment.
     thread_stages: ThreadStages,
+    proof: PhantomData<K>,
 }
 
 // Returns request `number`, or None past the end of the table.
@@ -63,7 +74,7 @@ fn rows_of(alloc: Global, state: &State) -> Result<Vec<Row>, AllocError>
     Ok(rows)
 }
 
-impl Follower {
+impl<K: StagesMoment> Follower<K> {
     /// Returns an observer of a run that has seen no event, given the state at the run's start. It
     /// reads the threads and the poller at moment `at`.
     pub fn new(
@@ -71,18 +82,20 @@ impl Follower {
         setup: &Setup,
         state: &State,
         at: u32,
-    ) -> Result<Follower, AllocError>
+    ) -> Result<Follower<K>, AllocError>
         requires setup { setup_refusal setup.now ≡ None }
         requires starts { state.now ≡ start setup.now }
-        ensures at { IfOk result (λ f. f.at ≡ at) }
+        requires at { at ≡ K.at }
+        ensures at { IfOk result (λ f. f.at ≡ K.at) }
         ensures seen { IfOk result (λ f. (es : List Event) → length es ≤ 1048576
-            → HasFollowed setup.now es 0 f.at f.occupancy f.thread_stages) }
+            → HasFollowed setup.now es 0 K.at f.occupancy f.thread_stages) }
     {
         Ok(Follower {
             alloc,
             at,
             occupancy: Occupancy::new(alloc, state)?,
             thread_stages: ThreadStages::new(alloc, state)?,
+            proof: PhantomData,
         })
     }
 
@@ -90,8 +103,8 @@ impl Follower {
     /// end.
     pub fn finish(self, state: &State) -> Result<Followed, AllocError>
         ensures { IfOk result (λ f. (s : Setup) → (es : List Event)
-            → HasFollowed s es (length es) self.at self.occupancy self.thread_stages
-            → state.now ≡ moment s es (length es) → IsFollowed s es self.at f) }
+            → HasFollowed s es (length es) K.at self.occupancy self.thread_stages
+            → state.now ≡ moment s es (length es) → IsFollowed s es K.at f) }
     {
         let rows = rows_of(self.alloc, state)?;
         let Follower {
@@ -107,12 +120,13 @@ impl Follower {
     }
 }
 
-impl Observer for Follower {
+impl<K: StagesMoment> Observer for Follower<K> {
     type Note = ();
 
     type Stop = AllocError;
 
-    ghost has_seen = { λ o s es i. HasFollowed s es i o.at o.occupancy o.thread_stages };
+    ghost has_seen = { λ o s es i. (o.at ≡ K.at)
+        × HasFollowed s es i K.at o.occupancy o.thread_stages };
 
     ghost notes = { λ s es i n. Unit {0} };
 
