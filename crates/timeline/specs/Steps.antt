@@ -1,6 +1,6 @@
 -- The events of a part of a run, with what each changed, as a picture shows them.
 use Rattle.std.specs.Prelude.{◌≡◌, ℕ, zero, suc, ◌+◌, ◌++◌, nat_le, List, [], ◌∷◌, codes, length, map, take, slice_get, string_bytes, Bool, true, false, if◌then◌else◌, Some}
-use Rattle.core.specs.Str.Lossy.{utf8_lossy}
+use Rattle.std.specs.Str.Lossy.{utf8_lossy}
 use Rattle.places.specs.declared.value.Change.{Change}
 use Rattle.places.specs.View.{Exact, NamesOnce}
 use Rattle.scenario.specs.declared.event.Event.{Event}
