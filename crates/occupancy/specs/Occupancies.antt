@@ -4,18 +4,13 @@ use Rattle.std.specs.Option.{option_map_or}
 use Rattle.entries.specs.declared.row.Phase.{Phase}
 use Rattle.links_drains.specs.Phases.{is_issued, is_ended}
 use Rattle.scenario.specs.declared.event.Event.{Event}
-use Rattle.scenario.specs.declared.event.Refusal.{Refusal}
-use Rattle.scenario.specs.declared.event.Refusal.TheVariants as out
 use Rattle.scenario.specs.declared.setup.Setup.{Setup}
 use Rattle.sqpoll.specs.Pollers.{is_awake}
 use Rattle.machine.specs.declared.whole.Machine.{Machine}
-use Rattle.machine.specs.Steps.{refusal}
-use Rattle.machine.specs.Runs.{start, moment, Accepts, IsRefused}
+use Rattle.machine.specs.Runs.{start, moment, Accepts}
 use Rattle.occupancy.specs.declared.occupancy.Occupancy.{Occupancy}
 use Rattle.occupancy.specs.declared.filling.Filling.{Filling}
 use Rattle.occupancy.specs.declared.following.Followed.{Followed}
-use Rattle.occupancy.specs.declared.following.Stop.{Stop}
-use Rattle.occupancy.specs.declared.following.Stop.TheVariants.{Refused, Memory}
 use Rattle.occupancy.specs.declared.stamps.Stamps.{Stamps}
 use Rattle.occupancy.specs.declared.thread_stages.ThreadStages.{ThreadStages}
 use Rattle.occupancy.specs.Fillings.{filling_of}
@@ -62,14 +57,14 @@ pub record IsOccupancy (s : Setup) (es : List Event) (n : ℕ) (c : Occupancy) :
   pub stamps : AreStamped s es n c.stamps.items
   pub overflowed : c.overflowed ≡ length (moment s es n).backlog.items
 
--- The loop invariant after n events: the machine, and the record up to it. No earlier moment has
--- more requests, and the threads are at most 16.
-pub record Follows (s : Setup) (es : List Event) (n : ℕ) (m : Machine) (c : Occupancy) : Type 0 where
-  pub here : m ≡ moment s es n
+-- What holds of the record after n events. No earlier moment has more requests, and the threads are
+-- at most 16.
+pub record Follows (s : Setup) (es : List Event) (n : ℕ) (c : Occupancy) : Type 0 where
+  pub most : length es ≤ 1048576
   pub occupancy : IsOccupancy s es n c
   pub growing : (i : ℕ) → i ≤ n
       → length (moment s es i).table ≤ length (moment s es n).table
-  pub threads : length m.threads ≤ 16
+  pub threads : length (moment s es n).threads ≤ 16
 
 -- The stages of the threads, and whether the poller is awake, if there is one.
 pub record AreThreadStages (m : Machine) (x : ThreadStages) : Type 0 where
@@ -83,19 +78,9 @@ pub record IsFollowed (s : Setup) (es : List Event) (at : ℕ) (f : Followed) : 
   pub rows : f.rows.items ≡ (moment s es (length es)).table
   pub thread_stages : AreThreadStages (moment s es (min at (length es))) f.thread_stages
 
--- ---- runs that stop early
-
--- Why a run stops at event i, which was refused or for which an allocation failed.
-abbrev pub stop_at : ℕ → Refusal → Stop
-stop_at i out.Memory = Memory
-stop_at i n = Refused i n
-
--- Event i is refused, or an allocation fails.
-abbrev pub Halts : ℕ → Machine → Event → Stop → Type 0
-Halts i m e (Refused k n) = (k ≡ i) × (refusal m e ≡ Some n)
-Halts i m e Memory = Unit {0}
-
--- The first refused event of a run, or an allocation failure.
-abbrev pub Stops : Setup → List Event → Stop → Type 0
-Stops s es (Refused i n) = IsRefused s es i n
-Stops s es Memory = Unit {0}
+-- What holds of an observer after n events: the record follows the run, and once moment `at` or the
+-- end has come, the threads and the poller are those of that moment.
+pub record HasFollowed (s : Setup) (es : List Event) (n at : ℕ) (c : Occupancy) (x : ThreadStages) : Type 0 where
+  pub follows : Follows s es n c
+  pub thread_stages : min at (length es) ≤ n
+      → AreThreadStages (moment s es (min at (length es))) x

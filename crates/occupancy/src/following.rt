@@ -1,20 +1,29 @@
-//! Runs the events of a run and records its queue occupancy and request lifetimes.
-ghost use Rattle.std.specs.Prelude.{◌≡◌, ◌≤◌, ◌<◌, ◌^◌, ◌-◌, ◌+◌, ◌++◌, ◌∷◌, [], List, None, length, slice_get, IfOk, OnOk, IfErr};
-ghost use Rattle.places.specs.View.{Exact};
-ghost use Rattle.places.specs.declared.value.Change.{Change};
+//! Follows a run: an observer that records its queue occupancy and request lifetimes.
+ghost use Rattle.std.specs.Prelude.{◌≡◌, ◌≤◌, ℕ, None, List, length, slice_get, IfOk};
+ghost use Rattle.scenario.specs.declared.event.Event.{Event};
+ghost use Rattle.scenario.specs.declared.setup.Setup.{Setup};
 ghost use Rattle.scenario.specs.Setups.{setup_refusal};
-ghost use Rattle.machine.specs.Whole.{view, WellFormed, Grows};
-ghost use Rattle.machine.specs.Steps.{Next};
-ghost use Rattle.occupancy.specs.Occupancies.{Follows, IsFollowed, AreThreadStages, Halts, Stops, stop_at};
-ghost use Rattle.occupancy.specs.Fillings.{filling_of};
-ghost use Rattle.occupancy.specs.Stamping.{stamps_after};
+ghost use Rattle.machine.specs.Whole.{WellFormed};
+ghost use Rattle.machine.specs.Runs.{start, moment};
+ghost use Rattle.occupancy.specs.Occupancies.{HasFollowed, IsFollowed};
 
 use crate::occupancy::Occupancy;
 use crate::thread_stages::ThreadStages;
 use entries::Row;
-use machine::{Event, Refusal, Setup, State};
-use places::{Place, Value};
+use machine::{Setup, State};
+use places::{Place, Record, Value};
+use runs::{Observed, Observer};
 use std::alloc::{AllocError, Global};
+use std::marker::{Brand, PhantomData};
+
+/// The moment of which a follower reads the threads and the poller, for proofs.
+pub trait StagesMoment {
+    ghost at: { ℕ };
+}
+
+impl StagesMoment for Brand {
+    ghost at = { 0 };
+}
 
 /// The result of a whole run.
 #[derive(Drop)]
@@ -26,77 +35,17 @@ pub struct Followed {
     pub thread_stages: ThreadStages,
 }
 
-/// Why a run stops early.
-#[derive(Clone, Copy)]
-pub enum Stop {
-    /// The event at this index is refused, for this reason.
-    Refused(u32, Refusal),
-    /// An allocation failed.
-    Memory,
-}
-
-// Returns why a run stops at the event of this index, which the state refused.
-fn stop_at(index: u32, refusal: Refusal) -> Stop
-    ensures { result ≡ stop_at index refusal }
-{
-    match refusal {
-        Refusal::Memory => Stop::Memory,
-        refusal => Stop::Refused(index, refusal),
-    }
-}
-
-// Does an event, and records the moment after it.
-#[tactic(auto, using(crate::proofs::FollowingLemmas::halts))]
-fn follow_event(
-    state: &mut State,
-    index: usize,
-    event: Event,
-    occupancy: &mut Occupancy,
-) -> Result<(), Stop>
-    requires index { index < 2 ^ 32 - 1 }
-    requires rows { length occupancy.old.stamps.items ≡ length state.old.table }
-    requires kept { occupancy.old.overflowed ≡ length state.old.backlog.items }
-    ensures next { OnOk result (Next state.old event state.new) }
-    ensures grows { OnOk result (Grows state.old state.new) }
-    ensures fillings { OnOk result (occupancy.new.fillings.items ≡ occupancy.old.fillings.items
-        ++ filling_of state.new ∷ []) }
-    ensures stamps { OnOk result ((past : List Change)
-        × Exact (view state.old) (view state.new) past
-        × (occupancy.new.stamps.items
-        ≡ stamps_after state.new.table (index + 1) past occupancy.old.stamps.items)) }
-    ensures overflowed { OnOk result (occupancy.new.overflowed ≡ length state.new.backlog.items) }
-    ensures err { IfErr result (Halts index state.old event) }
-{
-    let past = match state.step(event) {
-        Ok(past) => past,
-        Err(refusal) => return Err(stop_at(index as u32, refusal)),
-    };
-    match occupancy.note(&past, state, index as u32 + 1) {
-        Ok(()) => Ok(()),
-        Err(_) => Err(Stop::Memory),
-    }
-}
-
-// Does the events from one index up to another, given that those before were followed.
-fn follow_on(
-    state: &mut State,
-    setup: &Setup,
-    events: &[Event],
-    from: usize,
-    to: usize,
-    occupancy: &mut Occupancy,
-) -> Result<(), Stop>
-    requires range { from ≤ to }
-    requires within { to ≤ length events.now }
-    requires most { length events.now ≤ 1048576 }
-    requires before { Follows setup.now events.now from state.old occupancy.old }
-    ensures ok { OnOk result (Follows setup.now events.now to state.new occupancy.new) }
-    ensures err { IfErr result (Stops setup.now events.now) }
-{
-    for i in from..to {
-        follow_event(state, i, events[i], occupancy)?;
-    }
-    Ok(())
+/// An observer that records the occupancy at each moment of a run, the lifetimes of its requests,
+/// and the threads and the poller at one moment.
+#[derive(Drop)]
+pub struct Follower<K> {
+    alloc: Global,
+    // The moment of the threads and the poller.
+    at: u32,
+    occupancy: Occupancy,
+    // Those of moment 0 until that moment.
+    thread_stages: ThreadStages,
+    proof: PhantomData<K>,
 }
 
 // Returns request `number`, or None past the end of the table.
@@ -125,60 +74,74 @@ fn rows_of(alloc: Global, state: &State) -> Result<Vec<Row>, AllocError>
     Ok(rows)
 }
 
-// Returns the stages of the threads and the poller.
-fn thread_stages_of(alloc: Global, state: &State) -> Result<ThreadStages, Stop>
-    requires few { length state.now.threads ≤ 16 }
-    ensures ok { IfOk result (AreThreadStages state.now) }
-    ensures err { IfErr result (λ stop. stop ≡ Stop.Memory) }
-{
-    match ThreadStages::new(alloc, state) {
-        Ok(thread_stages) => Ok(thread_stages),
-        Err(_) => Err(Stop::Memory),
+impl<K: StagesMoment> Follower<K> {
+    /// Returns an observer of a run that has seen no event, given the state at the run's start. It
+    /// reads the threads and the poller at moment `at`.
+    pub fn new(
+        alloc: Global,
+        setup: &Setup,
+        state: &State,
+        at: u32,
+    ) -> Result<Follower<K>, AllocError>
+        requires setup { setup_refusal setup.now ≡ None }
+        requires starts { state.now ≡ start setup.now }
+        requires at { at ≡ K.at }
+        ensures at { IfOk result (λ f. f.at ≡ K.at) }
+        ensures seen { IfOk result (λ f. (es : List Event) → length es ≤ 1048576
+            → HasFollowed setup.now es 0 K.at f.occupancy f.thread_stages) }
+    {
+        Ok(Follower {
+            alloc,
+            at,
+            occupancy: Occupancy::new(alloc, state)?,
+            thread_stages: ThreadStages::new(alloc, state)?,
+            proof: PhantomData,
+        })
     }
-}
 
-// Follows a run from moment 0, and reads the threads and the poller at moment `at`.
-fn follow_from(
-    alloc: Global,
-    state: &mut State,
-    setup: &Setup,
-    events: &[Event],
-    at: u32,
-    mut occupancy: Occupancy,
-) -> Result<Followed, Stop>
-    requires most { length events.now ≤ 1048576 }
-    requires before { Follows setup.now events.now 0 state.old occupancy }
-    ensures ok { IfOk result (IsFollowed setup.now events.now at) }
-    ensures err { IfErr result (Stops setup.now events.now) }
-{
-    let middle = (at as usize).min(events.len());
-    follow_on(state, setup, events, 0, middle, &mut occupancy)?;
-    let thread_stages = thread_stages_of(alloc, state)?;
-    follow_on(state, setup, events, middle, events.len(), &mut occupancy)?;
-    match rows_of(alloc, state) {
-        Ok(rows) => Ok(Followed {
+    /// Returns what was recorded of a run whose events have all been seen, given the state at its
+    /// end.
+    pub fn finish(self, state: &State) -> Result<Followed, AllocError>
+        ensures { IfOk result (λ f. (s : Setup) → (es : List Event)
+            → HasFollowed s es (length es) K.at self.occupancy self.thread_stages
+            → state.now ≡ moment s es (length es) → IsFollowed s es K.at f) }
+    {
+        let rows = rows_of(self.alloc, state)?;
+        let Follower {
+            occupancy,
+            thread_stages,
+            ..
+        } = self;
+        Ok(Followed {
             occupancy,
             rows,
             thread_stages,
-        }),
-        Err(_) => Err(Stop::Memory),
+        })
     }
 }
 
-/// Runs the events from the setup. Returns the occupancy at each moment, the lifetimes of its
-/// requests, and the threads and the poller at moment `at`. Fails if an event is refused or an
-/// allocation fails.
-pub fn follow(alloc: Global, setup: &Setup, events: &[Event], at: u32) -> Result<Followed, Stop>
-    requires starts { setup_refusal setup.now ≡ None }
-    requires most { length events.now ≤ 1048576 }
-    ensures ok { IfOk result (IsFollowed setup.now events.now at) }
-    ensures err { IfErr result (Stops setup.now events.now) }
-{
-    let Ok(mut state) = State::new(alloc, setup) else {
-        return Err(Stop::Memory);
-    };
-    let Ok(occupancy) = Occupancy::new(alloc, &state) else {
-        return Err(Stop::Memory);
-    };
-    follow_from(alloc, &mut state, setup, events, at, occupancy)
+impl<K: StagesMoment> Observer for Follower<K> {
+    type Note = ();
+
+    type Stop = AllocError;
+
+    ghost has_seen = { λ o s es i. (o.at ≡ K.at)
+        × HasFollowed s es i K.at o.occupancy o.thread_stages };
+
+    ghost notes = { λ s es i n. Unit {0} };
+
+    ghost stops = { λ o s es i x. Unit {0} };
+
+    fn before(&self, _at: Observed<'_>) -> Result<(), AllocError> {
+        Ok(())
+    }
+
+    fn after(&mut self, at: Observed<'_>, past: &Record, _note: ()) -> Result<(), AllocError> {
+        let moment = at.index + 1;
+        self.occupancy.note(past, at.state, moment as u32)?;
+        if moment == at.events.len().min(self.at as usize) {
+            self.thread_stages = ThreadStages::new(self.alloc, at.state)?;
+        }
+        Ok(())
+    }
 }

@@ -9,7 +9,7 @@ mod stamps;
 mod thread_stages;
 
 pub use filling::Filling;
-pub use following::{Followed, Stop, follow};
+pub use following::{Followed, Follower, StagesMoment};
 pub use occupancy::Occupancy;
 pub use stamps::Stamps;
 pub use thread_stages::ThreadStages;

@@ -1,1 +1,2 @@
-pub mod Undrawn
+pub mod Stepping
+pub mod Ending

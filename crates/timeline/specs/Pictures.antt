@@ -1,70 +1,79 @@
--- Which runs are drawn.
-use Rattle.std.specs.Prelude.{◌≡◌, ℕ, ◌&&◌, ◌||◌, nat_lt, nat_eq, not, is_some, List, codes, length, Bool, true, false, if◌then◌else◌, Option, Some, None, Ok, Err}
+-- Which runs are drawn, and what of them.
+use Rattle.std.specs.Prelude.{◌≡◌, ℕ, ◌&&◌, ◌||◌, nat_lt, nat_eq, not, is_some, List, codes, length, Bool, true, false, if◌then◌else◌, Option, Some, None}
 use Rattle.std.specs.List.{ends_with}
 use Rattle.scenario.specs.declared.event.Event.{Event}
 use Rattle.scenario.specs.declared.setup.Setup.{Setup}
 use Rattle.machine.specs.Runs.{start, Accepts, IsRefused}
-use Rattle.occupancy.specs.declared.following.Stop.{Stop}
-use Rattle.occupancy.specs.declared.following.Stop.TheVariants.{Refused, Memory as OutOfMemory}
-use Rattle.script.specs.Scripts.{Scenario, Reads}
-use Rattle.traces.specs.Reading.{IsFault2}
-use Rattle.traces.specs.Setups.{IsTrace2}
+use Rattle.script.specs.Scripts.{Scenario}
+use Rattle.runs.specs.Reading.{Reads, IsUnread}
+use Rattle.runs.specs.declared.driving.Ended.{Ended}
+use Rattle.runs.specs.declared.driving.Ended.TheVariants.{Refused, Stopped}
+use Rattle.runs.specs.declared.driving.Ended.TheVariants as ended
+use Rattle.runs.specs.declared.fault.ReportFault.{ReportFault}
+use Rattle.runs.specs.declared.fault.ReportFault.TheVariants.{Script, Trace, Schedule, Write, Memory}
+use Rattle.runs.specs.declared.reading.RunFault.TheVariants as unread
+use Rattle.run_log.specs.declared.range.EventRange.{EventRange}
+use Rattle.occupancy.specs.Occupancies.{IsFollowed}
+use Rattle.findings.specs.Findings.{IsReportOf}
+use Rattle.explanations.specs.ReportLists.{findings_in}
+use Rattle.timeline.specs.declared.drawing.Drawing.{Drawing}
+use Rattle.timeline.specs.declared.drawing.Drawing.TheVariants.{Bytes, TooLong}
 use Rattle.timeline.specs.declared.drawing.Picture.{Picture}
 use Rattle.timeline.specs.declared.drawing.Picture.TheVariants.{Page, TraceEvents}
 use Rattle.timeline.specs.declared.drawing.Window.{Window}
-use Rattle.timeline.specs.declared.fault.TimelineFault.{TimelineFault}
-use Rattle.timeline.specs.declared.fault.TimelineFault.TheVariants.{Script, Trace, Schedule, Long, Memory}
+use Rattle.timeline.specs.declared.observing.Seen.{Seen}
+use Rattle.timeline.specs.Steps.{AreSteps}
 
--- what a file of a name holds
+-- The picture that a file holds, by its name.
 abbrev pub picture_of : List ℕ → Option Picture
 picture_of path =
     if ends_with nat_eq path (codes ".html") then Some Page
     else if ends_with nat_eq path (codes ".json") then Some TraceEvents else None
 
--- whether a number of events is too large to be drawn without both ends of a window
+-- Whether a number of events is too large to be drawn without both ends of a window.
 abbrev pub is_long : ℕ → Window → Bool
 is_long count w = nat_lt 5000 count && (not (is_some w.from) || not (is_some w.to))
 
--- what a run that stops at an event ends a picture by
-abbrev pub fault_by : Stop → TimelineFault
-fault_by (Refused i n) = Schedule i n
-fault_by OutOfMemory = Memory
+-- ---- one run
 
--- Events are drawn if they are few enough, and all of them run.
-abbrev pub Draws : Setup → List Event → Window → Type 0
-Draws s es w = (is_long (length es) w ≡ false) × Accepts (start s) es
+-- What a picture shows of a run, none of whose events is refused: its occupancy and the lifetimes of
+-- its requests, the events in a range with what each changed, and all findings.
+pub record IsSeen (s : Setup) (es : List Event) (r : EventRange) (x : Seen) : Type 0 where
+  pub runs : Accepts (start s) es
+  pub followed : IsFollowed s es r.from x.followed
+  pub steps : AreSteps s es r (length es) x.steps.items
+  pub findings : IsReportOf s es (findings_in x.findings.items)
 
--- Why they aren't: they are too many, one is refused, or memory is.
-abbrev pub IsUndrawn : Setup → List Event → Window → TimelineFault → Type 0
-IsUndrawn s es w (Schedule i n) = IsRefused s es i n
-IsUndrawn s es w (Long n) = (n ≡ length es) × (is_long (length es) w ≡ true)
-IsUndrawn s es w Memory = Unit {0}
-IsUndrawn s es w (Script f) = ⊥
-IsUndrawn s es w (Trace f) = ⊥
+-- The fault of a run that ends early.
+abbrev pub fault_of : {E : Type 0} → Ended E → ReportFault
+fault_of (Refused i n) = Schedule i n
+fault_of ended.Memory = Memory
+fault_of (Stopped x) = Memory
 
-abbrev pub DrawsScript : List ℕ → Window → Type 0
-DrawsScript text w = (p : Scenario) × Reads text (Ok p) × Draws p.setup p.schedule w
+-- The first refused event of a run, or an allocation failure.
+abbrev pub Stops : Setup → List Event → ReportFault → Type 0
+Stops s es (Schedule i n) = IsRefused s es i n
+Stops s es Memory = Unit {0}
+Stops s es Write = ⊥
+Stops s es (Script f) = ⊥
+Stops s es (Trace f) = ⊥
 
-abbrev pub DrawsTrace : List ℕ → Window → Type 0
-DrawsTrace trace w = (s : Setup) × (es : List Event) × IsTrace2 s es trace × Draws s es w
+-- A picture of a run that isn't too long, none of whose events is refused, or the number of events of
+-- a run that is too long.
+abbrev pub Draws : Setup → List Event → Window → Drawing → Type 0
+Draws s es w (Bytes bytes) = (is_long (length es) w ≡ false) × Accepts (start s) es
+Draws s es w (TooLong n) = (n ≡ length es) × (is_long (length es) w ≡ true)
 
--- A script that isn't drawn: a fault of it is its first one.
-abbrev pub FailsScript : List ℕ → Window → TimelineFault → Type 0
-FailsScript text w (Script f) = Reads text (Err f)
-FailsScript text w Memory = Unit {0}
-FailsScript text w f = (p : Scenario) × Reads text (Ok p) × IsUndrawn p.setup p.schedule w f
+-- ---- the run that bytes describe
 
--- the same of a trace
-abbrev pub FailsTrace : List ℕ → Window → TimelineFault → Type 0
-FailsTrace trace w (Trace f) = IsFault2 trace f
-FailsTrace trace w Memory = Unit {0}
-FailsTrace trace w f = (s : Setup) × (es : List Event) × IsTrace2 s es trace × IsUndrawn s es w f
+abbrev pub DrawsRun : List ℕ → Window → Drawing → Type 0
+DrawsRun bytes w d = (p : Scenario) × Reads bytes p × Draws p.setup p.schedule w d
 
--- bytes are a trace, or else a script
-abbrev pub DrawsRun : Bool → List ℕ → Window → Type 0
-DrawsRun true bytes w = DrawsTrace bytes w
-DrawsRun false bytes w = DrawsScript bytes w
-
-abbrev pub FailsRun : Bool → List ℕ → Window → TimelineFault → Type 0
-FailsRun true bytes w f = FailsTrace bytes w f
-FailsRun false bytes w f = FailsScript bytes w f
+-- Why bytes aren't drawn: they describe no run, an event of the run is refused, or an allocation
+-- fails.
+abbrev pub IsUndrawn : List ℕ → ReportFault → Type 0
+IsUndrawn bytes (Script f) = IsUnread bytes (unread.Script f)
+IsUndrawn bytes (Trace f) = IsUnread bytes (unread.Trace f)
+IsUndrawn bytes (Schedule i n) = (p : Scenario) × Reads bytes p × IsRefused p.setup p.schedule i n
+IsUndrawn bytes Memory = Unit {0}
+IsUndrawn bytes Write = ⊥

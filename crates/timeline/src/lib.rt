@@ -4,15 +4,14 @@
 
 mod drawing;
 mod drawn;
-mod fault;
 mod marks;
+mod observing;
 mod page;
 mod parts;
 mod picture_parts;
 mod row_parts;
-mod step_lines;
+mod steps;
 mod trace_events;
 mod writing;
 
-pub use drawing::{Picture, Window, draw_run, picture_of};
-pub use fault::TimelineFault;
+pub use drawing::{Drawing, Picture, Window, draw_run, picture_of};

@@ -65,7 +65,7 @@ pub struct PagePart<'a> {
     pub poller: Option<String>,
     /// Each thread's instructions.
     pub programs: Vec<Vec<String>>,
-    pub steps: Vec<StepPart>,
+    pub steps: &'a [StepPart],
     /// From the moment before the first event to the moment after the last.
     pub fillings: Vec<FillingPart>,
     pub rows: Vec<RowPart>,

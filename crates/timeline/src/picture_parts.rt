@@ -4,7 +4,6 @@ use crate::drawn::Drawn;
 use crate::marks::finding_parts;
 use crate::parts::{FillingPart, FindingPart, PagePart, RowPart, StepPart, filling_part};
 use crate::row_parts::{program_part, row_part};
-use crate::step_lines::steps_of;
 use crate::trace_events::{
     Slice, add_filling, add_finding, add_link, add_row, add_slice, begin, end,
 };
@@ -105,11 +104,12 @@ fn poller_text(alloc: Global, thread_stages: &ThreadStages) -> Result<Option<Str
 /// Returns the data of the page of a run.
 pub(crate) fn page_part<'a>(alloc: Global, drawn: Drawn<'a>) -> Result<PagePart<'a>, AllocError> {
     let setup = drawn.setup;
-    let occupancy = &drawn.followed.occupancy;
+    let followed = &drawn.seen.followed;
+    let occupancy = &followed.occupancy;
     let count = event_count(occupancy);
     let from = drawn.range.from;
     let to = end_of(drawn.range, count);
-    let thread_stages = &drawn.followed.thread_stages;
+    let thread_stages = &followed.thread_stages;
     Ok(PagePart {
         run: drawn.name,
         from,
@@ -120,10 +120,10 @@ pub(crate) fn page_part<'a>(alloc: Global, drawn: Drawn<'a>) -> Result<PagePart<
         stages: stage_texts(alloc, thread_stages)?,
         poller: poller_text(alloc, thread_stages)?,
         programs: programs(alloc, setup)?,
-        steps: steps_of(alloc, drawn.log)?,
+        steps: &drawn.seen.steps,
         fillings: filling_parts(alloc, fillings_in(occupancy, from, to))?,
-        rows: row_parts(alloc, &drawn.followed.rows, occupancy, from, to)?,
-        findings: finding_parts(alloc, drawn.findings, from, to, count)?,
+        rows: row_parts(alloc, &followed.rows, occupancy, from, to)?,
+        findings: finding_parts(alloc, &drawn.seen.findings, from, to, count)?,
     })
 }
 
@@ -253,19 +253,19 @@ fn add_rows(
 
 /// The trace events of a run.
 pub(crate) fn trace_file(alloc: Global, drawn: Drawn<'_>) -> Result<Vec<u8>, AllocError> {
-    let occupancy = &drawn.followed.occupancy;
+    let followed = &drawn.seen.followed;
+    let occupancy = &followed.occupancy;
     let count = event_count(occupancy);
     let from = drawn.range.from;
     let to = end_of(drawn.range, count);
     let fillings = fillings_in(occupancy, from, to);
-    let steps = steps_of(alloc, drawn.log)?;
-    let parts = row_parts(alloc, &drawn.followed.rows, occupancy, from, to)?;
-    let findings = finding_parts(alloc, drawn.findings, from, to, count)?;
+    let parts = row_parts(alloc, &followed.rows, occupancy, from, to)?;
+    let findings = finding_parts(alloc, &drawn.seen.findings, from, to, count)?;
     let mut out = Vec::new(alloc);
-    let has_poller = drawn.followed.thread_stages.awake.is_some();
+    let has_poller = followed.thread_stages.awake.is_some();
     let threads = drawn.setup.threads.len();
     begin(alloc, &mut out, drawn.name, threads, has_poller)?;
-    let tracks = add_slices(alloc, &mut out, &steps, fillings, from)?;
+    let tracks = add_slices(alloc, &mut out, &drawn.seen.steps, fillings, from)?;
     add_fillings(alloc, &mut out, fillings, from)?;
     add_rows(alloc, &mut out, &parts, to)?;
     add_links(alloc, &mut out, &parts, &tracks, from)?;

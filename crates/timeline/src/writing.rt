@@ -1,20 +1,15 @@
 //! Pictures as bytes.
-ghost use Rattle.std.specs.Prelude.{◌≡◌, IfErr};
-
 use crate::drawn::Drawn;
-use crate::fault::TimelineFault;
 use crate::page::{HEAD, TAIL};
 use crate::parts::PagePart;
 use crate::picture_parts::{page_part, trace_file};
 use std::alloc::{AllocError, Global};
 
-// A value as JSON.
-fn json_of(alloc: Global, value: &PagePart<'_>) -> Result<Vec<u8>, TimelineFault>
-    ensures { IfErr result (λ f. f ≡ TimelineFault.Memory) }
-{
+// Returns a value as JSON. Nothing but an allocation can fail.
+fn json_of(alloc: Global, value: &PagePart<'_>) -> Result<Vec<u8>, AllocError> {
     match serde_json::to_vec(alloc, value) {
         Ok(json) => Ok(json),
-        Err(_) => Err(TimelineFault::Memory),
+        Err(_) => Err(AllocError),
     }
 }
 
@@ -29,7 +24,7 @@ fn put_json(out: &mut Vec<u8>, json: &[u8]) -> Result<(), AllocError> {
     Ok(())
 }
 
-// A page around its data.
+// Returns a page around its data.
 fn page_around(alloc: Global, json: &[u8]) -> Result<Vec<u8>, AllocError> {
     let mut out = Vec::new(alloc);
     out.extend_from_slice(HEAD.as_bytes())?;
@@ -38,26 +33,14 @@ fn page_around(alloc: Global, json: &[u8]) -> Result<Vec<u8>, AllocError> {
     Ok(out)
 }
 
-/// The page of a run.
-pub(crate) fn page_bytes(alloc: Global, drawn: Drawn<'_>) -> Result<Vec<u8>, TimelineFault>
-    ensures { IfErr result (λ f. f ≡ TimelineFault.Memory) }
-{
-    let Ok(part) = page_part(alloc, drawn) else {
-        return Err(TimelineFault::Memory);
-    };
+/// Returns the page of a run.
+pub(crate) fn page_bytes(alloc: Global, drawn: Drawn<'_>) -> Result<Vec<u8>, AllocError> {
+    let part = page_part(alloc, drawn)?;
     let json = json_of(alloc, &part)?;
-    match page_around(alloc, &json) {
-        Ok(bytes) => Ok(bytes),
-        Err(_) => Err(TimelineFault::Memory),
-    }
+    page_around(alloc, &json)
 }
 
-/// The trace events of a run.
-pub(crate) fn trace_bytes(alloc: Global, drawn: Drawn<'_>) -> Result<Vec<u8>, TimelineFault>
-    ensures { IfErr result (λ f. f ≡ TimelineFault.Memory) }
-{
-    match trace_file(alloc, drawn) {
-        Ok(bytes) => Ok(bytes),
-        Err(_) => Err(TimelineFault::Memory),
-    }
+/// Returns the trace events of a run.
+pub(crate) fn trace_bytes(alloc: Global, drawn: Drawn<'_>) -> Result<Vec<u8>, AllocError> {
+    trace_file(alloc, drawn)
 }

@@ -1,0 +1,7 @@
+use Rattle.std.proofs.Common.{◌≡◌, map, take}
+use Rattle.std.specs.Prelude.{string_bytes}
+use Rattle.timeline.specs.Steps.{shown_line}
+use Rattle.timeline.proofs.steps.shown_lines.Given as goal
+
+abbrev pub invariant-loop-line : goal.invariant-loop-line
+invariant-loop-line l = map (λ text. string_bytes text) l.texts.items ≡ map (λ line. shown_line line.items) (take l.line-index l.lines)
