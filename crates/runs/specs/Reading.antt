@@ -1,7 +1,6 @@
 -- The run that bytes describe, or why they describe none.
-use Rattle.std.specs.Prelude.{◌≡◌, ℕ, ◌≤◌, List, length, Bool, true, false, Ok, Err, None}
+use Rattle.std.specs.Prelude.{◌≡◌, ◌==◌, ℕ, ◌≤◌, List, [], ◌∷◌, length, Bool, true, false, Ok, Err, None}
 use Rattle.scenario.specs.Setups.{setup_refusal}
-use Rattle.script.specs.Logs.{is_trace}
 use Rattle.script.specs.Scripts.{Scenario, Reads as ReadsScript}
 use Rattle.traces.specs.Reading.{IsFault2}
 use Rattle.traces.specs.Setups.{IsTrace2}
@@ -19,6 +18,11 @@ scenario_of (from.Trace s es) = record { setup = s; schedule = es }
 pub record Startable (p : Scenario) : Type 0 where
   pub starts : setup_refusal p.setup ≡ None
   pub most : length p.schedule ≤ 1048576
+
+-- Bytes are a trace if they begin with a `U` (`URTRACE1`, `URTRACE2`), and otherwise a script.
+abbrev pub is_trace : List ℕ → Bool
+is_trace [] = false
+is_trace (b ∷ bs) = b == 85
 
 -- The bytes are a trace of the second form if `trace`, and otherwise a script, of this run.
 abbrev pub ReadsAs : Bool → List ℕ → Scenario → Type 0
