@@ -12,6 +12,7 @@ mod not_json;
 mod ranges;
 mod refusals;
 mod report;
+mod running;
 mod verdict;
 mod walk;
 
