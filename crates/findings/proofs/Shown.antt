@@ -23,7 +23,7 @@ use Rattle.machine.specs.declared.whole.Machine.{Machine}
 use Rattle.machine.specs.Whole.{view}
 use Rattle.finding_kinds.specs.declared.finding.Finding.{Finding}
 use Rattle.finding_kinds.specs.declared.kind.Kind.{Kind}
-use Rattle.finding_kinds.specs.declared.kind.Kind.TheVariants as kinds
+use Rattle.finding_kinds.specs.declared.kind.Kind.TheVariants as group
 use Rattle.finding_kinds.specs.declared.kind.EndedKind.{EndedKind}
 use Rattle.finding_kinds.specs.declared.kind.StepKind.{StepKind}
 use Rattle.finding_kinds.specs.declared.kind.QueuedKind.{QueuedKind}
@@ -59,9 +59,9 @@ false_true e = cc
 module _ (s : Setup) (i : ℕ) (before : Machine) (e : Event) (next_state : Machine) where
   row_shown : (r : ℕ) (old : Option Row) (row : Row) → slice_get before.table r ≡ old → slice_get next_state.table r ≡ Some row → All (IsShown s i before e next_state) (of_row i old next_state.table r row)
   row_shown r old row o k =
-      All-append (IsShown s i before e next_state) (of_ended i old next_state.table r row ended_kinds) (of_queued i old next_state.table r row queued_kinds)
-      (group_only (IsShown s i before e next_state) kinds.Ended (λ (kind : EndedKind). ended_test kind old next_state.table r row) i r ended_kinds (λ kind t. (refl, at_row (ended_test kind) t)))
-      (group_only (IsShown s i before e next_state) kinds.Queued (λ (kind : QueuedKind). queued_test kind old next_state.table r row) i r queued_kinds (λ kind t. (refl, at_row (queued_test kind) t)))
+      All-append (IsShown s i before e next_state) (of_ended i old next_state.table r row) (of_queued i old next_state.table r row)
+      (group_only (IsShown s i before e next_state) group.Ended (λ (kind : EndedKind). ended_test kind old next_state.table r row) i r ended_kinds (λ kind t. (refl, at_row (ended_test kind) t)))
+      (group_only (IsShown s i before e next_state) group.Queued (λ (kind : QueuedKind). queued_test kind old next_state.table r row) i r queued_kinds (λ kind t. (refl, at_row (queued_test kind) t)))
     where
       at_row : (test : Option Row → List Row → ℕ → Row → Bool) → test old next_state.table r row ≡ true → option_map_or (test (slice_get before.table r) next_state.table r) (slice_get next_state.table r) false ≡ true
       at_row test t = ap (λ (x : Option Row). option_map_or (test (slice_get before.table r) next_state.table r) x false) k ∙ ap (λ (x : Option Row). test x next_state.table r row) o ∙ t
@@ -72,7 +72,7 @@ module _ (s : Setup) (i : ℕ) (before : Machine) (e : Event) (next_state : Mach
       old : slice_get before.table r ≡ row_in x
       old = sym (ap row_in h ∙ row_in_requested (slice_get before.table r))
 
-      by : (o : Option Row) → slice_get next_state.table r ≡ o → All (IsShown s i before e next_state) (option_map_or (λ (row : Row). of_row i (row_in x) next_state.table r row) o [])
+      by : (o : Option Row) → slice_get next_state.table r ≡ o → All (IsShown s i before e next_state) (option_map_or (of_row i (row_in x) next_state.table r) o [])
       by None k = All-nil (IsShown s i before e next_state)
       by (Some row) k = row_shown r (row_in x) row old k
   place_shown x _ h = All-nil (IsShown s i before e next_state)
@@ -116,7 +116,7 @@ place_there i before next_state cs kind r test unchanged row_has x h = by (slice
         row_has (row_in (view before (Request r))) row (ap (λ (o : Option Row). test o row) old ∙ t)
         in
         let placed : Has (of_place i next_state.table (view before (Request r)) (Request r)) (the_finding i kind r) =
-        subst (λ (o : Option Row). Has (option_map_or (λ (y : Row). of_row i (row_in (view before (Request r))) next_state.table r y) o []) (the_finding i kind r)) (sym k) reported
+        subst (λ (o : Option Row). Has (option_map_or (of_row i (row_in (view before (Request r))) next_state.table r) o []) (the_finding i kind r)) (sym k) reported
         in
         has_flat_map (of_change i next_state.table) cs (record { place = Request r; old = view before (Request r) }) (the_finding i kind r) noted placed
 
@@ -126,25 +126,25 @@ place_there i before next_state cs kind r test unchanged row_has x h = by (slice
 
 -- Each finding of the event about a request is computed from the record.
 pub ended_there : (i : ℕ) (before next_state : Machine) (cs : List Change) (kind : EndedKind) (r : ℕ) → Exact (view before) (view next_state) cs → ends kind before next_state r ≡ true
-    → Has (flat_map (of_change i next_state.table) cs) (the_finding i (kinds.Ended kind) r)
+    → Has (flat_map (of_change i next_state.table) cs) (the_finding i (group.Ended kind) r)
 ended_there i before next_state cs kind r x h =
-    place_there i before next_state cs (kinds.Ended kind) r (λ (old : Option Row) (row : Row). ended_test kind old next_state.table r row) (ended_unchanged kind next_state.table r)
-    (λ old row t. has_left (of_ended i old next_state.table r row ended_kinds) (of_queued i old next_state.table r row queued_kinds) (the_finding i (kinds.Ended kind) r)
-    (group_there kinds.Ended (λ (k : EndedKind). ended_test k old next_state.table r row) i r ended_kinds kind (is_ended_kind kind) t)) x h
+    place_there i before next_state cs (group.Ended kind) r (λ (old : Option Row) (row : Row). ended_test kind old next_state.table r row) (ended_unchanged kind next_state.table r)
+    (λ old row t. has_left (of_ended i old next_state.table r row) (of_queued i old next_state.table r row) (the_finding i (group.Ended kind) r)
+    (group_there group.Ended (λ (k : EndedKind). ended_test k old next_state.table r row) i r ended_kinds kind (is_ended_kind kind) t)) x h
 
 pub queued_there : (i : ℕ) (before next_state : Machine) (cs : List Change) (kind : QueuedKind) (r : ℕ) → Exact (view before) (view next_state) cs → comes kind before next_state r ≡ true
-    → Has (flat_map (of_change i next_state.table) cs) (the_finding i (kinds.Queued kind) r)
+    → Has (flat_map (of_change i next_state.table) cs) (the_finding i (group.Queued kind) r)
 queued_there i before next_state cs kind r x h =
-    place_there i before next_state cs (kinds.Queued kind) r (λ (old : Option Row) (row : Row). queued_test kind old next_state.table r row) (λ row. refl)
-    (λ old row t. has_right (of_ended i old next_state.table r row ended_kinds) (of_queued i old next_state.table r row queued_kinds) (the_finding i (kinds.Queued kind) r)
-    (group_there kinds.Queued (λ (k : QueuedKind). queued_test k old next_state.table r row) i r queued_kinds kind (is_queued_kind kind) t)) x h
+    place_there i before next_state cs (group.Queued kind) r (λ (old : Option Row) (row : Row). queued_test kind old next_state.table r row) (λ row. refl)
+    (λ old row t. has_right (of_ended i old next_state.table r row) (of_queued i old next_state.table r row) (the_finding i (group.Queued kind) r)
+    (group_there group.Queued (λ (k : QueuedKind). queued_test k old next_state.table r row) i r queued_kinds kind (is_queued_kind kind) t)) x h
 
 -- ---- rings and threads
 
 instruction_shown : (s : Setup) (i : ℕ) (before : Machine) (t : ℕ) (next_state : Machine) (x : Instruction) → done_by s before (Step t) ≡ Some x
-    → All (IsShown s i before (Step t) next_state) (of_instruction i (changes_slot before x) x next_state t step_kinds)
+    → All (IsShown s i before (Step t) next_state) (of_instruction i (changes_slot before x) x next_state t)
 instruction_shown s i before t next_state x d =
-    group_only (IsShown s i before (Step t) next_state) kinds.Step (λ (kind : StepKind). is_of_step kind (changes_slot before x) x next_state t) i t step_kinds (λ kind h. (refl, reported kind h))
+    group_only (IsShown s i before (Step t) next_state) group.Step (λ (kind : StepKind). is_of_step kind (changes_slot before x) x next_state t) i t step_kinds (λ kind h. (refl, reported kind h))
   where
     reported : (kind : StepKind) → is_of_step kind (changes_slot before x) x next_state t ≡ true → step_shows s kind before (Step t) next_state t ≡ true
     reported kind h =
@@ -159,7 +159,7 @@ step_shown s i before _ next_state (Some x) d = All-nil _
 cancel_shown : (s : Setup) (i : ℕ) (before : Machine) (e : Event) (next_state : Machine) (o : Option Cancel) → cancel_before before e ≡ o → All (IsShown s i before e next_state) (of_cancel i o next_state.table)
 cancel_shown s i before e next_state None d = All-nil (IsShown s i before e next_state)
 cancel_shown s i before e next_state (Some x) d =
-    group_only (IsShown s i before e next_state) kinds.Cancel (λ (kind : CancelKind). is_of_cancel kind x next_state.table) i x.number cancel_kinds (λ kind h. (refl, reported kind h))
+    group_only (IsShown s i before e next_state) group.Cancel (λ (kind : CancelKind). is_of_cancel kind x next_state.table) i x.number cancel_kinds (λ kind h. (refl, reported kind h))
   where
     reported : (kind : CancelKind) → is_of_cancel kind x next_state.table ≡ true → cancel_shows kind before e next_state x.number ≡ true
     reported kind h =
@@ -170,44 +170,44 @@ cancel_shown s i before e next_state (Some x) d =
 pub event_shown : (s : Setup) (i : ℕ) (before : Machine) (e : Event) (next_state : Machine) → All (IsShown s i before e next_state) (of_event s i before e next_state)
 event_shown s i before e next_state =
     All-append (IsShown s i before e next_state) (of_overflow i (overflows before) (overflows next_state)) (of_step i (changes_at before (done_by s before e)) (done_by s before e) e next_state ++ of_cancel i (cancel_before before e) next_state.table)
-    (given_only (IsShown s i before e next_state) (not (overflows before) && overflows next_state) (the_finding i kinds.Overflow zero) (λ h. (refl, h)))
+    (given_only (IsShown s i before e next_state) (not (overflows before) && overflows next_state) (the_finding i group.Overflow zero) (λ h. (refl, h)))
     (All-append (IsShown s i before e next_state) (of_step i (changes_at before (done_by s before e)) (done_by s before e) e next_state) (of_cancel i (cancel_before before e) next_state.table)
     (step_shown s i before e next_state (done_by s before e) refl) (cancel_shown s i before e next_state (cancel_before before e) refl))
 
-overflow_there : (i : ℕ) (before next_state : Machine) (n : ℕ) → spills before next_state n ≡ true → Has (of_overflow i (overflows before) (overflows next_state)) (the_finding i kinds.Overflow n)
+overflow_there : (i : ℕ) (before next_state : Machine) (n : ℕ) → spills before next_state n ≡ true → Has (of_overflow i (overflows before) (overflows next_state)) (the_finding i group.Overflow n)
 overflow_there i before next_state n h =
     let parts = and_parts (n == zero) (not (overflows before) && overflows next_state) h in
-    subst (λ (k : ℕ). Has (of_overflow i (overflows before) (overflows next_state)) (the_finding i kinds.Overflow k)) (sym (eqb-true n zero parts.0)) (given_there (not (overflows before) && overflows next_state) (the_finding i kinds.Overflow zero) parts.1)
+    subst (λ (k : ℕ). Has (of_overflow i (overflows before) (overflows next_state)) (the_finding i group.Overflow k)) (sym (eqb-true n zero parts.0)) (given_there (not (overflows before) && overflows next_state) (the_finding i group.Overflow zero) parts.1)
 
 step_there : (i : ℕ) (kind : StepKind) (before : Machine) (o : Option Instruction) (e : Event) (next_state : Machine) (n : ℕ) → is_step_of n e ≡ true → option_map_or (λ (x : Instruction). is_of_step kind (changes_slot before x) x next_state n) o false ≡ true
-    → Has (of_step i (changes_at before o) o e next_state) (the_finding i (kinds.Step kind) n)
+    → Has (of_step i (changes_at before o) o e next_state) (the_finding i (group.Step kind) n)
 step_there i kind before None (Step t) next_state n a b = absurd (false_true b)
 step_there i kind before (Some x) (Step t) next_state n a b =
     let same : t ≡ n = eqb-true t n a in
     let here : is_of_step kind (changes_slot before x) x next_state t ≡ true = ap (is_of_step kind (changes_slot before x) x next_state) same ∙ b in
-    subst (λ (k : ℕ). Has (of_instruction i (changes_slot before x) x next_state t step_kinds) (the_finding i (kinds.Step kind) k)) same
-    (group_there kinds.Step (λ (k : StepKind). is_of_step k (changes_slot before x) x next_state t) i t step_kinds kind (is_step_kind kind) here)
+    subst (λ (k : ℕ). Has (of_instruction i (changes_slot before x) x next_state t) (the_finding i (group.Step kind) k)) same
+    (group_there group.Step (λ (k : StepKind). is_of_step k (changes_slot before x) x next_state t) i t step_kinds kind (is_step_kind kind) here)
 step_there i kind before o _ next_state n a b = absurd (false_true a)
 
-cancel_there : (i : ℕ) (kind : CancelKind) (o : Option Cancel) (rows : List Row) (n : ℕ) → option_map_or (λ (x : Cancel). (x.number == n) && is_of_cancel kind x rows) o false ≡ true → Has (of_cancel i o rows) (the_finding i (kinds.Cancel kind) n)
+cancel_there : (i : ℕ) (kind : CancelKind) (o : Option Cancel) (rows : List Row) (n : ℕ) → option_map_or (λ (x : Cancel). (x.number == n) && is_of_cancel kind x rows) o false ≡ true → Has (of_cancel i o rows) (the_finding i (group.Cancel kind) n)
 cancel_there i kind None rows n h = absurd (false_true h)
 cancel_there i kind (Some x) rows n h =
     let parts = and_parts (x.number == n) (is_of_cancel kind x rows) h in
-    subst (λ (k : ℕ). Has (of_cancel i (Some x) rows) (the_finding i (kinds.Cancel kind) k)) (eqb-true x.number n parts.0)
-    (group_there kinds.Cancel (λ (k : CancelKind). is_of_cancel k x rows) i x.number cancel_kinds kind (is_cancel_kind kind) parts.1)
+    subst (λ (k : ℕ). Has (of_cancel i (Some x) rows) (the_finding i (group.Cancel kind) k)) (eqb-true x.number n parts.0)
+    (group_there group.Cancel (λ (k : CancelKind). is_of_cancel k x rows) i x.number cancel_kinds kind (is_cancel_kind kind) parts.1)
 
 -- Each finding of the event about the rings, a thread, or a cancel or removal is computed.
 module _ (s : Setup) (i : ℕ) (before : Machine) (e : Event) (next_state : Machine) where
-  pub event_overflow : (n : ℕ) → spills before next_state n ≡ true → Has (of_event s i before e next_state) (the_finding i kinds.Overflow n)
+  pub event_overflow : (n : ℕ) → spills before next_state n ≡ true → Has (of_event s i before e next_state) (the_finding i group.Overflow n)
   event_overflow n h = has_left (of_overflow i (overflows before) (overflows next_state)) _ _ (overflow_there i before next_state n h)
 
-  pub event_step : (kind : StepKind) (n : ℕ) → step_shows s kind before e next_state n ≡ true → Has (of_event s i before e next_state) (the_finding i (kinds.Step kind) n)
+  pub event_step : (kind : StepKind) (n : ℕ) → step_shows s kind before e next_state n ≡ true → Has (of_event s i before e next_state) (the_finding i (group.Step kind) n)
   event_step kind n h =
       let parts = and_parts (is_step_of n e) (option_map_or (λ (x : Instruction). is_of_step kind (changes_slot before x) x next_state n) (done_by s before e) false) h in
       has_right (of_overflow i (overflows before) (overflows next_state)) _ _
       (has_left (of_step i (changes_at before (done_by s before e)) (done_by s before e) e next_state) _ _ (step_there i kind before (done_by s before e) e next_state n parts.0 parts.1))
 
-  pub event_cancel : (kind : CancelKind) (n : ℕ) → cancel_shows kind before e next_state n ≡ true → Has (of_event s i before e next_state) (the_finding i (kinds.Cancel kind) n)
+  pub event_cancel : (kind : CancelKind) (n : ℕ) → cancel_shows kind before e next_state n ≡ true → Has (of_event s i before e next_state) (the_finding i (group.Cancel kind) n)
   event_cancel kind n h =
       has_right (of_overflow i (overflows before) (overflows next_state)) _ _
       (has_right (of_step i (changes_at before (done_by s before e)) (done_by s before e) e next_state) _ _ (cancel_there i kind (cancel_before before e) next_state.table n h))

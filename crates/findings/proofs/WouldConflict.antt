@@ -33,7 +33,7 @@ module _ (P : Finding → Type 0) (i : ℕ) (s : Setup) (m : Machine) (d : Effec
   number_done : (q : ℕ) → All P (of_number i s m d q)
   number_done q = by (slice_get m.table q) refl
     where
-      by : (o : Option Row) → slice_get m.table q ≡ o → All P (option_map_or (λ (row : Row). of_candidate i s m d q row conflict_kinds) o [])
+      by : (o : Option Row) → slice_get m.table q ≡ o → All P (option_map_or (of_candidate i s m d q) o [])
       by None e = All-nil P
       by (Some row) e =
           group_only P Conflict (λ (kind : ConflictKind). conflicts kind s m d q row) i q conflict_kinds
@@ -58,11 +58,11 @@ number_there i s m d numbers kind q covers h = by (slice_get m.table q) refl h
     by (Some row) e t =
         let parts = and_parts (is_candidate row) (is_conflict kind s m d q row) t in
         let candidate : option_map_or is_candidate (slice_get m.table q) false ≡ true = ap (λ (o : Option Row). option_map_or is_candidate o false) e ∙ parts.0 in
-        let reported : Has (of_candidate i s m d q row conflict_kinds) (the_finding i (Conflict kind) q) =
+        let reported : Has (of_candidate i s m d q row) (the_finding i (Conflict kind) q) =
         group_there Conflict (λ (k : ConflictKind). conflicts k s m d q row) i q conflict_kinds kind (is_conflict_kind kind) t
         in
         let there : Has (of_number i s m d q) (the_finding i (Conflict kind) q) =
-        subst (λ (o : Option Row). Has (option_map_or (λ (y : Row). of_candidate i s m d q y conflict_kinds) o []) (the_finding i (Conflict kind) q)) (sym e) reported
+        subst (λ (o : Option Row). Has (option_map_or (of_candidate i s m d q) o []) (the_finding i (Conflict kind) q)) (sym e) reported
         in
         has_flat_map (of_number i s m d) numbers q (the_finding i (Conflict kind) q) (contains_has numbers q (covers q candidate)) there
 

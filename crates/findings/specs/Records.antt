@@ -18,7 +18,7 @@ use Rattle.scenario.specs.declared.setup.Setup.{Setup}
 use Rattle.machine.specs.declared.whole.Machine.{Machine}
 use Rattle.machine.specs.Whole.{view}
 use Rattle.finding_kinds.specs.declared.kind.Kind.{Kind}
-use Rattle.finding_kinds.specs.declared.kind.Kind.TheVariants as kinds
+use Rattle.finding_kinds.specs.declared.kind.Kind.TheVariants as group
 use Rattle.finding_kinds.specs.declared.kind.EndedKind.{EndedKind}
 use Rattle.finding_kinds.specs.declared.kind.LeftKind.TheVariants.{Unfinished, NotDurable}
 use Rattle.finding_kinds.specs.declared.kind.ConflictKind.{ConflictKind}
@@ -52,17 +52,17 @@ given test f = if test then f ∷ [] else []
 abbrev pub of_group : {K : Type 0} → (K → Kind) → (K → Bool) → ℕ → ℕ → List K → List Finding
 of_group whole test i n kinds = flat_map (λ kind. given (test kind) (record { moment = i; kind = whole kind; subject = n })) kinds
 
--- The findings about the completion of request r, of some kinds.
-abbrev pub of_ended : ℕ → Option Row → List Row → ℕ → Row → List EndedKind → List Finding
-of_ended i before rows r row kinds = of_group kinds.Ended (λ kind. ended_test kind before rows r row) i r kinds
+-- The findings about the completion of request r.
+abbrev pub of_ended : ℕ → Option Row → List Row → ℕ → Row → List Finding
+of_ended i before rows r row = of_group group.Ended (λ (kind : EndedKind). ended_test kind before rows r row) i r ended_kinds
 
--- The findings about the submission of request r, of some kinds.
-abbrev pub of_queued : ℕ → Option Row → List Row → ℕ → Row → List QueuedKind → List Finding
-of_queued i before rows r row kinds = of_group kinds.Queued (λ kind. queued_test kind before rows r row) i r kinds
+-- The findings about the submission of request r.
+abbrev pub of_queued : ℕ → Option Row → List Row → ℕ → Row → List Finding
+of_queued i before rows r row = of_group group.Queued (λ (kind : QueuedKind). queued_test kind before rows r row) i r queued_kinds
 
 -- All findings about request r.
 abbrev pub of_row : ℕ → Option Row → List Row → ℕ → Row → List Finding
-of_row i before rows r row = of_ended i before rows r row ended_kinds ++ of_queued i before rows r row queued_kinds
+of_row i before rows r row = of_ended i before rows r row ++ of_queued i before rows r row
 
 -- The request that a value is, if it is one.
 abbrev pub row_in : Option Value → Option Row
@@ -71,7 +71,7 @@ row_in _ = None
 
 -- The findings about a recorded place, if it is a request.
 abbrev pub of_place : ℕ → List Row → Option Value → Place → List Finding
-of_place i rows before (Request r) = option_map_or (λ (row : Row). of_row i (row_in before) rows r row) (slice_get rows r) []
+of_place i rows before (Request r) = option_map_or (of_row i (row_in before) rows r) (slice_get rows r) []
 of_place i rows before _ = []
 
 -- The findings about one change of a record.
@@ -92,26 +92,25 @@ OfNoRow (c ∷ cs) = (is_row c.place ≡ false) × OfNoRow cs
 
 -- Completions went to the backlog, which was empty before.
 abbrev pub of_overflow : ℕ → Bool → Bool → List Finding
-of_overflow i before after = given (not before && after) (record { moment = i; kind = kinds.Overflow; subject = 0 })
+of_overflow i before after = given (not before && after) (record { moment = i; kind = group.Overflow; subject = 0 })
 
--- The findings about an instruction that thread t did, of some kinds. `changes` says whether it
--- changed a slot.
-abbrev pub of_instruction : ℕ → Bool → Instruction → Machine → ℕ → List StepKind → List Finding
-of_instruction i changes x after t kinds = of_group kinds.Step (λ kind. is_of_step kind changes x after t) i t kinds
+-- The findings about an instruction that thread t did. `changes` says whether it changed a slot.
+abbrev pub of_instruction : ℕ → Bool → Instruction → Machine → ℕ → List Finding
+of_instruction i changes x after t = of_group group.Step (λ (kind : StepKind). is_of_step kind changes x after t) i t step_kinds
 
 -- The findings about a step of a thread; none for any other event.
 abbrev pub of_step : ℕ → Bool → Option Instruction → Event → Machine → List Finding
-of_step i changes (Some x) (Step t) after = of_instruction i changes x after t step_kinds
+of_step i changes (Some x) (Step t) after = of_instruction i changes x after t
 of_step i changes x e after = []
 
--- The findings about a completed cancel or removal, of some kinds.
-abbrev pub of_canceling : ℕ → Cancel → List Row → List CancelKind → List Finding
-of_canceling i x rows kinds = of_group kinds.Cancel (λ kind. is_of_cancel kind x rows) i x.number kinds
+-- The findings about a completed cancel or removal.
+abbrev pub of_canceling : ℕ → Cancel → List Row → List Finding
+of_canceling i x rows = of_group group.Cancel (λ (kind : CancelKind). is_of_cancel kind x rows) i x.number cancel_kinds
 
 -- The findings about the cancel or removal that an event completes, if it completes one.
 abbrev pub of_cancel : ℕ → Option Cancel → List Row → List Finding
 of_cancel i None rows = []
-of_cancel i (Some x) rows = of_canceling i x rows cancel_kinds
+of_cancel i (Some x) rows = of_canceling i x rows
 
 -- The findings of an event about the rings, the threads, and a cancel or removal.
 abbrev pub of_event : Setup → ℕ → Machine → Event → Machine → List Finding
@@ -119,13 +118,13 @@ of_event s i before e after = of_overflow i (overflows before) (overflows after)
 
 -- ---- conflicts
 
--- The conflicts with request q, of some kinds.
-abbrev pub of_candidate : ℕ → Setup → Machine → Effect → ℕ → Row → List ConflictKind → List Finding
-of_candidate i s m effect q row kinds = of_group kinds.Conflict (λ kind. conflicts kind s m effect q row) i q kinds
+-- The conflicts with request q, whose row is given.
+abbrev pub of_candidate : ℕ → Setup → Machine → Effect → ℕ → Row → List Finding
+of_candidate i s m effect q row = of_group group.Conflict (λ (kind : ConflictKind). conflicts kind s m effect q row) i q conflict_kinds
 
--- All conflicts with request q.
+-- The conflicts with request q.
 abbrev pub of_number : ℕ → Setup → Machine → Effect → ℕ → List Finding
-of_number i s m effect q = option_map_or (λ (row : Row). of_candidate i s m effect q row conflict_kinds) (slice_get m.table q) []
+of_number i s m effect q = option_map_or (of_candidate i s m effect q) (slice_get m.table q) []
 
 -- The conflicts of an event with the requests of some numbers.
 abbrev pub of_effect : ℕ → Setup → Machine → Effect → List ℕ → List Finding
@@ -183,7 +182,7 @@ pub record IsLasting (s : Setup) (es : List Event) (fs : List Finding) : Type 0 
 
 -- A finding if the numbered request is incomplete at the end.
 abbrev pub of_left : ℕ → ℕ × Row → List Finding
-of_left n p = given (is_open p.1) (record { moment = n; kind = kinds.Left Unfinished; subject = p.0 })
+of_left n p = given (is_open p.1) (record { moment = n; kind = group.Left Unfinished; subject = p.0 })
 
 -- The findings about all incomplete requests.
 abbrev pub all_left : ℕ → List Row → List Finding
@@ -191,7 +190,7 @@ all_left n rows = flat_map (of_left n) (enumerate_from 0 rows)
 
 -- A finding if the object is a file that isn't durable at the end.
 abbrev pub of_object : ℕ → WorldState → ℕ → List Finding
-of_object n w o = given (has_unsynced w o) (record { moment = n; kind = kinds.Left NotDurable; subject = o })
+of_object n w o = given (has_unsynced w o) (record { moment = n; kind = group.Left NotDurable; subject = o })
 
 -- The findings about all files that aren't durable.
 abbrev pub all_unsynced : Setup → ℕ → WorldState → List Finding

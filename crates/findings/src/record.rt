@@ -4,11 +4,6 @@ ghost use Rattle.std.specs.List.{flat_map};
 ghost use Rattle.std.specs.Option.{option_copied};
 ghost use Rattle.findings.specs.Conditions.{overflows};
 ghost use Rattle.finding_kinds.specs.Programs.{instruction_at};
-ghost use Rattle.finding_kinds.specs.declared.kind.TheConstants.EndedKind.{ALL as ended_kinds};
-ghost use Rattle.finding_kinds.specs.declared.kind.TheConstants.QueuedKind.{ALL as queued_kinds};
-ghost use Rattle.finding_kinds.specs.declared.kind.TheConstants.StepKind.{ALL as step_kinds};
-ghost use Rattle.finding_kinds.specs.declared.kind.TheConstants.CancelKind.{ALL as cancel_kinds};
-ghost use Rattle.finding_kinds.specs.declared.kind.TheConstants.ConflictKind.{ALL as conflict_kinds};
 ghost use Rattle.findings.specs.Records.{given, of_ended, of_queued, of_row, row_in, of_overflow, of_instruction, of_step, of_canceling, of_cancel, of_candidate, of_number, of_effect};
 
 use crate::canceling::{Cancel, is_of_cancel};
@@ -49,7 +44,7 @@ fn add_of_ended(
     row: &Row,
 ) -> Result<(), AllocError>
     ensures { OnOk result (found.new.items ≡ found.old.items ++ of_ended at.entry.moment before.now
-        at.entry.state.now.table number row.now ended_kinds) }
+        at.entry.state.now.table number row.now) }
 {
     for kind in EndedKind::ALL {
         let finding = Finding {
@@ -71,7 +66,7 @@ fn add_of_queued(
     row: &Row,
 ) -> Result<(), AllocError>
     ensures { OnOk result (found.new.items ≡ found.old.items ++ of_queued at.entry.moment
-        before.now at.entry.state.now.table number row.now queued_kinds) }
+        before.now at.entry.state.now.table number row.now) }
 {
     for kind in QueuedKind::ALL {
         let finding = Finding {
@@ -134,7 +129,7 @@ fn add_of_instruction(
     thread: u32,
 ) -> Result<(), AllocError>
     ensures { OnOk result (found.new.items ≡ found.old.items ++ of_instruction at.entry.moment
-        at.entry.before.changes instruction.now at.entry.state.now thread step_kinds) }
+        at.entry.before.changes instruction.now at.entry.state.now thread) }
 {
     for kind in StepKind::ALL {
         let finding = Finding {
@@ -174,7 +169,7 @@ fn add_of_canceling(
     state: &State,
 ) -> Result<(), AllocError>
     ensures { OnOk result (found.new.items ≡ found.old.items
-        ++ of_canceling moment cancel.now state.now.table cancel_kinds) }
+        ++ of_canceling moment cancel.now state.now.table) }
 {
     for kind in CancelKind::ALL {
         let finding = Finding {
@@ -226,7 +221,7 @@ fn add_of_candidate(
     row: &Row,
 ) -> Result<(), AllocError>
     ensures { OnOk result (found.new.items ≡ found.old.items ++ of_candidate at.entry.moment
-        at.entry.setup.now at.entry.state.now effect.now number row.now conflict_kinds) }
+        at.entry.setup.now at.entry.state.now effect.now number row.now) }
 {
     for kind in ConflictKind::ALL {
         let finding = Finding {
