@@ -1,10 +1,9 @@
 -- What a search has seen, after one more event and at the end.
-use Rattle.std.proofs.Common.{◌≡◌, inl, inr, ℕ, zero, suc, ◌+◌, ◌<◌, ◌≤◌, List, [], ◌++◌, length, map, get_or, slice_get, Bool, true, false, Option, Some, None, sym, ap, ◌∙◌, subst, arith}
-use Rattle.std.proofs.Math.Option.{some-injective}
+use Rattle.std.proofs.Common.{◌≡◌, inl, inr, ℕ, zero, suc, ◌+◌, ◌<◌, ◌≤◌, List, [], ◌++◌, length, map, get_or, slice_get, Bool, true, false, Option, Some, None, refl, sym, ap, ◌∙◌, subst, arith}
 use Rattle.std.proofs.lemmas.Bool.{cases_lt, cases_order}
 use Rattle.std.proofs.lemmas.List.Elements.{All-nil, All-append, All-weaker, All-contains, Contains-append_left, Contains-append_right, Contains-get_or}
-use Rattle.std.proofs.lemmas.Option.{slice_get_within, slice_get_past}
-use Rattle.std.specs.Prelude.{Result, Ok, Err, IfOk, option_map}
+use Rattle.std.proofs.lemmas.Option.{slice_get_past}
+use Rattle.std.specs.Prelude.{option_map}
 use Rattle.std.specs.Option.{option_map_or}
 use Rattle.std.specs.List.{All, Contains, flat_map}
 use Rattle.places.specs.declared.value.Change.{Change}
@@ -15,9 +14,7 @@ use Rattle.machine.specs.declared.whole.Machine.{Machine}
 use Rattle.machine.specs.Steps.{after}
 use Rattle.machine.specs.Runs.{start, moment as machine_at}
 use Rattle.machine.specs.Whole.{view}
-use Rattle.runs.specs.declared.driving.Ended.{Ended}
-use Rattle.runs.specs.declared.driving.Ended.TheVariants.{Refused, Memory, Stopped}
-use Rattle.runs.specs.Moments.{IsAt, IsBefore, IsAfter, Ends}
+use Rattle.runs.specs.Moments.{IsAt, IsAfter}
 use Rattle.finding_kinds.specs.declared.finding.Finding.{Finding}
 use Rattle.finding_kinds.specs.declared.kind.Kind.{Kind}
 use Rattle.finding_kinds.specs.declared.kind.Kind.TheVariants.{Ended, Overflow, Conflict, Step, Queued, Cancel}
@@ -28,7 +25,7 @@ use Rattle.findings.specs.Conditions.{overflows}
 use Rattle.findings.specs.Conflicts.{done_as, done_at}
 use Rattle.findings.specs.Findings.{occurs, occurs_at, Lasts, IsLeft, IsFinding, IsReportOf, Rises}
 use Rattle.findings.specs.Records.{of_change, of_overflow, of_step, of_cancel, of_event, of_effect, after_notes, Covers, Adds, FoundBefore, IsLasting, AreLeft, IsAll, all_left, all_unsynced, SameFindings}
-use Rattle.findings.specs.Searching.{facts_before, NotesFacts, watch_at, HasSearched, Halted}
+use Rattle.findings.specs.Searching.{facts_before, NotesFacts, HasSearched}
 use Rattle.findings.specs.Watched.{advanced, watched, of_lasting}
 use Rattle.findings.proofs.Lasting.{watched_first, advanced_more, lasting_reported}
 use Rattle.findings.proofs.Left.{all_at_end}
@@ -49,11 +46,11 @@ found_none : (s : Setup) (es : List Event) → FoundBefore s es zero []
 found_none s es = record { only = All-nil (IsEarly s es zero); whole = λ f l h. absurd (omega arith) }
 
 -- At the start of a run.
-pub seen_none : (s : Setup) (es : List Event) (m : Machine) (ws : List Watch) → m ≡ start s → ws ≡ map (advanced s m zero) (watched s) → length es ≤ 1048576 → HasSearched s es zero [] [] ws
-seen_none s es m ws e w l = record {
+pub seen_none : (s : Setup) (es : List Event) (m : Machine) (fs : List Finding) (numbers : List ℕ) (ws : List Watch) → m ≡ start s → fs ≡ [] → ws ≡ map (advanced s m zero) (watched s) → length es ≤ 1048576 → HasSearched s es zero fs numbers ws
+seen_none s es m fs numbers ws e h w l = record {
   most = l;
-  found = found_none s es;
-  covered = covers_none [];
+  found = subst (FoundBefore s es zero) (sym h) (found_none s es);
+  covered = covers_none numbers;
   watching = w ∙ ap (λ (x : Machine). map (advanced s x zero) (watched s)) e ∙ watched_first s es;
 }
 
@@ -135,19 +132,9 @@ found_more s es i e fs gs numbers now there h covered adds = record {
           | inr (inr past) ↦ absurd (omega arith)
         ]
 
--- The index of an event fits into 32 bits.
-pub index_small : (s : Setup) (es : List Event) (i : ℕ) (fs : List Finding) (numbers : List ℕ) (ws : List Watch) (e : Event) → HasSearched s es i fs numbers ws → slice_get es i ≡ Some e → i < 1048576
-index_small s es i fs numbers ws e h there =
-    let l : length es ≤ 1048576 = h.most in
-    let below : i < length es = slice_get_within es i e there in
-    omega arith
-
--- The facts that are noted before an event.
-pub facts_noted : (s : Setup) (es : List Event) (i : ℕ) (m : Machine) (e : Event) (b : Before) → IsBefore s es i e m → b ≡ facts_before s m e → NotesFacts s es i b
-facts_noted s es i m e b at h = ap (option_map (facts_before s (machine_at s es i))) at.there ∙ ap Some (ap (λ (x : Machine). facts_before s x e) (sym at.at.here) ∙ sym h)
-
+-- The facts that were noted before an event.
 facts_are : (s : Setup) (es : List Event) (i : ℕ) (e : Event) (b : Before) → slice_get es i ≡ Some e → NotesFacts s es i b → facts_before s (machine_at s es i) e ≡ b
-facts_are s es i e b there h = some-injective _ _ (sym (ap (option_map (facts_before s (machine_at s es i))) there) ∙ h)
+facts_are s es i e b there h = ap (λ (o : Option Before). option_map_or (λ (x : Before). x) o b) (sym (ap (option_map (facts_before s (machine_at s es i))) there) ∙ h)
 
 -- What an event adds to the findings, by the facts that were noted before it.
 abbrev added_by : Setup → ℕ → Before → Event → Machine → List Change → List Finding → List ℕ → List Finding
@@ -164,9 +151,12 @@ seen_more s es i n e b past fs gs numbers now ws xs h noted at added once furthe
   most = h.most;
   found = found_more s es i e fs gs numbers now at.there h.found (subst (λ (x : Machine). Covers x.table now) next_state covered) (subst (λ (x : Machine). Adds s i (machine_at s es i) e x fs gs numbers now) next_state adds);
   covered = subst (λ (x : Machine). Covers x.table now) at.at.here covered;
-  watching = w ∙ ap (λ (ys : List Watch). map (advanced s n (i + 1)) ys) h.watching ∙ advanced_more s es i (i + 1) n (watched s) (omega arith) at.at.here;
+  watching = w ∙ ap (λ (ys : List Watch). map (advanced s n (i + 1)) ys) h.watching ∙ advanced_more s es i (i + 1) n (watched s) one at.at.here;
 }
   where
+    one : i + 1 ≡ suc i
+    one = omega arith
+
     next_state : n ≡ after (machine_at s es i) e
     next_state = at.link.next.changed
 
@@ -211,15 +201,9 @@ all_found s es fs ls us gs h lasting left e = subst (IsAll s es) (sym e) (record
 })
 
 -- At the end of a run, with the findings of what lasts or is left.
-pub seen_all : (s : Setup) (es : List Event) (m : Machine) (fs gs : List Finding) (numbers : List ℕ) (ws : List Watch) → HasSearched s es (length es) fs numbers ws → IsAt s es (length es) m
-    → gs ≡ (fs ++ flat_map of_lasting ws) ++ (all_left (length es) m.table ++ all_unsynced s (length es) m.world) → IsAll s es gs
-seen_all s es m fs gs numbers ws h at e = all_found s es fs _ _ gs h.found (lasting_reported s es ws h.watching) (all_at_end s es m at.here) e
-
--- Why a search ends early.
-pub halted : {O E : Type 0} (seen : O → Setup → List Event → ℕ → Type 0) (stops : O → Setup → List Event → ℕ → E → Type 0) (s : Setup) (es : List Event) (m : Machine) (o : O) (x : Ended E) → Ends seen stops s es m o x → Halted s es x
-halted seen stops s es m o (Refused i r) h = h.0
-halted seen stops s es m o Memory h = tt
-halted seen stops s es m o (Stopped x) h = tt
+pub seen_all : (s : Setup) (es : List Event) (m : Machine) (fs gs : List Finding) (numbers : List ℕ) (ws xs : List Watch) → HasSearched s es (length es) fs numbers ws → IsAt s es (length es) m → xs ≡ ws
+    → gs ≡ (fs ++ flat_map of_lasting xs) ++ (all_left (length es) m.table ++ all_unsynced s (length es) m.world) → IsAll s es gs
+seen_all s es m fs gs numbers ws xs h at w e = all_found s es fs _ _ gs h.found (lasting_reported s es xs (w ∙ h.watching)) (all_at_end s es m at.here) e
 
 -- All findings, sorted, are the report.
 pub report_of : (s : Setup) (es : List Event) (fs gs : List Finding) → IsAll s es fs → SameFindings fs gs → Rises gs → IsReportOf s es gs

@@ -1,5 +1,7 @@
 -- Conditions that last, and the moment since when each holds.
 use Rattle.std.proofs.Common.{◌≡◌, inl, inr, ℕ, zero, suc, ◌+◌, ◌-◌, ◌<◌, ◌≤◌, Bool, true, false, List, [], ◌∷◌, ◌++◌, length, take, drop, get_or, set, map, refl, sym, ap, ◌∙◌, subst, arith}
+use Rattle.std.proofs.Math.Seq.{take-append_seam}
+use Rattle.std.proofs.lemmas.List.{length-map}
 use Rattle.std.proofs.lemmas.Bool.{cases_lt, cases_order, and_parts, ltb-true, eqb-true}
 use Rattle.std.proofs.lemmas.List.Elements.{All-nil, All-cons, All-append}
 use Rattle.std.specs.Prelude.{Option, Some, None}
@@ -139,6 +141,11 @@ mapped_step f xs ys i d r l h e =
     let up : suc i ≡ i + 1 = omega arith in
     let read : r ≡ f (get_or xs i d) = e ∙ ap (λ zs. f (get_or zs i d)) h ∙ ap f (mapped_read f xs i d l) in
     ap (λ zs. set zs i r) h ∙ ap (λ z. set (map f (take i xs) ++ drop i xs) i z) read ∙ mapped_more f xs i d l ∙ ap (λ (k : ℕ). map f (take k xs) ++ drop k xs) up
+
+-- A slice that was mapped in place, written back to its vector.
+pub mapped_back : {X : Type 0} (f : X → X) (xs old new rest : List X) (n : ℕ) → old ≡ xs → new ≡ map f old → n ≡ length old → take n (new ++ rest) ≡ map f xs
+mapped_back f xs old new rest n v e l =
+    ap (λ (k : ℕ). take k (new ++ rest)) (l ∙ sym (length-map old f) ∙ ap length (sym e)) ∙ take-append_seam new rest ∙ e ∙ ap (map f) v
 
 -- ---- their findings
 

@@ -1,0 +1,12 @@
+use Rattle.std.proofs.Common.{◌∙◌, ap, map, arith}
+use Rattle.findings.specs.Watched.{advanced}
+use Rattle.findings.proofs.Followed.{seen_none}
+use Rattle.findings.proofs.Lasting.{mapped_back}
+use Rattle.findings.proofs.searching.Search.new.Goals as goal
+
+pub returns : goal.returns
+returns c = λ es most.
+    let len = c.deref_mut.ensures.len in
+    let first = advanced c.args.setup.now c.args.state.now 0 in
+    seen_none _ es c.args.state.now _ _ _ c.requires.starts c.new.ensures.items
+    (mapped_back first _ _ _ _ _ c.deref_mut.ensures.value c.advance.ensures (omega (arith, len)) ∙ ap (map first) c.in_ok-watches.ensures) most

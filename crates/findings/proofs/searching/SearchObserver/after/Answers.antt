@@ -1,0 +1,13 @@
+use Rattle.std.proofs.Common.{◌+◌, ◌∙◌, ap, map, arith}
+use Rattle.findings.specs.Watched.{advanced}
+use Rattle.findings.proofs.Followed.{seen_more}
+use Rattle.findings.proofs.Lasting.{mapped_back}
+use Rattle.findings.proofs.searching.SearchObserver.after.Goals as goal
+
+pub returns-clause-ok : goal.returns-clause-ok
+returns-clause-ok c =
+    let e = c.in_ok-look.ensures in
+    let len = c.deref_mut.ensures.len in
+    let next = advanced c.args.at.setup.now c.args.at.state.now (c.args.at.index + 1) in
+    seen_more _ _ c.args.at.index c.args.at.state.now c.args.at.event c.args.note c.args.past.now _ _ _ _ _ _ c.requires.seen c.requires.note c.requires.at e.added e.once e.further
+    (mapped_back next _ _ _ _ _ c.deref_mut.ensures.value c.advance.ensures (omega (arith, len)) ∙ ap (λ w. map next w.items) e.watches)
