@@ -1,5 +1,7 @@
 -- The findings of those kinds of a group that pass a test.
-use Rattle.std.proofs.Common.{◌≡◌, inl, inr, ℕ, Bool, true, false, List, [], ◌∷◌, refl}
+use Rattle.std.proofs.Common.{◌≡◌, inl, inr, ℕ, ◌+◌, ◌<◌, Bool, true, false, List, [], ◌∷◌, ◌++◌, length, take, get_or, refl, sym, ap, ◌∙◌}
+use Rattle.std.proofs.lemmas.Grind.{take_at_read}
+use Rattle.std.proofs.lemmas.List.{flat_map_more}
 use Rattle.std.proofs.lemmas.List.Elements.{All-nil, All-cons, All-append}
 use Rattle.std.specs.List.{All}
 use Rattle.finding_kinds.specs.declared.finding.Finding.{Finding}
@@ -42,6 +44,16 @@ group_only P whole test i n (kind ∷ kinds) h =
 -- The findings include that of each kind that passes.
 pub group_there : {K : Type 0} (whole : K → Kind) (test : K → Bool) (i n : ℕ) (kinds : List K) (kind : K) → Has kinds kind → test kind ≡ true → Has (of_group whole test i n kinds) (the_finding i (whole kind) n)
 group_there whole test i n kinds kind h t = has_flat_map (λ k. given (test k) (the_finding i (whole k) n)) kinds kind (the_finding i (whole kind) n) h (given_there (test kind) (the_finding i (whole kind) n) t)
+
+-- The findings of one more kind of a list.
+pub group_more : {K : Type 0} (whole : K → Kind) (test : K → Bool) (i n : ℕ) (kinds : List K) (k : ℕ) (d : K) (b : Bool) (start found now : List Finding) → k < length kinds → b ≡ test (get_or kinds k d)
+    → found ≡ start ++ of_group whole test i n (take k kinds) → now ≡ found ++ given b (the_finding i (whole (get_or kinds k d)) n) → now ≡ start ++ of_group whole test i n (take (k + 1) kinds)
+group_more {K = K} whole test i n kinds k d b start found now l t h g =
+    g
+    ∙ ap (λ (xs : List Finding). xs ++ given b (the_finding i (whole (get_or kinds k d)) n)) h
+    ∙ ap (λ (c : Bool). (start ++ of_group whole test i n (take k kinds)) ++ given c (the_finding i (whole (get_or kinds k d)) n)) t
+    ∙ flat_map_more (λ (kind : K). given (test kind) (the_finding i (whole kind) n)) start (take k kinds) (get_or kinds k d)
+    ∙ ap (λ (ks : List K). start ++ of_group whole test i n ks) (sym (take_at_read kinds k d l).1)
 
 -- ---- each list has all kinds of its group
 
